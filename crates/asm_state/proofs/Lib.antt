@@ -1,0 +1,11 @@
+pub mod Numbers
+pub mod Codes
+pub mod Examples
+pub mod Updates
+pub mod Ranges
+pub mod Members
+pub mod Summaries
+pub mod Algebra
+pub mod Faults
+pub mod Locations
+pub mod Division

@@ -1,0 +1,5 @@
+use Rattle.asm_state.proofs.Locations.{number_laws}
+use Rattle.asm_state.proofs.laws.number_laws.Goals as goal
+
+pub returns : goal.returns
+returns c = number_laws

@@ -1,0 +1,5 @@
+use Rattle.asm_state.proofs.Locations.{state_laws}
+use Rattle.asm_state.proofs.laws.state_laws.Goals as goal
+
+pub returns : goal.returns
+returns c = state_laws

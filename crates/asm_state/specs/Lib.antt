@@ -1,0 +1,11 @@
+pub mod Kinds
+pub mod Value
+pub mod Codes
+pub mod Operation
+pub mod Location
+pub mod Updates
+pub mod UpdateLaws
+pub mod Signature
+pub mod Places
+pub mod SignatureLaws
+pub mod OperationLaws

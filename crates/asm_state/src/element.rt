@@ -1,0 +1,12 @@
+//! Elements of enumerations.
+ghost use Rattle.std.specs.Prelude.{◌<◌};
+
+/// How many elements all enumerations together can have.
+pub const ELEMENTS: u32 = 262_144;
+
+/// An element of an enumeration, numbered through over all of them.
+#[derive(Clone, Copy, Debug, PartialEq, Eq)]
+pub struct Element {
+    pub index: u32,
+    pub ghost in_range: { index < 262_144 },
+}

@@ -1,0 +1,60 @@
+//! Laws of values, operations, locations, states and update sets.
+ghost use Rattle.std.specs.Prelude.{◌≡◌};
+ghost use Rattle.std.specs.Ordering.{nat_cmp};
+ghost use Rattle.asm_state.specs.declared.value.Value.{Value};
+ghost use Rattle.asm_state.specs.Codes.{code_of};
+ghost use Rattle.asm_state.specs.Value.{value_cmp};
+ghost use Rattle.asm_state.specs.OperationLaws.{DivisionLaw};
+ghost use Rattle.asm_state.specs.SignatureLaws.{NumberLaws, StateLaws};
+ghost use Rattle.asm_state.specs.UpdateLaws.{MemberLaws, SummaryLaws, FireLaws, UnionLaws, MergeLaws, FaultLaws};
+
+/// Codes rise with values, and no two values have one code.
+pub fn codes_rise()
+    ensures rise { (a b : Value) → value_cmp a b ≡ nat_cmp (code_of a) (code_of b) }
+    ensures apart { (a b : Value) → code_of a ≡ code_of b → a ≡ b }
+{}
+
+/// A number is its quotient by another, taken that many times, and its remainder, which is never negative.
+pub fn division_law()
+    ensures { DivisionLaw }
+{}
+
+/// What the operations on update sets have in them.
+pub fn member_laws()
+    ensures { MemberLaws }
+{}
+
+/// Each set has just one summary, and that of a union or a merge is made from theirs.
+pub fn summary_laws()
+    ensures { SummaryLaws }
+{}
+
+/// Firing a consistent set changes the locations that it names and no other.
+pub fn fire_laws()
+    ensures { FireLaws }
+{}
+
+/// The union is associative and commutative, and each set is its own union.
+pub fn union_laws()
+    ensures { UnionLaws }
+{}
+
+/// The turbo merge is associative, and to fire it is to fire one set and then the other.
+pub fn merge_laws()
+    ensures { MergeLaws }
+{}
+
+/// A set is consistent where it has no faulty location, and has one first fault at most.
+pub fn fault_laws()
+    ensures { FaultLaws }
+{}
+
+/// Locations and the numbers below their count are one to one, in order.
+pub fn number_laws()
+    ensures { NumberLaws }
+{}
+
+/// What the contents of locations say of a state.
+pub fn state_laws()
+    ensures { StateLaws }
+{}
