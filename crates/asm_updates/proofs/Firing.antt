@@ -1,0 +1,72 @@
+-- What comes of a state where each named location gets its value.
+use Rattle.std.proofs.Common.{◌≡◌, ℕ, ◌<◌, Bool, true, false, eqb, cond, List, length, get_or, set, Option, Some, None, IsTrue, refl, sym, ap, subst, ◌∙◌, inl, inr, ⊎_elim, arith, get_or-set_same, get_or-set_other}
+use Rattle.std.proofs.lemmas.Bool.Decides.{nat_tests}
+use Rattle.std.proofs.lemmas.Bool.{false≢true, cases_eq}
+use Rattle.std.specs.Ordering.{eq_by_cmp}
+use Rattle.asm_state.specs.declared.value.Value.{Value}
+use Rattle.asm_state.specs.declared.value.Value.TheVariants.{Undef}
+use Rattle.asm_state.specs.Value.{value_cmp}
+use Rattle.asm_state.specs.Location.{Location, Proper, Stray}
+use Rattle.asm_state.specs.Signature.{Shape, count_of, number_at, IsLocationOf, state_of}
+use Rattle.asm_state.specs.Updates.{UpdateSet, Has, IsConsistent, Range, range_at, IsRangeOf, overwritten, fire, is_proper}
+use Rattle.asm_state.proofs.Locations.{number_laws, state_laws}
+use Rattle.asm_state.proofs.Ranges.{range_at_is}
+use Rattle.asm_state.proofs.Updates.{same_value, value_itself}
+use Rattle.asm_updates.specs.Entries.{Entries, entry}
+use Rattle.asm_updates.specs.Stands.{Stands}
+use Rattle.asm_updates.proofs.Standing.{range_cases}
+
+-- values are equal where they can't differ
+same_unless : (v w : Value) → ((v ≡ w → ⊥) → ⊥) → v ≡ w
+same_unless v w never = by_test (eq_by_cmp value_cmp v w) refl
+  where
+    by_test : (b : Bool) → eq_by_cmp value_cmp v w ≡ b → v ≡ w
+    by_test true e = same_value v w e
+    by_test false e = absurd (never (λ same. false≢true (sym e ∙ subst (λ x. eq_by_cmp value_cmp v x ≡ true) same (value_itself v))))
+
+module _ (shape : Shape) (s : Entries) (U : UpdateSet) (old new : List Value) (stands : Stands shape s U) (old_len : length old ≡ count_of shape) (new_len : length new ≡ count_of shape) (each : (n : ℕ) → get_or new n Undef ≡ overwritten (entry s n) (get_or old n Undef)) where
+  in_place : (l : Location) → IsLocationOf shape l → IsTrue (is_proper l) → state_of shape new l ≡ overwritten (range_at U l) (state_of shape old l)
+  in_place l here proper =
+      let ranges : entry s (number_at shape l) ≡ range_at U l =
+      stands.has_ranges (number_at shape l) (number_laws.in_range shape l here) ∙ ap (range_at U) (number_laws.location shape l here) in
+      state_laws.content shape new l here proper
+      ∙ each (number_at shape l)
+      ∙ ap (λ r. overwritten r (get_or old (number_at shape l) Undef)) ranges
+      ∙ ap (overwritten (range_at U l)) (sym (state_laws.content shape old l here proper))
+
+  unchanged : (l : Location) → IsTrue (is_proper l) → range_at U l ≡ None → state_of shape new l ≡ state_of shape old l
+  unchanged l proper absent =
+      same_unless (state_of shape new l) (state_of shape old l)
+      (λ differ.
+      let elsewhere : ¬ (IsLocationOf shape l) = λ here. differ (subst (λ r. state_of shape new l ≡ overwritten r (state_of shape old l)) absent (in_place l here proper)) in
+      differ (state_laws.outside shape new l new_len elsewhere ∙ sym (state_laws.outside shape old l old_len elsewhere)))
+
+  fired_at : IsConsistent U → (l : Location) → state_of shape new l ≡ overwritten (range_at U l) (state_of shape old l)
+  fired_at consistent (Proper f vs) =
+      elim (range_cases shape s U (Proper f vs) stands) [
+        | inl absent ↦ subst (λ r. state_of shape new (Proper f vs) ≡ overwritten r (state_of shape old (Proper f vs))) (sym absent) (unchanged (Proper f vs) refl absent)
+        | inr here ↦ in_place (Proper f vs) here.0 refl
+      ]
+  fired_at consistent (Stray f) =
+      subst (λ r. state_of shape new (Stray f) ≡ overwritten r (state_of shape old (Stray f))) (sym (absent (range_at U (Stray f)) (range_at_is U (Stray f))))
+      (state_laws.stray shape new (Stray f) false≢true ∙ sym (state_laws.stray shape old (Stray f) false≢true))
+    where
+      absent : (r : Option Range) → IsRangeOf (Has U (Stray f)) r → r ≡ None
+      absent None is = refl
+      absent (Some r) is = absurd (consistent.no_stray f r.least is.has_least)
+
+  pub fired_state : IsConsistent U → state_of shape new ≡ fire (state_of shape old) U
+  unfolding fire
+  fired_state consistent = λ i l. fired_at consistent l i
+
+-- one content more
+pub changed_content : (xs ys : List Value) (n m : ℕ) (v : Value) → n < length xs → m ≡ n → ys ≡ set xs n v → (k : ℕ) → get_or ys k Undef ≡ cond (eqb k m) v (get_or xs k Undef)
+changed_content xs ys n m v h at e k =
+    ⊎_elim
+    (λ (same : k ≡ n).
+    let yes : eqb k m ≡ true = grind (arith, nat_tests) in
+    rw yes (ap (λ zs. get_or zs k Undef) e ∙ ap (λ j. get_or (set xs n v) j Undef) same ∙ get_or-set_same xs n v Undef h))
+    (λ (other : k ≡ n → ⊥).
+    let skip : eqb k m ≡ false = grind (arith, nat_tests) in
+    rw skip (ap (λ zs. get_or zs k Undef) e ∙ get_or-set_other xs n k v Undef other))
+    (cases_eq k n)

@@ -1,0 +1,9 @@
+pub mod Combined
+pub mod Cuts
+pub mod Faults
+pub mod Firing
+pub mod Found
+pub mod Orders
+pub mod Standing
+pub mod Sweeping
+pub mod StandingLaws

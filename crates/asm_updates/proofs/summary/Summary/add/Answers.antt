@@ -1,0 +1,20 @@
+use Rattle.std.proofs.Common.{rules}
+use Rattle.asm_state.specs.Signature.{location_at}
+use Rattle.asm_state.specs.Updates.{one, together}
+use Rattle.asm_updates.specs.Entries.{range}
+use Rattle.asm_updates.proofs.Standing.{stands_with, bounds_range, bounds_alone, value_range, value_alone}
+use Rattle.asm_updates.proofs.summary.Summary.add.Goals as goal
+
+pub returns-clause-bounds : goal.returns-clause-bounds
+returns-clause-bounds c = λ shape U first.
+    let l = location_at shape c.args.n in
+    stands_with shape c.args.self.now _ U (together (one l c.args.low) (one l c.args.high)) c.args.n (range (c.args.low, c.args.high)) c.requires.in_range (search rules) (search rules) first
+    (bounds_range l c.args.low c.args.high c.requires.ordered)
+    (bounds_alone l c.args.low c.args.high)
+
+pub returns-clause-value : goal.returns-clause-value
+returns-clause-value c = λ shape U same first.
+    let l = location_at shape c.args.n in
+    stands_with shape c.args.self.now _ U (one l c.args.low) c.args.n (range (c.args.low, c.args.high)) c.requires.in_range (search rules) (search rules) first
+    (value_range l c.args.low c.args.high same)
+    (value_alone l c.args.low)

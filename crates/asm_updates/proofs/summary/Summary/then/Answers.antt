@@ -1,0 +1,7 @@
+use Rattle.std.proofs.Common.{rules}
+use Rattle.asm_updates.proofs.Standing.{stands_for_merge}
+use Rattle.asm_updates.proofs.summary.Summary.then.Goals as goal
+
+pub returns-clause-merge : goal.returns-clause-merge
+returns-clause-merge c = λ shape U V first second.
+    stands_for_merge shape c.args.self.now c.args.later.now _ U V (search rules) (search rules) first second

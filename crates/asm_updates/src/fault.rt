@@ -1,0 +1,49 @@
+//! Faults of update sets.
+ghost use Rattle.std.specs.Prelude.{◌<◌, Some, IfNone, IfSome};
+ghost use Rattle.asm_state.specs.Signature.{count_of, location_at};
+ghost use Rattle.asm_state.specs.UpdateLaws.{IsSettled};
+ghost use Rattle.asm_updates.specs.Entries.{range};
+ghost use Rattle.asm_updates.specs.Faults.{IsFaultAt};
+
+use asm_state::signature::{Place, Signature};
+use asm_state::value::Value;
+
+/// Why a set can't be fired: a location has two values, or a function is updated outside its domain.
+#[derive(Clone, Copy, Debug, PartialEq, Eq)]
+pub enum Fault {
+    Clash {
+        location: usize,
+        low: Value,
+        high: Value,
+    },
+    Outside {
+        function: usize,
+    },
+}
+
+/// The fault of a location with these bounds.
+pub(crate) fn fault_at(
+    signature: &Signature,
+    location: usize,
+    low: Value,
+    high: Value,
+) -> Option<Fault>
+    requires { location < count_of signature.now }
+    ensures settled { IfNone result (IsSettled (location_at signature.now location) (Some (range (low, high)))) }
+    ensures fault { IfSome result (IsFaultAt signature.now location low high) }
+{
+    match signature.location(location) {
+        Place::Stray { function } => Some(Fault::Outside { function }),
+        Place::Proper { .. } => {
+            if low.code() == high.code() {
+                None
+            } else {
+                Some(Fault::Clash {
+                    location,
+                    low,
+                    high,
+                })
+            }
+        }
+    }
+}
