@@ -1,0 +1,14 @@
+pub mod Values
+pub mod Texts
+pub mod Bytes
+pub mod Pieces
+pub mod NameFronts
+pub mod SymbolFronts
+pub mod FillerFronts
+pub mod Steps
+pub mod OneGap
+pub mod OnePiece
+pub mod OneKind
+pub mod Stops
+pub mod OneAnswer
+pub mod TokenPlaces

@@ -1,0 +1,5 @@
+use Rattle.asm_syntax.proofs.OneAnswer as answers
+use Rattle.asm_syntax.proofs.laws.no_tokens_beside_a_fault.Goals as goal
+
+pub returns : goal.returns
+returns c = answers.no_tokens_beside_a_fault

@@ -1,0 +1,9 @@
+pub mod Tree
+pub mod Placed
+pub mod Views
+pub mod ViewCases
+pub mod Unplaced
+pub mod Spellings
+pub mod Tokens
+pub mod Fronts
+pub mod Lexing

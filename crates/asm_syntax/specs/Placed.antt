@@ -1,0 +1,81 @@
+-- Specifications as the reader makes them: each name with its place in the text.
+--     Name                        a name, with the place of its first byte
+--     Term, Terms, Links          a term;  a list of terms;  the rest of a chain
+--     Rule, Rules, Branch         a rule;  a list of rules;  a rule that may be left out
+--     Const, Entry, Given         a constant of a table;  an entry, with the place of its `(`;  a table
+--     Item, Spec                  a declaration or another line;  a specification, with the length of its text
+use Rattle.std.specs.Prelude.{ℕ, List, Option}
+use Rattle.asm_state.specs.declared.number.Number.{Number}
+use Rattle.asm_state.specs.declared.operation.Op.{Op}
+use Rattle.asm_syntax.specs.declared.term.Literal.{Literal}
+use Rattle.asm_syntax.specs.declared.spec.FunctionKind.{FunctionKind}
+
+pub record Name : Type 0 where
+  pub at : ℕ
+  pub text : List ℕ
+
+mutual
+  pub data Term : Type 0 where
+    Constant : Literal → Term
+    Named : Name → Terms → Term
+    Chain : Term → Links → Term
+    Not : Term → Term
+    Negative : Term → Term
+    Exists : (x over : Name) → Term → Term
+    Every : (x over : Name) → Term → Term
+
+  pub data Terms : Type 0 where
+    no_terms : Terms
+    term_then : Term → Terms → Terms
+
+  pub data Links : Type 0 where
+    no_links : Links
+    link_then : Op → Term → Links → Links
+
+mutual
+  pub data Rule : Type 0 where
+    Skip : Rule
+    Assign : Name → Terms → Term → Rule
+    Call : Name → Terms → Rule
+    Par : Rules → Rule
+    Seq : Rules → Rule
+    If : (test : Term) → (yes : Rule) → (no : Branch) → Rule
+    Let : Name → Term → Rule → Rule
+    Forall : (x over : Name) → (test : Option Term) → Rule → Rule
+    Choose : (x over : Name) → (test : Option Term) → (body : Rule) → (none : Branch) → Rule
+    Iterate : Rule → Rule
+
+  pub data Rules : Type 0 where
+    no_rules : Rules
+    rule_then : Rule → Rules → Rules
+
+  pub data Branch : Type 0 where
+    left_out : Branch
+    written : Rule → Branch
+
+pub data Const : Type 0 where
+  Plain : Literal → Const
+  Element : Name → Const
+
+pub record Entry : Type 0 where
+  pub at : ℕ
+  pub arguments : List Const
+  pub value : Const
+
+pub data Given : Type 0 where
+  Each : Const → Given
+  Entries : List Entry → Given
+
+pub data Item : Type 0 where
+  Uses : Name → Item
+  Init : Name → Item
+  Enum : Name → (elements : List Name) → Item
+  Universe : Name → (first last : Number) → Item
+  Function : Name → FunctionKind → (domain : List Name) → (codomain : Option Name) → (table : Option Given) → Item
+  Derived : Name → (parameters : List Name) → Term → Item
+  Declared : Name → (parameters : List Name) → Rule → Item
+
+pub record Spec : Type 0 where
+  pub name : Name
+  pub items : List Item
+  pub length : ℕ
