@@ -1,0 +1,14 @@
+pub mod Lists
+pub mod Readers
+pub mod Loops
+pub mod Tables
+pub mod Numbers
+pub mod Exact
+pub mod Wider
+pub mod TermExact
+pub mod RuleSteps
+pub mod RuleExact
+pub mod ItemExact
+pub mod Views
+pub mod Whole
+pub mod Spellings

@@ -1,0 +1,43 @@
+-- How deep tokens nest.
+use Rattle.std.specs.Prelude.{ℕ, zero, suc, Bool, true, false, if◌then◌else◌, List, [], ◌∷◌, Option, Some, None, option_and_then}
+use Rattle.asm_syntax.specs.declared.token.Kind.{Kind}
+use Rattle.asm_syntax.specs.declared.token.Kind.TheVariants.{Symbol, Word}
+use Rattle.asm_syntax.specs.declared.token.Symbol.TheVariants as symbols
+use Rattle.asm_syntax.specs.declared.token.Word.TheVariants as words
+use Rattle.asm_syntax.specs.declared.token.Token.{Token}
+use Rattle.asm_reader.specs.Kinds.{alike, is_one_of}
+
+-- the rules with an end word, and parentheses
+abbrev pub openers : List Kind
+openers = Symbol symbols.Open ∷ Word words.Par ∷ Word words.Seq ∷ Word words.If ∷ Word words.Let ∷ Word words.Forall ∷ Word words.Choose ∷ Word words.Iterate ∷ []
+
+abbrev pub closers : List Kind
+closers = Symbol symbols.Close ∷ Word words.EndPar ∷ Word words.EndSeq ∷ Word words.EndIf ∷ Word words.EndLet ∷ Word words.EndForall ∷ Word words.EndChoose ∷ Word words.EndIterate ∷ []
+
+-- how many more levels may open, or none where one too many did, and whether the last token is `(`
+pub record Depth : Type 0 where
+  pub left : Option ℕ
+  pub in_front : Bool
+
+abbrev pub less_one : ℕ → Option ℕ
+less_one zero = None
+less_one (suc n) = Some n
+
+-- `forall` behind a `(` is that of a term, which has no end word
+abbrev pub opens : Bool → Kind → Bool
+opens true k = if alike (Word words.Forall) k then false else is_one_of openers k
+opens false k = is_one_of openers k
+
+abbrev pub after_token : Depth → Token → Depth
+after_token d t = record {
+  left = if opens d.in_front t.kind then option_and_then less_one d.left else (if is_one_of closers t.kind then option_and_then (λ n. Some (suc n)) d.left else d.left);
+  in_front = alike (Symbol symbols.Open) t.kind;
+}
+
+abbrev pub depth_after : Depth → List Token → Depth
+depth_after d [] = d
+depth_after d (t ∷ ts) = depth_after (after_token d t) ts
+
+-- n more levels may open, behind a token that is no `(`
+abbrev pub at_depth : ℕ → Depth
+at_depth n = record { left = Some n; in_front = false }

@@ -1,0 +1,22 @@
+-- What the specification of a text is.
+use Rattle.std.specs.Prelude.{ℕ, List, IsSome}
+use Rattle.asm_syntax.specs.declared.token.Token.{Token}
+use Rattle.asm_syntax.specs.Placed as placed
+use Rattle.asm_syntax.specs.Tokens.{AreTokens}
+use Rattle.asm_reader.specs.Levels.{at_depth, depth_after}
+use Rattle.asm_reader.specs.Grammar.{specification}
+
+abbrev pub max_nesting : ℕ
+max_nesting = 64
+
+-- no token opens a 65th level
+abbrev pub IsWithinLevels : List Token → Type 0
+IsWithinLevels ts = IsSome (depth_after (at_depth max_nesting) ts).left
+
+-- The tokens spell the tree, with names from this text, and nest no deeper than they may.
+abbrev pub AreSpelling : List ℕ → List Token → placed.Spec → Type 0
+AreSpelling text ts s = specification text ts s × IsWithinLevels ts
+
+-- The text has tokens that spell the tree.
+abbrev pub IsSpecification : List ℕ → placed.Spec → Type 0
+IsSpecification text s = (ts : List Token) × AreTokens text ts × AreSpelling text ts s

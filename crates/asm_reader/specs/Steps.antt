@@ -1,0 +1,124 @@
+-- The steps that readers of tokens are made of.
+use Rattle.std.specs.Prelude.{◌≡◌, ℕ, zero, suc, ℤ, pos, negsuc, ◌≤ℤ◌, int_le, T, Bool, true, false, if◌then◌else◌, List, [], ◌∷◌, map, length, Option, Some, None, Result, Ok, Err}
+use Rattle.std.specs.Int.Signed.{le_z_yes}
+use Rattle.std.proofs.Common.{refl, sym, subst, Vec, Global}
+use Rattle.asm_state.specs.declared.number.Number.{Number as WholeNumber}
+use Rattle.asm_syntax.specs.declared.refused.Refused.{Refused}
+use Rattle.asm_syntax.specs.declared.refused.Refused.TheVariants.{Named}
+use Rattle.asm_syntax.specs.declared.token.Kind.{Kind}
+use Rattle.asm_syntax.specs.declared.token.Kind.TheVariants.{Name, Number, Symbol, Word}
+use Rattle.asm_syntax.specs.declared.token.Token.{Token}
+use Rattle.asm_reader.specs.declared.error.ReadError.{ReadError}
+use Rattle.asm_reader.specs.declared.error.ReadError.TheVariants.{Unexpected, UnexpectedEnd, TooDeep}
+use Rattle.asm_reader.specs.Kinds.{begins, alike, looked_up}
+use Rattle.asm_reader.specs.Parts.{signed}
+
+abbrev pub Answer : Type 0 → Type 0
+Answer A = Result (A × List Token) ReadError
+
+abbrev pub Reader : Type 0 → Type 0
+Reader A = List Token → Answer A
+
+abbrev pub and_then : {A B : Type 0} → Answer A → (A → Reader B) → Answer B
+and_then (Ok r) f = f r.0 r.1
+and_then (Err e) f = Err e
+
+-- why no part goes on with the next token
+abbrev pub refusal : List Token → ReadError
+refusal [] = UnexpectedEnd
+refusal (t ∷ ts) = Unexpected t.start
+
+abbrev pub refuse : {A : Type 0} → Reader A
+refuse ts = Err (refusal ts)
+
+-- the next token, if it is of this kind
+abbrev pub expect : Kind → Reader Token
+expect k [] = Err UnexpectedEnd
+expect k (t ∷ ts) = if alike k t.kind then Ok (t, ts) else Err (Unexpected t.start)
+
+-- The next token, if it is of this kind, which opens a level. So many may open.
+abbrev pub enter : ℕ → Kind → Reader Token
+enter n k [] = Err UnexpectedEnd
+enter zero k (t ∷ ts) = if alike k t.kind then Err (TooDeep t.start) else Err (Unexpected t.start)
+enter (suc n) k (t ∷ ts) = if alike k t.kind then Ok (t, ts) else Err (Unexpected t.start)
+
+-- what reads with one level less, where a level is left
+abbrev pub below : {A : Type 0} → (ℕ → Reader A) → ℕ → Reader A
+below f zero = refuse
+below f (suc n) = f n
+
+-- one reader after the other
+abbrev pub pair_of : {A B : Type 0} → Reader A → Reader B → Reader (A × B)
+pair_of f g ts = and_then (f ts) (λ x rest. and_then (g rest) (λ y after. Ok ((x, y), after)))
+
+abbrev pub mapped : {A B : Type 0} → (A → B) → Reader A → Reader B
+mapped h f ts = and_then (f ts) (λ x rest. Ok (h x, rest))
+
+abbrev pub either_of : {A : Type 0} → List Kind → Reader A → Reader A → Reader A
+either_of ks f g ts = if begins ks ts then f ts else g ts
+
+abbrev pub option_of : {A : Type 0} → List Kind → Reader A → Reader (Option A)
+option_of ks f ts = if begins ks ts then mapped Some f ts else Ok (None, ts)
+
+-- Each turn takes a token, so the number of tokens bounds the turns.
+unfoldable pub turns : {A : Type 0} → List Kind → Reader A → ℕ → Reader (List A)
+turns ks f zero ts = Ok ([], ts)
+turns ks f (suc n) ts = if begins ks ts then mapped (λ r. r.0 ∷ r.1) (pair_of f (turns ks f n)) ts else Ok ([], ts)
+
+abbrev pub repeated_of : {A : Type 0} → List Kind → Reader A → Reader (List A)
+repeated_of ks f ts = turns ks f (length ts) ts
+
+-- What a function of the code gives is the answer, seen as a tree by `view`, unless memory ran out.
+abbrev pub Reads : {A B : Type 0} → (B → A) → Answer A → Result B (Refused ReadError) → List Token → Type 0
+Reads view answer (Ok x) rest = answer ≡ Ok (view x, rest)
+Reads view answer (Err e) rest = (reason : ReadError) → e ≡ Named reason → answer ≡ Err reason
+
+-- the same of what is seen as itself
+abbrev pub itself : {A : Type 0} → A → A
+itself x = x
+
+-- the elements of a `Vec`, each as it is seen
+abbrev pub each_of : {A B : Type 0} → (B → A) → Vec B Global → List A
+each_of view xs = map view xs.items
+
+pub at_most : {a b : ℤ} → int_le a b ≡ true → a ≤ℤ b
+at_most e = le_z_yes (subst T (sym e) tt)
+
+-- a number by whether it isn't too small and whether it isn't too great
+abbrev pub number_by_tests : (z : ℤ) (low high : Bool) → int_le (negsuc 999_999_999_999_999) z ≡ low → int_le z (pos 1_000_000_000_000_000) ≡ high → Option WholeNumber
+number_by_tests z true true low high = Some (record { value = z; low = at_most low; high = at_most high })
+number_by_tests z true false low high = None
+number_by_tests z false high_test low high = None
+
+-- the number with this value, where it is in the range
+unfoldable pub number_with : ℤ → Option WholeNumber
+number_with z = number_by_tests z (int_le (negsuc 999_999_999_999_999) z) (int_le z (pos 1_000_000_000_000_000)) refl refl
+
+-- the number that a token stands for, or its negative
+abbrev pub number_of_kind : (is_negative : Bool) → Kind → Option WholeNumber
+number_of_kind is_negative (Number n) = number_with (signed is_negative n)
+number_of_kind is_negative Name = None
+number_of_kind is_negative (Symbol s) = None
+number_of_kind is_negative (Word w) = None
+
+abbrev pub found_at : {A : Type 0} → Option A → Token → List Token → Answer A
+found_at None t ts = Err (Unexpected t.start)
+found_at (Some x) t ts = Ok (x, ts)
+
+-- the next token, if it is a number, or its negative
+abbrev pub number_at : (is_negative : Bool) → Reader WholeNumber
+number_at is_negative [] = Err UnexpectedEnd
+number_at is_negative (t ∷ ts) = found_at (number_of_kind is_negative t.kind) t ts
+
+-- what the table has for the next token
+abbrev pub choice_at : {A : Type 0} → List (Kind × A) → Reader A
+choice_at table [] = Err UnexpectedEnd
+choice_at table (t ∷ ts) = found_at (looked_up table t.kind) t ts
+
+-- what stands behind a token of this kind, or before one
+abbrev pub past_of : {A : Type 0} → Kind → Reader A → Reader A
+past_of k f = mapped (λ r. r.1) (pair_of (expect k) f)
+
+-- once or more, as long as the next token is of one of these kinds
+abbrev pub several_of : {A : Type 0} → List Kind → Reader A → Reader (List A)
+several_of ks f = mapped (λ r. r.0 ∷ r.1) (pair_of f (repeated_of ks f))
