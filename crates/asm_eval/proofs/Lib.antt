@@ -1,0 +1,10 @@
+pub mod Free
+pub mod Scripts
+pub mod Unrepeated
+pub mod Scripted
+pub mod Cases
+pub mod TermCases
+pub mod PlainCases
+pub mod Beside
+pub mod Weights
+pub mod Run

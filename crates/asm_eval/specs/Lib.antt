@@ -1,0 +1,13 @@
+pub mod Program
+pub mod Value
+pub mod Yields
+pub mod Does
+pub mod Scripts
+pub mod Ranks
+pub mod Law
+pub mod Cases
+pub mod TermCases
+pub mod PlainCases
+pub mod Splits
+pub mod Weights
+pub mod Run

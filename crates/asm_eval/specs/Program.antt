@@ -1,0 +1,62 @@
+-- What a specification declares, and what names are bound to.
+--     Program, Declared         the declarations, by name;  declared p x      what x is declared as
+--     Environment               names bound to values, or to terms with the environment of their caller
+--     bind_terms, bind_values   the parameters alone, bound to terms of a caller, or to values
+use Rattle.std.specs.Prelude.{ℕ, Bool, cond, List, [], ◌∷◌, nat_eq, Option, Some, None}
+use Rattle.std.specs.Cmp.Lexicographic.{pointwise}
+use Rattle.asm_state.specs.declared.value.Value.{Value}
+use Rattle.asm_state.specs.declared.value.Value.TheVariants.{Undef}
+use Rattle.asm_syntax.specs.Tree.{Name, Term, Terms, no_terms, term_then, Rule}
+
+abbrev pub is_name : Name → Name → Bool
+is_name = pointwise nat_eq
+
+-- the first of the name
+abbrev pub look_up : {X : Type 0} → List (Name × X) → Name → Option X
+look_up [] x = None
+look_up ((y, it) ∷ more) x = cond (is_name y x) (Some it) (look_up more x)
+
+-- a domain is a list of universes, and a universe a list of values
+abbrev pub Domain : Type 0
+Domain = List (List Value)
+
+pub data Declared : Type 0 where
+  Universe : List Value → Declared
+  Enumerated : Value → Declared
+  Controlled : (function : ℕ) → Domain → Declared
+  Static : Domain → (table : List (List Value × Value)) → Declared
+  Derived : (parameters : List Name) → Term → Declared
+  Procedure : (parameters : List Name) → Rule → Declared
+
+abbrev pub Program : Type 0
+Program = List (Name × Declared)
+
+abbrev pub declared : Program → Name → Option Declared
+declared program x = look_up program x
+
+pub data Environment : Type 0 where
+  nothing_bound : Environment
+  with_value : Name → Value → Environment → Environment
+  with_term : Name → Term → (caller : Environment) → Environment → Environment
+
+-- the parameters alone, bound to the caller's terms
+abbrev pub bind_terms : List Name → Terms → (caller : Environment) → Environment
+bind_terms [] ts caller = nothing_bound
+bind_terms (x ∷ xs) no_terms caller = nothing_bound
+bind_terms (x ∷ xs) (term_then t ts) caller = with_term x t caller (bind_terms xs ts caller)
+
+-- the parameters alone, bound to values, and to undef where there are too few
+abbrev pub bind_values : List Name → List Value → Environment
+bind_values [] vs = nothing_bound
+bind_values (x ∷ xs) [] = with_value x Undef (bind_values xs [])
+bind_values (x ∷ xs) (v ∷ vs) = with_value x v (bind_values xs vs)
+
+-- what a name is bound to
+pub data Binding : Type 0 where
+  ToValue : Value → Binding
+  ToTerm : Term → (caller : Environment) → Binding
+
+abbrev pub bound_to : Environment → Name → Option Binding
+bound_to nothing_bound x = None
+bound_to (with_value y v e) x = cond (is_name y x) (Some (ToValue v)) (bound_to e x)
+bound_to (with_term y t caller e) x = cond (is_name y x) (Some (ToTerm t caller)) (bound_to e x)

@@ -1,0 +1,69 @@
+//! Laws of the meaning of terms and rules.
+ghost use Rattle.asm_eval.specs.Law.{ScriptedIsFree, FreeHasScript};
+ghost use Rattle.asm_eval.specs.Scripts.{UnrepeatedScript};
+ghost use Rattle.asm_eval.specs.Cases.{ScriptedByCases};
+ghost use Rattle.asm_eval.specs.TermCases.{ValuedByCases};
+ghost use Rattle.asm_eval.specs.PlainCases.{PlainByCases};
+ghost use Rattle.asm_eval.specs.Run.{ScriptedRuns, FreeRuns};
+ghost use Rattle.asm_eval.specs.Splits.{BesideLaws, SplitLaws};
+ghost use Rattle.asm_eval.specs.Weights.{TermWeightsFall, CallWeightsFall};
+
+/// What a rule does under a script is what it may yield.
+pub fn scripted_is_free()
+    ensures { ScriptedIsFree }
+{}
+
+/// A script chooses as one without repeated lines does, which has the first line of each step and place.
+pub fn unrepeated_script()
+    ensures { UnrepeatedScript }
+{}
+
+/// Whatever a rule may yield, it does so under some script without repeated lines.
+pub fn free_has_script()
+    ensures { FreeHasScript }
+{}
+
+/// The scripted function has one case for each rule.
+pub fn scripted_by_cases()
+    ensures { ScriptedByCases }
+{}
+
+/// The value of a term has one case for each form.
+pub fn valued_by_cases()
+    ensures { ValuedByCases }
+{}
+
+/// Rules without calls and terms without derived functions have one case for each form, whatever the ranks.
+pub fn plain_by_cases()
+    ensures { PlainByCases }
+{}
+
+/// Outcomes of parts beside each other may be grouped and ordered as one likes.
+pub fn beside_laws()
+    ensures { BesideLaws }
+{}
+
+/// The parts of a `par`, and the elements of a `forall`, may be cut into intervals.
+pub fn split_laws()
+    ensures { SplitLaws }
+{}
+
+/// The weight of a term falls on the way of its evaluation.
+pub fn term_weights_fall()
+    ensures { TermWeightsFall }
+{}
+
+/// The weight of a rule falls on the way of its evaluation.
+pub fn call_weights_fall()
+    ensures { CallWeightsFall }
+{}
+
+/// A run under a script is a run for some choices.
+pub fn scripted_runs()
+    ensures { ScriptedRuns }
+{}
+
+/// Each run, for whatever choices, is the run under some script without repeated lines.
+pub fn free_runs()
+    ensures { FreeRuns }
+{}
