@@ -1,0 +1,47 @@
+-- A run of a specification has just one trace.
+use Rattle.std.proofs.Common.{◌≡◌, ℕ, zero, suc, Bool, true, false, cond, List, [], ◌++◌, refl, sym, ap, ◌∙◌}
+use Rattle.asm_state.specs.Location.{Location, State}
+use Rattle.asm_state.specs.Updates.{UpdateSet, is_consistent, fire}
+use Rattle.asm_state.proofs.Faults.{fault_laws}
+use Rattle.asm_state.proofs.Updates.{Decides-is_consistent}
+use Rattle.asm_syntax.specs.Tree.{Rule}
+use Rattle.asm_eval.specs.Program.{Program, nothing_bound}
+use Rattle.asm_eval.specs.Yields.{Result, Gives, Exhausted}
+use Rattle.asm_eval.specs.Does.{Script, does}
+use Rattle.asm_eval.specs.Run.{Run, End, AtLimit, AtExhausted, AtFault, ended, fired, step_and, run_from}
+use Rattle.asm_run.specs.Trace.{Names, IsEndText, fault_text, place_text, line_end, steps_text, state_text, IsTrace}
+use Rattle.asm_run.specs.Traces.{OneTrace, SomeTrace}
+use Rattle.asm_run.specs.Headline.{book_run, names_in, locations_in}
+use Rattle.asm_run.specs.Meaning.{meaning_of}
+use Rattle.asm_run.proofs.Reached.{one_end_text}
+
+pub one_trace : OneTrace
+one_trace names ls i r a b p q =
+    p.whole ∙ ap (λ e. steps_text names ls i r.steps ++ (e ++ state_text names ls r.last)) (one_end_text names r.end p.end_text q.end_text p.is_end q.is_end) ∙ sym q.whole
+
+abbrev HasLine : Names → End → Type 0
+HasLine names e = (text : List ℕ) × IsEndText names e text
+
+module _ (names : Names) (program : Program) (turns : ℕ) (main : Rule) where
+  by_test : (U : UpdateSet) (m i : ℕ) (A : State) (rest : Run) (b : Bool) → is_consistent U ≡ b → HasLine names rest.end → HasLine names (cond b (fired U m rest) (ended (AtFault i U) A)).end
+  by_test U m i A rest true e h = h
+  by_test U m i A rest false e h =
+      let first = fault_laws.has_first U (λ consistent. let yes : is_consistent U ≡ true = (Decides-is_consistent U).1 consistent in absurd cc) in
+      (fault_text names i first.0, (first.0, first.1, refl))
+
+  by_result : (r : Result) (m i : ℕ) (A : State) (rest : UpdateSet → Run) → ((U : UpdateSet) → HasLine names (rest U).end) → HasLine names (step_and program turns main r m i A rest).end
+  by_result (Exhausted q) m i A rest h = (_, refl)
+  by_result (Gives U) m i A rest h = by_test U m i A (rest U) (is_consistent U) refl (h U)
+
+  has_line : (choices : Script) (n i : ℕ) (A : State) → HasLine names (run_from program turns main choices n i A).end
+  has_line choices zero i A = (_, refl)
+  has_line choices (suc n) i A =
+      let o = does program turns choices i A nothing_bound [] main in
+      by_result o.result o.instances i A (λ U. run_from program turns main choices n (suc i) (fire A U)) (λ U. has_line choices n (suc i) (fire A U))
+
+pub some_trace : SomeTrace
+some_trace s turns choices steps =
+    let r : Run = book_run s turns choices steps in
+    let line = has_line (names_in s) (meaning_of s).program turns (meaning_of s).main choices steps 1 (meaning_of s).initial in
+    (steps_text (names_in s) (locations_in s) 1 r.steps ++ (line.0 ++ state_text (names_in s) (locations_in s) r.last),
+    record { end_text = line.0; is_end = line.1; whole = refl })

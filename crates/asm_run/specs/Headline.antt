@@ -1,0 +1,95 @@
+-- What a run writes and answers.
+--     IsFirstPath text s               the text is that of the specification s, which has no fault
+--     book_run s turns choices steps   the run of s, under these choices
+--     IsWritten, IsCut, AreWholeSteps  what the bytes of the sink grew by
+--     Explains                         what a refusal says
+use Rattle.std.specs.Prelude.{◌≡◌, ◌⊎◌, ℕ, false, true, List, [], ◌++◌, length, take, Option}
+use Rattle.std.specs.Io.KnownBytes.{Appends}
+use Rattle.asm_state.specs.Location.{Location}
+use Rattle.asm_state.specs.Updates.{Range, Clash, Outside, IsFirstFault}
+use Rattle.asm_syntax.specs.Placed.{Spec}
+use Rattle.asm_reader.specs.Specification.{IsSpecification}
+use Rattle.asm_eval.specs.Does.{Script}
+use Rattle.asm_eval.specs.Run as run
+use Rattle.asm_eval.specs.Run.{Run, AtLimit, AtExhausted, AtFault}
+use Rattle.asm_run.specs.FirstPath.{function_names, is_well_formed}
+use Rattle.asm_run.specs.Meaning.{meaning_of}
+use Rattle.asm_run.specs.Limits.{are_in_range}
+use Rattle.asm_run.specs.Trace.{Names, IsTrace, steps_text}
+use Rattle.asm_run.specs.Written.{names_of, locations_of}
+use Rattle.asm_run.specs.declared.end.End.{End}
+use Rattle.asm_run.specs.declared.end.End.TheVariants as end
+use Rattle.asm_run.specs.declared.error.RunError.{RunError}
+use Rattle.asm_run.specs.declared.error.RunError.TheVariants as error
+
+pub record IsFirstPath (text : List ℕ) (s : Spec) : Type 0 where
+  pub spelled : IsSpecification text s
+  pub well_formed : is_well_formed s ≡ true
+
+abbrev pub names_in : Spec → Names
+names_in s = names_of (function_names s.items)
+
+-- the proper locations of a specification, in their order
+abbrev pub locations_in : Spec → List Location
+locations_in s = locations_of (length (function_names s.items))
+
+-- no rule of the first path makes choices, so the run is the same for all of them
+abbrev pub book_run : Spec → (turns : ℕ) → Script → (steps : ℕ) → Run
+book_run s turns choices steps = run.run (meaning_of s) turns choices steps
+
+-- ---- runs from any step on, with these names and locations
+
+-- the answer for an end
+abbrev pub IsAnswer : run.End → End → Type 0
+IsAnswer AtLimit e = e ≡ end.Limit
+IsAnswer (AtExhausted i p) e = e ≡ end.Exhausted
+IsAnswer (AtFault i U) end.Limit = ⊥
+IsAnswer (AtFault i U) end.Exhausted = ⊥
+IsAnswer (AtFault i U) end.Clash = (l : Location) × (r : Range) × IsFirstFault U (Clash l r)
+IsAnswer (AtFault i U) end.Outside = (f : ℕ) × IsFirstFault U (Outside f)
+
+module _ (names : Names) (ls : List Location) (first : ℕ) where
+  -- known bytes grow by the trace of the run
+  pub record IsWritten (old new : Option (List ℕ)) (r : Run) : Type 0 where
+    pub trace : List ℕ
+    pub is_trace : IsTrace names ls first r trace
+    pub appended : Appends old new trace
+
+  -- known bytes grow by a front of the trace of the run
+  pub record IsCut (old new : Option (List ℕ)) (r : Run) : Type 0 where
+    pub front : List ℕ
+    pub appended : Appends old new front
+    pub is_front : (trace : List ℕ) → IsTrace names ls first r trace → (rest : List ℕ) × (trace ≡ front ++ rest)
+
+  -- known bytes grow by the text of the first fired steps of the run, so many
+  pub record AreWholeSteps (old new : Option (List ℕ)) (r : Run) : Type 0 where
+    pub count : ℕ
+    pub appended : Appends old new (steps_text names ls first (take count r.steps))
+
+-- ---- the whole
+
+-- nothing is written
+abbrev pub IsUnwritten : (old new : Option (List ℕ)) → Type 0
+IsUnwritten old new = Appends old new []
+
+module _ (text : List ℕ) (steps turns workers cut rounds : ℕ) (old new : Option (List ℕ)) where
+  -- The whole trace is written, and the answer is the end of the run.
+  pub record IsDone (answer : End) : Type 0 where
+    pub tree : Spec
+    pub first_path : IsFirstPath text tree
+    pub in_range : are_in_range steps turns workers cut rounds ≡ true
+    pub written : (choices : Script) → IsWritten (names_in tree) (locations_in tree) 1 old new (book_run tree turns choices steps)
+    pub answered : (choices : Script) → IsAnswer (book_run tree turns choices steps).end answer
+
+  -- A run was begun, and what was written of it.
+  pub record IsBegun (P : Spec → Run → Type 0) : Type 0 where
+    pub tree : Spec
+    pub first_path : IsFirstPath text tree
+    pub in_range : are_in_range steps turns workers cut rounds ≡ true
+    pub holds : (choices : Script) → P tree (book_run tree turns choices steps)
+
+  abbrev pub Explains : RunError → Type 0
+  Explains error.Beyond = ((s : Spec) → ¬ (IsFirstPath text s)) × IsUnwritten old new
+  Explains error.Limits = (s : Spec) × IsFirstPath text s × (are_in_range steps turns workers cut rounds ≡ false) × IsUnwritten old new
+  Explains error.Memory = IsUnwritten old new ⊎ IsBegun (λ s r. AreWholeSteps (names_in s) (locations_in s) 1 old new r)
+  Explains error.Write = IsBegun (λ s r. IsCut (names_in s) (locations_in s) 1 old new r)

@@ -1,0 +1,15 @@
+pub mod FirstPath
+pub mod Resolved
+pub mod Meaning
+pub mod Checked
+pub mod Evaluated
+pub mod Formed
+pub mod Sink
+pub mod Through
+pub mod Limits
+pub mod Trace
+pub mod Traces
+pub mod Written
+pub mod Headline
+pub mod Step
+pub mod Reached

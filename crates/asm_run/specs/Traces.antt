@@ -1,0 +1,18 @@
+-- Laws of traces.
+--     OneTrace      a run has one trace at most
+--     SomeTrace     each run of a specification has one
+use Rattle.std.specs.Prelude.{◌≡◌, ℕ, List}
+use Rattle.asm_state.specs.Location.{Location}
+use Rattle.asm_syntax.specs.Placed.{Spec}
+use Rattle.asm_eval.specs.Does.{Script}
+use Rattle.asm_eval.specs.Run.{Run}
+use Rattle.asm_run.specs.Trace.{Names, IsTrace}
+use Rattle.asm_run.specs.Headline.{book_run, names_in, locations_in}
+
+abbrev pub OneTrace : Type 0
+OneTrace = (names : Names) (ls : List Location) (i : ℕ) (r : Run) (a b : List ℕ) → IsTrace names ls i r a → IsTrace names ls i r b → a ≡ b
+
+abbrev pub SomeTrace : Type 0
+SomeTrace =
+    (s : Spec) (turns : ℕ) (choices : Script) (steps : ℕ)
+    → (trace : List ℕ) × IsTrace (names_in s) (locations_in s) 1 (book_run s turns choices steps) trace

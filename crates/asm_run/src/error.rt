@@ -1,0 +1,49 @@
+//! Why a specification didn't run to its end.
+ghost use Rattle.std.specs.Prelude.{◌≡◌};
+ghost use Rattle.asm_run.specs.declared.error.RunError.TheVariants.{Memory, Write};
+
+use std::alloc::{AllocError, AllocFailed};
+use thiserror::Error;
+
+use crate::sink::SinkFault;
+
+/// A refusal. The first that applies is answered, in the order `Beyond`, `Limits`, and then `Memory` and `Write`; `Memory` can come before any.
+#[derive(Debug, Drop, Error)]
+pub enum RunError {
+    /// A limit is out of its range.
+    #[error("a limit is out of its range")]
+    Limits,
+    /// Memory ran out.
+    #[error("memory ran out")]
+    Memory,
+    /// The sink failed.
+    #[error("the trace could not be written")]
+    Write,
+    /// The text isn't a specification that runs yet.
+    #[error("the text is beyond what runs yet")]
+    Beyond,
+}
+
+impl From<AllocError> for RunError {
+    ghost from_gives = { λ _ e. e ≡ Memory };
+
+    fn from(_e: AllocError) -> RunError {
+        RunError::Memory
+    }
+}
+
+impl<T: Drop> From<AllocFailed<T>> for RunError {
+    ghost from_gives = { λ _ e. e ≡ Memory };
+
+    fn from(_e: AllocFailed<T>) -> RunError {
+        RunError::Memory
+    }
+}
+
+impl From<SinkFault> for RunError {
+    ghost from_gives = { λ _ e. e ≡ Write };
+
+    fn from(_e: SinkFault) -> RunError {
+        RunError::Write
+    }
+}

@@ -1,0 +1,26 @@
+//! Runs of specifications, from the bytes of their texts to the bytes of their traces.
+#![tactic(auto)]
+
+mod check;
+pub mod end;
+pub mod error;
+mod evaluate;
+mod finish;
+mod initial;
+pub mod laws;
+pub mod limits;
+mod names;
+mod resolve;
+mod resolved;
+pub mod run;
+pub mod sink;
+mod step;
+mod steps;
+mod text;
+pub mod through;
+mod trace;
+mod well_formed;
+mod write_all;
+
+#[cfg(test)]
+mod tests;

@@ -1,0 +1,55 @@
+//! The run of a specification, from the bytes of its text to the bytes of its trace.
+ghost use Rattle.std.specs.Prelude.{◌≡◌, ◌↔◌, false, IsTrue, IfOk, IfErr, Err};
+ghost use Rattle.asm_run.specs.Headline.{IsDone, Explains};
+ghost use Rattle.asm_run.specs.declared.error.RunError.TheVariants.{Write};
+
+use crate::check::{Checked, check};
+use crate::end::End;
+use crate::error::RunError;
+use crate::limits::Limits;
+use crate::sink::Sink;
+use crate::steps::run_steps;
+use asm_reader::{one_tree, read};
+use asm_state::signature::Signature;
+use std::alloc::Global;
+use std::sync::Wait;
+use std::thread::Threads;
+
+/// Runs the specification with this text, and writes its trace: the text of each step when it is whole, and then the last lines.
+///
+/// A text beyond the first path is refused, and so are limits out of their ranges; then nothing is written. The script isn't looked at, since
+/// no rule of the first path makes choices. The runtime starts no thread and waits for nothing yet.
+pub fn run<R: Threads + Wait, S: Sink>(
+    _rt: &R,
+    alloc: Global,
+    spec: &[u8],
+    _script: &[u8],
+    limits: &Limits,
+    out: &mut S,
+) -> Result<End, RunError>
+    requires { S.has_failed out.old ≡ false }
+    // The bytes grew by the trace of the book's run, and by nothing else.
+    ensures done { IfOk result (IsDone spec.now limits.now.steps limits.now.turns limits.now.workers limits.now.cut limits.now.rounds (S.bytes out.old) (S.bytes out.new)) }
+    // What a refusal says of the text, of the limits, and of what was written.
+    ensures refused { IfErr result (Explains spec.now limits.now.steps limits.now.turns limits.now.workers limits.now.cut limits.now.rounds (S.bytes out.old) (S.bytes out.new)) }
+    // The sink failed just where that is the answer.
+    ensures failed { IsTrue (S.has_failed out.new) ↔ (result ≡ Err Write) }
+{
+    let Some(tree) = read(alloc, spec)? else {
+        return Err(RunError::Beyond);
+    };
+    let Some(checked) = check(alloc, &tree)? else {
+        one_tree();
+        return Err(RunError::Beyond);
+    };
+    if !limits.are_in_range() {
+        return Err(RunError::Limits);
+    }
+    let Checked {
+        names,
+        initial,
+        assignments,
+    } = checked;
+    let signature = Signature::build(initial);
+    run_steps(alloc, &names, &signature, &assignments, limits.steps, out)
+}
