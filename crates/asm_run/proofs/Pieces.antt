@@ -1,5 +1,5 @@
 -- Texts that grow piece by piece.
-use Rattle.std.proofs.Common.{◌≡◌, ℕ, List, ◌++◌, append_assoc, refl, ap, ◌∙◌}
+use Rattle.std.proofs.Common.{◌≡◌, ℕ, List, ◌++◌, append_assoc, ap, ◌∙◌}
 
 module _ (out a b c d t₁ t₂ t₃ t₄ : List ℕ) (e₁ : t₁ ≡ out ++ a) (e₂ : t₂ ≡ t₁ ++ b) (e₃ : t₃ ≡ t₂ ++ c) (e₄ : t₄ ≡ t₃ ++ d) where
   four_left : t₄ ≡ (((out ++ a) ++ b) ++ c) ++ d

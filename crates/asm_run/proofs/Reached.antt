@@ -1,5 +1,5 @@
 -- How far a run has come, and what is left when it stops.
-use Rattle.std.proofs.Common.{◌≡◌, ℕ, zero, suc, ◌+◌, Bool, true, false, List, [], ◌∷◌, ◌++◌, length, take, drop, Option, Some, None, append_assoc, refl, sym, ap, subst, ◌∙◌, arith}
+use Rattle.std.proofs.Common.{◌≡◌, ℕ, suc, ◌+◌, List, [], ◌∷◌, ◌++◌, length, take, drop, Option, append_assoc, sym, ap, subst, ◌∙◌, arith}
 use Rattle.std.specs.Io.KnownBytes.{Appends}
 use Rattle.std.proofs.lemmas.List.{append-nil, length-append, take-append-drop}
 use Rattle.std.proofs.Math.Seq.{take-append_seam}
@@ -7,7 +7,7 @@ use Rattle.asm_state.specs.Location.{Location, State}
 use Rattle.asm_state.specs.Updates.{UpdateSet}
 use Rattle.asm_state.proofs.Faults.{fault_laws}
 use Rattle.asm_eval.specs.Run.{Run, FiredStep, End, AtLimit, AtExhausted, AtFault, ended, fired}
-use Rattle.asm_run.specs.Trace.{Names, step_text, steps_text, IsEndText, fault_text, state_text, IsTrace}
+use Rattle.asm_run.specs.Trace.{Names, step_text, steps_text, IsEndText, fault_text, state_text}
 use Rattle.asm_run.specs.Sink.{AppendsFront}
 use Rattle.asm_run.specs.Headline.{IsWritten, IsCut, AreWholeSteps}
 use Rattle.asm_run.specs.Reached.{IsReached}
@@ -69,12 +69,13 @@ module _ (names : Names) (ls : List Location) where
           front = steps_text names ls 1 r.done ++ take f.count text;
           appended = Appends-trans old mid new (steps_text names ls 1 r.done) (take f.count text) r.written f.bytes;
           is_front = λ trace t.
-            let tail : List ℕ = t.end_text ++ state_text names ls total.last in
-            let after : List ℕ = steps_text names ls (suc i) next.steps ++ tail in
-            (drop f.count text ++ after,
-            t.whole ∙ whole_text U n next e tail
-            ∙ ap (λ w. steps_text names ls 1 r.done ++ (w ++ after)) (sym (take-append-drop f.count text))
-            ∙ simp append_assoc);
+              let tail : List ℕ = t.end_text ++ state_text names ls total.last in
+              let after : List ℕ = steps_text names ls (suc i) next.steps ++ tail in (
+                drop f.count text ++ after,
+                t.whole ∙ whole_text U n next e tail
+                    ∙ ap (λ w. steps_text names ls 1 r.done ++ (w ++ after)) (sym (take-append-drop f.count text))
+                    ∙ simp append_assoc,
+              );
         }
 
     module _ (e : End) (A : State) (is : rest ≡ ended e A) where
@@ -110,14 +111,15 @@ module _ (names : Names) (ls : List Location) where
           front = steps_text names ls 1 r.done ++ take f.count last_lines;
           appended = Appends-trans old mid new (steps_text names ls 1 r.done) (take f.count last_lines) r.written f.bytes;
           is_front = λ trace t.
-            let same : t.end_text ≡ end_text = one_end_text names e t.end_text end_text (subst (λ v. IsEndText names v t.end_text) end_is t.is_end) ends in
-            (drop f.count last_lines,
-            t.whole
-            ∙ ap (λ v. steps_text names ls 1 v ++ (t.end_text ++ state_text names ls total.last)) all_done
-            ∙ ap (λ w. steps_text names ls 1 r.done ++ (w ++ state_text names ls total.last)) same
-            ∙ ap (λ (B : State). steps_text names ls 1 r.done ++ (end_text ++ state_text names ls B)) last_is
-            ∙ ap (λ w. steps_text names ls 1 r.done ++ w) (sym (take-append-drop f.count last_lines))
-            ∙ sym (append_assoc (steps_text names ls 1 r.done) (take f.count last_lines) (drop f.count last_lines)));
+              let same : t.end_text ≡ end_text = one_end_text names e t.end_text end_text (subst (λ v. IsEndText names v t.end_text) end_is t.is_end) ends in (
+                drop f.count last_lines,
+                t.whole
+                    ∙ ap (λ v. steps_text names ls 1 v ++ (t.end_text ++ state_text names ls total.last)) all_done
+                    ∙ ap (λ w. steps_text names ls 1 r.done ++ (w ++ state_text names ls total.last)) same
+                    ∙ ap (λ (B : State). steps_text names ls 1 r.done ++ (end_text ++ state_text names ls B)) last_is
+                    ∙ ap (λ w. steps_text names ls 1 r.done ++ w) (sym (take-append-drop f.count last_lines))
+                    ∙ sym (append_assoc (steps_text names ls 1 r.done) (take f.count last_lines) (drop f.count last_lines)),
+              );
         }
 
     -- memory ran out between two steps

@@ -1,5 +1,5 @@
 -- Each way that a step of a run can go.
-use Rattle.std.proofs.Common.{◌≡◌, ℕ, zero, suc, ◌+◌, ◌-◌, ◌/◌, ◌%◌, ◌==◌, ◌<◌, ◌≤◌, Bool, true, false, cond, List, [], ◌∷◌, ◌++◌, length, Option, Some, None, Result, Ok, Err, refl, sym, ap, subst, ◌∙◌, arith}
+use Rattle.std.proofs.Common.{◌≡◌, ℕ, suc, ◌+◌, ◌-◌, ◌/◌, ◌%◌, ◌==◌, ◌<◌, ◌≤◌, Bool, true, false, cond, List, [], ◌++◌, length, Option, Some, None, Result, Ok, Err, refl, sym, ap, subst, ◌∙◌, arith}
 use Rattle.std.specs.Prelude.{codes}
 use Rattle.std.specs.Io.KnownBytes.{Appends}
 use Rattle.std.proofs.lemmas.List.{append-nil}
@@ -14,8 +14,8 @@ use Rattle.asm_updates.specs.Entries.{range}
 use Rattle.asm_updates.specs.Faults.{fault_of}
 use Rattle.asm_updates.specs.declared.fault.Fault.{Fault}
 use Rattle.asm_updates.specs.declared.fault.Fault.TheVariants as fault
-use Rattle.asm_eval.specs.Program.{Program, nothing_bound}
-use Rattle.asm_eval.specs.Does.{Script, Outcome, does}
+use Rattle.asm_eval.specs.Program.{Program}
+use Rattle.asm_eval.specs.Does.{Script, Outcome}
 use Rattle.asm_eval.specs.Run.{Run, run_from, step_and, ended, fired, AtLimit, AtFault}
 use Rattle.asm_run.specs.declared.resolved.Assignment.{Assignment}
 use Rattle.asm_run.specs.declared.end.End.{End}
@@ -25,8 +25,7 @@ use Rattle.asm_run.specs.declared.error.RunError.TheVariants as error
 use Rattle.asm_run.specs.FirstPath.{Text}
 use Rattle.asm_run.specs.Sink.{AppendsFront}
 use Rattle.asm_run.specs.Evaluated.{update_set}
-use Rattle.asm_run.specs.Formed.{gives}
-use Rattle.asm_run.specs.Trace.{Names, IsEndText, fault_text, step_text, state_text, line_end}
+use Rattle.asm_run.specs.Trace.{Names, IsEndText, fault_text, step_text, line_end}
 use Rattle.asm_run.specs.Written.{names_of, locations_of, contents_text}
 use Rattle.asm_run.specs.Headline.{IsAnswer}
 use Rattle.asm_run.specs.Step.{AreSized, IsFired, IsStopped, Finishes, fault_line, end_of_fault}
@@ -52,7 +51,7 @@ module _ (program : Program) (main : Rule) (turns : ℕ) (choices : Script) (sha
   a_step : (n i : ℕ) (contents : List Value)
       → left (suc n) i (state_of shape contents)
       ≡ cond (is_consistent (update_set contents assignments)) (fired (update_set contents assignments) 0 (left n (suc i) (fire (state_of shape contents) (update_set contents assignments))))
-          (ended (AtFault i (update_set contents assignments)) (state_of shape contents))
+      (ended (AtFault i (update_set contents assignments)) (state_of shape contents))
   a_step n i contents =
       ap (λ (o : Outcome). step_and program turns main o.result o.instances i (state_of shape contents) (λ U. left n (suc i) (fire (state_of shape contents) U))) (forms i contents)
 
@@ -117,15 +116,16 @@ module _ (names : List Text) (shape : Shape) (assignments : List Assignment) (st
   module _ (new : Option (List ℕ)) (flag : Bool) (e : _) (end_text : List ℕ) (ends : IsEndText called e end_text) (answer : End) (answers : IsAnswer e answer) where
     finished : (result : Result End RunError) → Finishes mid new flag (end_text ++ contents_text names contents) answer result
         → ((program : Program) (main : Rule) (turns : ℕ) (choices : Script) → Forms program main turns choices shape assignments
-            → run_from program turns main choices (steps - made) (1 + made) (state_of shape contents) ≡ ended e (state_of shape contents))
+        → run_from program turns main choices (steps - made) (1 + made) (state_of shape contents) ≡ ended e (state_of shape contents))
         → now flag new result
     finished (Ok a) f is program main turns choices forms =
         let r = goes.reached program main turns choices forms in
         let at_end = is program main turns choices forms in
-        let lines = ap (λ w. end_text ++ w) (state_written names shape goes.sized.names_fit contents) in
-        (written_at_end called places _ _ _ old mid new r e (state_of shape contents) at_end end_text ends (subst (λ t. Appends mid new t) lines f.0),
-        subst (λ v. IsAnswer v a) (sym (r.end ∙ ap (λ (v : Run). v.end) at_end)) (subst (λ v. IsAnswer e v) (sym f.2) answers),
-        f.1)
+        let lines = ap (λ w. end_text ++ w) (state_written names shape goes.sized.names_fit contents) in (
+          written_at_end called places _ _ _ old mid new r e (state_of shape contents) at_end end_text ends (subst (λ t. Appends mid new t) lines f.0),
+          subst (λ v. IsAnswer v a) (sym (r.end ∙ ap (λ (v : Run). v.end) at_end)) (subst (λ v. IsAnswer e v) (sym f.2) answers),
+          f.1,
+        )
     finished (Err error.Memory) f is program main turns choices forms =
         let r = goes.reached program main turns choices forms in
         (whole_steps called places _ _ _ old mid new r f.0, f.1)
@@ -154,13 +154,13 @@ module _ (names : List Text) (shape : Shape) (assignments : List Assignment) (st
     at_fault new flag result next f stopped finish =
         let U : UpdateSet = update_set contents assignments in
         let line : fault_line names step f ≡ fault_text called (1 + made) (fault_of shape f) =
-          ap (λ i. fault_line names i f) is ∙ fault_written shape names (1 + made) f in
+        ap (λ i. fault_line names i f) is ∙ fault_written shape names (1 + made) f in
         finished new flag (AtFault (1 + made) U) (fault_line names step f) (fault_of shape f, stopped.is_first, line)
         (end_of_fault f) (fault_answered shape U (1 + made) f stopped.is_first) result
         (subst (λ v. Finishes mid new flag (fault_line names step f ++ contents_text names v) (end_of_fault f) result) stopped.stays finish)
         (λ program main turns choices forms.
-          ap (λ n. run_from program turns main choices n (1 + made) (state_of shape contents)) one_left
-          ∙ stops program main turns choices shape assignments forms (steps - (made + 1)) (1 + made) contents (first_fault_is_faulty U (fault_of shape f) stopped.is_first))
+        ap (λ n. run_from program turns main choices n (1 + made) (state_of shape contents)) one_left
+        ∙ stops program main turns choices shape assignments forms (steps - (made + 1)) (1 + made) contents (first_fault_is_faulty U (fault_of shape f) stopped.is_first))
 
     module _ (next : List Value) (text : List ℕ) (step_fired : IsFired names shape assignments step contents next text) where
       abbrev U : UpdateSet
@@ -189,11 +189,11 @@ module _ (names : List Text) (shape : Shape) (assignments : List Assignment) (st
         sized = sized;
         is_open = is_open;
         reached = λ program main turns choices forms.
-          let r = goes.reached program main turns choices forms in
-          let number : suc (1 + made) ≡ 1 + (made + 1) = omega arith in
-          let total : Run = run_from program turns main choices steps 1 (initial_state shape) in
-          subst (λ i. IsReached called places total i (run_from program turns main choices (steps - (made + 1)) i (state_of shape next)) old new) number
-              (reached_more called places _ _ _ old mid new r U 0 _ (goes_on_by program main turns choices forms) (subst (λ t. Appends mid new t) text_is w));
+            let r = goes.reached program main turns choices forms in
+            let number : suc (1 + made) ≡ 1 + (made + 1) = omega arith in
+            let total : Run = run_from program turns main choices steps 1 (initial_state shape) in
+            subst (λ i. IsReached called places total i (run_from program turns main choices (steps - (made + 1)) i (state_of shape next)) old new) number
+            (reached_more called places _ _ _ old mid new r U 0 _ (goes_on_by program main turns choices forms) (subst (λ t. Appends mid new t) text_is w));
       }
 
 -- before the first step
@@ -206,8 +206,8 @@ begins names shape assignments steps contents count bytes failed sized initial i
       sized = sized;
       is_open = is_open;
       reached = λ program main turns choices forms.
-        let total : Run = run_from program turns main choices steps 1 (initial_state shape) in
-        subst (λ n. IsReached (names_of names) (locations_of (length names)) total 1 (run_from program turns main choices n 1 (state_of shape contents)) bytes bytes) all
-            (subst (λ (A : State). IsReached (names_of names) (locations_of (length names)) total 1 (run_from program turns main choices steps 1 A) bytes bytes) (sym initial)
-            (record { done = []; number = refl; steps = refl; end = refl; last = refl; written = Appends-none bytes }));
+          let total : Run = run_from program turns main choices steps 1 (initial_state shape) in
+          subst (λ n. IsReached (names_of names) (locations_of (length names)) total 1 (run_from program turns main choices n 1 (state_of shape contents)) bytes bytes) all
+          (subst (λ (A : State). IsReached (names_of names) (locations_of (length names)) total 1 (run_from program turns main choices steps 1 A) bytes bytes) (sym initial)
+          (record { done = []; number = refl; steps = refl; end = refl; last = refl; written = Appends-none bytes }));
     }

@@ -1,12 +1,11 @@
 -- What a step writes, and where its fault is.
-use Rattle.std.proofs.Common.{◌≡◌, ℕ, zero, suc, ◌+◌, ◌*◌, ◌/◌, ◌%◌, ◌==◌, ◌<◌, ◌≤◌, Bool, true, false, cond, List, [], ◌∷◌, ◌++◌, length, map, Option, Some, None, append_assoc, refl, sym, ap, subst, ◌∙◌, arith}
-use Rattle.std.specs.Prelude.{slice_index_or, codes}
+use Rattle.std.proofs.Common.{◌≡◌, ℕ, zero, suc, ◌+◌, ◌*◌, ◌/◌, ◌%◌, ◌==◌, ◌<◌, ◌≤◌, Bool, true, false, cond, List, [], ◌∷◌, ◌++◌, length, map, append_assoc, refl, sym, ap, subst, ◌∙◌, arith}
+use Rattle.std.specs.Prelude.{codes}
 use Rattle.std.specs.List.{flat_map, range_with_len}
 use Rattle.asm_state.specs.declared.value.Value.{Value}
-use Rattle.asm_state.specs.declared.value.Value.TheVariants.{Undef}
 use Rattle.asm_state.specs.Location.{Location, Proper, Stray}
-use Rattle.asm_state.specs.Signature.{Shape, functions_of, count_of, location_at, state_of}
-use Rattle.asm_state.specs.Updates.{UpdateSet, Range, range_at, together, none, Clash, Outside, IsFirstFault}
+use Rattle.asm_state.specs.Signature.{Shape, functions_of, count_of, state_of}
+use Rattle.asm_state.specs.Updates.{UpdateSet, Range, range_at, together, none, Clash, IsFirstFault}
 use Rattle.asm_state.proofs.Algebra.{union_laws}
 use Rattle.asm_state.proofs.Locations.{number_laws}
 use Rattle.asm_updates.specs.Entries.{Entries, entry, range}
@@ -15,7 +14,7 @@ use Rattle.asm_updates.specs.Faults.{fault_of}
 use Rattle.asm_updates.specs.declared.fault.Fault.{Fault}
 use Rattle.asm_updates.specs.declared.fault.Fault.TheVariants as fault
 use Rattle.asm_run.specs.FirstPath.{Text}
-use Rattle.asm_run.specs.Trace.{Names, update_text, set_text, content_text, state_text, step_text, line_end}
+use Rattle.asm_run.specs.Trace.{update_text, set_text, content_text, state_text, step_text, line_end}
 use Rattle.asm_run.specs.Written.{names_of, locations_of, step_line, entries_text, contents_text}
 use Rattle.asm_run.specs.Step.{IsFaultBelow}
 
@@ -46,7 +45,7 @@ module _ (names : List Text) (shape : Shape) (fit : length names ≡ functions_o
     pub set_written : entries_text names (entry summary) ≡ set_text (names_of names) (locations_of (length names)) U
     set_written =
         same_lines (λ f. update_text (names_of names) (Proper f []) (entry summary (2 * f))) (λ f. update_text (names_of names) (Proper f []) (range_at U (Proper f []))) 0 (length names)
-            (λ f low high. ap (λ r. update_text (names_of names) (Proper f []) r) (entry_is f (omega arith)))
+        (λ f low high. ap (λ r. update_text (names_of names) (Proper f []) r) (entry_is f (omega arith)))
         ∙ sym (flat_map-map (λ l. update_text (names_of names) l (range_at U l)) (range_with_len 0 (length names)))
 
     pub step_written : (step : ℕ) → step_line step 0 ++ entries_text names (entry summary) ≡ step_text (names_of names) (locations_of (length names)) step (record { set = U; instances = 0 })

@@ -1,5 +1,5 @@
 -- From the steps of a run to what is said of the whole.
-use Rattle.std.proofs.Common.{◌≡◌, ◌↔◌, ℕ, suc, Bool, true, false, List, [], ◌∷◌, length, map, Option, Result, Ok, Err, inr, refl, sym, ap, subst, ◌∙◌}
+use Rattle.std.proofs.Common.{◌≡◌, ◌↔◌, ℕ, suc, Bool, true, false, List, [], ◌∷◌, length, map, Option, Result, Ok, Err, inr, refl, ap, subst}
 use Rattle.std.specs.Prelude.{IsTrue, All, IfOk, IfErr, MatchResult}
 use Rattle.std.proofs.lemmas.List.Elements.{recursion_from_All}
 use Rattle.asm_state.specs.Signature.{Shape, initial_state}
@@ -17,7 +17,7 @@ use Rattle.asm_run.specs.Resolved.{assignment_tree, flattened, IsBelow}
 use Rattle.asm_run.specs.Meaning.{program_of, main_rule, shape_of, initial_values}
 use Rattle.asm_run.specs.Limits.{are_in_range}
 use Rattle.asm_run.specs.Written.{names_of, locations_of}
-use Rattle.asm_run.specs.Headline.{IsFirstPath, IsDone, IsBegun, Explains, book_run, names_in, locations_in}
+use Rattle.asm_run.specs.Headline.{IsFirstPath, IsDone, Explains, book_run, names_in, locations_in}
 use Rattle.asm_run.specs.Reached.{Forms, Runs}
 use Rattle.asm_run.proofs.Formed.{main_rule_formed, stand_for_main}
 
@@ -66,7 +66,7 @@ module _ (text : List ℕ) (steps turns workers cut rounds : ℕ) (old new : Opt
     every : all result
     every choices =
         let k : StepsOf (function_names s.items) (shape_of s.items) assignments steps old new failed result =
-          subst (λ ns. StepsOf ns (shape_of s.items) assignments steps old new failed result) named (subst (λ (v : Shape). StepsOf names v assignments steps old new failed result) shaped h) in
+        subst (λ ns. StepsOf ns (shape_of s.items) assignments steps old new failed result) named (subst (λ (v : Shape). StepsOf names v assignments steps old new failed result) shaped h) in
         k (program_of s.items) (main_rule s.items) turns choices
         (λ step contents. main_rule_formed s assignments first_path.well_formed (stand_for_main s names assignments named trees (recursion_from_All (IsBelow (length names)) assignments below)) turns choices step contents [])
 

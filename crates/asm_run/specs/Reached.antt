@@ -51,4 +51,4 @@ pub record Goes (names : List Text) (shape : Shape) (assignments : List Assignme
   pub is_open : failed ≡ false
   pub reached : (program : Program) (main : Rule) (turns : ℕ) (choices : Script) → Forms program main turns choices shape assignments
       → IsReached (names_of names) (locations_of (length names)) (run_from program turns main choices steps 1 (initial_state shape)) (1 + made)
-          (run_from program turns main choices (steps - made) (1 + made) (state_of shape contents)) old new
+      (run_from program turns main choices (steps - made) (1 + made) (state_of shape contents)) old new

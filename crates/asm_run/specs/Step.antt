@@ -2,7 +2,7 @@
 --     AreSized      names, contents and summary fit the signature
 --     IsFired       the set of the assignments is fired, and this is the text of the step
 --     Finishes      what the last lines do to the bytes of a sink
-use Rattle.std.specs.Prelude.{◌≡◌, ℕ, ◌/◌, ◌<◌, ◌≤◌, Bool, true, false, List, [], ◌++◌, length, Option, Result, Ok, Err}
+use Rattle.std.specs.Prelude.{◌≡◌, ℕ, ◌/◌, ◌<◌, ◌≤◌, Bool, true, false, List, [], length, Option, Result, Ok, Err}
 use Rattle.std.specs.Io.KnownBytes.{Appends}
 use Rattle.asm_state.specs.declared.value.Value.{Value}
 use Rattle.asm_state.specs.Signature.{Shape, functions_of, count_of, state_of}
@@ -19,7 +19,7 @@ use Rattle.asm_run.specs.FirstPath.{Text}
 use Rattle.asm_run.specs.Sink.{AppendsFront}
 use Rattle.asm_run.specs.Evaluated.{update_set}
 use Rattle.asm_run.specs.Trace.{step_text}
-use Rattle.asm_run.specs.Written.{names_of, locations_of, clash_line, outside_line, contents_text}
+use Rattle.asm_run.specs.Written.{names_of, locations_of, clash_line, outside_line}
 
 pub record AreSized (names : List Text) (shape : Shape) (contents : List Value) (count : ℕ) : Type 0 where
   pub names_fit : length names ≡ functions_of shape

@@ -2,10 +2,9 @@
 ghost use Rattle.std.specs.Prelude.{◌≡◌};
 ghost use Rattle.asm_run.specs.declared.error.RunError.TheVariants.{Memory, Write};
 
+use crate::sink::SinkFault;
 use std::alloc::{AllocError, AllocFailed};
 use thiserror::Error;
-
-use crate::sink::SinkFault;
 
 /// A refusal. The first that applies is answered, in the order `Beyond`, `Limits`, and then `Memory` and `Write`; `Memory` can come before any.
 #[derive(Debug, Drop, Error)]

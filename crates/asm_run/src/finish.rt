@@ -16,12 +16,7 @@ use asm_updates::fault::Fault;
 use std::alloc::AllocError;
 
 /// Adds the line of a fault.
-fn push_fault(
-    out: &mut Vec<u8>,
-    names: &[Text],
-    step: u64,
-    fault: Fault,
-) -> Result<(), AllocError>
+fn push_fault(out: &mut Vec<u8>, names: &[Text], step: u64, fault: Fault) -> Result<(), AllocError>
     requires { IsFaultBelow (length names.now) fault }
     ensures { OnOk result (out.new.items ≡ out.old.items ++ fault_line names.now step fault) }
 {

@@ -16,11 +16,10 @@ pub mod run;
 pub mod sink;
 mod step;
 mod steps;
+#[cfg(test)]
+mod tests;
 mod text;
 pub mod through;
 mod trace;
 mod well_formed;
 mod write_all;
-
-#[cfg(test)]
-mod tests;

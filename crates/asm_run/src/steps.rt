@@ -38,7 +38,7 @@ pub fn run_steps<S: Sink>(
     requires below { AllByRecursion (IsBelow (length names.now)) assignments.now }
     ensures { (program : Program) (main : Rule) (turns : ℕ) (choices : Script) → Forms program main turns choices signature.now assignments.now →
         Runs (names_of names.now) (locations_of (length names.now)) (S.bytes out.old) (S.bytes out.new) (S.has_failed out.new)
-            (run_from program turns main choices steps 1 (initial_state signature.now)) result }
+        (run_from program turns main choices steps 1 (initial_state signature.now)) result }
 {
     let mut state = State::initial(alloc, signature)?;
     let mut set = Summary::new(alloc, signature.count());

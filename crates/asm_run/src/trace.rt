@@ -65,11 +65,7 @@ fn push_content(
 
 /// Adds the last state.
 #[tactic(auto, using(crate::proofs::Ranges::text_more))]
-pub fn push_state(
-    out: &mut Vec<u8>,
-    names: &[Text],
-    state: &State,
-) -> Result<(), AllocError>
+pub fn push_state(out: &mut Vec<u8>, names: &[Text], state: &State) -> Result<(), AllocError>
     requires { length state.now ≡ 2 * length names.now }
     ensures { OnOk result (out.new.items ≡ out.old.items ++ contents_text names.now state.now) }
 {

@@ -1,5 +1,4 @@
-use Rattle.std.proofs.Common.{◌≡◌, ◌≤◌, ℕ, false, true, length, refl, sym, ap, ◌∙◌, arith}
-use Rattle.std.specs.Prelude.{IsTrue}
+use Rattle.std.proofs.Common.{◌≡◌, false, true, length, sym, ap, ◌∙◌, arith}
 use Rattle.std.proofs.lemmas.List.Elements.{recursion_from_All}
 use Rattle.asm_state.specs.Signature.{Shape}
 use Rattle.asm_syntax.specs.Placed.{Spec}
@@ -8,7 +7,6 @@ use Rattle.asm_reader.specs.Specification.{IsSpecification}
 use Rattle.asm_run.specs.FirstPath.{is_well_formed}
 use Rattle.asm_run.specs.Limits.{are_in_range}
 use Rattle.asm_run.specs.Checked.{IsCheckedOf}
-use Rattle.asm_run.specs.Headline.{IsFirstPath}
 use Rattle.asm_run.proofs.Running.{Appends-none}
 use Rattle.asm_run.proofs.Whole.{whole, as_many}
 use Rattle.asm_run.proofs.run.run.Goals as goal
@@ -17,14 +15,15 @@ pub returns-in_default-clause-refused : goal.returns-in_default-clause-refused
 returns-in_default-clause-refused g c = (λ s h. let none = rw c.in_default.is at c.in_ok-tree.ensures.none in none s h.spelled, Appends-none _)
 
 pub returns-in_default-2-clause-refused : goal.returns-in_default-2-clause-refused
-returns-in_default-2-clause-refused g c =
-    (λ s h.
+returns-in_default-2-clause-refused g c = (
+  λ s h.
       let found : IsSpecification c.args.spec.now (spec_of c.in-Some.tree) = rw c.in-Some.is at c.in_ok-tree.ensures.found in
       let same : s ≡ spec_of c.in-Some.tree = c.one_tree.ensures c.args.spec.now s (spec_of c.in-Some.tree) h.spelled found in
       let no : is_well_formed (spec_of c.in-Some.tree) ≡ false = rw c.in_default-2.is at c.in_ok-checked.ensures.none in
       let yes : is_well_formed s ≡ true = h.well_formed in
       absurd (cc (ap is_well_formed same)),
-    Appends-none _)
+  Appends-none _,
+)
 
 pub build-signature-requires : goal.build-signature-requires
 build-signature-requires g c =
@@ -51,7 +50,7 @@ returns g c =
     let in_range : are_in_range limits.steps limits.turns limits.workers limits.cut limits.rounds ≡ true = sym c.are_in_range.ensures ∙ c.if-not-are_in_range.false in
     let shaped = c.build-signature.ensures ∙ ap (λ vs. let v : Shape = record { initial = vs } in v) found.initial in
     let all = whole c.args.spec.now limits.steps limits.turns limits.workers limits.cut limits.rounds _ _ _ tree (record { spelled = spelled; well_formed = found.well_formed }) in_range
-      c.deref.result.now c.build-signature.result c.deref-2.result.now (c.deref.ensures.value ∙ found.names) shaped
-      (rw (c.deref.ensures.value, c.deref-2.ensures.value) found.assignments) (rw (c.deref.ensures.value, c.deref-2.ensures.value) found.below)
-      c.run_steps.result c.run_steps.ensures in
+    c.deref.result.now c.build-signature.result c.deref-2.result.now (c.deref.ensures.value ∙ found.names) shaped
+    (rw (c.deref.ensures.value, c.deref-2.ensures.value) found.assignments) (rw (c.deref.ensures.value, c.deref-2.ensures.value) found.below)
+    c.run_steps.result c.run_steps.ensures in
     record { done = all.done; refused = all.refused; failed = all.fails_just_so }

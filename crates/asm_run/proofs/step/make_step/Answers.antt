@@ -11,7 +11,7 @@ pub returns-in-Some-clause-stopped : goal.returns-in-Some-clause-stopped
 returns-in-Some-clause-stopped c =
     let U : UpdateSet = update_set c.args.state.now c.args.assignments.now in
     let stands : Stands c.args.signature.now c.form.new.set U =
-      stands_alone c.args.signature.now c.form.new.set U (c.in_ok-form.ensures.set c.args.signature.now none (c.clear.ensures.empty c.args.signature.now c.requires.sized.set_fits)) in
+    stands_alone c.args.signature.now c.form.new.set U (c.in_ok-form.ensures.set c.args.signature.now none (c.clear.ensures.empty c.args.signature.now c.requires.sized.set_fits)) in
     let first = c.in-Some.ensures.first U stands in
     record {
       is_first = first;
@@ -23,7 +23,7 @@ pub returns-clause-fired : goal.returns-clause-fired
 returns-clause-fired c =
     let U : UpdateSet = update_set c.args.state.now c.args.assignments.now in
     let stands : Stands c.args.signature.now c.form.new.set U =
-      stands_alone c.args.signature.now c.form.new.set U (c.in_ok-form.ensures.set c.args.signature.now none (c.clear.ensures.empty c.args.signature.now c.requires.sized.set_fits)) in
+    stands_alone c.args.signature.now c.form.new.set U (c.in_ok-form.ensures.set c.args.signature.now none (c.clear.ensures.empty c.args.signature.now c.requires.sized.set_fits)) in
     let text : List ℕ = step_line c.args.step 0 ++ entries_text c.args.names.now (entry c.form.new.set) in
     let cleared : c.clear-2.new.self.items ≡ [] = c.clear-2.ensures.items in
     record {

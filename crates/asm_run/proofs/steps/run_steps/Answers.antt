@@ -1,4 +1,4 @@
-use Rattle.std.proofs.Common.{◌≡◌, ◌+◌, ◌≤◌, ◌<◌, ℕ, arith, sym, ap, ◌∙◌, refl, rules}
+use Rattle.std.proofs.Common.{◌+◌, arith, ◌∙◌, rules}
 use Rattle.std.proofs.lemmas.Result.{err_from_is_err_and}
 use Rattle.asm_run.proofs.Running.{begins, out_of_memory, at_limit, at_fault, cut, goes_on}
 use Rattle.asm_run.proofs.steps.run_steps.Goals as goal
