@@ -1,0 +1,85 @@
+//! Why the program ends without the whole trace.
+use crate::settings::WordFault;
+use asm_run::error::RunError;
+use std::alloc::AllocError;
+use std::io;
+use thiserror::Error;
+
+/// What ends the program early. Its text is what the program says on standard error.
+#[derive(Debug, Drop, Error)]
+pub enum Fault {
+    /// The words ask for help, or can't be understood.
+    #[error("{0}")]
+    Words(clap::Error),
+    /// A word isn't text.
+    #[error("error: a word is not UTF-8\n")]
+    NotText,
+    /// A limit is out of its range.
+    #[error("limits\n")]
+    Limits,
+    /// The specification is beyond what runs yet.
+    #[error("beyond\n")]
+    Beyond,
+    /// Memory ran out.
+    #[error("memory\n")]
+    Memory,
+    /// The specification can't be read.
+    #[error("file\n")]
+    File,
+    /// The trace can't be written.
+    #[error("write\n")]
+    Write,
+}
+
+impl Fault {
+    /// The program's status.
+    pub fn status(&self) -> u8 {
+        match self {
+            Fault::Beyond => 2,
+            Fault::Memory | Fault::File | Fault::Write => 3,
+            Fault::Words(_) | Fault::NotText | Fault::Limits => 4,
+        }
+    }
+
+    /// The fault of words that can't be had.
+    pub fn of_words(error: &io::Error) -> Fault {
+        match error.kind() {
+            io::ErrorKind::OutOfMemory => Fault::Memory,
+            _ => Fault::NotText,
+        }
+    }
+
+    /// The fault of a read that failed.
+    pub fn of_read(error: &io::Error) -> Fault {
+        match error.kind() {
+            io::ErrorKind::OutOfMemory => Fault::Memory,
+            _ => Fault::File,
+        }
+    }
+}
+
+impl From<WordFault> for Fault {
+    fn from(fault: WordFault) -> Fault {
+        match fault {
+            WordFault::Memory => Fault::Memory,
+            WordFault::Words(error) => Fault::Words(error),
+        }
+    }
+}
+
+impl From<AllocError> for Fault {
+    fn from(_error: AllocError) -> Fault {
+        Fault::Memory
+    }
+}
+
+impl From<RunError> for Fault {
+    fn from(error: RunError) -> Fault {
+        match error {
+            RunError::Beyond => Fault::Beyond,
+            RunError::Limits => Fault::Limits,
+            RunError::Memory => Fault::Memory,
+            RunError::Write => Fault::Write,
+        }
+    }
+}

@@ -1,0 +1,36 @@
+//! What the program is asked to do.
+use asm_run::limits::Limits;
+use clap::Error;
+use clap::error::ErrorKind;
+use std::alloc::AllocError;
+
+/// What the words ask for.
+#[derive(Clone, Copy, Debug, PartialEq, Eq)]
+pub struct Settings {
+    /// How far the run goes.
+    pub limits: Limits,
+}
+
+/// Why words give no settings.
+#[derive(Debug, Drop)]
+pub enum WordFault {
+    /// Memory ran out.
+    Memory,
+    /// They ask for help, or can't be understood.
+    Words(Error),
+}
+
+impl From<AllocError> for WordFault {
+    fn from(_error: AllocError) -> WordFault {
+        WordFault::Memory
+    }
+}
+
+impl From<Error> for WordFault {
+    fn from(error: Error) -> WordFault {
+        match error.kind() {
+            ErrorKind::OutOfMemory => WordFault::Memory,
+            _ => WordFault::Words(error),
+        }
+    }
+}

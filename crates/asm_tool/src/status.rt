@@ -1,0 +1,66 @@
+//! The program over any reader and writers, and the status that it ends with.
+use crate::fault::Fault;
+use crate::input;
+use crate::words::settings;
+use asm_run::end::End;
+use asm_run::run::run;
+use asm_run::through::Through;
+use std::alloc::Global;
+use std::convert::AsStr;
+use std::io::{BufWriter, Read, Write};
+use std::sync::Wait;
+use std::thread::Threads;
+
+/// One more than the bytes of the longest text: reading goes no further, and a text of this length is too long.
+const MOST_BYTES: u64 = 1_048_577;
+
+/// So many bytes of the trace are written at a time.
+const BUFFER: usize = 1 << 16;
+
+/// Runs the specification that the input has, as the words ask, and writes its trace to `out` and the line of a fault to
+/// `err`. The words are those behind the program's name.
+pub fn status<R: Threads + Wait, S: AsStr, I: Read + Drop, O: Write + Drop, E: Write>(
+    rt: &R,
+    alloc: Global,
+    words: &[S],
+    input: I,
+    out: O,
+    err: &mut E,
+) -> u8 {
+    match end(rt, alloc, words, input, out) {
+        Ok(End::Limit) => 0,
+        Ok(End::Clash | End::Outside | End::Exhausted) => 1,
+        Err(fault) => refusal(&fault, err),
+    }
+}
+
+/// Says why there is no whole trace, and answers the status of that.
+pub fn refusal<E: Write>(fault: &Fault, err: &mut E) -> u8 {
+    // Where even this line can't be written, the status alone tells.
+    let _ = write!(err, "{fault}");
+    fault.status()
+}
+
+/// The end of the run, once its whole trace is written.
+fn end<R: Threads + Wait, S: AsStr, I: Read + Drop, O: Write + Drop>(
+    rt: &R,
+    alloc: Global,
+    words: &[S],
+    input: I,
+    out: O,
+) -> Result<End, Fault> {
+    let settings = settings(alloc, words)?;
+    let text = input::front(alloc, input, MOST_BYTES)?;
+    let Ok(buffer) = BufWriter::with_capacity(alloc, BUFFER, out) else {
+        return Err(Fault::Memory);
+    };
+    let mut sink = Through::new(buffer);
+    let end = run(rt, alloc, text.as_slice(), b"", &settings.limits, &mut sink);
+    // What a run wrote before a refusal is part of its trace too.
+    let flushed = sink.into_inner().flush();
+    let end = end?;
+    match flushed {
+        Ok(()) => Ok(end),
+        Err(_) => Err(Fault::Write),
+    }
+}

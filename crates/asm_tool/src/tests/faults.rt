@@ -1,0 +1,165 @@
+//! Statuses and lines of faults.
+use super::limits::TwentyBytes;
+use super::{COUNTER, shown_by};
+use crate::status::status;
+use std::alloc::AllocError;
+use std::io;
+use std::io::{Read, Write};
+use std::test::Fail;
+
+/// Gives spaces without an end, and counts them.
+#[derive(Drop)]
+struct Endless {
+    given: usize,
+}
+
+impl Read for Endless {
+    fn read(&mut self, buffer: &mut [u8]) -> io::Result<usize> {
+        for byte in buffer.iter_mut() {
+            *byte = b' ';
+        }
+        self.given = self.given.saturating_add(buffer.len());
+        Ok(buffer.len())
+    }
+}
+
+/// Fails at its first read.
+#[derive(Drop)]
+struct Unreadable {
+    kind: io::ErrorKind,
+}
+
+impl Read for Unreadable {
+    fn read(&mut self, _buffer: &mut [u8]) -> io::Result<usize> {
+        Err(io::Error::from(self.kind))
+    }
+}
+
+/// Takes nothing at all.
+#[derive(Drop)]
+struct Closed;
+
+impl Write for Closed {
+    fn write(&mut self, _piece: &[u8]) -> io::Result<usize> {
+        Err(io::Error::from(io::ErrorKind::BrokenPipe))
+    }
+
+    fn flush(&mut self) -> io::Result<()> {
+        Ok(())
+    }
+}
+
+/// Takes everything, and then can't let go of it.
+#[derive(Drop)]
+struct Unflushed;
+
+impl Write for Unflushed {
+    fn write(&mut self, piece: &[u8]) -> io::Result<usize> {
+        Ok(piece.len())
+    }
+
+    fn flush(&mut self) -> io::Result<()> {
+        Err(io::Error::from(io::ErrorKind::StorageFull))
+    }
+}
+
+#[test]
+fn words_that_are_refused(rt: HostRuntime) -> Result<(), Fail> {
+    let refused: [&[&str]; 8] = [
+        &[],
+        &["--steps"],
+        &["--steps", "1000001"],
+        &["--steps", "-1"],
+        &["--steps", "three"],
+        &["--steps", "3", "--walks", "1"],
+        &["--steps", "3", "--steps", "4"],
+        &["--help"],
+    ];
+    for words in refused {
+        let shown = shown_by(&rt, rt.alloc(), words, COUNTER);
+        assert_eq!(rt; shown.status, 4);
+        assert!(rt; !shown.line.is_empty());
+        assert_eq!(rt; shown.trace.len(), 0);
+    }
+    Ok(())
+}
+
+#[test]
+fn the_greatest_number_of_steps_is_taken(rt: HostRuntime) {
+    let shown = shown_by(&rt, rt.alloc(), &["--steps", "1000000"], b"".as_slice());
+    assert_eq!(rt; shown.status, 2);
+}
+
+#[test]
+fn words_are_looked_at_before_the_text(rt: HostRuntime) {
+    let mut input = Endless { given: 0 };
+    let shown = shown_by(&rt, rt.alloc(), &["--steps", "x"], &mut input);
+    assert_eq!(rt; shown.status, 4);
+    assert_eq!(rt; input.given, 0);
+}
+
+#[test]
+fn a_text_without_an_end_is_read_no_further_than_it_may_be_long(rt: HostRuntime) {
+    let mut input = Endless { given: 0 };
+    let shown = shown_by(&rt, rt.alloc(), &["--steps", "1"], &mut input);
+    assert_eq!(rt; input.given, 1_048_577);
+    assert_eq!(rt; shown.line.as_slice(), b"beyond\n".as_slice());
+    assert_eq!(rt; shown.trace.len(), 0);
+    assert_eq!(rt; shown.status, 2);
+}
+
+#[test]
+fn a_text_that_cannot_be_read(rt: HostRuntime) {
+    let broken = COUNTER.chain(Unreadable {
+        kind: io::ErrorKind::InvalidData,
+    });
+    let file = shown_by(&rt, rt.alloc(), &["--steps", "3"], broken);
+    assert_eq!(rt; file.line.as_slice(), b"file\n".as_slice());
+    assert_eq!(rt; file.trace.len(), 0);
+    assert_eq!(rt; file.status, 3);
+    let full = Unreadable {
+        kind: io::ErrorKind::OutOfMemory,
+    };
+    let memory = shown_by(&rt, rt.alloc(), &["--steps", "3"], full);
+    assert_eq!(rt; memory.line.as_slice(), b"memory\n".as_slice());
+    assert_eq!(rt; memory.status, 3);
+}
+
+#[test]
+fn a_trace_that_cannot_be_written(rt: HostRuntime) {
+    let words = ["--steps", "3"];
+    let alloc = rt.alloc();
+    let mut line = Vec::new(alloc);
+    let closed = status(&rt, alloc, words.as_slice(), COUNTER, Closed, &mut line);
+    assert_eq!(rt; closed, 3);
+    assert_eq!(rt; line.as_slice(), b"write\n".as_slice());
+    let mut line = Vec::new(alloc);
+    let unflushed = status(&rt, alloc, words.as_slice(), COUNTER, Unflushed, &mut line);
+    assert_eq!(rt; unflushed, 3);
+    assert_eq!(rt; line.as_slice(), b"write\n".as_slice());
+    let mut front = TwentyBytes {
+        taken: Vec::new(alloc),
+    };
+    let mut line = Vec::new(alloc);
+    let cut = status(&rt, alloc, words.as_slice(), COUNTER, &mut front, &mut line);
+    assert_eq!(rt; cut, 3);
+    assert_eq!(rt; line.as_slice(), b"write\n".as_slice());
+    assert_eq!(rt; front.taken.as_slice(), b"step 1 instances 0\nx".as_slice());
+}
+
+#[test]
+fn a_line_that_cannot_be_written_changes_nothing(rt: HostRuntime) {
+    let words = ["--steps", "3"];
+    let alloc = rt.alloc();
+    let mut trace = Vec::new(alloc);
+    let beyond = status(
+        &rt,
+        alloc,
+        words.as_slice(),
+        b"".as_slice(),
+        &mut trace,
+        &mut Closed,
+    );
+    assert_eq!(rt; beyond, 2);
+    assert_eq!(rt; trace.len(), 0);
+}

@@ -1,0 +1,238 @@
+//! Worked rows: what a person who knows the rules expects of a text.
+use super::shown_by;
+use std::alloc::{AllocError, Global};
+use std::test::Fail;
+
+/// A text, the steps that are asked for, and what the program shows.
+struct Row {
+    name: &'static str,
+    text: &'static str,
+    steps: &'static str,
+    trace: &'static str,
+    status: u8,
+}
+
+static ROWS: [Row; 8] = [
+    Row {
+        name: "counter",
+        text: "CoreASM T\n\
+            init M\n\
+            function controlled x initially 0\n\
+            rule M = x := x + 1\n",
+        steps: "3",
+        trace: "step 1 instances 0\n\
+            x := 1\n\
+            step 2 instances 0\n\
+            x := 2\n\
+            step 3 instances 0\n\
+            x := 3\n\
+            end limit\n\
+            state\n\
+            x = 3\n",
+        status: 0,
+    },
+    Row {
+        name: "skip",
+        text: "CoreASM T\n\
+            init M\n\
+            rule M = skip\n",
+        steps: "2",
+        trace: "step 1 instances 0\n\
+            step 2 instances 0\n\
+            end limit\n\
+            state\n",
+        status: 0,
+    },
+    Row {
+        name: "no_steps",
+        text: "CoreASM T\n\
+            init M\n\
+            function controlled x initially 0\n\
+            rule M = x := x + 1\n",
+        steps: "0",
+        trace: "end limit\n\
+            state\n\
+            x = 0\n",
+        status: 0,
+    },
+    Row {
+        name: "swap",
+        text: "CoreASM T\n\
+            init M\n\
+            function controlled a initially 1\n\
+            function controlled b initially 2\n\
+            rule M = par a := b b := a endpar\n",
+        steps: "1",
+        trace: "step 1 instances 0\n\
+            a := 2\n\
+            b := 1\n\
+            end limit\n\
+            state\n\
+            a = 2\n\
+            b = 1\n",
+        status: 0,
+    },
+    Row {
+        name: "same_update_twice",
+        text: "CoreASM T\n\
+            init M\n\
+            function controlled x\n\
+            rule M = par x := 1 x := 1 endpar\n",
+        steps: "1",
+        trace: "step 1 instances 0\n\
+            x := 1\n\
+            end limit\n\
+            state\n\
+            x = 1\n",
+        status: 0,
+    },
+    Row {
+        name: "least_clash",
+        text: "CoreASM T\n\
+            init M\n\
+            function controlled x\n\
+            function controlled y\n\
+            rule M = par y := 2 y := 1 x := 5 x := 4 endpar\n",
+        steps: "1",
+        trace: "end clash step 1 x least 4 greatest 5\n\
+            state\n",
+        status: 1,
+    },
+    Row {
+        name: "number_edges",
+        text: "CoreASM T\n\
+            init M\n\
+            function controlled x\n\
+            function controlled y\n\
+            rule M = par x := 1000000000000000 + 1 y := 1000000000000000 y := -1000000000000000 endpar\n",
+        steps: "1",
+        trace: "end clash step 1 y least -1000000000000000 greatest 1000000000000000\n\
+            state\n",
+        status: 1,
+    },
+    Row {
+        name: "a_text_without_its_last_line_feed",
+        text: "CoreASM T\n\
+            init M\n\
+            rule M = skip",
+        steps: "1",
+        trace: "step 1 instances 0\n\
+            end limit\n\
+            state\n",
+        status: 0,
+    },
+];
+
+#[test]
+fn rows_are_shown(rt: HostRuntime) {
+    for row in &ROWS {
+        let words = ["--steps", row.steps];
+        let shown = shown_by(&rt, rt.alloc(), words.as_slice(), row.text.as_bytes());
+        assert_eq!(rt;
+            shown.trace.as_slice(),
+            row.trace.as_bytes(),
+            "{}",
+            row.name
+        );
+        assert_eq!(rt; shown.line.as_slice(), b"".as_slice(), "{}", row.name);
+        assert_eq!(rt; shown.status, row.status, "{}", row.name);
+    }
+}
+
+/// The rule `skip` within so many `par`s.
+fn nested(alloc: Global, levels: usize) -> Result<Vec<u8>, AllocError> {
+    let mut text = Vec::new(alloc);
+    text.extend_from_slice(b"CoreASM T\ninit M\nrule M = ")?;
+    for _ in 0..levels {
+        text.extend_from_slice(b"par ")?;
+    }
+    text.extend_from_slice(b"skip")?;
+    for _ in 0..levels {
+        text.extend_from_slice(b" endpar")?;
+    }
+    Ok(text)
+}
+
+#[test]
+fn sixty_four_levels_are_not_too_deep(rt: HostRuntime) -> Result<(), Fail> {
+    let text = nested(rt.alloc(), 64)?;
+    let shown = shown_by(&rt, rt.alloc(), &["--steps", "2"], text.as_slice());
+    let trace = b"step 1 instances 0\nstep 2 instances 0\nend limit\nstate\n";
+    assert_eq!(rt; shown.trace.as_slice(), trace.as_slice());
+    assert_eq!(rt; shown.status, 0);
+    Ok(())
+}
+
+#[test]
+fn sixty_five_levels_are_too_deep(rt: HostRuntime) -> Result<(), Fail> {
+    let text = nested(rt.alloc(), 65)?;
+    let shown = shown_by(&rt, rt.alloc(), &["--steps", "2"], text.as_slice());
+    assert_eq!(rt; shown.line.as_slice(), b"beyond\n".as_slice());
+    assert_eq!(rt; shown.status, 2);
+    Ok(())
+}
+
+/// Texts that are refused, each for a reason of its own.
+static BEYOND: [(&str, &str); 21] = [
+    ("nothing", ""),
+    ("no tokens", " \t\r\n// nothing\n"),
+    ("a header alone", "CoreASM T"),
+    ("no rule that starts", "CoreASM T\nrule M = skip\n"),
+    ("no such rule", "CoreASM T\ninit N\nrule M = skip\n"),
+    (
+        "two that start",
+        "CoreASM T\ninit M\ninit M\nrule M = skip\n",
+    ),
+    ("a call", "CoreASM T\ninit M\nrule M = r\n"),
+    (
+        "a sequence",
+        "CoreASM T\ninit M\nrule M = seq skip endseq\n",
+    ),
+    ("no end of a par", "CoreASM T\ninit M\nrule M = par skip\n"),
+    (
+        "a par of nothing",
+        "CoreASM T\ninit M\nrule M = par endpar\n",
+    ),
+    ("an unknown target", "CoreASM T\ninit M\nrule M = x := 1\n"),
+    (
+        "an unknown name",
+        "CoreASM T\ninit M\nfunction controlled x\nrule M = x := y\n",
+    ),
+    ("a rule as a target", "CoreASM T\ninit M\nrule M = M := 1\n"),
+    (
+        "a name twice",
+        "CoreASM T\ninit M\nfunction controlled M\nrule M = skip\n",
+    ),
+    (
+        "a name of a codomain",
+        "CoreASM T\ninit M\nfunction controlled ANY\nrule M = skip\n",
+    ),
+    (
+        "parentheses",
+        "CoreASM T\ninit M\nfunction controlled x\nrule M = x := (1)\n",
+    ),
+    (
+        "two sums",
+        "CoreASM T\ninit M\nfunction controlled x\nrule M = x := 1 + 1 + 1\n",
+    ),
+    (
+        "an arrow",
+        "CoreASM T\ninit M\nfunction controlled a\nfunction controlled x\nrule M = x := a<-1\n",
+    ),
+    (
+        "too great a number",
+        "CoreASM T\ninit M\nfunction controlled x\nrule M = x := 1000000000000001\n",
+    ),
+    ("a byte of no token", "CoreASM T$"),
+    ("an open comment", "CoreASM T /*/"),
+];
+
+#[test]
+fn texts_beyond_the_first_path_are_refused(rt: HostRuntime) {
+    for (reason, text) in &BEYOND {
+        let shown = shown_by(&rt, rt.alloc(), &["--steps", "1"], text.as_bytes());
+        assert_eq!(rt; shown.line.as_slice(), b"beyond\n".as_slice(), "{reason}");
+        assert_eq!(rt; shown.trace.len(), 0, "{reason}");
+        assert_eq!(rt; shown.status, 2, "{reason}");
+    }
+}
