@@ -3,6 +3,7 @@ use crate::fault::Fault;
 use crate::input;
 use crate::words::settings;
 use asm_run::end::End;
+use asm_run::error::RunError;
 use asm_run::run::run;
 use asm_run::through::Through;
 use std::alloc::Global;
@@ -55,10 +56,17 @@ fn end<R: Threads + Wait, S: AsStr, I: Read + Drop, O: Write + Drop>(
         return Err(Fault::Memory);
     };
     let mut sink = Through::new(buffer);
-    let end = run(rt, alloc, text.as_slice(), b"", &settings.limits, &mut sink);
-    // What a run wrote before a refusal is part of its trace too.
+    let answer = run(rt, alloc, text.as_slice(), b"", &settings.limits, &mut sink);
+    // What a run wrote before a refusal is shown too.
     let flushed = sink.into_inner().flush();
-    let end = end?;
+    let end = match answer {
+        Ok(end) => end,
+        Err(RunError::Beyond) => return Err(Fault::Beyond),
+        Err(RunError::Memory) => return Err(Fault::Memory),
+        Err(RunError::Write) => return Err(Fault::Write),
+        // The settings are in their ranges.
+        Err(RunError::Limits) => unreachable!(),
+    };
     match flushed {
         Ok(()) => Ok(end),
         Err(_) => Err(Fault::Write),
