@@ -12,14 +12,13 @@ use crate::steps::run_steps;
 use asm_reader::{one_tree, read};
 use asm_state::signature::Signature;
 use std::alloc::Global;
-use std::sync::Wait;
 use std::thread::Threads;
 
 /// Runs the specification with this text, and writes its trace: the text of each step when it is whole, and then the last lines.
 ///
 /// A text beyond the first path is refused, and so are limits out of their ranges; then nothing is written. The script isn't looked at, since
-/// no rule of the first path makes choices. The runtime starts no thread and waits for nothing yet.
-pub fn run<R: Threads + Wait, S: Sink>(
+/// no rule of the first path makes choices. No thread is started yet.
+pub fn run<R: Threads, S: Sink>(
     _rt: &R,
     alloc: Global,
     spec: &[u8],

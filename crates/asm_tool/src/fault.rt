@@ -1,6 +1,5 @@
 //! Why the program ends without the whole trace.
 use crate::settings::WordFault;
-use asm_run::error::RunError;
 use std::alloc::AllocError;
 use std::io;
 use thiserror::Error;
@@ -14,9 +13,6 @@ pub enum Fault {
     /// A word isn't text.
     #[error("error: a word is not UTF-8\n")]
     NotText,
-    /// A limit is out of its range.
-    #[error("limits\n")]
-    Limits,
     /// The specification is beyond what runs yet.
     #[error("beyond\n")]
     Beyond,
@@ -37,7 +33,7 @@ impl Fault {
         match self {
             Fault::Beyond => 2,
             Fault::Memory | Fault::File | Fault::Write => 3,
-            Fault::Words(_) | Fault::NotText | Fault::Limits => 4,
+            Fault::Words(_) | Fault::NotText => 4,
         }
     }
 
@@ -70,16 +66,5 @@ impl From<WordFault> for Fault {
 impl From<AllocError> for Fault {
     fn from(_error: AllocError) -> Fault {
         Fault::Memory
-    }
-}
-
-impl From<RunError> for Fault {
-    fn from(error: RunError) -> Fault {
-        match error {
-            RunError::Beyond => Fault::Beyond,
-            RunError::Limits => Fault::Limits,
-            RunError::Memory => Fault::Memory,
-            RunError::Write => Fault::Write,
-        }
     }
 }

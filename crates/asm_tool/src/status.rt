@@ -3,12 +3,12 @@ use crate::fault::Fault;
 use crate::input;
 use crate::words::settings;
 use asm_run::end::End;
+use asm_run::error::RunError;
 use asm_run::run::run;
 use asm_run::through::Through;
 use std::alloc::Global;
 use std::convert::AsStr;
 use std::io::{BufWriter, Read, Write};
-use std::sync::Wait;
 use std::thread::Threads;
 
 /// One more than the bytes of the longest text: reading goes no further, and a text of this length is too long.
@@ -19,7 +19,7 @@ const BUFFER: usize = 1 << 16;
 
 /// Runs the specification that the input has, as the words ask, and writes its trace to `out` and the line of a fault to
 /// `err`. The words are those behind the program's name.
-pub fn status<R: Threads + Wait, S: AsStr, I: Read + Drop, O: Write + Drop, E: Write>(
+pub fn status<R: Threads, S: AsStr, I: Read + Drop, O: Write + Drop, E: Write>(
     rt: &R,
     alloc: Global,
     words: &[S],
@@ -42,7 +42,7 @@ pub fn refusal<E: Write>(fault: &Fault, err: &mut E) -> u8 {
 }
 
 /// The end of the run, once its whole trace is written.
-fn end<R: Threads + Wait, S: AsStr, I: Read + Drop, O: Write + Drop>(
+fn end<R: Threads, S: AsStr, I: Read + Drop, O: Write + Drop>(
     rt: &R,
     alloc: Global,
     words: &[S],
@@ -55,10 +55,17 @@ fn end<R: Threads + Wait, S: AsStr, I: Read + Drop, O: Write + Drop>(
         return Err(Fault::Memory);
     };
     let mut sink = Through::new(buffer);
-    let end = run(rt, alloc, text.as_slice(), b"", &settings.limits, &mut sink);
-    // What a run wrote before a refusal is part of its trace too.
+    let answer = run(rt, alloc, text.as_slice(), b"", &settings.limits, &mut sink);
+    // What a run wrote before a refusal is shown too.
     let flushed = sink.into_inner().flush();
-    let end = end?;
+    let end = match answer {
+        Ok(end) => end,
+        Err(RunError::Beyond) => return Err(Fault::Beyond),
+        Err(RunError::Memory) => return Err(Fault::Memory),
+        Err(RunError::Write) => return Err(Fault::Write),
+        // The settings are in their ranges.
+        Err(RunError::Limits) => unreachable!(),
+    };
     match flushed {
         Ok(()) => Ok(end),
         Err(_) => Err(Fault::Write),
