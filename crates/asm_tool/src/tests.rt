@@ -2,7 +2,6 @@
 use crate::status::status;
 use std::alloc::Global;
 use std::io::{Read, Write};
-use std::sync::Wait;
 use std::thread::Threads;
 
 mod faults;
@@ -21,7 +20,7 @@ struct Shown {
 }
 
 /// What the program shows where both writers take everything.
-fn shown_by<R: Threads + Wait, I: Read + Drop>(
+fn shown_by<R: Threads, I: Read + Drop>(
     rt: &R,
     alloc: Global,
     words: &[&str],
