@@ -20,12 +20,7 @@ struct Shown {
 }
 
 /// What the program shows where both writers take everything.
-fn shown_by<R: Threads, I: Read + Drop>(
-    rt: &R,
-    alloc: Global,
-    words: &[&str],
-    input: I,
-) -> Shown {
+fn shown_by<R: Threads, I: Read + Drop>(rt: &R, alloc: Global, words: &[&str], input: I) -> Shown {
     let mut trace = Vec::new(alloc);
     let mut line = Vec::new(alloc);
     let status = status(rt, alloc, words, input, &mut trace, &mut line);
