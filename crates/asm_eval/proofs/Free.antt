@@ -7,7 +7,7 @@ use Rattle.std.proofs.lemmas.Bool.Decides.{not_from_Decides}
 use Rattle.asm_state.specs.declared.value.Value.{Value}
 use Rattle.asm_state.specs.Location.{State}
 use Rattle.asm_state.specs.Updates.{UpdateSet, IsConsistent, is_consistent, is_none, none, fire}
-use Rattle.asm_state.proofs.Updates.{Decides-is_consistent, Decides-is_none}
+use Rattle.asm_state.proofs.Updates.{test_laws}
 use Rattle.asm_syntax.specs.Tree.{Name, Term, Rule, Skip, Assign, Call, Par, Seq, If, Let, Forall, Choose, Iterate, Rules, no_rules, rule_then}
 use Rattle.asm_eval.specs.Program.{Program, Procedure, declared, Environment, with_value, bind_terms}
 use Rattle.asm_eval.specs.Value.{value, holds, candidates, universe, nesting}
@@ -20,8 +20,8 @@ use Rattle.asm_eval.specs.Ranks.{CallsBelow, EachCallsBelow, IsRanked, lower}
 ends : (U : UpdateSet) → (is_none U || not (is_consistent U)) ≡ true → (U ≡ none) ⊎ (¬ (IsConsistent U))
 ends U h =
     elim (is_none U) as (λ b. is_none U ≡ b → (b || not (is_consistent U)) ≡ true → (U ≡ none) ⊎ (¬ (IsConsistent U))) [
-      | true ↦ λ e _. inl ((Decides-is_none U).0 e)
-      | false ↦ λ _ rest. inr (not_from_Decides (is_consistent U) (Decides-is_consistent U) (was_false _ rest))
+      | true ↦ λ e _. inl ((test_laws.emptiness U).0 e)
+      | false ↦ λ _ rest. inr (not_from_Decides (is_consistent U) (test_laws.consistency U) (was_false _ rest))
     ] refl h
   where
     was_false : (b : Bool) → not b ≡ true → b ≡ false
@@ -30,8 +30,8 @@ ends U h =
 -- and goes on elsewhere
 goes_on : (U : UpdateSet) → (is_none U || not (is_consistent U)) ≡ false → (U ≢ none) × IsConsistent U
 goes_on U h = (
-  not_from_Decides (is_none U) (Decides-is_none U) (first_false _ _ h),
-  (Decides-is_consistent U).0 (second_true _ _ h),
+  not_from_Decides (is_none U) (test_laws.emptiness U) (first_false _ _ h),
+  (test_laws.consistency U).0 (second_true _ _ h),
 )
   where
     first_false : (a b : Bool) → (a || not b) ≡ false → a ≡ false
@@ -54,8 +54,8 @@ module _ (program : Program) (turns : ℕ) where
   part_step (Exhausted q) n rest y ys = exhausted y
   part_step {A} {e} {p} {k} {P} {Ps} (Gives U) n rest y ys =
       by_test (λ (o : Outcome). YieldsInOrder program turns A e p k (rule_then P Ps) o.result) (is_consistent U) _ _
-      (λ h. go_on y ((Decides-is_consistent U).0 h) (ys U))
-      (λ h. faulty y (not_from_Decides (is_consistent U) (Decides-is_consistent U) h))
+      (λ h. go_on y ((test_laws.consistency U).0 h) (ys U))
+      (λ h. faulty y (not_from_Decides (is_consistent U) (test_laws.consistency U) h))
 
   -- one turn of an iteration
   turn_step : {A : State} {e : Environment} {p : Place} {t left : ℕ} {P : Rule} (r : Result) (n : ℕ) (rest : UpdateSet → Outcome)

@@ -6,7 +6,7 @@ use Rattle.std.specs.Cmp.Lexicographic.{pointwise}
 use Rattle.std.proofs.lemmas.Bool.Decides.{not_from_Decides, nat_tests}
 use Rattle.asm_state.specs.Location.{State}
 use Rattle.asm_state.specs.Updates.{UpdateSet, IsConsistent, is_consistent, fire}
-use Rattle.asm_state.proofs.Updates.{Decides-is_consistent}
+use Rattle.asm_state.proofs.Updates.{test_laws}
 use Rattle.asm_syntax.specs.Tree.{Name, Rule}
 use Rattle.asm_eval.specs.Program.{Program, nothing_bound}
 use Rattle.asm_eval.specs.Value.{nesting}
@@ -65,8 +65,8 @@ module _ (program : Program) (turns : ℕ) (main : Rule) where
   step_is (Exhausted q) rest y ys = at_exhausted y
   step_is {n} {i} {A} (Gives U) rest y ys =
       by_test (IsCourse (suc n) i A) (is_consistent U) _ _
-      (λ h. step_then y ((Decides-is_consistent U).0 h) (ys U))
-      (λ h. at_fault y (not_from_Decides (is_consistent U) (Decides-is_consistent U) h))
+      (λ h. step_then y ((test_laws.consistency U).0 h) (ys U))
+      (λ h. at_fault y (not_from_Decides (is_consistent U) (test_laws.consistency U) h))
 
   module _ (rank : Name → ℕ) (ranked : IsRanked program rank) (c : CallsBelow program rank nesting main) where
     course_may_be : (script : Script) (n i : ℕ) (A : State) → IsCourse n i A (course_from script n i A)
@@ -152,7 +152,7 @@ module _ (program : Program) (turns : ℕ) (main : Rule) where
         begins = λ j q below. pick_elsewhere i j s rest.script q (λ e. absurd (omega arith)) ∙ rest.begins j q (omega arith);
         is = ap (λ r. course_and r i A (λ U. course_from program turns main all n (suc i) (fire A U)))
             (does_alike all s i A (λ q. pick_here i s rest.script q (rest.begins i q (omega arith))) ∙ e)
-            ∙ ap (λ b. cond b (onwards U (course_from program turns main all n (suc i) (fire A U))) (course [] (AtFault i U) A)) ((Decides-is_consistent U).1 h)
+            ∙ ap (λ b. cond b (onwards U (course_from program turns main all n (suc i) (fire A U))) (course [] (AtFault i U) A)) ((test_laws.consistency U).1 h)
             ∙ ap (λ r. onwards U r)
             (runs_alike all rest.script n (suc i) (fire A U) (λ j q later. pick_elsewhere i j s rest.script q (λ e. absurd (omega arith))) ∙ rest.is);
       }
@@ -167,7 +167,7 @@ module _ (program : Program) (turns : ℕ) (main : Rule) where
         last_step n i A (Exhausted q) (script_of i A y).0 _ (script_of i A y).1 (λ rest. refl)
     scripted (at_fault {n = n} {i = i} {A = A} {U = U} y h) =
         last_step n i A (Gives U) (script_of i A y).0 _ (script_of i A y).1
-        (λ rest. ap (λ b. cond b (onwards U (rest U)) (course [] (AtFault i U) A)) (not_true (is_consistent U) (Decides-is_consistent U) h))
+        (λ rest. ap (λ b. cond b (onwards U (rest U)) (course [] (AtFault i U) A)) (not_true (is_consistent U) (test_laws.consistency U) h))
     scripted (step_then {n = n} {i = i} {A = A} {U = U} {sets = sets} {end = end} {last = last} y h ys) =
         let one = script_of i A y in
         let rest : Scripted n (suc i) (fire A U) (course sets end last) = scripted ys in

@@ -8,7 +8,7 @@ use Rattle.std.proofs.lemmas.Option.{get_or_from_slice_get}
 use Rattle.asm_state.specs.declared.value.Value.{Value}
 use Rattle.asm_state.specs.Location.{State}
 use Rattle.asm_state.specs.Updates.{UpdateSet, IsConsistent, is_consistent, is_none, none}
-use Rattle.asm_state.proofs.Updates.{Decides-is_consistent, Decides-is_none}
+use Rattle.asm_state.proofs.Updates.{test_laws}
 use Rattle.asm_syntax.specs.Tree.{Name, Term, Rule, Rules}
 use Rattle.asm_eval.specs.Program.{Program, Procedure, declared, Environment, with_value, bind_terms}
 use Rattle.asm_eval.specs.Value.{holds, candidates, nesting}
@@ -35,7 +35,7 @@ at_false b o other h = ap (λ b. (cond b o other).result) h
 part_faulty : (r : Result) (n : ℕ) (rest : UpdateSet → Outcome) (U : UpdateSet) → r ≡ Gives U → ¬ (IsConsistent U) → (part_and r n rest).result ≡ Gives U
 part_faulty r n rest U e h =
     ap (λ s. (part_and s n rest).result) e
-    ∙ at_false (is_consistent U) _ _ (not_true (is_consistent U) (Decides-is_consistent U) h)
+    ∙ at_false (is_consistent U) _ _ (not_true (is_consistent U) (test_laws.consistency U) h)
 
 part_exhausted : (r : Result) (n : ℕ) (rest : UpdateSet → Outcome) (q : Place) → r ≡ Exhausted q → (part_and r n rest).result ≡ Exhausted q
 part_exhausted r n rest q e = ap (λ s. (part_and s n rest).result) e
@@ -44,13 +44,13 @@ part_goes_on : (r : Result) (n : ℕ) (rest : UpdateSet → Outcome) (U : Update
     → (part_and r n rest).result ≡ after U s
 part_goes_on r n rest U s e h k =
     ap (λ s. (part_and s n rest).result) e
-    ∙ at_true (is_consistent U) _ _ ((Decides-is_consistent U).1 h)
+    ∙ at_true (is_consistent U) _ _ ((test_laws.consistency U).1 h)
     ∙ ap (after U) k
 
 -- a turn, by what it yields
 turn_ends : (U : UpdateSet) → (U ≡ none) ⊎ (¬ (IsConsistent U)) → (is_none U || not (is_consistent U)) ≡ true
-turn_ends U (inl e) = ap (λ b. b || not (is_consistent U)) ((Decides-is_none U).1 e)
-turn_ends U (inr h) = ap (λ b. is_none U || not b) (not_true (is_consistent U) (Decides-is_consistent U) h) ∙ or_true (is_none U)
+turn_ends U (inl e) = ap (λ b. b || not (is_consistent U)) ((test_laws.emptiness U).1 e)
+turn_ends U (inr h) = ap (λ b. is_none U || not b) (not_true (is_consistent U) (test_laws.consistency U) h) ∙ or_true (is_none U)
   where
     or_true : (b : Bool) → (b || true) ≡ true
     or_true b = grind arith
@@ -67,7 +67,7 @@ turn_goes_on : (r : Result) (n : ℕ) (rest : UpdateSet → Outcome) (U : Update
     → (turn_and r n rest).result ≡ after U s
 turn_goes_on r n rest U s e some h k =
     ap (λ s. (turn_and s n rest).result) e
-    ∙ at_false (is_none U || not (is_consistent U)) _ _ (or_false _ _ (not_true (is_none U) (Decides-is_none U) some) ((Decides-is_consistent U).1 h))
+    ∙ at_false (is_none U || not (is_consistent U)) _ _ (or_false _ _ (not_true (is_none U) (test_laws.emptiness U) some) ((test_laws.consistency U).1 h))
     ∙ ap (after U) k
   where
     or_false : (a b : Bool) → a ≡ false → b ≡ true → (a || not b) ≡ false

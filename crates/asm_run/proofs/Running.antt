@@ -8,7 +8,7 @@ use Rattle.asm_state.specs.Location.{Location, Proper, Stray, State}
 use Rattle.asm_state.specs.Signature.{Shape, location_at, initial_state, state_of}
 use Rattle.asm_state.specs.Updates.{UpdateSet, IsConsistent, is_consistent, fire, Clash, Outside, IsFirstFault}
 use Rattle.asm_state.proofs.Faults.{fault_laws}
-use Rattle.asm_state.proofs.Updates.{Decides-is_consistent}
+use Rattle.asm_state.proofs.Updates.{test_laws}
 use Rattle.asm_syntax.specs.Tree.{Rule}
 use Rattle.asm_updates.specs.Entries.{range}
 use Rattle.asm_updates.specs.Faults.{fault_of}
@@ -60,7 +60,7 @@ module _ (program : Program) (main : Rule) (turns : ℕ) (choices : Script) (sha
   fires n i contents next consistent is =
       let U : UpdateSet = update_set contents assignments in
       a_step n i contents
-      ∙ ap (λ b. cond b (fired U 0 (left n (suc i) (fire (state_of shape contents) U))) (ended (AtFault i U) (state_of shape contents))) ((Decides-is_consistent U).1 consistent)
+      ∙ ap (λ b. cond b (fired U 0 (left n (suc i) (fire (state_of shape contents) U))) (ended (AtFault i U) (state_of shape contents))) ((test_laws.consistency U).1 consistent)
       ∙ ap (λ (A : State). fired U 0 (left n (suc i) A)) (sym is)
 
   stops : (n i : ℕ) (contents : List Value) → ¬ (IsConsistent (update_set contents assignments))
@@ -68,7 +68,7 @@ module _ (program : Program) (main : Rule) (turns : ℕ) (choices : Script) (sha
   stops n i contents faulty =
       let U : UpdateSet = update_set contents assignments in
       a_step n i contents
-      ∙ ap (λ b. cond b (fired U 0 (left n (suc i) (fire (state_of shape contents) U))) (ended (AtFault i U) (state_of shape contents))) (not_true (is_consistent U) (λ e. faulty ((Decides-is_consistent U).0 e)))
+      ∙ ap (λ b. cond b (fired U 0 (left n (suc i) (fire (state_of shape contents) U))) (ended (AtFault i U) (state_of shape contents))) (not_true (is_consistent U) (λ e. faulty ((test_laws.consistency U).0 e)))
 
 -- a set with a fault isn't consistent
 first_fault_is_faulty : (U : UpdateSet) (f : _) → IsFirstFault U f → ¬ (IsConsistent U)

@@ -3,7 +3,7 @@ use Rattle.std.proofs.Common.{◌≡◌, ℕ, zero, suc, Bool, true, false, cond
 use Rattle.asm_state.specs.Location.{State}
 use Rattle.asm_state.specs.Updates.{UpdateSet, is_consistent, fire}
 use Rattle.asm_state.proofs.Faults.{fault_laws}
-use Rattle.asm_state.proofs.Updates.{Decides-is_consistent}
+use Rattle.asm_state.proofs.Updates.{test_laws}
 use Rattle.asm_syntax.specs.Tree.{Rule}
 use Rattle.asm_eval.specs.Program.{Program, nothing_bound}
 use Rattle.asm_eval.specs.Yields.{Result, Gives, Exhausted}
@@ -26,7 +26,7 @@ module _ (names : Names) (program : Program) (turns : ℕ) (main : Rule) where
   by_test : (U : UpdateSet) (m i : ℕ) (A : State) (rest : Run) (b : Bool) → is_consistent U ≡ b → HasLine names rest.end → HasLine names (cond b (fired U m rest) (ended (AtFault i U) A)).end
   by_test U m i A rest true e h = h
   by_test U m i A rest false e h =
-      let first = fault_laws.has_first U (λ consistent. let yes : is_consistent U ≡ true = (Decides-is_consistent U).1 consistent in absurd cc) in
+      let first = fault_laws.has_first U (λ consistent. let yes : is_consistent U ≡ true = (test_laws.consistency U).1 consistent in absurd cc) in
       (fault_text names i first.0, (first.0, first.1, refl))
 
   by_result : (r : Result) (m i : ℕ) (A : State) (rest : UpdateSet → Run) → ((U : UpdateSet) → HasLine names (rest U).end) → HasLine names (step_and program turns main r m i A rest).end

@@ -122,6 +122,7 @@ firing A U s h l = ap (λ r. overwritten r (A l)) (range_unique (Has U l) (range
 pub summary_laws : SummaryLaws
 summary_laws = record {
   exists = range_at_is;
+  one_range = λ U l. range_unique (Has U l);
   is_one = one_summary;
   of_none = of_none;
   of_one = of_one;

@@ -14,6 +14,7 @@ use Rattle.asm_state.specs.declared.value.Value.{Value}
 use Rattle.asm_state.specs.Value.{value_cmp, value_cmp-total, value_cmp-antisymmetric}
 use Rattle.asm_state.specs.Location.{Location, Proper, Stray, location_cmp, location_cmp-total, location_cmp-antisymmetric, first_tie, second_tie}
 use Rattle.asm_state.specs.Updates.{Update, UpdateSet, update, update_cmp, IsConsistent, none, is_none, is_proper, are_alike, is_consistent}
+use Rattle.asm_state.specs.UpdateLaws.{TestLaws}
 
 pub update_cmp-total : IsTotalOrder update_cmp
 update_cmp-total = then_total (on_total (λ (u : Update). u.location) location_cmp-total) (on_total (λ (u : Update). u.value) value_cmp-total)
@@ -102,7 +103,7 @@ proper_is : (l : Location) → ((f : ℕ) → l ≡ Stray f → ⊥) → is_prop
 proper_is (Proper f vs) h = refl
 proper_is (Stray f) h = absurd (h f refl)
 
-pub Decides-is_consistent : (U : UpdateSet) → Decides (is_consistent U) (IsConsistent U)
+Decides-is_consistent : (U : UpdateSet) → Decides (is_consistent U) (IsConsistent U)
 unfolding is_consistent
 Decides-is_consistent U = (forth, back)
   where
@@ -120,7 +121,7 @@ Decides-is_consistent U = (forth, back)
         (proper_is u.location (λ f e. c.no_stray f u.value (subst (λ l. set.contains U (update l u.value) ≡ true) e m)))
         (passes_each (are_alike u) U (λ w n. alike_from u w (λ e. c.one_value w.location u.value w.value (subst (λ l. set.contains U (update l u.value) ≡ true) e m) n))))
 
-pub Decides-is_none : (U : UpdateSet) → Decides (is_none U) (U ≡ none)
+Decides-is_none : (U : UpdateSet) → Decides (is_none U) (U ≡ none)
 Decides-is_none U = (λ e. set.empty_of_len U (zero_is _ e), λ e. subst (λ V. is_none V ≡ true) (sym e) empty_is)
   where
     zero_is : (n : ℕ) → nat_eq n 0 ≡ true → n ≡ 0
@@ -128,3 +129,6 @@ Decides-is_none U = (λ e. set.empty_of_len U (zero_is _ e), λ e. subst (λ V. 
 
     empty_is : is_none none ≡ true
     empty_is = ap (λ n. nat_eq n 0) (set.len-empty update_cmp)
+
+pub test_laws : TestLaws
+test_laws = record { emptiness = Decides-is_none; consistency = Decides-is_consistent }

@@ -1,8 +1,9 @@
 -- Laws of update sets and of their summaries.
 use Rattle.std.specs.Prelude.{◌≡◌, ◌↔◌, ◌⊎◌, Option, Some, None}
+use Rattle.std.specs.Bool.{Decides}
 use Rattle.asm_state.specs.declared.value.Value.{Value}
 use Rattle.asm_state.specs.Location.{Location, Proper, Stray, State, changed}
-use Rattle.asm_state.specs.Updates.{UpdateSet, Has, Names, IsConsistent, none, one, together, merge, Range, range_of_one, widen, later_range, range_at, overwritten, fire, IsSummary, IsFaulty, Fault, IsFirstFault}
+use Rattle.asm_state.specs.Updates.{UpdateSet, Has, Names, IsConsistent, is_consistent, is_none, none, one, together, merge, Range, range_of_one, widen, later_range, range_at, overwritten, fire, IsRangeOf, IsSummary, IsFaulty, Fault, IsFirstFault}
 
 abbrev pub Summary : Type 0
 Summary = Location → Option Range
@@ -17,6 +18,11 @@ pub record MemberLaws : Type 0 where
   -- sets with the same updates are one set
   pub of_same : (U V : UpdateSet) → ((l : Location) (v : Value) → Has U l v ↔ Has V l v) → U ≡ V
 
+-- the tests of emptiness and of consistency test just that
+pub record TestLaws : Type 0 where
+  pub emptiness : (U : UpdateSet) → Decides (is_none U) (U ≡ none)
+  pub consistency : (U : UpdateSet) → Decides (is_consistent U) (IsConsistent U)
+
 -- ---- summaries
 
 -- a range is settled where it leaves no fault
@@ -28,6 +34,7 @@ IsSettled (Stray f) (Some r) = ⊥
 pub record SummaryLaws : Type 0 where
   -- each set has just one summary
   pub exists : (U : UpdateSet) → IsSummary U (range_at U)
+  pub one_range : (U : UpdateSet) (l : Location) (r s : Option Range) → IsRangeOf (Has U l) r → IsRangeOf (Has U l) s → r ≡ s
   pub is_one : (U : UpdateSet) (s t : Summary) → IsSummary U s → IsSummary U t → s ≡ t
   -- that of no update is empty everywhere, and that of one update everywhere but at its location
   pub of_none : IsSummary none (λ l. None)

@@ -6,7 +6,7 @@ ghost use Rattle.asm_state.specs.Codes.{code_of};
 ghost use Rattle.asm_state.specs.Value.{value_cmp};
 ghost use Rattle.asm_state.specs.OperationLaws.{DivisionLaw};
 ghost use Rattle.asm_state.specs.SignatureLaws.{NumberLaws, StateLaws};
-ghost use Rattle.asm_state.specs.UpdateLaws.{MemberLaws, SummaryLaws, FireLaws, UnionLaws, MergeLaws, FaultLaws};
+ghost use Rattle.asm_state.specs.UpdateLaws.{MemberLaws, TestLaws, SummaryLaws, FireLaws, UnionLaws, MergeLaws, FaultLaws};
 
 /// Codes rise with values, and no two values have one code.
 pub fn codes_rise()
@@ -22,6 +22,11 @@ pub fn division_law()
 /// What the operations on update sets have in them.
 pub fn member_laws()
     ensures { MemberLaws }
+{}
+
+/// The tests of emptiness and of consistency test just that.
+pub fn test_laws()
+    ensures { TestLaws }
 {}
 
 /// Each set has just one summary, and that of a union or a merge is made from theirs.

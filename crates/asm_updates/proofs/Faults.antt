@@ -13,7 +13,6 @@ use Rattle.asm_state.specs.Updates.{UpdateSet, Has, Names, IsConsistent, Range, 
 use Rattle.asm_state.proofs.Codes.{codes_apart}
 use Rattle.asm_state.proofs.Faults.{fault_laws}
 use Rattle.asm_state.proofs.Locations.{number_laws}
-use Rattle.asm_state.proofs.Ranges.{range_at_is}
 use Rattle.asm_state.proofs.Summaries.{summary_laws}
 use Rattle.asm_updates.specs.declared.fault.Fault.{Fault as NumberedFault}
 use Rattle.asm_updates.specs.declared.fault.Fault.TheVariants as numbered
@@ -41,7 +40,7 @@ nothing (Stray f) = tt
 
 pub consistent : (shape : Shape) (s : Entries) (U : UpdateSet) → Stands shape s U → ((n : ℕ) → n < count_of shape → IsSettled (location_at shape n) (entry s n)) → IsConsistent U
 consistent shape s U stands all =
-    (summary_laws.consistency U (range_at U) (range_at_is U)).1
+    (summary_laws.consistency U (range_at U) (summary_laws.exists U)).1
     (λ l. elim (range_cases shape s U l stands) [
       | inl absent ↦ subst (IsSettled l) (sym absent) (nothing l)
       | inr here ↦ subst (IsSettled l) (sym here.1) (subst (λ m. IsSettled m (entry s (number_at shape l))) (number_laws.location shape l here.0) (all (number_at shape l) (number_laws.in_range shape l here.0)))
@@ -91,7 +90,7 @@ first_faulty shape s U n stands below settled faulty = record {
         ⊎_elim
         (λ (before : k < n).
         let is : IsSettled (location_at shape k) (range_at U (location_at shape k)) = subst (IsSettled (location_at shape k)) (stands.has_ranges k in_range) (settled k before) in
-        absurd ((fault_laws.by_summary U (range_at U) (range_at_is U) (location_at shape k)).0 (subst (IsFaulty U) (sym lies) other) is))
+        absurd ((fault_laws.by_summary U (range_at U) (summary_laws.exists U) (location_at shape k)).0 (subst (IsFaulty U) (sym lies) other) is))
         (λ (from : n ≤ k).
         ⊎_elim
         (λ (same : n ≡ k). ap is_gt (subst (λ l. location_cmp (location_at shape n) l ≡ Equal) (ap (location_at shape) same ∙ lies) (tied_itself location_cmp-total (location_at shape n))))
@@ -115,7 +114,7 @@ first_clash U (Stray f) r proper first is = cc
 pub first_fault_is : (shape : Shape) (s : Entries) (U : UpdateSet) (n : ℕ) (low high : Value) (fault : NumberedFault) → Stands shape s U → n < count_of shape →
     ((m : ℕ) → m < n → IsSettled (location_at shape m) (entry s m)) → entry s n ≡ Some (range (low, high)) → IsFaultAt shape n low high fault → IsFirstFault U (fault_of shape fault)
 first_fault_is shape s U n low high (numbered.Clash m least greatest) stands below settled here (same, is_least, is_greatest, apart, proper) =
-    let is : IsRange (Has U (location_at shape n)) (range (low, high)) = subst (IsRangeOf (Has U (location_at shape n))) (sym (stands.has_ranges n below) ∙ here) (range_at_is U (location_at shape n)) in
+    let is : IsRange (Has U (location_at shape n)) (range (low, high)) = subst (IsRangeOf (Has U (location_at shape n))) (sym (stands.has_ranges n below) ∙ here) (summary_laws.exists U (location_at shape n)) in
     let first : IsFirstFault U (Clash (location_at shape n) (range (low, high))) =
     first_clash U (location_at shape n) (range (low, high)) proper
     (first_faulty shape s U n stands below settled (faulty_range U (location_at shape n) (range (low, high)) proper apart is))
@@ -124,6 +123,6 @@ first_fault_is shape s U n low high (numbered.Clash m least greatest) stands bel
     (subst (λ v. IsFirstFault U (Clash (location_at shape n) (range (v, greatest)))) (sym is_least)
     (subst (λ v. IsFirstFault U (Clash (location_at shape n) (range (low, v)))) (sym is_greatest) first))
 first_fault_is shape s U n low high (numbered.Outside f) stands below settled here stray =
-    let is : IsRange (Has U (location_at shape n)) (range (low, high)) = subst (IsRangeOf (Has U (location_at shape n))) (sym (stands.has_ranges n below) ∙ here) (range_at_is U (location_at shape n)) in
+    let is : IsRange (Has U (location_at shape n)) (range (low, high)) = subst (IsRangeOf (Has U (location_at shape n))) (sym (stands.has_ranges n below) ∙ here) (summary_laws.exists U (location_at shape n)) in
     let faulty : IsFaulty U (location_at shape n) = subst (IsFaulty U) (sym stray) (faulty_stray U f (range (low, high)) (subst (λ l. IsRange (Has U l) (range (low, high))) stray is)) in
     subst (IsFirstFaulty U) stray (first_faulty shape s U n stands below settled faulty)

@@ -2,27 +2,25 @@
 use Rattle.std.proofs.Common.{◌≡◌, ℕ, ◌<◌, Bool, true, false, eqb, cond, List, length, get_or, set, Option, Some, None, IsTrue, refl, sym, ap, subst, ◌∙◌, inl, inr, ⊎_elim, arith, get_or-set_same, get_or-set_other}
 use Rattle.std.proofs.lemmas.Bool.Decides.{nat_tests}
 use Rattle.std.proofs.lemmas.Bool.{false≢true, cases_eq}
-use Rattle.std.specs.Ordering.{eq_by_cmp}
 use Rattle.asm_state.specs.declared.value.Value.{Value}
 use Rattle.asm_state.specs.declared.value.Value.TheVariants.{Undef}
-use Rattle.asm_state.specs.Value.{value_cmp}
+use Rattle.asm_state.specs.Codes.{code_of}
 use Rattle.asm_state.specs.Location.{Location, Proper, Stray}
 use Rattle.asm_state.specs.Signature.{Shape, count_of, number_at, IsLocationOf, state_of}
 use Rattle.asm_state.specs.Updates.{UpdateSet, Has, IsConsistent, Range, range_at, IsRangeOf, overwritten, fire, is_proper}
 use Rattle.asm_state.proofs.Locations.{number_laws, state_laws}
-use Rattle.asm_state.proofs.Ranges.{range_at_is}
-use Rattle.asm_state.proofs.Updates.{same_value, value_itself}
+use Rattle.asm_state.proofs.Summaries.{summary_laws}
+use Rattle.asm_state.proofs.Codes.{codes_apart}
 use Rattle.asm_updates.specs.Entries.{Entries, entry}
 use Rattle.asm_updates.specs.Stands.{Stands}
 use Rattle.asm_updates.proofs.Standing.{range_cases}
 
 -- values are equal where they can't differ
 same_unless : (v w : Value) → ((v ≡ w → ⊥) → ⊥) → v ≡ w
-same_unless v w never = by_test (eq_by_cmp value_cmp v w) refl
-  where
-    by_test : (b : Bool) → eq_by_cmp value_cmp v w ≡ b → v ≡ w
-    by_test true e = same_value v w e
-    by_test false e = absurd (never (λ same. false≢true (sym e ∙ subst (λ x. eq_by_cmp value_cmp v x ≡ true) same (value_itself v))))
+same_unless v w never = ⊎_elim
+    (λ same. codes_apart v w same)
+    (λ differ. absurd (never (λ same. differ (ap code_of same))))
+    (cases_eq (code_of v) (code_of w))
 
 module _ (shape : Shape) (s : Entries) (U : UpdateSet) (old new : List Value) (stands : Stands shape s U) (old_len : length old ≡ count_of shape) (new_len : length new ≡ count_of shape) (each : (n : ℕ) → get_or new n Undef ≡ overwritten (entry s n) (get_or old n Undef)) where
   in_place : (l : Location) → IsLocationOf shape l → IsTrue (is_proper l) → state_of shape new l ≡ overwritten (range_at U l) (state_of shape old l)
@@ -48,7 +46,7 @@ module _ (shape : Shape) (s : Entries) (U : UpdateSet) (old new : List Value) (s
         | inr here ↦ in_place (Proper f vs) here.0 refl
       ]
   fired_at consistent (Stray f) =
-      subst (λ r. state_of shape new (Stray f) ≡ overwritten r (state_of shape old (Stray f))) (sym (absent (range_at U (Stray f)) (range_at_is U (Stray f))))
+      subst (λ r. state_of shape new (Stray f) ≡ overwritten r (state_of shape old (Stray f))) (sym (absent (range_at U (Stray f)) (summary_laws.exists U (Stray f))))
       (state_laws.stray shape new (Stray f) false≢true ∙ sym (state_laws.stray shape old (Stray f) false≢true))
     where
       absent : (r : Option Range) → IsRangeOf (Has U (Stray f)) r → r ≡ None

@@ -30,3 +30,9 @@ greater-first a b h = sym (ap (λ o. cond (is_lt o) b a) (codes_rise a b) ∙ ch
 
 pub at_most : (v w : Value) → code_of v ≤ code_of w → IsAtMost v w
 at_most v w h = ap is_gt (codes_rise v w) ∙ no_more (code_of v) (code_of w) h
+
+not_above : (n : ℕ) → n ≤ n
+not_above n = grind (arith)
+
+pub at_most_itself : (v : Value) → IsAtMost v v
+at_most_itself v = at_most v v (not_above (code_of v))

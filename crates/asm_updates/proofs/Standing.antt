@@ -10,14 +10,13 @@ use Rattle.asm_state.specs.Location.{Location, location_cmp, location_cmp-total}
 use Rattle.asm_state.specs.Signature.{Shape, count_of, location_at, number_at, IsLocationOf}
 use Rattle.asm_state.specs.Updates.{UpdateSet, Has, Names, none, one, together, merge, Range, widen, later_range, range_at, IsAtMost, IsRange, IsRangeOf}
 use Rattle.asm_state.proofs.Members.{member_laws}
-use Rattle.asm_state.proofs.Ranges.{at_most_itself, range_unique, range_at_is}
 use Rattle.asm_state.proofs.Summaries.{summary_laws}
 use Rattle.asm_state.proofs.Locations.{number_laws}
 use Rattle.asm_updates.specs.Entries.{Entries, entry, range, AreEntries}
 use Rattle.asm_updates.specs.Stands.{Stands}
 use Rattle.asm_updates.proofs.Combined.{widen-none}
 use Rattle.asm_updates.proofs.Found.{found-above}
-use Rattle.asm_updates.proofs.Orders.{at_most}
+use Rattle.asm_updates.proofs.Orders.{at_most, at_most_itself}
 
 -- ---- ranges in sets
 
@@ -26,15 +25,15 @@ none_range l = (summary_laws.emptiness none (range_at none) (summary_laws.exists
 
 union_range : (U V : UpdateSet) (l : Location) → widen (range_at U l) (range_at V l) ≡ range_at (together U V) l
 union_range U V l =
-    range_unique (Has (together U V) l) (widen (range_at U l) (range_at V l)) (range_at (together U V) l)
-    (summary_laws.of_union U V (range_at U) (range_at V) (range_at_is U) (range_at_is V) l)
-    (range_at_is (together U V) l)
+    summary_laws.one_range (together U V) l (widen (range_at U l) (range_at V l)) (range_at (together U V) l)
+    (summary_laws.of_union U V (range_at U) (range_at V) (summary_laws.exists U) (summary_laws.exists V) l)
+    (summary_laws.exists (together U V) l)
 
 merge_range : (U V : UpdateSet) (l : Location) → later_range (range_at U l) (range_at V l) ≡ range_at (merge U V) l
 merge_range U V l =
-    range_unique (Has (merge U V) l) (later_range (range_at U l) (range_at V l)) (range_at (merge U V) l)
-    (summary_laws.of_merge U V (range_at U) (range_at V) (range_at_is U) (range_at_is V) l)
-    (range_at_is (merge U V) l)
+    summary_laws.one_range (merge U V) l (later_range (range_at U l) (range_at V l)) (range_at (merge U V) l)
+    (summary_laws.of_merge U V (range_at U) (range_at V) (summary_laws.exists U) (summary_laws.exists V) l)
+    (summary_laws.exists (merge U V) l)
 
 -- ---- the empty set
 
@@ -93,12 +92,12 @@ lone_range shape W n r h is alone k below =
     (λ (same : k ≡ n).
     let yes : eqb k n ≡ true = grind (arith, nat_tests) in
     rw yes (subst (λ m. Some r ≡ range_at W (location_at shape m)) (sym same)
-    (range_unique (Has W (location_at shape n)) (Some r) (range_at W (location_at shape n)) is (range_at_is W (location_at shape n)))))
+    (summary_laws.one_range W (location_at shape n) (Some r) (range_at W (location_at shape n)) is (summary_laws.exists W (location_at shape n)))))
     (λ (other : k ≡ n → ⊥).
     let skip : eqb k n ≡ false = grind (arith, nat_tests) in
-    rw skip (range_unique (Has W (location_at shape k)) None (range_at W (location_at shape k))
+    rw skip (summary_laws.one_range W (location_at shape k) None (range_at W (location_at shape k))
     (λ v m. apart shape k n below h other (alone (location_at shape k) (v, m)))
-    (range_at_is W (location_at shape k))))
+    (summary_laws.exists W (location_at shape k))))
     (cases_eq k n)
 
 -- an entry more
@@ -172,7 +171,7 @@ range_cases shape s U l stands = by_range (range_at U l) refl
     by_range : (r : Option Range) → range_at U l ≡ r → (range_at U l ≡ None) ⊎ (IsLocationOf shape l × (range_at U l ≡ entry s (number_at shape l)))
     by_range None e = inl e
     by_range (Some r) e =
-        let is : IsRange (Has U l) r = subst (IsRangeOf (Has U l)) e (range_at_is U l) in
+        let is : IsRange (Has U l) r = subst (IsRangeOf (Has U l)) e (summary_laws.exists U l) in
         let here : IsLocationOf shape l = stands.names_within l (r.least, is.has_least) in
         inr (
           here,
@@ -182,7 +181,7 @@ range_cases shape s U l stands = by_range (range_at U l) refl
 
 pub empty_set : (shape : Shape) (s : Entries) (U : UpdateSet) → Stands shape s U → ((n : ℕ) → entry s n ≡ None) → U ≡ none
 empty_set shape s U stands all =
-    (summary_laws.emptiness U (range_at U) (range_at_is U)).1
+    (summary_laws.emptiness U (range_at U) (summary_laws.exists U)).1
     (λ l. elim (range_cases shape s U l stands) [
       | inl absent ↦ absent
       | inr here ↦ here.1 ∙ all (number_at shape l)

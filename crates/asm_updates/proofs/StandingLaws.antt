@@ -4,7 +4,6 @@ use Rattle.asm_state.specs.Location.{State}
 use Rattle.asm_state.specs.Signature.{Shape, count_of, location_at}
 use Rattle.asm_state.specs.UpdateLaws.{IsSettled}
 use Rattle.asm_state.specs.Updates.{UpdateSet, IsConsistent, range_at, overwritten, fire}
-use Rattle.asm_state.proofs.Ranges.{range_at_is}
 use Rattle.asm_state.proofs.Summaries.{summary_laws}
 use Rattle.asm_updates.specs.Entries.{Entries, entry}
 use Rattle.asm_updates.specs.Stands.{Stands}
@@ -21,13 +20,13 @@ alike shape s t U count each stands = record {
 
 consistency : (shape : Shape) (s : Entries) (U : UpdateSet) → Stands shape s U → IsConsistent U ↔ ((n : ℕ) → n < count_of shape → IsSettled (location_at shape n) (entry s n))
 consistency shape s U stands = (
-  λ is n h. subst (IsSettled (location_at shape n)) (sym (stands.has_ranges n h)) ((summary_laws.consistency U (range_at U) (range_at_is U)).0 is (location_at shape n)),
+  λ is n h. subst (IsSettled (location_at shape n)) (sym (stands.has_ranges n h)) ((summary_laws.consistency U (range_at U) (summary_laws.exists U)).0 is (location_at shape n)),
   λ all. consistent shape s U stands all,
 )
 
 firing : (shape : Shape) (s : Entries) (U : UpdateSet) (A : State) (n : ℕ) → Stands shape s U → n < count_of shape → fire A U (location_at shape n) ≡ overwritten (entry s n) (A (location_at shape n))
 firing shape s U A n stands h =
-    summary_laws.firing A U (range_at U) (range_at_is U) (location_at shape n)
+    summary_laws.firing A U (range_at U) (summary_laws.exists U) (location_at shape n)
     ∙ ap (λ r. overwritten r (A (location_at shape n))) (sym (stands.has_ranges n h))
 
 pub standing_laws : StandingLaws

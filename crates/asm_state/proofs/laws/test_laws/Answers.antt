@@ -1,0 +1,5 @@
+use Rattle.asm_state.proofs.Updates.{test_laws}
+use Rattle.asm_state.proofs.laws.test_laws.Goals as goal
+
+pub returns : goal.returns
+returns c = test_laws
