@@ -5,6 +5,7 @@ use Rattle.std.specs.Bool.{Decides, nat_eq}
 use Rattle.std.specs.List.{slice_index_or}
 use Rattle.std.specs.Cmp.Lexicographic.{pointwise}
 use Rattle.std.proofs.lemmas.Option.{get_or_from_slice_get}
+use Rattle.std.proofs.lemmas.Bool.{false_from_ne_true}
 use Rattle.asm_state.specs.declared.value.Value.{Value}
 use Rattle.asm_state.specs.Location.{State}
 use Rattle.asm_state.specs.Updates.{UpdateSet, IsConsistent, is_consistent, is_none, none}
@@ -20,9 +21,9 @@ use Rattle.asm_eval.specs.Scripts.{unrepeated}
 use Rattle.asm_eval.proofs.Unrepeated.{unrepeated_script}
 use Rattle.asm_eval.proofs.Scripts.{Scripts, ScriptsFrom, Choices, choice_at, itself, unscripted, join, single, skipped, whole, choosing}
 
+-- a test of what doesn't hold
 pub not_true : (b : Bool) {P : Type 0} → Decides b P → ¬ P → b ≡ false
-not_true true d h = absurd (h (d.0 refl))
-not_true false d h = refl
+not_true b d h = false_from_ne_true b (λ e. h (d.0 e))
 
 -- the outcome of a test that holds, or doesn't
 at_true : (b : Bool) (o other : Outcome) → b ≡ true → (cond b o other).result ≡ o.result

@@ -1,23 +1,12 @@
 -- Numbers that tokens stand for.
 use Rattle.std.proofs.Common.{◌≡◌, ℕ, ℤ, pos, negsuc, ◌≤ℤ◌, ◌<◌, Bool, true, false, Some, None, refl, sym, ap, subst, arith}
 use Rattle.std.specs.Prelude.{int_le}
-use Rattle.std.proofs.Props.{props}
 use Rattle.std.proofs.lemmas.Int.{ints}
 use Rattle.asm_state.specs.declared.number.Number.{Number}
+use Rattle.asm_state.specs.Kinds.{same_number}
+use Rattle.asm_state.specs.Operation.{at_most}
 use Rattle.asm_reader.specs.Parts.{signed}
-use Rattle.asm_reader.specs.Steps.{at_most, number_by_tests, number_with}
-
-pub same_number : (m n : Number) → m.value ≡ n.value → m ≡ n
-same_number m n e =
-    subst
-    (λ v. (low : negsuc 999_999_999_999_999 ≤ℤ v) (high : v ≤ℤ pos 1_000_000_000_000_000) → ◌≡◌ {A = Number} m (record { value = v; low = low; high = high }))
-    e here n.low n.high
-  where
-    here : (low : negsuc 999_999_999_999_999 ≤ℤ m.value) (high : m.value ≤ℤ pos 1_000_000_000_000_000) → ◌≡◌ {A = Number} m (record { value = m.value; low = low; high = high })
-    here low high =
-        let low_is : IsProp (negsuc 999_999_999_999_999 ≤ℤ m.value) = hlevel props in
-        let high_is : IsProp (m.value ≤ℤ pos 1_000_000_000_000_000) = hlevel props in
-        λ i. record { value = m.value; low = low_is m.low low i; high = high_is m.high high i }
+use Rattle.asm_reader.specs.Steps.{number_by_tests, number_with}
 
 tests_pass : (z : ℤ) (n : Number) → n.value ≡ z → (low high : Bool) (low_is : int_le (negsuc 999_999_999_999_999) z ≡ low) (high_is : int_le z (pos 1_000_000_000_000_000) ≡ high) → low ≡ true → high ≡ true → number_by_tests z low high low_is high_is ≡ Some n
 tests_pass z n e true true low_is high_is a b = ap Some (same_number _ n (sym e))

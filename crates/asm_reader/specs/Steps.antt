@@ -1,8 +1,8 @@
 -- The steps that readers of tokens are made of.
-use Rattle.std.specs.Prelude.{◌≡◌, ℕ, zero, suc, ℤ, pos, negsuc, ◌≤ℤ◌, int_le, T, Bool, true, false, if◌then◌else◌, List, [], ◌∷◌, map, length, Option, Some, None, Result, Ok, Err}
-use Rattle.std.specs.Int.Signed.{le_z_yes}
-use Rattle.std.proofs.Common.{refl, sym, subst, Vec, Global}
+use Rattle.std.specs.Prelude.{◌≡◌, ℕ, zero, suc, ℤ, pos, negsuc, int_le, Bool, true, false, if◌then◌else◌, List, [], ◌∷◌, map, length, Option, Some, None, Result, Ok, Err}
+use Rattle.std.proofs.Common.{refl, Vec, Global}
 use Rattle.asm_state.specs.declared.number.Number.{Number as WholeNumber}
+use Rattle.asm_state.specs.Operation.{at_most}
 use Rattle.asm_syntax.specs.declared.refused.Refused.{Refused}
 use Rattle.asm_syntax.specs.declared.refused.Refused.TheVariants.{Named}
 use Rattle.asm_syntax.specs.declared.token.Kind.{Kind}
@@ -80,9 +80,6 @@ itself x = x
 -- the elements of a `Vec`, each as it is seen
 abbrev pub each_of : {A B : Type 0} → (B → A) → Vec B Global → List A
 each_of view xs = map view xs.items
-
-pub at_most : {a b : ℤ} → int_le a b ≡ true → a ≤ℤ b
-at_most e = le_z_yes (subst T (sym e) tt)
 
 -- a number by whether it isn't too small and whether it isn't too great
 abbrev pub number_by_tests : (z : ℤ) (low high : Bool) → int_le (negsuc 999_999_999_999_999) z ≡ low → int_le z (pos 1_000_000_000_000_000) ≡ high → Option WholeNumber

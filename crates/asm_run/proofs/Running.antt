@@ -3,6 +3,7 @@ use Rattle.std.proofs.Common.{◌≡◌, ℕ, suc, ◌+◌, ◌-◌, ◌/◌, �
 use Rattle.std.specs.Prelude.{codes}
 use Rattle.std.specs.Io.KnownBytes.{Appends}
 use Rattle.std.proofs.lemmas.List.{append-nil}
+use Rattle.std.proofs.lemmas.Bool.{false_from_ne_true}
 use Rattle.asm_state.specs.declared.value.Value.{Value}
 use Rattle.asm_state.specs.Location.{Location, Proper, Stray, State}
 use Rattle.asm_state.specs.Signature.{Shape, location_at, initial_state, state_of}
@@ -38,10 +39,6 @@ pub Appends-none : (bytes : Option (List ℕ)) → Appends bytes bytes []
 Appends-none None = tt
 Appends-none (Some xs) = sym (append-nil xs)
 
-not_true : (b : Bool) → (b ≡ true → ⊥) → b ≡ false
-not_true true h = absurd (h refl)
-not_true false h = refl
-
 -- ---- one step of a run
 
 module _ (program : Program) (main : Rule) (turns : ℕ) (choices : Script) (shape : Shape) (assignments : List Assignment) (forms : Forms program main turns choices shape assignments) where
@@ -68,7 +65,7 @@ module _ (program : Program) (main : Rule) (turns : ℕ) (choices : Script) (sha
   stops n i contents faulty =
       let U : UpdateSet = update_set contents assignments in
       a_step n i contents
-      ∙ ap (λ b. cond b (fired U 0 (left n (suc i) (fire (state_of shape contents) U))) (ended (AtFault i U) (state_of shape contents))) (not_true (is_consistent U) (λ e. faulty ((test_laws.consistency U).0 e)))
+      ∙ ap (λ b. cond b (fired U 0 (left n (suc i) (fire (state_of shape contents) U))) (ended (AtFault i U) (state_of shape contents))) (false_from_ne_true (is_consistent U) (λ e. faulty ((test_laws.consistency U).0 e)))
 
 -- a set with a fault isn't consistent
 first_fault_is_faulty : (U : UpdateSet) (f : _) → IsFirstFault U f → ¬ (IsConsistent U)

@@ -38,11 +38,11 @@ impl State {
     }
 
     /// The content of the location with this number.
-    pub fn content(&self, number: usize) -> Value
-        requires { number < length self.now }
-        ensures { result ≡ slice_index_or self.now number Undef }
+    pub fn content(&self, n: usize) -> Value
+        requires { n < length self.now }
+        ensures { result ≡ slice_index_or self.now n Undef }
     {
-        self.contents[number]
+        self.contents[n]
     }
 
     /// Gives the location with this number a content.

@@ -1,5 +1,6 @@
 -- The order of values by their codes.
 use Rattle.std.proofs.Common.{◌≡◌, ℕ, ◌<◌, ◌≤◌, false, cond, sym, ap, ◌∙◌, arith}
+use Rattle.std.proofs.Math.Nat.{le_refl}
 use Rattle.std.proofs.lemmas.Bool.Decides.{nat_tests}
 use Rattle.std.specs.Ordering.{is_lt, is_gt, nat_cmp}
 use Rattle.asm_state.specs.declared.value.Value.{Value}
@@ -31,8 +32,5 @@ greater-first a b h = sym (ap (λ o. cond (is_lt o) b a) (codes_rise a b) ∙ ch
 pub at_most : (v w : Value) → code_of v ≤ code_of w → IsAtMost v w
 at_most v w h = ap is_gt (codes_rise v w) ∙ no_more (code_of v) (code_of w) h
 
-not_above : (n : ℕ) → n ≤ n
-not_above n = grind (arith)
-
 pub at_most_itself : (v : Value) → IsAtMost v v
-at_most_itself v = at_most v v (not_above (code_of v))
+at_most_itself v = at_most v v (le_refl (code_of v))
