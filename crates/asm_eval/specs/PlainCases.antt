@@ -8,9 +8,10 @@ use Rattle.asm_state.specs.declared.value.Value.{Value}
 use Rattle.asm_state.specs.declared.value.Value.TheVariants.{Undef}
 use Rattle.asm_state.specs.Operation.{op}
 use Rattle.asm_state.specs.Location.{State}
+use Rattle.asm_state.specs.Tables.{Domain, location_in}
 use Rattle.asm_syntax.specs.Tree.{Name, Term, Constant, Named, Chain, Not as not_term, Negative, Terms, no_terms, term_then, Links, no_links, link_then, Rule, Skip, Assign, Par, Rules, no_rules, rule_then}
-use Rattle.asm_eval.specs.Program.{Program, Domain, Controlled, declared, Environment, bound_to}
-use Rattle.asm_eval.specs.Value.{value, values, location_of, read}
+use Rattle.asm_eval.specs.Program.{Program, Controlled, declared, Environment, bound_to}
+use Rattle.asm_eval.specs.Value.{value, values, read}
 use Rattle.asm_eval.specs.Yields.{Place, at, Gives, assigned}
 use Rattle.asm_eval.specs.Does.{Script, Outcome, nothing, both, does}
 use Rattle.asm_eval.specs.TermCases.{chain_value}
@@ -34,7 +35,7 @@ pub record PlainCases (program : Program) (turns : ℕ) (script : Script) (step 
   -- terms
   pub of_constant : (v : Value) → value program A e (Constant v) ≡ v
   pub of_controlled : (x : Name) (ts : Terms) (f : ℕ) (domain : Domain) → bound_to e x ≡ None → declared program x ≡ Some (Controlled f domain)
-      → value program A e (Named x ts) ≡ read A (location_of f domain (values program A e ts))
+      → value program A e (Named x ts) ≡ read A (location_in f domain (values program A e ts))
   pub of_not : (t : Term) → value program A e (not_term t) ≡ op Not (value program A e t) Undef
   pub of_negative : (t : Term) → value program A e (Negative t) ≡ op Negate (value program A e t) Undef
   pub of_chain : (t : Term) (links : Links) → value program A e (Chain t links) ≡ chain_value program A e links (value program A e t)

@@ -4,8 +4,10 @@
 --     bind_terms, bind_values   the parameters alone, bound to terms of a caller, or to values
 use Rattle.std.specs.Prelude.{ℕ, Bool, cond, List, [], ◌∷◌, nat_eq, Option, Some, None}
 use Rattle.std.specs.Cmp.Lexicographic.{pointwise}
+use Rattle.asm_state.specs.declared.function.Table.{Table}
 use Rattle.asm_state.specs.declared.value.Value.{Value}
 use Rattle.asm_state.specs.declared.value.Value.TheVariants.{Undef}
+use Rattle.asm_state.specs.Tables.{Domain}
 use Rattle.asm_syntax.specs.Tree.{Name, Term, Terms, no_terms, term_then, Rule}
 
 abbrev pub is_name : Name → Name → Bool
@@ -16,15 +18,11 @@ abbrev pub look_up : {X : Type 0} → List (Name × X) → Name → Option X
 look_up [] x = None
 look_up ((y, it) ∷ more) x = cond (is_name y x) (Some it) (look_up more x)
 
--- a domain is a list of universes, and a universe a list of values
-abbrev pub Domain : Type 0
-Domain = List (List Value)
-
 pub data Declared : Type 0 where
   Universe : List Value → Declared
   Enumerated : Value → Declared
   Controlled : (function : ℕ) → Domain → Declared
-  Static : Domain → (table : List (List Value × Value)) → Declared
+  Static : Domain → Table → Declared
   Derived : (parameters : List Name) → Term → Declared
   Procedure : (parameters : List Name) → Rule → Declared
 

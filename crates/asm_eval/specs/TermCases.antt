@@ -1,15 +1,17 @@
 -- The value of a term by cases, one for each form.
 --     TermCases      where ranks fall with each use, the depth to which derived functions are followed isn't felt
-use Rattle.std.specs.Prelude.{◌≡◌, ◌<◌, ℕ, cond, List, Some, None}
+use Rattle.std.specs.Prelude.{◌≡◌, ◌<◌, ℕ, List, Some, None}
 use Rattle.std.specs.List.{list_all, list_any}
+use Rattle.asm_state.specs.declared.function.Table.{Table}
 use Rattle.asm_state.specs.declared.value.Value.{Value}
 use Rattle.asm_state.specs.declared.value.Value.TheVariants.{Undef, Truth}
 use Rattle.asm_state.specs.declared.operation.Op.TheVariants.{Not, Negate}
 use Rattle.asm_state.specs.Operation.{op}
 use Rattle.asm_state.specs.Location.{State}
+use Rattle.asm_state.specs.Tables.{Domain, location_in, value_in}
 use Rattle.asm_syntax.specs.Tree.{Name, Term, Constant, Named, Chain, Not as not_term, Negative, Exists, Every, Terms, Links, no_links, link_then}
-use Rattle.asm_eval.specs.Program.{Program, Domain, Enumerated, Controlled, Static, Derived, declared, Environment, with_value, bind_values, ToValue, ToTerm, bound_to}
-use Rattle.asm_eval.specs.Value.{value, values, is_true, is_in, location_of, read, entry_of, universe, nesting}
+use Rattle.asm_eval.specs.Program.{Program, Enumerated, Controlled, Static, Derived, declared, Environment, with_value, bind_values, ToValue, ToTerm, bound_to}
+use Rattle.asm_eval.specs.Value.{value, values, is_true, read, universe, nesting}
 use Rattle.asm_eval.specs.Ranks.{AreDerivedRanked}
 
 -- a chain goes on from a first value, from the left
@@ -26,9 +28,9 @@ pub record TermCases (program : Program) (rank : Name → ℕ) (A : State) (e : 
   -- other names are declared
   pub of_element : (x : Name) (ts : Terms) (v : Value) → bound_to e x ≡ None → declared program x ≡ Some (Enumerated v) → value program A e (Named x ts) ≡ v
   pub of_controlled : (x : Name) (ts : Terms) (f : ℕ) (domain : Domain) → bound_to e x ≡ None → declared program x ≡ Some (Controlled f domain)
-      → value program A e (Named x ts) ≡ read A (location_of f domain (values program A e ts))
-  pub of_static : (x : Name) (ts : Terms) (domain : Domain) (table : List (List Value × Value)) → bound_to e x ≡ None → declared program x ≡ Some (Static domain table)
-      → value program A e (Named x ts) ≡ cond (is_in domain (values program A e ts)) (entry_of table (values program A e ts)) Undef
+      → value program A e (Named x ts) ≡ read A (location_in f domain (values program A e ts))
+  pub of_static : (x : Name) (ts : Terms) (domain : Domain) (table : Table) → bound_to e x ≡ None → declared program x ≡ Some (Static domain table)
+      → value program A e (Named x ts) ≡ value_in domain table (values program A e ts)
   -- a derived function's body has its parameters bound to values, and nothing else
   pub of_derived : (x : Name) (ts : Terms) (xs : List Name) (t : Term) → bound_to e x ≡ None → declared program x ≡ Some (Derived xs t) → rank x < nesting
       → value program A e (Named x ts) ≡ value program A (bind_values xs (values program A e ts)) t

@@ -1,38 +1,25 @@
 -- The value of a term in a state and an environment.
 --     value program A e t      a name bound to a term has the value of that term in the caller's environment, in the same state
 --     holds, candidates        whether a condition has the value true;  the elements of a universe for which it has
-use Rattle.std.specs.Prelude.{ℕ, zero, suc, Bool, true, false, cond, ◌&&◌, List, [], ◌∷◌, Option, Some, None}
+use Rattle.std.specs.Prelude.{ℕ, zero, suc, Bool, true, false, List, [], ◌∷◌, Option, Some, None}
 use Rattle.std.specs.List.{filter, list_all, list_any}
-use Rattle.std.specs.Cmp.Lexicographic.{pointwise}
 use Rattle.asm_state.specs.declared.value.Value.{Value}
 use Rattle.asm_state.specs.declared.value.Value.TheVariants.{Undef, Truth}
 use Rattle.asm_state.specs.declared.operation.Op.TheVariants.{Not, Negate}
-use Rattle.asm_state.specs.Operation.{op, is_same}
+use Rattle.asm_state.specs.Operation.{op}
 use Rattle.asm_state.specs.Location.{Location, Proper, Stray, State}
+use Rattle.asm_state.specs.Tables.{location_in, value_in}
 use Rattle.asm_syntax.specs.Tree.{Name, Term, Constant, Named, Chain, Not as not_term, Negative, Exists, Every, Terms, no_terms, term_then, Links, no_links, link_then}
-use Rattle.asm_eval.specs.Program.{Program, Declared, Universe, Enumerated, Controlled, Static, Derived, Procedure, Domain, declared, look_up, Environment, nothing_bound, with_value, with_term}
+use Rattle.asm_eval.specs.Program.{Program, Declared, Universe, Enumerated, Controlled, Static, Derived, Procedure, declared, look_up, Environment, nothing_bound, with_value, with_term}
 
 abbrev pub is_true : Value → Bool
 is_true (Truth b) = b
 is_true _ = false
 
-abbrev pub is_in : Domain → List Value → Bool
-is_in [] [] = true
-is_in (u ∷ us) (v ∷ vs) = list_any (is_same v) u && is_in us vs
-is_in _ _ = false
-
--- the location of a controlled function with these arguments
-abbrev pub location_of : (function : ℕ) → Domain → List Value → Location
-location_of f domain vs = cond (is_in domain vs) (Proper f vs) (Stray f)
-
 -- a read outside the domain gives undef
 abbrev pub read : State → Location → Value
 read A (Proper f vs) = A (Proper f vs)
 read A (Stray f) = Undef
-
-abbrev pub entry_of : List (List Value × Value) → List Value → Value
-entry_of [] vs = Undef
-entry_of ((us, v) ∷ more) vs = cond (pointwise is_same us vs) v (entry_of more vs)
 
 abbrev pub elements_of : Option Declared → List Value
 elements_of (Some (Universe vs)) = vs
@@ -56,8 +43,8 @@ module _ (program : Program) (derived : List Name → Term → List Value → St
   -- a name that isn't bound, with arguments
   abbrev pub applied : Option Declared → List Value → State → Value
   applied (Some (Enumerated v)) vs A = v
-  applied (Some (Controlled f domain)) vs A = read A (location_of f domain vs)
-  applied (Some (Static domain table)) vs A = cond (is_in domain vs) (entry_of table vs) Undef
+  applied (Some (Controlled f domain)) vs A = read A (location_in f domain vs)
+  applied (Some (Static domain table)) vs A = value_in domain table vs
   applied (Some (Derived xs t)) vs A = derived xs t vs A
   applied (Some (Universe us)) vs A = Undef
   applied (Some (Procedure xs P)) vs A = Undef

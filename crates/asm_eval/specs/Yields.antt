@@ -6,10 +6,11 @@ use Rattle.std.specs.Cmp.Lexicographic.{slice_cmp}
 use Rattle.std.specs.Ordering.{nat_cmp, is_lt}
 use Rattle.asm_state.specs.declared.value.Value.{Value}
 use Rattle.asm_state.specs.Location.{State}
+use Rattle.asm_state.specs.Tables.{location_in}
 use Rattle.asm_state.specs.Updates.{UpdateSet, IsConsistent, none, one, together, merge, fire}
 use Rattle.asm_syntax.specs.Tree.{Name, Term, Terms, Rule, Skip, Assign, Call, Par, Seq, If, Let, Forall, Choose, Iterate, Rules, no_rules, rule_then}
 use Rattle.asm_eval.specs.Program.{Program, Declared, Controlled, Procedure, declared, Environment, with_value, bind_terms}
-use Rattle.asm_eval.specs.Value.{value, values, holds, candidates, universe, location_of}
+use Rattle.asm_eval.specs.Value.{value, values, holds, candidates, universe}
 
 -- the numbers of the descents from the main rule's body
 abbrev pub Place : Type 0
@@ -42,7 +43,7 @@ after U (Gives V) = Gives (merge U V)
 after U (Exhausted q) = Exhausted q
 
 abbrev pub assigned : Option Declared → List Value → Value → UpdateSet
-assigned (Some (Controlled f domain)) vs v = one (location_of f domain vs) v
+assigned (Some (Controlled f domain)) vs v = one (location_in f domain vs) v
 assigned _ vs v = none
 
 module _ (program : Program) (turns : ℕ) where

@@ -1,11 +1,11 @@
--- Each name that is declared once is found.
+-- Each name that is declared once is found, and each function has an initial value.
 use Rattle.std.proofs.Common.{◌≡◌, ℕ, zero, suc, ◌<◌, ◌+◌, Bool, true, false, cond, not, ◌&&◌, ◌||◌, List, [], ◌∷◌, length, map, Some, refl, ap, ◌∙◌, arith, eq-eqb}
-use Rattle.asm_syntax.specs.Placed.{Item, Function, Declared, Spec}
+use Rattle.asm_syntax.specs.Placed.{Item, Uses, Init, Enum, Universe, Function, Derived, Declared, Spec}
 use Rattle.asm_syntax.specs.Unplaced.{plain_rule}
 use Rattle.asm_eval.specs.Program.{Controlled, Procedure, declared, look_up}
 use Rattle.asm_run.specs.FirstPath.{Text, is_same_text, is_among, function_names, declared_names, is_distinct, is_well_formed}
 use Rattle.asm_run.specs.Resolved.{name_at}
-use Rattle.asm_run.specs.Meaning.{declarations, program_of, text_of}
+use Rattle.asm_run.specs.Meaning.{declarations, program_of, text_of, initial_values}
 use Rattle.asm_run.proofs.Operands.{same_text}
 
 same_itself : (x : Text) → is_same_text x x ≡ true
@@ -90,3 +90,14 @@ found items f distinct l = let at_zero : 0 + f ≡ f = omega arith in found_from
 -- names of a well-formed specification are declared once
 pub well_formed-distinct : (s : Spec) → is_well_formed s ≡ true → is_distinct (declared_names s.items) ≡ true
 well_formed-distinct s e = first_of_two _ _ (first_of_two _ _ (first_of_two _ _ (first_of_two _ _ (first_of_two _ _ e))))
+
+-- each function has an initial value
+pub as_many : (items : List Item) → length (initial_values items) ≡ length (function_names items)
+as_many [] = refl
+as_many (Uses name ∷ items) = as_many items
+as_many (Init name ∷ items) = as_many items
+as_many (Enum name elements ∷ items) = as_many items
+as_many (Universe name first last ∷ items) = as_many items
+as_many (Function name kind domain codomain table ∷ items) = ap suc (as_many items)
+as_many (Derived name parameters body ∷ items) = as_many items
+as_many (Declared name parameters body ∷ items) = as_many items

@@ -6,19 +6,21 @@ use Rattle.asm_state.specs.declared.value.Value.TheVariants.{Undef}
 use Rattle.asm_state.specs.declared.operation.Op.TheVariants.{Add, Negate}
 use Rattle.asm_state.specs.Operation.{op}
 use Rattle.asm_state.specs.Location.{Proper, State}
-use Rattle.asm_state.specs.Signature.{Shape, state_of}
+use Rattle.asm_state.specs.Signature.{Shape, functions_of, state_of}
+use Rattle.asm_state.specs.Tables.{location_in}
 use Rattle.asm_state.specs.Updates.{UpdateSet, none, one, together}
 use Rattle.asm_state.proofs.Algebra.{union_laws}
 use Rattle.asm_syntax.specs.Tree as tree
 use Rattle.asm_syntax.specs.Placed.{Spec}
 use Rattle.asm_eval.specs.Program.{Program, Controlled, declared, nothing_bound}
-use Rattle.asm_eval.specs.Value.{value, values, location_of, read}
+use Rattle.asm_eval.specs.Value.{value, values, read}
 use Rattle.asm_eval.specs.Yields.{Place, at, assigned}
 use Rattle.asm_eval.specs.Does.{Script, Outcome, both, does}
 use Rattle.asm_eval.specs.PlainCases.{PlainCases, does_parts}
 use Rattle.asm_eval.proofs.PlainCases.{plain_by_cases}
 use Rattle.asm_run.specs.FirstPath.{Text, function_names}
-use Rattle.asm_run.specs.Meaning.{program_of, shape_of, main_rule}
+use Rattle.asm_run.specs.Flat.{IsFlat}
+use Rattle.asm_run.specs.Meaning.{initial_values, program_of, shape_of, main_rule}
 use Rattle.asm_run.specs.Resolved.{name_at, operand_tree, factor_tree, sum_from, sum_tree, assignment_tree, IsOperandBelow, IsSecondBelow, IsBelow, flattened, all_flattened}
 use Rattle.asm_run.specs.Evaluated.{operand_value, factor_value, value_from, sum_value, update_of, update_set}
 use Rattle.asm_run.specs.Formed.{gives, StandForMain, MainRuleFormed}
@@ -27,7 +29,8 @@ use Rattle.asm_run.specs.declared.resolved.Operand.TheVariants.{Constant, Conten
 use Rattle.asm_run.specs.declared.resolved.Factor.{Factor}
 use Rattle.asm_run.specs.declared.resolved.Sum.{Sum}
 use Rattle.asm_run.specs.declared.resolved.Assignment.{Assignment}
-use Rattle.asm_run.proofs.Declarations.{found, well_formed-distinct}
+use Rattle.asm_run.proofs.Declarations.{found, well_formed-distinct, as_many}
+use Rattle.asm_run.proofs.FlatShapes.{functions_are, content_is}
 
 -- ---- sets of lists one after another
 
@@ -70,7 +73,7 @@ cut f P (x ∷ xs) (y ∷ first) rest e all =
 
 -- ---- terms and rules, where each name is that of its function
 
-module _ (program : Program) (names : List Text) (shape : Shape) (contents : List Value)
+module _ (program : Program) (names : List Text) (shape : Shape) (flat : IsFlat shape) (fit : length names ≡ functions_of shape) (contents : List Value)
     (known : (f : ℕ) → f < length names → declared program (name_at names f) ≡ Some (Controlled f [])) where
   abbrev A : State
   A = state_of shape contents
@@ -85,7 +88,8 @@ module _ (program : Program) (names : List Text) (shape : Shape) (contents : Lis
   operand (Constant v) h = terms.of_constant v
   operand (Content f) h =
       terms.of_controlled (name_at names f) tree.no_terms f [] refl (known f h)
-      ∙ ap (λ vs. read A (location_of f [] vs)) terms.of_no_terms
+      ∙ ap (λ vs. read A (location_in f [] vs)) terms.of_no_terms
+      ∙ content_is shape flat f (subst (λ n. f < n) fit h) contents
 
   factor : (f : Factor) → IsOperandBelow (length names) f.operand → value program A nothing_bound (factor_tree names f) ≡ factor_value contents f
   factor f h = signed f.is_negative
@@ -160,7 +164,7 @@ module _ (program : Program) (names : List Text) (shape : Shape) (contents : Lis
 
 pub main_rule_formed : MainRuleFormed
 main_rule_formed s assignments well stand turns script step contents p =
-    formed (program_of s.items) (function_names s.items) (shape_of s.items) contents
+    formed (program_of s.items) (function_names s.items) (shape_of s.items) (initial_values s.items, refl) (sym (as_many s.items) ∙ sym (functions_are (initial_values s.items))) contents
     (λ f h. found s.items f (well_formed-distinct s well) h)
     turns script step p (main_rule s.items) assignments stand.trees stand.below
 

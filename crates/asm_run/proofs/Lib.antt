@@ -1,6 +1,7 @@
 pub mod Appending
 mod Assigned
 mod Declarations
+mod FlatShapes
 mod Formed
 mod Forming
 mod Gathered

@@ -1,12 +1,12 @@
 -- Each way that a step of a run can go.
-use Rattle.std.proofs.Common.{◌≡◌, ℕ, suc, ◌+◌, ◌-◌, ◌/◌, ◌%◌, ◌==◌, ◌<◌, ◌≤◌, Bool, true, false, cond, List, [], ◌++◌, length, Option, Some, None, Result, Ok, Err, refl, sym, ap, subst, ◌∙◌, arith}
+use Rattle.std.proofs.Common.{◌≡◌, ℕ, suc, ◌+◌, ◌-◌, ◌*◌, ◌/◌, ◌%◌, ◌==◌, ◌<◌, ◌≤◌, Bool, true, false, cond, List, [], ◌++◌, length, Option, Some, None, Result, Ok, Err, refl, sym, ap, subst, ◌∙◌, arith}
 use Rattle.std.specs.Prelude.{codes}
 use Rattle.std.specs.Io.KnownBytes.{Appends}
 use Rattle.std.proofs.lemmas.List.{append-nil}
 use Rattle.std.proofs.lemmas.Bool.{false_from_ne_true}
 use Rattle.asm_state.specs.declared.value.Value.{Value}
 use Rattle.asm_state.specs.Location.{Location, Proper, Stray, State}
-use Rattle.asm_state.specs.Signature.{Shape, location_at, initial_state, state_of}
+use Rattle.asm_state.specs.Signature.{Shape, functions_of, count_of, location_at, initial_state, state_of}
 use Rattle.asm_state.specs.Updates.{UpdateSet, IsConsistent, is_consistent, fire, Clash, Outside, IsFirstFault}
 use Rattle.asm_state.proofs.Faults.{fault_laws}
 use Rattle.asm_state.proofs.Updates.{test_laws}
@@ -24,13 +24,15 @@ use Rattle.asm_run.specs.declared.end.End.TheVariants.{Limit}
 use Rattle.asm_run.specs.declared.error.RunError.{RunError}
 use Rattle.asm_run.specs.declared.error.RunError.TheVariants as error
 use Rattle.asm_run.specs.FirstPath.{Text}
+use Rattle.asm_run.specs.Flat.{IsFlat}
 use Rattle.asm_run.specs.Sink.{AppendsFront}
 use Rattle.asm_run.specs.Evaluated.{update_set}
 use Rattle.asm_run.specs.Trace.{Names, IsEndText, fault_text, step_text, line_end}
 use Rattle.asm_run.specs.Written.{names_of, locations_of, contents_text}
 use Rattle.asm_run.specs.Headline.{IsAnswer}
-use Rattle.asm_run.specs.Step.{AreSized, IsFired, IsStopped, Finishes, fault_line, end_of_fault}
+use Rattle.asm_run.specs.Step.{AreSized, IsFired, IsFaultBelow, IsStopped, Finishes, fault_line, end_of_fault}
 use Rattle.asm_run.specs.Reached.{IsReached, Forms, Runs, Goes}
+use Rattle.asm_run.proofs.FlatShapes.{count_is, half_at}
 use Rattle.asm_run.proofs.Stepping.{state_written}
 use Rattle.asm_run.proofs.Reached.{reached_more, cut_in_step, written_at_end, cut_at_end, whole_steps}
 
@@ -80,9 +82,13 @@ clash_text : (names : List Text) (i n : ℕ) (low high : Value) (b : Bool)
 clash_text names i n low high true = refl
 clash_text names i n low high false = refl
 
-fault_written : (shape : Shape) (names : List Text) (i : ℕ) (f : Fault) → fault_line names i f ≡ fault_text (names_of names) i (fault_of shape f)
-fault_written shape names i (fault.Clash n low high) = clash_text names i n low high (n % 2 == 0)
-fault_written shape names i (fault.Outside f) = refl
+fault_written : (shape : Shape) (names : List Text) (i : ℕ) (f : Fault) → IsFlat shape → length names ≡ functions_of shape → IsFaultBelow (length names) f
+    → fault_line names i f ≡ fault_text (names_of names) i (fault_of shape f)
+fault_written shape names i (fault.Clash n low high) flat fit below =
+    let count : count_of shape ≡ 2 * functions_of shape = count_is shape flat in
+    let inside : n < count_of shape = omega arith in
+    clash_text names i n low high (n % 2 == 0) ∙ ap (λ l. fault_text (names_of names) i (Clash l (range (low, high)))) (sym (half_at shape flat n inside))
+fault_written shape names i (fault.Outside f) flat fit below = refl
 
 fault_answered : (shape : Shape) (U : UpdateSet) (i : ℕ) (f : Fault) → IsFirstFault U (fault_of shape f) → IsAnswer (AtFault i U) (end_of_fault f)
 fault_answered shape U i (fault.Clash n low high) h = (location_at shape n, range (low, high), h)
@@ -118,7 +124,7 @@ module _ (names : List Text) (shape : Shape) (assignments : List Assignment) (st
     finished (Ok a) f is program main turns choices forms =
         let r = goes.reached program main turns choices forms in
         let at_end = is program main turns choices forms in
-        let lines = ap (λ w. end_text ++ w) (state_written names shape goes.sized.names_fit contents) in (
+        let lines = ap (λ w. end_text ++ w) (state_written names shape goes.sized.flat goes.sized.names_fit contents) in (
           written_at_end called places _ _ _ old mid new r e (state_of shape contents) at_end end_text ends (subst (λ t. Appends mid new t) lines f.0),
           subst (λ v. IsAnswer v a) (sym (r.end ∙ ap (λ (v : Run). v.end) at_end)) (subst (λ v. IsAnswer e v) (sym f.2) answers),
           f.1,
@@ -129,7 +135,7 @@ module _ (names : List Text) (shape : Shape) (assignments : List Assignment) (st
     finished (Err error.Write) f is program main turns choices forms =
         let r = goes.reached program main turns choices forms in
         let at_end = is program main turns choices forms in
-        let lines = ap (λ w. end_text ++ w) (state_written names shape goes.sized.names_fit contents) in
+        let lines = ap (λ w. end_text ++ w) (state_written names shape goes.sized.flat goes.sized.names_fit contents) in
         (cut_at_end called places _ _ _ old mid new r e (state_of shape contents) at_end end_text ends (subst (λ t. AppendsFront mid new t) lines f.0), f.1)
     finished (Err error.Limits) f is program main turns choices forms = f
     finished (Err error.Beyond) f is program main turns choices forms = f
@@ -151,7 +157,7 @@ module _ (names : List Text) (shape : Shape) (assignments : List Assignment) (st
     at_fault new flag result next f stopped finish =
         let U : UpdateSet = update_set contents assignments in
         let line : fault_line names step f ≡ fault_text called (1 + made) (fault_of shape f) =
-        ap (λ i. fault_line names i f) is ∙ fault_written shape names (1 + made) f in
+        ap (λ i. fault_line names i f) is ∙ fault_written shape names (1 + made) f goes.sized.flat goes.sized.names_fit stopped.below in
         finished new flag (AtFault (1 + made) U) (fault_line names step f) (fault_of shape f, stopped.is_first, line)
         (end_of_fault f) (fault_answered shape U (1 + made) f stopped.is_first) result
         (subst (λ v. Finishes mid new flag (fault_line names step f ++ contents_text names v) (end_of_fault f) result) stopped.stays finish)

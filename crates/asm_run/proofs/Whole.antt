@@ -1,10 +1,10 @@
 -- From the steps of a run to what is said of the whole.
-use Rattle.std.proofs.Common.{◌≡◌, ◌↔◌, ℕ, suc, Bool, true, false, List, [], ◌∷◌, length, map, Option, Result, Ok, Err, inr, refl, ap, subst}
+use Rattle.std.proofs.Common.{◌≡◌, ◌↔◌, ℕ, Bool, true, false, List, [], length, map, Option, Result, Ok, Err, inr, refl, subst}
 use Rattle.std.specs.Prelude.{IsTrue, All, IfOk, IfErr, MatchResult}
 use Rattle.std.proofs.lemmas.List.Elements.{recursion_from_All}
 use Rattle.asm_state.specs.Signature.{Shape, initial_state}
 use Rattle.asm_syntax.specs.Tree.{Rule}
-use Rattle.asm_syntax.specs.Placed.{Spec, Item, Uses, Init, Enum, Universe, Function, Derived, Declared}
+use Rattle.asm_syntax.specs.Placed.{Spec}
 use Rattle.asm_eval.specs.Program.{Program}
 use Rattle.asm_eval.specs.Does.{Script}
 use Rattle.asm_eval.specs.Run.{run_from}
@@ -14,7 +14,7 @@ use Rattle.asm_run.specs.declared.error.RunError.{RunError}
 use Rattle.asm_run.specs.declared.error.RunError.TheVariants as error
 use Rattle.asm_run.specs.FirstPath.{Text, function_names}
 use Rattle.asm_run.specs.Resolved.{assignment_tree, flattened, IsBelow}
-use Rattle.asm_run.specs.Meaning.{program_of, main_rule, shape_of, initial_values}
+use Rattle.asm_run.specs.Meaning.{program_of, main_rule, shape_of}
 use Rattle.asm_run.specs.Limits.{are_in_range}
 use Rattle.asm_run.specs.Written.{names_of, locations_of}
 use Rattle.asm_run.specs.Headline.{IsFirstPath, IsDone, Explains, book_run, names_in, locations_in}
@@ -76,14 +76,3 @@ module _ (text : List ℕ) (steps turns workers cut rounds : ℕ) (old new : Opt
       refused = at_err result (said result every);
       fails_just_so = fails result every;
     }
-
--- each function has an initial value
-pub as_many : (items : List Item) → length (initial_values items) ≡ length (function_names items)
-as_many [] = refl
-as_many (Uses name ∷ items) = as_many items
-as_many (Init name ∷ items) = as_many items
-as_many (Enum name elements ∷ items) = as_many items
-as_many (Universe name first last ∷ items) = as_many items
-as_many (Function name kind domain codomain table ∷ items) = ap suc (as_many items)
-as_many (Derived name parameters body ∷ items) = as_many items
-as_many (Declared name parameters body ∷ items) = as_many items

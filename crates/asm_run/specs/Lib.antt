@@ -1,5 +1,6 @@
 pub mod FirstPath
 pub mod Resolved
+pub mod Flat
 pub mod Meaning
 pub mod Checked
 pub mod Evaluated

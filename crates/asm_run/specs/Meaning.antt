@@ -14,6 +14,7 @@ use Rattle.asm_syntax.specs.Unplaced.{literal_value, plain_rule}
 use Rattle.asm_eval.specs.Program.{Program, Controlled, Procedure, declared, Declared as Declaration}
 use Rattle.asm_eval.specs.Run.{Specification}
 use Rattle.asm_run.specs.FirstPath.{Text, starts}
+use Rattle.asm_run.specs.Flat.{flat_shape}
 
 abbrev pub text_of : Name → Text
 text_of name = name.text
@@ -41,7 +42,7 @@ abbrev pub initial_values : List Item → List Value
 initial_values items = filter_map initial_value items
 
 abbrev pub shape_of : List Item → Shape
-shape_of items = record { initial = initial_values items }
+shape_of items = flat_shape (initial_values items)
 
 abbrev pub body_of : Option Declaration → Rule
 body_of (Some (Procedure parameters body)) = body

@@ -1,5 +1,5 @@
 -- One step of a run, and its last lines.
---     AreSized      names, contents and summary fit the signature
+--     AreSized      names, contents and summary fit the signature, which is flat
 --     IsFired       the set of the assignments is fired, and this is the text of the step
 --     Finishes      what the last lines do to the bytes of a sink
 use Rattle.std.specs.Prelude.{◌≡◌, ℕ, ◌/◌, ◌<◌, ◌≤◌, Bool, true, false, List, [], length, Option, Result, Ok, Err}
@@ -16,12 +16,14 @@ use Rattle.asm_run.specs.declared.end.End.TheVariants as end
 use Rattle.asm_run.specs.declared.error.RunError.{RunError}
 use Rattle.asm_run.specs.declared.error.RunError.TheVariants as error
 use Rattle.asm_run.specs.FirstPath.{Text}
+use Rattle.asm_run.specs.Flat.{IsFlat}
 use Rattle.asm_run.specs.Sink.{AppendsFront}
 use Rattle.asm_run.specs.Evaluated.{update_set}
 use Rattle.asm_run.specs.Trace.{step_text}
 use Rattle.asm_run.specs.Written.{names_of, locations_of, clash_line, outside_line}
 
 pub record AreSized (names : List Text) (shape : Shape) (contents : List Value) (count : ℕ) : Type 0 where
+  pub flat : IsFlat shape
   pub names_fit : length names ≡ functions_of shape
   pub contents_fit : length contents ≡ count_of shape
   pub set_fits : count ≡ count_of shape

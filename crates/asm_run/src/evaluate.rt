@@ -4,6 +4,7 @@ ghost use Rattle.std.specs.List.{AllByRecursion};
 ghost use Rattle.asm_state.specs.Signature.{Shape};
 ghost use Rattle.asm_state.specs.Updates.{UpdateSet, together};
 ghost use Rattle.asm_updates.specs.Stands.{Stands};
+ghost use Rattle.asm_run.specs.Flat.{IsFlat};
 ghost use Rattle.asm_run.specs.Resolved.{IsOperandBelow, IsSecondBelow, IsBelow};
 ghost use Rattle.asm_run.specs.Evaluated.{operand_value, factor_value, sum_value, update_set};
 
@@ -63,7 +64,7 @@ pub fn form(assignments: &[Assignment], state: &State, set: &mut Summary) -> Res
     requires below { AllByRecursion (IsBelow (length state.now / 2)) assignments.now }
     requires count { set.old.count ≡ length state.now }
     ensures count { set.new.count ≡ set.old.count }
-    ensures set { OnOk result ((shape : Shape) (U : UpdateSet) → Stands shape set.old U → Stands shape set.new (together U (update_set state.now assignments.now))) }
+    ensures set { OnOk result ((shape : Shape) (U : UpdateSet) → IsFlat shape → Stands shape set.old U → Stands shape set.new (together U (update_set state.now assignments.now))) }
 {
     for assignment in assignments {
         let value = value_of_sum(state, &assignment.value);

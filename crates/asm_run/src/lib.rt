@@ -6,6 +6,7 @@ pub mod end;
 pub mod error;
 mod evaluate;
 mod finish;
+mod flat;
 mod initial;
 pub mod laws;
 pub mod limits;

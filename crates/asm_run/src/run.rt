@@ -6,11 +6,11 @@ ghost use Rattle.asm_run.specs.declared.error.RunError.TheVariants.{Write};
 use crate::check::{Checked, check};
 use crate::end::End;
 use crate::error::RunError;
+use crate::flat::flat_signature;
 use crate::limits::Limits;
 use crate::sink::Sink;
 use crate::steps::run_steps;
 use asm_reader::{one_tree, read};
-use asm_state::signature::Signature;
 use std::alloc::Global;
 use std::thread::Threads;
 
@@ -49,6 +49,6 @@ pub fn run<R: Threads, S: Sink>(
         initial,
         assignments,
     } = checked;
-    let signature = Signature::build(initial);
+    let signature = flat_signature(alloc, &initial)?;
     run_steps(alloc, &names, &signature, &assignments, limits.steps, out)
 }

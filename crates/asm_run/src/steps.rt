@@ -6,6 +6,7 @@ ghost use Rattle.asm_syntax.specs.Tree.{Rule};
 ghost use Rattle.asm_eval.specs.Program.{Program};
 ghost use Rattle.asm_eval.specs.Does.{Script};
 ghost use Rattle.asm_eval.specs.Run.{run_from};
+ghost use Rattle.asm_run.specs.Flat.{IsFlat};
 ghost use Rattle.asm_run.specs.Resolved.{IsBelow};
 ghost use Rattle.asm_run.specs.Written.{names_of, locations_of};
 ghost use Rattle.asm_run.specs.Reached.{Forms, Runs};
@@ -33,6 +34,7 @@ pub fn run_steps<S: Sink>(
     out: &mut S,
 ) -> Result<End, RunError>
     requires open { S.has_failed out.old ≡ false }
+    requires flat { IsFlat signature.now }
     requires names { length names.now ≡ functions_of signature.now }
     requires few { functions_of signature.now ≤ 256 }
     requires below { AllByRecursion (IsBelow (length names.now)) assignments.now }

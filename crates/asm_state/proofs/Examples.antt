@@ -1,9 +1,15 @@
--- Examples of operations.
-use Rattle.std.proofs.Common.{◌≡◌, refl, ℤ, true, false, pos, negsuc}
+-- Examples of operations, and of locations and their numbers.
+use Rattle.std.proofs.Common.{◌≡◌, refl, List, [], ◌∷◌, ℤ, true, false, pos, negsuc}
 use Rattle.asm_state.specs.declared.value.Value.TheVariants.{Undef, Truth}
 use Rattle.asm_state.specs.declared.operation.Op.TheVariants.{Add, Divide, Remainder, Less, And, Equal}
 use Rattle.asm_state.specs.declared.value.Value.{Value}
+use Rattle.asm_state.specs.declared.function.Kind.TheVariants.{Controlled}
+use Rattle.asm_state.specs.declared.function.Table.TheVariants.{Same}
+use Rattle.asm_state.specs.Location.{Stray}
 use Rattle.asm_state.specs.Operation.{op, number_or_undef}
+use Rattle.asm_state.specs.Signature.{Shape, count_of, location_at, number_at, domain_of}
+use Rattle.asm_state.specs.Tables.{location_in}
+use Rattle.asm_state.specs.Universe.{numbers_between}
 
 abbrev number : ℤ → Value
 number = number_or_undef
@@ -49,3 +55,38 @@ beside_undef = refl
 
 of_undef : op Equal Undef Undef ≡ Truth true
 of_undef = refl
+
+-- ---- locations: one function over the numbers from 0 to 3, and one without arguments
+
+four : List Value
+four = number (pos 0) ∷ number (pos 1) ∷ number (pos 2) ∷ number (pos 3) ∷ []
+
+two_functions : Shape
+two_functions = record {
+  universes = four ∷ [];
+  functions = record { kind = Controlled; domain = 0 ∷ []; table = Same Undef } ∷ record { kind = Controlled; domain = []; table = Same Undef } ∷ [];
+}
+
+from_a_range : numbers_between (pos 0) (pos 3) ≡ four
+unfolding four
+from_a_range = refl
+
+seven_locations : count_of two_functions ≡ 7
+unfolding two_functions four
+seven_locations = refl
+
+the_last_is_stray : location_at two_functions 6 ≡ Stray 1
+unfolding two_functions four
+the_last_is_stray = refl
+
+within_the_domain : number_at two_functions (location_in 0 (domain_of two_functions 0) (number (pos 3) ∷ [])) ≡ 3
+unfolding two_functions four number_or_undef
+within_the_domain = refl
+
+outside_the_domain : number_at two_functions (location_in 0 (domain_of two_functions 0) (number (pos 9) ∷ [])) ≡ 4
+unfolding two_functions four number_or_undef
+outside_the_domain = refl
+
+without_arguments : number_at two_functions (location_in 1 (domain_of two_functions 1) []) ≡ 5
+unfolding two_functions four number_or_undef
+without_arguments = refl

@@ -3,9 +3,15 @@ pub mod Value
 pub mod Codes
 pub mod Operation
 pub mod Location
+pub mod Universe
+pub mod UniverseView
+pub mod Tables
 pub mod Updates
 pub mod UpdateLaws
 pub mod Signature
+pub mod Fits
+pub mod Layout
 pub mod Places
+pub mod DomainLaws
 pub mod SignatureLaws
 pub mod OperationLaws

@@ -5,6 +5,7 @@ ghost use Rattle.asm_state.specs.declared.value.Value.{Value};
 ghost use Rattle.asm_state.specs.Codes.{code_of};
 ghost use Rattle.asm_state.specs.Value.{value_cmp};
 ghost use Rattle.asm_state.specs.OperationLaws.{DivisionLaw};
+ghost use Rattle.asm_state.specs.DomainLaws.{UniverseLaws, DomainLaws};
 ghost use Rattle.asm_state.specs.SignatureLaws.{NumberLaws, StateLaws};
 ghost use Rattle.asm_state.specs.UpdateLaws.{MemberLaws, TestLaws, SummaryLaws, FireLaws, UnionLaws, MergeLaws, FaultLaws};
 
@@ -52,6 +53,16 @@ pub fn merge_laws()
 /// A set is consistent where it has no faulty location, and has one first fault at most.
 pub fn fault_laws()
     ensures { FaultLaws }
+{}
+
+/// A value of a universe and its position are one to one.
+pub fn universe_laws()
+    ensures { UniverseLaws }
+{}
+
+/// The argument lists of a domain are those that are in it, in order.
+pub fn domain_laws()
+    ensures { DomainLaws }
 {}
 
 /// Locations and the numbers below their count are one to one, in order.

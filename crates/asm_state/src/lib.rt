@@ -1,10 +1,21 @@
 //! Values, operations on them, locations, states and update sets.
 #![tactic(auto)]
 
+mod argument_lists;
+pub mod arguments;
+pub mod domain;
 pub mod element;
+pub mod entries;
+pub mod function;
 pub mod laws;
+mod layout;
+pub mod limits;
 pub mod number;
 pub mod operation;
+pub mod place;
 pub mod signature;
 pub mod state;
+#[cfg(test)]
+mod tests;
+pub mod universe;
 pub mod value;

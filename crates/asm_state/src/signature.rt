@@ -1,92 +1,159 @@
-//! The signature: which locations there are, by number.
-ghost use Rattle.std.specs.Prelude.{◌≡◌, ◌<◌, ◌≤◌, vec_len};
-ghost use Rattle.asm_state.specs.Signature.{Shape, count_of, functions_of, location_at, number_at, IsLocationOf};
+//! The signature: which universes, functions and locations there are, by number.
+ghost use Rattle.std.specs.Prelude.{◌≡◌, ◌<◌, ◌≤◌, Some, IsTrue, IfOk, IfSome, IfNone, length, map, slice_get};
+ghost use Rattle.asm_state.specs.declared.function.Kind.TheVariants.{Controlled, Static};
+ghost use Rattle.asm_state.specs.Fits.{Fits};
+ghost use Rattle.asm_state.specs.Location.{Stray};
 ghost use Rattle.asm_state.specs.Places.{location_of};
+ghost use Rattle.asm_state.specs.Signature.{Shape, IsSound, HasKind, domain_of, functions_of, locations, count_of, location_at, number_at, initial_state, held_value};
+ghost use Rattle.asm_state.specs.Tables.{location_in};
+ghost use Rattle.asm_state.specs.Updates.{is_proper};
 
+use crate::argument_lists::{list_position, push_list};
+use crate::arguments::Arguments;
+use crate::function::Function;
+use crate::layout::Layout;
+use crate::place::Place;
+use crate::universe::Universe;
 use crate::value::Value;
+use std::alloc::{AllocError, Global};
 use std::marker::Model;
 
-/// How many controlled functions there can be.
-pub const FUNCTIONS: usize = 256;
-
-/// The controlled functions, in the order of their declaration, with their initial values.
+/// The universes and the controlled and static functions, in the order of their declaration. They go by their numbers in it.
 #[derive(Debug, Drop)]
 pub struct Signature {
-    initial: Vec<Value>,
+    universes: Vec<Universe>,
+    functions: Vec<Function>,
+    layout: Layout,
 }
 
 impl Model for Signature {
-    ghost use Rattle.std.specs.Prelude.{◌≤◌, length};
     ghost use Rattle.asm_state.specs.Signature.{Shape};
 
     ghost Value = { Shape };
 
-    ghost view = { λ s. record { initial = s.initial.items } };
+    ghost use Rattle.asm_state.specs.Layout.{IsLayoutOf};
 
-    ghost invariant = { λ s. length s.initial.items ≤ 256 };
-}
+    ghost view = { λ s. record { universes = s.universes.items; functions = s.functions.items } };
 
-/// A location by its function. The arguments of a proper one are its own.
-#[derive(Clone, Copy, Debug, PartialEq, Eq)]
-pub enum Place {
-    Proper { function: usize },
-    Stray { function: usize },
+    ghost invariant = { λ s. IsLayoutOf (record { universes = s.universes.items; functions = s.functions.items }) s.layout };
 }
 
 impl Signature {
-    /// The signature of the functions that have these initial values.
-    pub fn build(initial: Vec<Value>) -> Signature
-        requires { vec_len initial ≤ 256 }
-        ensures { result ≡ record { initial = initial.items } }
+    pub fn build(
+        alloc: Global,
+        universes: Vec<Universe>,
+        functions: Vec<Function>,
+    ) -> Result<Signature, AllocError>
+        requires { Fits (record { universes = universes.items; functions = functions.items }) }
+        ensures { IfOk result (λ s. s ≡ record { universes = universes.items; functions = functions.items }) }
     {
-        Signature { initial }
+        let layout = Layout::of(alloc, &universes, &functions)?;
+        Ok(Signature {
+            universes,
+            functions,
+            layout,
+        })
     }
 
+    /// The universe with this number.
+    pub fn universe(&self, n: usize) -> &Universe
+        requires { n < length self.now.universes }
+        ensures { slice_get self.now.universes n ≡ Some result.now }
+    {
+        &self.universes[n]
+    }
+
+    /// How many functions there are.
     pub fn functions(&self) -> usize
         ensures functions { result ≡ functions_of self.now }
         ensures few { result ≤ 256 }
     {
-        self.initial.len()
+        self.functions.len()
     }
 
-    /// How many locations there are.
+    /// The function with this number.
+    pub fn function(&self, f: usize) -> &Function
+        requires { f < functions_of self.now }
+        ensures { slice_get self.now.functions f ≡ Some result.now }
+    {
+        &self.functions[f]
+    }
+
+    /// How many locations there are, stray ones with them.
     pub fn count(&self) -> usize
-        ensures { result ≡ count_of self.now }
+        ensures count { result ≡ count_of self.now }
+        ensures few { result ≤ 16_384 }
+        ensures sound { IsSound self.now }
     {
-        2 * self.initial.len()
+        self.layout.owners.len()
     }
 
-    /// The initial values of the functions, in the order of their declaration.
-    pub fn initial_values(&self) -> &[Value]
-        ensures { result.now ≡ self.now.initial }
+    /// The number of the location of a controlled function with these arguments: the stray one where they are outside
+    /// its domain.
+    pub fn number_of(&self, f: usize, arguments: &[Value]) -> usize
+        requires { HasKind Controlled self.now f }
+        ensures number { result ≡ number_at self.now (location_in f (domain_of self.now f) arguments.now) }
+        ensures location { location_at self.now result ≡ location_in f (domain_of self.now f) arguments.now }
+        ensures in_range { result < count_of self.now }
     {
-        self.initial.as_slice()
+        let extent = self.layout.extents[f];
+        let domain = self.functions[f].domain.as_slice();
+        let list = list_position(&self.universes, domain, arguments);
+        extent.start + list.unwrap_or(extent.lists)
     }
 
     /// The location with this number.
-    pub fn location(&self, n: usize) -> Place
+    pub fn location(&self, alloc: Global, n: usize) -> Result<Place, AllocError>
         requires { n < count_of self.now }
-        ensures { location_of result ≡ location_at self.now n }
+        ensures { IfOk result (λ place. location_of place ≡ location_at self.now n) }
     {
-        let function = n / 2;
-        if n % 2 == 0 {
-            Place::Proper { function }
+        let function = self.layout.owners[n];
+        let extent = self.layout.extents[function];
+        let list = n - extent.start;
+        if list == extent.lists {
+            return Ok(Place::Stray { function });
+        }
+        let domain = self.functions[function].domain.as_slice();
+        let mut arguments = Vec::with_capacity(alloc, domain.len())?;
+        push_list(&self.universes, domain, list, &mut arguments)?;
+        Ok(Place::Proper {
+            function,
+            arguments: Arguments::new(arguments),
+        })
+    }
+
+    /// The function whose stray location has this number, if it is that of one.
+    pub fn stray(&self, n: usize) -> Option<usize>
+        requires { n < count_of self.now }
+        ensures stray { IfSome result (λ f. location_at self.now n ≡ Stray f) }
+        ensures proper { IfNone result (IsTrue (is_proper (location_at self.now n))) }
+    {
+        let function = self.layout.owners[n];
+        let extent = self.layout.extents[function];
+        if n - extent.start == extent.lists {
+            Some(function)
         } else {
-            Place::Stray { function }
+            None
         }
     }
 
-    /// The number of this location.
-    pub fn number(&self, place: Place) -> usize
-        requires { IsLocationOf self.now (location_of place) }
-        ensures number { result ≡ number_at self.now (location_of place) }
-        ensures in_range { result < count_of self.now }
+    /// The value of a static function, which is `Undef` outside its domain.
+    pub fn given(&self, f: usize, arguments: &[Value]) -> Value
+        requires { HasKind Static self.now f }
+        ensures { result ≡ held_value self.now f arguments.now }
     {
-        // The type bounds how many there are.
-        let _initial = &self.initial;
-        match place {
-            Place::Proper { function } => 2 * function,
-            Place::Stray { function } => 2 * function + 1,
+        let extent = self.layout.extents[f];
+        let domain = self.functions[f].domain.as_slice();
+        match list_position(&self.universes, domain, arguments) {
+            Some(list) => self.layout.given[extent.start + list],
+            None => Value::Undef,
         }
+    }
+
+    /// The initial contents of all locations, by their numbers.
+    pub(crate) fn initial(&self) -> &[Value]
+        ensures { result.now ≡ map (initial_state self.now) (locations self.now) }
+    {
+        self.layout.initial.as_slice()
     }
 }

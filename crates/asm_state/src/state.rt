@@ -1,6 +1,6 @@
 //! States: the content of each location, by its number.
-ghost use Rattle.std.specs.Prelude.{◌≡◌, ◌<◌, length, slice_index_or, slice_set, IfOk};
-ghost use Rattle.asm_state.specs.Signature.{count_of, state_of, initial_state};
+ghost use Rattle.std.specs.Prelude.{◌≡◌, ◌<◌, length, map, slice_index_or, slice_set, IfOk};
+ghost use Rattle.asm_state.specs.Signature.{count_of, locations, state_of, initial_state};
 ghost use Rattle.asm_state.specs.declared.value.Value.TheVariants.{Undef};
 
 use crate::signature::Signature;
@@ -24,16 +24,13 @@ impl Model for State {
 }
 
 impl State {
-    /// The state in which each function has its initial value.
+    /// The state in which each location has the value of its function's table.
     pub fn initial(alloc: Global, signature: &Signature) -> Result<State, AllocError>
         ensures initial { IfOk result (λ s. state_of signature.now s ≡ initial_state signature.now) }
+        ensures contents { IfOk result (λ s. s ≡ map (initial_state signature.now) (locations signature.now)) }
         ensures whole { IfOk result (λ s. length s ≡ count_of signature.now) }
     {
-        let mut contents = Vec::with_capacity(alloc, signature.count())?;
-        for value in signature.initial_values() {
-            contents.push(*value)?;
-            contents.push(Value::Undef)?;
-        }
+        let contents = signature.initial().to_vec(alloc)?;
         Ok(State { contents })
     }
 
@@ -59,28 +56,5 @@ impl State {
     {
         let contents = self.contents.as_slice().to_vec(alloc)?;
         Ok(State { contents })
-    }
-}
-
-#[cfg(test)]
-mod tests {
-    use super::*;
-    use crate::signature::Place;
-
-    #[test]
-    fn a_state_keeps_what_is_set(rt: HostRuntime) -> Result<(), AllocError> {
-        let alloc = rt.alloc();
-        let signature = Signature::build(vec![in alloc; Value::Undef, Value::Truth(true)]?);
-        let mut state = State::initial(alloc, &signature)?;
-        let first = signature.number(Place::Proper { function: 0 });
-        let second = signature.number(Place::Proper { function: 1 });
-        assert!(rt; signature.location(second) == Place::Proper { function: 1 });
-        assert!(rt; signature.location(signature.count() - 1) == Place::Stray { function: 1 });
-        let before = state.copy(alloc)?;
-        state.set(second, Value::Truth(false));
-        assert!(rt; state.content(first) == Value::Undef);
-        assert!(rt; state.content(second) == Value::Truth(false));
-        assert!(rt; before.content(second) == Value::Truth(true));
-        Ok(())
     }
 }

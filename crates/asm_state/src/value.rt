@@ -57,7 +57,7 @@ mod tests {
     use crate::number::LARGEST;
 
     #[test]
-    fn codes_of_the_ends_of_each_range(rt: HostRuntime) {
+    fn code_edges(rt: HostRuntime) {
         let cases = [
             (Value::Undef, 1),
             (Value::Truth(false), 2),

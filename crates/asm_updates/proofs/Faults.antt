@@ -1,6 +1,8 @@
 -- The first fault of the sets that a summary stands for.
-use Rattle.std.proofs.Common.{◌≡◌, ◌≢◌, ℕ, ◌<◌, ◌≤◌, false, List, length, get_or, Some, None, IsTrue, refl, sym, ap, subst, ◌∙◌, inl, inr, arith, ⊎_elim}
+use Rattle.std.proofs.Common.{◌≡◌, ◌≢◌, ℕ, ◌<◌, ◌≤◌, true, false, eqb, [], ◌∷◌, Option, Some, None, IfNone, IfSome, MatchOption, IsTrue, refl, sym, ap, subst, ◌∙◌, inl, inr, arith, ⊎_elim}
 use Rattle.std.proofs.lemmas.Bool.{cases_lt, cases_eq}
+use Rattle.std.proofs.lemmas.Bool.Decides.{nat_tests}
+use Rattle.std.proofs.lemmas.Option.{none-some}
 use Rattle.std.specs.Cmp.{tied_itself}
 use Rattle.std.specs.Ordering.{is_gt}
 use Rattle.std.specs.declared.cmp.Ordering.TheVariants.{Less, Equal}
@@ -12,14 +14,14 @@ use Rattle.asm_state.specs.UpdateLaws.{IsSettled}
 use Rattle.asm_state.specs.Updates.{UpdateSet, Has, Names, IsConsistent, Range, range_at, IsRange, IsRangeOf, IsFaulty, Clash, IsFirstFaulty, IsFirstFault, is_proper}
 use Rattle.asm_state.proofs.Codes.{codes_apart}
 use Rattle.asm_state.proofs.Faults.{fault_laws}
-use Rattle.asm_state.proofs.Locations.{number_laws}
+use Rattle.asm_state.proofs.NumberedLocations.{number_laws}
 use Rattle.asm_state.proofs.Summaries.{summary_laws}
 use Rattle.asm_updates.specs.declared.fault.Fault.{Fault as NumberedFault}
 use Rattle.asm_updates.specs.declared.fault.Fault.TheVariants as numbered
-use Rattle.asm_updates.specs.Entries.{Entries, entry, found, range, AreEntries}
+use Rattle.asm_updates.specs.Entries.{NamedRanges, Entries, entry, found, range, AreEntries}
 use Rattle.asm_updates.specs.Faults.{fault_of, IsFaultAt}
 use Rattle.asm_updates.specs.Stands.{Stands}
-use Rattle.asm_updates.proofs.Found.{IsAt, found_cases, rising}
+use Rattle.asm_updates.proofs.Found.{AreEntries-head, AreEntries-tail, found-after}
 use Rattle.asm_updates.proofs.Standing.{range_cases}
 
 -- equal bounds at a proper location leave no fault
@@ -32,9 +34,9 @@ named : (U : UpdateSet) (l : Location) → IsFaulty U l → Names U l
 named U (Proper f vs) (v, w, m, n, apart) = (v, m)
 named U (Stray f) has = has
 
-nothing : (l : Location) → IsSettled l None
-nothing (Proper f vs) = tt
-nothing (Stray f) = tt
+pub settled-none : (l : Location) → IsSettled l None
+settled-none (Proper f vs) = tt
+settled-none (Stray f) = tt
 
 -- ---- where all is settled
 
@@ -42,39 +44,11 @@ pub consistent : (shape : Shape) (s : Entries) (U : UpdateSet) → Stands shape 
 consistent shape s U stands all =
     (summary_laws.consistency U (range_at U) (summary_laws.exists U)).1
     (λ l. elim (range_cases shape s U l stands) [
-      | inl absent ↦ subst (IsSettled l) (sym absent) (nothing l)
+      | inl absent ↦ subst (IsSettled l) (sym absent) (settled-none l)
       | inr here ↦ subst (IsSettled l) (sym here.1) (subst (λ m. IsSettled m (entry s (number_at shape l))) (number_laws.location shape l here.0) (all (number_at shape l) (number_laws.in_range shape l here.0)))
     ])
 
--- what is settled at each position is settled at each location
-pub settled_everywhere : (shape : Shape) (ns : List ℕ) (bs : List (Value × Value)) → ((k : ℕ) → k < length ns → IsSettled (location_at shape (get_or ns k 0)) (found ns bs (get_or ns k 0))) → (n : ℕ) → IsSettled (location_at shape n) (found ns bs n)
-settled_everywhere shape ns bs all n =
-    elim (found_cases ns bs n) [
-      | inl absent ↦ subst (IsSettled (location_at shape n)) (sym absent) (nothing (location_at shape n))
-      | inr at ↦ subst (λ m. IsSettled (location_at shape m) (found ns bs m)) at.1.here (all at.0 at.1.within)
-    ]
-
 -- ---- where the first fault is
-
--- what is settled at each position before one is settled at each location below its own
-pub settled_below : (shape : Shape) (count : ℕ) (ns : List ℕ) (bs : List (Value × Value)) (i : ℕ) → AreEntries count ns bs → i < length ns →
-    ((k : ℕ) → k < i → IsSettled (location_at shape (get_or ns k 0)) (found ns bs (get_or ns k 0))) →
-    (n : ℕ) → n < get_or ns i 0 → IsSettled (location_at shape n) (found ns bs n)
-settled_below shape count ns bs i sound within before n less =
-    elim (found_cases ns bs n) [
-      | inl absent ↦ subst (IsSettled (location_at shape n)) (sym absent) (nothing (location_at shape n))
-      | inr at ↦ at_position at.0 at.1
-    ]
-  where
-    at_position : (k : ℕ) → IsAt ns n k → IsSettled (location_at shape n) (found ns bs n)
-    at_position k at =
-        ⊎_elim
-        (λ (first : k < i). subst (λ m. IsSettled (location_at shape m) (found ns bs m)) at.here (before k first))
-        (λ (later : i ≤ k).
-        let above : get_or ns i 0 ≤ get_or ns k 0 = rising 0 count ns sound.rising i k later at.within in
-        let here : get_or ns k 0 ≡ n = at.here in
-        absurd (omega arith))
-        (cases_lt k i)
 
 pub first_faulty : (shape : Shape) (s : Entries) (U : UpdateSet) (n : ℕ) → Stands shape s U → n < count_of shape → ((m : ℕ) → m < n → IsSettled (location_at shape m) (entry s m)) →
     IsFaulty U (location_at shape n) → IsFirstFaulty U (location_at shape n)
@@ -96,7 +70,7 @@ first_faulty shape s U n stands below settled faulty = record {
         (λ (same : n ≡ k). ap is_gt (subst (λ l. location_cmp (location_at shape n) l ≡ Equal) (ap (location_at shape) same ∙ lies) (tied_itself location_cmp-total (location_at shape n))))
         (λ (apart : n ≡ k → ⊥).
         let less : n < k = omega (arith, apart) in
-        ap is_gt (subst (λ l. location_cmp (location_at shape n) l ≡ Less) lies (number_laws.rise shape n k less in_range)))
+        ap is_gt (subst (λ l. location_cmp (location_at shape n) l ≡ Less) lies (number_laws.rise shape n k stands.is_sound less in_range)))
         (cases_eq n k))
         (cases_lt k n)
 
@@ -126,3 +100,82 @@ first_fault_is shape s U n low high (numbered.Outside f) stands below settled he
     let is : IsRange (Has U (location_at shape n)) (range (low, high)) = subst (IsRangeOf (Has U (location_at shape n))) (sym (stands.has_ranges n below) ∙ here) (summary_laws.exists U (location_at shape n)) in
     let faulty : IsFaulty U (location_at shape n) = subst (IsFaulty U) (sym stray) (faulty_stray U f (range (low, high)) (subst (λ l. IsRange (Has U l) (range (low, high))) stray is)) in
     subst (IsFirstFaulty U) stray (first_faulty shape s U n stands below settled faulty)
+
+-- the fault of a location that is named
+pub record IsFaultOf (shape : Shape) (s : Entries) (n : ℕ) (fault : NumberedFault) : Type 0 where
+  pub low : Value
+  pub high : Value
+  pub in_range : n < s.count
+  pub here : entry s n ≡ Some (range (low, high))
+  pub is_fault : IsFaultAt shape n low high fault
+
+-- ---- a look at each entry
+
+-- what is known once the entries up to some are looked at: no location below the end has a fault there, and the first fault is at the end
+pub record IsSoFar (shape : Shape) (s : Entries) (rest : NamedRanges) (end : ℕ) (first : Option NumberedFault) : Type 0 where
+  pub sound : AreEntries s.count rest
+  pub left : (m : ℕ) (r : Range) → found rest m ≡ Some r → entry s m ≡ Some r
+  pub settled : (m : ℕ) → m < end → found rest m ≡ None → IsSettled (location_at shape m) (entry s m)
+  pub fault : MatchOption first (end ≡ s.count) (IsFaultOf shape s end)
+
+pub nothing_so_far : (shape : Shape) (s : Entries) → AreEntries s.count s.ranges → IsSoFar shape s s.ranges s.count None
+nothing_so_far shape s sound = record {
+  sound = sound;
+  left = λ m r e. e;
+  settled = λ m less none. subst (IsSettled (location_at shape m)) (sym none) (settled-none (location_at shape m));
+  fault = refl;
+}
+
+module _ (shape : Shape) (s : Entries) (n : ℕ) (b : Value × Value) (left : NamedRanges) (end : ℕ) (first : Option NumberedFault) (so_far : IsSoFar shape s ((n, b) ∷ left) end first) where
+  here : entry s n ≡ Some (range b)
+  here = let yes : eqb n n ≡ true = grind (arith, nat_tests) in so_far.left n (range b) (rw yes refl)
+
+  elsewhere : (m : ℕ) → (m ≡ n → ⊥) → found ((n, b) ∷ left) m ≡ found left m
+  elsewhere m other = let skip : eqb m n ≡ false = grind (arith, nat_tests) in rw skip refl
+
+  still_left : (m : ℕ) (r : Range) → found left m ≡ Some r → entry s m ≡ Some r
+  still_left m r e =
+      ⊎_elim
+      (λ (same : m ≡ n).
+      let none : found left m ≡ None = subst (λ k. found left k ≡ None) (sym same) (found-after (n, b) left so_far.sound.unique) in
+      absurd (none-some r (sym none ∙ e)))
+      (λ (other : m ≡ n → ⊥). so_far.left m r (elsewhere m other ∙ e))
+      (cases_eq m n)
+
+  pub fault_so_far : (fault : NumberedFault) → n < end → IsFaultAt shape n b.0 b.1 fault → IsSoFar shape s left n (Some fault)
+  fault_so_far fault less is = record {
+    sound = AreEntries-tail s.count (n, b) left so_far.sound;
+    left = still_left;
+    settled = λ m below none. so_far.settled m (omega arith) (elsewhere m (λ same. omega arith) ∙ none);
+    fault = record {
+      low = b.0;
+      high = b.1;
+      in_range = (AreEntries-head s.count (n, b) left so_far.sound).in_range;
+      here = here;
+      is_fault = is;
+    };
+  }
+
+  pub settled_so_far : (n < end → IsSettled (location_at shape n) (Some (range b))) → IsSoFar shape s left end first
+  settled_so_far is = record {
+    sound = AreEntries-tail s.count (n, b) left so_far.sound;
+    left = still_left;
+    settled = λ m below none.
+        ⊎_elim
+        (λ (same : m ≡ n).
+        subst (λ k. IsSettled (location_at shape k) (entry s k)) (sym same)
+        (subst (IsSettled (location_at shape n)) (sym here) (is (omega arith))))
+        (λ (other : m ≡ n → ⊥). so_far.settled m below (elsewhere m other ∙ none))
+        (cases_eq m n);
+    fault = so_far.fault;
+  }
+
+pub all_consistent : (shape : Shape) (s : Entries) (end : ℕ) (first : Option NumberedFault) → s.count ≡ count_of shape → IsSoFar shape s [] end first → IfNone first ((U : UpdateSet) → Stands shape s U → IsConsistent U)
+all_consistent shape s end None count so_far = λ U stands. consistent shape s U stands (λ n h. so_far.settled n (omega (arith, so_far.fault)) refl)
+all_consistent shape s end (Some fault) count so_far = tt
+
+pub all_first : (shape : Shape) (s : Entries) (end : ℕ) (first : Option NumberedFault) → s.count ≡ count_of shape → IsSoFar shape s [] end first → IfSome first (λ fault. (U : UpdateSet) → Stands shape s U → IsFirstFault U (fault_of shape fault))
+all_first shape s end None count so_far = tt
+all_first shape s end (Some fault) count so_far = λ U stands.
+    let at = so_far.fault in
+    first_fault_is shape s U end at.low at.high fault stands (subst (λ k. end < k) count at.in_range) (λ m less. so_far.settled m less refl) at.here at.is_fault

@@ -8,7 +8,8 @@ use Rattle.asm_state.specs.Codes.{code_of}
 use Rattle.asm_state.specs.Location.{Location, Proper, Stray}
 use Rattle.asm_state.specs.Signature.{Shape, count_of, number_at, IsLocationOf, state_of}
 use Rattle.asm_state.specs.Updates.{UpdateSet, Has, IsConsistent, Range, range_at, IsRangeOf, overwritten, fire, is_proper}
-use Rattle.asm_state.proofs.Locations.{number_laws, state_laws}
+use Rattle.asm_state.proofs.NumberedLocations.{number_laws}
+use Rattle.asm_state.proofs.StatesByNumbers.{state_laws}
 use Rattle.asm_state.proofs.Summaries.{summary_laws}
 use Rattle.asm_state.proofs.Codes.{codes_apart}
 use Rattle.asm_updates.specs.Entries.{Entries, entry}
@@ -27,10 +28,10 @@ module _ (shape : Shape) (s : Entries) (U : UpdateSet) (old new : List Value) (s
   in_place l here proper =
       let ranges : entry s (number_at shape l) ≡ range_at U l =
       stands.has_ranges (number_at shape l) (number_laws.in_range shape l here) ∙ ap (range_at U) (number_laws.location shape l here) in
-      state_laws.content shape new l here proper
+      state_laws.content shape new l proper
       ∙ each (number_at shape l)
       ∙ ap (λ r. overwritten r (get_or old (number_at shape l) Undef)) ranges
-      ∙ ap (overwritten (range_at U l)) (sym (state_laws.content shape old l here proper))
+      ∙ ap (overwritten (range_at U l)) (sym (state_laws.content shape old l proper))
 
   unchanged : (l : Location) → IsTrue (is_proper l) → range_at U l ≡ None → state_of shape new l ≡ state_of shape old l
   unchanged l proper absent =
@@ -58,13 +59,13 @@ module _ (shape : Shape) (s : Entries) (U : UpdateSet) (old new : List Value) (s
   fired_state consistent = λ i l. fired_at consistent l i
 
 -- one content more
-pub changed_content : (xs ys : List Value) (n m : ℕ) (v : Value) → n < length xs → m ≡ n → ys ≡ set xs n v → (k : ℕ) → get_or ys k Undef ≡ cond (eqb k m) v (get_or xs k Undef)
-changed_content xs ys n m v h at e k =
+pub changed_content : (xs ys : List Value) (n : ℕ) (v : Value) → n < length xs → ys ≡ set xs n v → (k : ℕ) → get_or ys k Undef ≡ cond (eqb k n) v (get_or xs k Undef)
+changed_content xs ys n v h e k =
     ⊎_elim
     (λ (same : k ≡ n).
-    let yes : eqb k m ≡ true = grind (arith, nat_tests) in
+    let yes : eqb k n ≡ true = grind (arith, nat_tests) in
     rw yes (ap (λ zs. get_or zs k Undef) e ∙ ap (λ j. get_or (set xs n v) j Undef) same ∙ get_or-set_same xs n v Undef h))
     (λ (other : k ≡ n → ⊥).
-    let skip : eqb k m ≡ false = grind (arith, nat_tests) in
+    let skip : eqb k n ≡ false = grind (arith, nat_tests) in
     rw skip (ap (λ zs. get_or zs k Undef) e ∙ get_or-set_other xs n k v Undef other))
     (cases_eq k n)

@@ -1,9 +1,8 @@
-pub mod Combined
-pub mod Cuts
+pub mod Copied
 pub mod Faults
 pub mod Firing
 pub mod Found
 pub mod Orders
 pub mod Standing
-pub mod Sweeping
 pub mod StandingLaws
+pub mod Widened

@@ -7,16 +7,16 @@ use Rattle.std.specs.declared.cmp.Ordering.TheVariants.{Less, Equal}
 use Rattle.asm_state.specs.declared.value.Value.{Value}
 use Rattle.asm_state.specs.Codes.{code_of}
 use Rattle.asm_state.specs.Location.{Location, location_cmp, location_cmp-total}
-use Rattle.asm_state.specs.Signature.{Shape, count_of, location_at, number_at, IsLocationOf}
+use Rattle.asm_state.specs.Signature.{Shape, IsSound, count_of, location_at, number_at, IsLocationOf}
 use Rattle.asm_state.specs.Updates.{UpdateSet, Has, Names, none, one, together, merge, Range, widen, later_range, range_at, IsAtMost, IsRange, IsRangeOf}
 use Rattle.asm_state.proofs.Members.{member_laws}
 use Rattle.asm_state.proofs.Summaries.{summary_laws}
-use Rattle.asm_state.proofs.Locations.{number_laws}
+use Rattle.asm_state.proofs.NumberedLocations.{number_laws}
 use Rattle.asm_updates.specs.Entries.{Entries, entry, range, AreEntries}
 use Rattle.asm_updates.specs.Stands.{Stands}
-use Rattle.asm_updates.proofs.Combined.{widen-none}
 use Rattle.asm_updates.proofs.Found.{found-above}
 use Rattle.asm_updates.proofs.Orders.{at_most, at_most_itself}
+use Rattle.asm_updates.proofs.Widened.{widen-none}
 
 -- ---- ranges in sets
 
@@ -37,8 +37,9 @@ merge_range U V l =
 
 -- ---- the empty set
 
-pub stands_for_none : (shape : Shape) (s : Entries) → s.count ≡ count_of shape → ((n : ℕ) → entry s n ≡ None) → Stands shape s none
-stands_for_none shape s count all = record {
+pub stands_for_none : (shape : Shape) (s : Entries) → IsSound shape → s.count ≡ count_of shape → ((n : ℕ) → entry s n ≡ None) → Stands shape s none
+stands_for_none shape s sound count all = record {
+  is_sound = sound;
   has_count = count;
   has_ranges = λ n h. all n ∙ sym (none_range (location_at shape n));
   names_within = λ l (v, m). absurd (member_laws.of_none l v m);
@@ -48,6 +49,7 @@ stands_for_none shape s count all = record {
 
 pub stands_for_union : (shape : Shape) (a b c : Entries) (U V : UpdateSet) → c.count ≡ a.count → ((n : ℕ) → entry c n ≡ widen (entry a n) (entry b n)) → Stands shape a U → Stands shape b V → Stands shape c (together U V)
 stands_for_union shape a b c U V count each first second = record {
+  is_sound = first.is_sound;
   has_count = count ∙ first.has_count;
   has_ranges = λ n h.
       each n
@@ -59,6 +61,7 @@ stands_for_union shape a b c U V count each first second = record {
 
 pub stands_for_merge : (shape : Shape) (a b c : Entries) (U V : UpdateSet) → c.count ≡ a.count → ((n : ℕ) → entry c n ≡ later_range (entry a n) (entry b n)) → Stands shape a U → Stands shape b V → Stands shape c (merge U V)
 stands_for_merge shape a b c U V count each first second = record {
+  is_sound = first.is_sound;
   has_count = count ∙ first.has_count;
   has_ranges = λ n h.
       each n
@@ -71,11 +74,11 @@ stands_for_merge shape a b c U V count each first second = record {
 -- ---- a location more
 
 -- locations with different numbers differ
-pub apart : (shape : Shape) (m n : ℕ) → m < count_of shape → n < count_of shape → (m ≡ n → ⊥) → location_at shape m ≡ location_at shape n → ⊥
-apart shape m n h k other same =
+pub apart : (shape : Shape) (m n : ℕ) → IsSound shape → m < count_of shape → n < count_of shape → (m ≡ n → ⊥) → location_at shape m ≡ location_at shape n → ⊥
+apart shape m n sound h k other same =
     ⊎_elim
-    (λ (below : m < n). differ (location_at shape m) (location_at shape n) (number_laws.rise shape m n below k) same)
-    (λ (above : n ≤ m). let more : n < m = omega (arith, other) in differ (location_at shape n) (location_at shape m) (number_laws.rise shape n m more h) (sym same))
+    (λ (below : m < n). differ (location_at shape m) (location_at shape n) (number_laws.rise shape m n sound below k) same)
+    (λ (above : n ≤ m). let more : n < m = omega (arith, other) in differ (location_at shape n) (location_at shape m) (number_laws.rise shape n m sound more h) (sym same))
     (cases_lt m n)
   where
     differ : (k l : Location) → location_cmp k l ≡ Less → k ≡ l → ⊥
@@ -85,9 +88,9 @@ apart shape m n h k other same =
         cc
 
 -- the range at each location of a set that names one location alone
-lone_range : (shape : Shape) (W : UpdateSet) (n : ℕ) (r : Range) → n < count_of shape → IsRange (Has W (location_at shape n)) r → ((l : Location) → Names W l → l ≡ location_at shape n) →
+lone_range : (shape : Shape) (W : UpdateSet) (n : ℕ) (r : Range) → IsSound shape → n < count_of shape → IsRange (Has W (location_at shape n)) r → ((l : Location) → Names W l → l ≡ location_at shape n) →
     (k : ℕ) → k < count_of shape → cond (eqb k n) (Some r) None ≡ range_at W (location_at shape k)
-lone_range shape W n r h is alone k below =
+lone_range shape W n r sound h is alone k below =
     ⊎_elim
     (λ (same : k ≡ n).
     let yes : eqb k n ≡ true = grind (arith, nat_tests) in
@@ -96,7 +99,7 @@ lone_range shape W n r h is alone k below =
     (λ (other : k ≡ n → ⊥).
     let skip : eqb k n ≡ false = grind (arith, nat_tests) in
     rw skip (summary_laws.one_range W (location_at shape k) None (range_at W (location_at shape k))
-    (λ v m. apart shape k n below h other (alone (location_at shape k) (v, m)))
+    (λ v m. apart shape k n sound below h other (alone (location_at shape k) (v, m)))
     (summary_laws.exists W (location_at shape k))))
     (cases_eq k n)
 
@@ -115,12 +118,13 @@ pub stands_with : (shape : Shape) (a c : Entries) (U W : UpdateSet) (n : ℕ) (r
 stands_with shape a c U W n r lt count each first is alone =
     let h : n < count_of shape = subst (λ x. n < x) first.has_count lt in
     record {
+      is_sound = first.is_sound;
       has_count = count ∙ first.has_count;
       has_ranges = λ k below.
           each k
           ∙ widened (entry a) n k r
           ∙ ap (λ x. widen x (cond (eqb k n) (Some r) None)) (first.has_ranges k below)
-          ∙ ap (widen (range_at U (location_at shape k))) (lone_range shape W n r h is alone k below)
+          ∙ ap (widen (range_at U (location_at shape k))) (lone_range shape W n r first.is_sound h is alone k below)
           ∙ union_range U W (location_at shape k);
       names_within = λ l (v, m). elim ((member_laws.of_union U W l v).0 m) [
         | inl x ↦ first.names_within l (v, x)
@@ -187,9 +191,9 @@ empty_set shape s U stands all =
       | inr here ↦ here.1 ∙ all (number_at shape l)
     ])
 
-pub empty_entries : (shape : Shape) (s : Entries) (U : UpdateSet) → AreEntries s.count s.locations s.bounds → Stands shape s U → U ≡ none → (n : ℕ) → entry s n ≡ None
+pub empty_entries : (shape : Shape) (s : Entries) (U : UpdateSet) → AreEntries s.count s.ranges → Stands shape s U → U ≡ none → (n : ℕ) → entry s n ≡ None
 empty_entries shape s U sound stands empty n =
     ⊎_elim
     (λ (below : n < count_of shape). stands.has_ranges n below ∙ ap (λ V. range_at V (location_at shape n)) empty ∙ none_range (location_at shape n))
-    (λ (above : count_of shape ≤ n). let more : s.count ≤ n = omega (arith, stands.has_count) in found-above 0 s.count s.locations s.bounds n sound.rising more)
+    (λ (above : count_of shape ≤ n). found-above s.count s.ranges n sound.in_range (omega (arith, stands.has_count)))
     (cases_lt n (count_of shape))

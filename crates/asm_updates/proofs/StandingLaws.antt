@@ -13,6 +13,7 @@ use Rattle.asm_updates.proofs.Faults.{consistent}
 
 alike : (shape : Shape) (s t : Entries) (U : UpdateSet) → t.count ≡ s.count → ((n : ℕ) → entry t n ≡ entry s n) → Stands shape s U → Stands shape t U
 alike shape s t U count each stands = record {
+  is_sound = stands.is_sound;
   has_count = count ∙ stands.has_count;
   has_ranges = λ n h. each n ∙ stands.has_ranges n h;
   names_within = stands.names_within;

@@ -1,6 +1,4 @@
 pub mod Entries
 pub mod Stands
 pub mod Faults
-pub mod Combined
-pub mod Highest
 pub mod StandingLaws

@@ -1,7 +1,7 @@
 -- Laws of the sets that summaries stand for.
 use Rattle.std.specs.Prelude.{◌≡◌, ◌↔◌, ℕ, ◌<◌, None}
 use Rattle.asm_state.specs.Location.{State}
-use Rattle.asm_state.specs.Signature.{Shape, count_of, location_at}
+use Rattle.asm_state.specs.Signature.{Shape, IsSound, count_of, location_at}
 use Rattle.asm_state.specs.UpdateLaws.{IsSettled}
 use Rattle.asm_state.specs.Updates.{UpdateSet, IsConsistent, none, together, merge, widen, later_range, overwritten, fire}
 use Rattle.asm_updates.specs.Entries.{Entries, entry}
@@ -11,7 +11,7 @@ pub record StandingLaws : Type 0 where
   -- a summary with the same entries stands for the same sets
   pub alike : (shape : Shape) (s t : Entries) (U : UpdateSet) → t.count ≡ s.count → ((n : ℕ) → entry t n ≡ entry s n) → Stands shape s U → Stands shape t U
   -- one without entries stands for the empty set
-  pub of_none : (shape : Shape) (s : Entries) → s.count ≡ count_of shape → ((n : ℕ) → entry s n ≡ None) → Stands shape s none
+  pub of_none : (shape : Shape) (s : Entries) → IsSound shape → s.count ≡ count_of shape → ((n : ℕ) → entry s n ≡ None) → Stands shape s none
   -- the entries of a union and of a turbo merge come of those of the two sets
   pub of_union : (shape : Shape) (s t both : Entries) (U V : UpdateSet) → both.count ≡ s.count → ((n : ℕ) → entry both n ≡ widen (entry s n) (entry t n)) → Stands shape s U → Stands shape t V → Stands shape both (together U V)
   pub of_merge : (shape : Shape) (s t both : Entries) (U V : UpdateSet) → both.count ≡ s.count → ((n : ℕ) → entry both n ≡ later_range (entry s n) (entry t n)) → Stands shape s U → Stands shape t V → Stands shape both (merge U V)

@@ -5,7 +5,7 @@ ghost use Rattle.asm_state.specs.UpdateLaws.{IsSettled};
 ghost use Rattle.asm_updates.specs.Entries.{range};
 ghost use Rattle.asm_updates.specs.Faults.{IsFaultAt};
 
-use asm_state::signature::{Place, Signature};
+use asm_state::signature::Signature;
 use asm_state::value::Value;
 
 /// Why a set can't be fired: a location has two values, or a function is updated outside its domain.
@@ -32,18 +32,16 @@ pub(crate) fn fault_at(
     ensures settled { IfNone result (IsSettled (location_at signature.now location) (Some (range (low, high)))) }
     ensures fault { IfSome result (IsFaultAt signature.now location low high) }
 {
-    match signature.location(location) {
-        Place::Stray { function } => Some(Fault::Outside { function }),
-        Place::Proper { .. } => {
-            if low.code() == high.code() {
-                None
-            } else {
-                Some(Fault::Clash {
-                    location,
-                    low,
-                    high,
-                })
-            }
-        }
+    if let Some(function) = signature.stray(location) {
+        return Some(Fault::Outside { function });
+    }
+    if low.code() == high.code() {
+        None
+    } else {
+        Some(Fault::Clash {
+            location,
+            low,
+            high,
+        })
     }
 }

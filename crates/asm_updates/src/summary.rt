@@ -1,21 +1,22 @@
 //! A summary of an update set.
-ghost use Rattle.std.specs.Prelude.{◌≡◌, ◌<◌, ◌≤◌, ◌==◌, ◌↔◌, ℕ, Some, None, IsTrue, OnOk, OnErr, IfOk, IfNone, IfSome, if◌then◌else◌, length, slice_get, slice_index, slice_index_or};
+ghost use Rattle.std.specs.Prelude.{◌≡◌, ◌<◌, ◌≤◌, ◌==◌, ◌↔◌, ℕ, Some, None, IsTrue, OnOk, OnErr, IfOk, IfNone, IfSome, if◌then◌else◌, length, slice_get, slice_index_or};
+ghost use Rattle.std.specs.List.Sorted.{IsStrictlyIncreasing};
+ghost use Rattle.std.specs.Map.{keys_of};
 ghost use Rattle.std.specs.Option.{option_map};
 ghost use Rattle.asm_state.specs.Codes.{code_of};
-ghost use Rattle.asm_state.specs.Signature.{Shape, count_of, location_at, state_of};
+ghost use Rattle.asm_state.specs.Signature.{Shape, IsSound, count_of, location_at, state_of};
 ghost use Rattle.asm_state.specs.Updates.{UpdateSet, IsConsistent, IsFirstFault, none, one, together, merge, widen, later_range, overwritten, fire};
 ghost use Rattle.asm_state.specs.declared.value.Value.TheVariants.{Undef};
 ghost use Rattle.asm_updates.specs.Entries.{entry, range, AreEntries};
 ghost use Rattle.asm_updates.specs.Faults.{fault_of};
 ghost use Rattle.asm_updates.specs.Stands.{Stands};
 
-use crate::combination::Combination;
-use crate::edit::{put, search};
 use crate::fault::{Fault, fault_at};
-use crate::sweep::combine;
+use crate::ranges::{Ranges, replace_all, widen_all, widen_at};
 use asm_state::signature::Signature;
 use asm_state::state::State;
 use asm_state::value::Value;
+use indexmap::IndexMap;
 use std::alloc::{AllocError, Global};
 use std::marker::Model;
 
@@ -24,8 +25,7 @@ use std::marker::Model;
 #[derive(Debug, Drop)]
 pub struct Summary {
     count: usize,
-    locations: Vec<usize>,
-    bounds: Vec<(Value, Value)>,
+    ranges: Ranges,
 }
 
 impl Model for Summary {
@@ -33,9 +33,9 @@ impl Model for Summary {
 
     ghost Value = { Entries };
 
-    ghost view = { λ s. record { count = s.count; locations = s.locations.items; bounds = s.bounds.items } };
+    ghost view = { λ s. record { count = s.count; ranges = s.ranges.entries } };
 
-    ghost invariant = { λ s. AreEntries s.count s.locations.items s.bounds.items };
+    ghost invariant = { λ s. AreEntries s.count s.ranges.entries };
 }
 
 impl Summary {
@@ -43,12 +43,11 @@ impl Summary {
     pub fn new(alloc: Global, count: usize) -> Summary
         ensures count { result.count ≡ count }
         ensures entries { (n : ℕ) → entry result n ≡ None }
-        ensures empty { (shape : Shape) → count ≡ count_of shape → Stands shape result none }
+        ensures empty { (shape : Shape) → IsSound shape → count ≡ count_of shape → Stands shape result none }
     {
         Summary {
             count,
-            locations: Vec::new(alloc),
-            bounds: Vec::new(alloc),
+            ranges: IndexMap::new(alloc),
         }
     }
 
@@ -61,10 +60,10 @@ impl Summary {
 
     /// How many locations the set names.
     pub fn len(&self) -> usize
-        ensures len { result ≡ length self.now.locations }
-        ensures in_order { AreEntries self.now.count self.now.locations self.now.bounds }
+        ensures len { result ≡ length self.now.ranges }
+        ensures sound { AreEntries self.now.count self.now.ranges }
     {
-        self.locations.len()
+        self.ranges.len()
     }
 
     /// Whether the set is empty.
@@ -72,29 +71,36 @@ impl Summary {
         ensures entries { IsTrue result ↔ ((n : ℕ) → entry self.now n ≡ None) }
         ensures empty { (shape : Shape) (U : UpdateSet) → Stands shape self.now U → IsTrue result ↔ (U ≡ none) }
     {
-        self.locations.is_empty()
+        self.ranges.is_empty()
     }
 
     /// The least and the greatest value at a location, if the set names it.
     pub fn get(&self, n: usize) -> Option<(Value, Value)>
         ensures { option_map range result ≡ entry self.now n }
     {
-        match search(self.count, &self.locations, n) {
-            Ok(i) => Some(self.bounds[i]),
-            Err(_) => None,
-        }
+        self.ranges.get(&n).copied()
     }
 
-    /// The named location at a position in rising order, with its least and its greatest value.
+    /// The named location at a position, with its least and its greatest value. After `sort` locations rise with positions.
     pub fn entry_at(&self, i: usize) -> (usize, Value, Value)
-        requires { i < length self.now.locations }
-        ensures location { result.0 ≡ slice_index self.now.locations i }
-        ensures bounds { slice_get self.now.bounds i ≡ Some (result.1, result.2) }
+        requires { i < length self.now.ranges }
+        ensures position { slice_get self.now.ranges i ≡ Some (result.0, (result.1, result.2)) }
         ensures in_range { result.0 < self.now.count }
         ensures entry { entry self.now result.0 ≡ Some (range (result.1, result.2)) }
     {
-        let (low, high) = self.bounds[i];
-        (self.locations[i], low, high)
+        let (n, (low, high)) = self.ranges.get_index(i).unwrap();
+        (*n, *low, *high)
+    }
+
+    /// Brings the entries into the rising order of their locations.
+    pub fn sort(&mut self) -> Result<(), AllocError>
+        ensures count { self.new.count ≡ self.old.count }
+        ensures len { length self.new.ranges ≡ length self.old.ranges }
+        ensures entries { (n : ℕ) → entry self.new n ≡ entry self.old n }
+        ensures rising { OnOk result (IsStrictlyIncreasing (keys_of self.new.ranges)) }
+        ensures err { OnErr result (self.new ≡ self.old) }
+    {
+        self.ranges.sort_unstable_keys()
     }
 
     /// Adds a location with its bounds, as the union with the summary of one location does.
@@ -110,16 +116,8 @@ impl Summary {
             Stands shape self.new (together U (one (location_at shape n) low))) }
         ensures err { OnErr result (self.new ≡ self.old) }
     {
-        self.locations.reserve(1)?;
-        self.bounds.reserve(1)?;
-        put(
-            Combination::Union,
-            self.count,
-            &mut self.locations,
-            &mut self.bounds,
-            n,
-            (low, high),
-        );
+        self.ranges.reserve(1)?;
+        widen_at(&mut self.ranges, n, (low, high));
         Ok(())
     }
 
@@ -132,16 +130,8 @@ impl Summary {
             Stands shape self.new (together U V)) }
         ensures err { OnErr result (self.new ≡ self.old) }
     {
-        self.locations.reserve(other.locations.len())?;
-        self.bounds.reserve(other.bounds.len())?;
-        combine(
-            Combination::Union,
-            self.count,
-            &mut self.locations,
-            &mut self.bounds,
-            &other.locations,
-            &other.bounds,
-        );
+        self.ranges.reserve(other.ranges.len())?;
+        widen_all(&mut self.ranges, &other.ranges);
         Ok(())
     }
 
@@ -154,16 +144,8 @@ impl Summary {
             Stands shape self.new (merge U V)) }
         ensures err { OnErr result (self.new ≡ self.old) }
     {
-        self.locations.reserve(later.locations.len())?;
-        self.bounds.reserve(later.bounds.len())?;
-        combine(
-            Combination::Merge,
-            self.count,
-            &mut self.locations,
-            &mut self.bounds,
-            &later.locations,
-            &later.bounds,
-        );
+        self.ranges.reserve(later.ranges.len())?;
+        replace_all(&mut self.ranges, &later.ranges);
         Ok(())
     }
 
@@ -171,10 +153,9 @@ impl Summary {
     pub fn clear(&mut self)
         ensures count { self.new.count ≡ self.old.count }
         ensures entries { (n : ℕ) → entry self.new n ≡ None }
-        ensures empty { (shape : Shape) → self.old.count ≡ count_of shape → Stands shape self.new none }
+        ensures empty { (shape : Shape) → IsSound shape → self.old.count ≡ count_of shape → Stands shape self.new none }
     {
-        self.locations.clear();
-        self.bounds.clear();
+        self.ranges.clear();
     }
 
     /// The fault at the least faulty location.
@@ -184,13 +165,17 @@ impl Summary {
         ensures first { IfSome result (λ fault. (U : UpdateSet) → Stands signature.now self.now U →
             IsFirstFault U (fault_of signature.now fault)) }
     {
-        for i in 0..self.locations.len() {
-            let (low, high) = self.bounds[i];
-            if let Some(fault) = fault_at(signature, self.locations[i], low, high) {
-                return Some(fault);
+        let mut first = None;
+        let mut end = self.count;
+        for (n, (low, high)) in &self.ranges {
+            if *n < end
+                && let Some(fault) = fault_at(signature, *n, *low, *high)
+            {
+                first = Some(fault);
+                end = *n;
             }
         }
-        None
+        first
     }
 
     /// Gives each named location its value in the state.
@@ -202,9 +187,8 @@ impl Summary {
         ensures fired { (shape : Shape) (U : UpdateSet) → Stands shape self.now U → IsConsistent U →
             state_of shape state.new ≡ fire (state_of shape state.old) U }
     {
-        for i in 0..self.locations.len() {
-            let (value, _) = self.bounds[i];
-            state.set(self.locations[i], value);
+        for (n, (value, _)) in &self.ranges {
+            state.set(*n, *value);
         }
     }
 
@@ -230,10 +214,11 @@ impl Summary {
     pub fn copy(&self, alloc: Global) -> Result<Summary, AllocError>
         ensures { IfOk result (λ s. s ≡ self.now) }
     {
+        let mut ranges = IndexMap::with_capacity(alloc, self.ranges.len())?;
+        ranges.extend(&self.ranges)?;
         Ok(Summary {
             count: self.count,
-            locations: Vec::from_slice(alloc, &self.locations)?,
-            bounds: Vec::from_slice(alloc, &self.bounds)?,
+            ranges,
         })
     }
 }

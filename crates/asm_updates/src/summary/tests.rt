@@ -1,8 +1,12 @@
-ghost use Rattle.std.specs.Prelude.{◌≡◌, IfOk};
+ghost use Rattle.std.specs.Prelude.{◌≡◌, ◌<◌, IfOk};
 
 use super::*;
 use asm_state::number::Number;
 use std::test::Fail;
+
+mod faults;
+
+const LOCATIONS: usize = 64;
 
 const ONE: Value = Value::Number(Number { value: 1 });
 
@@ -16,9 +20,9 @@ const FIVE: Value = Value::Number(Number { value: 5 });
 
 /// The summary {0: (1, 1), 1: (2, 2)}.
 fn earlier(alloc: Global) -> Result<Summary, AllocError>
-    ensures { IfOk result (λ s. s.count ≡ 8) }
+    ensures { IfOk result (λ s. s.count ≡ LOCATIONS) }
 {
-    let mut summary = Summary::new(alloc, 8);
+    let mut summary = Summary::new(alloc, LOCATIONS);
     summary.add(1, TWO, TWO)?;
     summary.add(0, ONE, ONE)?;
     Ok(summary)
@@ -26,23 +30,35 @@ fn earlier(alloc: Global) -> Result<Summary, AllocError>
 
 /// The summary {1: (5, 5), 2: (3, 4)}.
 fn later(alloc: Global) -> Result<Summary, AllocError>
-    ensures { IfOk result (λ s. s.count ≡ 8) }
+    ensures { IfOk result (λ s. s.count ≡ LOCATIONS) }
 {
-    let mut summary = Summary::new(alloc, 8);
+    let mut summary = Summary::new(alloc, LOCATIONS);
     summary.add(2, THREE, FOUR)?;
     summary.add(1, FIVE, FIVE)?;
     Ok(summary)
 }
 
 #[test]
-fn a_later_set_has_its_values(rt: HostRuntime) -> Result<(), Fail> {
+fn turbo_merge(rt: HostRuntime) -> Result<(), Fail> {
     let mut summary = earlier(rt.alloc())?;
     summary.then(&later(rt.alloc())?)?;
     assert_eq!(rt; summary.len(), 3);
-    assert!(rt; summary.entry_at(0) == (0, ONE, ONE));
-    assert!(rt; summary.entry_at(1) == (1, FIVE, FIVE));
-    assert!(rt; summary.entry_at(2) == (2, THREE, FOUR));
+    assert!(rt; summary.get(0) == Some((ONE, ONE)));
+    assert!(rt; summary.get(1) == Some((FIVE, FIVE)));
+    assert!(rt; summary.get(2) == Some((THREE, FOUR)));
     assert!(rt; summary.get(3) == None);
+    Ok(())
+}
+
+#[test]
+fn entries_rise_once_they_are_sorted(rt: HostRuntime) -> Result<(), Fail> {
+    let mut summary = later(rt.alloc())?;
+    summary.union(&earlier(rt.alloc())?)?;
+    summary.sort()?;
+    assert_eq!(rt; summary.len(), 3);
+    assert!(rt; summary.entry_at(0) == (0, ONE, ONE));
+    assert!(rt; summary.entry_at(1) == (1, TWO, FIVE));
+    assert!(rt; summary.entry_at(2) == (2, THREE, FOUR));
     Ok(())
 }
 
@@ -69,52 +85,11 @@ fn a_copy_has_the_same_entries(rt: HostRuntime) -> Result<(), Fail> {
     Ok(())
 }
 
-#[test]
-fn the_first_fault_is_found(rt: HostRuntime) -> Result<(), Fail> {
-    let initial = vec![in rt.alloc(); Value::Undef; 4]?;
-    let signature = Signature::build(initial);
-    let mut state = State::initial(rt.alloc(), &signature)?;
-    let mut summary = earlier(rt.alloc())?;
-    assert!(rt; summary.first_fault(&signature) == Some(Fault::Outside { function: 0 }));
-    summary.clear();
-    summary.add(4, FIVE, FIVE)?;
-    assert!(rt; summary.first_fault(&signature) == None);
-    summary.fire_into(&mut state);
-    assert!(rt; state.content(4) == FIVE);
-    assert!(rt; state.content(2) == Value::Undef);
-    summary.union(&later(rt.alloc())?)?;
-    summary.add(2, ONE, ONE)?;
-    assert!(rt; summary.first_fault(&signature) == Some(Fault::Outside { function: 0 }));
-    summary.clear();
-    summary.add(4, FIVE, FIVE)?;
-    summary.add(2, ONE, THREE)?;
-    let clash = Fault::Clash {
-        location: 2,
-        low: ONE,
-        high: THREE,
-    };
-    assert!(rt; summary.first_fault(&signature) == Some(clash));
-    Ok(())
-}
-
-#[test]
-fn firing_makes_a_new_state(rt: HostRuntime) -> Result<(), Fail> {
-    let initial = vec![in rt.alloc(); Value::Undef; 4]?;
-    let signature = Signature::build(initial);
-    let state = State::initial(rt.alloc(), &signature)?;
-    let summary = earlier(rt.alloc())?;
-    let next = summary.fire(rt.alloc(), &signature, &state)?;
-    assert!(rt; next.content(0) == ONE);
-    assert!(rt; next.content(2) == Value::Undef);
-    assert!(rt; state.content(0) == Value::Undef);
-    Ok(())
-}
-
 /// Even locations from 0 on, each with the value 1.
 fn evens(alloc: Global) -> Result<Summary, AllocError>
-    ensures { IfOk result (λ s. s.count ≡ 64) }
+    ensures { IfOk result (λ s. s.count ≡ LOCATIONS) }
 {
-    let mut summary = Summary::new(alloc, 64);
+    let mut summary = Summary::new(alloc, LOCATIONS);
     for i in 0..32 {
         summary.add(2 * i, ONE, ONE)?;
     }
@@ -123,9 +98,9 @@ fn evens(alloc: Global) -> Result<Summary, AllocError>
 
 /// Every third location from 0 on, each with the value 2, from the last one down.
 fn thirds(alloc: Global) -> Result<Summary, AllocError>
-    ensures { IfOk result (λ s. s.count ≡ 64) }
+    ensures { IfOk result (λ s. s.count ≡ LOCATIONS) }
 {
-    let mut summary = Summary::new(alloc, 64);
+    let mut summary = Summary::new(alloc, LOCATIONS);
     for i in 0..22 {
         summary.add(63 - 3 * i, TWO, TWO)?;
     }
@@ -137,7 +112,7 @@ fn large_sets_are_united(rt: HostRuntime) -> Result<(), Fail> {
     let mut summary = evens(rt.alloc())?;
     summary.union(&thirds(rt.alloc())?)?;
     assert_eq!(rt; summary.len(), 43);
-    for n in 0..64usize {
+    for n in 0..LOCATIONS {
         let expected = match (n % 2, n % 3) {
             (0, 0) => Some((ONE, TWO)),
             (0, _) => Some((ONE, ONE)),
@@ -154,7 +129,7 @@ fn large_sets_are_merged(rt: HostRuntime) -> Result<(), Fail> {
     let mut summary = evens(rt.alloc())?;
     summary.then(&thirds(rt.alloc())?)?;
     assert_eq!(rt; summary.len(), 43);
-    for n in 0..64usize {
+    for n in 0..LOCATIONS {
         let expected = match (n % 2, n % 3) {
             (_, 0) => Some((TWO, TWO)),
             (0, _) => Some((ONE, ONE)),
@@ -162,5 +137,63 @@ fn large_sets_are_merged(rt: HostRuntime) -> Result<(), Fail> {
         };
         assert!(rt; summary.get(n) == expected);
     }
+    Ok(())
+}
+
+/// Whether two summaries have the same entries.
+fn are_alike(a: &Summary, b: &Summary) -> bool {
+    for n in 0..LOCATIONS {
+        if a.get(n) != b.get(n) {
+            return false;
+        }
+    }
+    a.len() == b.len()
+}
+
+/// Adds a location. The answer is whether it is there, or a refusal left the entries as they were.
+fn adds_or_leaves(alloc: Global, summary: &mut Summary, n: usize) -> Result<bool, AllocError>
+    requires { n < summary.old.count }
+    ensures { summary.new.count ≡ summary.old.count }
+{
+    let before = summary.copy(alloc)?;
+    let added = summary.add(n, ONE, TWO);
+    Ok(added.is_ok() || are_alike(summary, &before))
+}
+
+// The next tests say more where memory is refused: `rt try --test --fail-alloc N`.
+
+#[test]
+fn a_refused_add_leaves_the_entries(rt: HostRuntime) -> Result<(), Fail> {
+    let mut summary = Summary::new(rt.alloc(), LOCATIONS);
+    for n in 0..8 {
+        assert!(rt; adds_or_leaves(rt.alloc(), &mut summary, n)?);
+    }
+    Ok(())
+}
+
+#[test]
+fn a_refused_union_leaves_the_entries(rt: HostRuntime) -> Result<(), Fail> {
+    let mut summary = earlier(rt.alloc())?;
+    let before = summary.copy(rt.alloc())?;
+    let united = summary.union(&evens(rt.alloc())?);
+    assert!(rt; united.is_ok() || are_alike(&summary, &before));
+    Ok(())
+}
+
+#[test]
+fn a_refused_merge_leaves_the_entries(rt: HostRuntime) -> Result<(), Fail> {
+    let mut summary = earlier(rt.alloc())?;
+    let before = summary.copy(rt.alloc())?;
+    let merged = summary.then(&evens(rt.alloc())?);
+    assert!(rt; merged.is_ok() || are_alike(&summary, &before));
+    Ok(())
+}
+
+#[test]
+fn a_refused_sort_leaves_the_entries(rt: HostRuntime) -> Result<(), Fail> {
+    let mut summary = later(rt.alloc())?;
+    let before = summary.copy(rt.alloc())?;
+    let sorted = summary.sort();
+    assert!(rt; sorted.is_ok() || are_alike(&summary, &before));
     Ok(())
 }

@@ -8,18 +8,18 @@ use Rattle.asm_run.proofs.Forming.{forms_more}
 use Rattle.asm_run.proofs.evaluate.form.Goals as goal
 
 pub loop-assignment-init : goal.loop-assignment-init
-loop-assignment-init c = record { same_count = refl; formed = λ shape U stands. subst (Stands shape c.args.set.now) (sym (right_unit U)) stands }
+loop-assignment-init c = record { same_count = refl; formed = λ shape U flat stands. subst (Stands shape c.args.set.now) (sym (right_unit U)) stands }
 
 pub loop-assignment-preserved : goal.loop-assignment-preserved
 loop-assignment-preserved c = record {
   same_count = c.in_ok-add.ensures.count ∙ c.loop-assignment.invariant.same_count;
-  formed = λ shape U stands.
+  formed = λ shape U flat stands.
       forms_more shape c.add.new.self U c.args.state.now c.args.assignments.now c.loop-assignment.assignment-index c.assignment-item.result c.value_of_sum-value.result
-      c.loop-assignment-test.true c.assignment-item.is c.value_of_sum-value.ensures
-      (c.in_ok-add.ensures.value shape _ refl (c.loop-assignment.invariant.formed shape U stands));
+      flat (sym c.requires.count ∙ stands.has_count) c.requires.below c.loop-assignment-test.true c.assignment-item.is c.value_of_sum-value.ensures
+      (c.in_ok-add.ensures.value shape _ refl (c.loop-assignment.invariant.formed shape U flat stands));
 }
 
 pub returns-clause-set : goal.returns-clause-set
-returns-clause-set c shape U stands =
+returns-clause-set c shape U flat stands =
     let whole : take c.loop-assignment.assignment-index c.args.assignments.now ≡ c.args.assignments.now = take_all _ _ (omega arith) in
-    subst (λ done. Stands shape c.loop-assignment.set (together U (update_set c.args.state.now done))) whole (c.loop-assignment.invariant.formed shape U stands)
+    subst (λ done. Stands shape c.loop-assignment.set (together U (update_set c.args.state.now done))) whole (c.loop-assignment.invariant.formed shape U flat stands)

@@ -1,15 +1,17 @@
 use Rattle.std.proofs.Common.{◌+◌, arith, ◌∙◌, rules}
 use Rattle.std.proofs.lemmas.Result.{err_from_is_err_and}
 use Rattle.asm_run.proofs.Running.{begins, out_of_memory, at_limit, at_fault, cut, goes_on}
+use Rattle.asm_run.proofs.Stepping.{two_each}
 use Rattle.asm_run.proofs.steps.run_steps.Goals as goal
 
 pub loop-made-init : goal.loop-made-init
 loop-made-init g c =
     begins c.args.names.now c.args.signature.now c.args.assignments.now c.args.steps c.in_ok-state.state _ _ _
     (record {
+      flat = c.requires.flat;
       names_fit = c.requires.names;
       contents_fit = c.in_ok-state.ensures.whole;
-      set_fits = c.new-set.ensures.count ∙ c.count.ensures;
+      set_fits = c.new-set.ensures.count ∙ c.count.ensures.count;
       few = c.requires.few;
     })
     c.in_ok-state.ensures.initial c.requires.open
@@ -40,3 +42,11 @@ pub returns : goal.returns
 returns g c =
     at_limit c.args.names.now c.args.signature.now c.args.assignments.now c.args.steps c.loop-made.made c.loop-made.state c.loop-made.set.count _ _ _ c.loop-made.invariant
     _ _ c.finish_at_limit.result c.loop-made-test.false c.finish_at_limit.ensures
+
+pub finish_at_fault-requires-clause-whole : goal.finish_at_fault-requires-clause-whole
+finish_at_fault-requires-clause-whole g c =
+    two_each c.args.names.now c.args.signature.now c.make_step.new.state c.make_step.new.set.count c.in_ok-fault.ensures.sized
+
+pub finish_at_limit-requires-clause-whole : goal.finish_at_limit-requires-clause-whole
+finish_at_limit-requires-clause-whole g c =
+    two_each c.args.names.now c.args.signature.now c.loop-made.state c.loop-made.set.count c.loop-made.invariant.sized

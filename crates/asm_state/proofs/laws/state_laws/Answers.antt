@@ -1,4 +1,4 @@
-use Rattle.asm_state.proofs.Locations.{state_laws}
+use Rattle.asm_state.proofs.StatesByNumbers.{state_laws}
 use Rattle.asm_state.proofs.laws.state_laws.Goals as goal
 
 pub returns : goal.returns

@@ -1,42 +1,32 @@
-use Rattle.std.proofs.Common.{◌<◌, ◌≤◌, length, sym, subst, ap, ◌∙◌, below_more, arith}
-use Rattle.asm_state.specs.Signature.{location_at}
-use Rattle.asm_state.specs.UpdateLaws.{IsSettled}
-use Rattle.asm_updates.specs.Entries.{Entries, found}
-use Rattle.asm_updates.specs.Stands.{Stands}
-use Rattle.asm_updates.proofs.Found.{entry_here}
-use Rattle.asm_updates.proofs.Faults.{consistent, settled_everywhere, settled_below, first_fault_is}
+use Rattle.std.proofs.Common.{◌≡◌, None, subst, arith, rules}
+use Rattle.std.proofs.lemmas.Option.{MatchOption-at_none}
+use Rattle.asm_updates.proofs.Faults.{IsSoFar, fault_so_far, settled_so_far, all_consistent, all_first}
 use Rattle.asm_updates.proofs.summary.Summary.first_fault.Goals as goal
+use Rattle.asm_updates.proofs.summary.Summary.first_fault.Goals.{else-n-end-via-else-n-end, else-n-end-via-then-n-end+in-None-1}
 
-pub fault_at-requires : goal.fault_at-requires
-fault_at-requires c =
-    let within : c.loop-i.i < length c.self.inside.locations.items = omega (arith, c.self.inside.locations.ok.0, c.len-i-end.ensures) in
-    let is = entry_here _ _ _ c.self.invariant c.loop-i.i within _ c.index-in-loop-i.ensures _ c.index.ensures in
-    subst (λ m. c.index-in-loop-i.result.now < m) (ap (λ (s : Entries). s.count) c.self.view_is ∙ c.requires) is.in_range
+pub loop-n-preserved-in-loop-n : goal.loop-n-preserved-in-loop-n
+loop-n-preserved-in-loop-n c =
+    fault_so_far c.args.signature.now c.args.self.now _ _ _ _ _
+    (subst (λ es. IsSoFar c.args.signature.now c.args.self.now es c.loop-n.end c.loop-n.first) c.in-Some.ensures.steps c.loop-n.invariant)
+    c.in-Some-fault_at.fault c.if-n-end.true c.in-Some-fault_at.ensures.fault
 
-pub loop-i-preserved : goal.loop-i-preserved
-loop-i-preserved c =
-    let within : c.loop-i.i < length c.self.inside.locations.items = omega (arith, c.self.inside.locations.ok.0, c.len-i-end.ensures) in
-    let is = entry_here _ _ _ c.self.invariant c.loop-i.i within _ c.index-in-loop-i.ensures _ c.index.ensures in
-    below_more _ _ c.loop-i.invariant
-    (subst (λ n. IsSettled (location_at c.args.signature.now n) (found c.self.inside.locations.items c.self.inside.bounds.items n)) (sym is.here)
-    (subst (IsSettled (location_at c.args.signature.now c.index-in-loop-i.result.now)) (sym is.stands) c.in_default.ensures.settled))
-
-pub returns-in-Some-clause-first : goal.returns-in-Some-clause-first
-returns-in-Some-clause-first c = λ U stands.
-    let within : c.loop-i.i < length c.self.inside.locations.items = omega (arith, c.self.inside.locations.ok.0, c.len-i-end.ensures) in
-    let is = entry_here _ _ _ c.self.invariant c.loop-i.i within _ c.index-in-loop-i.ensures _ c.index.ensures in
-    let s : Entries = record { count = c.self.inside.count; locations = c.self.inside.locations.items; bounds = c.self.inside.bounds.items } in
-    let here : Stands c.args.signature.now s U = subst (λ x. Stands c.args.signature.now x U) (sym c.self.view_is) stands in
-    first_fault_is c.args.signature.now s U _ _ _ c.in-Some.fault here
-    (subst (λ m. c.index-in-loop-i.result.now < m) here.has_count is.in_range)
-    (λ m less. settled_below c.args.signature.now s.count s.locations s.bounds c.loop-i.i c.self.invariant within c.loop-i.invariant m (subst (λ n. m < n) (sym is.here) less))
-    is.stands
-    c.in-Some.ensures.fault
+pub loop-n-preserved : goal.loop-n-preserved
+loop-n-preserved c =
+    settled_so_far c.args.signature.now c.args.self.now _ _ _ _ _
+    (subst (λ es. IsSoFar c.args.signature.now c.args.self.now es c.loop-n.end c.loop-n.first) c.in-Some.ensures.steps c.loop-n.invariant)
+    (λ less. elim c.else-n-end.branch [
+      | else-n-end-via-else-n-end w ↦ absurd (omega (arith, w.if-n-end.false))
+      | else-n-end-via-then-n-end+in-None-1 w ↦
+          let none : w.fault_at.result ≡ None = search rules in
+          MatchOption-at_none _ _ none w.fault_at.ensures.settled
+    ])
 
 pub returns-clause-consistent : goal.returns-clause-consistent
-returns-clause-consistent c = λ U stands.
-    let s : Entries = record { count = c.self.inside.count; locations = c.self.inside.locations.items; bounds = c.self.inside.bounds.items } in
-    let here : Stands c.args.signature.now s U = subst (λ x. Stands c.args.signature.now x U) (sym c.self.view_is) stands in
-    let passed : length s.locations ≤ c.loop-i.i = omega (arith, c.self.inside.locations.ok.0, c.len-i-end.ensures) in
-    consistent c.args.signature.now s U here
-    (λ n below. settled_everywhere c.args.signature.now s.locations s.bounds (λ k h. c.loop-i.invariant k (omega arith)) n)
+returns-clause-consistent c =
+    all_consistent c.args.signature.now c.args.self.now c.loop-n.end c.loop-n.first c.requires
+    (subst (λ es. IsSoFar c.args.signature.now c.args.self.now es c.loop-n.end c.loop-n.first) c.in-None.ensures.steps.0 c.loop-n.invariant)
+
+pub returns-clause-first : goal.returns-clause-first
+returns-clause-first c =
+    all_first c.args.signature.now c.args.self.now c.loop-n.end c.loop-n.first c.requires
+    (subst (λ es. IsSoFar c.args.signature.now c.args.self.now es c.loop-n.end c.loop-n.first) c.in-None.ensures.steps.0 c.loop-n.invariant)

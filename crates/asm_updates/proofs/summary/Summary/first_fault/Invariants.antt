@@ -1,10 +1,6 @@
-use Rattle.std.proofs.Common.{ℕ, ◌<◌, get_or}
-use Rattle.asm_state.specs.Signature.{location_at}
-use Rattle.asm_state.specs.UpdateLaws.{IsSettled}
-use Rattle.asm_updates.specs.Entries.{found}
+use Rattle.asm_updates.proofs.Faults.{IsSoFar}
 use Rattle.asm_updates.proofs.summary.Summary.first_fault.Given as goal
 
--- the locations so far have no fault
-abbrev pub invariant-loop-i : goal.invariant-loop-i
-invariant-loop-i l =
-    (k : ℕ) → k < l.i → IsSettled (location_at l.signature (get_or l.self-inside.locations.items k 0)) (found l.self-inside.locations.items l.self-inside.bounds.items (get_or l.self-inside.locations.items k 0))
+-- the locations so far have no fault below the end, where the first fault is
+abbrev pub invariant-loop-n : goal.invariant-loop-n
+invariant-loop-n l = IsSoFar l.signature l.self l.n-iterator l.end l.first

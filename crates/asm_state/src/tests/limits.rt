@@ -1,0 +1,171 @@
+//! What still fits into a signature, and what doesn't.
+use super::*;
+
+/// The domains of functions, and whether they fit.
+type Domains = (&'static [&'static [usize]], bool);
+
+/// Controlled functions: 4,096 locations over universe 0, 4,097 over universe 1, the stray one alone over universe 2,
+/// and two without arguments.
+static CONTROLLED: [Domains; 16] = [
+    (&[], true),
+    (&[&[]], true),
+    (&[&[1]], true),
+    // From 16,384 locations on.
+    (&[&[0], &[0], &[0], &[0]], true),
+    (&[&[0], &[0], &[0], &[0], &[2]], false),
+    (&[&[0], &[0], &[0], &[0], &[]], false),
+    (&[&[1], &[1], &[1]], true),
+    (&[&[1], &[1], &[1], &[1]], false),
+    (&[&[3, 3]], false),
+    (&[&[1, 1, 1, 1]], false),
+    // Universes in a domain.
+    (&[&[4, 4, 4, 4]], true),
+    (&[&[4, 4, 4, 4, 4]], false),
+    (&[&[2, 2, 2, 2]], true),
+    (&[&[2, 2, 2, 2, 2]], false),
+    // Universes that aren't there.
+    (&[&[5]], false),
+    (&[&[], &[4, 5]], false),
+];
+
+/// Static functions: 4,096 argument lists over universe 1, none over universe 2, and one without arguments.
+static STATIC: [Domains; 8] = [
+    // From 16,384 argument lists on.
+    (&[&[1], &[1], &[1], &[1]], true),
+    (&[&[1], &[1], &[1], &[1], &[2]], true),
+    (&[&[1], &[1], &[1], &[1], &[]], false),
+    (&[&[3, 3]], true),
+    (&[&[3, 3], &[]], false),
+    (&[&[1, 1, 1, 1]], false),
+    (&[&[4, 4, 4, 4, 4]], false),
+    (&[&[5]], false),
+];
+
+/// The argument lists of a table over the numbers from 0 to 2, and whether it fits.
+static TABLES: [(&[&[u16]], bool); 14] = [
+    (&[], true),
+    (&[&[0], &[1], &[2]], true),
+    (&[&[2], &[1], &[0]], true),
+    (&[&[1], &[2], &[0]], true),
+    // Outside the domain, also behind an entry within it.
+    (&[&[3]], false),
+    (&[&[0], &[3]], false),
+    // Other numbers of arguments.
+    (&[&[]], false),
+    (&[&[1, 1]], false),
+    (&[&[0], &[1, 1]], false),
+    // Repeated lists: next to one another, and apart.
+    (&[&[1], &[1]], false),
+    (&[&[0], &[1], &[0]], false),
+    (&[&[1], &[0], &[1]], false),
+    (&[&[2], &[1], &[0], &[1]], false),
+    (&[&[2], &[1], &[0], &[2]], false),
+];
+
+fn universes_of(alloc: Global) -> Result<Vec<Universe>, AllocError> {
+    Ok(vec![in alloc;
+        Universe::elements(0, 4095),
+        Universe::elements(0, 4096),
+        Universe::range(Number { value: 5 }, Number { value: 4 }),
+        Universe::elements(4096, 128),
+        Universe::range(Number { value: 0 }, Number { value: 1 }),
+    ]?)
+}
+
+/// Adds a function of one kind for each domain, which has no value but `Undef`.
+fn push_functions(
+    alloc: Global,
+    kind: Kind,
+    domains: &[&[usize]],
+    functions: &mut Vec<Function>,
+) -> Result<(), AllocError> {
+    for domain in domains {
+        functions.push(function_of(alloc, kind, domain, Table::Same(Value::Undef))?)?;
+    }
+    Ok(())
+}
+
+#[test]
+fn as_many_locations_and_lists_as_fit(rt: HostRuntime) -> Result<(), Fail> {
+    let alloc = rt.alloc();
+    let universes = universes_of(alloc)?;
+    for (domains, expected) in CONTROLLED {
+        let mut functions = Vec::new(alloc);
+        push_functions(alloc, Kind::Controlled, domains, &mut functions)?;
+        assert_eq!(rt; fits(&universes, &functions), expected, "{domains:?}");
+    }
+    for (domains, expected) in STATIC {
+        let mut functions = Vec::new(alloc);
+        push_functions(alloc, Kind::Static, domains, &mut functions)?;
+        assert_eq!(rt; fits(&universes, &functions), expected, "{domains:?}");
+    }
+    let mut functions = Vec::new(alloc);
+    push_functions(
+        alloc,
+        Kind::Controlled,
+        &[&[0], &[0], &[0], &[0]],
+        &mut functions,
+    )?;
+    push_functions(
+        alloc,
+        Kind::Static,
+        &[&[1], &[1], &[1], &[1]],
+        &mut functions,
+    )?;
+    let signature = signature_of(alloc, universes, functions)?;
+    assert_eq!(rt; signature.count(), 16_384);
+    assert_eq!(rt; number_of(&signature, 3, &[element(4094)]), Some(16_382));
+    assert!(rt; is_stray(alloc, &signature, 16_383, 3)?);
+    assert!(rt; given(&signature, 7, &[element(4095)]) == Some(Value::Undef));
+    Ok(())
+}
+
+#[test]
+fn as_many_universes_as_fit(rt: HostRuntime) -> Result<(), Fail> {
+    let alloc = rt.alloc();
+    let mut universes = Vec::new(alloc);
+    for _ in 0..64 {
+        universes.push(Universe::elements(0, 1))?;
+    }
+    assert!(rt; fits(&universes, &[]));
+    universes.push(Universe::elements(0, 1))?;
+    assert!(rt; !fits(&universes, &[]));
+    Ok(())
+}
+
+#[test]
+fn as_many_functions_as_fit(rt: HostRuntime) -> Result<(), Fail> {
+    let alloc = rt.alloc();
+    let mut functions = Vec::new(alloc);
+    for _ in 0..256 {
+        push_functions(alloc, Kind::Static, &[&[]], &mut functions)?;
+    }
+    assert!(rt; fits(&[], &functions));
+    push_functions(alloc, Kind::Static, &[&[]], &mut functions)?;
+    assert!(rt; !fits(&[], &functions));
+    Ok(())
+}
+
+/// Whether a table over the numbers from 0 to 2 fits, which has the value 5 for these lists of numbers.
+fn table_fits(alloc: Global, lists: &[&[u16]]) -> Result<bool, AllocError> {
+    let mut entries = Vec::new(alloc);
+    for list in lists {
+        let mut arguments = Vec::new(alloc);
+        for argument in *list {
+            arguments.push(number(*argument))?;
+        }
+        entries.push((Arguments::new(arguments), number(5)))?;
+    }
+    let table = Table::Entries(Entries::new(entries));
+    let universes = vec![in alloc; Universe::range(Number { value: 0 }, Number { value: 2 })]?;
+    let functions = vec![in alloc; function_of(alloc, Kind::Static, &[0], table)?]?;
+    Ok(fits(&universes, &functions))
+}
+
+#[test]
+fn tables_with_entries_in_the_domain_and_apart(rt: HostRuntime) -> Result<(), Fail> {
+    for (lists, expected) in TABLES {
+        assert_eq!(rt; table_fits(rt.alloc(), lists)?, expected, "{lists:?}");
+    }
+    Ok(())
+}

@@ -1,0 +1,189 @@
+//! Universes: enumerations and ranges.
+ghost use Rattle.std.specs.Prelude.{◌≡◌, ◌+◌, ◌≤◌, ◌<◌, Some, IfSome, length, slice_get};
+ghost use Rattle.std.specs.List.{position};
+ghost use Rattle.asm_state.specs.Operation.{is_same};
+ghost use Rattle.asm_state.specs.Universe.{elements, count_between, numbers_between, IsUniverse};
+ghost use Rattle.asm_state.specs.UniverseView.{first_code, IsFirst};
+
+use crate::element::Element;
+use crate::number::Number;
+use crate::value::Value;
+use std::marker::Model;
+
+/// The first value of a universe.
+#[derive(Clone, Copy, Debug)]
+enum First {
+    Element(u32),
+    Number(i64),
+}
+
+impl First {
+    /// The code of the value.
+    fn code(self) -> u64
+        requires { IsFirst self }
+        ensures { result ≡ first_code self }
+    {
+        match self {
+            First::Element(index) => 2_000_000_000_000_005 + index as u64,
+            First::Number(value) => (value + 1_000_000_000_000_004) as u64,
+        }
+    }
+}
+
+/// The elements of an enumeration or the numbers of a range, in order. A value's position counts from 0.
+#[derive(Debug, Drop)]
+pub struct Universe {
+    first: First,
+    count: usize,
+}
+
+impl Model for Universe {
+    ghost use Rattle.std.specs.Prelude.{List};
+    ghost use Rattle.asm_state.specs.declared.value.Value.{Value as Member};
+
+    ghost Value = { List Member };
+
+    ghost use Rattle.asm_state.specs.UniverseView.{values_from, IsWithin};
+
+    ghost view = { λ u. values_from u.first u.count };
+
+    ghost invariant = { λ u. IsWithin u.first u.count };
+}
+
+impl Universe {
+    /// The elements from the number `first` on. Elements are numbered through over all enumerations.
+    pub fn elements(first: u32, count: usize) -> Universe
+        requires few { count ≤ 4096 }
+        requires in_range { first + count ≤ 262_144 }
+        ensures { result ≡ elements first count }
+    {
+        Universe {
+            first: First::Element(first),
+            count,
+        }
+    }
+
+    /// The numbers from the first to the last, both among them. There are none where the last is below the first.
+    pub fn range(first: Number, last: Number) -> Universe
+        requires few { count_between first.value last.value ≤ 4096 }
+        ensures { result ≡ numbers_between first.value last.value }
+    {
+        let count = if first.value <= last.value {
+            (last.value - first.value) as usize + 1
+        } else {
+            0
+        };
+        Universe {
+            first: First::Number(first.value),
+            count,
+        }
+    }
+
+    /// How many values there are.
+    pub fn size(&self) -> usize
+        ensures size { result ≡ length self.now }
+        ensures few { result ≤ 4096 }
+        ensures sound { IsUniverse self.now }
+    {
+        self.count
+    }
+
+    /// The value at a position.
+    pub fn element(&self, i: usize) -> Value
+        requires { i < length self.now }
+        ensures { slice_get self.now i ≡ Some result }
+    {
+        match self.first {
+            First::Element(index) => Value::Element(Element {
+                index: index + i as u32,
+            }),
+            First::Number(value) => Value::Number(Number {
+                value: value + i as i64,
+            }),
+        }
+    }
+
+    /// The position of a value, if the universe has it.
+    pub fn position(&self, value: Value) -> Option<usize>
+        ensures position { result ≡ position (is_same value) self.now }
+        ensures few { IfSome result (λ i. i < 4096) }
+    {
+        let first = self.first.code();
+        let code = value.code();
+        if first <= code && code - first < self.count as u64 {
+            Some((code - first) as usize)
+        } else {
+            None
+        }
+    }
+}
+
+#[cfg(test)]
+mod tests {
+    use super::*;
+    use crate::number::LARGEST;
+
+    #[test]
+    fn no_numbers_where_the_last_is_below_the_first(rt: HostRuntime) {
+        let universe = Universe::range(Number { value: 5 }, Number { value: 4 });
+        assert_eq!(rt; universe.size(), 0);
+        let values = [
+            Value::Undef,
+            Value::Number(Number { value: 4 }),
+            Value::Number(Number { value: 5 }),
+        ];
+        for value in values {
+            assert!(rt; universe.position(value) == None);
+        }
+    }
+
+    #[test]
+    fn numbers_of_a_range(rt: HostRuntime) {
+        let universe = Universe::range(Number { value: 0 }, Number { value: 3 });
+        assert_eq!(rt; universe.size(), 4);
+        assert!(rt; universe.element(3) == Value::Number(Number { value: 3 }));
+        assert!(rt; universe.position(Value::Number(Number { value: 3 })) == Some(3));
+        assert!(rt; universe.position(Value::Number(Number { value: 9 })) == None);
+        assert!(rt; universe.position(Value::Number(Number { value: -1 })) == None);
+        assert!(rt; universe.position(Value::Element(Element { index: 0 })) == None);
+    }
+
+    #[test]
+    fn the_least_number_alone(rt: HostRuntime) {
+        let least = Number { value: -LARGEST };
+        let universe = Universe::range(least, least);
+        assert_eq!(rt; universe.size(), 1);
+        assert!(rt; universe.element(0) == Value::Number(least));
+        assert!(rt; universe.position(Value::Number(least)) == Some(0));
+        assert!(rt; universe.position(Value::Truth(true)) == None);
+    }
+
+    #[test]
+    fn the_last_elements(rt: HostRuntime) {
+        let universe = Universe::elements(262_140, 4);
+        assert_eq!(rt; universe.size(), 4);
+        let last = Value::Element(Element { index: 262_143 });
+        assert!(rt; universe.element(3) == last);
+        assert!(rt; universe.position(last) == Some(3));
+        let before = Value::Element(Element { index: 262_139 });
+        assert!(rt; universe.position(before) == None);
+    }
+
+    #[test]
+    fn no_elements(rt: HostRuntime) {
+        let universe = Universe::elements(3, 0);
+        assert_eq!(rt; universe.size(), 0);
+        assert!(rt; universe.position(Value::Element(Element { index: 3 })) == None);
+    }
+
+    #[test]
+    fn as_many_elements_as_there_can_be(rt: HostRuntime) {
+        let universe = Universe::elements(10, 4096);
+        assert_eq!(rt; universe.size(), 4096);
+        let last = Value::Element(Element { index: 4105 });
+        assert!(rt; universe.element(4095) == last);
+        assert!(rt; universe.position(last) == Some(4095));
+        let after = Value::Element(Element { index: 4106 });
+        assert!(rt; universe.position(after) == None);
+    }
+}
