@@ -155,7 +155,8 @@ impl Summary {
         ensures entries { (n : ℕ) → entry self.new n ≡ None }
         ensures empty { (shape : Shape) → IsSound shape → self.old.count ≡ count_of shape → Stands shape self.new none }
     {
-        self.ranges.clear();
+        // Costs what the set holds; `clear` of the map costs what there is room for.
+        self.ranges.truncate(0);
     }
 
     /// The fault at the least faulty location.
