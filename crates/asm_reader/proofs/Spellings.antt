@@ -1,31 +1,40 @@
--- What the tokens of a text spell.
-use Rattle.std.proofs.Common.{◌≡◌, ℕ, List, length, Option, Some, None, Result, Ok, Err, IfOk, IfNone, subst, sym, ◌∙◌}
-use Rattle.asm_syntax.specs.Tokens.{AreTokens}
+-- What the tokens of a text spell, by the reader of specifications.
+use Rattle.std.proofs.Common.{◌≡◌, ℕ, suc, ◌<◌, ◌≤◌, List, length, get_or, Ok, Err}
+use Rattle.asm_syntax.specs.declared.refused.Refused.{Refused}
+use Rattle.asm_syntax.specs.declared.refused.Refused.TheVariants.{Named}
 use Rattle.asm_syntax.specs.declared.token.Token.{Token}
 use Rattle.asm_syntax.specs.Placed as placed
 use Rattle.asm_reader.specs.declared.error.ReadError.{ReadError}
-use Rattle.asm_reader.specs.Grammar.{specification}
-use Rattle.asm_reader.specs.Specification.{max_nesting, AreSpelling, IsSpecification}
+use Rattle.asm_reader.specs.Parts.{Part}
+use Rattle.asm_reader.specs.TermGrammar.{term_within}
+use Rattle.asm_reader.specs.RuleGrammar.{rule_within}
+use Rattle.asm_reader.specs.Grammar.{specification_over, specification}
+use Rattle.asm_reader.specs.Specification.{max_nesting, AreSpelling}
 use Rattle.asm_reader.specs.Reading.{specification_at}
+use Rattle.asm_reader.specs.Refusals.{IsUnexpected, ExplainsTokens}
 use Rattle.asm_reader.proofs.ItemExact.{items_more, exact_specification}
-use Rattle.asm_reader.proofs.Whole.{ends_here, goes_past, refuses, one_text}
+use Rattle.asm_reader.proofs.ItemWider.{wide_specification}
+use Rattle.asm_reader.proofs.Wider.{Includes}
+use Rattle.asm_reader.proofs.Whole.{ends_here, goes_past, explained}
+use Rattle.asm_reader.proofs.OneTree.{one_tree}
 
-module _ (text : List ℕ) (ts : List Token) where
-  pub spells_all : (s : placed.Spec) (rest : List Token) → specification_at text max_nesting ts ≡ Ok (s, rest) → length rest ≡ 0 → AreSpelling text ts s
-  spells_all = ends_here items_more (specification text) (specification_at text max_nesting) (exact_specification text max_nesting) ts
+module _ (text : List ℕ) where
+  -- the specifications whose terms and rules nest at most n + 1 levels deep
+  abbrev within : ℕ → Part placed.Spec
+  within n = specification_over text (term_within text (suc n)) (rule_within text (suc n))
 
-  pub spells_less : (s : placed.Spec) (rest : List Token) → specification_at text max_nesting ts ≡ Ok (s, rest) → ¬ (length rest ≡ 0) → (t : placed.Spec) → ¬ AreSpelling text ts t
-  spells_less = goes_past items_more (specification text) (specification_at text max_nesting) (exact_specification text max_nesting) ts
+  wide : (n : ℕ) → Includes (within n) (specification text)
+  wide = wide_specification text
 
-  pub spells_none : (e : ReadError) → specification_at text max_nesting ts ≡ Err e → (t : placed.Spec) → ¬ AreSpelling text ts t
-  spells_none = refuses items_more (specification text) (specification_at text max_nesting) (exact_specification text max_nesting) ts
+  pub one_tree_of_tokens : (ts : List Token) (s t : placed.Spec) → specification text ts s → specification text ts t → s ≡ t
+  one_tree_of_tokens = one_tree items_more within (specification text) (specification_at text) (exact_specification text)
 
-  pub spells_one : (s t : placed.Spec) → AreSpelling text ts s → AreSpelling text ts t → s ≡ t
-  spells_one = one_text items_more (specification text) (specification_at text max_nesting) (exact_specification text max_nesting) ts
+  module _ (ts : List Token) where
+    pub spells_all : (s : placed.Spec) (rest : List Token) → specification_at text max_nesting ts ≡ Ok (s, rest) → length rest < 1 → AreSpelling text ts s
+    spells_all = ends_here text items_more (within max_nesting) (wide max_nesting) (specification_at text max_nesting) (exact_specification text max_nesting) ts
 
--- a text whose only tokens spell no tree has no specification
-pub no_tree : {X E : Type 0} (text : List ℕ) (ts us : List Token) (r : Result (Option X) E) → ((vs : List Token) → AreTokens text vs → vs ≡ us) → ts ≡ us
-    → IfOk r (λ o. IfNone o ((t : placed.Spec) → ¬ AreSpelling text ts t)) → IfOk r (λ o. IfNone o ((t : placed.Spec) → ¬ IsSpecification text t))
-no_tree text ts us (Ok None) one e h = λ t k. h t (subst (λ (vs : List Token). AreSpelling text vs t) (one k.0 k.1 ∙ sym e) k.2)
-no_tree text ts us (Ok (Some x)) one e h = h
-no_tree text ts us (Err d) one e h = h
+    pub spells_less : (s : placed.Spec) (rest : List Token) (default : Token) → specification_at text max_nesting ts ≡ Ok (s, rest) → 1 ≤ length rest → IsUnexpected text ts (get_or rest 0 default).start
+    spells_less = goes_past text items_more (within max_nesting) (wide max_nesting) (specification_at text max_nesting) (exact_specification text max_nesting) ts
+
+    pub spells_none : (e : Refused ReadError) → ((reason : ReadError) → e ≡ Named reason → specification_at text max_nesting ts ≡ Err reason) → ExplainsTokens text ts e
+    spells_none = explained text items_more (within max_nesting) (wide max_nesting) (specification_at text max_nesting) (exact_specification text max_nesting) ts

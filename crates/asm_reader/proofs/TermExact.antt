@@ -1,279 +1,396 @@
--- The readers of names, terms and constants are exact.
-use Rattle.std.proofs.Common.{◌≡◌, ℕ, pos, Bool, true, false, List, [], ◌∷◌, Option, Some, None, refl, sym, ap, ◌∙◌, is_some, inl, inr}
-use Rattle.asm_state.specs.declared.number.Number.{Number as WholeNumber}
+-- The readers of names and terms are exact.
+use Rattle.std.proofs.Common.{◌≡◌, ℕ, zero, suc, Bool, true, false, List, [], ◌∷◌, None, refl, inl, inr}
+use Rattle.std.specs.Prelude.{option_to_list}
+use Rattle.asm_state.specs.declared.operation.Op.{Op}
 use Rattle.asm_syntax.specs.declared.token.Kind.{Kind}
 use Rattle.asm_syntax.specs.declared.token.Kind.TheVariants as kind
 use Rattle.asm_syntax.specs.declared.token.Kind.TheVariants.{Number, Symbol, Word}
-use Rattle.asm_syntax.specs.declared.token.Symbol.TheVariants.{Plus, Minus}
-use Rattle.asm_syntax.specs.declared.token.Word.TheVariants.{True, False, Undef}
+use Rattle.asm_syntax.specs.declared.token.Symbol.TheVariants.{Open, Close, Comma, Plus, Minus, Times, Equal, NotEqual, Less, AtMost, Greater, AtLeast}
+use Rattle.asm_syntax.specs.declared.token.Word.TheVariants.{Or, And, Not, Div, Mod, Exists, Forall, In, With, Holds, True, False, Undef}
 use Rattle.asm_syntax.specs.declared.token.Token.{Token}
 use Rattle.asm_syntax.specs.declared.term.Literal.TheVariants as literal
 use Rattle.asm_syntax.specs.Placed as placed
-use Rattle.asm_reader.specs.Kinds.{alike, is_one_of, looked_up, keys}
-use Rattle.asm_reader.specs.Levels.{Depth}
-use Rattle.asm_reader.specs.Parts.{Part, token, ◌then◌, ◌or◌, optional, ◌makes◌, signed, number_by, number, negative_number, choice, past}
-use Rattle.asm_reader.specs.Steps.{Reader, expect, pair_of, mapped, either_of, number_at, number_of_kind, choice_at, past_of}
-use Rattle.asm_reader.specs.Grammar as g
-use Rattle.asm_reader.specs.Grammar.{name_at_token, chain_of, constants}
-use Rattle.asm_reader.specs.Reading as r
-use Rattle.asm_reader.proofs.Lists.{or_cases, alike_name, alike_symbol, alike_word}
-use Rattle.asm_reader.proofs.Tables.{looked_up_keys}
-use Rattle.asm_reader.proofs.Numbers.{number_in_range, number_has}
-use Rattle.asm_reader.proofs.Readers.{IsExact, Begins, HasText, IsSingle, exact_pair, exact_makes, exact_optional, exact_wider, ends_none, has_token, begins_token}
-use Rattle.asm_reader.proofs.Exact.{depth, IsPlain, exact_plain, exact_past, has_makes, has_then, begins_makes, begins_past, exact_one, begins_one, begins_or, exact_or}
+use Rattle.asm_syntax.specs.Views.{terms_of}
+use Rattle.asm_reader.specs.Kinds.{keys}
+use Rattle.asm_reader.specs.Levels.{opens, after_token}
+use Rattle.asm_reader.specs.Parts.{Part, token, ◌then◌, ◌or◌, optional, ◌makes◌, nothing, number, choice, past, separated, between}
+use Rattle.asm_reader.specs.Steps.{Reader, expect, pair_of, mapped, either_of, option_of, number_at, choice_at, past_of, separated_of, between_of}
+use Rattle.asm_reader.specs.TermGrammar as g
+use Rattle.asm_reader.specs.TermGrammar.{name_at_token, chain_of, listed, constants, disjunctions, conjunctions, comparisons, additions, products}
+use Rattle.asm_reader.specs.TermReading as r
+use Rattle.asm_reader.proofs.Lists.{alike_name, alike_symbol, alike_word, apart}
+use Rattle.asm_reader.proofs.Readers.{IsExact, Begins, HasText, IsSingle, exact_token, exact_pair, exact_makes, exact_optional, ends_none, ends_by, has_token, begins_token}
+use Rattle.asm_reader.proofs.Exact.{depth, IsPlain, exact_plain, exact_past, has_past, has_makes, has_then, begins_makes, begins_then, begins_past, optional_ends, begins_or, exact_or}
+use Rattle.asm_reader.proofs.Frames.{begins_between, exact_between, has_separated, exact_separated}
+use Rattle.asm_reader.proofs.Chains.{link, link_of, begins_link, exact_link, exact_chain, begins_chain, has_chain}
+use Rattle.asm_reader.proofs.Choices.{products_plain, has_products, additions_plain, has_additions, comparisons_plain, has_comparisons, conjunctions_plain, has_conjunctions, disjunctions_plain, has_disjunctions}
+pub use Rattle.asm_reader.proofs.Choices.{some_choice, PlainRows, exact_choice, begins_choice, constants_plain, has_constant, exact_number, has_number, begins_number}
 
 -- ---- sets of kinds
 
 -- what a term begins with
 abbrev pub primary_first : List Kind
-primary_first = Number 0 ∷ Word True ∷ Word False ∷ Word Undef ∷ kind.Name ∷ []
+primary_first = Number 0 ∷ Word True ∷ Word False ∷ Word Undef ∷ kind.Name ∷ Symbol Open ∷ []
+
+abbrev pub factor_first : List Kind
+factor_first = Symbol Minus ∷ primary_first
 
 abbrev pub term_first : List Kind
-term_first = Symbol Minus ∷ primary_first
+term_first = Word Not ∷ factor_first
 
 -- what carries on a term that is whole
+abbrev pub primary_more : List Kind
+primary_more = Symbol Open ∷ []
+
+abbrev pub product_more : List Kind
+product_more = Symbol Times ∷ Word Div ∷ Word Mod ∷ primary_more
+
+abbrev pub sum_more : List Kind
+sum_more = Symbol Plus ∷ Symbol Minus ∷ product_more
+
+abbrev pub comparison_more : List Kind
+comparison_more = Symbol Equal ∷ Symbol NotEqual ∷ Symbol Less ∷ Symbol AtMost ∷ Symbol Greater ∷ Symbol AtLeast ∷ sum_more
+
+abbrev pub conjunction_more : List Kind
+conjunction_more = Word And ∷ comparison_more
+
 abbrev pub term_more : List Kind
-term_more = Symbol Plus ∷ []
+term_more = Word Or ∷ conjunction_more
 
--- ---- tables and numbers
+abbrev terms_more : List Kind
+terms_more = Symbol Comma ∷ term_more
 
-some_choice : {A : Type 0} (k : Kind) (x : A) (table : List (Kind × A)) → looked_up table k ≡ Some x → HasText (choice table)
-some_choice k x table e = let t : Token = record { kind = k; start = 0; end = 0 } in (t ∷ [], x, (t, refl, e))
-
-abbrev PlainRows : {A : Type 0} → List (Kind × A) → Type 0
-PlainRows [] = Unit {0}
-PlainRows (row ∷ rows) = IsPlain row.0 × IsSingle row.0 × PlainRows rows
-
-plain_rows : {A : Type 0} (rows : List (Kind × A)) → PlainRows rows → (k : Kind) → is_one_of (keys rows) k ≡ true → IsPlain k
-plain_rows [] h k e = absurd cc
-plain_rows (row ∷ rows) h k e = elim (or_cases (alike row.0 k) (is_one_of (keys rows) k) e) [
-  | inl d ↦ rw (h.1 k d) h.0
-  | inr d ↦ plain_rows rows h.2 k d
-]
-
-module _ {A : Type 0} (n : ℕ) (table : List (Kind × A)) (some : HasText (choice table)) (plain : PlainRows table) where
-  in_keys : (k : Kind) → is_some (looked_up table k) ≡ true → is_one_of (keys table) k ≡ true
-  in_keys k e = sym (looked_up_keys table k) ∙ e
-
-  pub exact_choice : IsExact (depth n false) (depth n false) [] (choice table) (choice table) (choice_at table)
-  exact_choice [] = exact_one n false (keys table) (looked_up table) in_keys (plain_rows table plain) some []
-  exact_choice (t ∷ ts) = exact_one n false (keys table) (looked_up table) in_keys (plain_rows table plain) some (t ∷ ts)
-
-  pub begins_choice : Begins (keys table) (choice table)
-  begins_choice = begins_one n false (keys table) (looked_up table) in_keys (plain_rows table plain)
-
-module _ (b : Bool) where
-  number_known : (k : Kind) → is_some (number_of_kind b k) ≡ true → is_one_of (Number 0 ∷ []) k ≡ true
-  number_known kind.Name e = absurd cc
-  number_known (Number m) e = refl
-  number_known (Symbol s) e = absurd cc
-  number_known (Word w) e = absurd cc
-
-  number_plain : (k : Kind) → is_one_of (Number 0 ∷ []) k ≡ true → IsPlain k
-  number_plain kind.Name e = absurd cc
-  number_plain (Number m) e = (refl, refl, refl)
-  number_plain (Symbol s) e = absurd cc
-  number_plain (Word w) e = absurd cc
-
-  -- the tokens that have a number in the range
-  abbrev numbers : Part WholeNumber
-  numbers ts x = (t : Token) × (ts ≡ t ∷ []) × (number_of_kind b t.kind ≡ Some x)
-
-  is_number : (k : Kind) (x : WholeNumber) → number_of_kind b k ≡ Some x → (m : ℕ) × (k ≡ Number m) × (x.value ≡ signed b m)
-  is_number kind.Name x e = absurd cc
-  is_number (Number m) x e = (m, refl, number_has (signed b m) x e)
-  is_number (Symbol s) x e = absurd cc
-  is_number (Word w) x e = absurd cc
-
-  wide : (ts : List Token) (x : WholeNumber) → numbers ts x → number_by b ts x
-  wide ts x m = let h = is_number m.0.kind x m.2 in (m.0, h.0, m.1, h.1, h.2)
-
-  narrow : (ts : List Token) (x : WholeNumber) → number_by b ts x → numbers ts x
-  narrow ts x m = (m.0, m.2, ap (number_of_kind b) m.3 ∙ number_in_range (signed b m.1) x m.4)
-
-  zero_number : (c : Bool) → (x : WholeNumber) × (x.value ≡ signed c 0)
-  zero_number true = (record { value = pos 0; low = record { le = tt }; high = record { le = tt } }, refl)
-  zero_number false = (record { value = pos 0; low = record { le = tt }; high = record { le = tt } }, refl)
-
-  pub has_number : HasText (number_by b)
-  has_number = let t : Token = record { kind = Number 0; start = 0; end = 0 } in let z = zero_number b in (t ∷ [], z.0, (t, 0, refl, refl, z.1))
-
-  some_numbers : HasText numbers
-  some_numbers = (has_number.0, has_number.1, narrow has_number.0 has_number.1 has_number.2)
-
-  pub begins_number : Begins (Number 0 ∷ []) (number_by b)
-  begins_number ts x m = rw (m.2, m.3) refl
-
-  pub exact_number : (n : ℕ) → IsExact (depth n false) (depth n false) [] (number_by b) (number_by b) (number_at b)
-  exact_number n = exact_wider (depth n false) (depth n false) [] [] numbers numbers (number_by b) (number_by b) wide narrow refl (number_at b) both
-    where
-      both : IsExact (depth n false) (depth n false) [] numbers numbers (number_at b)
-      both [] = exact_one n false (Number 0 ∷ []) (number_of_kind b) number_known number_plain some_numbers []
-      both (t ∷ ts) = exact_one n false (Number 0 ∷ []) (number_of_kind b) number_known number_plain some_numbers (t ∷ ts)
-
-constants_plain : PlainRows constants
-constants_plain = ((refl, refl, refl), alike_word True, ((refl, refl, refl), alike_word False, ((refl, refl, refl), alike_word Undef, tt)))
-
-has_constant : HasText (choice constants)
-has_constant = some_choice (Word True) (literal.Truth true) constants refl
-
-begins_constants : Begins (keys constants) (choice constants)
-begins_constants = begins_choice 0 constants has_constant constants_plain
-
--- ---- productions
+-- ---- names
 
 module _ (text : List ℕ) where
+  pub exact_name : (n : ℕ) (q : Bool) → IsExact (depth n q) (depth n false) [] (g.name text) (g.name text) (r.name_at text)
+  unfolding r.name_at
+  exact_name n q = exact_makes (depth n q) (depth n false) [] (token kind.Name) (token kind.Name) (name_at_token text) (expect kind.Name) (exact_plain n q kind.Name alike_name (refl, refl, refl))
+
   pub has_name : HasText (g.name text)
   has_name = has_makes (token kind.Name) (name_at_token text) (has_token kind.Name)
 
   pub begins_name : Begins (kind.Name ∷ []) (g.name text)
   begins_name = begins_makes (kind.Name ∷ []) (token kind.Name) (name_at_token text) (begins_token kind.Name)
 
-  abbrev number_term : Part placed.Term
-  number_term = number makes (λ v. placed.Constant (literal.Number v))
+  pub exact_binding : (n : ℕ) (q : Bool) → IsExact (depth n q) (depth n false) [] (g.binding text) (g.binding text) (r.binding_at text)
+  unfolding g.binding r.binding_at
+  exact_binding n q = exact_pair (depth n q) (depth n false) (depth n false) [] [] (g.name text) (g.name text) (past (Word In) (g.name text)) (past (Word In) (g.name text)) (ends_none [] (past (Word In) (g.name text))) (has_past (Word In) (g.name text) has_name)
+      (r.name_at text) (past_of (Word In) (r.name_at text)) (exact_name n q) (exact_past n false (depth n false) [] (Word In) (alike_word In) (refl, refl, refl) (g.name text) (g.name text) has_name (r.name_at text) (exact_name n false))
 
-  abbrev constant_term : Part placed.Term
-  constant_term = choice constants makes placed.Constant
+  pub has_binding : HasText (g.binding text)
+  unfolding g.binding
+  has_binding = has_then (g.name text) (past (Word In) (g.name text)) has_name (has_past (Word In) (g.name text) has_name)
 
-  abbrev name_term : Part placed.Term
-  name_term = g.name text makes (λ x. placed.Named x placed.no_terms)
+-- ---- primaries and factors: what they begin with, and that each has a text
 
-  begins_number_term : Begins (Number 0 ∷ []) number_term
-  begins_number_term = begins_makes (Number 0 ∷ []) number (λ v. placed.Constant (literal.Number v)) (begins_number false)
+abbrev number_term : Part placed.Term
+number_term = number makes (λ v. placed.Constant (literal.Number v))
 
-  begins_constant_term : Begins (keys constants) constant_term
-  begins_constant_term = begins_makes (keys constants) (choice constants) placed.Constant begins_constants
+abbrev constant_term : Part placed.Term
+constant_term = choice constants makes placed.Constant
 
-  begins_name_term : Begins (kind.Name ∷ []) name_term
-  begins_name_term = begins_makes (kind.Name ∷ []) (g.name text) (λ x. placed.Named x placed.no_terms) begins_name
+begins_number_term : Begins (Number 0 ∷ []) number_term
+begins_number_term = begins_makes (Number 0 ∷ []) number (λ v. placed.Constant (literal.Number v)) (begins_number false)
 
-  abbrev word_first : List Kind
-  word_first = Word True ∷ Word False ∷ Word Undef ∷ kind.Name ∷ []
+begins_constant_term : Begins (keys constants) constant_term
+begins_constant_term = begins_makes (keys constants) (choice constants) placed.Constant (begins_choice 0 false constants has_constant constants_plain)
 
-  begins_later : Begins word_first (constant_term or name_term)
-  begins_later = begins_or (keys constants) (kind.Name ∷ []) word_first constant_term name_term begins_constant_term begins_name_term refl refl
+-- what begins with a name, and what with that or a parenthesis, or with a constant
+abbrev last_first : List Kind
+last_first = kind.Name ∷ Symbol Open ∷ []
 
-  begins_primary : Begins primary_first (g.primary text)
+abbrev later_first : List Kind
+later_first = Word True ∷ Word False ∷ Word Undef ∷ last_first
+
+module _ (text : List ℕ) (X : Part placed.Term) where
+  begins_exists : Begins (Word Exists ∷ []) (g.exists_term text X)
+  unfolding g.exists_term
+  begins_exists = begins_makes (Word Exists ∷ []) (past (Word Exists) (g.binding text then past (Word With) X)) (λ v. placed.Exists v.0.0 v.0.1 v.1) (begins_past (Word Exists) (g.binding text then past (Word With) X))
+
+  has_inner : HasText X → HasText (g.inner text X)
+  unfolding g.inner
+  has_inner some = (some.0, some.1, inr (inr some.2))
+
+  begins_every : Begins (Word Forall ∷ []) (g.every_term text X)
+  unfolding g.every_term
+  begins_every = begins_makes (Word Forall ∷ []) (past (Word Forall) (g.binding text then past (Word Holds) X)) (λ v. placed.Every v.0.0 v.0.1 v.1) (begins_past (Word Forall) (g.binding text then past (Word Holds) X))
+
+  begins_arguments : Begins (Symbol Open ∷ []) (g.arguments text X)
+  unfolding g.arguments
+  begins_arguments = begins_between (Symbol Open) (Symbol Close) (separated (Symbol Comma) X)
+
+  pub begins_applied : Begins (kind.Name ∷ []) (g.applied text X)
+  unfolding g.applied
+  begins_applied = begins_makes (kind.Name ∷ []) (g.name text then optional (g.arguments text X)) (λ v. (v.0, terms_of (listed v.1))) (begins_then (kind.Name ∷ []) (g.name text) (optional (g.arguments text X)) (begins_name text))
+
+  pub has_applied : HasText (g.applied text X)
+  unfolding g.applied
+  has_applied = has_makes (g.name text then optional (g.arguments text X)) (λ v. (v.0, terms_of (listed v.1))) (has_then (g.name text) (optional (g.arguments text X)) (has_name text) ([], None, refl))
+
+  abbrev named_term : Part placed.Term
+  named_term = g.applied text X makes (λ v. placed.Named v.0 v.1)
+
+  abbrev parenthesized : Part placed.Term
+  parenthesized = between (Symbol Open) (Symbol Close) (g.inner text X)
+
+  begins_named : Begins (kind.Name ∷ []) named_term
+  begins_named = begins_makes (kind.Name ∷ []) (g.applied text X) (λ v. placed.Named v.0 v.1) begins_applied
+
+  begins_parenthesized : Begins (Symbol Open ∷ []) parenthesized
+  begins_parenthesized = begins_between (Symbol Open) (Symbol Close) (g.inner text X)
+
+  begins_last : Begins last_first (named_term or parenthesized)
+  begins_last = begins_or (kind.Name ∷ []) (Symbol Open ∷ []) last_first named_term parenthesized begins_named begins_parenthesized refl refl
+
+  begins_later : Begins later_first (constant_term or named_term or parenthesized)
+  begins_later = begins_or (keys constants) last_first later_first constant_term (named_term or parenthesized) begins_constant_term begins_last refl refl
+
+  begins_primary : Begins primary_first (g.primary text X)
   unfolding g.primary
-  begins_primary = begins_or (Number 0 ∷ []) word_first primary_first number_term (constant_term or name_term) begins_number_term begins_later refl refl
+  begins_primary = begins_or (Number 0 ∷ []) later_first primary_first number_term (constant_term or named_term or parenthesized) begins_number_term begins_later refl refl
 
-  has_primary : HasText (g.primary text)
+  has_primary : HasText (g.primary text X)
   unfolding g.primary
   has_primary = let one = has_makes number (λ v. placed.Constant (literal.Number v)) (has_number false) in (one.0, one.1, inl one.2)
 
   abbrev negative : Part placed.Term
-  negative = past (Symbol Minus) (g.primary text) makes placed.Negative
+  negative = past (Symbol Minus) (g.primary text X) makes placed.Negative
 
   begins_negative : Begins (Symbol Minus ∷ []) negative
-  begins_negative = begins_makes (Symbol Minus ∷ []) (past (Symbol Minus) (g.primary text)) placed.Negative (begins_past (Symbol Minus) (g.primary text))
+  begins_negative = begins_makes (Symbol Minus ∷ []) (past (Symbol Minus) (g.primary text X)) placed.Negative (begins_past (Symbol Minus) (g.primary text X))
 
-  has_factor : HasText (g.factor text)
+  pub begins_factor : Begins factor_first (g.factor text X)
   unfolding g.factor
-  has_factor = (has_primary.0, has_primary.1, inr has_primary.2)
+  begins_factor = begins_or (Symbol Minus ∷ []) primary_first factor_first negative (g.primary text X) begins_negative begins_primary refl refl
 
-  abbrev addend : Part (Option placed.Term)
-  addend = optional (past (Symbol Plus) (g.factor text))
+  pub has_factor : HasText (g.factor text X)
+  unfolding g.factor
+  has_factor = let one = has_primary in (one.0, one.1, inr one.2)
 
-  pub has_term : HasText (g.term text)
-  unfolding g.term
-  has_term = has_makes (g.factor text then addend) chain_of (has_then (g.factor text) addend has_factor ([], None, refl))
+  -- the same of what they are put together to
 
-  -- constants of a table
-  abbrev negative_constant : Part placed.Const
-  negative_constant = past (Symbol Minus) negative_number makes (λ v. placed.Plain (literal.Number v))
+  pub has_product : HasText (g.product text X)
+  unfolding g.product
+  has_product = has_chain products (g.factor text X) has_factor
 
-  abbrev number_constant : Part placed.Const
-  number_constant = number makes (λ v. placed.Plain (literal.Number v))
+  has_sum : HasText (g.sum text X)
+  unfolding g.sum
+  has_sum = has_chain additions (g.product text X) has_product
 
-  abbrev plain_constant : Part placed.Const
-  plain_constant = choice constants makes placed.Plain
+  pub begins_product : Begins factor_first (g.product text X)
+  unfolding g.product
+  begins_product = begins_chain products factor_first (g.factor text X) begins_factor
 
-  abbrev name_constant : Part placed.Const
-  name_constant = g.name text makes placed.Element
+  begins_sum : Begins factor_first (g.sum text X)
+  unfolding g.sum
+  begins_sum = begins_chain additions factor_first (g.product text X) begins_product
 
-  begins_negative_constant : Begins (Symbol Minus ∷ []) negative_constant
-  begins_negative_constant = begins_makes (Symbol Minus ∷ []) (past (Symbol Minus) negative_number) (λ v. placed.Plain (literal.Number v)) (begins_past (Symbol Minus) negative_number)
+  abbrev compared : Part (Op × placed.Term)
+  compared = link comparisons (g.sum text X)
 
-  begins_number_constant : Begins (Number 0 ∷ []) number_constant
-  begins_number_constant = begins_makes (Number 0 ∷ []) number (λ v. placed.Plain (literal.Number v)) (begins_number false)
+  has_comparison : HasText (g.comparison text X)
+  unfolding g.comparison
+  has_comparison = has_makes (g.sum text X then optional compared) (λ v. chain_of (v.0, option_to_list v.1)) (has_then (g.sum text X) (optional compared) has_sum ([], None, refl))
 
-  begins_plain_constant : Begins (keys constants) plain_constant
-  begins_plain_constant = begins_makes (keys constants) (choice constants) placed.Plain begins_constants
+  begins_comparison : Begins factor_first (g.comparison text X)
+  unfolding g.comparison
+  begins_comparison = begins_makes factor_first (g.sum text X then optional compared) (λ v. chain_of (v.0, option_to_list v.1)) (begins_then factor_first (g.sum text X) (optional compared) begins_sum)
 
-  begins_name_constant : Begins (kind.Name ∷ []) name_constant
-  begins_name_constant = begins_makes (kind.Name ∷ []) (g.name text) placed.Element begins_name
+  abbrev denied : Part placed.Term
+  denied = past (Word Not) (g.comparison text X) makes placed.Not
 
-  begins_words : Begins word_first (plain_constant or name_constant)
-  begins_words = begins_or (keys constants) (kind.Name ∷ []) word_first plain_constant name_constant begins_plain_constant begins_name_constant refl refl
+  begins_denied : Begins (Word Not ∷ []) denied
+  begins_denied = begins_makes (Word Not ∷ []) (past (Word Not) (g.comparison text X)) placed.Not (begins_past (Word Not) (g.comparison text X))
 
-  begins_unsigned : Begins primary_first (number_constant or plain_constant or name_constant)
-  begins_unsigned = begins_or (Number 0 ∷ []) word_first primary_first number_constant (plain_constant or name_constant) begins_number_constant begins_words refl refl
+  pub has_negation : HasText (g.negation text X)
+  unfolding g.negation
+  has_negation = let one = has_comparison in (one.0, one.1, inr one.2)
 
-  pub has_const : HasText (g.constant text)
-  unfolding g.constant
-  has_const = let one = has_makes (choice constants) placed.Plain has_constant in (one.0, one.1, inr (inr (inl one.2)))
+  pub begins_negation : Begins term_first (g.negation text X)
+  unfolding g.negation
+  begins_negation = begins_or (Word Not ∷ []) factor_first term_first denied (g.comparison text X) begins_denied begins_comparison refl refl
 
-  module _ (n : ℕ) where
-    abbrev d : Depth
-    d = depth n false
+  pub has_conjunction : HasText (g.conjunction text X)
+  unfolding g.conjunction
+  has_conjunction = has_chain conjunctions (g.negation text X) has_negation
 
-    pub exact_name : IsExact d d [] (g.name text) (g.name text) (r.name_at text)
-    unfolding r.name_at
-    exact_name = exact_makes d d [] (token kind.Name) (token kind.Name) (name_at_token text) (expect kind.Name) (exact_plain n false kind.Name alike_name (refl, refl, refl))
+  pub begins_conjunction : Begins term_first (g.conjunction text X)
+  unfolding g.conjunction
+  begins_conjunction = begins_chain conjunctions term_first (g.negation text X) begins_negation
 
-    exact_number_term : IsExact d d [] number_term number_term (mapped (λ v. placed.Constant (literal.Number v)) (number_at false))
-    exact_number_term = exact_makes d d [] number number (λ v. placed.Constant (literal.Number v)) (number_at false) (exact_number false n)
+  pub has_disjunction : HasText (g.term_over text X)
+  unfolding g.term_over
+  has_disjunction = has_chain disjunctions (g.conjunction text X) has_conjunction
 
-    exact_words : IsExact d d [] (constant_term or name_term) (constant_term or name_term) (either_of (keys constants) (mapped placed.Constant (choice_at constants)) (mapped (λ x. placed.Named x placed.no_terms) (r.name_at text)))
-    exact_words = exact_or d d [] [] [] (keys constants) (kind.Name ∷ []) constant_term name_term constant_term name_term begins_constant_term begins_name_term refl refl refl
-        (mapped placed.Constant (choice_at constants)) (mapped (λ x. placed.Named x placed.no_terms) (r.name_at text))
-        (exact_makes d d [] (choice constants) (choice constants) placed.Constant (choice_at constants) (exact_choice n constants has_constant constants_plain))
-        (exact_makes d d [] (g.name text) (g.name text) (λ x. placed.Named x placed.no_terms) (r.name_at text) exact_name)
+  pub begins_disjunction : Begins term_first (g.term_over text X)
+  unfolding g.term_over
+  begins_disjunction = begins_chain disjunctions term_first (g.conjunction text X) begins_conjunction
 
-    exact_primary : IsExact d d [] (g.primary text) (g.primary text) (r.primary_at text)
-    unfolding g.primary r.primary_at
-    exact_primary = exact_or d d [] [] [] (Number 0 ∷ []) word_first number_term (constant_term or name_term) number_term (constant_term or name_term) begins_number_term begins_later refl refl refl
-        (mapped (λ v. placed.Constant (literal.Number v)) (number_at false)) (either_of (keys constants) (mapped placed.Constant (choice_at constants)) (mapped (λ x. placed.Named x placed.no_terms) (r.name_at text)))
-        exact_number_term exact_words
+-- ---- parentheses
 
-    exact_factor : IsExact d d [] (g.factor text) (g.factor text) (r.factor_at text)
-    unfolding g.factor r.factor_at
-    exact_factor = exact_or d d [] [] [] (Symbol Minus ∷ []) primary_first negative (g.primary text) negative (g.primary text) begins_negative begins_primary refl refl refl
-        (mapped placed.Negative (past_of (Symbol Minus) (r.primary_at text))) (r.primary_at text)
-        (exact_makes d d [] (past (Symbol Minus) (g.primary text)) (past (Symbol Minus) (g.primary text)) placed.Negative (past_of (Symbol Minus) (r.primary_at text))
-        (exact_past n false d [] (Symbol Minus) (alike_symbol Minus) (refl, refl, refl) (g.primary text) (g.primary text) has_primary (r.primary_at text) exact_primary))
-        exact_primary
+close_fits : (n m : ℕ) (t : Token) → t.kind ≡ Symbol Close → n ≡ suc m → after_token (depth m false) t ≡ depth n false
+close_fits n m t k e = rw (k, e) refl
 
-    exact_addend : IsExact d d term_more addend addend (r.addend_at text)
-    unfolding r.addend_at
-    exact_addend = exact_optional d [] term_more (Symbol Plus ∷ []) (past (Symbol Plus) (g.factor text)) (past (Symbol Plus) (g.factor text)) (begins_past (Symbol Plus) (g.factor text)) refl refl (past_of (Symbol Plus) (r.factor_at text))
-        (exact_past n false d [] (Symbol Plus) (alike_symbol Plus) (refl, refl, refl) (g.factor text) (g.factor text) has_factor (r.factor_at text) exact_factor)
+open_fits : (n : ℕ) (q : Bool) (m : ℕ) (t : Token) → t.kind ≡ Symbol Open → n ≡ suc m → after_token (depth n q) t ≡ depth m true
+open_fits n true m t k e = rw (k, e) refl
+open_fits n false m t k e = rw (k, e) refl
 
-    pub exact_term : IsExact d d term_more (g.term text) (g.term text) (r.term_at text)
-    unfolding g.term r.term_at
-    exact_term = exact_makes d d term_more (g.factor text then addend) (g.factor text then addend) chain_of (pair_of (r.factor_at text) (r.addend_at text))
-        (exact_pair d d d [] term_more (g.factor text) (g.factor text) addend addend (ends_none term_more addend) ([], None, refl) (r.factor_at text) (r.addend_at text) exact_factor exact_addend)
+open_opens : (q : Bool) (t : Token) → t.kind ≡ Symbol Open → opens q t.kind ≡ true
+open_opens true t k = rw k refl
+open_opens false t k = rw k refl
 
-    exact_negative_constant : IsExact d d [] negative_constant negative_constant (mapped (λ v. placed.Plain (literal.Number v)) (past_of (Symbol Minus) (number_at true)))
-    exact_negative_constant = exact_makes d d [] (past (Symbol Minus) negative_number) (past (Symbol Minus) negative_number) (λ v. placed.Plain (literal.Number v)) (past_of (Symbol Minus) (number_at true))
-        (exact_past n false d [] (Symbol Minus) (alike_symbol Minus) (refl, refl, refl) negative_number negative_number (has_number true) (number_at true) (exact_number true n))
+-- `forall` behind `(` opens no level
+forall_fits : (m : ℕ) (t : Token) → t.kind ≡ Word Forall → after_token (depth m true) t ≡ depth m false
+forall_fits m t k = rw k refl
 
-    exact_word_constant : IsExact d d [] (plain_constant or name_constant) (plain_constant or name_constant) (either_of (keys constants) (mapped placed.Plain (choice_at constants)) (mapped placed.Element (r.name_at text)))
-    exact_word_constant = exact_or d d [] [] [] (keys constants) (kind.Name ∷ []) plain_constant name_constant plain_constant name_constant begins_plain_constant begins_name_constant refl refl refl
-        (mapped placed.Plain (choice_at constants)) (mapped placed.Element (r.name_at text))
-        (exact_makes d d [] (choice constants) (choice constants) placed.Plain (choice_at constants) (exact_choice n constants has_constant constants_plain))
-        (exact_makes d d [] (g.name text) (g.name text) placed.Element (r.name_at text) exact_name)
+-- "(" part ")"
+exact_parentheses : {A : Type 0} (n : ℕ) (q : Bool) (more : List Kind) → apart (Symbol Close ∷ []) more ≡ true → (P N : Part A) → HasText P → (f : Reader A) → ((m : ℕ) → n ≡ suc m → IsExact (depth m true) (depth m false) more P N f)
+    → IsExact (depth n q) (depth n false) [] (between (Symbol Open) (Symbol Close) P) (between (Symbol Open) (Symbol Close) N) (between_of n (Symbol Open) (Symbol Close) f)
+exact_parentheses n q more differ P N some f h = exact_between n q true (Symbol Open) (Symbol Close) (alike_symbol Open) (alike_symbol Close) (open_opens q) (open_fits n q) (close_fits n) more differ P N some f h
 
-    abbrev unsigned_at : Reader placed.Const
-    unsigned_at = either_of (Number 0 ∷ []) (mapped (λ v. placed.Plain (literal.Number v)) (number_at false)) (either_of (keys constants) (mapped placed.Plain (choice_at constants)) (mapped placed.Element (r.name_at text)))
+-- what stands in parentheses, in which n levels may open
+module _ (text : List ℕ) (n : ℕ) (deeper : Reader placed.Term) (P N : Part placed.Term) (some : HasText P) (first : Begins term_first N)
+    (exact : (q : Bool) → IsExact (depth n q) (depth n false) term_more P N deeper) where
+  exact_terms : IsExact (depth n true) (depth n false) terms_more (separated (Symbol Comma) P) (separated (Symbol Comma) N) (separated_of (Symbol Comma) deeper)
+  exact_terms = exact_separated n true term_more terms_more (Symbol Comma) (alike_symbol Comma) (refl, refl, refl) refl refl refl P N some deeper (exact true) (exact false)
 
-    exact_unsigned : IsExact d d [] (number_constant or plain_constant or name_constant) (number_constant or plain_constant or name_constant) unsigned_at
-    exact_unsigned = exact_or d d [] [] [] (Number 0 ∷ []) word_first number_constant (plain_constant or name_constant) number_constant (plain_constant or name_constant) begins_number_constant begins_words refl refl refl
-        (mapped (λ v. placed.Plain (literal.Number v)) (number_at false)) (either_of (keys constants) (mapped placed.Plain (choice_at constants)) (mapped placed.Element (r.name_at text)))
-        (exact_makes d d [] number number (λ v. placed.Plain (literal.Number v)) (number_at false) (exact_number false n)) exact_word_constant
+  -- the binding of a quantifier and its condition
+  exact_bound : (k : Kind) → IsSingle k → IsPlain k → IsExact (depth n false) (depth n false) term_more (g.binding text then past k P) (g.binding text then past k N) (pair_of (r.binding_at text) (past_of k deeper))
+  exact_bound k single plain = exact_pair (depth n false) (depth n false) (depth n false) [] term_more (g.binding text) (g.binding text) (past k P) (past k N) (ends_none term_more (past k N)) (has_past k P some)
+      (r.binding_at text) (past_of k deeper) (exact_binding text n false) (exact_past n false (depth n false) term_more k single plain P N some deeper (exact false))
 
-    pub exact_constant : IsExact d d [] (g.constant text) (g.constant text) (r.constant_at text)
-    unfolding g.constant r.constant_at
-    exact_constant = exact_or d d [] [] [] (Symbol Minus ∷ []) primary_first negative_constant (number_constant or plain_constant or name_constant) negative_constant (number_constant or plain_constant or name_constant)
-        begins_negative_constant begins_unsigned refl refl refl
-        (mapped (λ v. placed.Plain (literal.Number v)) (past_of (Symbol Minus) (number_at true))) unsigned_at exact_negative_constant exact_unsigned
+  has_bound : (k : Kind) → HasText (g.binding text then past k P)
+  has_bound k = has_then (g.binding text) (past k P) (has_binding text) (has_past k P some)
+
+  exact_exists : IsExact (depth n true) (depth n false) term_more (g.exists_term text P) (g.exists_term text N) (r.exists_at text deeper)
+  unfolding g.exists_term r.exists_at
+  exact_exists = exact_makes (depth n true) (depth n false) term_more (past (Word Exists) (g.binding text then past (Word With) P)) (past (Word Exists) (g.binding text then past (Word With) N)) (λ v. placed.Exists v.0.0 v.0.1 v.1)
+      (past_of (Word Exists) (pair_of (r.binding_at text) (past_of (Word With) deeper)))
+      (exact_past n true (depth n false) term_more (Word Exists) (alike_word Exists) (refl, refl, refl) (g.binding text then past (Word With) P) (g.binding text then past (Word With) N) (has_bound (Word With))
+      (pair_of (r.binding_at text) (past_of (Word With) deeper)) (exact_bound (Word With) (alike_word With) (refl, refl, refl)))
+
+  exact_every : IsExact (depth n true) (depth n false) term_more (g.every_term text P) (g.every_term text N) (r.every_at text deeper)
+  unfolding g.every_term r.every_at
+  exact_every = exact_makes (depth n true) (depth n false) term_more (past (Word Forall) (g.binding text then past (Word Holds) P)) (past (Word Forall) (g.binding text then past (Word Holds) N)) (λ v. placed.Every v.0.0 v.0.1 v.1)
+      (past_of (Word Forall) (pair_of (r.binding_at text) (past_of (Word Holds) deeper)))
+      (exact_makes (depth n true) (depth n false) term_more (token (Word Forall) then (g.binding text then past (Word Holds) P)) (token (Word Forall) then (g.binding text then past (Word Holds) N)) (λ v. v.1) (pair_of (expect (Word Forall)) (pair_of (r.binding_at text) (past_of (Word Holds) deeper)))
+      (exact_pair (depth n true) (depth n false) (depth n false) [] term_more (token (Word Forall)) (token (Word Forall)) (g.binding text then past (Word Holds) P) (g.binding text then past (Word Holds) N) (ends_none term_more (g.binding text then past (Word Holds) N)) (has_bound (Word Holds))
+      (expect (Word Forall)) (pair_of (r.binding_at text) (past_of (Word Holds) deeper)) (exact_token (depth n true) (depth n false) [] (Word Forall) (alike_word Forall) refl (forall_fits n))
+      (exact_bound (Word Holds) (alike_word Holds) (refl, refl, refl))))
+
+  abbrev every_first : List Kind
+  every_first = Word Forall ∷ term_first
+
+  exact_inner : IsExact (depth n true) (depth n false) term_more (g.inner text P) (g.inner text N) (r.inner_at text deeper)
+  unfolding g.inner r.inner_at
+  exact_inner = exact_or (depth n true) (depth n false) term_more term_more term_more (Word Exists ∷ []) every_first (g.exists_term text P) (g.every_term text P or P) (g.exists_term text N) (g.every_term text N or N)
+      (begins_exists text N) (begins_or (Word Forall ∷ []) term_first every_first (g.every_term text N) N (begins_every text N) first refl refl) refl refl refl
+      (r.exists_at text deeper) (either_of (Word Forall ∷ []) (r.every_at text deeper) deeper) exact_exists
+      (exact_or (depth n true) (depth n false) term_more term_more term_more (Word Forall ∷ []) term_first (g.every_term text P) P (g.every_term text N) N (begins_every text N) first refl refl refl (r.every_at text deeper) deeper exact_every (exact true))
+
+-- ---- terms. n levels may open; what stands in parentheses is P or N.
+
+module _ (text : List ℕ) (n : ℕ) (deeper : Reader placed.Term) (P N : Part placed.Term) (some : HasText P) (starts : Begins term_first P) (first : Begins term_first N)
+    (exact : (m : ℕ) (q : Bool) → n ≡ suc m → IsExact (depth m q) (depth m false) term_more P N deeper) where
+  exact_arguments : (q : Bool) → IsExact (depth n q) (depth n false) [] (g.arguments text P) (g.arguments text N) (r.arguments_at text n deeper)
+  unfolding g.arguments r.arguments_at
+  exact_arguments q = exact_parentheses n q terms_more refl (separated (Symbol Comma) P) (separated (Symbol Comma) N) (has_separated (Symbol Comma) P some) (separated_of (Symbol Comma) deeper)
+      (λ m e. exact_terms text m deeper P N some first (λ p. exact m p e))
+
+  exact_parenthesized : (q : Bool) → IsExact (depth n q) (depth n false) [] (parenthesized text P) (parenthesized text N) (r.parenthesized_at text n deeper)
+  unfolding r.parenthesized_at
+  exact_parenthesized q = exact_parentheses n q term_more refl (g.inner text P) (g.inner text N) (has_inner text P some) (r.inner_at text deeper)
+      (λ m e. exact_inner text m deeper P N some first (λ p. exact m p e))
+
+  -- a name and its arguments, for terms and for rules
+  pub exact_applied : (q : Bool) → IsExact (depth n q) (depth n false) primary_more (g.applied text P) (g.applied text N) (r.applied_at text n deeper)
+  unfolding g.applied r.applied_at
+  exact_applied q = exact_makes (depth n q) (depth n false) primary_more (g.name text then optional (g.arguments text P)) (g.name text then optional (g.arguments text N)) (λ v. (v.0, terms_of (listed v.1)))
+      (pair_of (r.name_at text) (option_of (Symbol Open ∷ []) (r.arguments_at text n deeper)))
+      (exact_pair (depth n q) (depth n false) (depth n false) [] primary_more (g.name text) (g.name text) (optional (g.arguments text P)) (optional (g.arguments text N)) (ends_none primary_more (optional (g.arguments text N))) ([], None, refl)
+      (r.name_at text) (option_of (Symbol Open ∷ []) (r.arguments_at text n deeper)) (exact_name text n q)
+      (exact_optional (depth n false) [] primary_more (Symbol Open ∷ []) (g.arguments text P) (g.arguments text N) (begins_arguments text N) refl refl (r.arguments_at text n deeper) (exact_arguments false)))
+
+  abbrev named_at : Reader placed.Term
+  named_at = mapped (λ v. placed.Named v.0 v.1) (r.applied_at text n deeper)
+
+  abbrev last_at : Reader placed.Term
+  last_at = either_of (kind.Name ∷ []) named_at (r.parenthesized_at text n deeper)
+
+  abbrev constant_at : Reader placed.Term
+  constant_at = mapped placed.Constant (choice_at constants)
+
+  exact_last : (q : Bool) → IsExact (depth n q) (depth n false) primary_more (named_term text P or parenthesized text P) (named_term text N or parenthesized text N) last_at
+  exact_last q = exact_or (depth n q) (depth n false) primary_more [] primary_more (kind.Name ∷ []) (Symbol Open ∷ []) (named_term text P) (parenthesized text P) (named_term text N) (parenthesized text N)
+      (begins_named text N) (begins_parenthesized text N) refl refl refl named_at (r.parenthesized_at text n deeper)
+      (exact_makes (depth n q) (depth n false) primary_more (g.applied text P) (g.applied text N) (λ v. placed.Named v.0 v.1) (r.applied_at text n deeper) (exact_applied q)) (exact_parenthesized q)
+
+  exact_later : (q : Bool) → IsExact (depth n q) (depth n false) primary_more (constant_term or named_term text P or parenthesized text P) (constant_term or named_term text N or parenthesized text N) (either_of (keys constants) constant_at last_at)
+  exact_later q = exact_or (depth n q) (depth n false) [] primary_more primary_more (keys constants) last_first constant_term (named_term text P or parenthesized text P) constant_term (named_term text N or parenthesized text N)
+      begins_constant_term (begins_last text N) refl refl refl constant_at last_at
+      (exact_makes (depth n q) (depth n false) [] (choice constants) (choice constants) placed.Constant (choice_at constants) (exact_choice n q constants has_constant constants_plain)) (exact_last q)
+
+  exact_primary : (q : Bool) → IsExact (depth n q) (depth n false) primary_more (g.primary text P) (g.primary text N) (r.primary_at text n deeper)
+  unfolding g.primary r.primary_at
+  exact_primary q = exact_or (depth n q) (depth n false) [] primary_more primary_more (Number 0 ∷ []) later_first number_term (constant_term or named_term text P or parenthesized text P) number_term (constant_term or named_term text N or parenthesized text N)
+      begins_number_term (begins_later text N) refl refl refl (mapped (λ v. placed.Constant (literal.Number v)) (number_at false)) (either_of (keys constants) constant_at last_at)
+      (exact_makes (depth n q) (depth n false) [] number number (λ v. placed.Constant (literal.Number v)) (number_at false) (exact_number false n q)) (exact_later q)
+
+  pub exact_factor : (q : Bool) → IsExact (depth n q) (depth n false) primary_more (g.factor text P) (g.factor text N) (r.factor_at text n deeper)
+  unfolding g.factor r.factor_at
+  exact_factor q = exact_or (depth n q) (depth n false) primary_more primary_more primary_more (Symbol Minus ∷ []) primary_first (negative text P) (g.primary text P) (negative text N) (g.primary text N)
+      (begins_negative text N) (begins_primary text N) refl refl refl (mapped placed.Negative (past_of (Symbol Minus) (r.primary_at text n deeper))) (r.primary_at text n deeper)
+      (exact_makes (depth n q) (depth n false) primary_more (past (Symbol Minus) (g.primary text P)) (past (Symbol Minus) (g.primary text N)) placed.Negative (past_of (Symbol Minus) (r.primary_at text n deeper))
+      (exact_past n q (depth n false) primary_more (Symbol Minus) (alike_symbol Minus) (refl, refl, refl) (g.primary text P) (g.primary text N) (has_primary text P) (r.primary_at text n deeper) (exact_primary false)))
+      (exact_primary q)
+
+  pub exact_product : (q : Bool) → IsExact (depth n q) (depth n false) product_more (g.product text P) (g.product text N) (r.product_at text n deeper)
+  unfolding g.product r.product_at
+  exact_product = exact_chain n products has_products products_plain primary_more (g.factor text P) (g.factor text N) (has_factor text P) (r.factor_at text n deeper) exact_factor product_more refl refl refl
+
+  exact_sum : (q : Bool) → IsExact (depth n q) (depth n false) sum_more (g.sum text P) (g.sum text N) (r.sum_at text n deeper)
+  unfolding g.sum r.sum_at
+  exact_sum = exact_chain n additions has_additions additions_plain product_more (g.product text P) (g.product text N) (has_product text P) (r.product_at text n deeper) exact_product sum_more refl refl refl
+
+  abbrev compared_at : Reader (Op × placed.Term)
+  compared_at = link_of comparisons (r.sum_at text n deeper)
+
+  exact_compared : IsExact (depth n false) (depth n false) comparison_more (optional (compared text P)) (optional (compared text N)) (option_of (keys comparisons) compared_at)
+  exact_compared = exact_optional (depth n false) sum_more comparison_more (keys comparisons) (compared text P) (compared text N) (begins_link n comparisons has_comparisons comparisons_plain (g.sum text N)) refl refl compared_at
+      (exact_link n comparisons has_comparisons comparisons_plain sum_more (g.sum text P) (g.sum text N) (has_sum text P) (r.sum_at text n deeper) exact_sum)
+
+  exact_comparison : (q : Bool) → IsExact (depth n q) (depth n false) comparison_more (g.comparison text P) (g.comparison text N) (r.comparison_at text n deeper)
+  unfolding g.comparison r.comparison_at
+  exact_comparison q = exact_makes (depth n q) (depth n false) comparison_more (g.sum text P then optional (compared text P)) (g.sum text N then optional (compared text N)) (λ v. chain_of (v.0, option_to_list v.1)) (pair_of (r.sum_at text n deeper) (option_of (keys comparisons) compared_at))
+      (exact_pair (depth n q) (depth n false) (depth n false) sum_more comparison_more (g.sum text P) (g.sum text N) (optional (compared text P)) (optional (compared text N))
+      (optional_ends sum_more comparison_more (keys comparisons) (compared text N) (ends_by sum_more comparison_more (keys comparisons) (compared text N) (begins_link n comparisons has_comparisons comparisons_plain (g.sum text N)) refl) refl)
+      ([], None, refl) (r.sum_at text n deeper) (option_of (keys comparisons) compared_at) (exact_sum q) exact_compared)
+
+  pub exact_negation : (q : Bool) → IsExact (depth n q) (depth n false) comparison_more (g.negation text P) (g.negation text N) (r.negation_at text n deeper)
+  unfolding g.negation r.negation_at
+  exact_negation q = exact_or (depth n q) (depth n false) comparison_more comparison_more comparison_more (Word Not ∷ []) factor_first (denied text P) (g.comparison text P) (denied text N) (g.comparison text N)
+      (begins_denied text N) (begins_comparison text N) refl refl refl (mapped placed.Not (past_of (Word Not) (r.comparison_at text n deeper))) (r.comparison_at text n deeper)
+      (exact_makes (depth n q) (depth n false) comparison_more (past (Word Not) (g.comparison text P)) (past (Word Not) (g.comparison text N)) placed.Not (past_of (Word Not) (r.comparison_at text n deeper))
+      (exact_past n q (depth n false) comparison_more (Word Not) (alike_word Not) (refl, refl, refl) (g.comparison text P) (g.comparison text N) (has_comparison text P) (r.comparison_at text n deeper) (exact_comparison false)))
+      (exact_comparison q)
+
+  pub exact_conjunction : (q : Bool) → IsExact (depth n q) (depth n false) conjunction_more (g.conjunction text P) (g.conjunction text N) (r.conjunction_at text n deeper)
+  unfolding g.conjunction r.conjunction_at
+  exact_conjunction = exact_chain n conjunctions has_conjunctions conjunctions_plain comparison_more (g.negation text P) (g.negation text N) (has_negation text P) (r.negation_at text n deeper) exact_negation conjunction_more refl refl refl
+
+  pub exact_disjunction : (q : Bool) → IsExact (depth n q) (depth n false) term_more (g.term_over text P) (g.term_over text N) (r.disjunction_at text n deeper)
+  unfolding g.term_over r.disjunction_at
+  exact_disjunction = exact_chain n disjunctions has_disjunctions disjunctions_plain conjunction_more (g.conjunction text P) (g.conjunction text N) (has_conjunction text P) (r.conjunction_at text n deeper) exact_conjunction term_more refl refl refl
+
+-- ---- terms in which parentheses nest so deep at most
+
+pub begins_term : (text : List ℕ) (n : ℕ) → Begins term_first (g.term_within text n)
+unfolding g.term_within
+begins_term text zero = begins_disjunction text nothing
+begins_term text (suc n) = begins_disjunction text (g.term_within text n)
+
+pub has_term : (text : List ℕ) (n : ℕ) → HasText (g.term_within text n)
+unfolding g.term_within
+has_term text zero = has_disjunction text nothing
+has_term text (suc n) = has_disjunction text (g.term_within text n)

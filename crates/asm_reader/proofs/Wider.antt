@@ -2,7 +2,7 @@
 use Rattle.std.proofs.Common.{List, [], ◌∷◌, Some, None, inl, inr}
 use Rattle.asm_syntax.specs.declared.token.Kind.{Kind}
 use Rattle.asm_syntax.specs.declared.token.Token.{Token}
-use Rattle.asm_reader.specs.Parts.{Part, token, ◌then◌, ◌or◌, optional, repeated, ◌makes◌, past, several}
+use Rattle.asm_reader.specs.Parts.{Part, token, ◌then◌, ◌or◌, optional, repeated, ◌makes◌, past, several, separated, enclosed, between}
 
 abbrev pub Includes : {A : Type 0} → Part A → Part A → Type 0
 Includes {A} P Q = (ts : List Token) (x : A) → P ts x → Q ts x
@@ -33,3 +33,14 @@ wider_past k P P' h = wider_makes (token k then P) (token k then P') (λ r. r.1)
 
 pub wider_several : {A : Type 0} (P P' : Part A) → Includes P P' → Includes (several P) (several P')
 wider_several P P' h = wider_makes (P then repeated P) (P' then repeated P') (λ r. r.0 ∷ r.1) (wider_then P P' (repeated P) (repeated P') h (wider_repeated P P' h))
+
+pub wider_separated : {A : Type 0} (k : Kind) (P P' : Part A) → Includes P P' → Includes (separated k P) (separated k P')
+wider_separated k P P' h = wider_makes (P then repeated (past k P)) (P' then repeated (past k P')) (λ r. r.0 ∷ r.1)
+    (wider_then P P' (repeated (past k P)) (repeated (past k P')) h (wider_repeated (past k P) (past k P') (wider_past k P P' h)))
+
+pub wider_enclosed : {A : Type 0} (k close : Kind) (P P' : Part A) → Includes P P' → Includes (enclosed k close P) (enclosed k close P')
+wider_enclosed k close P P' h = wider_makes (token k then P then token close) (token k then P' then token close) (λ r. (r.0, r.1.0))
+    (wider_then (token k) (token k) (P then token close) (P' then token close) (same_part (token k)) (wider_then P P' (token close) (token close) h (same_part (token close))))
+
+pub wider_between : {A : Type 0} (k close : Kind) (P P' : Part A) → Includes P P' → Includes (between k close P) (between k close P')
+wider_between k close P P' h = wider_makes (enclosed k close P) (enclosed k close P') (λ r. r.1) (wider_enclosed k close P P' h)

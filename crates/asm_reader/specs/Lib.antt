@@ -1,7 +1,13 @@
 pub mod Kinds
 pub mod Parts
 pub mod Levels
+pub mod TermGrammar
+pub mod RuleGrammar
 pub mod Grammar
 pub mod Specification
+pub mod Refusals
+pub mod Seen
 pub mod Steps
+pub mod TermReading
+pub mod RuleReading
 pub mod Reading

@@ -44,7 +44,7 @@ infixr 11 ◌makes◌
 abbrev pub ◌makes◌ : {A B : Type 0} → Part A → (A → B) → Part B
 (p makes f) ts y = (x : _) × p ts x × (y ≡ f x)
 
--- no text at all
+-- a part that has no text
 abbrev pub nothing : {A : Type 0} → Part A
 nothing ts x = ⊥
 
@@ -77,3 +77,15 @@ several p = (p then repeated p) makes (λ r. r.0 ∷ r.1)
 -- a part without a bound on nesting
 abbrev pub at_any_depth : {A : Type 0} → (ℕ → Part A) → Part A
 at_any_depth p ts x = (n : ℕ) × p n ts x
+
+-- once or more, with a token of this kind between two of them
+abbrev pub separated : {A : Type 0} → Kind → Part A → Part (List A)
+separated k p = (p then repeated (past k p)) makes (λ r. r.0 ∷ r.1)
+
+-- a part between a token that opens and one that closes, with the first of the two
+abbrev pub enclosed : {A : Type 0} → (opener close : Kind) → Part A → Part (Token × A)
+enclosed k close p = (token k then p then token close) makes (λ r. (r.0, r.1.0))
+
+-- the part between the two alone
+abbrev pub between : {A : Type 0} → (opener close : Kind) → Part A → Part A
+between k close p = enclosed k close p makes (λ r. r.1)

@@ -1,86 +1,95 @@
--- What the functions of the code read: the productions, with the next token to choose by.
-use Rattle.std.specs.Prelude.{ℕ, zero, suc, true, false, List, [], ◌∷◌, length, Option, None, option_map}
+-- What the functions of the code read as declarations and as whole specifications.
+use Rattle.std.specs.Prelude.{ℕ, true, false, List, [], ◌∷◌, length, Option, Some}
+use Rattle.asm_state.specs.declared.number.Number.{Number as WholeNumber}
 use Rattle.asm_syntax.specs.declared.token.Kind.{Kind}
-use Rattle.asm_syntax.specs.declared.token.Kind.TheVariants as kind
-use Rattle.asm_syntax.specs.declared.token.Kind.TheVariants.{Symbol, Word, Number}
-use Rattle.asm_syntax.specs.declared.token.Symbol.TheVariants.{Assign, Equal, Plus, Minus}
-use Rattle.asm_syntax.specs.declared.token.Word.TheVariants.{CoreAsm, Use, Init, Function, Controlled, Initially, Rule, Skip, Par, EndPar}
+use Rattle.asm_syntax.specs.declared.token.Kind.TheVariants.{Number, Symbol, Word}
+use Rattle.asm_syntax.specs.declared.token.Symbol.TheVariants.{Open, Close, OpenBrace, CloseBrace, Comma, Colon, Equal, Minus, Times, Arrow, Dots}
+use Rattle.asm_syntax.specs.declared.token.Word.TheVariants.{CoreAsm, Use, Init, Enum, Universe, Function, Initially, Derived, Rule}
 use Rattle.asm_syntax.specs.declared.term.Literal.TheVariants as literal
-use Rattle.asm_syntax.specs.declared.spec.FunctionKind.TheVariants as function_kind
 use Rattle.asm_syntax.specs.Placed as placed
-use Rattle.asm_syntax.specs.Views.{rules_of}
 use Rattle.asm_reader.specs.Kinds.{keys}
-use Rattle.asm_reader.specs.Steps.{Reader, refuse, expect, enter, pair_of, mapped, either_of, option_of, repeated_of, several_of, number_at, choice_at, past_of}
-use Rattle.asm_reader.specs.Grammar.{name_at_token, chain_of, constants}
-
--- what rules begin with
-abbrev pub rule_starts : List Kind
-rule_starts = Word Skip ∷ kind.Name ∷ Word Par ∷ []
+use Rattle.asm_reader.specs.Steps.{Reader, pair_of, mapped, either_of, option_of, repeated_of, number_at, choice_at, past_of, separated_of, enclosed_of, between_of, braced_of}
+use Rattle.asm_reader.specs.TermGrammar.{constants, listed}
+use Rattle.asm_reader.specs.Grammar.{function_kinds, typed}
+use Rattle.asm_reader.specs.TermReading.{name_at, term_at}
+use Rattle.asm_reader.specs.RuleReading.{rule_at}
 
 -- what items begin with
 abbrev pub item_starts : List Kind
-item_starts = Word Use ∷ Word Init ∷ Word Function ∷ Word Rule ∷ []
+item_starts = Word Use ∷ Word Init ∷ Word Enum ∷ Word Universe ∷ Word Function ∷ Word Derived ∷ Word Rule ∷ []
+
+unfoldable pub int_at : Reader WholeNumber
+int_at = either_of (Symbol Minus ∷ []) (past_of (Symbol Minus) (number_at true)) (number_at false)
 
 module _ (text : List ℕ) where
-  unfoldable pub name_at : Reader placed.Name
-  name_at = mapped (name_at_token text) (expect kind.Name)
-
-  unfoldable pub primary_at : Reader placed.Term
-  primary_at = either_of (Number 0 ∷ []) (mapped (λ n. placed.Constant (literal.Number n)) (number_at false))
-      (either_of (keys constants) (mapped placed.Constant (choice_at constants)) (mapped (λ x. placed.Named x placed.no_terms) name_at))
-
-  unfoldable pub factor_at : Reader placed.Term
-  factor_at = either_of (Symbol Minus ∷ []) (mapped placed.Negative (past_of (Symbol Minus) primary_at)) primary_at
-
-  unfoldable pub addend_at : Reader (Option placed.Term)
-  addend_at = option_of (Symbol Plus ∷ []) (past_of (Symbol Plus) factor_at)
-
-  unfoldable pub term_at : Reader placed.Term
-  term_at = mapped chain_of (pair_of factor_at addend_at)
-
   unfoldable pub constant_at : Reader placed.Const
-  constant_at = either_of (Symbol Minus ∷ []) (mapped (λ n. placed.Plain (literal.Number n)) (past_of (Symbol Minus) (number_at true)))
-      (either_of (Number 0 ∷ []) (mapped (λ n. placed.Plain (literal.Number n)) (number_at false))
-      (either_of (keys constants) (mapped placed.Plain (choice_at constants)) (mapped placed.Element name_at)))
+  constant_at = either_of (Symbol Minus ∷ Number 0 ∷ []) (mapped (λ n. placed.Plain (literal.Number n)) int_at)
+      (either_of (keys constants) (mapped placed.Plain (choice_at constants)) (mapped placed.Element (name_at text)))
 
-  unfoldable pub skip_at : Reader placed.Rule
-  skip_at = mapped (λ _. placed.Skip) (expect (Word Skip))
+  abbrev pub constants_at : Reader (List placed.Const)
+  constants_at = separated_of (Symbol Comma) constant_at
 
-  unfoldable pub assignment_at : Reader placed.Rule
-  assignment_at = mapped (λ r. placed.Assign r.0 placed.no_terms r.1) (pair_of name_at (past_of (Symbol Assign) term_at))
+  abbrev pub names_at : Kind → Reader (List placed.Name)
+  names_at between = separated_of between (name_at text)
 
-  -- n levels may open, and `rule` reads a rule behind one of them
-  module _ (n : ℕ) (rule : Reader placed.Rule) where
-    unfoldable pub par_at : Reader placed.Rule
-    par_at = mapped (λ r. placed.Par (rules_of r.1.0)) (pair_of (enter n (Word Par)) (pair_of (several_of rule_starts rule) (expect (Word EndPar))))
+  unfoldable pub codomain_at : Reader (Option placed.Name)
+  codomain_at = option_of (Symbol Arrow ∷ []) (past_of (Symbol Arrow) (name_at text))
 
-    unfoldable pub rule_over_at : Reader placed.Rule
-    rule_over_at = either_of (Word Skip ∷ []) skip_at (either_of (kind.Name ∷ []) assignment_at par_at)
+  unfoldable pub type_at : Reader (List placed.Name × Option placed.Name)
+  type_at = either_of (Symbol Arrow ∷ []) (mapped (λ x. ([], Some x)) (past_of (Symbol Arrow) (name_at text))) (pair_of (names_at (Symbol Times)) codomain_at)
 
-  unfoldable pub rule_at : ℕ → Reader placed.Rule
-  rule_at zero = rule_over_at zero refuse
-  rule_at (suc n) = rule_over_at (suc n) (rule_at n)
+  unfoldable pub signature_at : Reader (List placed.Name × Option placed.Name)
+  signature_at = mapped typed (option_of (Symbol Colon ∷ []) (past_of (Symbol Colon) type_at))
 
   unfoldable pub use_at : Reader placed.Item
-  use_at = mapped placed.Uses (past_of (Word Use) name_at)
+  use_at = mapped placed.Uses (past_of (Word Use) (name_at text))
 
   unfoldable pub init_at : Reader placed.Item
-  init_at = mapped placed.Init (past_of (Word Init) name_at)
+  init_at = mapped placed.Init (past_of (Word Init) (name_at text))
 
-  unfoldable pub initially_at : Reader (Option placed.Const)
-  initially_at = option_of (Word Initially ∷ []) (past_of (Word Initially) constant_at)
+  unfoldable pub elements_at : Reader (List placed.Name)
+  elements_at = braced_of (Symbol OpenBrace) (Symbol CloseBrace) (names_at (Symbol Comma))
 
-  unfoldable pub function_at : Reader placed.Item
-  function_at = mapped (λ r. placed.Function r.0 function_kind.Controlled [] None (option_map placed.Each r.1))
-      (past_of (Word Function) (past_of (Word Controlled) (pair_of name_at initially_at)))
+  unfoldable pub enum_at : Reader placed.Item
+  enum_at = mapped (λ r. placed.Enum r.0 r.1) (past_of (Word Enum) (pair_of (name_at text) (past_of (Symbol Equal) elements_at)))
+
+  unfoldable pub universe_at : Reader placed.Item
+  universe_at = mapped (λ r. placed.Universe r.0 r.1.0 r.1.1) (past_of (Word Universe) (pair_of (name_at text) (past_of (Symbol Equal) (pair_of int_at (past_of (Symbol Dots) int_at)))))
 
   -- n levels may open
   module _ (n : ℕ) where
+    unfoldable pub entry_at : Reader placed.Entry
+    entry_at = mapped (λ r. record { at = r.0.0.start; arguments = r.0.1; value = r.1 })
+        (pair_of (enclosed_of n (Symbol Open) (Symbol Close) constants_at) (past_of (Symbol Arrow) constant_at))
+
+    abbrev pub entries_at : Reader (List placed.Entry)
+    entries_at = separated_of (Symbol Comma) entry_at
+
+    unfoldable pub braced_entries_at : Reader (List placed.Entry)
+    braced_entries_at = braced_of (Symbol OpenBrace) (Symbol CloseBrace) entries_at
+
+    unfoldable pub table_at : Reader placed.Given
+    table_at = either_of (Symbol OpenBrace ∷ []) (mapped placed.Entries braced_entries_at) (mapped placed.Each constant_at)
+
+    unfoldable pub initially_at : Reader (Option placed.Given)
+    initially_at = option_of (Word Initially ∷ []) (past_of (Word Initially) table_at)
+
+    unfoldable pub parameters_at : Reader (List placed.Name)
+    parameters_at = mapped listed (option_of (Symbol Open ∷ []) (between_of n (Symbol Open) (Symbol Close) (names_at (Symbol Comma))))
+
+    unfoldable pub function_at : Reader placed.Item
+    function_at = mapped (λ r. placed.Function r.1.0 r.0 r.1.1.0.0 r.1.1.0.1 r.1.1.1)
+        (past_of (Word Function) (pair_of (choice_at function_kinds) (pair_of (name_at text) (pair_of signature_at initially_at))))
+
+    unfoldable pub derived_at : Reader placed.Item
+    derived_at = mapped (λ r. placed.Derived r.0 r.1.0 r.1.1) (past_of (Word Derived) (pair_of (name_at text) (pair_of parameters_at (past_of (Symbol Equal) (term_at text n)))))
+
     unfoldable pub declared_at : Reader placed.Item
-    declared_at = mapped (λ r. placed.Declared r.0 [] r.1) (past_of (Word Rule) (pair_of name_at (past_of (Symbol Equal) (rule_at n))))
+    declared_at = mapped (λ r. placed.Declared r.0 r.1.0 r.1.1) (past_of (Word Rule) (pair_of (name_at text) (pair_of parameters_at (past_of (Symbol Equal) (rule_at text n)))))
 
     unfoldable pub item_at : Reader placed.Item
-    item_at = either_of (Word Use ∷ []) use_at (either_of (Word Init ∷ []) init_at (either_of (Word Function ∷ []) function_at declared_at))
+    item_at = either_of (Word Use ∷ []) use_at (either_of (Word Init ∷ []) init_at (either_of (Word Enum ∷ []) enum_at (either_of (Word Universe ∷ []) universe_at
+        (either_of (Word Function ∷ []) function_at (either_of (Word Derived ∷ []) derived_at declared_at)))))
 
     unfoldable pub specification_at : Reader placed.Spec
-    specification_at = mapped (λ r. record { name = r.0; items = r.1; length = length text }) (past_of (Word CoreAsm) (pair_of name_at (repeated_of item_starts item_at)))
+    specification_at = mapped (λ r. record { name = r.0; items = r.1; length = length text }) (past_of (Word CoreAsm) (pair_of (name_at text) (repeated_of item_starts item_at)))

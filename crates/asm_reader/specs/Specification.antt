@@ -1,5 +1,9 @@
 -- What the specification of a text is.
-use Rattle.std.specs.Prelude.{ℕ, List, IsSome}
+--     GoesOn                the tokens are the beginning of a specification
+--     IsWithinLevels        the tokens nest no deeper than they may
+--     AreSpelling           the tokens spell the tree
+--     IsSpecification       the text has tokens that spell the tree
+use Rattle.std.specs.Prelude.{ℕ, List, ◌++◌, IsSome}
 use Rattle.asm_syntax.specs.declared.token.Token.{Token}
 use Rattle.asm_syntax.specs.Placed as placed
 use Rattle.asm_syntax.specs.Tokens.{AreTokens}
@@ -12,6 +16,10 @@ max_nesting = 64
 -- no token opens a 65th level
 abbrev pub IsWithinLevels : List Token → Type 0
 IsWithinLevels ts = IsSome (depth_after (at_depth max_nesting) ts).left
+
+-- With some tokens behind them, perhaps none, the tokens spell a tree, at any depth. The names are from this text.
+abbrev pub GoesOn : List ℕ → List Token → Type 0
+GoesOn text ts = (more : List Token) × (s : placed.Spec) × specification text (ts ++ more) s
 
 -- The tokens spell the tree, with names from this text, and nest no deeper than they may.
 abbrev pub AreSpelling : List ℕ → List Token → placed.Spec → Type 0

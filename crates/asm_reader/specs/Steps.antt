@@ -112,10 +112,28 @@ abbrev pub choice_at : {A : Type 0} → List (Kind × A) → Reader A
 choice_at table [] = Err UnexpectedEnd
 choice_at table (t ∷ ts) = found_at (looked_up table t.kind) t ts
 
--- what stands behind a token of this kind, or before one
+-- what stands behind a token of this kind
 abbrev pub past_of : {A : Type 0} → Kind → Reader A → Reader A
 past_of k f = mapped (λ r. r.1) (pair_of (expect k) f)
 
 -- once or more, as long as the next token is of one of these kinds
 abbrev pub several_of : {A : Type 0} → List Kind → Reader A → Reader (List A)
 several_of ks f = mapped (λ r. r.0 ∷ r.1) (pair_of f (repeated_of ks f))
+
+-- with tokens of this kind between, and one at least
+abbrev pub separated_of : {A : Type 0} → Kind → Reader A → Reader (List A)
+separated_of k f = mapped (λ r. r.0 ∷ r.1) (pair_of f (repeated_of (k ∷ []) (past_of k f)))
+
+-- behind a token that opens a level, and before the one that closes it. So many may open.
+abbrev pub enclosed_of : {A : Type 0} → ℕ → (opener close : Kind) → Reader A → Reader (Token × A)
+enclosed_of n k close f = mapped (λ r. (r.0, r.1.0)) (pair_of (enter n k) (pair_of f (expect close)))
+
+abbrev pub between_of : {A : Type 0} → ℕ → (opener close : Kind) → Reader A → Reader A
+between_of n k close f = mapped (λ r. r.1) (enclosed_of n k close f)
+
+-- the same where neither token counts as a level
+abbrev pub framed_of : {A : Type 0} → (opener close : Kind) → Reader A → Reader (Token × A)
+framed_of k close f = mapped (λ r. (r.0, r.1.0)) (pair_of (expect k) (pair_of f (expect close)))
+
+abbrev pub braced_of : {A : Type 0} → (opener close : Kind) → Reader A → Reader A
+braced_of k close f = mapped (λ r. r.1) (framed_of k close f)

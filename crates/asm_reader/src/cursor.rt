@@ -116,7 +116,7 @@ impl<'a> Cursor<'a> {
         match self.rest {
             [] => Err(Refused::Named(ReadError::UnexpectedEnd)),
             [token, rest @ ..] => {
-                let refused = Err(Refused::Named(ReadError::Unexpected(token.start)));
+                let refused = Err(Refused::Named(ReadError::Unexpected { at: token.start }));
                 let Kind::Number(value) = token.kind else {
                     return refused;
                 };
@@ -140,7 +140,7 @@ impl<'a> Cursor<'a> {
                     self.rest = rest;
                     Ok(x)
                 }
-                None => Err(Refused::Named(ReadError::Unexpected(token.start))),
+                None => Err(Refused::Named(ReadError::Unexpected { at: token.start })),
             },
         }
     }
@@ -153,7 +153,7 @@ impl<'a> Cursor<'a> {
             [] => Err(Refused::Named(ReadError::UnexpectedEnd)),
             [token, rest @ ..] => {
                 if !alike(kind, token.kind) {
-                    return Err(Refused::Named(ReadError::Unexpected(token.start)));
+                    return Err(Refused::Named(ReadError::Unexpected { at: token.start }));
                 }
                 self.rest = rest;
                 Ok(*token)
@@ -170,10 +170,10 @@ impl<'a> Cursor<'a> {
             [] => Err(Refused::Named(ReadError::UnexpectedEnd)),
             [token, rest @ ..] => {
                 if !alike(kind, token.kind) {
-                    return Err(Refused::Named(ReadError::Unexpected(token.start)));
+                    return Err(Refused::Named(ReadError::Unexpected { at: token.start }));
                 }
                 if levels == 0 {
-                    return Err(Refused::Named(ReadError::TooDeep(token.start)));
+                    return Err(Refused::Named(ReadError::TooDeep { at: token.start }));
                 }
                 self.rest = rest;
                 Ok(*token)

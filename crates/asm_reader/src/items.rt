@@ -1,14 +1,20 @@
 //! Declarations and whole specifications, from their tokens.
 
 ghost use Rattle.std.specs.Prelude.{◌≡◌, option_map};
-ghost use Rattle.asm_syntax.specs.Views.{const_of, item_of, spec_of};
+ghost use Rattle.asm_syntax.specs.Views.{given_of, item_of, name_of, spec_of};
+ghost use Rattle.asm_reader.specs.Grammar as grammar;
 ghost use Rattle.asm_reader.specs.Reading as reading;
+ghost use Rattle.asm_reader.specs.Seen.{type_of};
 ghost use Rattle.asm_reader.specs.Steps.{Reads, each_of, repeated_of};
 
+use crate::contents::{int, table};
 use crate::cursor::Cursor;
 use crate::error::ReadError;
-use crate::{rules, terms};
-use asm_syntax::spec::{Const, FunctionKind, Given, Item, Spec};
+use crate::names::{name, names};
+use crate::rules::rule;
+use crate::terms::term;
+use asm_syntax::name::Name;
+use asm_syntax::spec::{FunctionKind, Given, Item, Spec};
 use asm_syntax::{Kind, Refused, Symbol, Word};
 use std::alloc::Global;
 
@@ -18,8 +24,20 @@ fn item_starts() -> &'static [Kind]
     &[
         Kind::Word(Word::Use),
         Kind::Word(Word::Init),
+        Kind::Word(Word::Enum),
+        Kind::Word(Word::Universe),
         Kind::Word(Word::Function),
+        Kind::Word(Word::Derived),
         Kind::Word(Word::Rule),
+    ]
+}
+
+fn function_kinds() -> &'static [(Kind, FunctionKind)]
+    ensures { result.now ≡ grammar.function_kinds }
+{
+    &[
+        (Kind::Word(Word::Controlled), FunctionKind::Controlled),
+        (Kind::Word(Word::Static), FunctionKind::Static),
     ]
 }
 
@@ -28,7 +46,7 @@ fn use_item(alloc: Global, text: &[u8], tokens: &mut Cursor<'_>) -> Result<Item,
     ensures { Reads item_of (reading.use_at text.now tokens.old.rest.now) result tokens.new.rest.now }
 {
     tokens.expect(Kind::Word(Word::Use))?;
-    let name = terms::name(alloc, text, tokens)?;
+    let name = name(alloc, text, tokens)?;
     Ok(Item::Uses(name))
 }
 
@@ -41,8 +59,107 @@ fn init_item(
     ensures { Reads item_of (reading.init_at text.now tokens.old.rest.now) result tokens.new.rest.now }
 {
     tokens.expect(Kind::Word(Word::Init))?;
-    let name = terms::name(alloc, text, tokens)?;
+    let name = name(alloc, text, tokens)?;
     Ok(Item::Init(name))
+}
+
+/// Names in braces.
+#[tactic(auto, unfolding(crate::specs::Reading::elements_at))]
+fn elements(
+    alloc: Global,
+    text: &[u8],
+    tokens: &mut Cursor<'_>,
+) -> Result<Vec<Name>, Refused<ReadError>>
+    ensures { Reads (each_of name_of) (reading.elements_at text.now tokens.old.rest.now) result tokens.new.rest.now }
+{
+    tokens.expect(Kind::Symbol(Symbol::OpenBrace))?;
+    let all = names(alloc, text, tokens, Kind::Symbol(Symbol::Comma))?;
+    tokens.expect(Kind::Symbol(Symbol::CloseBrace))?;
+    Ok(all)
+}
+
+#[tactic(auto, unfolding(crate::specs::Reading::enum_at))]
+fn enum_item(
+    alloc: Global,
+    text: &[u8],
+    tokens: &mut Cursor<'_>,
+) -> Result<Item, Refused<ReadError>>
+    ensures { Reads item_of (reading.enum_at text.now tokens.old.rest.now) result tokens.new.rest.now }
+{
+    tokens.expect(Kind::Word(Word::Enum))?;
+    let name = name(alloc, text, tokens)?;
+    tokens.expect(Kind::Symbol(Symbol::Equal))?;
+    let elements = elements(alloc, text, tokens)?;
+    Ok(Item::Enum { name, elements })
+}
+
+#[tactic(auto, unfolding(crate::specs::Reading::universe_at))]
+fn universe_item(
+    alloc: Global,
+    text: &[u8],
+    tokens: &mut Cursor<'_>,
+) -> Result<Item, Refused<ReadError>>
+    ensures { Reads item_of (reading.universe_at text.now tokens.old.rest.now) result tokens.new.rest.now }
+{
+    tokens.expect(Kind::Word(Word::Universe))?;
+    let name = name(alloc, text, tokens)?;
+    tokens.expect(Kind::Symbol(Symbol::Equal))?;
+    let first = int(tokens)?;
+    tokens.expect(Kind::Symbol(Symbol::Dots))?;
+    let last = int(tokens)?;
+    Ok(Item::Universe { name, first, last })
+}
+
+/// What stands behind `->`, if it is there.
+#[tactic(auto, unfolding(crate::specs::Reading::codomain_at))]
+fn codomain(
+    alloc: Global,
+    text: &[u8],
+    tokens: &mut Cursor<'_>,
+) -> Result<Option<Name>, Refused<ReadError>>
+    ensures { Reads (option_map name_of) (reading.codomain_at text.now tokens.old.rest.now) result tokens.new.rest.now }
+{
+    if tokens.sees(Kind::Symbol(Symbol::Arrow)) {
+        tokens.expect(Kind::Symbol(Symbol::Arrow))?;
+        let codomain = name(alloc, text, tokens)?;
+        return Ok(Some(codomain));
+    }
+    Ok(None)
+}
+
+/// The universes and the codomain of a function.
+#[tactic(auto, unfolding(crate::specs::Reading::type_at))]
+fn function_type(
+    alloc: Global,
+    text: &[u8],
+    tokens: &mut Cursor<'_>,
+) -> Result<(Vec<Name>, Option<Name>), Refused<ReadError>>
+    ensures { Reads type_of (reading.type_at text.now tokens.old.rest.now) result tokens.new.rest.now }
+{
+    if tokens.sees(Kind::Symbol(Symbol::Arrow)) {
+        tokens.expect(Kind::Symbol(Symbol::Arrow))?;
+        let codomain = name(alloc, text, tokens)?;
+        return Ok((Vec::new(alloc), Some(codomain)));
+    }
+    let domain = names(alloc, text, tokens, Kind::Symbol(Symbol::Times))?;
+    let codomain = codomain(alloc, text, tokens)?;
+    Ok((domain, codomain))
+}
+
+/// What stands behind `:`, if it is there; else no universe and no codomain.
+#[tactic(auto, unfolding(crate::specs::Reading::signature_at))]
+fn signature(
+    alloc: Global,
+    text: &[u8],
+    tokens: &mut Cursor<'_>,
+) -> Result<(Vec<Name>, Option<Name>), Refused<ReadError>>
+    ensures { Reads type_of (reading.signature_at text.now tokens.old.rest.now) result tokens.new.rest.now }
+{
+    if tokens.sees(Kind::Symbol(Symbol::Colon)) {
+        tokens.expect(Kind::Symbol(Symbol::Colon))?;
+        return function_type(alloc, text, tokens);
+    }
+    Ok((Vec::new(alloc), None))
 }
 
 /// What stands behind `initially`, if it is there.
@@ -51,12 +168,13 @@ fn initially(
     alloc: Global,
     text: &[u8],
     tokens: &mut Cursor<'_>,
-) -> Result<Option<Const>, Refused<ReadError>>
-    ensures { Reads (option_map const_of) (reading.initially_at text.now tokens.old.rest.now) result tokens.new.rest.now }
+    levels: usize,
+) -> Result<Option<Given>, Refused<ReadError>>
+    ensures { Reads (option_map given_of) (reading.initially_at text.now levels tokens.old.rest.now) result tokens.new.rest.now }
 {
     if tokens.sees(Kind::Word(Word::Initially)) {
         tokens.expect(Kind::Word(Word::Initially))?;
-        let value = terms::constant(alloc, text, tokens)?;
+        let value = table(alloc, text, tokens, levels)?;
         return Ok(Some(value));
     }
     Ok(None)
@@ -67,23 +185,64 @@ fn function_item(
     alloc: Global,
     text: &[u8],
     tokens: &mut Cursor<'_>,
+    levels: usize,
 ) -> Result<Item, Refused<ReadError>>
-    ensures { Reads item_of (reading.function_at text.now tokens.old.rest.now) result tokens.new.rest.now }
+    ensures { Reads item_of (reading.function_at text.now levels tokens.old.rest.now) result tokens.new.rest.now }
 {
     tokens.expect(Kind::Word(Word::Function))?;
-    tokens.expect(Kind::Word(Word::Controlled))?;
-    let name = terms::name(alloc, text, tokens)?;
-    let value = initially(alloc, text, tokens)?;
+    let kind = tokens.choice(function_kinds())?;
+    let name = name(alloc, text, tokens)?;
+    let (domain, codomain) = signature(alloc, text, tokens)?;
+    let table = initially(alloc, text, tokens, levels)?;
     Ok(Item::Function {
         name,
-        kind: FunctionKind::Controlled,
-        domain: Vec::new(alloc),
-        codomain: None,
-        table: value.map(Given::Each),
+        kind,
+        domain,
+        codomain,
+        table,
     })
 }
 
-/// The declaration of a rule, in which so many levels may open.
+/// Names in parentheses, if they are there.
+#[tactic(auto, unfolding(crate::specs::Reading::parameters_at))]
+fn parameters(
+    alloc: Global,
+    text: &[u8],
+    tokens: &mut Cursor<'_>,
+    levels: usize,
+) -> Result<Vec<Name>, Refused<ReadError>>
+    ensures { Reads (each_of name_of) (reading.parameters_at text.now levels tokens.old.rest.now) result tokens.new.rest.now }
+{
+    if !tokens.sees(Kind::Symbol(Symbol::Open)) {
+        return Ok(Vec::new(alloc));
+    }
+    tokens.enter(Kind::Symbol(Symbol::Open), levels)?;
+    let all = names(alloc, text, tokens, Kind::Symbol(Symbol::Comma))?;
+    tokens.expect(Kind::Symbol(Symbol::Close))?;
+    Ok(all)
+}
+
+#[tactic(auto, unfolding(crate::specs::Reading::derived_at))]
+fn derived_item(
+    alloc: Global,
+    text: &[u8],
+    tokens: &mut Cursor<'_>,
+    levels: usize,
+) -> Result<Item, Refused<ReadError>>
+    ensures { Reads item_of (reading.derived_at text.now levels tokens.old.rest.now) result tokens.new.rest.now }
+{
+    tokens.expect(Kind::Word(Word::Derived))?;
+    let name = name(alloc, text, tokens)?;
+    let parameters = parameters(alloc, text, tokens, levels)?;
+    tokens.expect(Kind::Symbol(Symbol::Equal))?;
+    let body = term(alloc, text, tokens, levels)?;
+    Ok(Item::Derived {
+        name,
+        parameters,
+        body,
+    })
+}
+
 #[tactic(auto, unfolding(crate::specs::Reading::declared_at))]
 fn rule_item(
     alloc: Global,
@@ -94,16 +253,18 @@ fn rule_item(
     ensures { Reads item_of (reading.declared_at text.now levels tokens.old.rest.now) result tokens.new.rest.now }
 {
     tokens.expect(Kind::Word(Word::Rule))?;
-    let name = terms::name(alloc, text, tokens)?;
+    let name = name(alloc, text, tokens)?;
+    let parameters = parameters(alloc, text, tokens, levels)?;
     tokens.expect(Kind::Symbol(Symbol::Equal))?;
-    let body = rules::rule(alloc, text, tokens, levels)?;
+    let body = rule(alloc, text, tokens, levels)?;
     Ok(Item::Declared {
         name,
-        parameters: Vec::new(alloc),
+        parameters,
         body,
     })
 }
 
+/// An item; so many levels may open in it.
 #[tactic(auto, unfolding(crate::specs::Reading::item_at))]
 fn item(
     alloc: Global,
@@ -119,8 +280,17 @@ fn item(
     if tokens.sees(Kind::Word(Word::Init)) {
         return init_item(alloc, text, tokens);
     }
+    if tokens.sees(Kind::Word(Word::Enum)) {
+        return enum_item(alloc, text, tokens);
+    }
+    if tokens.sees(Kind::Word(Word::Universe)) {
+        return universe_item(alloc, text, tokens);
+    }
     if tokens.sees(Kind::Word(Word::Function)) {
-        return function_item(alloc, text, tokens);
+        return function_item(alloc, text, tokens, levels);
+    }
+    if tokens.sees(Kind::Word(Word::Derived)) {
+        return derived_item(alloc, text, tokens, levels);
     }
     rule_item(alloc, text, tokens, levels)
 }
@@ -153,7 +323,7 @@ pub fn specification(
     ensures { Reads spec_of (reading.specification_at text.now levels tokens.old.rest.now) result tokens.new.rest.now }
 {
     tokens.expect(Kind::Word(Word::CoreAsm))?;
-    let name = terms::name(alloc, text, tokens)?;
+    let name = name(alloc, text, tokens)?;
     let items = items(alloc, text, tokens, levels)?;
     Ok(Spec {
         name,

@@ -1,14 +1,19 @@
 //! Specifications, from their texts.
 #![tactic(auto)]
 
+mod contents;
 mod cursor;
-mod error;
+pub mod error;
 mod items;
+mod laws;
+mod names;
 mod reading;
 mod rules;
 mod terms;
 
-pub use reading::{one_tree, read};
+pub use error::ReadError;
+pub use laws::{no_tree_beside_a_refusal, one_refusal, one_tree, one_tree_of_tokens};
+pub use reading::read;
 
 #[cfg(test)]
 mod tests;

@@ -1,54 +1,48 @@
 //! Whole texts as specifications.
 
-ghost use Rattle.std.specs.Prelude.{◌≡◌, ℕ, List, IfOk, IfSome, IfNone};
+ghost use Rattle.std.specs.Prelude.{◌≡◌, ℕ, List, IfOk, IfErr};
+ghost use Rattle.asm_syntax.specs.declared.refused.Refused.TheVariants.{Memory};
 ghost use Rattle.asm_syntax.specs.Placed as placed;
 ghost use Rattle.asm_syntax.specs.Views.{spec_of};
 ghost use Rattle.asm_reader.specs.Specification.{AreSpelling, IsSpecification};
+ghost use Rattle.asm_reader.specs.Refusals.{ExplainsTokens, Explains};
 
 use crate::cursor::Cursor;
+use crate::error::ReadError;
 use crate::items;
 use asm_syntax::spec::Spec;
 use asm_syntax::{Refused, Token, one_list_of_tokens, tokens};
-use std::alloc::{AllocError, Global};
+use std::alloc::Global;
 
 /// So many levels may open.
 const MAX_NESTING: usize = 64;
 
 /// The specification that the tokens of the text spell.
-fn read_tokens(alloc: Global, text: &[u8], tokens: &[Token]) -> Result<Option<Spec>, AllocError>
-    ensures found { IfOk result (λ o. IfSome o (λ s. AreSpelling text.now tokens.now (spec_of s))) }
-    ensures none { IfOk result (λ o. IfNone o ((t : placed.Spec) → ¬ AreSpelling text.now tokens.now t)) }
+fn read_tokens(alloc: Global, text: &[u8], tokens: &[Token]) -> Result<Spec, Refused<ReadError>>
+    ensures found { IfOk result (λ s. AreSpelling text.now tokens.now (spec_of s)) }
+    ensures refused { IfErr result (ExplainsTokens text.now tokens.now) }
+    ensures accepted { (s : placed.Spec) → AreSpelling text.now tokens.now s → IfErr result (λ e. e ≡ Memory) }
 {
     let mut cursor = Cursor { rest: tokens };
-    let read = match items::specification(alloc, text, &mut cursor, MAX_NESTING) {
-        Ok(read) => read,
-        Err(Refused::Named(_)) => return Ok(None),
-        Err(Refused::Memory) => return Err(AllocError),
+    let read = items::specification(alloc, text, &mut cursor, MAX_NESTING)?;
+    match cursor.rest {
+        [] => Ok(read),
+        [token, ..] => Err(Refused::Named(ReadError::Unexpected { at: token.start })),
+    }
+}
+
+/// The specification that the text spells, or why it spells none.
+pub fn read(alloc: Global, text: &[u8]) -> Result<Spec, Refused<ReadError>>
+    ensures found { IfOk result (λ s. IsSpecification text.now (spec_of s)) }
+    ensures refused { IfErr result (Explains text.now) }
+    // A text that spells a specification is refused only where memory runs out.
+    ensures accepted { (s : placed.Spec) → IsSpecification text.now s → IfErr result (λ e. e ≡ Memory) }
+{
+    let tokens = match tokens(alloc, text) {
+        Ok(tokens) => tokens,
+        Err(Refused::Named(fault)) => return Err(Refused::Named(ReadError::Lex(fault))),
+        Err(Refused::Memory) => return Err(Refused::Memory),
     };
-    if !cursor.rest.is_empty() {
-        return Ok(None);
-    }
-    Ok(Some(read))
-}
-
-/// The specification that the text spells.
-pub fn read(alloc: Global, text: &[u8]) -> Result<Option<Spec>, AllocError>
-    ensures found { IfOk result (λ o. IfSome o (λ s. IsSpecification text.now (spec_of s))) }
-    ensures none { IfOk result (λ o. IfNone o ((t : placed.Spec) → ¬ IsSpecification text.now t)) }
-{
-    match tokens(alloc, text) {
-        Ok(tokens) => {
-            one_list_of_tokens();
-            read_tokens(alloc, text, tokens.as_slice())
-        }
-        Err(Refused::Named(_)) => Ok(None),
-        Err(Refused::Memory) => Err(AllocError),
-    }
-}
-
-/// A text has one specification at most.
-pub fn one_tree()
-    ensures { (text : List ℕ) (s t : placed.Spec) → IsSpecification text s → IsSpecification text t → s ≡ t }
-{
     one_list_of_tokens();
+    read_tokens(alloc, text, tokens.as_slice())
 }

@@ -2,12 +2,15 @@
 
 ghost use Rattle.std.specs.Prelude.{◌≡◌, ◌<◌, ◌-◌, map};
 ghost use Rattle.asm_syntax.specs.Views.{rule_of};
-ghost use Rattle.asm_reader.specs.Reading as reading;
+ghost use Rattle.asm_reader.specs.TermReading as terms;
+ghost use Rattle.asm_reader.specs.RuleReading as reading;
+ghost use Rattle.asm_reader.specs.Seen.{boxed_rule_of};
 ghost use Rattle.asm_reader.specs.Steps.{Reads, below, each_of, several_of};
 
 use crate::cursor::Cursor;
 use crate::error::ReadError;
-use crate::terms;
+use crate::names::{binding, name};
+use crate::terms::{applied, condition, term};
 use asm_syntax::rule::Rule;
 use asm_syntax::{Kind, Refused, Symbol, Word};
 use std::alloc::Global;
@@ -15,25 +18,40 @@ use std::alloc::Global;
 fn rule_starts() -> &'static [Kind]
     ensures { result.now ≡ reading.rule_starts }
 {
-    &[Kind::Word(Word::Skip), Kind::Name, Kind::Word(Word::Par)]
+    &[
+        Kind::Word(Word::Skip),
+        Kind::Name,
+        Kind::Word(Word::Par),
+        Kind::Word(Word::Seq),
+        Kind::Word(Word::If),
+        Kind::Word(Word::Let),
+        Kind::Word(Word::Forall),
+        Kind::Word(Word::Choose),
+        Kind::Word(Word::Iterate),
+    ]
 }
 
-#[tactic(auto, unfolding(crate::specs::Reading::assignment_at))]
-fn assignment(
+/// A call, or an assignment.
+#[tactic(auto, using(crate::proofs::TermSteps::term_is), unfolding(crate::specs::RuleReading::named_rule_at))]
+fn named_rule(
     alloc: Global,
     text: &[u8],
     tokens: &mut Cursor<'_>,
+    levels: usize,
 ) -> Result<Rule, Refused<ReadError>>
-    ensures { Reads rule_of (reading.assignment_at text.now tokens.old.rest.now) result tokens.new.rest.now }
+    ensures { Reads rule_of (reading.named_rule_at text.now levels (below (terms.term_at text.now) levels) (below (reading.rule_at text.now) levels) tokens.old.rest.now) result tokens.new.rest.now }
 {
-    let name = terms::name(alloc, text, tokens)?;
-    tokens.expect(Kind::Symbol(Symbol::Assign))?;
-    let value = terms::term(alloc, text, tokens)?;
-    Ok(Rule::Assign {
-        name,
-        arguments: Vec::new(alloc),
-        value,
-    })
+    let (name, arguments) = applied(alloc, text, tokens, levels)?;
+    if tokens.sees(Kind::Symbol(Symbol::Assign)) {
+        tokens.expect(Kind::Symbol(Symbol::Assign))?;
+        let value = term(alloc, text, tokens, levels)?;
+        return Ok(Rule::Assign {
+            name,
+            arguments,
+            value,
+        });
+    }
+    Ok(Rule::Call { name, arguments })
 }
 
 /// One rule or more; so many levels may open in them.
@@ -57,14 +75,14 @@ fn several(
 }
 
 #[cycle(rules)]
-#[tactic(auto, unfolding(crate::specs::Reading::par_at))]
+#[tactic(auto, unfolding(crate::specs::RuleReading::par_at))]
 fn par(
     alloc: Global,
     text: &[u8],
     tokens: &mut Cursor<'_>,
     levels: usize,
 ) -> Result<Rule, Refused<ReadError>>
-    ensures { Reads rule_of (reading.par_at text.now levels (below (reading.rule_at text.now) levels) tokens.old.rest.now) result tokens.new.rest.now }
+    ensures { Reads rule_of (reading.par_at text.now levels (below (terms.term_at text.now) levels) (below (reading.rule_at text.now) levels) tokens.old.rest.now) result tokens.new.rest.now }
 {
     tokens.enter(Kind::Word(Word::Par), levels)?;
     let all = several(alloc, text, tokens, levels - 1)?;
@@ -72,9 +90,207 @@ fn par(
     Ok(Rule::Par(all))
 }
 
+#[cycle(rules)]
+#[tactic(auto, unfolding(crate::specs::RuleReading::seq_at))]
+fn seq(
+    alloc: Global,
+    text: &[u8],
+    tokens: &mut Cursor<'_>,
+    levels: usize,
+) -> Result<Rule, Refused<ReadError>>
+    ensures { Reads rule_of (reading.seq_at text.now levels (below (terms.term_at text.now) levels) (below (reading.rule_at text.now) levels) tokens.old.rest.now) result tokens.new.rest.now }
+{
+    tokens.enter(Kind::Word(Word::Seq), levels)?;
+    let all = several(alloc, text, tokens, levels - 1)?;
+    tokens.expect(Kind::Word(Word::EndSeq))?;
+    Ok(Rule::Seq(all))
+}
+
+/// What stands behind `else`, if it is there.
+#[cycle(rules)]
+#[tactic(auto, unfolding(crate::specs::RuleReading::else_at))]
+fn else_rule(
+    alloc: Global,
+    text: &[u8],
+    tokens: &mut Cursor<'_>,
+    levels: usize,
+) -> Result<Option<Box<Rule>>, Refused<ReadError>>
+    ensures { Reads boxed_rule_of (reading.else_at (reading.rule_at text.now levels) tokens.old.rest.now) result tokens.new.rest.now }
+{
+    if tokens.sees(Kind::Word(Word::Else)) {
+        tokens.expect(Kind::Word(Word::Else))?;
+        let other = rule(alloc, text, tokens, levels)?;
+        let other = Box::new(alloc, other)?;
+        return Ok(Some(other));
+    }
+    Ok(None)
+}
+
+/// What stands behind `ifnone`, if it is there.
+#[cycle(rules)]
+#[tactic(auto, unfolding(crate::specs::RuleReading::if_none_at))]
+fn if_none_rule(
+    alloc: Global,
+    text: &[u8],
+    tokens: &mut Cursor<'_>,
+    levels: usize,
+) -> Result<Option<Box<Rule>>, Refused<ReadError>>
+    ensures { Reads boxed_rule_of (reading.if_none_at (reading.rule_at text.now levels) tokens.old.rest.now) result tokens.new.rest.now }
+{
+    if tokens.sees(Kind::Word(Word::IfNone)) {
+        tokens.expect(Kind::Word(Word::IfNone))?;
+        let other = rule(alloc, text, tokens, levels)?;
+        let other = Box::new(alloc, other)?;
+        return Ok(Some(other));
+    }
+    Ok(None)
+}
+
+#[cycle(rules)]
+#[tactic(auto, unfolding(crate::specs::RuleReading::if_at))]
+fn conditional(
+    alloc: Global,
+    text: &[u8],
+    tokens: &mut Cursor<'_>,
+    levels: usize,
+) -> Result<Rule, Refused<ReadError>>
+    ensures { Reads rule_of (reading.if_at text.now levels (below (terms.term_at text.now) levels) (below (reading.rule_at text.now) levels) tokens.old.rest.now) result tokens.new.rest.now }
+{
+    tokens.enter(Kind::Word(Word::If), levels)?;
+    let test = term(alloc, text, tokens, levels - 1)?;
+    tokens.expect(Kind::Word(Word::Then))?;
+    let yes = rule(alloc, text, tokens, levels - 1)?;
+    let yes = Box::new(alloc, yes)?;
+    let no = else_rule(alloc, text, tokens, levels - 1)?;
+    tokens.expect(Kind::Word(Word::EndIf))?;
+    Ok(Rule::If { test, yes, no })
+}
+
+#[cycle(rules)]
+#[tactic(auto, unfolding(crate::specs::RuleReading::let_at))]
+fn let_rule(
+    alloc: Global,
+    text: &[u8],
+    tokens: &mut Cursor<'_>,
+    levels: usize,
+) -> Result<Rule, Refused<ReadError>>
+    ensures { Reads rule_of (reading.let_at text.now levels (below (terms.term_at text.now) levels) (below (reading.rule_at text.now) levels) tokens.old.rest.now) result tokens.new.rest.now }
+{
+    tokens.enter(Kind::Word(Word::Let), levels)?;
+    let name = name(alloc, text, tokens)?;
+    tokens.expect(Kind::Symbol(Symbol::Equal))?;
+    let value = term(alloc, text, tokens, levels - 1)?;
+    tokens.expect(Kind::Word(Word::In))?;
+    let body = rule(alloc, text, tokens, levels - 1)?;
+    let body = Box::new(alloc, body)?;
+    tokens.expect(Kind::Word(Word::EndLet))?;
+    Ok(Rule::Let { name, value, body })
+}
+
+#[cycle(rules)]
+#[tactic(auto, unfolding(crate::specs::RuleReading::forall_at))]
+fn forall(
+    alloc: Global,
+    text: &[u8],
+    tokens: &mut Cursor<'_>,
+    levels: usize,
+) -> Result<Rule, Refused<ReadError>>
+    ensures { Reads rule_of (reading.forall_at text.now levels (below (terms.term_at text.now) levels) (below (reading.rule_at text.now) levels) tokens.old.rest.now) result tokens.new.rest.now }
+{
+    tokens.enter(Kind::Word(Word::Forall), levels)?;
+    let (name, over) = binding(alloc, text, tokens)?;
+    let test = condition(alloc, text, tokens, levels - 1)?;
+    tokens.expect(Kind::Word(Word::Do))?;
+    let body = rule(alloc, text, tokens, levels - 1)?;
+    let body = Box::new(alloc, body)?;
+    tokens.expect(Kind::Word(Word::EndForall))?;
+    Ok(Rule::Forall {
+        name,
+        over,
+        test,
+        body,
+    })
+}
+
+#[cycle(rules)]
+#[tactic(auto, unfolding(crate::specs::RuleReading::choose_at))]
+fn choose(
+    alloc: Global,
+    text: &[u8],
+    tokens: &mut Cursor<'_>,
+    levels: usize,
+) -> Result<Rule, Refused<ReadError>>
+    ensures { Reads rule_of (reading.choose_at text.now levels (below (terms.term_at text.now) levels) (below (reading.rule_at text.now) levels) tokens.old.rest.now) result tokens.new.rest.now }
+{
+    tokens.enter(Kind::Word(Word::Choose), levels)?;
+    let (name, over) = binding(alloc, text, tokens)?;
+    let test = condition(alloc, text, tokens, levels - 1)?;
+    tokens.expect(Kind::Word(Word::Do))?;
+    let body = rule(alloc, text, tokens, levels - 1)?;
+    let body = Box::new(alloc, body)?;
+    let none = if_none_rule(alloc, text, tokens, levels - 1)?;
+    tokens.expect(Kind::Word(Word::EndChoose))?;
+    Ok(Rule::Choose {
+        name,
+        over,
+        test,
+        body,
+        none,
+    })
+}
+
+#[cycle(rules)]
+#[tactic(auto, unfolding(crate::specs::RuleReading::iterate_at))]
+fn iterate(
+    alloc: Global,
+    text: &[u8],
+    tokens: &mut Cursor<'_>,
+    levels: usize,
+) -> Result<Rule, Refused<ReadError>>
+    ensures { Reads rule_of (reading.iterate_at text.now levels (below (terms.term_at text.now) levels) (below (reading.rule_at text.now) levels) tokens.old.rest.now) result tokens.new.rest.now }
+{
+    tokens.enter(Kind::Word(Word::Iterate), levels)?;
+    let body = rule(alloc, text, tokens, levels - 1)?;
+    let body = Box::new(alloc, body)?;
+    tokens.expect(Kind::Word(Word::EndIterate))?;
+    Ok(Rule::Iterate(body))
+}
+
+/// A rule with an end word.
+#[cycle(rules)]
+#[tactic(auto, unfolding(crate::specs::RuleReading::block_at))]
+fn block(
+    alloc: Global,
+    text: &[u8],
+    tokens: &mut Cursor<'_>,
+    levels: usize,
+) -> Result<Rule, Refused<ReadError>>
+    ensures { Reads rule_of (reading.block_at text.now levels (below (terms.term_at text.now) levels) (below (reading.rule_at text.now) levels) tokens.old.rest.now) result tokens.new.rest.now }
+{
+    if tokens.sees(Kind::Word(Word::Par)) {
+        return par(alloc, text, tokens, levels);
+    }
+    if tokens.sees(Kind::Word(Word::Seq)) {
+        return seq(alloc, text, tokens, levels);
+    }
+    if tokens.sees(Kind::Word(Word::If)) {
+        return conditional(alloc, text, tokens, levels);
+    }
+    if tokens.sees(Kind::Word(Word::Let)) {
+        return let_rule(alloc, text, tokens, levels);
+    }
+    if tokens.sees(Kind::Word(Word::Forall)) {
+        return forall(alloc, text, tokens, levels);
+    }
+    if tokens.sees(Kind::Word(Word::Choose)) {
+        return choose(alloc, text, tokens, levels);
+    }
+    iterate(alloc, text, tokens, levels)
+}
+
 /// A rule; so many levels may open in it.
 #[cycle(rules)]
-#[tactic(auto, using(crate::proofs::RuleSteps::rule_is, crate::proofs::Views::skip_is), unfolding(crate::specs::Reading::rule_over_at, crate::specs::Reading::skip_at))]
+#[tactic(auto, using(crate::proofs::RuleSteps::rule_is, crate::proofs::Views::skip_is), unfolding(crate::specs::RuleReading::rule_over_at, crate::specs::RuleReading::skip_at))]
 pub fn rule(
     alloc: Global,
     text: &[u8],
@@ -88,7 +304,7 @@ pub fn rule(
         return Ok(Rule::Skip);
     }
     if tokens.sees(Kind::Name) {
-        return assignment(alloc, text, tokens);
+        return named_rule(alloc, text, tokens, levels);
     }
-    par(alloc, text, tokens, levels)
+    block(alloc, text, tokens, levels)
 }

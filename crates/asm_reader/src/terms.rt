@@ -1,21 +1,24 @@
-//! Names, terms and constants, from their tokens.
+//! Terms, from their tokens.
 
-ghost use Rattle.std.specs.Prelude.{◌≡◌, IfOk, slice_range};
-ghost use Rattle.asm_syntax.specs.Views.{name_of, term_of, const_of, test_of};
-ghost use Rattle.asm_reader.specs.Grammar as grammar;
-ghost use Rattle.asm_reader.specs.Reading as reading;
-ghost use Rattle.asm_reader.specs.Steps.{Reads};
+ghost use Rattle.std.specs.Prelude.{◌≡◌, map, IfOk};
+ghost use Rattle.asm_syntax.specs.Views.{term_of, test_of};
+ghost use Rattle.asm_reader.specs.TermGrammar as grammar;
+ghost use Rattle.asm_reader.specs.TermReading as reading;
+ghost use Rattle.asm_reader.specs.RuleReading.{condition_at};
+ghost use Rattle.asm_reader.specs.Seen.{applied_of, link_of};
+ghost use Rattle.asm_reader.specs.Steps.{Reads, below, each_of};
 
 use crate::cursor::Cursor;
 use crate::error::ReadError;
+use crate::names::{binding, name};
 use asm_state::operation::Op;
-use asm_syntax::name::{Name, Text};
-use asm_syntax::spec::Const;
+use asm_syntax::name::Name;
 use asm_syntax::term::{Literal, Term};
-use asm_syntax::{Kind, Refused, Symbol, Token, Word};
+use asm_syntax::{Kind, Refused, Symbol, Word};
 use std::alloc::{AllocError, Global};
 
-fn constants() -> [(Kind, Literal); 3]
+/// The words that are values.
+pub fn constants() -> [(Kind, Literal); 3]
     ensures { result ≡ grammar.constants }
 {
     [
@@ -25,41 +28,198 @@ fn constants() -> [(Kind, Literal); 3]
     ]
 }
 
-/// The bytes from `start` to `end`, as far as there are any.
-fn span(text: &[u8], start: usize, end: usize) -> &[u8]
-    ensures { result.now ≡ slice_range text.now start end }
+/// The operators of comparisons, which don't chain.
+fn comparisons() -> &'static [(Kind, Op)]
+    ensures { result.now ≡ grammar.comparisons }
 {
-    let end = end.min(text.len());
-    if end < start {
-        return &[];
-    }
-    &text[start..end]
+    &[
+        (Kind::Symbol(Symbol::Equal), Op::Equal),
+        (Kind::Symbol(Symbol::NotEqual), Op::Different),
+        (Kind::Symbol(Symbol::Less), Op::Less),
+        (Kind::Symbol(Symbol::AtMost), Op::AtMost),
+        (Kind::Symbol(Symbol::Greater), Op::Greater),
+        (Kind::Symbol(Symbol::AtLeast), Op::AtLeast),
+    ]
 }
 
-/// The name that the token stands for.
-fn named(alloc: Global, text: &[u8], token: Token) -> Result<Name, AllocError>
-    ensures { IfOk result (λ x. name_of x ≡ grammar.name_at_token text.now token) }
+/// The operators that are taken from the left, from the weakest on.
+#[derive(Clone, Copy)]
+pub enum Precedence {
+    Disjunction,
+    Conjunction,
+    Sum,
+    Product,
+}
+
+/// The operators that bind so.
+fn operators(of: Precedence) -> &'static [(Kind, Op)]
+    ensures { result.now ≡ reading.table_of of }
 {
-    let bytes = span(text, token.start, token.end);
-    let text = Text::new(alloc, bytes)?;
-    Ok(Name {
-        at: token.start,
-        text,
+    match of {
+        Precedence::Disjunction => &[(Kind::Word(Word::Or), Op::Or)],
+        Precedence::Conjunction => &[(Kind::Word(Word::And), Op::And)],
+        Precedence::Sum => &[
+            (Kind::Symbol(Symbol::Plus), Op::Add),
+            (Kind::Symbol(Symbol::Minus), Op::Subtract),
+        ],
+        Precedence::Product => &[
+            (Kind::Symbol(Symbol::Times), Op::Multiply),
+            (Kind::Word(Word::Div), Op::Divide),
+            (Kind::Word(Word::Mod), Op::Remainder),
+        ],
+    }
+}
+
+/// The chain of the first member and the others, or the first alone.
+fn joined(alloc: Global, first: Term, rest: Vec<(Op, Term)>) -> Result<Term, AllocError>
+    ensures { IfOk result (λ t. term_of t ≡ grammar.chain_of (term_of first, map link_of rest.items)) }
+{
+    if rest.is_empty() {
+        return Ok(first);
+    }
+    Ok(Term::Chain {
+        first: Box::new(alloc, first)?,
+        rest,
     })
 }
 
-/// A name.
-#[tactic(auto, unfolding(crate::specs::Reading::name_at))]
-pub fn name(alloc: Global, text: &[u8], tokens: &mut Cursor<'_>) -> Result<Name, Refused<ReadError>>
-    ensures { Reads name_of (reading.name_at text.now tokens.old.rest.now) result tokens.new.rest.now }
+/// Terms with commas between; so many levels may open in them.
+#[cycle(terms)]
+fn terms(
+    alloc: Global,
+    text: &[u8],
+    tokens: &mut Cursor<'_>,
+    levels: usize,
+) -> Result<Vec<Term>, Refused<ReadError>>
+    ensures { Reads (each_of term_of) (reading.terms_at text.now levels tokens.old.rest.now) result tokens.new.rest.now }
 {
-    let token = tokens.expect(Kind::Name)?;
-    Ok(named(alloc, text, token)?)
+    let mut all = Vec::new(alloc);
+    let first = term(alloc, text, tokens, levels)?;
+    all.push(first)?;
+    while tokens.sees(Kind::Symbol(Symbol::Comma)) {
+        tokens.expect(Kind::Symbol(Symbol::Comma))?;
+        let next = term(alloc, text, tokens, levels)?;
+        all.push(next)?;
+    }
+    Ok(all)
 }
 
-#[tactic(auto, unfolding(crate::specs::Reading::primary_at))]
-fn primary(alloc: Global, text: &[u8], tokens: &mut Cursor<'_>) -> Result<Term, Refused<ReadError>>
-    ensures { Reads term_of (reading.primary_at text.now tokens.old.rest.now) result tokens.new.rest.now }
+#[cycle(terms)]
+#[tactic(auto, unfolding(crate::specs::TermReading::arguments_at))]
+fn arguments(
+    alloc: Global,
+    text: &[u8],
+    tokens: &mut Cursor<'_>,
+    levels: usize,
+) -> Result<Vec<Term>, Refused<ReadError>>
+    ensures { Reads (each_of term_of) (reading.arguments_at text.now levels (below (reading.term_at text.now) levels) tokens.old.rest.now) result tokens.new.rest.now }
+{
+    tokens.enter(Kind::Symbol(Symbol::Open), levels)?;
+    let all = terms(alloc, text, tokens, levels - 1)?;
+    tokens.expect(Kind::Symbol(Symbol::Close))?;
+    Ok(all)
+}
+
+/// A name with its arguments, if it has any.
+#[cycle(terms)]
+#[tactic(auto, unfolding(crate::specs::TermReading::applied_at))]
+pub fn applied(
+    alloc: Global,
+    text: &[u8],
+    tokens: &mut Cursor<'_>,
+    levels: usize,
+) -> Result<(Name, Vec<Term>), Refused<ReadError>>
+    ensures { Reads applied_of (reading.applied_at text.now levels (below (reading.term_at text.now) levels) tokens.old.rest.now) result tokens.new.rest.now }
+{
+    let name = name(alloc, text, tokens)?;
+    if tokens.sees(Kind::Symbol(Symbol::Open)) {
+        let arguments = arguments(alloc, text, tokens, levels)?;
+        return Ok((name, arguments));
+    }
+    Ok((name, Vec::new(alloc)))
+}
+
+#[cycle(terms)]
+#[tactic(auto, unfolding(crate::specs::TermReading::exists_at))]
+fn exists(
+    alloc: Global,
+    text: &[u8],
+    tokens: &mut Cursor<'_>,
+    levels: usize,
+) -> Result<Term, Refused<ReadError>>
+    ensures { Reads term_of (reading.exists_at text.now (reading.term_at text.now levels) tokens.old.rest.now) result tokens.new.rest.now }
+{
+    tokens.expect(Kind::Word(Word::Exists))?;
+    let (name, over) = binding(alloc, text, tokens)?;
+    tokens.expect(Kind::Word(Word::With))?;
+    let test = term(alloc, text, tokens, levels)?;
+    let test = Box::new(alloc, test)?;
+    Ok(Term::Exists { name, over, test })
+}
+
+#[cycle(terms)]
+#[tactic(auto, unfolding(crate::specs::TermReading::every_at))]
+fn every(
+    alloc: Global,
+    text: &[u8],
+    tokens: &mut Cursor<'_>,
+    levels: usize,
+) -> Result<Term, Refused<ReadError>>
+    ensures { Reads term_of (reading.every_at text.now (reading.term_at text.now levels) tokens.old.rest.now) result tokens.new.rest.now }
+{
+    tokens.expect(Kind::Word(Word::Forall))?;
+    let (name, over) = binding(alloc, text, tokens)?;
+    tokens.expect(Kind::Word(Word::Holds))?;
+    let test = term(alloc, text, tokens, levels)?;
+    let test = Box::new(alloc, test)?;
+    Ok(Term::Every { name, over, test })
+}
+
+/// What stands in parentheses.
+#[cycle(terms)]
+#[tactic(auto, unfolding(crate::specs::TermReading::inner_at))]
+fn inner(
+    alloc: Global,
+    text: &[u8],
+    tokens: &mut Cursor<'_>,
+    levels: usize,
+) -> Result<Term, Refused<ReadError>>
+    ensures { Reads term_of (reading.inner_at text.now (reading.term_at text.now levels) tokens.old.rest.now) result tokens.new.rest.now }
+{
+    if tokens.sees(Kind::Word(Word::Exists)) {
+        return exists(alloc, text, tokens, levels);
+    }
+    if tokens.sees(Kind::Word(Word::Forall)) {
+        return every(alloc, text, tokens, levels);
+    }
+    term(alloc, text, tokens, levels)
+}
+
+#[cycle(terms)]
+#[tactic(auto, unfolding(crate::specs::TermReading::parenthesized_at))]
+fn parenthesized(
+    alloc: Global,
+    text: &[u8],
+    tokens: &mut Cursor<'_>,
+    levels: usize,
+) -> Result<Term, Refused<ReadError>>
+    ensures { Reads term_of (reading.parenthesized_at text.now levels (below (reading.term_at text.now) levels) tokens.old.rest.now) result tokens.new.rest.now }
+{
+    tokens.enter(Kind::Symbol(Symbol::Open), levels)?;
+    let inner = inner(alloc, text, tokens, levels - 1)?;
+    tokens.expect(Kind::Symbol(Symbol::Close))?;
+    Ok(inner)
+}
+
+#[cycle(terms)]
+#[tactic(auto, unfolding(crate::specs::TermReading::primary_at))]
+fn primary(
+    alloc: Global,
+    text: &[u8],
+    tokens: &mut Cursor<'_>,
+    levels: usize,
+) -> Result<Term, Refused<ReadError>>
+    ensures { Reads term_of (reading.primary_at text.now levels (below (reading.term_at text.now) levels) tokens.old.rest.now) result tokens.new.rest.now }
 {
     if tokens.sees(Kind::Number(0)) {
         let number = tokens.number(false)?;
@@ -69,89 +229,135 @@ fn primary(alloc: Global, text: &[u8], tokens: &mut Cursor<'_>) -> Result<Term, 
         let literal = tokens.choice(&constants())?;
         return Ok(Term::Constant(literal));
     }
-    let name = name(alloc, text, tokens)?;
-    Ok(Term::Named {
-        name,
-        arguments: Vec::new(alloc),
-    })
+    if tokens.sees(Kind::Name) {
+        let (name, arguments) = applied(alloc, text, tokens, levels)?;
+        return Ok(Term::Named { name, arguments });
+    }
+    parenthesized(alloc, text, tokens, levels)
 }
 
-#[tactic(auto, unfolding(crate::specs::Reading::factor_at))]
-fn factor(alloc: Global, text: &[u8], tokens: &mut Cursor<'_>) -> Result<Term, Refused<ReadError>>
-    ensures { Reads term_of (reading.factor_at text.now tokens.old.rest.now) result tokens.new.rest.now }
+#[cycle(terms)]
+#[tactic(auto, unfolding(crate::specs::TermReading::factor_at))]
+fn factor(
+    alloc: Global,
+    text: &[u8],
+    tokens: &mut Cursor<'_>,
+    levels: usize,
+) -> Result<Term, Refused<ReadError>>
+    ensures { Reads term_of (reading.factor_at text.now levels (below (reading.term_at text.now) levels) tokens.old.rest.now) result tokens.new.rest.now }
 {
     if tokens.sees(Kind::Symbol(Symbol::Minus)) {
         tokens.expect(Kind::Symbol(Symbol::Minus))?;
-        let negated = primary(alloc, text, tokens)?;
+        let negated = primary(alloc, text, tokens, levels)?;
         return Ok(Term::Negative(Box::new(alloc, negated)?));
     }
-    primary(alloc, text, tokens)
+    primary(alloc, text, tokens, levels)
 }
 
-/// What stands behind a `+`, if there is one.
-#[tactic(auto, unfolding(crate::specs::Reading::addend_at))]
-fn addend(
+#[cycle(terms)]
+#[tactic(auto, unfolding(crate::specs::TermReading::comparison_at))]
+fn comparison(
     alloc: Global,
     text: &[u8],
     tokens: &mut Cursor<'_>,
-) -> Result<Option<Term>, Refused<ReadError>>
-    ensures { Reads test_of (reading.addend_at text.now tokens.old.rest.now) result tokens.new.rest.now }
+    levels: usize,
+) -> Result<Term, Refused<ReadError>>
+    ensures { Reads term_of (reading.comparison_at text.now levels (below (reading.term_at text.now) levels) tokens.old.rest.now) result tokens.new.rest.now }
 {
-    if tokens.sees(Kind::Symbol(Symbol::Plus)) {
-        tokens.expect(Kind::Symbol(Symbol::Plus))?;
-        let next = factor(alloc, text, tokens)?;
-        return Ok(Some(next));
+    let first = chain(alloc, text, tokens, levels, Precedence::Sum)?;
+    let mut rest = Vec::new(alloc);
+    if tokens.sees_in(comparisons()) {
+        let operator = tokens.choice(comparisons())?;
+        let second = chain(alloc, text, tokens, levels, Precedence::Sum)?;
+        rest.push((operator, second))?;
+    }
+    Ok(joined(alloc, first, rest)?)
+}
+
+#[cycle(terms)]
+#[tactic(auto, unfolding(crate::specs::TermReading::negation_at))]
+fn negation(
+    alloc: Global,
+    text: &[u8],
+    tokens: &mut Cursor<'_>,
+    levels: usize,
+) -> Result<Term, Refused<ReadError>>
+    ensures { Reads term_of (reading.negation_at text.now levels (below (reading.term_at text.now) levels) tokens.old.rest.now) result tokens.new.rest.now }
+{
+    if tokens.sees(Kind::Word(Word::Not)) {
+        tokens.expect(Kind::Word(Word::Not))?;
+        let denied = comparison(alloc, text, tokens, levels)?;
+        return Ok(Term::Not(Box::new(alloc, denied)?));
+    }
+    comparison(alloc, text, tokens, levels)
+}
+
+#[cycle(terms)]
+fn operand(
+    alloc: Global,
+    text: &[u8],
+    tokens: &mut Cursor<'_>,
+    levels: usize,
+    of: Precedence,
+) -> Result<Term, Refused<ReadError>>
+    ensures { Reads term_of (reading.operand_at text.now levels (below (reading.term_at text.now) levels) of tokens.old.rest.now) result tokens.new.rest.now }
+{
+    match of {
+        Precedence::Disjunction => chain(alloc, text, tokens, levels, Precedence::Conjunction),
+        Precedence::Conjunction => negation(alloc, text, tokens, levels),
+        Precedence::Sum => chain(alloc, text, tokens, levels, Precedence::Product),
+        Precedence::Product => factor(alloc, text, tokens, levels),
+    }
+}
+
+#[cycle(terms)]
+fn chain(
+    alloc: Global,
+    text: &[u8],
+    tokens: &mut Cursor<'_>,
+    levels: usize,
+    of: Precedence,
+) -> Result<Term, Refused<ReadError>>
+    ensures { Reads term_of (reading.chain_of_at text.now levels (below (reading.term_at text.now) levels) of tokens.old.rest.now) result tokens.new.rest.now }
+{
+    let first = operand(alloc, text, tokens, levels, of)?;
+    let mut rest = Vec::new(alloc);
+    while tokens.sees_in(operators(of)) {
+        let operator = tokens.choice(operators(of))?;
+        let next = operand(alloc, text, tokens, levels, of)?;
+        rest.push((operator, next))?;
+    }
+    Ok(joined(alloc, first, rest)?)
+}
+
+/// A term; so many levels may open in it.
+#[cycle(terms)]
+#[tactic(auto, using(crate::proofs::TermSteps::term_is))]
+pub fn term(
+    alloc: Global,
+    text: &[u8],
+    tokens: &mut Cursor<'_>,
+    levels: usize,
+) -> Result<Term, Refused<ReadError>>
+    ensures { Reads term_of (reading.term_at text.now levels tokens.old.rest.now) result tokens.new.rest.now }
+{
+    chain(alloc, text, tokens, levels, Precedence::Disjunction)
+}
+
+/// What stands behind `with`, if it is there.
+#[tactic(auto, unfolding(crate::specs::RuleReading::condition_at))]
+pub fn condition(
+    alloc: Global,
+    text: &[u8],
+    tokens: &mut Cursor<'_>,
+    levels: usize,
+) -> Result<Option<Term>, Refused<ReadError>>
+    ensures { Reads test_of (condition_at (reading.term_at text.now levels) tokens.old.rest.now) result tokens.new.rest.now }
+{
+    if tokens.sees(Kind::Word(Word::With)) {
+        tokens.expect(Kind::Word(Word::With))?;
+        let test = term(alloc, text, tokens, levels)?;
+        return Ok(Some(test));
     }
     Ok(None)
-}
-
-/// The chain of the two, or the first alone.
-fn joined(alloc: Global, first: Term, next: Option<Term>) -> Result<Term, AllocError>
-    ensures { IfOk result (λ t. term_of t ≡ grammar.chain_of (term_of first, test_of next)) }
-{
-    let Some(next) = next else {
-        return Ok(first);
-    };
-    let mut rest = Vec::new(alloc);
-    rest.push((Op::Add, next))?;
-    Ok(Term::Chain {
-        first: Box::new(alloc, first)?,
-        rest,
-    })
-}
-
-/// A term.
-#[tactic(auto, unfolding(crate::specs::Reading::term_at))]
-pub fn term(alloc: Global, text: &[u8], tokens: &mut Cursor<'_>) -> Result<Term, Refused<ReadError>>
-    ensures { Reads term_of (reading.term_at text.now tokens.old.rest.now) result tokens.new.rest.now }
-{
-    let first = factor(alloc, text, tokens)?;
-    let next = addend(alloc, text, tokens)?;
-    Ok(joined(alloc, first, next)?)
-}
-
-/// A constant of a table.
-#[tactic(auto, unfolding(crate::specs::Reading::constant_at))]
-pub fn constant(
-    alloc: Global,
-    text: &[u8],
-    tokens: &mut Cursor<'_>,
-) -> Result<Const, Refused<ReadError>>
-    ensures { Reads const_of (reading.constant_at text.now tokens.old.rest.now) result tokens.new.rest.now }
-{
-    if tokens.sees(Kind::Symbol(Symbol::Minus)) {
-        tokens.expect(Kind::Symbol(Symbol::Minus))?;
-        let number = tokens.number(true)?;
-        return Ok(Const::Plain(Literal::Number(number)));
-    }
-    if tokens.sees(Kind::Number(0)) {
-        let number = tokens.number(false)?;
-        return Ok(Const::Plain(Literal::Number(number)));
-    }
-    if tokens.sees_in(&constants()) {
-        let literal = tokens.choice(&constants())?;
-        return Ok(Const::Plain(literal));
-    }
-    let name = name(alloc, text, tokens)?;
-    Ok(Const::Element(name))
 }

@@ -1,107 +1,68 @@
-use crate::read;
-use asm_syntax::rule::Rule;
-use asm_syntax::spec::{Const, Given, Item, Spec};
-use asm_syntax::term::{Literal, Term};
+//! Texts, with the trees and the refusals that a person who knows the grammar expects of them. Nothing here says that
+//! memory is refused: `rt try --test --fail-alloc N` does that.
+use crate::{ReadError, read};
+use asm_syntax::Refused;
+use asm_syntax::spec::Item;
 use std::alloc::{AllocError, Global};
 use std::test::Fail;
 
-const COUNTER: &[u8] = b"CoreASM Counter // counts down\n\
-    use Standard init Main\n\
-    function controlled left initially -3\n\
-    rule Main = par left := left + 1 step := -left skip endpar\n";
+mod faults;
+mod levels;
+mod memory;
+mod printed;
+mod rows;
+mod sizes;
+mod stuck;
+mod trees;
 
-/// The text of a rule with so many levels.
-fn nested(alloc: Global, levels: usize) -> Result<Vec<u8>, AllocError> {
-    let mut text = b"CoreASM Deep rule Main = ".to_vec(alloc)?;
-    for _ in 0..levels {
-        text.extend_from_slice(b"par ")?;
-    }
-    text.extend_from_slice(b"skip")?;
-    for _ in 0..levels {
-        text.extend_from_slice(b" endpar")?;
+/// The pieces, one behind the other.
+fn joined(alloc: Global, pieces: &[&str]) -> Result<Vec<u8>, AllocError> {
+    let mut text = Vec::new(alloc);
+    for piece in pieces {
+        text.extend_from_slice(piece.as_bytes())?;
     }
     Ok(text)
 }
 
-#[test]
-fn a_whole_text(rt: HostRuntime) -> Result<(), Fail> {
-    let read = read(rt.alloc(), COUNTER)?;
-    let Some(
-        Spec {
-            name,
-            items,
-            length,
-        },
-    ) = read
-    else {
-        return Err(Fail::from("no specification"));
-    };
-    assert_eq!(rt; name.at, 8);
-    assert!(rt; name.text.as_bytes() == b"Counter".as_slice());
-    assert_eq!(rt; length, COUNTER.len());
-    assert_eq!(rt; items.len(), 4);
-    assert!(rt; matches!(&items[0], Item::Uses(_)));
-    assert!(rt; matches!(&items[1], Item::Init(_)));
-    let Item::Function {
-        table: Some(Given::Each(Const::Plain(Literal::Number(number)))),
-        ..
-    } = &items[2]
-    else {
-        return Err(Fail::from("no function"));
-    };
-    assert_eq!(rt; number.value, -3);
-    let Item::Declared {
-        body: Rule::Par(parts),
-        ..
-    } = &items[3]
-    else {
-        return Err(Fail::from("no rule"));
-    };
-    assert_eq!(rt; parts.len(), 3);
-    assert!(rt;
-        matches!(
-            &parts[0],
-            Rule::Assign {
-                value: Term::Chain { .. },
-                ..
-            }
-        )
-    );
-    assert!(rt;
-        matches!(
-            &parts[1],
-            Rule::Assign {
-                value: Term::Negative(_),
-                ..
-            }
-        )
-    );
-    assert!(rt; matches!(&parts[2], Rule::Skip));
-    Ok(())
-}
-
-#[test]
-fn texts_of_another_language(rt: HostRuntime) -> Result<(), Fail> {
-    for text in [
-        b"".as_slice(),
-        b"CoreASM",
-        b"CoreASM A rule M = par skip",
-        b"CoreASM A rule M = par endpar",
-        b"CoreASM A rule M = x := 1 + 2 + 3",
-        b"CoreASM A rule M = skip skip",
-        b"CoreASM A function static f",
-        b"CoreASM A ?",
-    ] {
-        assert!(rt; read(rt.alloc(), text)?.is_none());
+/// Why the text isn't read, if it isn't.
+fn refusal_of(alloc: Global, text: &[u8]) -> Result<Option<ReadError>, Fail> {
+    match read(alloc, text) {
+        Ok(_) => Ok(None),
+        Err(Refused::Named(reason)) => Ok(Some(reason)),
+        Err(Refused::Memory) => Err(Fail::from("no memory")),
     }
-    Ok(())
 }
 
-#[test]
-fn sixty_four_levels(rt: HostRuntime) -> Result<(), Fail> {
-    let deepest = nested(rt.alloc(), 64)?;
-    assert!(rt; read(rt.alloc(), deepest.as_slice())?.is_some());
-    let deeper = nested(rt.alloc(), 65)?;
-    assert!(rt; read(rt.alloc(), deeper.as_slice())?.is_none());
-    Ok(())
+/// The last item of the text behind this head.
+fn read_behind(alloc: Global, head: &str, text: &str) -> Result<Option<Item>, Fail> {
+    let whole = joined(alloc, &[head, text])?;
+    let mut spec = read(alloc, whole.as_slice())?;
+    Ok(spec.items.pop())
+}
+
+/// A text, and the place of its mark, if it has one. The mark is a `^`, which is no part of the text.
+#[derive(Drop)]
+struct Marked {
+    text: Vec<u8>,
+    at: Option<usize>,
+}
+
+impl Marked {
+    fn new(alloc: Global) -> Marked {
+        Marked {
+            text: Vec::new(alloc),
+            at: None,
+        }
+    }
+
+    fn push(&mut self, piece: &str) -> Result<(), AllocError> {
+        for byte in piece.as_bytes() {
+            if *byte == b'^' {
+                self.at = Some(self.text.len());
+            } else {
+                self.text.push(*byte)?;
+            }
+        }
+        Ok(())
+    }
 }

@@ -1,6 +1,7 @@
 pub mod Appending
 mod Assigned
 mod Declarations
+mod Exclusion
 mod FlatShapes
 mod Formed
 mod Forming

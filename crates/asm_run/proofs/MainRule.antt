@@ -67,7 +67,8 @@ declared_named f (item ∷ items) x r distinct e = declared_named f items x r di
 -- the names that a rule uses are functions where all the items' are
 known_named : (fs : List Text) (items : List Item) (x : Text) (r : Rule) → list_all (is_known_item fs) items ≡ true → body_named items x ≡ Some r → is_known_rule fs r ≡ true
 known_named fs [] x r all e = absurd cc
-known_named fs (Declared name parameters body ∷ items) x r all e =
+known_named fs (Declared name (p ∷ parameters) body ∷ items) x r all e = absurd cc
+known_named fs (Declared name [] body ∷ items) x r all e =
     let parts = and_parts (is_known_rule fs body) (list_all (is_known_item fs) items) all in
     at (is_same_text name.text x) (body_named items x) parts.0 (known_named fs items x r parts.1) e
   where

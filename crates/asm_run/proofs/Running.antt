@@ -139,6 +139,7 @@ module _ (names : List Text) (shape : Shape) (assignments : List Assignment) (st
         (cut_at_end called places _ _ _ old mid new r e (state_of shape contents) at_end end_text ends (subst (λ t. AppendsFront mid new t) lines f.0), f.1)
     finished (Err error.Limits) f is program main turns choices forms = f
     finished (Err error.Beyond) f is program main turns choices forms = f
+    finished (Err (error.Read refusal)) f is program main turns choices forms = f
 
   pub at_limit : (new : Option (List ℕ)) (flag : Bool) (result : Result End RunError) → steps ≤ made
       → Finishes mid new flag ((codes "end limit" ++ line_end) ++ contents_text names contents) Limit result → now flag new result

@@ -1,10 +1,14 @@
 -- From the steps of a run to what is said of the whole.
-use Rattle.std.proofs.Common.{◌≡◌, ◌↔◌, ℕ, Bool, true, false, List, [], length, map, Option, Result, Ok, Err, inr, refl, subst}
+use Rattle.std.proofs.Common.{◌≡◌, ◌↔◌, ℕ, Bool, true, false, List, [], length, map, Option, Result, Ok, Err, inl, inr, refl, subst}
 use Rattle.std.specs.Prelude.{IsTrue, All, IfOk, IfErr, MatchResult}
 use Rattle.std.proofs.lemmas.List.Elements.{recursion_from_All}
 use Rattle.asm_state.specs.Signature.{Shape, initial_state}
 use Rattle.asm_syntax.specs.Tree.{Rule}
+use Rattle.asm_syntax.specs.declared.refused.Refused.{Refused}
+use Rattle.asm_syntax.specs.declared.refused.Refused.TheVariants as refused
 use Rattle.asm_syntax.specs.Placed.{Spec}
+use Rattle.asm_reader.specs.declared.error.ReadError.{ReadError}
+use Rattle.asm_reader.specs.Refusals as reader
 use Rattle.asm_eval.specs.Program.{Program}
 use Rattle.asm_eval.specs.Does.{Script}
 use Rattle.asm_eval.specs.Run.{run_from}
@@ -16,10 +20,18 @@ use Rattle.asm_run.specs.FirstPath.{Text, function_names}
 use Rattle.asm_run.specs.Resolved.{assignment_tree, flattened, IsBelow}
 use Rattle.asm_run.specs.Meaning.{program_of, main_rule, shape_of}
 use Rattle.asm_run.specs.Limits.{are_in_range}
+use Rattle.asm_run.specs.Refusal.{answer_of}
 use Rattle.asm_run.specs.Written.{names_of, locations_of}
 use Rattle.asm_run.specs.Headline.{IsFirstPath, IsDone, Explains, book_run, names_in, locations_in}
 use Rattle.asm_run.specs.Reached.{Forms, Runs}
 use Rattle.asm_run.proofs.Formed.{main_rule_formed, stand_for_main}
+use Rattle.asm_run.proofs.Running.{Appends-none}
+
+-- a text that the reader refuses
+pub refused_text : (text : List ℕ) (steps turns workers cut rounds : ℕ) (old : Option (List ℕ)) (r : Refused ReadError) → reader.Explains text r
+    → Explains text steps turns workers cut rounds old old (answer_of r)
+refused_text text steps turns workers cut rounds old refused.Memory h = inl (Appends-none old)
+refused_text text steps turns workers cut rounds old (refused.Named e) h = (h, Appends-none old)
 
 -- what is said of the steps, of any names and signature
 abbrev pub StepsOf : List Text → Shape → List Assignment → ℕ → (old new : Option (List ℕ)) → Bool → Result End RunError → Type 0
@@ -37,6 +49,7 @@ module _ (text : List ℕ) (steps turns workers cut rounds : ℕ) (old new : Opt
   said (Err error.Write) h = record { tree = s; first_path = first_path; in_range = in_range; holds = λ choices. (h choices).0 }
   said (Err error.Limits) h = absurd (h [])
   said (Err error.Beyond) h = absurd (h [])
+  said (Err (error.Read e)) h = absurd (h [])
 
   fails : (result : Result End RunError) → all result → IsTrue failed ↔ (result ≡ Err error.Write)
   fails (Ok e) h = let no : failed ≡ false = (h []).2 in (λ f. absurd (cc), λ e. absurd cc)
@@ -44,6 +57,7 @@ module _ (text : List ℕ) (steps turns workers cut rounds : ℕ) (old new : Opt
   fails (Err error.Write) h = (λ f. refl, λ e. (h []).1)
   fails (Err error.Limits) h = absurd (h [])
   fails (Err error.Beyond) h = absurd (h [])
+  fails (Err (error.Read e)) h = absurd (h [])
 
   at_ok : (result : Result End RunError) → MatchResult result (IsDone text steps turns workers cut rounds old new) (Explains text steps turns workers cut rounds old new)
       → IfOk result (IsDone text steps turns workers cut rounds old new)

@@ -8,7 +8,9 @@ use Rattle.std.specs.List.{list_all, list_any, filter_map}
 use Rattle.std.specs.Cmp.Lexicographic.{pointwise}
 use Rattle.asm_state.specs.declared.operation.Op.{Op}
 use Rattle.asm_state.specs.declared.operation.Op.TheVariants.{Add}
-use Rattle.asm_syntax.specs.Placed.{Term, Constant, Named, Chain, Negative, no_terms, Links, link_then, no_links, Rule, Skip, Assign, Par, Rules, no_rules, rule_then, Plain, Given, Each, Item, Init, Function, Declared, Spec}
+use Rattle.asm_syntax.specs.declared.spec.FunctionKind.{FunctionKind}
+use Rattle.asm_syntax.specs.declared.spec.FunctionKind.TheVariants.{Controlled}
+use Rattle.asm_syntax.specs.Placed.{Term, Constant, Named, Chain, Negative, no_terms, Links, link_then, no_links, Rule, Skip, Assign, Par, Rules, no_rules, rule_then, Plain, Given, Each, Name, Item, Uses, Init, Function, Declared, Spec}
 
 -- a name's text
 abbrev pub Text : Type 0
@@ -103,10 +105,18 @@ is_known_table None = true
 is_known_table (Some (Each (Plain l))) = true
 is_known_table _ = false
 
+-- a function is controlled, and has neither arguments nor a codomain
+abbrev pub is_known_function : FunctionKind → (domain : List Name) → (codomain : Option Name) → Option Given → Bool
+is_known_function Controlled [] None table = is_known_table table
+is_known_function _ _ _ _ = false
+
+-- no enumeration, no universe and no derived function is declared, and rules have no parameters
 abbrev pub is_known_item : List Text → Item → Bool
-is_known_item fs (Function name kind domain codomain table) = is_known_table table
-is_known_item fs (Declared name parameters body) = is_known_rule fs body
-is_known_item fs _ = true
+is_known_item fs (Uses name) = true
+is_known_item fs (Init name) = true
+is_known_item fs (Function name kind domain codomain table) = is_known_function kind domain codomain table
+is_known_item fs (Declared name [] body) = is_known_rule fs body
+is_known_item fs _ = false
 
 -- ---- one start, and the limits
 

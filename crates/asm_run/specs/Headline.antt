@@ -1,5 +1,6 @@
 -- What a run writes and answers.
---     IsFirstPath text s               the text is that of the specification s, which has no fault
+--     IsFirstPath text s               the text is that of the specification s, which is of the first path and has no fault
+--     IsBeyond text                    the text is that of a specification that isn't of the first path, or has a fault
 --     book_run s turns choices steps   the run of s, under these choices
 --     IsWritten, IsCut, AreWholeSteps  what the bytes of the sink grew by
 --     Explains                         what a refusal says
@@ -9,6 +10,7 @@ use Rattle.asm_state.specs.Location.{Location}
 use Rattle.asm_state.specs.Updates.{Range, Clash, Outside, IsFirstFault}
 use Rattle.asm_syntax.specs.Placed.{Spec}
 use Rattle.asm_reader.specs.Specification.{IsSpecification}
+use Rattle.asm_reader.specs.Refusals.{IsRefusal}
 use Rattle.asm_eval.specs.Does.{Script}
 use Rattle.asm_eval.specs.Run as run
 use Rattle.asm_eval.specs.Run.{Run, AtLimit, AtExhausted, AtFault}
@@ -25,6 +27,9 @@ use Rattle.asm_run.specs.declared.error.RunError.TheVariants as error
 pub record IsFirstPath (text : List ℕ) (s : Spec) : Type 0 where
   pub spelled : IsSpecification text s
   pub well_formed : is_well_formed s ≡ true
+
+abbrev pub IsBeyond : List ℕ → Type 0
+IsBeyond text = (s : Spec) × IsSpecification text s × (is_well_formed s ≡ false)
 
 abbrev pub names_in : Spec → Names
 names_in s = names_of (function_names s.items)
@@ -89,7 +94,8 @@ module _ (text : List ℕ) (steps turns workers cut rounds : ℕ) (old new : Opt
     pub holds : (choices : Script) → P tree (book_run tree turns choices steps)
 
   abbrev pub Explains : RunError → Type 0
-  Explains error.Beyond = ((s : Spec) → ¬ (IsFirstPath text s)) × IsUnwritten old new
+  Explains (error.Read e) = IsRefusal text e × IsUnwritten old new
+  Explains error.Beyond = IsBeyond text × IsUnwritten old new
   Explains error.Limits = (s : Spec) × IsFirstPath text s × (are_in_range steps turns workers cut rounds ≡ false) × IsUnwritten old new
   Explains error.Memory = IsUnwritten old new ⊎ IsBegun (λ s r. AreWholeSteps (names_in s) (locations_in s) 1 old new r)
   Explains error.Write = IsBegun (λ s r. IsCut (names_in s) (locations_in s) 1 old new r)

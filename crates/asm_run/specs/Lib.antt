@@ -8,9 +8,11 @@ pub mod Formed
 pub mod Sink
 pub mod Through
 pub mod Limits
+pub mod Refusal
 pub mod Trace
 pub mod Traces
 pub mod Written
 pub mod Headline
+pub mod Exclusion
 pub mod Step
 pub mod Reached

@@ -44,6 +44,7 @@ Runs names ls old new failed r (Err error.Memory) = AreWholeSteps names ls 1 old
 Runs names ls old new failed r (Err error.Write) = IsCut names ls 1 old new r × (failed ≡ true)
 Runs names ls old new failed r (Err error.Limits) = ⊥
 Runs names ls old new failed r (Err error.Beyond) = ⊥
+Runs names ls old new failed r (Err (error.Read refusal)) = ⊥
 
 -- What stays true from step to step, where so many steps were made of all.
 pub record Goes (names : List Text) (shape : Shape) (assignments : List Assignment) (steps made : ℕ) (contents : List Value) (count : ℕ) (old new : Option (List ℕ)) (failed : Bool) : Type 0 where

@@ -59,3 +59,4 @@ Finishes old new failed text e (Err error.Memory) = Appends old new [] × (faile
 Finishes old new failed text e (Err error.Write) = AppendsFront old new text × (failed ≡ true)
 Finishes old new failed text e (Err error.Limits) = ⊥
 Finishes old new failed text e (Err error.Beyond) = ⊥
+Finishes old new failed text e (Err (error.Read refusal)) = ⊥

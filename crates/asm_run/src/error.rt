@@ -1,14 +1,21 @@
 //! Why a specification didn't run to its end.
 ghost use Rattle.std.specs.Prelude.{◌≡◌};
+ghost use Rattle.asm_run.specs.Refusal.{answer_of};
 ghost use Rattle.asm_run.specs.declared.error.RunError.TheVariants.{Memory, Write};
 
 use crate::sink::SinkFault;
+pub use asm_reader::ReadError;
+use asm_syntax::Refused;
 use std::alloc::{AllocError, AllocFailed};
 use thiserror::Error;
 
-/// A refusal. The first that applies is answered, in the order `Beyond`, `Limits`, and then `Memory` and `Write`; `Memory` can come before any.
+/// A refusal. The first that applies is answered, in the order `Read`, `Beyond`, `Limits`, and then `Memory` and `Write`;
+/// `Memory` can come before any.
 #[derive(Debug, Drop, Error)]
 pub enum RunError {
+    /// The text isn't a specification.
+    #[error("the text is refused")]
+    Read(ReadError),
     /// A limit is out of its range.
     #[error("a limit is out of its range")]
     Limits,
@@ -18,8 +25,8 @@ pub enum RunError {
     /// The sink failed.
     #[error("the trace could not be written")]
     Write,
-    /// The text isn't a specification that runs yet.
-    #[error("the text is beyond what runs yet")]
+    /// The specification is beyond what runs yet, or has a fault.
+    #[error("the specification is beyond what runs yet")]
     Beyond,
 }
 
@@ -36,6 +43,17 @@ impl<T: Drop> From<AllocFailed<T>> for RunError {
 
     fn from(_e: AllocFailed<T>) -> RunError {
         RunError::Memory
+    }
+}
+
+impl From<Refused<ReadError>> for RunError {
+    ghost from_gives = { λ refused e. e ≡ answer_of refused };
+
+    fn from(refused: Refused<ReadError>) -> RunError {
+        match refused {
+            Refused::Memory => RunError::Memory,
+            Refused::Named(error) => RunError::Read(error),
+        }
     }
 }
 

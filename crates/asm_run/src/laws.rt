@@ -1,5 +1,8 @@
-//! Laws of traces.
+//! Laws of traces and of refusals.
 ghost use Rattle.asm_run.specs.Traces.{OneTrace, SomeTrace};
+ghost use Rattle.asm_run.specs.Exclusion.{OneNamedRefusal, NoRunBesideARefusal};
+
+use asm_reader::{no_tree_beside_a_refusal, one_refusal, one_tree};
 
 /// A run has one trace at most.
 pub fn one_trace()
@@ -10,3 +13,20 @@ pub fn one_trace()
 pub fn some_trace()
     ensures { SomeTrace }
 {}
+
+/// A text and limits have one refusal at most that is of the text or of the limits.
+pub fn one_named_refusal()
+    ensures { OneNamedRefusal }
+{
+    one_tree();
+    no_tree_beside_a_refusal();
+    one_refusal();
+}
+
+/// A text and limits that have a run have no such refusal.
+pub fn no_run_beside_a_refusal()
+    ensures { NoRunBesideARefusal }
+{
+    one_tree();
+    no_tree_beside_a_refusal();
+}

@@ -10,14 +10,14 @@ use crate::flat::flat_signature;
 use crate::limits::Limits;
 use crate::sink::Sink;
 use crate::steps::run_steps;
-use asm_reader::{one_tree, read};
+use asm_reader::read;
 use std::alloc::Global;
 use std::thread::Threads;
 
 /// Runs the specification with this text, and writes its trace: the text of each step when it is whole, and then the last lines.
 ///
-/// A text beyond the first path is refused, and so are limits out of their ranges; then nothing is written. The script isn't looked at, since
-/// no rule of the first path makes choices. No thread is started yet.
+/// A text that is no specification is refused, and so are a specification beyond the first path, one with a fault, and limits out of their
+/// ranges; then nothing is written. The script isn't looked at, since no rule of the first path makes choices. No thread is started yet.
 pub fn run<R: Threads, S: Sink>(
     _rt: &R,
     alloc: Global,
@@ -29,16 +29,14 @@ pub fn run<R: Threads, S: Sink>(
     requires { S.has_failed out.old ≡ false }
     // The bytes grew by the trace of the book's run, and by nothing else.
     ensures done { IfOk result (IsDone spec.now limits.now.steps limits.now.turns limits.now.workers limits.now.cut limits.now.rounds (S.bytes out.old) (S.bytes out.new)) }
-    // What a refusal says of the text, of the limits, and of what was written.
+    // What a refusal says of the text, of the limits, and of what was written. Those of the text and of the limits exclude one another, and a
+    // run (`laws`).
     ensures refused { IfErr result (Explains spec.now limits.now.steps limits.now.turns limits.now.workers limits.now.cut limits.now.rounds (S.bytes out.old) (S.bytes out.new)) }
     // The sink failed just where that is the answer.
     ensures failed { IsTrue (S.has_failed out.new) ↔ (result ≡ Err Write) }
 {
-    let Some(tree) = read(alloc, spec)? else {
-        return Err(RunError::Beyond);
-    };
+    let tree = read(alloc, spec)?;
     let Some(checked) = check(alloc, &tree)? else {
-        one_tree();
         return Err(RunError::Beyond);
     };
     if !limits.are_in_range() {

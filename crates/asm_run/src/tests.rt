@@ -7,6 +7,8 @@ use std::io;
 use std::io::Write;
 use std::test::Fail;
 
+mod beyond;
+
 /// Takes one byte a call, until it holds twenty.
 #[derive(Drop)]
 struct ByteByByte {

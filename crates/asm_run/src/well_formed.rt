@@ -1,14 +1,14 @@
 //! Whether a specification is of the first path and has no fault.
 ghost use Rattle.std.specs.Prelude.{◌≡◌, ◌&&◌, nat_le, length, map, IfOk, option_map};
 ghost use Rattle.std.specs.List.{list_all};
-ghost use Rattle.asm_syntax.specs.Views.{rule_of, given_of, item_of, spec_of};
+ghost use Rattle.asm_syntax.specs.Views.{name_of, rule_of, given_of, item_of, spec_of};
 ghost use Rattle.asm_run.specs.FirstPath as known;
 
 use crate::names::{are_distinct, declared_names, function_names, is_among, rule_names, starts};
 use crate::resolve::collect;
-use asm_syntax::name::Text;
+use asm_syntax::name::{Name, Text};
 use asm_syntax::rule::Rule;
-use asm_syntax::spec::{Const, Given, Item, Spec};
+use asm_syntax::spec::{Const, FunctionKind, Given, Item, Spec};
 use std::alloc::{AllocError, Global};
 
 /// So many functions, and so many rules, may be declared.
@@ -63,6 +63,22 @@ fn is_known_table(table: &Option<Given>) -> bool
     matches!(table, None | Some(Given::Each(Const::Plain(_))))
 }
 
+/// Whether a function of this kind is controlled, has no arguments, no codomain and a table of the first path.
+fn is_known_function(
+    kind: FunctionKind,
+    domain: &[Name],
+    codomain: &Option<Name>,
+    table: &Option<Given>,
+) -> bool
+    ensures { let places = option_map name_of codomain.now in
+        result ≡ known.is_known_function kind (map name_of domain.now) places (option_map given_of table.now) }
+{
+    kind == FunctionKind::Controlled
+        && domain.is_empty()
+        && codomain.is_none()
+        && is_known_table(table)
+}
+
 /// Whether the rule is of the first path and all its names are functions.
 fn is_known_rule(alloc: Global, functions: &[Text], rule: &Rule) -> Result<bool, AllocError>
     ensures { IfOk result (λ is. is ≡ known.is_known_rule functions.now (rule_of rule.now)) }
@@ -76,9 +92,20 @@ fn is_known_item(alloc: Global, functions: &[Text], item: &Item) -> Result<bool,
     ensures { IfOk result (λ is. is ≡ known.is_known_item functions.now (item_of item.now)) }
 {
     match item {
-        Item::Function { table, .. } => Ok(is_known_table(table)),
-        Item::Declared { body, .. } => is_known_rule(alloc, functions, body),
-        _ => Ok(true),
+        Item::Uses(_) | Item::Init(_) => Ok(true),
+        Item::Function {
+            kind,
+            domain,
+            codomain,
+            table,
+            ..
+        } => Ok(is_known_function(*kind, domain, codomain, table)),
+        Item::Declared {
+            parameters,
+            body,
+            ..
+        } if parameters.is_empty() => is_known_rule(alloc, functions, body),
+        _ => Ok(false),
     }
 }
 

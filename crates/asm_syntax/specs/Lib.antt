@@ -7,3 +7,4 @@ pub mod Spellings
 pub mod Tokens
 pub mod Fronts
 pub mod Lexing
+pub mod Faults

@@ -1,5 +1,8 @@
 //! What is wrong with the bytes of a text.
 
+ghost use Rattle.std.specs.Prelude.{◌≡◌};
+ghost use Rattle.asm_syntax.specs.Faults.{fault_number, fault_place};
+
 /// The first fault of a text. `at` is a place among its bytes.
 #[derive(Clone, Copy, Debug, PartialEq, Eq)]
 pub enum LexError {
@@ -11,4 +14,28 @@ pub enum LexError {
     OpenComment { at: usize },
     /// The number that begins here is too great, or a letter or `_` follows at once.
     BadNumber { at: usize },
+}
+
+impl LexError {
+    /// Its number, by which it is told to a user.
+    pub fn number(self) -> u8
+        ensures { result ≡ fault_number self }
+    {
+        match self {
+            LexError::TooLong => 1,
+            LexError::BadByte { .. } => 2,
+            LexError::OpenComment { .. } => 3,
+            LexError::BadNumber { .. } => 4,
+        }
+    }
+
+    /// The place of the byte where it stands; a text that is too long has none.
+    pub fn at(self) -> Option<usize>
+        ensures { result ≡ fault_place self }
+    {
+        match self {
+            LexError::TooLong => None,
+            LexError::BadByte { at } | LexError::OpenComment { at } | LexError::BadNumber { at } => Some(at),
+        }
+    }
 }

@@ -6,7 +6,7 @@ ghost use Rattle.std.specs.Prelude.{nat_eq};
 use std::alloc::{AllocError, Global};
 use std::marker::Model;
 
-/// The text of a name: a letter or `_`, then letters, digits and `_`, as bytes.
+/// The bytes of a name.
 #[derive(Drop)]
 pub struct Text {
     bytes: Vec<u8>,

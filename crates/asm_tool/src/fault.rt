@@ -1,8 +1,25 @@
 //! Why the program ends without the whole trace.
 use crate::settings::WordFault;
+use asm_run::error::ReadError;
 use std::alloc::AllocError;
-use std::io;
+use std::{fmt, io};
 use thiserror::Error;
+
+/// What is wrong with a text, as the program says it: a number, and the place where there is one.
+#[derive(Drop)]
+struct Refusal {
+    error: ReadError,
+}
+
+impl fmt::Display for Refusal {
+    fn fmt<W: fmt::Write>(&self, f: &mut fmt::Formatter<W>) -> fmt::Result {
+        let number = self.error.number();
+        match self.error.at() {
+            Some(at) => write!(f, "read {number} at {at}"),
+            None => write!(f, "read {number}"),
+        }
+    }
+}
 
 /// What ends the program early. Its text is what the program says on standard error.
 #[derive(Debug, Drop, Error)]
@@ -13,7 +30,10 @@ pub enum Fault {
     /// A word isn't text.
     #[error("error: a word is not UTF-8\n")]
     NotText,
-    /// The specification is beyond what runs yet.
+    /// The text isn't a specification.
+    #[error("{}\n", Refusal {error: *.0})]
+    Read(ReadError),
+    /// The specification is beyond what runs yet, or has a fault.
     #[error("beyond\n")]
     Beyond,
     /// Memory ran out.
@@ -31,7 +51,7 @@ impl Fault {
     /// The program's status.
     pub fn status(&self) -> u8 {
         match self {
-            Fault::Beyond => 2,
+            Fault::Read(_) | Fault::Beyond => 2,
             Fault::Memory | Fault::File | Fault::Write => 3,
             Fault::Words(_) | Fault::NotText => 4,
         }

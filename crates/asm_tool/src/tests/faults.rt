@@ -103,9 +103,53 @@ fn a_text_without_an_end_is_read_no_further_than_it_may_be_long(rt: HostRuntime)
     let mut input = Endless { given: 0 };
     let shown = shown_by(&rt, rt.alloc(), &["--steps", "1"], &mut input);
     assert_eq!(rt; input.given, 1_048_577);
-    assert_eq!(rt; shown.line.as_slice(), b"beyond\n".as_slice());
+    assert_eq!(rt; shown.line.as_slice(), b"read 1\n".as_slice());
     assert_eq!(rt; shown.trace.len(), 0);
     assert_eq!(rt; shown.status, 2);
+}
+
+/// Texts that are no specifications, and what is said of them.
+static REFUSED: [(&str, &str); 20] = [
+    ("", "read 6\n"),
+    (" \t\r\n// nothing\n", "read 6\n"),
+    ("CoreASM T$", "read 2 at 9\n"),
+    ("CoreASM T /*", "read 3 at 10\n"),
+    ("CoreASM T /*/", "read 3 at 10\n"),
+    ("CoreASM T\ninit M\nrule M = x := a<-1\n", "read 5 at 32\n"),
+    (
+        "CoreASM T\ninit M\nfunction controlled x\nrule M = x := 1 < 2 < 3\n",
+        "read 5 at 59\n",
+    ),
+    ("CoreASM T\ninit M\nrule M = par skip\n", "read 6\n"),
+    ("CoreASM T\ninit M\nrule M = par endpar\n", "read 5 at 30\n"),
+    (
+        "CoreASM T\ninit M\nrule M = x := 1000000000000001\n",
+        "read 4 at 31\n",
+    ),
+    ("CoreASM T\ninit M\nrule M = x := 1x\n", "read 4 at 31\n"),
+    ("CoreASM T\ninit M\nrule M = skip skip\n", "read 5 at 31\n"),
+    (
+        "CoreASM T\ninit M\nrule M = while true skip endwhile\n",
+        "read 5 at 26\n",
+    ),
+    ("CoreAS", "read 5 at 0\n"),
+    ("CoreASM", "read 6\n"),
+    ("CoreASM T\nini", "read 5 at 10\n"),
+    ("CoreASM T\ninit", "read 6\n"),
+    ("CoreASM T\ninit M\nrule", "read 6\n"),
+    ("CoreASM T\ninit M\nrule M =", "read 6\n"),
+    // What is refused first is told: the byte of no token is looked at before the tokens.
+    ("rule M = skip $", "read 2 at 14\n"),
+];
+
+#[test]
+fn texts_that_are_no_specifications(rt: HostRuntime) {
+    for (text, line) in &REFUSED {
+        let shown = shown_by(&rt, rt.alloc(), &["--steps", "1"], text.as_bytes());
+        assert_eq!(rt; shown.line.as_slice(), line.as_bytes(), "{text}");
+        assert_eq!(rt; shown.trace.len(), 0, "{text}");
+        assert_eq!(rt; shown.status, 2, "{text}");
+    }
 }
 
 #[test]
@@ -152,7 +196,7 @@ fn a_line_that_cannot_be_written_changes_nothing(rt: HostRuntime) {
     let words = ["--steps", "3"];
     let alloc = rt.alloc();
     let mut trace = Vec::new(alloc);
-    let beyond = status(
+    let refused = status(
         &rt,
         alloc,
         words.as_slice(),
@@ -160,6 +204,6 @@ fn a_line_that_cannot_be_written_changes_nothing(rt: HostRuntime) {
         &mut trace,
         &mut Closed,
     );
-    assert_eq!(rt; beyond, 2);
+    assert_eq!(rt; refused, 2);
     assert_eq!(rt; trace.len(), 0);
 }

@@ -1,7 +1,7 @@
 //! Limits out of their ranges, and sinks that fail.
 use super::COUNTER;
 use asm_run::end::End;
-use asm_run::error::RunError;
+use asm_run::error::{ReadError, RunError};
 use asm_run::limits::Limits;
 use asm_run::run::run;
 use asm_run::through::Through;
@@ -69,8 +69,10 @@ fn worker_counts_refused(rt: HostRuntime) -> Result<(), Fail> {
 #[test]
 fn a_refused_text_comes_before_a_refused_limit(rt: HostRuntime) -> Result<(), Fail> {
     let mut out = Through::new(Vec::new(rt.alloc()));
-    let answer = run(&rt, rt.alloc(), b"CoreASM", b"", &limits(3, 0), &mut out);
-    assert!(rt; matches!(answer, Err(RunError::Beyond)));
+    let read = run(&rt, rt.alloc(), b"CoreASM", b"", &limits(3, 0), &mut out);
+    assert!(rt; matches!(read, Err(RunError::Read(ReadError::UnexpectedEnd))));
+    let beyond = run(&rt, rt.alloc(), b"CoreASM T", b"", &limits(3, 0), &mut out);
+    assert!(rt; matches!(beyond, Err(RunError::Beyond)));
     assert_eq!(rt; out.into_inner().len(), 0);
     Ok(())
 }

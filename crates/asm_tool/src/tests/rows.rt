@@ -12,7 +12,7 @@ struct Row {
     status: u8,
 }
 
-static ROWS: [Row; 8] = [
+static ROWS: [Row; 9] = [
     Row {
         name: "counter",
         text: "CoreASM T\n\
@@ -111,6 +111,23 @@ static ROWS: [Row; 8] = [
         status: 1,
     },
     Row {
+        name: "parentheses_change_nothing",
+        text: "CoreASM T\n\
+            init M\n\
+            function controlled x initially 1\n\
+            function controlled y\n\
+            rule M = par x := (x + (-2)) y := -(((x))) endpar\n",
+        steps: "1",
+        trace: "step 1 instances 0\n\
+            x := -1\n\
+            y := -1\n\
+            end limit\n\
+            state\n\
+            x = -1\n\
+            y = -1\n",
+        status: 0,
+    },
+    Row {
         name: "a_text_without_its_last_line_feed",
         text: "CoreASM T\n\
             init M\n\
@@ -167,15 +184,13 @@ fn sixty_four_levels_are_not_too_deep(rt: HostRuntime) -> Result<(), Fail> {
 fn sixty_five_levels_are_too_deep(rt: HostRuntime) -> Result<(), Fail> {
     let text = nested(rt.alloc(), 65)?;
     let shown = shown_by(&rt, rt.alloc(), &["--steps", "2"], text.as_slice());
-    assert_eq!(rt; shown.line.as_slice(), b"beyond\n".as_slice());
+    assert_eq!(rt; shown.line.as_slice(), b"read 7 at 282\n".as_slice());
     assert_eq!(rt; shown.status, 2);
     Ok(())
 }
 
-/// Texts that are refused, each for a reason of its own.
-static BEYOND: [(&str, &str); 21] = [
-    ("nothing", ""),
-    ("no tokens", " \t\r\n// nothing\n"),
+/// Specifications that don't run, each for a reason of its own.
+static BEYOND: [(&str, &str); 17] = [
     ("a header alone", "CoreASM T"),
     ("no rule that starts", "CoreASM T\nrule M = skip\n"),
     ("no such rule", "CoreASM T\ninit N\nrule M = skip\n"),
@@ -188,10 +203,10 @@ static BEYOND: [(&str, &str); 21] = [
         "a sequence",
         "CoreASM T\ninit M\nrule M = seq skip endseq\n",
     ),
-    ("no end of a par", "CoreASM T\ninit M\nrule M = par skip\n"),
+    ("a start without its rule", "CoreASM T\ninit M"),
     (
-        "a par of nothing",
-        "CoreASM T\ninit M\nrule M = par endpar\n",
+        "a call of an unknown rule",
+        "CoreASM T\ninit M\nrule M = ski",
     ),
     ("an unknown target", "CoreASM T\ninit M\nrule M = x := 1\n"),
     (
@@ -208,27 +223,25 @@ static BEYOND: [(&str, &str); 21] = [
         "CoreASM T\ninit M\nfunction controlled ANY\nrule M = skip\n",
     ),
     (
-        "parentheses",
-        "CoreASM T\ninit M\nfunction controlled x\nrule M = x := (1)\n",
+        "a sum in parentheses as an operand",
+        "CoreASM T\ninit M\nfunction controlled x\nrule M = x := (1 + 1) + 1\n",
+    ),
+    (
+        "a minus before a sum",
+        "CoreASM T\ninit M\nfunction controlled x\nrule M = x := -(1 + 1)\n",
     ),
     (
         "two sums",
         "CoreASM T\ninit M\nfunction controlled x\nrule M = x := 1 + 1 + 1\n",
     ),
     (
-        "an arrow",
-        "CoreASM T\ninit M\nfunction controlled a\nfunction controlled x\nrule M = x := a<-1\n",
+        "a universe",
+        "CoreASM T\ninit M\nuniverse U = 0 .. 1\nrule M = skip\n",
     ),
-    (
-        "too great a number",
-        "CoreASM T\ninit M\nfunction controlled x\nrule M = x := 1000000000000001\n",
-    ),
-    ("a byte of no token", "CoreASM T$"),
-    ("an open comment", "CoreASM T /*/"),
 ];
 
 #[test]
-fn texts_beyond_the_first_path_are_refused(rt: HostRuntime) {
+fn specifications_beyond_the_first_path_are_refused(rt: HostRuntime) {
     for (reason, text) in &BEYOND {
         let shown = shown_by(&rt, rt.alloc(), &["--steps", "1"], text.as_bytes());
         assert_eq!(rt; shown.line.as_slice(), b"beyond\n".as_slice(), "{reason}");

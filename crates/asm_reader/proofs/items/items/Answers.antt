@@ -6,7 +6,7 @@ use Rattle.asm_reader.specs.Kinds.{begins}
 use Rattle.asm_reader.specs.Steps.{each_of, repeated_of}
 use Rattle.asm_reader.specs.Reading.{item_starts, item_at}
 use Rattle.asm_reader.proofs.Loops.{with_front, turn_seen, nothing_before, no_turn, bad_turn}
-use Rattle.asm_reader.proofs.ItemExact.{item_consumes}
+use Rattle.asm_reader.proofs.Consuming.{item_consumes}
 use Rattle.asm_reader.proofs.items.items.Goals as goal
 
 pub loop-alloc-smaller : goal.loop-alloc-smaller

@@ -1,18 +1,24 @@
-use Rattle.std.proofs.Common.{◌≡◌, length, arith}
-use Rattle.std.proofs.lemmas.Bool.Decides.{nat_tests}
+use Rattle.std.proofs.lemmas.Result.{err_from_is_err_and}
 use Rattle.asm_syntax.specs.Views.{spec_of}
 use Rattle.asm_reader.proofs.Spellings.{spells_all, spells_less, spells_none}
+use Rattle.asm_reader.proofs.OneRefusal.{only_memory}
 use Rattle.asm_reader.proofs.reading.read_tokens.Goals as goal
 
-pub returns-in-Err-Named-clause-none : goal.returns-in-Err-Named-clause-none
-returns-in-Err-Named-clause-none c = spells_none c.args.text.now c.args.tokens.now c.in-Err-Named.field-0-0 (c.in-Err-Named.ensures c.in-Err-Named.field-0-0 c.in-Err-Named.field-0-is)
+pub returns-in_err-read-clause-refused : goal.returns-in_err-read-clause-refused
+returns-in_err-read-clause-refused c =
+    let p = err_from_is_err_and c.from_residual.result c.from_residual.ensures.1 in
+    rw (p.1, p.2) (spells_none c.args.text.now c.args.tokens.now c.in_err-read.field-0.0 c.in_err-read.ensures)
 
-pub returns-then-not-is_empty-clause-none : goal.returns-then-not-is_empty-clause-none
-returns-then-not-is_empty-clause-none c =
-    let some : ¬ (length c.specification.new.tokens.rest.now ≡ 0) = grind (arith, nat_tests, c.is_empty.ensures, c.if-not-is_empty.true) in
-    spells_less c.args.text.now c.args.tokens.now (spec_of c.in-Ok.read) c.specification.new.tokens.rest.now c.in-Ok.ensures some
+pub returns-in_err-read-clause-accepted : goal.returns-in_err-read-clause-accepted
+returns-in_err-read-clause-accepted c s h =
+    let p = err_from_is_err_and c.from_residual.result c.from_residual.ensures.1 in
+    rw (p.1, p.2) (only_memory c.args.text.now c.args.tokens.now s h c.in_err-read.field-0.0 (spells_none c.args.text.now c.args.tokens.now c.in_err-read.field-0.0 c.in_err-read.ensures))
 
-pub returns-clause-found : goal.returns-clause-found
-returns-clause-found c =
-    let none : length c.specification.new.tokens.rest.now ≡ 0 = grind (arith, nat_tests, c.is_empty.ensures, c.if-not-is_empty.false) in
-    spells_all c.args.text.now c.args.tokens.now (spec_of c.in-Ok.read) c.specification.new.tokens.rest.now c.in-Ok.ensures none
+pub returns-in-empty-clause-found : goal.returns-in-empty-clause-found
+returns-in-empty-clause-found c = spells_all c.args.text.now c.args.tokens.now (spec_of c.in_ok-read.read) c.specification.new.tokens.rest.now c.in_ok-read.ensures c.in-empty.len_below
+
+pub returns-in-len1-up-clause-refused : goal.returns-in-len1-up-clause-refused
+returns-in-len1-up-clause-refused c = spells_less c.args.text.now c.args.tokens.now (spec_of c.in_ok-read.read) c.specification.new.tokens.rest.now _ c.in_ok-read.ensures c.in-len1-up.len_at_least
+
+pub returns-in-len1-up-clause-accepted : goal.returns-in-len1-up-clause-accepted
+returns-in-len1-up-clause-accepted c s h = only_memory c.args.text.now c.args.tokens.now s h _ (spells_less c.args.text.now c.args.tokens.now (spec_of c.in_ok-read.read) c.specification.new.tokens.rest.now _ c.in_ok-read.ensures c.in-len1-up.len_at_least)

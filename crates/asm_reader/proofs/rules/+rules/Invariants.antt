@@ -1,6 +1,6 @@
 use Rattle.std.proofs.Common.{◌≡◌, ◌+◌, ◌*◌, length}
 use Rattle.asm_syntax.specs.Views.{rule_of}
-use Rattle.asm_reader.specs.Reading.{rule_starts, rule_at}
+use Rattle.asm_reader.specs.RuleReading.{rule_starts, rule_at}
 use Rattle.asm_reader.specs.Steps.{each_of, repeated_of}
 use Rattle.asm_reader.proofs.Loops.{with_front}
 use Rattle.asm_reader.proofs.rules.+rules.Given as goal
@@ -8,11 +8,38 @@ use Rattle.asm_reader.proofs.rules.+rules.Given as goal
 abbrev pub decreases-par : goal.decreases-par
 decreases-par l = l.levels * 4
 
+abbrev pub decreases-seq : goal.decreases-seq
+decreases-seq l = l.levels * 4
+
+abbrev pub decreases-conditional : goal.decreases-conditional
+decreases-conditional l = l.levels * 4
+
+abbrev pub decreases-let_rule : goal.decreases-let_rule
+decreases-let_rule l = l.levels * 4
+
+abbrev pub decreases-forall : goal.decreases-forall
+decreases-forall l = l.levels * 4
+
+abbrev pub decreases-choose : goal.decreases-choose
+decreases-choose l = l.levels * 4
+
+abbrev pub decreases-iterate : goal.decreases-iterate
+decreases-iterate l = l.levels * 4
+
+abbrev pub decreases-block : goal.decreases-block
+decreases-block l = l.levels * 4 + 1
+
 abbrev pub decreases-rule : goal.decreases-rule
-decreases-rule l = l.levels * 4 + 1
+decreases-rule l = l.levels * 4 + 2
 
 abbrev pub decreases-several : goal.decreases-several
-decreases-several l = l.levels * 4 + 2
+decreases-several l = l.levels * 4 + 3
+
+abbrev pub decreases-else_rule : goal.decreases-else_rule
+decreases-else_rule l = l.levels * 4 + 3
+
+abbrev pub decreases-if_none_rule : goal.decreases-if_none_rule
+decreases-if_none_rule l = l.levels * 4 + 3
 
 abbrev pub invariant-several-loop-alloc : goal.invariant-several-loop-alloc
 invariant-several-loop-alloc l =

@@ -1,0 +1,291 @@
+-- The readers of rules with an end word are exact.
+use Rattle.std.proofs.Common.{◌≡◌, ℕ, suc, true, false, List, [], ◌∷◌, ◌++◌, Option, None, refl}
+use Rattle.asm_syntax.specs.declared.token.Kind.{Kind}
+use Rattle.asm_syntax.specs.declared.token.Kind.TheVariants.{Symbol, Word}
+use Rattle.asm_syntax.specs.declared.token.Symbol.TheVariants.{Assign, Equal}
+use Rattle.asm_syntax.specs.declared.token.Word.{Word as Keyword}
+use Rattle.asm_syntax.specs.declared.token.Word.TheVariants.{Par, EndPar, Seq, EndSeq, If, Then, Else, EndIf, Let, In, EndLet, Forall, With, Do, EndForall, Choose, IfNone, EndChoose, Iterate, EndIterate}
+use Rattle.asm_syntax.specs.Placed as placed
+use Rattle.asm_syntax.specs.Views.{rules_of}
+use Rattle.asm_reader.specs.Kinds.{is_one_of}
+use Rattle.asm_reader.specs.Levels.{openers, closers}
+use Rattle.asm_reader.specs.Parts.{Part, ◌then◌, ◌or◌, optional, repeated, ◌makes◌, past, several, between}
+use Rattle.asm_reader.specs.Steps.{Reader, pair_of, mapped, either_of, option_of, repeated_of, past_of, several_of, between_of}
+use Rattle.asm_reader.specs.TermGrammar.{name, binding}
+use Rattle.asm_reader.specs.TermReading.{name_at, binding_at}
+use Rattle.asm_reader.specs.RuleGrammar.{branch, par_rule, seq_rule, if_rule, let_rule, forall_rule, choose_rule, iterate_rule, block_rule}
+use Rattle.asm_reader.specs.RuleReading.{rule_starts, else_at, if_none_at, condition_at, par_at, seq_at, if_at, let_at, forall_at, choose_at, iterate_at, block_at}
+use Rattle.asm_reader.proofs.Lists.{alike_symbol, alike_word, alike_self, apart, within}
+use Rattle.asm_reader.proofs.Readers.{IsExact, Begins, HasText, exact_pair, exact_makes, exact_optional, exact_repeated, repeated_ends, ends_none, ends_by}
+use Rattle.asm_reader.proofs.Exact.{depth, IsPlain, exact_past, has_past, has_makes, has_then, begins_makes, begins_then, begins_past, begins_or, exact_or, optional_ends}
+use Rattle.asm_reader.proofs.Frames.{begins_between, exact_between}
+use Rattle.asm_reader.proofs.TermExact.{term_more, has_name, has_binding, exact_name, exact_binding}
+
+-- ---- sets of kinds
+
+-- what the rules begin with, from one of them on
+abbrev choose_first : List Kind
+choose_first = Word Choose ∷ Word Iterate ∷ []
+
+abbrev forall_first : List Kind
+forall_first = Word Forall ∷ choose_first
+
+abbrev let_first : List Kind
+let_first = Word Let ∷ forall_first
+
+abbrev if_first : List Kind
+if_first = Word If ∷ let_first
+
+abbrev seq_first : List Kind
+seq_first = Word Seq ∷ if_first
+
+abbrev pub block_first : List Kind
+block_first = Word Par ∷ seq_first
+
+abbrev pub rule_first : List Kind
+rule_first = rule_starts
+
+-- what carries on a rule that is whole
+abbrev pub rule_more : List Kind
+rule_more = Symbol Assign ∷ term_more
+
+-- what carries on rules that follow one another
+abbrev several_more : List Kind
+several_more = rule_first ++ rule_more
+
+-- what carries on a condition that may be left out
+abbrev condition_more : List Kind
+condition_more = Word With ∷ term_more
+
+-- ---- what stands between the words, and what the rules begin with
+
+module _ (text : List ℕ) (X : Part placed.Term) (S : Part placed.Rule) where
+  -- a rule behind a word
+  abbrev pub behind : Keyword → Part placed.Rule
+  behind w = past (Word w) S
+
+  abbrev pub condition : Part (Option placed.Term)
+  condition = optional (past (Word With) X)
+
+  abbrev pub if_body : Part (placed.Term × (placed.Rule × Option placed.Rule))
+  if_body = X then behind Then then optional (behind Else)
+
+  abbrev pub let_body : Part (placed.Name × (placed.Term × placed.Rule))
+  let_body = name text then past (Symbol Equal) X then behind In
+
+  abbrev pub forall_body : Part ((placed.Name × placed.Name) × (Option placed.Term × placed.Rule))
+  forall_body = binding text then condition then behind Do
+
+  abbrev pub choose_body : Part ((placed.Name × placed.Name) × (Option placed.Term × (placed.Rule × Option placed.Rule)))
+  choose_body = binding text then condition then behind Do then optional (behind IfNone)
+
+  begins_frame : {A : Type 0} (k close : Keyword) (B : Part A) (f : A → placed.Rule) → Begins (Word k ∷ []) (between (Word k) (Word close) B makes f)
+  begins_frame k close B f = begins_makes (Word k ∷ []) (between (Word k) (Word close) B) f (begins_between (Word k) (Word close) B)
+
+  begins_par : Begins (Word Par ∷ []) (par_rule text X S)
+  unfolding par_rule
+  begins_par = begins_frame Par EndPar (several S) (λ r. placed.Par (rules_of r))
+
+  begins_seq : Begins (Word Seq ∷ []) (seq_rule text X S)
+  unfolding seq_rule
+  begins_seq = begins_frame Seq EndSeq (several S) (λ r. placed.Seq (rules_of r))
+
+  begins_if : Begins (Word If ∷ []) (if_rule text X S)
+  unfolding if_rule
+  begins_if = begins_frame If EndIf if_body (λ r. placed.If r.0 r.1.0 (branch r.1.1))
+
+  begins_let : Begins (Word Let ∷ []) (let_rule text X S)
+  unfolding let_rule
+  begins_let = begins_frame Let EndLet let_body (λ r. placed.Let r.0 r.1.0 r.1.1)
+
+  begins_forall : Begins (Word Forall ∷ []) (forall_rule text X S)
+  unfolding forall_rule
+  begins_forall = begins_frame Forall EndForall forall_body (λ r. placed.Forall r.0.0 r.0.1 r.1.0 r.1.1)
+
+  begins_choose : Begins (Word Choose ∷ []) (choose_rule text X S)
+  unfolding choose_rule
+  begins_choose = begins_frame Choose EndChoose choose_body (λ r. placed.Choose r.0.0 r.0.1 r.1.0 r.1.1.0 (branch r.1.1.1))
+
+  begins_iterate : Begins (Word Iterate ∷ []) (iterate_rule text X S)
+  unfolding iterate_rule
+  begins_iterate = begins_frame Iterate EndIterate S placed.Iterate
+
+  -- the rules from one of them on
+  abbrev from_choose : Part placed.Rule
+  from_choose = choose_rule text X S or iterate_rule text X S
+
+  abbrev from_forall : Part placed.Rule
+  from_forall = forall_rule text X S or from_choose
+
+  abbrev from_let : Part placed.Rule
+  from_let = let_rule text X S or from_forall
+
+  abbrev from_if : Part placed.Rule
+  from_if = if_rule text X S or from_let
+
+  abbrev from_seq : Part placed.Rule
+  from_seq = seq_rule text X S or from_if
+
+  begins_from_choose : Begins choose_first from_choose
+  begins_from_choose = begins_or (Word Choose ∷ []) (Word Iterate ∷ []) choose_first (choose_rule text X S) (iterate_rule text X S) begins_choose begins_iterate refl refl
+
+  begins_from_forall : Begins forall_first from_forall
+  begins_from_forall = begins_or (Word Forall ∷ []) choose_first forall_first (forall_rule text X S) from_choose begins_forall begins_from_choose refl refl
+
+  begins_from_let : Begins let_first from_let
+  begins_from_let = begins_or (Word Let ∷ []) forall_first let_first (let_rule text X S) from_forall begins_let begins_from_forall refl refl
+
+  begins_from_if : Begins if_first from_if
+  begins_from_if = begins_or (Word If ∷ []) let_first if_first (if_rule text X S) from_let begins_if begins_from_let refl refl
+
+  begins_from_seq : Begins seq_first from_seq
+  begins_from_seq = begins_or (Word Seq ∷ []) if_first seq_first (seq_rule text X S) from_if begins_seq begins_from_if refl refl
+
+  pub begins_block : Begins block_first (block_rule text X S)
+  unfolding block_rule
+  begins_block = begins_or (Word Par ∷ []) seq_first block_first (par_rule text X S) from_seq begins_par begins_from_seq refl refl
+
+-- ---- exact readers
+
+-- a word that opens a level, and one that closes it
+abbrev IsFrame : Keyword → Keyword → Type 0
+IsFrame k close = (is_one_of openers (Word k) ≡ true) × (is_one_of openers (Word close) ≡ false) × (is_one_of closers (Word close) ≡ true)
+
+module _ (n : ℕ) {A : Type 0} (k close : Keyword) (frame : IsFrame k close) (more : List Kind) (differ : apart (Word close ∷ []) more ≡ true) (B C : Part A) (some : HasText B) (f : Reader A)
+    (exact : (m : ℕ) → n ≡ suc m → IsExact (depth m false) (depth m false) more B C f) (make : A → placed.Rule) where
+  exact_frame : IsExact (depth n false) (depth n false) [] (between (Word k) (Word close) B makes make) (between (Word k) (Word close) C makes make) (mapped make (between_of n (Word k) (Word close) f))
+  exact_frame = exact_makes (depth n false) (depth n false) [] (between (Word k) (Word close) B) (between (Word k) (Word close) C) make (between_of n (Word k) (Word close) f)
+      (exact_between n false false (Word k) (Word close) (alike_word k) (alike_word close) (λ t e. rw e frame.0) (λ m t e d. rw (e, d, frame.0) refl) (λ m t e d. rw (e, d, frame.1, frame.2) refl) more differ B C some f exact)
+
+-- `term` and `rule` read P and Q, and what they refuse is no N and no M.
+module _ (text : List ℕ) (n : ℕ) (term : Reader placed.Term) (P N : Part placed.Term) (some : HasText P) (exact : (m : ℕ) → n ≡ suc m → IsExact (depth m false) (depth m false) term_more P N term)
+    (rule : Reader placed.Rule) (Q M : Part placed.Rule) (has : HasText Q) (starts : Begins rule_first Q) (first : Begins rule_first M)
+    (exact_rule : (m : ℕ) → n ≡ suc m → IsExact (depth m false) (depth m false) rule_more Q M rule) where
+  exact_several : (m : ℕ) → n ≡ suc m → IsExact (depth m false) (depth m false) several_more (several Q) (several M) (several_of rule_starts rule)
+  exact_several m e = exact_makes (depth m false) (depth m false) several_more (Q then repeated Q) (M then repeated M) (λ r. r.0 ∷ r.1) (pair_of rule (repeated_of rule_starts rule))
+      (exact_pair (depth m false) (depth m false) (depth m false) rule_more several_more Q M (repeated Q) (repeated M) (repeated_ends (depth m false) rule_more several_more rule_first Q M starts first refl refl refl) ([], [], refl)
+      rule (repeated_of rule_starts rule) (exact_rule m e) (exact_repeated (depth m false) rule_more several_more rule_first Q M starts first refl refl refl rule (exact_rule m e)))
+
+  has_several : HasText (several Q)
+  has_several = has_makes (Q then repeated Q) (λ r. r.0 ∷ r.1) (has_then Q (repeated Q) has ([], [], refl))
+
+  exact_par : IsExact (depth n false) (depth n false) [] (par_rule text P Q) (par_rule text N M) (par_at text n term rule)
+  unfolding par_rule par_at
+  exact_par = exact_frame n Par EndPar (refl, refl, refl) several_more refl (several Q) (several M) has_several (several_of rule_starts rule) exact_several (λ r. placed.Par (rules_of r))
+
+  exact_seq : IsExact (depth n false) (depth n false) [] (seq_rule text P Q) (seq_rule text N M) (seq_at text n term rule)
+  unfolding seq_rule seq_at
+  exact_seq = exact_frame n Seq EndSeq (refl, refl, refl) several_more refl (several Q) (several M) has_several (several_of rule_starts rule) exact_several (λ r. placed.Seq (rules_of r))
+
+  exact_iterate : IsExact (depth n false) (depth n false) [] (iterate_rule text P Q) (iterate_rule text N M) (iterate_at text n term rule)
+  unfolding iterate_rule iterate_at
+  exact_iterate = exact_frame n Iterate EndIterate (refl, refl, refl) rule_more refl Q M has rule exact_rule placed.Iterate
+
+  -- ---- a rule behind a word, and one more behind another that may be left out
+
+  exact_behind : (w : Keyword) → IsPlain (Word w) → (m : ℕ) → n ≡ suc m → IsExact (depth m false) (depth m false) rule_more (past (Word w) Q) (past (Word w) M) (past_of (Word w) rule)
+  exact_behind w plain m e = exact_past m false (depth m false) rule_more (Word w) (alike_word w) plain Q M has rule (exact_rule m e)
+
+  abbrev two_more : Keyword → List Kind
+  two_more v = Word v ∷ rule_more
+
+  exact_two : (w v : Keyword) → IsPlain (Word w) → IsPlain (Word v) → apart (Word v ∷ []) rule_more ≡ true → within rule_more (two_more v) ≡ true → (m : ℕ) → n ≡ suc m
+      → IsExact (depth m false) (depth m false) (two_more v) (past (Word w) Q then optional (past (Word v) Q)) (past (Word w) M then optional (past (Word v) M)) (pair_of (past_of (Word w) rule) (option_of (Word v ∷ []) (past_of (Word v) rule)))
+  exact_two w v plain other differ kept m e = exact_pair (depth m false) (depth m false) (depth m false) rule_more (two_more v) (past (Word w) Q) (past (Word w) M) (optional (past (Word v) Q)) (optional (past (Word v) M))
+      (optional_ends rule_more (two_more v) (Word v ∷ []) (past (Word v) M) (ends_by rule_more (two_more v) (Word v ∷ []) (past (Word v) M) (begins_past (Word v) M) differ) kept) ([], None, refl)
+      (past_of (Word w) rule) (option_of (Word v ∷ []) (past_of (Word v) rule)) (exact_behind w plain m e)
+      (exact_optional (depth m false) rule_more (two_more v) (Word v ∷ []) (past (Word v) Q) (past (Word v) M) (begins_past (Word v) M) kept (rw (alike_self (Word v)) refl) (past_of (Word v) rule) (exact_behind v other m e))
+
+  has_two : (w v : Keyword) → HasText (past (Word w) Q then optional (past (Word v) Q))
+  has_two w v = has_then (past (Word w) Q) (optional (past (Word v) Q)) (has_past (Word w) Q has) ([], None, refl)
+
+  begins_two : (w v : Keyword) → Begins (Word w ∷ []) (past (Word w) M then optional (past (Word v) M))
+  begins_two w v = begins_then (Word w ∷ []) (past (Word w) M) (optional (past (Word v) M)) (begins_past (Word w) M)
+
+  exact_if_body : (m : ℕ) → n ≡ suc m → IsExact (depth m false) (depth m false) (two_more Else) (if_body text P Q) (if_body text N M) (pair_of term (pair_of (past_of (Word Then) rule) (option_of (Word Else ∷ []) (past_of (Word Else) rule))))
+  exact_if_body m e = exact_pair (depth m false) (depth m false) (depth m false) term_more (two_more Else) P N (past (Word Then) Q then optional (past (Word Else) Q)) (past (Word Then) M then optional (past (Word Else) M))
+      (ends_by term_more (two_more Else) (Word Then ∷ []) (past (Word Then) M then optional (past (Word Else) M)) (begins_two Then Else) refl) (has_two Then Else)
+      term (pair_of (past_of (Word Then) rule) (option_of (Word Else ∷ []) (past_of (Word Else) rule))) (exact m e) (exact_two Then Else (refl, refl, refl) (refl, refl, refl) refl refl m e)
+
+  exact_if : IsExact (depth n false) (depth n false) [] (if_rule text P Q) (if_rule text N M) (if_at text n term rule)
+  unfolding if_rule if_at else_at
+  exact_if = exact_frame n If EndIf (refl, refl, refl) (two_more Else) refl (if_body text P Q) (if_body text N M) (has_then P (past (Word Then) Q then optional (past (Word Else) Q)) some (has_two Then Else))
+      (pair_of term (pair_of (past_of (Word Then) rule) (option_of (Word Else ∷ []) (past_of (Word Else) rule)))) exact_if_body (λ r. placed.If r.0 r.1.0 (branch r.1.1))
+
+  exact_let_body : (m : ℕ) → n ≡ suc m → IsExact (depth m false) (depth m false) rule_more (let_body text P Q) (let_body text N M) (pair_of (name_at text) (pair_of (past_of (Symbol Equal) term) (past_of (Word In) rule)))
+  exact_let_body m e = exact_pair (depth m false) (depth m false) (depth m false) [] rule_more (name text) (name text) (past (Symbol Equal) P then past (Word In) Q) (past (Symbol Equal) N then past (Word In) M)
+      (ends_none rule_more (past (Symbol Equal) N then past (Word In) M)) (has_then (past (Symbol Equal) P) (past (Word In) Q) (has_past (Symbol Equal) P some) (has_past (Word In) Q has))
+      (name_at text) (pair_of (past_of (Symbol Equal) term) (past_of (Word In) rule)) (exact_name text m false)
+      (exact_pair (depth m false) (depth m false) (depth m false) term_more rule_more (past (Symbol Equal) P) (past (Symbol Equal) N) (past (Word In) Q) (past (Word In) M)
+      (ends_by term_more rule_more (Word In ∷ []) (past (Word In) M) (begins_past (Word In) M) refl) (has_past (Word In) Q has) (past_of (Symbol Equal) term) (past_of (Word In) rule)
+      (exact_past m false (depth m false) term_more (Symbol Equal) (alike_symbol Equal) (refl, refl, refl) P N some term (exact m e)) (exact_behind In (refl, refl, refl) m e))
+
+  exact_let : IsExact (depth n false) (depth n false) [] (let_rule text P Q) (let_rule text N M) (let_at text n term rule)
+  unfolding let_rule let_at
+  exact_let = exact_frame n Let EndLet (refl, refl, refl) rule_more refl (let_body text P Q) (let_body text N M)
+      (has_then (name text) (past (Symbol Equal) P then past (Word In) Q) (has_name text) (has_then (past (Symbol Equal) P) (past (Word In) Q) (has_past (Symbol Equal) P some) (has_past (Word In) Q has)))
+      (pair_of (name_at text) (pair_of (past_of (Symbol Equal) term) (past_of (Word In) rule))) exact_let_body (λ r. placed.Let r.0 r.1.0 r.1.1)
+
+  -- ---- a binding and a condition, and what stands behind `do`
+
+  exact_condition : (m : ℕ) → n ≡ suc m → IsExact (depth m false) (depth m false) condition_more (optional (past (Word With) P)) (optional (past (Word With) N)) (condition_at term)
+  unfolding condition_at
+  exact_condition m e = exact_optional (depth m false) term_more condition_more (Word With ∷ []) (past (Word With) P) (past (Word With) N) (begins_past (Word With) N) refl refl (past_of (Word With) term)
+      (exact_past m false (depth m false) term_more (Word With) (alike_word With) (refl, refl, refl) P N some term (exact m e))
+
+  module _ {A : Type 0} (more : List Kind) (B C : Part A) (text_of : HasText B) (f : Reader A) where
+    exact_bound : Begins (Word Do ∷ []) C → (m : ℕ) → n ≡ suc m → IsExact (depth m false) (depth m false) more B C f
+        → IsExact (depth m false) (depth m false) more (binding text then optional (past (Word With) P) then B) (binding text then optional (past (Word With) N) then C) (pair_of (binding_at text) (pair_of (condition_at term) f))
+    exact_bound begins m e h = exact_pair (depth m false) (depth m false) (depth m false) [] more (binding text) (binding text) (optional (past (Word With) P) then B) (optional (past (Word With) N) then C)
+        (ends_none more (optional (past (Word With) N) then C)) (has_then (optional (past (Word With) P)) B ([], None, refl) text_of) (binding_at text) (pair_of (condition_at term) f) (exact_binding text m false)
+        (exact_pair (depth m false) (depth m false) (depth m false) condition_more more (optional (past (Word With) P)) (optional (past (Word With) N)) B C (ends_by condition_more more (Word Do ∷ []) C begins refl) text_of (condition_at term) f (exact_condition m e) h)
+
+    has_bound : HasText (binding text then optional (past (Word With) P) then B)
+    has_bound = has_then (binding text) (optional (past (Word With) P) then B) (has_binding text) (has_then (optional (past (Word With) P)) B ([], None, refl) text_of)
+
+  exact_forall : IsExact (depth n false) (depth n false) [] (forall_rule text P Q) (forall_rule text N M) (forall_at text n term rule)
+  unfolding forall_rule forall_at
+  exact_forall = exact_frame n Forall EndForall (refl, refl, refl) rule_more refl (forall_body text P Q) (forall_body text N M) (has_bound rule_more (past (Word Do) Q) (past (Word Do) M) (has_past (Word Do) Q has) (past_of (Word Do) rule))
+      (pair_of (binding_at text) (pair_of (condition_at term) (past_of (Word Do) rule)))
+      (λ m e. exact_bound rule_more (past (Word Do) Q) (past (Word Do) M) (has_past (Word Do) Q has) (past_of (Word Do) rule) (begins_past (Word Do) M) m e (exact_behind Do (refl, refl, refl) m e)) (λ r. placed.Forall r.0.0 r.0.1 r.1.0 r.1.1)
+
+  exact_choose : IsExact (depth n false) (depth n false) [] (choose_rule text P Q) (choose_rule text N M) (choose_at text n term rule)
+  unfolding choose_rule choose_at if_none_at
+  exact_choose = exact_frame n Choose EndChoose (refl, refl, refl) (two_more IfNone) refl (choose_body text P Q) (choose_body text N M)
+      (has_bound (two_more IfNone) (past (Word Do) Q then optional (past (Word IfNone) Q)) (past (Word Do) M then optional (past (Word IfNone) M)) (has_two Do IfNone) done_at)
+      (pair_of (binding_at text) (pair_of (condition_at term) done_at))
+      (λ m e. exact_bound (two_more IfNone) (past (Word Do) Q then optional (past (Word IfNone) Q)) (past (Word Do) M then optional (past (Word IfNone) M)) (has_two Do IfNone) done_at (begins_two Do IfNone) m e
+      (exact_two Do IfNone (refl, refl, refl) (refl, refl, refl) refl refl m e)) (λ r. placed.Choose r.0.0 r.0.1 r.1.0 r.1.1.0 (branch r.1.1.1))
+    where
+      done_at : Reader (placed.Rule × Option placed.Rule)
+      done_at = pair_of (past_of (Word Do) rule) (option_of (Word IfNone ∷ []) (past_of (Word IfNone) rule))
+
+  -- ---- one rule or another
+
+  exact_both : (ks js : List Kind) (B C D E : Part placed.Rule) → Begins ks C → Begins js E → apart js ks ≡ true → (f h : Reader placed.Rule) → IsExact (depth n false) (depth n false) [] B C f → IsExact (depth n false) (depth n false) [] D E h
+      → IsExact (depth n false) (depth n false) [] (B or D) (C or E) (either_of ks f h)
+  exact_both ks js B C D E b d differ f h i j = exact_or (depth n false) (depth n false) [] [] [] ks js B D C E b d differ refl refl f h i j
+
+  pub exact_block : IsExact (depth n false) (depth n false) [] (block_rule text P Q) (block_rule text N M) (block_at text n term rule)
+  unfolding block_rule block_at
+  exact_block = exact_both (Word Par ∷ []) seq_first (par_rule text P Q) (par_rule text N M) (from_seq text P Q) (from_seq text N M) (begins_par text N M) (begins_from_seq text N M) refl (par_at text n term rule) seq_on exact_par
+      (exact_both (Word Seq ∷ []) if_first (seq_rule text P Q) (seq_rule text N M) (from_if text P Q) (from_if text N M) (begins_seq text N M) (begins_from_if text N M) refl (seq_at text n term rule) if_on exact_seq
+      (exact_both (Word If ∷ []) let_first (if_rule text P Q) (if_rule text N M) (from_let text P Q) (from_let text N M) (begins_if text N M) (begins_from_let text N M) refl (if_at text n term rule) let_on exact_if
+      (exact_both (Word Let ∷ []) forall_first (let_rule text P Q) (let_rule text N M) (from_forall text P Q) (from_forall text N M) (begins_let text N M) (begins_from_forall text N M) refl (let_at text n term rule) forall_on exact_let
+      (exact_both (Word Forall ∷ []) choose_first (forall_rule text P Q) (forall_rule text N M) (from_choose text P Q) (from_choose text N M) (begins_forall text N M) (begins_from_choose text N M) refl (forall_at text n term rule) choose_on exact_forall
+      (exact_both (Word Choose ∷ []) (Word Iterate ∷ []) (choose_rule text P Q) (choose_rule text N M) (iterate_rule text P Q) (iterate_rule text N M) (begins_choose text N M) (begins_iterate text N M) refl (choose_at text n term rule) (iterate_at text n term rule) exact_choose exact_iterate)))))
+    where
+      choose_on : Reader placed.Rule
+      choose_on = either_of (Word Choose ∷ []) (choose_at text n term rule) (iterate_at text n term rule)
+
+      forall_on : Reader placed.Rule
+      forall_on = either_of (Word Forall ∷ []) (forall_at text n term rule) choose_on
+
+      let_on : Reader placed.Rule
+      let_on = either_of (Word Let ∷ []) (let_at text n term rule) forall_on
+
+      if_on : Reader placed.Rule
+      if_on = either_of (Word If ∷ []) (if_at text n term rule) let_on
+
+      seq_on : Reader placed.Rule
+      seq_on = either_of (Word Seq ∷ []) (seq_at text n term rule) if_on

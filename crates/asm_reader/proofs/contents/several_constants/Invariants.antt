@@ -1,0 +1,15 @@
+use Rattle.std.proofs.Common.{◌≡◌, length}
+use Rattle.asm_syntax.specs.declared.token.Kind.TheVariants.{Symbol}
+use Rattle.asm_syntax.specs.declared.token.Symbol.TheVariants.{Comma}
+use Rattle.asm_syntax.specs.Views.{const_of}
+use Rattle.asm_reader.specs.Reading.{constant_at}
+use Rattle.asm_reader.proofs.Separated.{so_far}
+use Rattle.asm_reader.proofs.contents.several_constants.Given as goal
+
+abbrev pub invariant-loop-alloc : goal.invariant-loop-alloc
+invariant-loop-alloc l =
+    so_far const_of (Symbol Comma) (constant_at l.text) l.all.items l.tokens.rest.now
+    ≡ so_far const_of (Symbol Comma) (constant_at l.text) l.initial.all.items l.initial.tokens.rest.now
+
+abbrev pub decreases-loop-alloc : goal.decreases-loop-alloc
+decreases-loop-alloc l = length l.tokens.rest.now

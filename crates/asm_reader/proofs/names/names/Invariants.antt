@@ -1,0 +1,13 @@
+use Rattle.std.proofs.Common.{◌≡◌, length}
+use Rattle.asm_syntax.specs.Views.{name_of}
+use Rattle.asm_reader.specs.TermReading.{name_at}
+use Rattle.asm_reader.proofs.Separated.{so_far}
+use Rattle.asm_reader.proofs.names.names.Given as goal
+
+abbrev pub invariant-loop-alloc : goal.invariant-loop-alloc
+invariant-loop-alloc l =
+    so_far name_of l.between (name_at l.text) l.all.items l.tokens.rest.now
+    ≡ so_far name_of l.between (name_at l.text) l.initial.all.items l.initial.tokens.rest.now
+
+abbrev pub decreases-loop-alloc : goal.decreases-loop-alloc
+decreases-loop-alloc l = length l.tokens.rest.now

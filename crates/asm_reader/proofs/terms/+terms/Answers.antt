@@ -1,0 +1,114 @@
+use Rattle.std.proofs.Common.{◌≡◌, refl, sym, ap, ◌∙◌, true, false, List, Ok}
+use Rattle.std.proofs.lemmas.Result.{err_from_is_err_and}
+use Rattle.asm_state.specs.declared.operation.Op.{Op}
+use Rattle.asm_syntax.specs.declared.token.Kind.{Kind}
+use Rattle.asm_syntax.specs.declared.token.Kind.TheVariants.{Symbol}
+use Rattle.asm_syntax.specs.declared.token.Symbol.TheVariants.{Comma}
+use Rattle.asm_syntax.specs.declared.token.Token.{Token}
+use Rattle.asm_syntax.specs.declared.term.Term.{Term}
+use Rattle.asm_syntax.specs.Placed as placed
+use Rattle.asm_syntax.specs.Views.{term_of}
+use Rattle.asm_reader.specs.Kinds.{begins, keys}
+use Rattle.asm_reader.specs.Seen.{link_of}
+use Rattle.asm_reader.specs.Steps.{Answer, below, each_of, repeated_of, choice_at}
+use Rattle.asm_reader.specs.TermGrammar.{chain_of}
+use Rattle.asm_reader.specs.TermReading.{arguments_at, term_at, table_of, operand_at, link_at}
+use Rattle.asm_reader.proofs.Loops.{with_front, turn_seen, nothing_before, no_turn, bad_turn}
+use Rattle.asm_reader.proofs.Consuming.{term_consumes}
+use Rattle.asm_reader.proofs.Separated.{so_far, next_read, all_read, next_fails, past_is, past_consumes}
+use Rattle.asm_reader.proofs.TermLoops.{links_consume}
+use Rattle.asm_reader.proofs.TermSteps.{below_less, chain_is, link_is, link_fails, chain_done, chain_fails, first_fails}
+use Rattle.asm_reader.proofs.terms.+terms.Goals as goal
+
+abbrev read_as : placed.Term → List Token → Answer placed.Term
+read_as x rest = Ok (x, rest)
+
+pub arguments-returns-in_err-all : goal.arguments-returns-in_err-all
+unfolding arguments_at
+arguments-returns-in_err-all t c =
+    let p = err_from_is_err_and c.from_residual-in_err-all.result c.from_residual-in_err-all.ensures.1 in
+    rw (p.1, p.2) (λ reason is. rw (below_less (term_at c.args.text.now) c.args.levels c.in_ok-enter.ensures.left, c.in_ok-enter.ensures.read, c.in_err-all.ensures reason is) refl)
+
+pub arguments-returns-in_err-expect : goal.arguments-returns-in_err-expect
+unfolding arguments_at
+arguments-returns-in_err-expect t c =
+    let p = err_from_is_err_and c.from_residual-in_err-expect.result c.from_residual-in_err-expect.ensures.1 in
+    rw (p.1, p.2) (λ reason is. rw (below_less (term_at c.args.text.now) c.args.levels c.in_ok-enter.ensures.left, c.in_ok-enter.ensures.read, c.in_ok-all.ensures, c.in_err-expect.ensures reason is) refl)
+
+pub arguments-returns : goal.arguments-returns
+unfolding arguments_at
+arguments-returns t c = rw (below_less (term_at c.args.text.now) c.args.levels c.in_ok-enter.ensures.left, c.in_ok-enter.ensures.read, c.in_ok-all.ensures, c.in_ok-expect.ensures) refl
+
+pub terms-loop-alloc-smaller : goal.terms-loop-alloc-smaller
+terms-loop-alloc-smaller t c = past_consumes (Symbol Comma) (term_at c.args.text.now c.args.levels) (term_consumes c.args.text.now c.args.levels) c.loop-alloc.tokens.rest.now c.term-in-loop-alloc.new.tokens.rest.now (term_of c.in_ok-next.next)
+    (past_is (Symbol Comma) (term_at c.args.text.now c.args.levels) c.loop-alloc.tokens.rest.now c.expect.new.self.rest.now c.term-in-loop-alloc.new.tokens.rest.now c.in_ok-expect.field-0 (term_of c.in_ok-next.next) c.in_ok-expect.ensures c.in_ok-next.ensures)
+
+pub terms-loop-alloc-preserved : goal.terms-loop-alloc-preserved
+terms-loop-alloc-preserved t c = next_read term_of (Symbol Comma) (term_at c.args.text.now c.args.levels) (term_consumes c.args.text.now c.args.levels) c.loop-alloc.all.items c.push-in-loop-alloc.new.self.items
+    c.loop-alloc.tokens.rest.now c.expect.new.self.rest.now c.term-in-loop-alloc.new.tokens.rest.now c.in_ok-expect.field-0 c.in_ok-next.next (so_far term_of (Symbol Comma) (term_at c.args.text.now c.args.levels) c.push.new.self.items c.term.new.tokens.rest.now)
+    c.in_ok-push-2.ensures.items c.loop-alloc-test.ensures c.in_ok-expect.ensures c.in_ok-next.ensures c.loop-alloc.invariant
+
+pub terms-returns-in_err-next : goal.terms-returns-in_err-next
+terms-returns-in_err-next t c =
+    let p = err_from_is_err_and c.from_residual-in_err-next.result c.from_residual-in_err-next.ensures.1 in
+    rw (p.1, p.2) (λ reason is. next_fails term_of (Symbol Comma) (term_at c.args.text.now c.args.levels) c.new-all.result.items c.push.new.self.items c.loop-alloc.all.items
+    c.args.tokens.now.rest.now c.term.new.tokens.rest.now c.loop-alloc.tokens.rest.now c.expect.new.self.rest.now c.in_ok-first.first c.in_ok-expect.field-0 reason
+    c.new-all.ensures.items c.in_ok-push.ensures.items c.in_ok-first.ensures c.loop-alloc-test.ensures c.in_ok-expect.ensures (c.in_err-next.ensures reason is) c.loop-alloc.invariant)
+
+pub terms-returns : goal.terms-returns
+terms-returns t c = all_read term_of (Symbol Comma) (term_at c.args.text.now c.args.levels) c.new-all.result.items c.push.new.self.items c.loop-alloc.all.items c.args.tokens.now.rest.now c.term.new.tokens.rest.now c.loop-alloc.tokens.rest.now c.in_ok-first.first
+    c.new-all.ensures.items c.in_ok-push.ensures.items c.in_ok-first.ensures c.loop-alloc-test.ensures c.loop-alloc.invariant
+
+pub chain-returns-in_err-first : goal.chain-returns-in_err-first
+chain-returns-in_err-first t c =
+    let p = err_from_is_err_and c.from_residual.result c.from_residual.ensures.1 in
+    rw (p.1, p.2) (λ reason is. rw (chain_is c.args.text.now c.args.levels (below (term_at c.args.text.now) c.args.levels) c.args.of)
+    (first_fails (table_of c.args.of) (operand_at c.args.text.now c.args.levels (below (term_at c.args.text.now) c.args.levels) c.args.of) c.args.tokens.now.rest.now reason (c.in_err-first.ensures reason is)))
+
+pub chain-loop-of-smaller : goal.chain-loop-of-smaller
+chain-loop-of-smaller t c =
+    let read : choice_at (table_of c.args.of) c.loop-of.tokens.rest.now ≡ Ok (c.in_ok-operator.operator, c.choice.new.self.rest.now) = ap (λ (w : List (Kind × Op)). choice_at w c.loop-of.tokens.rest.now) (sym c.operators-in-loop-of.ensures) ∙ c.in_ok-operator.ensures in
+    links_consume c.args.text.now c.args.levels c.args.of c.loop-of.tokens.rest.now c.operand-in-loop-of.new.tokens.rest.now (link_of (c.in_ok-operator.operator, c.in_ok-next.next))
+    (link_is (table_of c.args.of) (operand_at c.args.text.now c.args.levels (below (term_at c.args.text.now) c.args.levels) c.args.of) c.loop-of.tokens.rest.now c.choice.new.self.rest.now c.operand-in-loop-of.new.tokens.rest.now
+    c.in_ok-operator.operator (term_of c.in_ok-next.next) read c.in_ok-next.ensures)
+
+pub chain-loop-of-preserved : goal.chain-loop-of-preserved
+chain-loop-of-preserved t c =
+    let test : true ≡ begins (keys c.operators.result.now) c.loop-of.tokens.rest.now = c.loop-of-test.ensures in
+    let read : choice_at (table_of c.args.of) c.loop-of.tokens.rest.now ≡ Ok (c.in_ok-operator.operator, c.choice.new.self.rest.now) = ap (λ (w : List (Kind × Op)). choice_at w c.loop-of.tokens.rest.now) (sym c.operators-in-loop-of.ensures) ∙ c.in_ok-operator.ensures in
+    let one = link_is (table_of c.args.of) (operand_at c.args.text.now c.args.levels (below (term_at c.args.text.now) c.args.levels) c.args.of) c.loop-of.tokens.rest.now c.choice.new.self.rest.now c.operand-in-loop-of.new.tokens.rest.now
+    c.in_ok-operator.operator (term_of c.in_ok-next.next) read c.in_ok-next.ensures in (
+      c.loop-of.invariant.0,
+      turn_seen link_of (keys (table_of c.args.of)) (link_at c.args.text.now c.args.levels (below (term_at c.args.text.now) c.args.levels) c.args.of) (links_consume c.args.text.now c.args.levels c.args.of)
+          c.loop-of.rest.items c.push.new.self.items c.loop-of.tokens.rest.now (c.in_ok-operator.operator, c.in_ok-next.next) c.operand-in-loop-of.new.tokens.rest.now
+          (with_front (each_of link_of c.new-rest.result) (repeated_of (keys (table_of c.args.of)) (link_at c.args.text.now c.args.levels (below (term_at c.args.text.now) c.args.levels) c.args.of) c.operand.new.tokens.rest.now))
+          c.in_ok-push.ensures.items (test ∙ ap (λ (w : List (Kind × Op)). begins (keys w) c.loop-of.tokens.rest.now) c.operators.ensures) one c.loop-of.invariant.1,
+    )
+
+pub chain-returns-in_err-next : goal.chain-returns-in_err-next
+chain-returns-in_err-next t c =
+    let p = err_from_is_err_and c.from_residual-in_err-next.result c.from_residual-in_err-next.ensures.1 in
+    let test : true ≡ begins (keys c.operators.result.now) c.loop-of.tokens.rest.now = c.loop-of-test.ensures in
+    let read : choice_at (table_of c.args.of) c.loop-of.tokens.rest.now ≡ Ok (c.in_ok-operator.operator, c.choice.new.self.rest.now) = ap (λ (w : List (Kind × Op)). choice_at w c.loop-of.tokens.rest.now) (sym c.operators-in-loop-of.ensures) ∙ c.in_ok-operator.ensures in
+    rw (p.1, p.2) (λ reason is.
+    let one = link_fails (table_of c.args.of) (operand_at c.args.text.now c.args.levels (below (term_at c.args.text.now) c.args.levels) c.args.of) c.loop-of.tokens.rest.now c.choice.new.self.rest.now c.in_ok-operator.operator reason read (c.in_err-next.ensures reason is) in
+    let total = sym (nothing_before link_of (keys (table_of c.args.of)) (link_at c.args.text.now c.args.levels (below (term_at c.args.text.now) c.args.levels) c.args.of) c.new-rest.result.items
+    (repeated_of (keys (table_of c.args.of)) (link_at c.args.text.now c.args.levels (below (term_at c.args.text.now) c.args.levels) c.args.of) c.operand.new.tokens.rest.now) c.new-rest.ensures.items)
+    ∙ bad_turn (keys (table_of c.args.of)) (link_at c.args.text.now c.args.levels (below (term_at c.args.text.now) c.args.levels) c.args.of) (each_of link_of c.loop-of.rest) c.loop-of.tokens.rest.now reason
+    (with_front (each_of link_of c.new-rest.result) (repeated_of (keys (table_of c.args.of)) (link_at c.args.text.now c.args.levels (below (term_at c.args.text.now) c.args.levels) c.args.of) c.operand.new.tokens.rest.now))
+    (sym (test ∙ ap (λ (w : List (Kind × Op)). begins (keys w) c.loop-of.tokens.rest.now) c.operators.ensures)) one c.loop-of.invariant.1 in
+    rw (chain_is c.args.text.now c.args.levels (below (term_at c.args.text.now) c.args.levels) c.args.of)
+    (chain_fails (table_of c.args.of) (operand_at c.args.text.now c.args.levels (below (term_at c.args.text.now) c.args.levels) c.args.of) c.args.tokens.now.rest.now c.operand.new.tokens.rest.now (term_of c.in_ok-first.first) reason c.in_ok-first.ensures total))
+
+pub chain-returns : goal.chain-returns
+chain-returns t c =
+    let test : false ≡ begins (keys c.operators.result.now) c.loop-of.tokens.rest.now = c.loop-of-test.ensures in
+    let total = sym (nothing_before link_of (keys (table_of c.args.of)) (link_at c.args.text.now c.args.levels (below (term_at c.args.text.now) c.args.levels) c.args.of) c.new-rest.result.items
+    (repeated_of (keys (table_of c.args.of)) (link_at c.args.text.now c.args.levels (below (term_at c.args.text.now) c.args.levels) c.args.of) c.operand.new.tokens.rest.now) c.new-rest.ensures.items)
+    ∙ no_turn (keys (table_of c.args.of)) (link_at c.args.text.now c.args.levels (below (term_at c.args.text.now) c.args.levels) c.args.of) (each_of link_of c.loop-of.rest) c.loop-of.tokens.rest.now
+    (with_front (each_of link_of c.new-rest.result) (repeated_of (keys (table_of c.args.of)) (link_at c.args.text.now c.args.levels (below (term_at c.args.text.now) c.args.levels) c.args.of) c.operand.new.tokens.rest.now))
+    (sym (test ∙ ap (λ (w : List (Kind × Op)). begins (keys w) c.loop-of.tokens.rest.now) c.operators.ensures)) c.loop-of.invariant.1 in
+    rw (chain_is c.args.text.now c.args.levels (below (term_at c.args.text.now) c.args.levels) c.args.of, c.in_ok-joined.ensures)
+    (chain_done (table_of c.args.of) (operand_at c.args.text.now c.args.levels (below (term_at c.args.text.now) c.args.levels) c.args.of) c.args.tokens.now.rest.now c.operand.new.tokens.rest.now c.loop-of.tokens.rest.now
+    (term_of c.in_ok-first.first) (each_of link_of c.loop-of.rest) c.in_ok-first.ensures total
+    ∙ ap (λ (x : Term). read_as (chain_of (term_of x, each_of link_of c.loop-of.rest)) c.loop-of.tokens.rest.now) (sym c.loop-of.invariant.0))

@@ -1,0 +1,69 @@
+use Rattle.std.proofs.Common.{◌≡◌, ◌+◌, ◌*◌, [], ◌∷◌, length}
+use Rattle.asm_syntax.specs.declared.token.Kind.TheVariants.{Symbol}
+use Rattle.asm_syntax.specs.declared.token.Symbol.TheVariants.{Comma}
+use Rattle.asm_syntax.specs.Views.{term_of}
+use Rattle.asm_reader.specs.Kinds.{keys}
+use Rattle.asm_reader.specs.Seen.{link_of}
+use Rattle.asm_reader.specs.Steps.{below, each_of, repeated_of, past_of}
+use Rattle.asm_reader.specs.TermReading.{table_of, link_at, term_at}
+use Rattle.asm_reader.proofs.Loops.{with_front}
+use Rattle.asm_reader.proofs.Ranks.{operand_rank, chain_rank}
+use Rattle.asm_reader.proofs.terms.+terms.Given as goal
+
+abbrev pub decreases-arguments : goal.decreases-arguments
+decreases-arguments l = l.levels * 20
+
+abbrev pub decreases-parenthesized : goal.decreases-parenthesized
+decreases-parenthesized l = l.levels * 20
+
+abbrev pub decreases-applied : goal.decreases-applied
+decreases-applied l = l.levels * 20 + 1
+
+abbrev pub decreases-primary : goal.decreases-primary
+decreases-primary l = l.levels * 20 + 2
+
+abbrev pub decreases-factor : goal.decreases-factor
+decreases-factor l = l.levels * 20 + 3
+
+abbrev pub decreases-operand : goal.decreases-operand
+decreases-operand l = l.levels * 20 + operand_rank l.of
+
+abbrev pub decreases-chain : goal.decreases-chain
+decreases-chain l = l.levels * 20 + chain_rank l.of
+
+abbrev pub decreases-comparison : goal.decreases-comparison
+decreases-comparison l = l.levels * 20 + 8
+
+abbrev pub decreases-negation : goal.decreases-negation
+decreases-negation l = l.levels * 20 + 9
+
+abbrev pub decreases-term : goal.decreases-term
+decreases-term l = l.levels * 20 + 14
+
+abbrev pub decreases-terms : goal.decreases-terms
+decreases-terms l = l.levels * 20 + 15
+
+abbrev pub decreases-exists : goal.decreases-exists
+decreases-exists l = l.levels * 20 + 15
+
+abbrev pub decreases-every : goal.decreases-every
+decreases-every l = l.levels * 20 + 15
+
+abbrev pub decreases-inner : goal.decreases-inner
+decreases-inner l = l.levels * 20 + 16
+
+abbrev pub invariant-terms-loop-alloc : goal.invariant-terms-loop-alloc
+invariant-terms-loop-alloc l =
+    with_front (each_of term_of l.all) (repeated_of (Symbol Comma ∷ []) (past_of (Symbol Comma) (term_at l.text l.levels)) l.tokens.rest.now)
+    ≡ with_front (each_of term_of l.initial.all) (repeated_of (Symbol Comma ∷ []) (past_of (Symbol Comma) (term_at l.text l.levels)) l.initial.tokens.rest.now)
+
+abbrev pub decreases-terms-loop-alloc : goal.decreases-terms-loop-alloc
+decreases-terms-loop-alloc l = length l.tokens.rest.now
+
+abbrev pub invariant-chain-loop-of : goal.invariant-chain-loop-of
+invariant-chain-loop-of l = (l.first ≡ l.initial.first) × (
+    with_front (each_of link_of l.rest) (repeated_of (keys (table_of l.of)) (link_at l.text l.levels (below (term_at l.text) l.levels) l.of) l.tokens.rest.now)
+    ≡ with_front (each_of link_of l.initial.rest) (repeated_of (keys (table_of l.of)) (link_at l.text l.levels (below (term_at l.text) l.levels) l.of) l.initial.tokens.rest.now))
+
+abbrev pub decreases-chain-loop-of : goal.decreases-chain-loop-of
+decreases-chain-loop-of l = length l.tokens.rest.now

@@ -1,0 +1,129 @@
+-- The grammar of terms, with the placed trees that its texts make.
+use Rattle.std.specs.Prelude.{ℕ, zero, suc, true, false, List, [], ◌∷◌, Option, Some, None, option_to_list, slice_range}
+use Rattle.asm_state.specs.declared.operation.Op.{Op}
+use Rattle.asm_state.specs.declared.operation.Op.TheVariants as op
+use Rattle.asm_syntax.specs.declared.token.Kind.{Kind}
+use Rattle.asm_syntax.specs.declared.token.Kind.TheVariants as kind
+use Rattle.asm_syntax.specs.declared.token.Kind.TheVariants.{Symbol, Word}
+use Rattle.asm_syntax.specs.declared.token.Symbol.TheVariants.{Open, Close, Comma, Plus, Minus, Times, Equal, NotEqual, Less, AtMost, Greater, AtLeast}
+use Rattle.asm_syntax.specs.declared.token.Word.TheVariants.{Or, And, Not, Div, Mod, Exists, Forall, In, With, Holds, True, False, Undef}
+use Rattle.asm_syntax.specs.declared.token.Token.{Token}
+use Rattle.asm_syntax.specs.declared.term.Literal.{Literal}
+use Rattle.asm_syntax.specs.declared.term.Literal.TheVariants as literal
+use Rattle.asm_syntax.specs.Placed as placed
+use Rattle.asm_syntax.specs.Views.{terms_of, links_of}
+use Rattle.asm_reader.specs.Parts.{Part, token, ◌then◌, ◌or◌, optional, repeated, ◌makes◌, nothing, number, choice, past, separated, between, at_any_depth}
+
+-- ---- trees
+
+-- the name that a token stands for: the place of its first byte, and its bytes in the text
+abbrev pub name_at_token : List ℕ → Token → placed.Name
+name_at_token text t = record { at = t.start; text = slice_range text t.start t.end }
+
+-- a chain with nothing behind its first member is that member
+abbrev pub chain_of : placed.Term × List (Op × placed.Term) → placed.Term
+chain_of (first, []) = first
+chain_of (first, link ∷ links) = placed.Chain first (links_of (link ∷ links))
+
+-- a list that may be left out
+abbrev pub listed : {A : Type 0} → Option (List A) → List A
+listed None = []
+listed (Some xs) = xs
+
+-- ---- tables of tokens
+
+abbrev pub constants : List (Kind × Literal)
+constants = (Word True, literal.Truth true) ∷ (Word False, literal.Truth false) ∷ (Word Undef, literal.Undef) ∷ []
+
+abbrev pub disjunctions : List (Kind × Op)
+disjunctions = (Word Or, op.Or) ∷ []
+
+abbrev pub conjunctions : List (Kind × Op)
+conjunctions = (Word And, op.And) ∷ []
+
+abbrev pub comparisons : List (Kind × Op)
+comparisons = (Symbol Equal, op.Equal) ∷ (Symbol NotEqual, op.Different) ∷ (Symbol Less, op.Less)
+    ∷ (Symbol AtMost, op.AtMost) ∷ (Symbol Greater, op.Greater) ∷ (Symbol AtLeast, op.AtLeast) ∷ []
+
+abbrev pub additions : List (Kind × Op)
+additions = (Symbol Plus, op.Add) ∷ (Symbol Minus, op.Subtract) ∷ []
+
+abbrev pub products : List (Kind × Op)
+products = (Symbol Times, op.Multiply) ∷ (Word Div, op.Divide) ∷ (Word Mod, op.Remainder) ∷ []
+
+-- first { operator next }
+abbrev pub chain : List (Kind × Op) → Part placed.Term → Part placed.Term
+chain table next = (next then repeated (choice table then next)) makes chain_of
+
+-- ---- productions, for names whose bytes stand in this text
+
+module _ (text : List ℕ) where
+  abbrev pub name : Part placed.Name
+  name = token kind.Name makes name_at_token text
+
+  -- name "in" name
+  unfoldable pub binding : Part (placed.Name × placed.Name)
+  binding = name then past (Word In) name
+
+  -- over the terms that stand in parentheses
+  module _ (deeper : Part placed.Term) where
+    -- "(" term { "," term } ")"
+    unfoldable pub arguments : Part (List placed.Term)
+    arguments = between (Symbol Open) (Symbol Close) (separated (Symbol Comma) deeper)
+
+    -- name [ arguments ]
+    unfoldable pub applied : Part (placed.Name × placed.Terms)
+    applied = (name then optional arguments) makes (λ r. (r.0, terms_of (listed r.1)))
+
+    -- "exists" name "in" name "with" term
+    unfoldable pub exists_term : Part placed.Term
+    exists_term = past (Word Exists) (binding then past (Word With) deeper) makes (λ r. placed.Exists r.0.0 r.0.1 r.1)
+
+    -- "forall" name "in" name "holds" term
+    unfoldable pub every_term : Part placed.Term
+    every_term = past (Word Forall) (binding then past (Word Holds) deeper) makes (λ r. placed.Every r.0.0 r.0.1 r.1)
+
+    -- what stands in parentheses
+    unfoldable pub inner : Part placed.Term
+    inner = exists_term or every_term or deeper
+
+    -- number | "true" | "false" | "undef" | name [ arguments ] | "(" inner ")"
+    unfoldable pub primary : Part placed.Term
+    primary = (number makes (λ n. placed.Constant (literal.Number n))) or (choice constants makes placed.Constant)
+        or (applied makes (λ r. placed.Named r.0 r.1)) or between (Symbol Open) (Symbol Close) inner
+
+    -- [ "-" ] primary
+    unfoldable pub factor : Part placed.Term
+    factor = (past (Symbol Minus) primary makes placed.Negative) or primary
+
+    -- factor { ( "*" | "div" | "mod" ) factor }
+    unfoldable pub product : Part placed.Term
+    product = chain products factor
+
+    -- product { ( "+" | "-" ) product }
+    unfoldable pub sum : Part placed.Term
+    sum = chain additions product
+
+    -- sum [ ( "=" | "!=" | "<" | "<=" | ">" | ">=" ) sum ]
+    unfoldable pub comparison : Part placed.Term
+    comparison = (sum then optional (choice comparisons then sum)) makes (λ r. chain_of (r.0, option_to_list r.1))
+
+    -- [ "not" ] comparison
+    unfoldable pub negation : Part placed.Term
+    negation = (past (Word Not) comparison makes placed.Not) or comparison
+
+    -- negation { "and" negation }
+    unfoldable pub conjunction : Part placed.Term
+    conjunction = chain conjunctions negation
+
+    -- conjunction { "or" conjunction }
+    unfoldable pub term_over : Part placed.Term
+    term_over = chain disjunctions conjunction
+
+  -- a term in which parentheses nest at most n deep
+  unfoldable pub term_within : ℕ → Part placed.Term
+  term_within zero = term_over nothing
+  term_within (suc n) = term_over (term_within n)
+
+  abbrev pub any_term : Part placed.Term
+  any_term = at_any_depth term_within

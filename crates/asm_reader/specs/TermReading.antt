@@ -1,0 +1,103 @@
+-- What the functions of the code read as terms: the productions, with the next token to choose by.
+use Rattle.std.specs.Prelude.{ℕ, zero, suc, false, List, [], ◌∷◌, option_to_list}
+use Rattle.asm_state.specs.declared.operation.Op.{Op}
+use Rattle.asm_syntax.specs.declared.token.Kind.{Kind}
+use Rattle.asm_syntax.specs.declared.token.Kind.TheVariants as kind
+use Rattle.asm_syntax.specs.declared.token.Kind.TheVariants.{Number, Symbol, Word}
+use Rattle.asm_syntax.specs.declared.token.Symbol.TheVariants.{Open, Close, Comma, Minus}
+use Rattle.asm_syntax.specs.declared.token.Word.TheVariants.{Not, Exists, Forall, In, With, Holds}
+use Rattle.asm_syntax.specs.declared.term.Literal.TheVariants as literal
+use Rattle.asm_syntax.specs.Placed as placed
+use Rattle.asm_syntax.specs.Views.{terms_of}
+use Rattle.asm_reader.specs.declared.terms.Precedence.{Precedence}
+use Rattle.asm_reader.specs.declared.terms.Precedence.TheVariants as precedence
+use Rattle.asm_reader.specs.Kinds.{keys}
+use Rattle.asm_reader.specs.Steps.{Reader, refuse, expect, pair_of, mapped, either_of, option_of, repeated_of, number_at, choice_at, past_of, separated_of, between_of}
+use Rattle.asm_reader.specs.TermGrammar.{name_at_token, chain_of, listed, constants, disjunctions, conjunctions, comparisons, additions, products}
+
+abbrev pub chain_at : List (Kind × Op) → Reader placed.Term → Reader placed.Term
+chain_at table next = mapped chain_of (pair_of next (repeated_of (keys table) (pair_of (choice_at table) next)))
+
+-- the four chains, by how their operators bind
+abbrev pub table_of : Precedence → List (Kind × Op)
+table_of precedence.Disjunction = disjunctions
+table_of precedence.Conjunction = conjunctions
+table_of precedence.Sum = additions
+table_of precedence.Product = products
+
+module _ (text : List ℕ) where
+  unfoldable pub name_at : Reader placed.Name
+  name_at = mapped (name_at_token text) (expect kind.Name)
+
+  unfoldable pub binding_at : Reader (placed.Name × placed.Name)
+  binding_at = pair_of name_at (past_of (Word In) name_at)
+
+  -- what stands in parentheses
+  module _ (deeper : Reader placed.Term) where
+    unfoldable pub exists_at : Reader placed.Term
+    exists_at = mapped (λ r. placed.Exists r.0.0 r.0.1 r.1) (past_of (Word Exists) (pair_of binding_at (past_of (Word With) deeper)))
+
+    unfoldable pub every_at : Reader placed.Term
+    every_at = mapped (λ r. placed.Every r.0.0 r.0.1 r.1) (past_of (Word Forall) (pair_of binding_at (past_of (Word Holds) deeper)))
+
+    unfoldable pub inner_at : Reader placed.Term
+    inner_at = either_of (Word Exists ∷ []) exists_at (either_of (Word Forall ∷ []) every_at deeper)
+
+  -- n levels may open, and `deeper` reads a term behind one of them
+  module _ (n : ℕ) (deeper : Reader placed.Term) where
+    unfoldable pub arguments_at : Reader (List placed.Term)
+    arguments_at = between_of n (Symbol Open) (Symbol Close) (separated_of (Symbol Comma) deeper)
+
+    unfoldable pub applied_at : Reader (placed.Name × placed.Terms)
+    applied_at = mapped (λ r. (r.0, terms_of (listed r.1))) (pair_of name_at (option_of (Symbol Open ∷ []) arguments_at))
+
+    unfoldable pub parenthesized_at : Reader placed.Term
+    parenthesized_at = between_of n (Symbol Open) (Symbol Close) (inner_at deeper)
+
+    unfoldable pub primary_at : Reader placed.Term
+    primary_at = either_of (Number 0 ∷ []) (mapped (λ v. placed.Constant (literal.Number v)) (number_at false))
+        (either_of (keys constants) (mapped placed.Constant (choice_at constants))
+        (either_of (kind.Name ∷ []) (mapped (λ r. placed.Named r.0 r.1) applied_at) parenthesized_at))
+
+    unfoldable pub factor_at : Reader placed.Term
+    factor_at = either_of (Symbol Minus ∷ []) (mapped placed.Negative (past_of (Symbol Minus) primary_at)) primary_at
+
+    unfoldable pub product_at : Reader placed.Term
+    product_at = chain_at products factor_at
+
+    unfoldable pub sum_at : Reader placed.Term
+    sum_at = chain_at additions product_at
+
+    unfoldable pub comparison_at : Reader placed.Term
+    comparison_at = mapped (λ r. chain_of (r.0, option_to_list r.1)) (pair_of sum_at (option_of (keys comparisons) (pair_of (choice_at comparisons) sum_at)))
+
+    unfoldable pub negation_at : Reader placed.Term
+    negation_at = either_of (Word Not ∷ []) (mapped placed.Not (past_of (Word Not) comparison_at)) comparison_at
+
+    unfoldable pub conjunction_at : Reader placed.Term
+    conjunction_at = chain_at conjunctions negation_at
+
+    unfoldable pub disjunction_at : Reader placed.Term
+    disjunction_at = chain_at disjunctions conjunction_at
+
+    abbrev pub operand_at : Precedence → Reader placed.Term
+    operand_at precedence.Disjunction = conjunction_at
+    operand_at precedence.Conjunction = negation_at
+    operand_at precedence.Sum = product_at
+    operand_at precedence.Product = factor_at
+
+    abbrev pub link_at : Precedence → Reader (Op × placed.Term)
+    link_at c = pair_of (choice_at (table_of c)) (operand_at c)
+
+    abbrev pub chain_of_at : Precedence → Reader placed.Term
+    chain_of_at precedence.Disjunction = disjunction_at
+    chain_of_at precedence.Conjunction = conjunction_at
+    chain_of_at precedence.Sum = sum_at
+    chain_of_at precedence.Product = product_at
+
+  unfoldable pub term_at : ℕ → Reader placed.Term
+  term_at zero = disjunction_at zero refuse
+  term_at (suc n) = disjunction_at (suc n) (term_at n)
+
+  abbrev pub terms_at : ℕ → Reader (List placed.Term)
+  terms_at n = separated_of (Symbol Comma) (term_at n)

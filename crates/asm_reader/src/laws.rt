@@ -1,0 +1,40 @@
+//! Laws of the definitions of specifications and refusals.
+
+ghost use Rattle.std.specs.Prelude.{◌≡◌, ℕ, List};
+ghost use Rattle.asm_syntax.specs.declared.token.Token.{Token};
+ghost use Rattle.asm_syntax.specs.Placed as placed;
+ghost use Rattle.asm_reader.specs.declared.error.ReadError.{ReadError};
+ghost use Rattle.asm_reader.specs.Grammar.{specification};
+ghost use Rattle.asm_reader.specs.Specification.{IsSpecification};
+ghost use Rattle.asm_reader.specs.Refusals.{IsRefusal};
+
+use asm_syntax::{no_tokens_beside_a_fault, one_fault, one_list_of_tokens};
+
+/// Tokens spell one tree at most, at any depth.
+pub fn one_tree_of_tokens()
+    ensures { (text : List ℕ) (ts : List Token) (s t : placed.Spec) → specification text ts s → specification text ts t → s ≡ t }
+{}
+
+/// A text has one specification at most.
+pub fn one_tree()
+    ensures { (text : List ℕ) (s t : placed.Spec) → IsSpecification text s → IsSpecification text t → s ≡ t }
+{
+    one_list_of_tokens();
+}
+
+/// A text that spells a specification has no refusal.
+pub fn no_tree_beside_a_refusal()
+    ensures { (text : List ℕ) (s : placed.Spec) (e : ReadError) → IsSpecification text s → ¬ IsRefusal text e }
+{
+    one_list_of_tokens();
+    no_tokens_beside_a_fault();
+}
+
+/// A text has one refusal at most.
+pub fn one_refusal()
+    ensures { (text : List ℕ) (e f : ReadError) → IsRefusal text e → IsRefusal text f → e ≡ f }
+{
+    one_list_of_tokens();
+    no_tokens_beside_a_fault();
+    one_fault();
+}

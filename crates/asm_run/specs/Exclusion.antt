@@ -1,0 +1,27 @@
+-- Laws of refusals.
+--     IsNamed e                 the refusal is of the text or of the limits
+--     OneNamedRefusal           a text has one of these with its limits, at most
+--     NoRunBesideARefusal       a text and limits that have a run have none of these
+use Rattle.std.specs.Prelude.{◌≡◌, ℕ, true, List, Option}
+use Rattle.asm_syntax.specs.Placed.{Spec}
+use Rattle.asm_run.specs.Limits.{are_in_range}
+use Rattle.asm_run.specs.Headline.{IsFirstPath, Explains}
+use Rattle.asm_run.specs.declared.error.RunError.{RunError}
+use Rattle.asm_run.specs.declared.error.RunError.TheVariants as error
+
+abbrev pub IsNamed : RunError → Type 0
+IsNamed (error.Read e) = Unit {0}
+IsNamed error.Beyond = Unit {0}
+IsNamed error.Limits = Unit {0}
+IsNamed error.Memory = ⊥
+IsNamed error.Write = ⊥
+
+abbrev pub OneNamedRefusal : Type 0
+OneNamedRefusal =
+    (text : List ℕ) (steps turns workers cut rounds : ℕ) (old new other_old other_new : Option (List ℕ)) (e f : RunError) → IsNamed e → IsNamed f
+    → Explains text steps turns workers cut rounds old new e → Explains text steps turns workers cut rounds other_old other_new f → e ≡ f
+
+abbrev pub NoRunBesideARefusal : Type 0
+NoRunBesideARefusal =
+    (text : List ℕ) (steps turns workers cut rounds : ℕ) (old new : Option (List ℕ)) (s : Spec) (e : RunError) → IsFirstPath text s
+    → are_in_range steps turns workers cut rounds ≡ true → IsNamed e → ¬ Explains text steps turns workers cut rounds old new e

@@ -1,0 +1,200 @@
+//! Texts of specifications beyond the first path, a construction each.
+//! Whether a text is read at all depends on `read`, so these tests are of both.
+use crate::end::End;
+use crate::error::RunError;
+use crate::limits::Limits;
+use crate::run::run;
+use crate::through::Through;
+use std::alloc::{AllocError, Global};
+use std::test::Fail;
+
+const LIMITS: Limits = Limits {
+    steps: 1,
+    turns: 1000,
+    workers: 1,
+    cut: 64,
+    rounds: 4,
+};
+
+/// Lines behind the first two, with one construction that doesn't run.
+static ITEMS: [(&str, &str); 14] = [
+    (
+        "an enumeration",
+        "enum Color = { red, green }\nrule M = skip\n",
+    ),
+    ("a universe", "universe U = 0 .. 3\nrule M = skip\n"),
+    (
+        "a static function",
+        "function static f initially 1\nrule M = skip\n",
+    ),
+    (
+        "a domain",
+        "universe U = 0 .. 3\nfunction controlled f : U\nrule M = skip\n",
+    ),
+    (
+        "a domain that isn't declared",
+        "function controlled f : U\nrule M = skip\n",
+    ),
+    (
+        "a domain of two universes",
+        "function controlled f : U * U\nrule M = skip\n",
+    ),
+    (
+        "a codomain",
+        "function controlled f : -> NUMBER\nrule M = skip\n",
+    ),
+    (
+        "a domain and a codomain",
+        "function controlled f : U -> BOOLEAN\nrule M = skip\n",
+    ),
+    (
+        "a table of entries",
+        "function controlled f initially { (0) -> 1 }\nrule M = skip\n",
+    ),
+    (
+        "an element as an initial value",
+        "function controlled f initially red\nrule M = skip\n",
+    ),
+    ("a derived function", "derived d = 1\nrule M = skip\n"),
+    (
+        "a derived function with a parameter",
+        "derived d(n) = n + 1\nrule M = skip\n",
+    ),
+    ("a parameter of the main rule", "rule M(p) = skip\n"),
+    (
+        "a parameter of another rule",
+        "rule M = skip\nrule r(p) = skip\n",
+    ),
+];
+
+/// Rules that don't run.
+static RULES: [(&str, &str); 13] = [
+    ("a call", "r"),
+    ("a call with an argument", "r(1)"),
+    ("a target with an argument", "x(1) := 1"),
+    ("a sequence", "seq skip endseq"),
+    ("a test", "if true then skip endif"),
+    (
+        "a test with two branches",
+        "if true then skip else skip endif",
+    ),
+    ("a let", "let y = 1 in skip endlet"),
+    ("a forall", "forall i in U do skip endforall"),
+    (
+        "a forall with a test",
+        "forall i in U with true do skip endforall",
+    ),
+    ("a choose", "choose i in U do skip endchoose"),
+    (
+        "a choose with a rule for none",
+        "choose i in U do skip ifnone skip endchoose",
+    ),
+    ("an iteration", "iterate skip enditerate"),
+    (
+        "a sequence within a par",
+        "par skip par skip seq skip endseq endpar endpar",
+    ),
+];
+
+/// Terms that don't run.
+static TERMS: [(&str, &str); 24] = [
+    ("an argument", "x(1)"),
+    ("an unknown name", "y"),
+    ("a difference", "1 - 1"),
+    ("a product", "1 * 1"),
+    ("a quotient", "1 div 1"),
+    ("a remainder", "1 mod 1"),
+    ("an equation", "1 = 1"),
+    ("an inequation", "1 != 1"),
+    ("less", "1 < 1"),
+    ("at most", "1 <= 1"),
+    ("greater", "1 > 1"),
+    ("at least", "1 >= 1"),
+    ("a conjunction", "true and true"),
+    ("a disjunction", "true or true"),
+    ("a negation", "not true"),
+    ("two sums", "1 + 1 + 1"),
+    ("a sum and a difference", "1 + 1 - 1"),
+    ("a product as an operand", "1 + 1 * 1"),
+    ("a sum as an operand", "(1 + 1) + 1"),
+    ("a sum as the second operand", "1 + (1 + 1)"),
+    ("a minus before a minus", "-(-1)"),
+    ("a minus before a sum", "-(1 + 1)"),
+    ("a quantifier over some", "(exists i in U with true)"),
+    ("a quantifier over all", "(forall i in U holds true)"),
+];
+
+/// Terms that run.
+static KNOWN_TERMS: [&str; 12] = [
+    "1",
+    "-1",
+    "true",
+    "undef",
+    "x",
+    "-x",
+    "1 + x",
+    "-x + -1",
+    "(1)",
+    "(-(x))",
+    "(x) + (-(1))",
+    "((x + 1))",
+];
+
+/// A text from its parts.
+fn text_of(alloc: Global, parts: &[&str]) -> Result<Vec<u8>, AllocError> {
+    let mut text = b"CoreASM T\ninit M\n".to_vec(alloc)?;
+    for part in parts {
+        text.extend_from_slice(part.as_bytes())?;
+    }
+    Ok(text)
+}
+
+#[test]
+fn declarations_beyond_the_first_path(rt: HostRuntime) -> Result<(), Fail> {
+    for (reason, lines) in &ITEMS {
+        let text = text_of(rt.alloc(), &[*lines])?;
+        let mut out = Through::new(Vec::new(rt.alloc()));
+        let answer = run(&rt, rt.alloc(), text.as_slice(), b"", &LIMITS, &mut out);
+        assert!(rt; matches!(answer, Err(RunError::Beyond)), "{reason}");
+        assert_eq!(rt; out.into_inner().len(), 0, "{reason}");
+    }
+    Ok(())
+}
+
+#[test]
+fn rules_beyond_the_first_path(rt: HostRuntime) -> Result<(), Fail> {
+    for (reason, rule) in &RULES {
+        let text = text_of(
+            rt.alloc(),
+            &["function controlled x rule r = skip rule M = ", *rule],
+        )?;
+        let mut out = Through::new(Vec::new(rt.alloc()));
+        let answer = run(&rt, rt.alloc(), text.as_slice(), b"", &LIMITS, &mut out);
+        assert!(rt; matches!(answer, Err(RunError::Beyond)), "{reason}");
+        assert_eq!(rt; out.into_inner().len(), 0, "{reason}");
+    }
+    Ok(())
+}
+
+#[test]
+fn terms_beyond_the_first_path(rt: HostRuntime) -> Result<(), Fail> {
+    for (reason, term) in &TERMS {
+        let text = text_of(rt.alloc(), &["function controlled x rule M = x := ", *term])?;
+        let mut out = Through::new(Vec::new(rt.alloc()));
+        let answer = run(&rt, rt.alloc(), text.as_slice(), b"", &LIMITS, &mut out);
+        assert!(rt; matches!(answer, Err(RunError::Beyond)), "{reason}");
+        assert_eq!(rt; out.into_inner().len(), 0, "{reason}");
+    }
+    Ok(())
+}
+
+#[test]
+fn terms_of_the_first_path(rt: HostRuntime) -> Result<(), Fail> {
+    for term in &KNOWN_TERMS {
+        let text = text_of(rt.alloc(), &["function controlled x rule M = x := ", *term])?;
+        let mut out = Through::new(Vec::new(rt.alloc()));
+        let answer = run(&rt, rt.alloc(), text.as_slice(), b"", &LIMITS, &mut out);
+        assert!(rt; matches!(answer, Ok(End::Limit)), "{term}");
+    }
+    Ok(())
+}

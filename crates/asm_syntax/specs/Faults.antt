@@ -1,0 +1,17 @@
+-- Faults of texts, as a user meets them.
+--     fault_number, fault_place      the number of a fault, and the place where it stands, if it has one
+use Rattle.std.specs.Prelude.{ℕ, Option, Some, None}
+use Rattle.asm_syntax.specs.declared.error.LexError.{LexError}
+use Rattle.asm_syntax.specs.declared.error.LexError.TheVariants.{TooLong, BadByte, OpenComment, BadNumber}
+
+abbrev pub fault_number : LexError → ℕ
+fault_number TooLong = 1
+fault_number (BadByte at) = 2
+fault_number (OpenComment at) = 3
+fault_number (BadNumber at) = 4
+
+abbrev pub fault_place : LexError → Option ℕ
+fault_place TooLong = None
+fault_place (BadByte at) = Some at
+fault_place (OpenComment at) = Some at
+fault_place (BadNumber at) = Some at
