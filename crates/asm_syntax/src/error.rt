@@ -35,7 +35,8 @@ impl LexError {
     {
         match self {
             LexError::TooLong => None,
-            LexError::BadByte { at } | LexError::OpenComment { at } | LexError::BadNumber { at } => Some(at),
+            LexError::BadByte { at } | LexError::OpenComment { at } | LexError::BadNumber { at } =>
+                Some(at),
         }
     }
 }
