@@ -1,5 +1,5 @@
 -- What the functions of the code read as terms: the productions, with the next token to choose by.
-use Rattle.std.specs.Prelude.{ℕ, zero, suc, false, List, [], ◌∷◌, option_to_list}
+use Rattle.std.specs.Prelude.{ℕ, zero, suc, false, List, [], ◌∷◌, ◌++◌, option_to_list}
 use Rattle.asm_state.specs.declared.operation.Op.{Op}
 use Rattle.asm_syntax.specs.declared.token.Kind.{Kind}
 use Rattle.asm_syntax.specs.declared.token.Kind.TheVariants as kind
@@ -12,11 +12,19 @@ use Rattle.asm_syntax.specs.Views.{terms_of}
 use Rattle.asm_reader.specs.declared.terms.Precedence.{Precedence}
 use Rattle.asm_reader.specs.declared.terms.Precedence.TheVariants as precedence
 use Rattle.asm_reader.specs.Kinds.{keys}
-use Rattle.asm_reader.specs.Steps.{Reader, refuse, expect, pair_of, mapped, either_of, option_of, repeated_of, number_at, choice_at, past_of, separated_of, between_of}
+use Rattle.asm_reader.specs.Steps.{Answer, Reader, and_then, refuse, expect, pair_of, mapped, either_of, option_of, repeated_of, number_at, choice_at, past_of, separated_of, between_of}
 use Rattle.asm_reader.specs.TermGrammar.{name_at_token, chain_of, listed, constants, disjunctions, conjunctions, comparisons, additions, products}
 
 abbrev pub chain_at : List (Kind × Op) → Reader placed.Term → Reader placed.Term
 chain_at table next = mapped chain_of (pair_of next (repeated_of (keys table) (pair_of (choice_at table) next)))
+
+-- a chain, from behind its first member on
+abbrev pub links_behind : List (Kind × Op) → Reader placed.Term → placed.Term → Reader placed.Term
+links_behind table next first = mapped (λ links. chain_of (first, links)) (repeated_of (keys table) (pair_of (choice_at table) next))
+
+-- the operators that can stand behind a factor
+abbrev pub operators : List Kind
+operators = keys products ++ keys additions ++ keys comparisons ++ keys conjunctions ++ keys disjunctions
 
 -- the four chains, by how their operators bind
 abbrev pub table_of : Precedence → List (Kind × Op)
@@ -94,6 +102,18 @@ module _ (text : List ℕ) where
     chain_of_at precedence.Conjunction = conjunction_at
     chain_of_at precedence.Sum = sum_at
     chain_of_at precedence.Product = product_at
+
+    -- the same, from behind the first member on
+    abbrev pub chain_from_at : Precedence → placed.Term → Reader placed.Term
+    chain_from_at c = links_behind (table_of c) (operand_at c)
+
+    -- a comparison, from behind its first side on
+    abbrev pub compared_at : placed.Term → Reader placed.Term
+    compared_at first = mapped (λ r. chain_of (first, option_to_list r)) (option_of (keys comparisons) (pair_of (choice_at comparisons) sum_at))
+
+    -- what the operators behind a factor make of it, where no `not` stands before it
+    abbrev pub carried_on : Answer placed.Term → Answer placed.Term
+    carried_on factor = and_then (and_then (and_then (and_then (and_then factor (chain_from_at precedence.Product)) (chain_from_at precedence.Sum)) compared_at) (chain_from_at precedence.Conjunction)) (chain_from_at precedence.Disjunction)
 
   unfoldable pub term_at : ℕ → Reader placed.Term
   term_at zero = disjunction_at zero refuse

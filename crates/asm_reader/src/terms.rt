@@ -1,7 +1,11 @@
 //! Terms, from their tokens.
+//!
+//! A function pays at entry for the size of its locals, and a term in parentheses passes through many. So what most terms don't need
+//! stands in functions of its own that are kept out of line.
 
-ghost use Rattle.std.specs.Prelude.{◌≡◌, map, IfOk};
+ghost use Rattle.std.specs.Prelude.{◌≡◌, map, Ok, IfOk};
 ghost use Rattle.asm_syntax.specs.Views.{term_of, test_of};
+ghost use Rattle.asm_reader.specs.Kinds.{begins, is_one_of};
 ghost use Rattle.asm_reader.specs.TermGrammar as grammar;
 ghost use Rattle.asm_reader.specs.TermReading as reading;
 ghost use Rattle.asm_reader.specs.RuleReading.{condition_at};
@@ -67,6 +71,35 @@ fn operators(of: Precedence) -> &'static [(Kind, Op)]
             (Kind::Word(Word::Div), Op::Divide),
             (Kind::Word(Word::Mod), Op::Remainder),
         ],
+    }
+}
+
+/// Whether the kind is that of an operator that can stand behind a factor.
+fn is_operator(kind: Kind) -> bool
+    ensures { result ≡ is_one_of reading.operators kind }
+{
+    match kind {
+        Kind::Symbol(symbol) => match symbol {
+            Symbol::Plus | Symbol::Minus | Symbol::Times => true,
+            Symbol::Equal | Symbol::NotEqual => true,
+            Symbol::Less | Symbol::AtMost | Symbol::Greater | Symbol::AtLeast => true,
+            _ => false,
+        },
+        Kind::Word(word) => match word {
+            Word::Div | Word::Mod | Word::And | Word::Or => true,
+            _ => false,
+        },
+        _ => false,
+    }
+}
+
+/// Whether the next token is an operator.
+fn sees_operator(tokens: &Cursor<'_>) -> bool
+    ensures { result ≡ begins reading.operators tokens.now.rest.now }
+{
+    match tokens.rest {
+        [] => false,
+        [token, ..] => is_operator(token.kind),
     }
 }
 
@@ -254,8 +287,45 @@ fn factor(
     primary(alloc, text, tokens, levels)
 }
 
+/// What the operator behind a first side makes of it.
 #[cycle(terms)]
-#[tactic(auto, unfolding(crate::specs::TermReading::comparison_at))]
+#[inline(never)]
+fn longer_comparison(
+    alloc: Global,
+    text: &[u8],
+    tokens: &mut Cursor<'_>,
+    levels: usize,
+    first: Term,
+) -> Result<Term, Refused<ReadError>>
+    ensures { Reads term_of (reading.compared_at text.now levels (below (reading.term_at text.now) levels) (term_of first) tokens.old.rest.now) result tokens.new.rest.now }
+{
+    let mut rest = Vec::new(alloc);
+    if tokens.sees_in(comparisons()) {
+        let operator = tokens.choice(comparisons())?;
+        let second = chain(alloc, text, tokens, levels, Precedence::Sum)?;
+        rest.push((operator, second))?;
+    }
+    Ok(joined(alloc, first, rest)?)
+}
+
+/// A comparison whose first side is read, or that side alone.
+#[cycle(terms)]
+fn compared(
+    alloc: Global,
+    text: &[u8],
+    tokens: &mut Cursor<'_>,
+    levels: usize,
+    first: Term,
+) -> Result<Term, Refused<ReadError>>
+    ensures { Reads term_of (reading.compared_at text.now levels (below (reading.term_at text.now) levels) (term_of first) tokens.old.rest.now) result tokens.new.rest.now }
+{
+    if !tokens.sees_in(comparisons()) {
+        return Ok(first);
+    }
+    longer_comparison(alloc, text, tokens, levels, first)
+}
+
+#[cycle(terms)]
 fn comparison(
     alloc: Global,
     text: &[u8],
@@ -265,13 +335,7 @@ fn comparison(
     ensures { Reads term_of (reading.comparison_at text.now levels (below (reading.term_at text.now) levels) tokens.old.rest.now) result tokens.new.rest.now }
 {
     let first = chain(alloc, text, tokens, levels, Precedence::Sum)?;
-    let mut rest = Vec::new(alloc);
-    if tokens.sees_in(comparisons()) {
-        let operator = tokens.choice(comparisons())?;
-        let second = chain(alloc, text, tokens, levels, Precedence::Sum)?;
-        rest.push((operator, second))?;
-    }
-    Ok(joined(alloc, first, rest)?)
+    compared(alloc, text, tokens, levels, first)
 }
 
 #[cycle(terms)]
@@ -310,6 +374,46 @@ fn operand(
     }
 }
 
+/// What the operators behind a first member make of it.
+#[cycle(terms)]
+#[inline(never)]
+fn longer_chain(
+    alloc: Global,
+    text: &[u8],
+    tokens: &mut Cursor<'_>,
+    levels: usize,
+    of: Precedence,
+    first: Term,
+) -> Result<Term, Refused<ReadError>>
+    ensures { Reads term_of (reading.chain_from_at text.now levels (below (reading.term_at text.now) levels) of (term_of first) tokens.old.rest.now) result tokens.new.rest.now }
+{
+    let mut rest = Vec::new(alloc);
+    while tokens.sees_in(operators(of)) {
+        let operator = tokens.choice(operators(of))?;
+        let next = operand(alloc, text, tokens, levels, of)?;
+        rest.push((operator, next))?;
+    }
+    Ok(joined(alloc, first, rest)?)
+}
+
+/// A chain whose first member is read, or that member alone.
+#[cycle(terms)]
+fn chain_from(
+    alloc: Global,
+    text: &[u8],
+    tokens: &mut Cursor<'_>,
+    levels: usize,
+    of: Precedence,
+    first: Term,
+) -> Result<Term, Refused<ReadError>>
+    ensures { Reads term_of (reading.chain_from_at text.now levels (below (reading.term_at text.now) levels) of (term_of first) tokens.old.rest.now) result tokens.new.rest.now }
+{
+    if !tokens.sees_in(operators(of)) {
+        return Ok(first);
+    }
+    longer_chain(alloc, text, tokens, levels, of, first)
+}
+
 #[cycle(terms)]
 fn chain(
     alloc: Global,
@@ -321,18 +425,46 @@ fn chain(
     ensures { Reads term_of (reading.chain_of_at text.now levels (below (reading.term_at text.now) levels) of tokens.old.rest.now) result tokens.new.rest.now }
 {
     let first = operand(alloc, text, tokens, levels, of)?;
-    let mut rest = Vec::new(alloc);
-    while tokens.sees_in(operators(of)) {
-        let operator = tokens.choice(operators(of))?;
-        let next = operand(alloc, text, tokens, levels, of)?;
-        rest.push((operator, next))?;
-    }
-    Ok(joined(alloc, first, rest)?)
+    chain_from(alloc, text, tokens, levels, of, first)
+}
+
+/// A term whose first factor is read, with no `not` before it.
+#[cycle(terms)]
+#[inline(never)]
+fn term_from(
+    alloc: Global,
+    text: &[u8],
+    tokens: &mut Cursor<'_>,
+    levels: usize,
+    factor: Term,
+) -> Result<Term, Refused<ReadError>>
+    ensures { Reads term_of (reading.carried_on text.now levels (below (reading.term_at text.now) levels) (Ok (term_of factor, tokens.old.rest.now))) result tokens.new.rest.now }
+{
+    let product = chain_from(alloc, text, tokens, levels, Precedence::Product, factor)?;
+    let sum = chain_from(alloc, text, tokens, levels, Precedence::Sum, product)?;
+    let comparison = compared(alloc, text, tokens, levels, sum)?;
+    let conjunction = chain_from(
+        alloc,
+        text,
+        tokens,
+        levels,
+        Precedence::Conjunction,
+        comparison,
+    )?;
+    chain_from(
+        alloc,
+        text,
+        tokens,
+        levels,
+        Precedence::Disjunction,
+        conjunction,
+    )
 }
 
 /// A term; so many levels may open in it.
+///
+/// Most are one factor, which is read with no chain begun.
 #[cycle(terms)]
-#[tactic(auto, using(crate::proofs::TermSteps::term_is))]
 pub fn term(
     alloc: Global,
     text: &[u8],
@@ -341,7 +473,14 @@ pub fn term(
 ) -> Result<Term, Refused<ReadError>>
     ensures { Reads term_of (reading.term_at text.now levels tokens.old.rest.now) result tokens.new.rest.now }
 {
-    chain(alloc, text, tokens, levels, Precedence::Disjunction)
+    if tokens.sees(Kind::Word(Word::Not)) {
+        return chain(alloc, text, tokens, levels, Precedence::Disjunction);
+    }
+    let first = factor(alloc, text, tokens, levels)?;
+    if !sees_operator(tokens) {
+        return Ok(first);
+    }
+    term_from(alloc, text, tokens, levels, first)
 }
 
 /// What stands behind `with`, if it is there.

@@ -1,4 +1,4 @@
-use Rattle.std.proofs.Common.{◌≡◌, refl, sym, ap, ◌∙◌, true, false, List, Ok}
+use Rattle.std.proofs.Common.{◌≡◌, refl, sym, ap, subst, ◌∙◌, true, false, List, Ok}
 use Rattle.std.proofs.lemmas.Result.{err_from_is_err_and}
 use Rattle.asm_state.specs.declared.operation.Op.{Op}
 use Rattle.asm_syntax.specs.declared.token.Kind.{Kind}
@@ -10,14 +10,14 @@ use Rattle.asm_syntax.specs.Placed as placed
 use Rattle.asm_syntax.specs.Views.{term_of}
 use Rattle.asm_reader.specs.Kinds.{begins, keys}
 use Rattle.asm_reader.specs.Seen.{link_of}
-use Rattle.asm_reader.specs.Steps.{Answer, below, each_of, repeated_of, choice_at}
+use Rattle.asm_reader.specs.Steps.{Answer, Reader, Reads, below, each_of, repeated_of, choice_at}
 use Rattle.asm_reader.specs.TermGrammar.{chain_of}
 use Rattle.asm_reader.specs.TermReading.{arguments_at, term_at, table_of, operand_at, link_at}
 use Rattle.asm_reader.proofs.Loops.{with_front, turn_seen, nothing_before, no_turn, bad_turn}
 use Rattle.asm_reader.proofs.Consuming.{term_consumes}
 use Rattle.asm_reader.proofs.Separated.{so_far, next_read, all_read, next_fails, past_is, past_consumes}
 use Rattle.asm_reader.proofs.TermLoops.{links_consume}
-use Rattle.asm_reader.proofs.TermSteps.{below_less, chain_is, link_is, link_fails, chain_done, chain_fails, first_fails}
+use Rattle.asm_reader.proofs.TermSteps.{below_less, term_is, chain_is, link_is, link_fails, links_done, links_fail, no_links, first_fails, chain_goes_on, side_fails, comparison_goes_on, term_stops, term_is_factor, term_goes_on}
 use Rattle.asm_reader.proofs.terms.+terms.Goals as goal
 
 abbrev read_as : placed.Term → List Token → Answer placed.Term
@@ -59,56 +59,82 @@ pub terms-returns : goal.terms-returns
 terms-returns t c = all_read term_of (Symbol Comma) (term_at c.args.text.now c.args.levels) c.new-all.result.items c.push.new.self.items c.loop-alloc.all.items c.args.tokens.now.rest.now c.term.new.tokens.rest.now c.loop-alloc.tokens.rest.now c.in_ok-first.first
     c.new-all.ensures.items c.in_ok-push.ensures.items c.in_ok-first.ensures c.loop-alloc-test.ensures c.loop-alloc.invariant
 
-pub chain-returns-in_err-first : goal.chain-returns-in_err-first
-chain-returns-in_err-first t c =
-    let p = err_from_is_err_and c.from_residual.result c.from_residual.ensures.1 in
-    rw (p.1, p.2) (λ reason is. rw (chain_is c.args.text.now c.args.levels (below (term_at c.args.text.now) c.args.levels) c.args.of)
-    (first_fails (table_of c.args.of) (operand_at c.args.text.now c.args.levels (below (term_at c.args.text.now) c.args.levels) c.args.of) c.args.tokens.now.rest.now reason (c.in_err-first.ensures reason is)))
-
-pub chain-loop-of-smaller : goal.chain-loop-of-smaller
-chain-loop-of-smaller t c =
+pub longer_chain-loop-of-smaller : goal.longer_chain-loop-of-smaller
+longer_chain-loop-of-smaller t c =
     let read : choice_at (table_of c.args.of) c.loop-of.tokens.rest.now ≡ Ok (c.in_ok-operator.operator, c.choice.new.self.rest.now) = ap (λ (w : List (Kind × Op)). choice_at w c.loop-of.tokens.rest.now) (sym c.operators-in-loop-of.ensures) ∙ c.in_ok-operator.ensures in
-    links_consume c.args.text.now c.args.levels c.args.of c.loop-of.tokens.rest.now c.operand-in-loop-of.new.tokens.rest.now (link_of (c.in_ok-operator.operator, c.in_ok-next.next))
-    (link_is (table_of c.args.of) (operand_at c.args.text.now c.args.levels (below (term_at c.args.text.now) c.args.levels) c.args.of) c.loop-of.tokens.rest.now c.choice.new.self.rest.now c.operand-in-loop-of.new.tokens.rest.now
+    links_consume c.args.text.now c.args.levels c.args.of c.loop-of.tokens.rest.now c.operand.new.tokens.rest.now (link_of (c.in_ok-operator.operator, c.in_ok-next.next))
+    (link_is (table_of c.args.of) (operand_at c.args.text.now c.args.levels (below (term_at c.args.text.now) c.args.levels) c.args.of) c.loop-of.tokens.rest.now c.choice.new.self.rest.now c.operand.new.tokens.rest.now
     c.in_ok-operator.operator (term_of c.in_ok-next.next) read c.in_ok-next.ensures)
 
-pub chain-loop-of-preserved : goal.chain-loop-of-preserved
-chain-loop-of-preserved t c =
+pub longer_chain-loop-of-preserved : goal.longer_chain-loop-of-preserved
+longer_chain-loop-of-preserved t c =
     let test : true ≡ begins (keys c.operators.result.now) c.loop-of.tokens.rest.now = c.loop-of-test.ensures in
     let read : choice_at (table_of c.args.of) c.loop-of.tokens.rest.now ≡ Ok (c.in_ok-operator.operator, c.choice.new.self.rest.now) = ap (λ (w : List (Kind × Op)). choice_at w c.loop-of.tokens.rest.now) (sym c.operators-in-loop-of.ensures) ∙ c.in_ok-operator.ensures in
-    let one = link_is (table_of c.args.of) (operand_at c.args.text.now c.args.levels (below (term_at c.args.text.now) c.args.levels) c.args.of) c.loop-of.tokens.rest.now c.choice.new.self.rest.now c.operand-in-loop-of.new.tokens.rest.now
+    let one = link_is (table_of c.args.of) (operand_at c.args.text.now c.args.levels (below (term_at c.args.text.now) c.args.levels) c.args.of) c.loop-of.tokens.rest.now c.choice.new.self.rest.now c.operand.new.tokens.rest.now
     c.in_ok-operator.operator (term_of c.in_ok-next.next) read c.in_ok-next.ensures in (
       c.loop-of.invariant.0,
       turn_seen link_of (keys (table_of c.args.of)) (link_at c.args.text.now c.args.levels (below (term_at c.args.text.now) c.args.levels) c.args.of) (links_consume c.args.text.now c.args.levels c.args.of)
-          c.loop-of.rest.items c.push.new.self.items c.loop-of.tokens.rest.now (c.in_ok-operator.operator, c.in_ok-next.next) c.operand-in-loop-of.new.tokens.rest.now
-          (with_front (each_of link_of c.new-rest.result) (repeated_of (keys (table_of c.args.of)) (link_at c.args.text.now c.args.levels (below (term_at c.args.text.now) c.args.levels) c.args.of) c.operand.new.tokens.rest.now))
+          c.loop-of.rest.items c.push.new.self.items c.loop-of.tokens.rest.now (c.in_ok-operator.operator, c.in_ok-next.next) c.operand.new.tokens.rest.now
+          (with_front (each_of link_of c.new-rest.result) (repeated_of (keys (table_of c.args.of)) (link_at c.args.text.now c.args.levels (below (term_at c.args.text.now) c.args.levels) c.args.of) c.args.tokens.now.rest.now))
           c.in_ok-push.ensures.items (test ∙ ap (λ (w : List (Kind × Op)). begins (keys w) c.loop-of.tokens.rest.now) c.operators.ensures) one c.loop-of.invariant.1,
     )
 
-pub chain-returns-in_err-next : goal.chain-returns-in_err-next
-chain-returns-in_err-next t c =
+pub longer_chain-returns-in_err-next : goal.longer_chain-returns-in_err-next
+longer_chain-returns-in_err-next t c =
     let p = err_from_is_err_and c.from_residual-in_err-next.result c.from_residual-in_err-next.ensures.1 in
     let test : true ≡ begins (keys c.operators.result.now) c.loop-of.tokens.rest.now = c.loop-of-test.ensures in
     let read : choice_at (table_of c.args.of) c.loop-of.tokens.rest.now ≡ Ok (c.in_ok-operator.operator, c.choice.new.self.rest.now) = ap (λ (w : List (Kind × Op)). choice_at w c.loop-of.tokens.rest.now) (sym c.operators-in-loop-of.ensures) ∙ c.in_ok-operator.ensures in
     rw (p.1, p.2) (λ reason is.
     let one = link_fails (table_of c.args.of) (operand_at c.args.text.now c.args.levels (below (term_at c.args.text.now) c.args.levels) c.args.of) c.loop-of.tokens.rest.now c.choice.new.self.rest.now c.in_ok-operator.operator reason read (c.in_err-next.ensures reason is) in
     let total = sym (nothing_before link_of (keys (table_of c.args.of)) (link_at c.args.text.now c.args.levels (below (term_at c.args.text.now) c.args.levels) c.args.of) c.new-rest.result.items
-    (repeated_of (keys (table_of c.args.of)) (link_at c.args.text.now c.args.levels (below (term_at c.args.text.now) c.args.levels) c.args.of) c.operand.new.tokens.rest.now) c.new-rest.ensures.items)
+    (repeated_of (keys (table_of c.args.of)) (link_at c.args.text.now c.args.levels (below (term_at c.args.text.now) c.args.levels) c.args.of) c.args.tokens.now.rest.now) c.new-rest.ensures.items)
     ∙ bad_turn (keys (table_of c.args.of)) (link_at c.args.text.now c.args.levels (below (term_at c.args.text.now) c.args.levels) c.args.of) (each_of link_of c.loop-of.rest) c.loop-of.tokens.rest.now reason
-    (with_front (each_of link_of c.new-rest.result) (repeated_of (keys (table_of c.args.of)) (link_at c.args.text.now c.args.levels (below (term_at c.args.text.now) c.args.levels) c.args.of) c.operand.new.tokens.rest.now))
+    (with_front (each_of link_of c.new-rest.result) (repeated_of (keys (table_of c.args.of)) (link_at c.args.text.now c.args.levels (below (term_at c.args.text.now) c.args.levels) c.args.of) c.args.tokens.now.rest.now))
     (sym (test ∙ ap (λ (w : List (Kind × Op)). begins (keys w) c.loop-of.tokens.rest.now) c.operators.ensures)) one c.loop-of.invariant.1 in
-    rw (chain_is c.args.text.now c.args.levels (below (term_at c.args.text.now) c.args.levels) c.args.of)
-    (chain_fails (table_of c.args.of) (operand_at c.args.text.now c.args.levels (below (term_at c.args.text.now) c.args.levels) c.args.of) c.args.tokens.now.rest.now c.operand.new.tokens.rest.now (term_of c.in_ok-first.first) reason c.in_ok-first.ensures total))
+    links_fail (table_of c.args.of) (operand_at c.args.text.now c.args.levels (below (term_at c.args.text.now) c.args.levels) c.args.of) c.args.tokens.now.rest.now (term_of c.args.first) reason total)
 
-pub chain-returns : goal.chain-returns
-chain-returns t c =
+pub longer_chain-returns : goal.longer_chain-returns
+longer_chain-returns t c =
     let test : false ≡ begins (keys c.operators.result.now) c.loop-of.tokens.rest.now = c.loop-of-test.ensures in
     let total = sym (nothing_before link_of (keys (table_of c.args.of)) (link_at c.args.text.now c.args.levels (below (term_at c.args.text.now) c.args.levels) c.args.of) c.new-rest.result.items
-    (repeated_of (keys (table_of c.args.of)) (link_at c.args.text.now c.args.levels (below (term_at c.args.text.now) c.args.levels) c.args.of) c.operand.new.tokens.rest.now) c.new-rest.ensures.items)
+    (repeated_of (keys (table_of c.args.of)) (link_at c.args.text.now c.args.levels (below (term_at c.args.text.now) c.args.levels) c.args.of) c.args.tokens.now.rest.now) c.new-rest.ensures.items)
     ∙ no_turn (keys (table_of c.args.of)) (link_at c.args.text.now c.args.levels (below (term_at c.args.text.now) c.args.levels) c.args.of) (each_of link_of c.loop-of.rest) c.loop-of.tokens.rest.now
-    (with_front (each_of link_of c.new-rest.result) (repeated_of (keys (table_of c.args.of)) (link_at c.args.text.now c.args.levels (below (term_at c.args.text.now) c.args.levels) c.args.of) c.operand.new.tokens.rest.now))
+    (with_front (each_of link_of c.new-rest.result) (repeated_of (keys (table_of c.args.of)) (link_at c.args.text.now c.args.levels (below (term_at c.args.text.now) c.args.levels) c.args.of) c.args.tokens.now.rest.now))
     (sym (test ∙ ap (λ (w : List (Kind × Op)). begins (keys w) c.loop-of.tokens.rest.now) c.operators.ensures)) c.loop-of.invariant.1 in
-    rw (chain_is c.args.text.now c.args.levels (below (term_at c.args.text.now) c.args.levels) c.args.of, c.in_ok-joined.ensures)
-    (chain_done (table_of c.args.of) (operand_at c.args.text.now c.args.levels (below (term_at c.args.text.now) c.args.levels) c.args.of) c.args.tokens.now.rest.now c.operand.new.tokens.rest.now c.loop-of.tokens.rest.now
-    (term_of c.in_ok-first.first) (each_of link_of c.loop-of.rest) c.in_ok-first.ensures total
+    rw c.in_ok-joined.ensures
+    (links_done (table_of c.args.of) (operand_at c.args.text.now c.args.levels (below (term_at c.args.text.now) c.args.levels) c.args.of) c.args.tokens.now.rest.now c.loop-of.tokens.rest.now (term_of c.args.first) (each_of link_of c.loop-of.rest) total
     ∙ ap (λ (x : Term). read_as (chain_of (term_of x, each_of link_of c.loop-of.rest)) c.loop-of.tokens.rest.now) (sym c.loop-of.invariant.0))
+
+pub chain_from-returns-then-not-sees_in : goal.chain_from-returns-then-not-sees_in
+chain_from-returns-then-not-sees_in t c = no_links (table_of c.args.of) (operand_at c.args.text.now c.args.levels (below (term_at c.args.text.now) c.args.levels) c.args.of) c.args.tokens.now.rest.now (term_of c.args.first) (ap (λ (w : List (Kind × Op)). begins (keys w) c.args.tokens.now.rest.now) (sym c.operators.ensures) ∙ sym c.if-not-sees_in.ensures)
+
+pub chain-returns-in_err-first : goal.chain-returns-in_err-first
+chain-returns-in_err-first t c =
+    let p = err_from_is_err_and c.from_residual.result c.from_residual.ensures.1 in
+    rw (p.1, p.2) (λ reason is. rw (chain_is c.args.text.now c.args.levels (below (term_at c.args.text.now) c.args.levels) c.args.of)
+    (first_fails (table_of c.args.of) (operand_at c.args.text.now c.args.levels (below (term_at c.args.text.now) c.args.levels) c.args.of) c.args.tokens.now.rest.now reason (c.in_err-first.ensures reason is)))
+
+pub chain-returns : goal.chain-returns
+chain-returns t c = subst (λ (w : Answer placed.Term). Reads term_of w c.chain_from.result c.chain_from.new.tokens.rest.now) (sym (ap (λ (f : Reader placed.Term). f c.args.tokens.now.rest.now) (chain_is c.args.text.now c.args.levels (below (term_at c.args.text.now) c.args.levels) c.args.of) ∙ chain_goes_on (table_of c.args.of) (operand_at c.args.text.now c.args.levels (below (term_at c.args.text.now) c.args.levels) c.args.of) c.args.tokens.now.rest.now c.operand.new.tokens.rest.now (term_of c.in_ok-first.first) c.in_ok-first.ensures)) c.chain_from.ensures
+
+pub comparison-returns-in_err-first : goal.comparison-returns-in_err-first
+comparison-returns-in_err-first t c =
+    let p = err_from_is_err_and c.from_residual.result c.from_residual.ensures.1 in
+    rw (p.1, p.2) (λ reason is. side_fails c.args.text.now c.args.levels (below (term_at c.args.text.now) c.args.levels) c.args.tokens.now.rest.now reason (c.in_err-first.ensures reason is))
+
+pub comparison-returns : goal.comparison-returns
+comparison-returns t c = subst (λ (w : Answer placed.Term). Reads term_of w c.compared.result c.compared.new.tokens.rest.now) (sym (comparison_goes_on c.args.text.now c.args.levels (below (term_at c.args.text.now) c.args.levels) c.args.tokens.now.rest.now c.chain.new.tokens.rest.now (term_of c.in_ok-first.first) c.in_ok-first.ensures)) c.compared.ensures
+
+pub term-returns-then-sees : goal.term-returns-then-sees
+term-returns-then-sees t c = subst (λ (w : Answer placed.Term). Reads term_of w c.chain.result c.chain.new.tokens.rest.now) (sym (ap (λ (f : Reader placed.Term). f c.args.tokens.now.rest.now) (term_is c.args.text.now c.args.levels))) c.chain.ensures
+
+pub term-returns-in_err-first : goal.term-returns-in_err-first
+term-returns-in_err-first t c =
+    let p = err_from_is_err_and c.from_residual.result c.from_residual.ensures.1 in
+    rw (p.1, p.2) (λ reason is. term_stops c.args.text.now c.args.levels c.args.tokens.now.rest.now reason (sym c.if-sees.ensures) (c.in_err-first.ensures reason is))
+
+pub term-returns-then-not-sees_operator : goal.term-returns-then-not-sees_operator
+term-returns-then-not-sees_operator t c = term_is_factor c.args.text.now c.args.levels c.args.tokens.now.rest.now c.factor.new.tokens.rest.now (term_of c.in_ok-first.first) (sym c.if-sees.ensures) c.in_ok-first.ensures (sym c.if-not-sees_operator.ensures)
+
+pub term-returns : goal.term-returns
+term-returns t c = subst (λ (w : Answer placed.Term). Reads term_of w c.term_from.result c.term_from.new.tokens.rest.now) (sym (term_goes_on c.args.text.now c.args.levels c.args.tokens.now.rest.now c.factor.new.tokens.rest.now (term_of c.in_ok-first.first) (sym c.if-sees.ensures) c.in_ok-first.ensures)) c.term_from.ensures
