@@ -62,7 +62,7 @@ static ITEMS: [&str; 135] = [
     "rule r(p)",
     "rule r =",
     "^x",
-    "^T2",
+    "^x2",
     "use A ^A",
     "use ^use",
     "init M ^x",
