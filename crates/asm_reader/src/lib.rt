@@ -14,6 +14,3 @@ mod terms;
 pub use error::ReadError;
 pub use laws::{no_tree_beside_a_refusal, one_refusal, one_tree, one_tree_of_tokens};
 pub use reading::read;
-
-#[cfg(test)]
-mod tests;

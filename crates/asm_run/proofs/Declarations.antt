@@ -3,7 +3,7 @@ use Rattle.std.proofs.Common.{◌≡◌, ℕ, zero, suc, ◌<◌, ◌+◌, Bool,
 use Rattle.asm_syntax.specs.Placed.{Item, Uses, Init, Enum, Universe, Function, Derived, Declared, Spec}
 use Rattle.asm_syntax.specs.Unplaced.{plain_rule}
 use Rattle.asm_eval.specs.Program.{Controlled, Procedure, declared, look_up}
-use Rattle.asm_run.specs.FirstPath.{Text, is_same_text, is_among, function_names, declared_names, is_distinct, is_well_formed}
+use Rattle.asm_run.specs.FirstPath.{Text, is_same_text, is_among, function_names, declared_names, is_distinct, is_first_path}
 use Rattle.asm_run.specs.Resolved.{name_at}
 use Rattle.asm_run.specs.Meaning.{declarations, program_of, text_of, initial_values}
 use Rattle.asm_run.proofs.Operands.{same_text}
@@ -88,8 +88,8 @@ pub found : (items : List Item) (f : ℕ) → is_distinct (declared_names items)
 found items f distinct l = let at_zero : 0 + f ≡ f = omega arith in found_from items 0 f distinct l ∙ ap (λ n. Some (Controlled n [])) at_zero
 
 -- names of a well-formed specification are declared once
-pub well_formed-distinct : (s : Spec) → is_well_formed s ≡ true → is_distinct (declared_names s.items) ≡ true
-well_formed-distinct s e = first_of_two _ _ (first_of_two _ _ (first_of_two _ _ (first_of_two _ _ (first_of_two _ _ e))))
+pub first_path-distinct : (s : Spec) → is_first_path s ≡ true → is_distinct (declared_names s.items) ≡ true
+first_path-distinct s e = first_of_two _ _ (first_of_two _ _ (first_of_two _ _ (first_of_two _ _ (first_of_two _ _ e))))
 
 -- each function has an initial value
 pub as_many : (items : List Item) → length (initial_values items) ≡ length (function_names items)

@@ -29,7 +29,7 @@ use Rattle.asm_run.specs.declared.resolved.Operand.TheVariants.{Constant, Conten
 use Rattle.asm_run.specs.declared.resolved.Factor.{Factor}
 use Rattle.asm_run.specs.declared.resolved.Sum.{Sum}
 use Rattle.asm_run.specs.declared.resolved.Assignment.{Assignment}
-use Rattle.asm_run.proofs.Declarations.{found, well_formed-distinct, as_many}
+use Rattle.asm_run.proofs.Declarations.{found, first_path-distinct, as_many}
 use Rattle.asm_run.proofs.FlatShapes.{functions_are, content_is}
 
 -- ---- sets of lists one after another
@@ -165,7 +165,7 @@ module _ (program : Program) (names : List Text) (shape : Shape) (flat : IsFlat 
 pub main_rule_formed : MainRuleFormed
 main_rule_formed s assignments well stand turns script step contents p =
     formed (program_of s.items) (function_names s.items) (shape_of s.items) (initial_values s.items, refl) (sym (as_many s.items) ∙ sym (functions_are (initial_values s.items))) contents
-    (λ f h. found s.items f (well_formed-distinct s well) h)
+    (λ f h. found s.items f (first_path-distinct s well) h)
     turns script step p (main_rule s.items) assignments stand.trees stand.below
 
 -- the assignments with the names by which they were found

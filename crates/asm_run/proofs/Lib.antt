@@ -15,5 +15,5 @@ mod Reached
 mod Running
 mod Stepping
 mod Traces
-mod WellFormed
+mod FirstPath
 mod Whole

@@ -6,9 +6,9 @@ use Rattle.std.proofs.lemmas.Bool.Decides.{nat_tests}
 use Rattle.asm_syntax.specs.Placed.{Rule, Item, Function, Declared, Spec}
 use Rattle.asm_syntax.specs.Unplaced.{plain_rule}
 use Rattle.asm_eval.specs.Program.{Controlled, Procedure, declared}
-use Rattle.asm_run.specs.FirstPath.{Text, is_same_text, is_among, function_names, rule_names, declared_names, starts, is_distinct, are_free, is_known_rule, is_known_item, is_start, most_declarations, is_well_formed}
+use Rattle.asm_run.specs.FirstPath.{Text, is_same_text, is_among, function_names, rule_names, declared_names, starts, is_distinct, are_free, is_known_rule, is_known_item, is_start, most_declarations, is_first_path}
 use Rattle.asm_run.specs.Meaning.{text_of, declarations, program_of, body_of, rule_named, main_rule}
-use Rattle.asm_run.specs.Checked.{body_named}
+use Rattle.asm_run.specs.Numbered.{body_named}
 use Rattle.asm_run.proofs.Operands.{same_text}
 
 -- a rule has a body where its name is among the rules
@@ -77,16 +77,16 @@ known_named fs (Declared name [] body ∷ items) x r all e =
     at false o here rest e = rest e
 known_named fs (item ∷ items) x r all e = known_named fs items x r (and_parts (is_known_item fs item) (list_all (is_known_item fs) items) all).1 e
 
--- ---- a specification without a fault
+-- ---- a specification of the first path
 
-pub record WellFormed (s : Spec) : Type 0 where
+pub record FirstPathParts (s : Spec) : Type 0 where
   pub distinct : is_distinct (declared_names s.items) ≡ true
   pub known : list_all (is_known_item (function_names s.items)) s.items ≡ true
   pub start : is_start (rule_names s.items) (starts s.items) ≡ true
   pub few : length (function_names s.items) ≤ most_declarations
 
-pub well_formed_parts : (s : Spec) → is_well_formed s ≡ true → WellFormed s
-well_formed_parts s e =
+pub first_path_parts : (s : Spec) → is_first_path s ≡ true → FirstPathParts s
+first_path_parts s e =
     let functions : Bool = nat_le (length (function_names s.items)) most_declarations in
     let rules : Bool = nat_le (length (rule_names s.items)) most_declarations in
     let start : Bool = is_start (rule_names s.items) (starts s.items) in
@@ -113,19 +113,19 @@ single [] x one at = absurd (omega arith)
 single (y ∷ []) x one at = ap (λ z. z ∷ []) (sym at)
 single (y ∷ z ∷ xs) x one at = absurd (omega arith)
 
-module _ (s : Spec) (e : is_well_formed s ≡ true) where
+module _ (s : Spec) (e : is_first_path s ≡ true) where
   pub some_start : length (starts s.items) ≡ 1
-  some_start = one_start (rule_names s.items) (starts s.items) (well_formed_parts s e).start
+  some_start = one_start (rule_names s.items) (starts s.items) (first_path_parts s e).start
 
   module _ (x : Text) (at : x ≡ get_or (starts s.items) 0 x) where
     starts_at : starts s.items ≡ x ∷ []
     starts_at = single (starts s.items) x some_start at
 
     pub start_named : is_some (body_named s.items x) ≡ true
-    start_named = named_among s.items x ∙ ap (is_start (rule_names s.items)) (sym starts_at) ∙ (well_formed_parts s e).start
+    start_named = named_among s.items x ∙ ap (is_start (rule_names s.items)) (sym starts_at) ∙ (first_path_parts s e).start
 
     pub main_named : (r : Rule) → body_named s.items x ≡ Some r → main_rule s.items ≡ plain_rule r
-    main_named r found = ap (rule_named (program_of s.items)) starts_at ∙ declared_named 0 s.items x r (well_formed_parts s e).distinct found
+    main_named r found = ap (rule_named (program_of s.items)) starts_at ∙ declared_named 0 s.items x r (first_path_parts s e).distinct found
 
     pub main_known : (r : Rule) → body_named s.items x ≡ Some r → is_known_rule (function_names s.items) r ≡ true
-    main_known r found = known_named (function_names s.items) s.items x r (well_formed_parts s e).known found
+    main_known r found = known_named (function_names s.items) s.items x r (first_path_parts s e).known found

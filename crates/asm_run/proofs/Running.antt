@@ -140,6 +140,7 @@ module _ (names : List Text) (shape : Shape) (assignments : List Assignment) (st
     finished (Err error.Limits) f is program main turns choices forms = f
     finished (Err error.Beyond) f is program main turns choices forms = f
     finished (Err (error.Read refusal)) f is program main turns choices forms = f
+    finished (Err (error.Check refusal)) f is program main turns choices forms = f
 
   pub at_limit : (new : Option (List ℕ)) (flag : Bool) (result : Result End RunError) → steps ≤ made
       → Finishes mid new flag ((codes "end limit" ++ line_end) ++ contents_text names contents) Limit result → now flag new result

@@ -9,6 +9,9 @@ use Rattle.asm_syntax.specs.declared.refused.Refused.TheVariants as refused
 use Rattle.asm_syntax.specs.Placed.{Spec}
 use Rattle.asm_reader.specs.declared.error.ReadError.{ReadError}
 use Rattle.asm_reader.specs.Refusals as reader
+use Rattle.asm_reader.specs.Specification.{IsSpecification}
+use Rattle.asm_check.specs.declared.error.CheckError.{CheckError}
+use Rattle.asm_check.specs.Errors as checker
 use Rattle.asm_eval.specs.Program.{Program}
 use Rattle.asm_eval.specs.Does.{Script}
 use Rattle.asm_eval.specs.Run.{run_from}
@@ -20,7 +23,7 @@ use Rattle.asm_run.specs.FirstPath.{Text, function_names}
 use Rattle.asm_run.specs.Resolved.{assignment_tree, flattened, IsBelow}
 use Rattle.asm_run.specs.Meaning.{program_of, main_rule, shape_of}
 use Rattle.asm_run.specs.Limits.{are_in_range}
-use Rattle.asm_run.specs.Refusal.{answer_of}
+use Rattle.asm_run.specs.Refusal.{read_answer, check_answer}
 use Rattle.asm_run.specs.Written.{names_of, locations_of}
 use Rattle.asm_run.specs.Headline.{IsFirstPath, IsDone, Explains, book_run, names_in, locations_in}
 use Rattle.asm_run.specs.Reached.{Forms, Runs}
@@ -29,9 +32,15 @@ use Rattle.asm_run.proofs.Running.{Appends-none}
 
 -- a text that the reader refuses
 pub refused_text : (text : List ℕ) (steps turns workers cut rounds : ℕ) (old : Option (List ℕ)) (r : Refused ReadError) → reader.Explains text r
-    → Explains text steps turns workers cut rounds old old (answer_of r)
+    → Explains text steps turns workers cut rounds old old (read_answer r)
 refused_text text steps turns workers cut rounds old refused.Memory h = inl (Appends-none old)
 refused_text text steps turns workers cut rounds old (refused.Named e) h = (h, Appends-none old)
+
+-- a specification that the check refuses
+pub refused_tree : (text : List ℕ) (steps turns workers cut rounds : ℕ) (old : Option (List ℕ)) (s : Spec) → IsSpecification text s → (r : Refused CheckError)
+    → checker.Explains s r → Explains text steps turns workers cut rounds old old (check_answer r)
+refused_tree text steps turns workers cut rounds old s spelled refused.Memory h = inl (Appends-none old)
+refused_tree text steps turns workers cut rounds old s spelled (refused.Named e) h = ((s, spelled, h), Appends-none old)
 
 -- what is said of the steps, of any names and signature
 abbrev pub StepsOf : List Text → Shape → List Assignment → ℕ → (old new : Option (List ℕ)) → Bool → Result End RunError → Type 0
@@ -50,6 +59,7 @@ module _ (text : List ℕ) (steps turns workers cut rounds : ℕ) (old new : Opt
   said (Err error.Limits) h = absurd (h [])
   said (Err error.Beyond) h = absurd (h [])
   said (Err (error.Read e)) h = absurd (h [])
+  said (Err (error.Check e)) h = absurd (h [])
 
   fails : (result : Result End RunError) → all result → IsTrue failed ↔ (result ≡ Err error.Write)
   fails (Ok e) h = let no : failed ≡ false = (h []).2 in (λ f. absurd (cc), λ e. absurd cc)
@@ -58,6 +68,7 @@ module _ (text : List ℕ) (steps turns workers cut rounds : ℕ) (old new : Opt
   fails (Err error.Limits) h = absurd (h [])
   fails (Err error.Beyond) h = absurd (h [])
   fails (Err (error.Read e)) h = absurd (h [])
+  fails (Err (error.Check e)) h = absurd (h [])
 
   at_ok : (result : Result End RunError) → MatchResult result (IsDone text steps turns workers cut rounds old new) (Explains text steps turns workers cut rounds old new)
       → IfOk result (IsDone text steps turns workers cut rounds old new)
@@ -82,7 +93,7 @@ module _ (text : List ℕ) (steps turns workers cut rounds : ℕ) (old new : Opt
         let k : StepsOf (function_names s.items) (shape_of s.items) assignments steps old new failed result =
         subst (λ ns. StepsOf ns (shape_of s.items) assignments steps old new failed result) named (subst (λ (v : Shape). StepsOf names v assignments steps old new failed result) shaped h) in
         k (program_of s.items) (main_rule s.items) turns choices
-        (λ step contents. main_rule_formed s assignments first_path.well_formed (stand_for_main s names assignments named trees (recursion_from_All (IsBelow (length names)) assignments below)) turns choices step contents [])
+        (λ step contents. main_rule_formed s assignments first_path.first_path (stand_for_main s names assignments named trees (recursion_from_All (IsBelow (length names)) assignments below)) turns choices step contents [])
 
     pub whole : Whole result
     whole = record {

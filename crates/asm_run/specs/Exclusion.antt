@@ -11,6 +11,7 @@ use Rattle.asm_run.specs.declared.error.RunError.TheVariants as error
 
 abbrev pub IsNamed : RunError → Type 0
 IsNamed (error.Read e) = Unit {0}
+IsNamed (error.Check e) = Unit {0}
 IsNamed error.Beyond = Unit {0}
 IsNamed error.Limits = Unit {0}
 IsNamed error.Memory = ⊥

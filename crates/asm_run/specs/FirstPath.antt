@@ -1,8 +1,9 @@
--- Which specifications run: those of the first path that have no fault.
+-- Which specifications run, of those that are well formed: those of the first path. It is a test of which constructions stand in a
+-- specification, and looks names up again: no name stands for a codomain, and each name in a rule is a function.
 --     function_names, rule_names, declared_names     the names that the items declare, in the order of the text
 --     is_known_rule fs R                             R is of the first path, and all its names are among the functions fs
---     is_well_formed                                 no name is declared twice, each name that is used is a function, one init names a
---                                                    rule, no limit is passed
+--     is_first_path                                  no name is declared twice, each name that is used is a function, one init names a
+--                                                    rule, and neither functions nor rules are too many
 use Rattle.std.specs.Prelude.{ℕ, Bool, true, false, ◌&&◌, not, nat_le, nat_eq, length, List, [], ◌∷◌, Option, Some, None, codes}
 use Rattle.std.specs.List.{list_all, list_any, filter_map}
 use Rattle.std.specs.Cmp.Lexicographic.{pointwise}
@@ -128,8 +129,8 @@ is_start rules _ = false
 abbrev pub most_declarations : ℕ
 most_declarations = 256
 
-abbrev pub is_well_formed : Spec → Bool
-is_well_formed s =
+abbrev pub is_first_path : Spec → Bool
+is_first_path s =
     is_distinct (declared_names s.items) && are_free (declared_names s.items)
     && list_all (is_known_item (function_names s.items)) s.items
     && is_start (rule_names s.items) (starts s.items)

@@ -9,7 +9,7 @@ use Rattle.asm_syntax.specs.Placed.{Spec}
 use Rattle.asm_eval.specs.Program.{nothing_bound}
 use Rattle.asm_eval.specs.Yields.{Place, Gives}
 use Rattle.asm_eval.specs.Does.{Script, Outcome, does}
-use Rattle.asm_run.specs.FirstPath.{function_names, is_well_formed}
+use Rattle.asm_run.specs.FirstPath.{function_names, is_first_path}
 use Rattle.asm_run.specs.Meaning.{program_of, shape_of, main_rule}
 use Rattle.asm_run.specs.Resolved.{assignment_tree, flattened, IsBelow}
 use Rattle.asm_run.specs.Evaluated.{update_set}
@@ -27,7 +27,7 @@ pub record StandForMain (s : Spec) (assignments : List Assignment) : Type 0 wher
 -- under any script, and with any contents, the main rule gives the set that its assignments form
 abbrev pub MainRuleFormed : Type 0
 MainRuleFormed =
-    (s : Spec) (assignments : List Assignment) → is_well_formed s ≡ true → StandForMain s assignments
+    (s : Spec) (assignments : List Assignment) → is_first_path s ≡ true → StandForMain s assignments
     → (turns : ℕ) (script : Script) (step : ℕ) (contents : List Value) (p : Place)
     → does (program_of s.items) turns script step (state_of (shape_of s.items) contents) nothing_bound p (main_rule s.items)
     ≡ gives (update_set contents assignments)

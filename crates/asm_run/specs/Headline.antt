@@ -1,6 +1,7 @@
 -- What a run writes and answers.
---     IsFirstPath text s               the text is that of the specification s, which is of the first path and has no fault
---     IsBeyond text                    the text is that of a specification that isn't of the first path, or has a fault
+--     IsFirstPath text s               the text is that of the specification s, which has no fault and is of the first path
+--     IsFaulty text e                  the text is that of a specification whose first fault is this
+--     IsBeyond text                    the text is that of a specification without faults that isn't of the first path
 --     book_run s turns choices steps   the run of s, under these choices
 --     IsWritten, IsCut, AreWholeSteps  what the bytes of the sink grew by
 --     Explains                         what a refusal says
@@ -11,10 +12,13 @@ use Rattle.asm_state.specs.Updates.{Range, Clash, Outside, IsFirstFault}
 use Rattle.asm_syntax.specs.Placed.{Spec}
 use Rattle.asm_reader.specs.Specification.{IsSpecification}
 use Rattle.asm_reader.specs.Refusals.{IsRefusal}
+use Rattle.asm_check.specs.declared.error.CheckError.{CheckError}
+use Rattle.asm_check.specs.Errors.{number_of}
+use Rattle.asm_check.specs.Faults.{IsWellFormed, IsLeastFault}
 use Rattle.asm_eval.specs.Does.{Script}
 use Rattle.asm_eval.specs.Run as run
 use Rattle.asm_eval.specs.Run.{Run, AtLimit, AtExhausted, AtFault}
-use Rattle.asm_run.specs.FirstPath.{function_names, is_well_formed}
+use Rattle.asm_run.specs.FirstPath.{function_names, is_first_path}
 use Rattle.asm_run.specs.Meaning.{meaning_of}
 use Rattle.asm_run.specs.Limits.{are_in_range}
 use Rattle.asm_run.specs.Trace.{Names, IsTrace, steps_text}
@@ -26,10 +30,14 @@ use Rattle.asm_run.specs.declared.error.RunError.TheVariants as error
 
 pub record IsFirstPath (text : List ℕ) (s : Spec) : Type 0 where
   pub spelled : IsSpecification text s
-  pub well_formed : is_well_formed s ≡ true
+  pub faultless : IsWellFormed s
+  pub first_path : is_first_path s ≡ true
+
+abbrev pub IsFaulty : List ℕ → CheckError → Type 0
+IsFaulty text e = (s : Spec) × IsSpecification text s × IsLeastFault s e.at (number_of e.kind)
 
 abbrev pub IsBeyond : List ℕ → Type 0
-IsBeyond text = (s : Spec) × IsSpecification text s × (is_well_formed s ≡ false)
+IsBeyond text = (s : Spec) × IsSpecification text s × IsWellFormed s × (is_first_path s ≡ false)
 
 abbrev pub names_in : Spec → Names
 names_in s = names_of (function_names s.items)
@@ -95,6 +103,7 @@ module _ (text : List ℕ) (steps turns workers cut rounds : ℕ) (old new : Opt
 
   abbrev pub Explains : RunError → Type 0
   Explains (error.Read e) = IsRefusal text e × IsUnwritten old new
+  Explains (error.Check e) = IsFaulty text e × IsUnwritten old new
   Explains error.Beyond = IsBeyond text × IsUnwritten old new
   Explains error.Limits = (s : Spec) × IsFirstPath text s × (are_in_range steps turns workers cut rounds ≡ false) × IsUnwritten old new
   Explains error.Memory = IsUnwritten old new ⊎ IsBegun (λ s r. AreWholeSteps (names_in s) (locations_in s) 1 old new r)

@@ -2,7 +2,7 @@ pub mod FirstPath
 pub mod Resolved
 pub mod Flat
 pub mod Meaning
-pub mod Checked
+pub mod Numbered
 pub mod Evaluated
 pub mod Formed
 pub mod Sink

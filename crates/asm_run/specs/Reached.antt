@@ -45,6 +45,7 @@ Runs names ls old new failed r (Err error.Write) = IsCut names ls 1 old new r ×
 Runs names ls old new failed r (Err error.Limits) = ⊥
 Runs names ls old new failed r (Err error.Beyond) = ⊥
 Runs names ls old new failed r (Err (error.Read refusal)) = ⊥
+Runs names ls old new failed r (Err (error.Check refusal)) = ⊥
 
 -- What stays true from step to step, where so many steps were made of all.
 pub record Goes (names : List Text) (shape : Shape) (assignments : List Assignment) (steps made : ℕ) (contents : List Value) (count : ℕ) (old new : Option (List ℕ)) (failed : Bool) : Type 0 where

@@ -60,3 +60,4 @@ Finishes old new failed text e (Err error.Write) = AppendsFront old new text × 
 Finishes old new failed text e (Err error.Limits) = ⊥
 Finishes old new failed text e (Err error.Beyond) = ⊥
 Finishes old new failed text e (Err (error.Read refusal)) = ⊥
+Finishes old new failed text e (Err (error.Check refusal)) = ⊥

@@ -1,21 +1,25 @@
 //! Why a specification didn't run to its end.
 ghost use Rattle.std.specs.Prelude.{◌≡◌};
-ghost use Rattle.asm_run.specs.Refusal.{answer_of};
+ghost use Rattle.asm_run.specs.Refusal.{read_answer, check_answer};
 ghost use Rattle.asm_run.specs.declared.error.RunError.TheVariants.{Memory, Write};
 
 use crate::sink::SinkFault;
+pub use asm_check::{CheckError, FaultKind};
 pub use asm_reader::ReadError;
 use asm_syntax::Refused;
 use std::alloc::{AllocError, AllocFailed};
 use thiserror::Error;
 
-/// A refusal. The first that applies is answered, in the order `Read`, `Beyond`, `Limits`, and then `Memory` and `Write`;
+/// A refusal. The first that applies is answered, in the order `Read`, `Check`, `Beyond`, `Limits`, and then `Memory` and `Write`;
 /// `Memory` can come before any.
 #[derive(Debug, Drop, Error)]
 pub enum RunError {
     /// The text isn't a specification.
     #[error("the text is refused")]
     Read(ReadError),
+    /// The specification has a fault.
+    #[error("the specification has a fault")]
+    Check(CheckError),
     /// A limit is out of its range.
     #[error("a limit is out of its range")]
     Limits,
@@ -25,7 +29,7 @@ pub enum RunError {
     /// The sink failed.
     #[error("the trace could not be written")]
     Write,
-    /// The specification is beyond what runs yet, or has a fault.
+    /// The specification has no fault, and is beyond what runs yet.
     #[error("the specification is beyond what runs yet")]
     Beyond,
 }
@@ -47,12 +51,23 @@ impl<T: Drop> From<AllocFailed<T>> for RunError {
 }
 
 impl From<Refused<ReadError>> for RunError {
-    ghost from_gives = { λ refused e. e ≡ answer_of refused };
+    ghost from_gives = { λ refused e. e ≡ read_answer refused };
 
     fn from(refused: Refused<ReadError>) -> RunError {
         match refused {
             Refused::Memory => RunError::Memory,
             Refused::Named(error) => RunError::Read(error),
+        }
+    }
+}
+
+impl From<Refused<CheckError>> for RunError {
+    ghost from_gives = { λ refused e. e ≡ check_answer refused };
+
+    fn from(refused: Refused<CheckError>) -> RunError {
+        match refused {
+            Refused::Memory => RunError::Memory,
+            Refused::Named(error) => RunError::Check(error),
         }
     }
 }

@@ -2,6 +2,7 @@
 ghost use Rattle.asm_run.specs.Traces.{OneTrace, SomeTrace};
 ghost use Rattle.asm_run.specs.Exclusion.{OneNamedRefusal, NoRunBesideARefusal};
 
+use asm_check::laws::least_is_only;
 use asm_reader::{no_tree_beside_a_refusal, one_refusal, one_tree};
 
 /// A run has one trace at most.
@@ -21,6 +22,7 @@ pub fn one_named_refusal()
     one_tree();
     no_tree_beside_a_refusal();
     one_refusal();
+    least_is_only();
 }
 
 /// A text and limits that have a run have no such refusal.

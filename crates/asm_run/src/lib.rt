@@ -1,16 +1,17 @@
 //! Runs of specifications, from the bytes of their texts to the bytes of their traces.
 #![tactic(auto)]
 
-mod check;
 pub mod end;
 pub mod error;
 mod evaluate;
 mod finish;
+mod first_path;
 mod flat;
 mod initial;
 pub mod laws;
 pub mod limits;
 mod names;
+mod numbered;
 mod resolve;
 mod resolved;
 pub mod run;
@@ -22,5 +23,4 @@ mod tests;
 mod text;
 pub mod through;
 mod trace;
-mod well_formed;
 mod write_all;

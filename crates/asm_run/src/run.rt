@@ -3,20 +3,21 @@ ghost use Rattle.std.specs.Prelude.{◌≡◌, ◌↔◌, false, IsTrue, IfOk, I
 ghost use Rattle.asm_run.specs.Headline.{IsDone, Explains};
 ghost use Rattle.asm_run.specs.declared.error.RunError.TheVariants.{Write};
 
-use crate::check::{Checked, check};
 use crate::end::End;
 use crate::error::RunError;
 use crate::flat::flat_signature;
 use crate::limits::Limits;
+use crate::numbered::{Numbered, number_names};
 use crate::sink::Sink;
 use crate::steps::run_steps;
+use asm_check::check;
 use asm_reader::read;
 use std::alloc::Global;
 use std::thread::Threads;
 
 /// Runs the specification with this text, and writes its trace: the text of each step when it is whole, and then the last lines.
 ///
-/// A text that is no specification is refused, and so are a specification beyond the first path, one with a fault, and limits out of their
+/// A text that is no specification is refused, and so are a specification with a fault, one beyond the first path, and limits out of their
 /// ranges; then nothing is written. The script isn't looked at, since no rule of the first path makes choices. No thread is started yet.
 pub fn run<R: Threads, S: Sink>(
     _rt: &R,
@@ -36,17 +37,18 @@ pub fn run<R: Threads, S: Sink>(
     ensures failed { IsTrue (S.has_failed out.new) ↔ (result ≡ Err Write) }
 {
     let tree = read(alloc, spec)?;
-    let Some(checked) = check(alloc, &tree)? else {
+    let checked = check(alloc, tree)?;
+    let Some(numbered) = number_names(alloc, &checked.spec)? else {
         return Err(RunError::Beyond);
     };
     if !limits.are_in_range() {
         return Err(RunError::Limits);
     }
-    let Checked {
+    let Numbered {
         names,
         initial,
         assignments,
-    } = checked;
+    } = numbered;
     let signature = flat_signature(alloc, &initial)?;
     run_steps(alloc, &names, &signature, &assignments, limits.steps, out)
 }

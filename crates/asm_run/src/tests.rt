@@ -8,6 +8,7 @@ use std::io::Write;
 use std::test::Fail;
 
 mod beyond;
+mod faults;
 
 /// Takes one byte a call, until it holds twenty.
 #[derive(Drop)]

@@ -15,7 +15,5 @@ pub mod operation;
 pub mod place;
 pub mod signature;
 pub mod state;
-#[cfg(test)]
-mod tests;
 pub mod universe;
 pub mod value;

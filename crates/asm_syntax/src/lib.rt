@@ -23,6 +23,3 @@ pub use laws::{
 pub use lexer::tokens;
 pub use refused::Refused;
 pub use token::{Kind, Symbol, Token, Word};
-
-#[cfg(test)]
-mod tests;

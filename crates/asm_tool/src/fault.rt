@@ -1,6 +1,6 @@
 //! Why the program ends without the whole trace.
 use crate::settings::WordFault;
-use asm_run::error::ReadError;
+use asm_run::error::{CheckError, ReadError};
 use std::alloc::AllocError;
 use std::{fmt, io};
 use thiserror::Error;
@@ -33,7 +33,10 @@ pub enum Fault {
     /// The text isn't a specification.
     #[error("{}\n", Refusal {error: *.0})]
     Read(ReadError),
-    /// The specification is beyond what runs yet, or has a fault.
+    /// The specification has a fault.
+    #[error("check {} at {}\n", .0.number(), .0.at)]
+    Check(CheckError),
+    /// The specification has no fault, and is beyond what runs yet.
     #[error("beyond\n")]
     Beyond,
     /// Memory ran out.
@@ -51,7 +54,7 @@ impl Fault {
     /// The program's status.
     pub fn status(&self) -> u8 {
         match self {
-            Fault::Read(_) | Fault::Beyond => 2,
+            Fault::Read(_) | Fault::Check(_) | Fault::Beyond => 2,
             Fault::Memory | Fault::File | Fault::Write => 3,
             Fault::Words(_) | Fault::NotText => 4,
         }

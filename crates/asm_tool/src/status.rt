@@ -61,6 +61,7 @@ fn end<R: Threads, S: AsStr, I: Read + Drop, O: Write + Drop>(
     let end = match answer {
         Ok(end) => end,
         Err(RunError::Read(error)) => return Err(Fault::Read(error)),
+        Err(RunError::Check(error)) => return Err(Fault::Check(error)),
         Err(RunError::Beyond) => return Err(Fault::Beyond),
         Err(RunError::Memory) => return Err(Fault::Memory),
         Err(RunError::Write) => return Err(Fault::Write),

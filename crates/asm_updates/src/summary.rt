@@ -223,6 +223,3 @@ impl Summary {
         })
     }
 }
-
-#[cfg(test)]
-mod tests;

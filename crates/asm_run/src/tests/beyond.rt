@@ -1,5 +1,5 @@
 //! Texts of specifications beyond the first path, a construction each.
-//! Whether a text is read at all depends on `read`, so these tests are of both.
+//! Whether a text is read, and has no fault, depends on `read` and `check`, so these tests are of all three.
 use crate::end::End;
 use crate::error::RunError;
 use crate::limits::Limits;
@@ -8,7 +8,7 @@ use crate::through::Through;
 use std::alloc::{AllocError, Global};
 use std::test::Fail;
 
-const LIMITS: Limits = Limits {
+pub(super) const LIMITS: Limits = Limits {
     steps: 1,
     turns: 1000,
     workers: 1,
@@ -16,8 +16,8 @@ const LIMITS: Limits = Limits {
     rounds: 4,
 };
 
-/// Lines behind the first two, with one construction that doesn't run.
-static ITEMS: [(&str, &str); 14] = [
+/// Lines behind the first two, with one construction that doesn't run, and what it needs.
+static ITEMS: [(&str, &str); 12] = [
     (
         "an enumeration",
         "enum Color = { red, green }\nrule M = skip\n",
@@ -32,12 +32,8 @@ static ITEMS: [(&str, &str); 14] = [
         "universe U = 0 .. 3\nfunction controlled f : U\nrule M = skip\n",
     ),
     (
-        "a domain that isn't declared",
-        "function controlled f : U\nrule M = skip\n",
-    ),
-    (
         "a domain of two universes",
-        "function controlled f : U * U\nrule M = skip\n",
+        "universe U = 0 .. 3\nfunction controlled f : U * U\nrule M = skip\n",
     ),
     (
         "a codomain",
@@ -45,61 +41,74 @@ static ITEMS: [(&str, &str); 14] = [
     ),
     (
         "a domain and a codomain",
-        "function controlled f : U -> BOOLEAN\nrule M = skip\n",
+        "universe U = 0 .. 3\nfunction controlled f : U -> BOOLEAN\nrule M = skip\n",
     ),
     (
         "a table of entries",
-        "function controlled f initially { (0) -> 1 }\nrule M = skip\n",
+        "universe U = 0 .. 3\nfunction controlled f : U initially { (0) -> 1 }\nrule M = skip\n",
     ),
     (
         "an element as an initial value",
-        "function controlled f initially red\nrule M = skip\n",
+        "enum Color = { red }\nfunction controlled f initially red\nrule M = skip\n",
     ),
     ("a derived function", "derived d = 1\nrule M = skip\n"),
     (
         "a derived function with a parameter",
         "derived d(n) = n + 1\nrule M = skip\n",
     ),
-    ("a parameter of the main rule", "rule M(p) = skip\n"),
     (
         "a parameter of another rule",
         "rule M = skip\nrule r(p) = skip\n",
     ),
 ];
 
-/// Rules that don't run.
-static RULES: [(&str, &str); 13] = [
-    ("a call", "r"),
-    ("a call with an argument", "r(1)"),
-    ("a target with an argument", "x(1) := 1"),
-    ("a sequence", "seq skip endseq"),
-    ("a test", "if true then skip endif"),
+/// Rules that don't run, behind what they need.
+static RULES: [(&str, &str, &str); 13] = [
+    ("a call", "rule r = skip ", "r"),
+    ("a call with an argument", "rule r(p) = skip ", "r(1)"),
+    (
+        "a target with an argument",
+        "universe U = 0 .. 3 function controlled f : U ",
+        "f(1) := 1",
+    ),
+    ("a sequence", "", "seq skip endseq"),
+    ("a test", "", "if true then skip endif"),
     (
         "a test with two branches",
+        "",
         "if true then skip else skip endif",
     ),
-    ("a let", "let y = 1 in skip endlet"),
-    ("a forall", "forall i in U do skip endforall"),
+    ("a let", "", "let y = 1 in skip endlet"),
+    (
+        "a forall",
+        "universe U = 0 .. 3 ",
+        "forall i in U do skip endforall",
+    ),
     (
         "a forall with a test",
+        "universe U = 0 .. 3 ",
         "forall i in U with true do skip endforall",
     ),
-    ("a choose", "choose i in U do skip endchoose"),
+    (
+        "a choose",
+        "universe U = 0 .. 3 ",
+        "choose i in U do skip endchoose",
+    ),
     (
         "a choose with a rule for none",
+        "universe U = 0 .. 3 ",
         "choose i in U do skip ifnone skip endchoose",
     ),
-    ("an iteration", "iterate skip enditerate"),
+    ("an iteration", "", "iterate skip enditerate"),
     (
         "a sequence within a par",
+        "",
         "par skip par skip seq skip endseq endpar endpar",
     ),
 ];
 
 /// Terms that don't run.
-static TERMS: [(&str, &str); 24] = [
-    ("an argument", "x(1)"),
-    ("an unknown name", "y"),
+static TERMS: [(&str, &str); 20] = [
     ("a difference", "1 - 1"),
     ("a product", "1 * 1"),
     ("a quotient", "1 div 1"),
@@ -120,8 +129,27 @@ static TERMS: [(&str, &str); 24] = [
     ("a sum as the second operand", "1 + (1 + 1)"),
     ("a minus before a minus", "-(-1)"),
     ("a minus before a sum", "-(1 + 1)"),
-    ("a quantifier over some", "(exists i in U with true)"),
-    ("a quantifier over all", "(forall i in U holds true)"),
+];
+
+/// Terms that don't run, behind what they need.
+static TERMS_OF_DECLARED: [(&str, &str, &str); 5] = [
+    (
+        "an argument",
+        "universe U = 0 .. 3 function controlled f : U ",
+        "f(1)",
+    ),
+    ("an element", "enum Color = { red } ", "red"),
+    ("a derived function", "derived d = 1 ", "d"),
+    (
+        "a quantifier over some",
+        "universe U = 0 .. 3 ",
+        "(exists i in U with true)",
+    ),
+    (
+        "a quantifier over all",
+        "universe U = 0 .. 3 ",
+        "(forall i in U holds true)",
+    ),
 ];
 
 /// Terms that run.
@@ -163,11 +191,8 @@ fn declarations_beyond_the_first_path(rt: HostRuntime) -> Result<(), Fail> {
 
 #[test]
 fn rules_beyond_the_first_path(rt: HostRuntime) -> Result<(), Fail> {
-    for (reason, rule) in &RULES {
-        let text = text_of(
-            rt.alloc(),
-            &["function controlled x rule r = skip rule M = ", *rule],
-        )?;
+    for (reason, declared, rule) in &RULES {
+        let text = text_of(rt.alloc(), &[*declared, "rule M = ", *rule])?;
         let mut out = Through::new(Vec::new(rt.alloc()));
         let answer = run(&rt, rt.alloc(), text.as_slice(), b"", &LIMITS, &mut out);
         assert!(rt; matches!(answer, Err(RunError::Beyond)), "{reason}");
@@ -180,6 +205,21 @@ fn rules_beyond_the_first_path(rt: HostRuntime) -> Result<(), Fail> {
 fn terms_beyond_the_first_path(rt: HostRuntime) -> Result<(), Fail> {
     for (reason, term) in &TERMS {
         let text = text_of(rt.alloc(), &["function controlled x rule M = x := ", *term])?;
+        let mut out = Through::new(Vec::new(rt.alloc()));
+        let answer = run(&rt, rt.alloc(), text.as_slice(), b"", &LIMITS, &mut out);
+        assert!(rt; matches!(answer, Err(RunError::Beyond)), "{reason}");
+        assert_eq!(rt; out.into_inner().len(), 0, "{reason}");
+    }
+    Ok(())
+}
+
+#[test]
+fn terms_of_declared_names_beyond_the_first_path(rt: HostRuntime) -> Result<(), Fail> {
+    for (reason, declared, term) in &TERMS_OF_DECLARED {
+        let text = text_of(
+            rt.alloc(),
+            &[*declared, "function controlled x rule M = x := ", *term],
+        )?;
         let mut out = Through::new(Vec::new(rt.alloc()));
         let answer = run(&rt, rt.alloc(), text.as_slice(), b"", &LIMITS, &mut out);
         assert!(rt; matches!(answer, Err(RunError::Beyond)), "{reason}");

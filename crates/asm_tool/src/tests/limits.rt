@@ -1,7 +1,7 @@
 //! Limits out of their ranges, and sinks that fail.
 use super::COUNTER;
 use asm_run::end::End;
-use asm_run::error::{ReadError, RunError};
+use asm_run::error::{CheckError, FaultKind, ReadError, RunError};
 use asm_run::limits::Limits;
 use asm_run::run::run;
 use asm_run::through::Through;
@@ -71,7 +71,14 @@ fn a_refused_text_comes_before_a_refused_limit(rt: HostRuntime) -> Result<(), Fa
     let mut out = Through::new(Vec::new(rt.alloc()));
     let read = run(&rt, rt.alloc(), b"CoreASM", b"", &limits(3, 0), &mut out);
     assert!(rt; matches!(read, Err(RunError::Read(ReadError::UnexpectedEnd))));
-    let beyond = run(&rt, rt.alloc(), b"CoreASM T", b"", &limits(3, 0), &mut out);
+    let check = run(&rt, rt.alloc(), b"CoreASM T", b"", &limits(3, 0), &mut out);
+    let init = CheckError {
+        kind: FaultKind::Init,
+        at: 9,
+    };
+    assert!(rt; matches!(check, Err(RunError::Check(fault)) if fault == init));
+    let sequence = b"CoreASM T\ninit M\nrule M = seq skip endseq\n";
+    let beyond = run(&rt, rt.alloc(), sequence, b"", &limits(3, 0), &mut out);
     assert!(rt; matches!(beyond, Err(RunError::Beyond)));
     assert_eq!(rt; out.into_inner().len(), 0);
     Ok(())

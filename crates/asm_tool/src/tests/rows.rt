@@ -189,38 +189,120 @@ fn sixty_five_levels_are_too_deep(rt: HostRuntime) -> Result<(), Fail> {
     Ok(())
 }
 
-/// Specifications that don't run, each for a reason of its own.
-static BEYOND: [(&str, &str); 17] = [
-    ("a header alone", "CoreASM T"),
-    ("no rule that starts", "CoreASM T\nrule M = skip\n"),
-    ("no such rule", "CoreASM T\ninit N\nrule M = skip\n"),
+/// Specifications with faults, and what is said of them.
+static FAULTY: [(&str, &str); 21] = [
+    ("CoreASM T", "check 14 at 9\n"),
+    ("CoreASM T\nrule M = skip\n", "check 14 at 24\n"),
+    ("CoreASM T\ninit N\nrule M = skip\n", "check 14 at 15\n"),
     (
-        "two that start",
         "CoreASM T\ninit M\ninit M\nrule M = skip\n",
+        "check 14 at 22\n",
     ),
-    ("a call", "CoreASM T\ninit M\nrule M = r\n"),
+    ("CoreASM T\ninit M", "check 14 at 15\n"),
+    (
+        "CoreASM T\ninit M\nfunction controlled M\nrule M = skip\n",
+        "check 14 at 15\n",
+    ),
+    ("CoreASM T\ninit M\nrule M = r\n", "check 9 at 26\n"),
+    ("CoreASM T\ninit M\nrule M = ski", "check 9 at 26\n"),
+    ("CoreASM T\ninit M\nrule M = x := 1\n", "check 9 at 26\n"),
+    (
+        "CoreASM T\ninit M\nfunction controlled x\nrule M = x := y\n",
+        "check 9 at 53\n",
+    ),
+    ("CoreASM T\ninit M\nrule M = M := 1\n", "check 11 at 26\n"),
+    (
+        "CoreASM T\ninit M\nfunction static g initially 1\nrule M = g := 2\n",
+        "check 11 at 56\n",
+    ),
+    (
+        "CoreASM T\n\
+         init M\n\
+         function controlled x initially 1\n\
+         rule M = let x = x + 1 in let y = x in x := y endlet endlet\n",
+        "check 11 at 90\n",
+    ),
+    (
+        "CoreASM T\ninit M\nfunction controlled ANY\nrule M = skip\n",
+        "check 8 at 37\n",
+    ),
+    (
+        "CoreASM T\ninit M\nrule M = r(1)\nrule r = skip\n",
+        "check 10 at 26\n",
+    ),
+    (
+        "CoreASM T\ninit M\nrule M = r\nrule r = M\n",
+        "check 12 at 22\n",
+    ),
+    (
+        "CoreASM T\ninit M\nderived d = d\nrule M = skip\n",
+        "check 13 at 25\n",
+    ),
+    (
+        "CoreASM T\ninit M\nuniverse A = 0 .. 4096\nrule M = skip\n",
+        "check 15 at 26\n",
+    ),
+    (
+        "CoreASM T\n\
+         init M\n\
+         universe A = 0 .. 4095\n\
+         universe B = 0 .. 4092\n\
+         function controlled f1 : A\n\
+         function controlled f2 : A\n\
+         function controlled f3 : A\n\
+         function controlled f4 : B\n\
+         rule M = skip\n",
+        "check 15 at 164\n",
+    ),
+    (
+        "CoreASM T\n\
+         init M\n\
+         rule M = r16\n\
+         rule r0 = skip\n\
+         rule r1 = r0\n\
+         rule r2 = r1\n\
+         rule r3 = r2\n\
+         rule r4 = r3\n\
+         rule r5 = r4\n\
+         rule r6 = r5\n\
+         rule r7 = r6\n\
+         rule r8 = r7\n\
+         rule r9 = r8\n\
+         rule r10 = r9\n\
+         rule r11 = r10\n\
+         rule r12 = r11\n\
+         rule r13 = r12\n\
+         rule r14 = r13\n\
+         rule r15 = r14\n\
+         rule r16 = r15\n",
+        "check 15 at 22\n",
+    ),
+    (
+        "CoreASM T\n\
+         init M\n\
+         universe U = 0 .. 3\n\
+         function controlled f : U initially { (4) -> 1 }\n\
+         rule M = skip\n",
+        "check 16 at 75\n",
+    ),
+];
+
+#[test]
+fn specifications_with_faults_are_refused(rt: HostRuntime) {
+    for (text, line) in &FAULTY {
+        let shown = shown_by(&rt, rt.alloc(), &["--steps", "1"], text.as_bytes());
+        assert_eq!(rt; shown.line.as_slice(), line.as_bytes(), "{text}");
+        assert_eq!(rt; shown.trace.len(), 0, "{text}");
+        assert_eq!(rt; shown.status, 2, "{text}");
+    }
+}
+
+/// Specifications without faults that don't run, each for a reason of its own.
+static BEYOND: [(&str, &str); 6] = [
+    ("a call", "CoreASM T\ninit M\nrule M = r\nrule r = skip\n"),
     (
         "a sequence",
         "CoreASM T\ninit M\nrule M = seq skip endseq\n",
-    ),
-    ("a start without its rule", "CoreASM T\ninit M"),
-    (
-        "a call of an unknown rule",
-        "CoreASM T\ninit M\nrule M = ski",
-    ),
-    ("an unknown target", "CoreASM T\ninit M\nrule M = x := 1\n"),
-    (
-        "an unknown name",
-        "CoreASM T\ninit M\nfunction controlled x\nrule M = x := y\n",
-    ),
-    ("a rule as a target", "CoreASM T\ninit M\nrule M = M := 1\n"),
-    (
-        "a name twice",
-        "CoreASM T\ninit M\nfunction controlled M\nrule M = skip\n",
-    ),
-    (
-        "a name of a codomain",
-        "CoreASM T\ninit M\nfunction controlled ANY\nrule M = skip\n",
     ),
     (
         "a sum in parentheses as an operand",

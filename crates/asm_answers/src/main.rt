@@ -1,0 +1,22 @@
+//! The program `asm_answers`: reads texts and what is expected of each from standard input, and writes where something
+//! else is found. Where memory runs out it ends by an error and counts nothing: `rt try --fail-alloc N` lets that happen.
+#![tactic(auto)]
+
+mod answer;
+mod printed;
+mod table;
+mod text;
+
+use std::io;
+use std::process::ExitCode;
+
+fn main(rt: HostRuntime) -> io::Result<ExitCode> {
+    let alloc = rt.alloc();
+    let table = io::read_to_string(alloc, rt.stdin())?;
+    let counts = table::compare(alloc, table.as_str(), &mut rt.stdout())?;
+    Ok(if counts.others == 0 {
+        ExitCode::SUCCESS
+    } else {
+        ExitCode::FAILURE
+    })
+}

@@ -1,0 +1,72 @@
+//! Tables of cases.
+//!
+//! A case begins with a line `=== ANSWER`, and the lines up to the next such line are its text, without the last line feed:
+//! so a text that ends in a line feed has an empty line behind it, and with no line at all a text is empty. What stands
+//! before the first case, and below a line `=== note`, is for people.
+use crate::answer;
+use crate::text::expanded;
+use std::alloc::{AllocError, Global};
+use std::io;
+use std::io::Write;
+
+/// How many cases were as expected, and how many not.
+#[derive(Clone, Copy)]
+pub struct Counts {
+    pub as_expected: u64,
+    pub others: u64,
+}
+
+/// What a case expects, and its text as the table writes it.
+#[derive(Clone, Copy)]
+struct Case<'a> {
+    wanted: &'a str,
+    text: &'a str,
+}
+
+impl<'a> Case<'a> {
+    fn new(lines: &'a str) -> Case<'a> {
+        let (wanted, text) = lines.split_once('\n').unwrap_or((lines, ""));
+        Case { wanted, text }
+    }
+
+    /// What is expected and what is found, both in full.
+    fn answers(&self, alloc: Global) -> Result<(String, String), AllocError> {
+        let Some(marked) = expanded(alloc, self.text)? else {
+            let wanted = String::from_str(alloc, self.wanted)?;
+            let found = String::from_str(alloc, "no text: a repetition doesn't fit")?;
+            return Ok((wanted, found));
+        };
+        let wanted = answer::wanted(alloc, self.wanted, marked.at)?;
+        let found = answer::found(alloc, self.wanted, marked.text.as_slice())?;
+        Ok((wanted, found))
+    }
+}
+
+/// Writes each case of the table where something else is found than is expected, and how many there are of both.
+pub fn compare<W: Write>(alloc: Global, table: &str, out: &mut W) -> io::Result<Counts> {
+    let table = table.strip_suffix('\n').unwrap_or(table);
+    let mut counts = Counts {
+        as_expected: 0,
+        others: 0,
+    };
+    for lines in table.split("\n=== ").skip(1) {
+        let case = Case::new(lines);
+        if case.wanted == "note" {
+            continue;
+        }
+        let (wanted, found) = case.answers(alloc)?;
+        if wanted == found {
+            counts.as_expected = counts.as_expected.saturating_add(1);
+        } else {
+            counts.others = counts.others.saturating_add(1);
+            let number = counts.as_expected.saturating_add(counts.others);
+            writeln!(out, "case {number}: {wanted} expected, {found} found")?;
+        }
+    }
+    let Counts {
+        as_expected,
+        others,
+    } = counts;
+    writeln!(out, "{as_expected} as expected, {others} not")?;
+    Ok(counts)
+}

@@ -1,0 +1,110 @@
+-- Where no way is longer than 16 steps, heights are ranks.
+use Rattle.std.proofs.Common.{◌≡◌, ◌⊎◌, ℕ, zero, suc, ◌<◌, ◌≤◌, max, List, [], ◌∷◌, map, sym, subst, arith, inl, inr}
+use Rattle.std.specs.Prelude.{Contains}
+use Rattle.std.proofs.lemmas.List.Elements.{Contains-append_left, Contains-append_right, Contains-append_cases, Contains-push, Contains-push_cases}
+use Rattle.std.proofs.lemmas.Bool.{cases_lt}
+use Rattle.asm_check.specs.Names.{Text}
+use Rattle.asm_check.specs.Ways.{greatest, IsOnWay, height}
+
+pub here : {X : Type 0} (x : X) (xs : List X) → Contains (x ∷ xs) x
+here x xs = Contains-append_left (x ∷ []) xs x (Contains-push [] x)
+
+pub there : {X : Type 0} (x y : X) (xs : List X) → Contains xs y → Contains (x ∷ xs) y
+there x y xs c = Contains-append_right (x ∷ []) xs y c
+
+pub none_in : {X : Type 0} {A : Type 0} (x : X) → Contains [] x → A
+none_in x c = let below : c.0 < 0 = c.1 in absurd (omega arith)
+
+pub head_or_tail : {X : Type 0} (x y : X) (xs : List X) → Contains (x ∷ xs) y → (x ≡ y) ⊎ Contains xs y
+head_or_tail x y xs c =
+    elim (Contains-append_cases (x ∷ []) xs y c) [
+      | inl first ↦ elim (Contains-push_cases [] x y first) [ inl bad ↦ none_in y bad | inr e ↦ inl e ]
+      | inr rest ↦ inr rest
+    ]
+
+pub in_map : {X Y : Type 0} (f : X → Y) (xs : List X) (x : X) → Contains xs x → Contains (map f xs) (f x)
+in_map f [] x c = none_in x c
+in_map {Y = Y} f (y ∷ ys) x c =
+    elim (head_or_tail y x ys c) [
+      | inl e ↦ subst (λ z. Contains (f y ∷ map f ys) (f z)) e (here (f y) (map f ys))
+      | inr rest ↦ there (f y) (f x) (map f ys) (in_map f ys x rest)
+    ]
+
+max_left : (m n : ℕ) → m ≤ max m n
+max_left m n = omega arith
+
+max_right : (m n : ℕ) → n ≤ max m n
+max_right m n = omega arith
+
+greatest_above : (ns : List ℕ) (m : ℕ) → Contains ns m → m ≤ greatest ns
+greatest_above [] m c = none_in m c
+greatest_above (n ∷ ns) m c =
+    elim (head_or_tail n m ns c) [
+      | inl e ↦ subst (λ k. k ≤ max n (greatest ns)) e (max_left n (greatest ns))
+      | inr rest ↦ let below = greatest_above ns m rest in let right = max_right n (greatest ns) in omega (arith, below, right)
+    ]
+
+attained : (h : Text → ℕ) (xs : List Text) → 0 < greatest (map h xs) → (g : Text) × Contains xs g × (greatest (map h xs) ≡ h g)
+attained h [] some = absurd (omega arith)
+attained h (x ∷ xs) some =
+    elim (cases_lt (h x) (greatest (map h xs))) [
+      | inl below ↦
+          let it = attained h xs (omega arith) in
+          let rest : greatest (map h xs) ≡ h it.0 = it.2 in
+          (it.0, there x it.0 xs it.1, omega (arith, below, rest))
+      | inr above ↦ (x, here x xs, omega (arith, above))
+    ]
+
+-- each height is at most 16, and falls with each step
+abbrev pub AreRanks : (Text → List Text) → (Text → ℕ) → Type 0
+AreRanks next rank = ((f : Text) → rank f ≤ 16) × ((f g : Text) → Contains (next f) g → rank g < rank f)
+
+module _ (next : Text → List Text) where
+  pub way : (n : ℕ) (f : Text) → IsOnWay next (height next n f) f
+  unfolding height
+  way zero f = tt
+  way (suc n) f =
+      let top = greatest (map (λ g. suc (height next n g)) (next f)) in
+      elim (cases_lt 0 top) [
+        | inl some ↦
+            let it = attained (λ g. suc (height next n g)) (next f) some in
+            subst (λ k. IsOnWay next k f) (sym it.2) (it.0, it.1, way n it.0)
+        | inr none ↦ let is_zero : 0 ≡ top = omega (arith, none) in subst (λ k. IsOnWay next k f) is_zero tt
+      ]
+
+  pub high : (n k : ℕ) (f : Text) → k ≤ n → IsOnWay next k f → k ≤ height next n f
+  unfolding height
+  high n zero f h w = omega arith
+  high zero (suc k) f h w = absurd (omega arith)
+  high (suc n) (suc k) f h w =
+      let below = high n k w.0 (omega arith) w.2 in
+      let among = greatest_above (map (λ g. suc (height next n g)) (next f)) (suc (height next n w.0)) (in_map (λ g. suc (height next n g)) (next f) w.0 w.1) in
+      omega (arith, below, among)
+
+  within : (n : ℕ) (f : Text) → height next n f ≤ n
+  unfolding height
+  within zero f = omega arith
+  within (suc n) f =
+      elim (cases_lt 0 (greatest (map (λ g. suc (height next n g)) (next f)))) [
+        | inl some ↦
+            let it = attained (λ g. suc (height next n g)) (next f) some in
+            let top : greatest (map (λ g. suc (height next n g)) (next f)) ≡ suc (height next n it.0) = it.2 in
+            let below = within n it.0 in
+            omega (arith, top, below)
+        | inr none ↦ omega (arith, none)
+      ]
+
+  module _ (short : (f : Text) → ¬ (IsOnWay next 17 f)) where
+    low : (f : Text) → height next 17 f ≤ 16
+    low f =
+        elim (cases_lt (height next 17 f) 17) [
+          | inl below ↦ omega (arith, below)
+          | inr above ↦
+              let up = within 17 f in
+              let is : height next 17 f ≡ 17 = omega (arith, above, up) in
+              absurd (short f (subst (λ k. IsOnWay next k f) is (way 17 f)))
+        ]
+
+    pub heights_are_ranks : AreRanks next (height next 17)
+    heights_are_ranks =
+        (low, λ f g c. let below = low g in let up = high 17 (suc (height next 17 g)) f (omega (arith, below)) (g, c, way 17 g) in omega (arith, up))

@@ -1,0 +1,15 @@
+-- The least of faults that are met one after another.
+use Rattle.std.proofs.Common.{◌≡◌, ℕ, List, [], ◌∷◌, ◌++◌, Option, Some, refl, ap, sym, ◌∙◌}
+use Rattle.asm_check.specs.Soonest.{sooner, noted}
+
+pub noted_append : (found : Option (ℕ × ℕ)) (xs ys : List (ℕ × ℕ)) → noted found (xs ++ ys) ≡ noted (noted found xs) ys
+noted_append found [] ys = refl
+noted_append found (f ∷ fs) ys = noted_append (sooner found (Some f)) fs ys
+
+-- what was found before, and then the rest
+pub noted_after : (first found : Option (ℕ × ℕ)) (xs ys : List (ℕ × ℕ)) → found ≡ noted first xs → noted found ys ≡ noted first (xs ++ ys)
+noted_after first found xs ys e = ap (λ f. noted f ys) e ∙ sym (noted_append first xs ys)
+
+-- one more
+pub noted_one : (first found : Option (ℕ × ℕ)) (xs : List (ℕ × ℕ)) (f : ℕ × ℕ) → found ≡ noted first xs → noted found (f ∷ []) ≡ noted first (xs ++ f ∷ [])
+noted_one first found xs f e = noted_after first found xs (f ∷ []) e

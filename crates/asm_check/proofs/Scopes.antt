@@ -1,0 +1,140 @@
+-- Scopes: the names that are bound at a place, and that only these matter for the uses there.
+use Rattle.std.proofs.Common.{◌≡◌, refl, sym, ap, ◌∙◌, ℕ, ◌+◌, ◌<◌, length, take, get_or, if◌then◌else◌, Bool, true, false, ◌||◌, List, [], ◌∷◌, ◌++◌, map, reverse, Option, Some, None, nat_eq, Bor, arith}
+use Rattle.std.specs.List.{list_any}
+use Rattle.std.proofs.lemmas.Bool.Decides.{nat_tests}
+use Rattle.std.proofs.lemmas.Slice.Eq.{bytes_eq-Decides}
+use Rattle.std.proofs.lemmas.List.{map-append, map_more}
+use Rattle.std.proofs.lemmas.List.Folds.{list_any-append}
+use Rattle.std.proofs.lemmas.List.Sorted.{list_any-IsPermutation, IsPermutation-reverse}
+use Rattle.asm_syntax.specs.Placed.{Name, Term, Constant, Named, Chain, Not, Negative, Exists, Every, Terms, no_terms, term_then, Links, no_links, link_then, Rule, Skip, Assign, Call, Par, Seq, If, Let, Forall, Choose, Iterate, Rules, no_rules, rule_then, Branch, left_out, written}
+use Rattle.indexmap.specs.IndexSet.{insert_key}
+use Rattle.asm_syntax.specs.declared.name.Name as code
+use Rattle.asm_syntax.specs.Views.{name_of}
+use Rattle.asm_check.specs.Names.{Text, text_of, is_text, is_among, Role, InTerm, AsTarget, AsCalled, AsUniverse, Use, use_of, plain_use, term_count, uses_of_term, uses_of_terms, uses_of_links, uses_of_test, uses_of_rule, uses_of_rules, uses_of_branch}
+use Rattle.asm_check.specs.Collected.{IsSameScope}
+
+pub nat_symmetric : (x y : ℕ) → nat_eq x y ≡ nat_eq y x
+nat_symmetric x y = grind (arith, nat_tests)
+
+pub text_symmetric : (x y : Text) → is_text x y ≡ is_text y x
+text_symmetric [] [] = refl
+text_symmetric [] (y ∷ ys) = refl
+text_symmetric (x ∷ xs) [] = refl
+text_symmetric (x ∷ xs) (y ∷ ys) = rw (nat_symmetric x y, text_symmetric xs ys) refl
+
+pub same_text : (x y : Text) → is_text x y ≡ true → x ≡ y
+same_text x y e = (bytes_eq-Decides x y).0 e
+
+pub among_reverse : (xs : List Text) (x : Text) → is_among (reverse xs) x ≡ is_among xs x
+among_reverse xs x = sym (list_any-IsPermutation (λ y. is_text y x) xs (reverse xs) (IsPermutation-reverse xs))
+
+pub among_binders : (bs : List (Bor Text)) (x : Text) → is_among (map (λ b. b.now) bs) x ≡ list_any (λ b. is_text b.now x) bs
+among_binders [] x = refl
+among_binders (b ∷ bs) x = ap (λ r. is_text b.now x || r) (among_binders bs x)
+
+pub among_parameters : (ps : List (Bor Text)) (x : Text) → is_among (map (λ p. p.now) ps) x ≡ list_any (λ p. is_text x p.now) ps
+among_parameters [] x = refl
+among_parameters (p ∷ ps) x = rw (text_symmetric p.now x, among_parameters ps x) refl
+
+-- a name is bound by a binder or a parameter
+pub among_bound : (bs ps : List (Bor Text)) (x : Text) → is_among (reverse (map (λ b. b.now) bs) ++ map (λ p. p.now) ps) x ≡ (list_any (λ b. is_text b.now x) bs || list_any (λ p. is_text x p.now) ps)
+among_bound bs ps x =
+    let split = list_any-append (λ y. is_text y x) (reverse (map (λ b. b.now) bs)) (map (λ p. p.now) ps) in
+    let binders = among_reverse (map (λ b. b.now) bs) x ∙ among_binders bs x in
+    let parameters = among_parameters ps x in
+    cc
+
+-- ---- the parameters, as a set of texts
+
+or_false : (b : Bool) → (b || false) ≡ b
+or_false true = refl
+or_false false = refl
+
+or_true : (b : Bool) → (b || true) ≡ true
+or_true true = refl
+or_true false = refl
+
+-- a text that is there already adds nothing
+pub covered : (ks : List (Bor Text)) (k : Bor Text) (x : Text) → list_any (λ b. is_text k.now b.now) ks ≡ true → (is_among (map (λ p. p.now) ks) x || is_text k.now x) ≡ is_among (map (λ p. p.now) ks) x
+covered ks k x found = by_case (is_text k.now x) refl
+  where
+    by_case : (b : Bool) → is_text k.now x ≡ b → (is_among (map (λ p. p.now) ks) x || b) ≡ is_among (map (λ p. p.now) ks) x
+    by_case false e = or_false (is_among (map (λ p. p.now) ks) x)
+    by_case true e = or_true (is_among (map (λ p. p.now) ks) x) ∙ sym (ap (is_among (map (λ p. p.now) ks)) (sym (same_text k.now x e)) ∙ among_parameters ks k.now ∙ found)
+
+pub among_inserted : (ks : List (Bor Text)) (k : Bor Text) (x : Text) → is_among (map (λ p. p.now) (insert_key (λ a b. is_text a.now b.now) ks k)) x ≡ (is_among (map (λ p. p.now) ks) x || is_text k.now x)
+among_inserted ks k x = by_case (list_any (λ b. is_text k.now b.now) ks) refl
+  where
+    by_case : (b : Bool) → list_any (λ p. is_text k.now p.now) ks ≡ b → is_among (map (λ p. p.now) (if b then ks else ks ++ k ∷ [])) x ≡ (is_among (map (λ p. p.now) ks) x || is_text k.now x)
+    by_case true e = sym (covered ks k x e)
+    by_case false e = ap (λ ys. is_among ys x) (map-append (λ p. p.now) ks (k ∷ [])) ∙ list_any-append (λ y. is_text y x) (map (λ p. p.now) ks) (k.now ∷ []) ∙ ap (λ b. is_among (map (λ p. p.now) ks) x || b) (or_false (is_text k.now x))
+
+-- one more parameter
+pub one_more_parameter : (ks new : List (Bor Text)) (k : Bor Text) (xs : List code.Name) (i : ℕ) (item : code.Name) → i < length xs → item ≡ get_or xs i item → k.now ≡ item.text → new ≡ insert_key (λ a b. is_text a.now b.now) ks k
+    → IsSameScope (map (λ p. p.now) ks) (map text_of (map name_of (take i xs))) → IsSameScope (map (λ p. p.now) new) (map text_of (map name_of (take (i + 1) xs)))
+one_more_parameter ks new k xs i item below is text keys same x =
+    let more : map text_of (map name_of (take (i + 1) xs)) ≡ map text_of (map name_of (take i xs)) ++ item.text ∷ [] =
+    ap (map text_of) (map_more name_of xs i item below) ∙ map-append text_of (map name_of (take i xs)) (name_of (get_or xs i item) ∷ []) ∙ ap (λ (n : code.Name). map text_of (map name_of (take i xs)) ++ n.text ∷ []) (sym is) in
+    ap (λ ys. is_among (map (λ p. p.now) ys) x) keys ∙ among_inserted ks k x ∙ ap (λ b. b || is_text k.now x) (same x) ∙ ap (λ t. is_among (map text_of (map name_of (take i xs))) x || is_text t x) text
+    ∙ sym (ap (λ ys. is_among ys x) more ∙ list_any-append (λ y. is_text y x) (map text_of (map name_of (take i xs))) (item.text ∷ []) ∙ ap (λ b. is_among (map text_of (map name_of (take i xs))) x || b) (or_false (is_text item.text x)))
+
+-- ---- only the bound names matter
+
+pub same_inside : (x : Text) (xs ys : List Text) → IsSameScope xs ys → IsSameScope (x ∷ xs) (x ∷ ys)
+same_inside x xs ys same y = ap (λ b. is_text x y || b) (same y)
+
+pub same_use : (role : Role) (x : Name) (n : ℕ) (xs ys : List Text) → IsSameScope xs ys → use_of role x n xs ≡ use_of role x n ys
+same_use role x n xs ys same = ap (λ (b : Bool). let u : Use = record { role = role; name = x; count = n; is_bound = b } in u) (same x.text)
+
+both : {X : Type 0} (a b c d : List X) → a ≡ b → c ≡ d → a ++ c ≡ b ++ d
+both a b c d p q = cc
+
+mutual
+  pub same_term : (t : Term) (xs ys : List Text) → IsSameScope xs ys → uses_of_term t xs ≡ uses_of_term t ys
+  same_term (Constant v) xs ys same = refl
+  same_term (Named x ts) xs ys same = both (use_of InTerm x (term_count ts) xs ∷ []) (use_of InTerm x (term_count ts) ys ∷ []) (uses_of_terms ts xs) (uses_of_terms ts ys) (ap (λ u. u ∷ []) (same_use InTerm x (term_count ts) xs ys same)) (same_terms ts xs ys same)
+  same_term (Chain t links) xs ys same = both (uses_of_term t xs) (uses_of_term t ys) (uses_of_links links xs) (uses_of_links links ys) (same_term t xs ys same) (same_links links xs ys same)
+  same_term (Not t) xs ys same = same_term t xs ys same
+  same_term (Negative t) xs ys same = same_term t xs ys same
+  same_term (Exists x over t) xs ys same = ap (λ us. plain_use AsUniverse over ∷ us) (same_term t (x.text ∷ xs) (x.text ∷ ys) (same_inside x.text xs ys same))
+  same_term (Every x over t) xs ys same = ap (λ us. plain_use AsUniverse over ∷ us) (same_term t (x.text ∷ xs) (x.text ∷ ys) (same_inside x.text xs ys same))
+
+  pub same_terms : (ts : Terms) (xs ys : List Text) → IsSameScope xs ys → uses_of_terms ts xs ≡ uses_of_terms ts ys
+  same_terms no_terms xs ys same = refl
+  same_terms (term_then t ts) xs ys same = both (uses_of_term t xs) (uses_of_term t ys) (uses_of_terms ts xs) (uses_of_terms ts ys) (same_term t xs ys same) (same_terms ts xs ys same)
+
+  pub same_links : (ls : Links) (xs ys : List Text) → IsSameScope xs ys → uses_of_links ls xs ≡ uses_of_links ls ys
+  same_links no_links xs ys same = refl
+  same_links (link_then o t ls) xs ys same = both (uses_of_term t xs) (uses_of_term t ys) (uses_of_links ls xs) (uses_of_links ls ys) (same_term t xs ys same) (same_links ls xs ys same)
+
+pub same_test : (t : Option Term) (xs ys : List Text) → IsSameScope xs ys → uses_of_test t xs ≡ uses_of_test t ys
+same_test None xs ys same = refl
+same_test (Some t) xs ys same = same_term t xs ys same
+
+mutual
+  pub same_rule : (P : Rule) (xs ys : List Text) → IsSameScope xs ys → uses_of_rule P xs ≡ uses_of_rule P ys
+  same_rule Skip xs ys same = refl
+  same_rule (Assign f ts t) xs ys same = both (use_of AsTarget f (term_count ts) xs ∷ uses_of_terms ts xs) (use_of AsTarget f (term_count ts) ys ∷ uses_of_terms ts ys) (uses_of_term t xs) (uses_of_term t ys)
+      (both (use_of AsTarget f (term_count ts) xs ∷ []) (use_of AsTarget f (term_count ts) ys ∷ []) (uses_of_terms ts xs) (uses_of_terms ts ys) (ap (λ u. u ∷ []) (same_use AsTarget f (term_count ts) xs ys same)) (same_terms ts xs ys same))
+      (same_term t xs ys same)
+  same_rule (Call r ts) xs ys same = both (use_of AsCalled r (term_count ts) xs ∷ []) (use_of AsCalled r (term_count ts) ys ∷ []) (uses_of_terms ts xs) (uses_of_terms ts ys) (ap (λ u. u ∷ []) (same_use AsCalled r (term_count ts) xs ys same)) (same_terms ts xs ys same)
+  same_rule (Par Ps) xs ys same = same_rules Ps xs ys same
+  same_rule (Seq Ps) xs ys same = same_rules Ps xs ys same
+  same_rule (If t P Q) xs ys same = both (uses_of_term t xs ++ uses_of_rule P xs) (uses_of_term t ys ++ uses_of_rule P ys) (uses_of_branch Q xs) (uses_of_branch Q ys)
+      (both (uses_of_term t xs) (uses_of_term t ys) (uses_of_rule P xs) (uses_of_rule P ys) (same_term t xs ys same) (same_rule P xs ys same)) (same_branch Q xs ys same)
+  same_rule (Let x t P) xs ys same = both (uses_of_term t xs) (uses_of_term t ys) (uses_of_rule P (x.text ∷ xs)) (uses_of_rule P (x.text ∷ ys)) (same_term t xs ys same) (same_rule P (x.text ∷ xs) (x.text ∷ ys) (same_inside x.text xs ys same))
+  same_rule (Forall x over t P) xs ys same = both (plain_use AsUniverse over ∷ uses_of_test t (x.text ∷ xs)) (plain_use AsUniverse over ∷ uses_of_test t (x.text ∷ ys)) (uses_of_rule P (x.text ∷ xs)) (uses_of_rule P (x.text ∷ ys))
+      (ap (λ us. plain_use AsUniverse over ∷ us) (same_test t (x.text ∷ xs) (x.text ∷ ys) (same_inside x.text xs ys same))) (same_rule P (x.text ∷ xs) (x.text ∷ ys) (same_inside x.text xs ys same))
+  same_rule (Choose x over t P Q) xs ys same = both (plain_use AsUniverse over ∷ uses_of_test t (x.text ∷ xs) ++ uses_of_rule P (x.text ∷ xs)) (plain_use AsUniverse over ∷ uses_of_test t (x.text ∷ ys) ++ uses_of_rule P (x.text ∷ ys)) (uses_of_branch Q xs) (uses_of_branch Q ys)
+      (both (plain_use AsUniverse over ∷ uses_of_test t (x.text ∷ xs)) (plain_use AsUniverse over ∷ uses_of_test t (x.text ∷ ys)) (uses_of_rule P (x.text ∷ xs)) (uses_of_rule P (x.text ∷ ys))
+      (ap (λ us. plain_use AsUniverse over ∷ us) (same_test t (x.text ∷ xs) (x.text ∷ ys) (same_inside x.text xs ys same))) (same_rule P (x.text ∷ xs) (x.text ∷ ys) (same_inside x.text xs ys same)))
+      (same_branch Q xs ys same)
+  same_rule (Iterate P) xs ys same = same_rule P xs ys same
+
+  pub same_rules : (Ps : Rules) (xs ys : List Text) → IsSameScope xs ys → uses_of_rules Ps xs ≡ uses_of_rules Ps ys
+  same_rules no_rules xs ys same = refl
+  same_rules (rule_then P Ps) xs ys same = both (uses_of_rule P xs) (uses_of_rule P ys) (uses_of_rules Ps xs) (uses_of_rules Ps ys) (same_rule P xs ys same) (same_rules Ps xs ys same)
+
+  pub same_branch : (Q : Branch) (xs ys : List Text) → IsSameScope xs ys → uses_of_branch Q xs ≡ uses_of_branch Q ys
+  same_branch left_out xs ys same = refl
+  same_branch (written P) xs ys same = same_rule P xs ys same

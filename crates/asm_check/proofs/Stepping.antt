@@ -1,0 +1,133 @@
+-- Steps that a loop collects, one element after another.
+use Rattle.std.proofs.Common.{◌≡◌, ℕ, zero, suc, ◌+◌, ◌<◌, Bool, true, false, cond, List, [], ◌∷◌, ◌++◌, length, map, get_or, Option, Some, None, refl, sym, subst, ap, ◌∙◌, arith}
+use Rattle.std.specs.Prelude.{All, filter, slice_get}
+use Rattle.std.proofs.lemmas.List.{append_assoc, map-append, get_or-map, length-append}
+use Rattle.std.proofs.lemmas.List.Elements.{All-append, All-cons, All-nil}
+use Rattle.asm_syntax.specs.Placed.{Spec}
+use Rattle.asm_check.specs.Graph.{next_of}
+use Rattle.asm_check.specs.Names.{Text, Meaning, Role, InTerm, AsTarget, AsCalled, AsUniverse, AsCodomain, AsElement, Use, declared}
+use Rattle.asm_check.specs.Onward.{onward}
+use Rattle.asm_check.specs.Stepping.{is_stepping, stepping_to, onward_from}
+use Rattle.asm_check.specs.Tables.{Entry, IsTableOf, text_at, meaning_of}
+use Rattle.asm_check.specs.UseViews.{use_of}
+use Rattle.asm_check.specs.Ways.{is_call, is_use, called, used}
+use Rattle.asm_check.specs.declared.uses.Use.{Use as CodeUse}
+use Rattle.asm_check.proofs.Apart.{entry_there, position_declared}
+
+-- the names of the uses that are left, after those at the positions, are those of all uses
+pub record AreSteps (entries : List Entry) (in_rule : Bool) (uses rest : List CodeUse) (positions : List ℕ) : Type 0 where
+  pub within : All (λ n. n < length entries) positions
+  pub steps : (spec : Spec) → IsTableOf spec entries → map (text_at entries) positions ++ stepping_to spec in_rule (map use_of rest) ≡ stepping_to spec in_rule (map use_of uses)
+
+abbrev pub entry_onward : Spec → Entry → List Text
+entry_onward spec e = onward_from spec (Some (meaning_of e.1.meaning))
+
+-- a use with a step stands for one more name
+pub one_stepping : (spec : Spec) (in_rule : Bool) (texts : List Text) (u : Use) (us : List Use) → is_stepping spec in_rule u ≡ true
+    → (texts ++ u.name.text ∷ []) ++ stepping_to spec in_rule us ≡ texts ++ stepping_to spec in_rule (u ∷ us)
+one_stepping spec in_rule texts u us e =
+    append_assoc texts (u.name.text ∷ []) (stepping_to spec in_rule us)
+    ∙ ap (λ b. texts ++ map (λ u. u.name.text) (cond b (u ∷ filter (is_stepping spec in_rule) us) (filter (is_stepping spec in_rule) us))) (sym e)
+
+pub none_stepping : (spec : Spec) (in_rule : Bool) (texts : List Text) (u : Use) (us : List Use) → is_stepping spec in_rule u ≡ false
+    → texts ++ stepping_to spec in_rule us ≡ texts ++ stepping_to spec in_rule (u ∷ us)
+none_stepping spec in_rule texts u us e =
+    ap (λ b. texts ++ map (λ u. u.name.text) (cond b (u ∷ filter (is_stepping spec in_rule) us) (filter (is_stepping spec in_rule) us))) (sym e)
+
+no_call : (role : Role) → is_call role None ≡ false
+no_call InTerm = refl
+no_call AsTarget = refl
+no_call AsCalled = refl
+no_call AsUniverse = refl
+no_call AsCodomain = refl
+no_call AsElement = refl
+
+no_use : (role : Role) (b : Bool) → is_use role b None ≡ false
+no_use InTerm true = refl
+no_use InTerm false = refl
+no_use AsTarget b = refl
+no_use AsCalled b = refl
+no_use AsUniverse b = refl
+no_use AsCodomain b = refl
+no_use AsElement b = refl
+
+-- what isn't declared has no step
+pub undeclared_stepping : (spec : Spec) (in_rule : Bool) (u : Use) → declared spec u.name.text ≡ None → is_stepping spec in_rule u ≡ false
+undeclared_stepping spec true u e = ap (is_call u.role) e ∙ no_call u.role
+undeclared_stepping spec false u e = ap (is_use u.role u.is_bound) e ∙ no_use u.role u.is_bound
+
+-- what the code tests
+pub stepping_there : (spec : Spec) (in_rule : Bool) (u : Use) (m : Option Meaning) (b : Bool) → m ≡ declared spec u.name.text
+    → b ≡ cond in_rule (is_call u.role m) (is_use u.role u.is_bound m) → is_stepping spec in_rule u ≡ b
+stepping_there spec in_rule u m b means e = ap (λ o. cond in_rule (is_call u.role o) (is_use u.role u.is_bound o)) (sym means) ∙ sym e
+
+module _ (entries : List Entry) (in_rule : Bool) (uses rest more : List CodeUse) (positions : List ℕ) (x : CodeUse) (left : rest ≡ x ∷ more) (before : AreSteps entries in_rule uses rest positions) where
+  pub step_taken : (n : ℕ) → n < length entries → text_at entries n ≡ x.name.now.text
+      → ((spec : Spec) → IsTableOf spec entries → is_stepping spec in_rule (use_of x) ≡ true) → AreSteps entries in_rule uses more (positions ++ n ∷ [])
+  step_taken n below name steps = record {
+    within = All-append (λ n. n < length entries) positions (n ∷ []) before.within (All-cons (λ n. n < length entries) n [] below (All-nil (λ n. n < length entries)));
+    steps = λ spec table.
+        ap (λ ts. ts ++ stepping_to spec in_rule (map use_of more)) (map-append (text_at entries) positions (n ∷ []) ∙ ap (λ t. map (text_at entries) positions ++ t ∷ []) name)
+        ∙ one_stepping spec in_rule (map (text_at entries) positions) (use_of x) (map use_of more) (steps spec table)
+        ∙ ap (λ us. map (text_at entries) positions ++ stepping_to spec in_rule (map use_of us)) (sym left)
+        ∙ before.steps spec table;
+  }
+
+  pub step_left : ((spec : Spec) → IsTableOf spec entries → is_stepping spec in_rule (use_of x) ≡ false) → AreSteps entries in_rule uses more positions
+  step_left stays = record {
+    within = before.within;
+    steps = λ spec table.
+        none_stepping spec in_rule (map (text_at entries) positions) (use_of x) (map use_of more) (stays spec table)
+        ∙ ap (λ us. map (text_at entries) positions ++ stepping_to spec in_rule (map use_of us)) (sym left)
+        ∙ before.steps spec table;
+  }
+
+pub no_step_yet : (entries : List Entry) (in_rule : Bool) (uses : List CodeUse) (positions : List ℕ) → positions ≡ [] → AreSteps entries in_rule uses uses positions
+no_step_yet entries in_rule uses positions none = record {
+  within = subst (All (λ n. n < length entries)) (sym none) (All-nil (λ n. n < length entries));
+  steps = λ spec table. ap (λ ns. map (text_at entries) ns ++ stepping_to spec in_rule (map use_of uses)) none;
+}
+
+-- the steps of the entries that are left, after these, are those of all entries
+pub record AreEntrySteps (spec : Spec) (entries rest : List Entry) (lists : List (List ℕ)) : Type 0 where
+  pub counted : length lists + length rest ≡ length entries
+  pub graph : All (All (λ n. n < length entries)) lists
+  pub steps : map (map (text_at entries)) lists ++ map (entry_onward spec) rest ≡ map (entry_onward spec) entries
+
+pub no_entry_yet : (spec : Spec) (entries rest : List Entry) (lists : List (List ℕ)) → lists ≡ [] → rest ≡ entries → AreEntrySteps spec entries rest lists
+no_entry_yet spec entries rest lists none all = record {
+  counted = omega (arith, ap length none, ap length all);
+  graph = subst (All (All (λ n. n < length entries))) (sym none) (All-nil (All (λ n. n < length entries)));
+  steps = ap (λ ls. map (map (text_at entries)) ls ++ map (entry_onward spec) rest) none ∙ ap (map (entry_onward spec)) all;
+}
+
+pub entry_taken : (spec : Spec) (entries rest more : List Entry) (lists : List (List ℕ)) (e : Entry) (ns : List ℕ) → rest ≡ e ∷ more → AreEntrySteps spec entries rest lists
+    → All (λ n. n < length entries) ns → map (text_at entries) ns ≡ entry_onward spec e → AreEntrySteps spec entries more (lists ++ ns ∷ [])
+entry_taken spec entries rest more lists e ns left before within texts = record {
+  counted = omega (arith, length-append lists (ns ∷ []), ap length left, before.counted);
+  graph = All-append (All (λ n. n < length entries)) lists (ns ∷ []) before.graph (All-cons (All (λ n. n < length entries)) ns [] within (All-nil (All (λ n. n < length entries))));
+  steps =
+      ap (λ ts. ts ++ map (entry_onward spec) more) (map-append (map (text_at entries)) lists (ns ∷ []) ∙ ap (λ t. map (map (text_at entries)) lists ++ t ∷ []) texts)
+      ∙ append_assoc (map (map (text_at entries)) lists) (entry_onward spec e ∷ []) (map (entry_onward spec) more)
+      ∙ ap (λ es. map (map (text_at entries)) lists ++ map (entry_onward spec) es) (sym left)
+      ∙ before.steps;
+}
+
+-- the steps from a position of the table
+pub onward_at : (spec : Spec) (entries : List Entry) (lists : List (List ℕ)) → IsTableOf spec entries → length lists ≡ length entries
+    → map (map (text_at entries)) lists ≡ map (entry_onward spec) entries
+    → (n : ℕ) → n < length entries → map (text_at entries) (next_of lists n) ≡ onward spec (text_at entries n)
+unfolding onward called used
+onward_at spec entries lists table same all n below =
+    let there = entry_there entries n below in
+    let within : n < length lists = omega (arith, same, below) in
+    sym (get_or-map (map (text_at entries)) lists n [] [] within)
+    ∙ ap (λ ts. get_or ts n []) all
+    ∙ get_or-map (entry_onward spec) entries n there.0 [] below
+    ∙ ap (entry_onward spec) (got entries n there.0 there.1)
+    ∙ ap (onward_from spec) (sym (position_declared spec entries table n there.0 there.1))
+  where
+    got : (es : List Entry) (i : ℕ) (e : Entry) → slice_get es i ≡ Some e → get_or es i e ≡ e
+    got [] i e at = refl
+    got (f ∷ es) zero e at = cc
+    got (f ∷ es) (suc i) e at = got es i e at

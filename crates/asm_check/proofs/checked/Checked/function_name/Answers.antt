@@ -1,0 +1,19 @@
+use Rattle.std.proofs.Common.{sym, ◌∙◌}
+use Rattle.asm_syntax.specs.Views.{spec_of}
+use Rattle.asm_check.proofs.Readers.{function_has_name}
+use Rattle.asm_check.proofs.checked.Checked.function_name.Goals as goal
+
+pub function_name-requires-clause-number : goal.function_name-requires-clause-number
+function_name-requires-clause-number c =
+    let self = c.args.self.now in
+    (function_has_name (spec_of self.spec) self.numbering self.numbered c.args.f c.requires).number
+
+pub function_name-requires-clause-place : goal.function_name-requires-clause-place
+function_name-requires-clause-place c =
+    let self = c.args.self.now in
+    (function_has_name (spec_of self.spec) self.numbering self.numbered c.args.f c.requires).place
+
+pub returns : goal.returns
+returns c =
+    let self = c.args.self.now in
+    sym (function_has_name (spec_of self.spec) self.numbering self.numbered c.args.f c.requires).name ∙ c.function_name.ensures

@@ -1,0 +1,13 @@
+use Rattle.std.proofs.Common.{ap, ◌∙◌, None}
+use Rattle.std.specs.Prelude.{option_map}
+use Rattle.asm_check.specs.Tables.{meaning_of}
+use Rattle.asm_check.proofs.Lookups.{got_declared}
+use Rattle.asm_check.proofs.names.meaning.Goals as goal
+
+pub returns-in_err-declared : goal.returns-in_err-declared
+returns-in_err-declared c = λ spec table.
+    ap (option_map meaning_of) c.from_residual.ensures
+    ∙ got_declared spec c.args.names.now.entries c.args.name.now c.as_bytes.result.now None table c.as_bytes.ensures c.in_err-declared.ensures.value
+
+pub returns : goal.returns
+returns c = λ spec table. got_declared spec c.args.names.now.entries c.args.name.now c.as_bytes.result.now _ table c.as_bytes.ensures c.in_ok-declared.ensures.value

@@ -1,0 +1,32 @@
+-- The numbers of faults, and the pair of place and number that an answer stands for.
+use Rattle.std.specs.Prelude.{ℕ, Option, Some, None}
+use Rattle.asm_check.specs.declared.error.FaultKind.{FaultKind}
+use Rattle.asm_check.specs.declared.error.FaultKind.TheVariants.{Twice, Unknown, Arity, NotControlled, CyclicRule, CyclicDerived, Init, TooMany, TableEntry}
+use Rattle.asm_check.specs.declared.error.CheckError.{CheckError}
+use Rattle.asm_syntax.specs.Placed.{Spec}
+use Rattle.asm_syntax.specs.declared.refused.Refused.{Refused}
+use Rattle.asm_syntax.specs.declared.refused.Refused.TheVariants.{Memory, Named}
+use Rattle.asm_check.specs.Faults.{IsLeastFault}
+
+abbrev pub number_of : FaultKind → ℕ
+number_of Twice = 8
+number_of Unknown = 9
+number_of Arity = 10
+number_of NotControlled = 11
+number_of CyclicRule = 12
+number_of CyclicDerived = 13
+number_of Init = 14
+number_of TooMany = 15
+number_of TableEntry = 16
+
+abbrev pub fault_of : CheckError → ℕ × ℕ
+fault_of e = (e.at, number_of e.kind)
+
+abbrev pub found_of : Option CheckError → Option (ℕ × ℕ)
+found_of None = None
+found_of (Some e) = Some (fault_of e)
+
+-- what a refusal says of the specification: where memory ran out, nothing
+abbrev pub Explains : Spec → Refused CheckError → Type 0
+Explains spec Memory = Unit {0}
+Explains spec (Named e) = IsLeastFault spec e.at (number_of e.kind)

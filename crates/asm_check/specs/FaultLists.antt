@@ -1,0 +1,93 @@
+-- The faults of a specification as lists, as a search meets them. Each is equal as a set to the faults of its numbers.
+--     twice_faults    8;  use_faults    9, 10, 11;  init_faults    14;  limit_faults    15, but for ranks;  entry_faults    16
+use Rattle.std.specs.Prelude.{ℕ, ◌+◌, Bool, true, false, not, cond, ◌&&◌, ◌||◌, nat_eq, nat_lt, List, [], ◌∷◌, ◌++◌, map, flat_map, filter, length, sum_by, Option, Some, None}
+use Rattle.std.specs.List.{list_any, list_all}
+use Rattle.asm_syntax.specs.Placed.{Name, Entry, Spec}
+use Rattle.asm_check.specs.Names.{Text, Declaration, Meaning, Role, AsTarget, Use, declarations, first_declarations, declared, uses, is_among, arguments_of, is_assignable, is_start, uses_of_entry}
+use Rattle.asm_check.specs.Limits.{is_universe, is_function, is_controlled, is_static, is_rule, size_of, domain_of, lists_of, max_universes, max_elements, max_functions, max_domain, max_locations, max_static_lists, max_rules}
+use Rattle.asm_check.specs.Faults.{parameters_of, is_known_use, inits, table_of, fits_domain, same_arguments}
+
+-- ---- 8
+
+-- the places of names that stand in the list before
+abbrev pub repeats : (before : List Text) → List Name → List ℕ
+repeats before [] = []
+repeats before (x ∷ xs) = cond (is_among before x.text) (x.at ∷ repeats before xs) (repeats (x.text ∷ before) xs)
+
+abbrev pub at_with : ℕ → List ℕ → List (ℕ × ℕ)
+at_with number places = map (λ at. (at, number)) places
+
+unfoldable pub twice_faults : Spec → List (ℕ × ℕ)
+twice_faults spec = at_with 8 (repeats [] (map (λ d. d.name) (declarations spec))) ++ at_with 8 (flat_map (λ item. repeats [] (parameters_of item)) spec.items)
+
+-- ---- 9, 10, 11
+
+abbrev pub miscounts : Option ℕ → ℕ → Bool
+miscounts None n = false
+miscounts (Some m) n = not (nat_eq n m)
+
+abbrev pub is_target : Role → Bool
+is_target AsTarget = true
+is_target role = false
+
+abbrev pub faults_of_use : Spec → Use → List (ℕ × ℕ)
+faults_of_use spec u =
+    cond (is_known_use spec u)
+    (cond (miscounts (arguments_of u.role u.is_bound (declared spec u.name.text)) u.count) ((u.name.at, 10) ∷ [])
+    (cond (is_target u.role && not (is_assignable u.is_bound (declared spec u.name.text))) ((u.name.at, 11) ∷ []) []))
+    ((u.name.at, 9) ∷ [])
+
+unfoldable pub use_faults : Spec → List (ℕ × ℕ)
+use_faults spec = flat_map (faults_of_use spec) (uses spec)
+
+-- ---- 14
+
+abbrev pub unfit_starts : Spec → List Name → List Name
+unfit_starts spec xs = filter (λ x. not (is_start (declared spec x.text))) xs
+
+abbrev pub faults_of_inits : Spec → List Name → List (ℕ × ℕ)
+faults_of_inits spec [] = (spec.length, 14) ∷ []
+faults_of_inits spec (x ∷ more) = at_with 14 (map (λ y. y.at) (unfit_starts spec (x ∷ []))) ++ at_with 14 (map (λ y. y.at) more)
+
+unfoldable pub init_faults : Spec → List (ℕ × ℕ)
+init_faults spec = faults_of_inits spec (inits spec)
+
+-- ---- 15, but for ranks
+
+-- what the counted ones of these add together
+abbrev pub total_of : (is_counted : Meaning → Bool) → (adds : Meaning → ℕ) → List Declaration → ℕ
+total_of is_counted adds ds = sum_by adds (filter is_counted (map (λ d. d.meaning) ds))
+
+abbrev pub passes : (most : ℕ) → (is_counted : Meaning → Bool) → (adds : Meaning → ℕ) → (before : List Declaration) → Declaration → Bool
+passes most is_counted adds before d = is_counted d.meaning && nat_lt most (total_of is_counted adds (before ++ d ∷ []))
+
+abbrev pub passes_limit : Spec → (before : List Declaration) → Declaration → Bool
+passes_limit spec before d =
+    passes max_universes is_universe (λ m. 1) before d
+    || nat_lt max_elements (size_of spec d.meaning)
+    || passes max_functions is_function (λ m. 1) before d
+    || nat_lt max_domain (length (domain_of d.meaning))
+    || passes max_locations is_controlled (λ m. lists_of spec (domain_of m) + 1) before d
+    || passes max_static_lists is_static (λ m. lists_of spec (domain_of m)) before d
+    || passes max_rules is_rule (λ m. 1) before d
+
+abbrev pub limit_faults_from : Spec → (before : List Declaration) → List Declaration → List (ℕ × ℕ)
+limit_faults_from spec before [] = []
+limit_faults_from spec before (d ∷ ds) = cond (passes_limit spec before d) ((d.name.at, 15) ∷ []) [] ++ limit_faults_from spec (before ++ d ∷ []) ds
+
+unfoldable pub limit_faults : Spec → List (ℕ × ℕ)
+limit_faults spec = limit_faults_from spec [] (first_declarations spec)
+
+-- ---- 16
+
+abbrev pub is_bad_entry : Spec → List Name → (before : List Entry) → Entry → Bool
+is_bad_entry spec domain before e =
+    list_all (is_known_use spec) (uses_of_entry e)
+    && (not (fits_domain spec domain e.arguments) || list_any (λ b. same_arguments b.arguments e.arguments) before)
+
+abbrev pub bad_entries : Spec → List Name → (before : List Entry) → List Entry → List (ℕ × ℕ)
+bad_entries spec domain before [] = []
+bad_entries spec domain before (e ∷ es) = cond (is_bad_entry spec domain before e) ((e.at, 16) ∷ []) [] ++ bad_entries spec domain (before ++ e ∷ []) es
+
+unfoldable pub entry_faults : Spec → List (ℕ × ℕ)
+entry_faults spec = flat_map (λ t. bad_entries spec t.0 [] t.1) (flat_map table_of spec.items)

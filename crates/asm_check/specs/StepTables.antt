@@ -1,0 +1,40 @@
+-- Steps between positions of the table of names, and the faults at one position.
+use Rattle.std.specs.Prelude.{◌≡◌, ◌⊎◌, ◌<◌, ℕ, suc, List, map, length, slice_get, Option, Some, None}
+use Rattle.asm_syntax.specs.Placed.{Spec}
+use Rattle.asm_check.specs.declared.meaning.Meaning.{Meaning}
+use Rattle.asm_check.specs.declared.meaning.Meaning.TheVariants as code
+use Rattle.asm_check.specs.declared.meaning.Declared.{Declared}
+use Rattle.asm_check.specs.Graph.{IsGraph, next_of}
+use Rattle.asm_check.specs.Limits.{max_rank}
+use Rattle.asm_check.specs.Onward.{onward}
+use Rattle.asm_check.specs.Tables.{Entry, text_at}
+use Rattle.asm_check.specs.Ways.{LeadsTo, ReachesCycle, IsOnWay}
+
+-- the steps of a specification, by positions
+pub record AreStepsOf (spec : Spec) (entries : List Entry) (lists : List (List ℕ)) : Type 0 where
+  pub len : length lists ≡ length entries
+  pub graph : IsGraph lists
+  pub steps : (n : ℕ) → n < length entries → map (text_at entries) (next_of lists n) ≡ onward spec (text_at entries n)
+
+-- the number of a cycle's fault
+abbrev pub cycle_number : Meaning → Option ℕ
+cycle_number (code.Procedure xs P) = Some 12
+cycle_number (code.Derived xs t) = Some 13
+cycle_number m = None
+
+module _ (lists : List (List ℕ)) (n : ℕ) where
+  abbrev pub IsCycleAt : (place : ℕ) → Meaning → (at number : ℕ) → Type 0
+  IsCycleAt place m at number = LeadsTo (next_of lists) n n × (place ≡ at) × (cycle_number m ≡ Some number)
+
+  abbrev pub IsHighAt : (place : ℕ) → (at number : ℕ) → Type 0
+  IsHighAt place at number = IsOnWay (next_of lists) (suc max_rank) n × (¬ (ReachesCycle (next_of lists) n)) × (place ≡ at) × (15 ≡ number)
+
+  abbrev pub IsFaultOf : Declared → (at number : ℕ) → Type 0
+  IsFaultOf d at number = IsCycleAt d.at d.meaning at number ⊎ IsHighAt d.at at number
+
+  abbrev pub IsFaultAt : List Entry → (at number : ℕ) → Type 0
+  IsFaultAt entries at number = (e : Entry) × (slice_get entries n ≡ Some e) × IsFaultOf e.1 at number
+
+-- at one of the first positions, so many
+abbrev pub IsFaultBelow : List (List ℕ) → List Entry → (k at number : ℕ) → Type 0
+IsFaultBelow lists entries k at number = (n : ℕ) × (n < k) × IsFaultAt lists n entries at number

@@ -1,0 +1,16 @@
+-- The faults of steps: cycles, and ranks above the limit.
+use Rattle.std.specs.Prelude.{◌≡◌, ℕ, suc, Contains}
+use Rattle.asm_syntax.specs.Placed.{Spec}
+use Rattle.asm_check.specs.Names.{Declaration, first_declarations}
+use Rattle.asm_check.specs.Ways.{called, used, ReachesCycle, IsOnWay}
+use Rattle.asm_check.specs.Limits.{max_rank}
+use Rattle.asm_check.specs.Faults.{IsCyclic}
+
+pub data IsTooHigh (spec : Spec) (d : Declaration) : Type 0 where
+  rule_rank : IsOnWay (called spec) (suc max_rank) d.name.text → ¬ (ReachesCycle (called spec) d.name.text) → IsTooHigh spec d
+  derived_rank : IsOnWay (used spec) (suc max_rank) d.name.text → ¬ (ReachesCycle (used spec) d.name.text) → IsTooHigh spec d
+
+pub data IsStepFault (spec : Spec) (at : ℕ) : ℕ → Type 0 where
+  cyclic_rule : IsCyclic spec (called spec) at → IsStepFault spec at 12
+  cyclic_derived : IsCyclic spec (used spec) at → IsStepFault spec at 13
+  too_high : (d : Declaration) → Contains (first_declarations spec) d → IsTooHigh spec d → d.name.at ≡ at → IsStepFault spec at 15

@@ -1,0 +1,39 @@
+-- The table of declared names, as the code keeps it.
+--     meaning_of m            what the code's meaning stands for
+--     IsTableOf spec entries  the entries are the first declarations of the specification, in their order
+--     text_at entries i       the name at a position
+use Rattle.std.specs.Prelude.{◌≡◌, ℕ, List, [], map, slice_get, Option, Some, None}
+use Rattle.std.specs.Borrow.{Bor}
+use Rattle.asm_syntax.specs.Placed.{Spec}
+use Rattle.asm_syntax.specs.Views.{name_of, term_of, rule_of}
+use Rattle.asm_check.specs.declared.meaning.Meaning.{Meaning}
+use Rattle.asm_check.specs.declared.meaning.Meaning.TheVariants as code
+use Rattle.asm_check.specs.declared.meaning.Declared.{Declared}
+use Rattle.asm_check.specs.Names as names
+use Rattle.asm_check.specs.Names.{Text, Declaration, first_declarations}
+
+abbrev pub meaning_of : Meaning → names.Meaning
+meaning_of code.Predeclared = names.Predeclared
+meaning_of (code.Range first last) = names.Range first.value last.value
+meaning_of (code.Enumeration k) = names.Enumeration k
+meaning_of (code.Element k) = names.Element k
+meaning_of (code.Controlled domain) = names.Controlled (map name_of domain.now)
+meaning_of (code.Static domain) = names.Static (map name_of domain.now)
+meaning_of (code.Derived xs t) = names.Derived (map name_of xs.now) (term_of t.now)
+meaning_of (code.Procedure xs P) = names.Procedure (map name_of xs.now) (rule_of P.now)
+
+abbrev pub Entry : Type 0
+Entry = Bor (List ℕ) × Declared
+
+abbrev pub declaration_of : Entry → Declaration
+declaration_of e = record { name = record { at = e.1.at; text = e.0.now }; meaning = meaning_of e.1.meaning }
+
+abbrev pub IsTableOf : Spec → List Entry → Type 0
+IsTableOf spec entries = map declaration_of entries ≡ first_declarations spec
+
+abbrev pub text_of_entry : Option Entry → Text
+text_of_entry None = []
+text_of_entry (Some e) = e.0.now
+
+abbrev pub text_at : List Entry → ℕ → Text
+text_at entries i = text_of_entry (slice_get entries i)

@@ -1,0 +1,172 @@
+//! Specifications that are well formed.
+ghost use Rattle.std.specs.Prelude.{◌≡◌, ◌<◌, Some, ℕ, map, length, IfOk, [], ◌∷◌};
+ghost use Rattle.asm_syntax.specs.Placed as placed;
+ghost use Rattle.asm_syntax.specs.Views.{spec_of, name_of, term_of, rule_of};
+ghost use Rattle.asm_check.specs.Faults.{IsWellFormed, inits};
+ghost use Rattle.asm_check.specs.Names as names;
+ghost use Rattle.asm_check.specs.Names.{first_declarations};
+ghost use Rattle.asm_check.specs.Numbers.{named, functions_of, derived_of, rules_of, elements_of, meaning_at, name_at};
+ghost use Rattle.asm_check.specs.NumberTables.{IsNumberingOf, AreBodiesOf, IsMain, IsInRange};
+ghost use Rattle.asm_check.specs.Shapes.{shape_of};
+ghost use Rattle.asm_check.specs.declared.checked.Named.TheVariants.{Called};
+
+use crate::bodies::Bodies;
+use crate::numbering::Numbering;
+use crate::shape::signature_of;
+use asm_state::signature::Signature;
+use asm_syntax::name::{Name, Text};
+use asm_syntax::rule::Rule;
+use asm_syntax::spec::{Item, Spec};
+use asm_syntax::term::Term;
+use std::alloc::{AllocError, Global};
+
+/// What a name stands for where no binder hides it, with its number among its like, in the order of the text.
+#[derive(Clone, Copy, Debug, PartialEq, Eq)]
+pub enum Named {
+    Universe(usize),
+    Element(usize),
+    /// A controlled or static function: its number in the signature.
+    Function(usize),
+    Derived(usize),
+    /// A rule.
+    Called(usize),
+}
+
+/// A specification without faults, with what its names stand for at hand. Its readers take no memory, and constant time.
+#[derive(Drop)]
+pub struct Checked {
+    pub spec: Spec,
+    signature: Signature,
+    numbering: Numbering,
+    bodies: Bodies,
+    main: usize,
+    pub ghost well_formed: { IsWellFormed (spec_of spec) },
+    ghost shaped: { signature ≡ shape_of (spec_of spec) },
+    ghost numbered: { IsNumberingOf (first_declarations (spec_of spec)) numbering },
+    ghost placed: { AreBodiesOf (spec_of spec).items bodies },
+    ghost starts: { IsMain (spec_of spec) main },
+}
+
+impl Checked {
+    /// The well-formed specification, made ready.
+    pub(crate) fn of(alloc: Global, spec: Spec) -> Result<Checked, AllocError>
+        requires { IsWellFormed (spec_of spec) }
+        ensures { IfOk result (λ c. c.spec ≡ spec) }
+    {
+        let signature = signature_of(alloc, &spec)?;
+        let numbering = Numbering::of(alloc, &spec)?;
+        let bodies = Bodies::of(alloc, &spec.items)?;
+        let main = main_of(&spec, &numbering);
+        Ok(Checked {
+            spec,
+            signature,
+            numbering,
+            bodies,
+            main,
+        })
+    }
+
+    /// The universes, and the controlled and static functions.
+    pub fn signature(&self) -> &Signature
+        ensures { result.now ≡ shape_of (spec_of self.now.spec) }
+    {
+        &self.signature
+    }
+
+    /// What a name stands for where no binder hides it.
+    pub fn named(&self, name: &str) -> Option<Named>
+        ensures named { result ≡ named (spec_of self.now.spec) name.now }
+        ensures in_range { IsInRange (spec_of self.now.spec) result }
+    {
+        self.numbering.named(name.as_bytes())
+    }
+
+    /// The same, of a name of the specification's own.
+    pub fn named_text(&self, name: &Text) -> Option<Named>
+        ensures named { result ≡ named (spec_of self.now.spec) name.now }
+        ensures in_range { IsInRange (spec_of self.now.spec) result }
+    {
+        self.numbering.named(name.as_bytes())
+    }
+
+    /// The parameters and the body of the rule with this number.
+    pub fn rule(&self, r: usize) -> (&[Name], &Rule)
+        requires { r < length (rules_of (spec_of self.now.spec)) }
+        ensures { meaning_at (rules_of (spec_of self.now.spec)) r ≡ Some (names.Procedure (map name_of result.0.now) (rule_of result.1.now)) }
+    {
+        match &self.spec.items[self.bodies.rules[r]] {
+            Item::Declared {
+                parameters,
+                body,
+                ..
+            } => (parameters, body),
+            _ => unreachable!(),
+        }
+    }
+
+    /// The parameters and the body of the derived function with this number.
+    pub fn derived(&self, d: usize) -> (&[Name], &Term)
+        requires { d < length (derived_of (spec_of self.now.spec)) }
+        ensures { meaning_at (derived_of (spec_of self.now.spec)) d ≡ Some (names.Derived (map name_of result.0.now) (term_of result.1.now)) }
+    {
+        match &self.spec.items[self.bodies.derived[d]] {
+            Item::Derived {
+                parameters,
+                body,
+                ..
+            } => (parameters, body),
+            _ => unreachable!(),
+        }
+    }
+
+    /// The number of the rule that is named after `init`.
+    pub fn main(&self) -> usize
+        ensures in_range { result < length (rules_of (spec_of self.now.spec)) }
+        ensures main { (x : placed.Name) → inits (spec_of self.now.spec) ≡ x ∷ [] → named (spec_of self.now.spec) x.text ≡ Some (Called result) }
+        ensures one { (x : placed.Name) × (inits (spec_of self.now.spec) ≡ x ∷ []) }
+    {
+        self.main
+    }
+
+    /// The name of the controlled or static function with this number.
+    pub fn function_name(&self, f: usize) -> &[u8]
+        requires { f < length (functions_of (spec_of self.now.spec)) }
+        ensures { name_at (functions_of (spec_of self.now.spec)) f ≡ Some result.now }
+    {
+        self.numbering.function_name(f)
+    }
+
+    /// The name of the element with this number.
+    pub fn element_name(&self, e: usize) -> &[u8]
+        requires { e < length (elements_of (spec_of self.now.spec)) }
+        ensures { name_at (elements_of (spec_of self.now.spec)) e ≡ Some result.now }
+    {
+        self.numbering.element_name(e)
+    }
+}
+
+/// The number of the rule that a well-formed specification starts with.
+fn main_of(spec: &Spec, numbering: &Numbering) -> usize
+    requires good { IsWellFormed (spec_of spec.now) }
+    requires numbered { IsNumberingOf (first_declarations (spec_of spec.now)) numbering.now }
+    ensures { IsMain (spec_of spec.now) result }
+{
+    let start = start_of(spec);
+    match numbering.named(start.text.as_bytes()).unwrap() {
+        Named::Called(main) => main,
+        _ => unreachable!(),
+    }
+}
+
+/// The name of that rule.
+fn start_of(spec: &Spec) -> &Name
+    requires { IsWellFormed (spec_of spec.now) }
+    ensures { inits (spec_of spec.now) ≡ name_of result.now ∷ [] }
+{
+    for item in &spec.items {
+        if let Item::Init(name) = item {
+            return name;
+        }
+    }
+    unreachable!()
+}

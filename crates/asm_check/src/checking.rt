@@ -1,0 +1,50 @@
+//! Whether a specification is well formed, and the fault that stands first where it isn't.
+ghost use Rattle.std.specs.Prelude.{◌≡◌, IfOk, IfErr, OnOk};
+ghost use Rattle.asm_syntax.specs.declared.refused.Refused.TheVariants.{Memory};
+ghost use Rattle.asm_syntax.specs.Views.{spec_of};
+ghost use Rattle.asm_check.specs.Errors.{Explains, found_of};
+ghost use Rattle.asm_check.specs.Faults.{IsFault, IsWellFormed};
+ghost use Rattle.asm_check.specs.Soonest.{IsSoonest};
+
+use crate::checked::Checked;
+use crate::cycles::note_steps;
+use crate::error::CheckError;
+use crate::known::note_uses;
+use crate::least::Least;
+use crate::limits::note_limits;
+use crate::names::first_names;
+use crate::starts::note_inits;
+use crate::tables::note_entries;
+use asm_syntax::Refused;
+use asm_syntax::spec::Spec;
+use std::alloc::{AllocError, Global};
+
+/// The specification as one that is well formed, or the fault that stands first in it. Of several at one place it is the
+/// one with the least number. The specification is given up where it is refused.
+pub fn check(alloc: Global, spec: Spec) -> Result<Checked, Refused<CheckError>>
+    ensures accepted { IfOk result (λ c. c.spec ≡ spec) }
+    ensures well_formed { OnOk result (IsWellFormed (spec_of spec)) }
+    ensures refused { IfErr result (Explains (spec_of spec)) }
+    // A well-formed specification is refused only where memory runs out.
+    ensures good { IsWellFormed (spec_of spec) → IfErr result (λ e. e ≡ Memory) }
+{
+    match least_fault(alloc, &spec)? {
+        Some(fault) => Err(Refused::Named(fault)),
+        None => Ok(Checked::of(alloc, spec)?),
+    }
+}
+
+/// The least of all faults: the one with the least place, and there with the least number.
+pub(crate) fn least_fault(alloc: Global, spec: &Spec) -> Result<Option<CheckError>, AllocError>
+    ensures { IfOk result (λ found. IsSoonest (IsFault (spec_of spec.now)) (found_of found)) }
+{
+    let mut least = Least::new();
+    let names = first_names(alloc, spec, &mut least)?;
+    note_inits(spec, &names, &mut least);
+    note_uses(alloc, spec, &names, &mut least)?;
+    note_limits(alloc, spec, &names, &mut least)?;
+    note_entries(alloc, spec, &names, &mut least)?;
+    // The search for cycles comes last: it looks only at what stands before the faults that are found by then.
+    note_steps(alloc, spec, &names, &mut least)?;
+    Ok(least.found)
+}

@@ -1,0 +1,113 @@
+//! Cycles of calls or uses, and ranks that are too great.
+ghost use Rattle.std.specs.Prelude.{◌≡◌, ◌<◌, OnOk, length, option_map, true, false};
+ghost use Rattle.asm_syntax.specs.Views.{spec_of};
+ghost use Rattle.asm_check.specs.Errors.{found_of, number_of};
+ghost use Rattle.asm_check.specs.Graph.{IsGraph, next_of, step_lists};
+ghost use Rattle.asm_check.specs.Soonest.{IsSoonestWith};
+ghost use Rattle.asm_check.specs.Steps.{IsStepFault};
+ghost use Rattle.asm_check.specs.StepTables.{IsCycleAt, IsFaultOf, cycle_number};
+ghost use Rattle.asm_check.specs.Tables.{IsTableOf};
+ghost use Rattle.asm_check.specs.Ways.{ReachesCycle, IsOnWay};
+
+use crate::error::FaultKind;
+use crate::graph::{leads_back, on_ways, reaching_cycles};
+use crate::least::Least;
+use crate::meaning::{Declared, Meaning};
+use crate::names::Names;
+use crate::steps::steps_of;
+use asm_syntax::spec::Spec;
+use std::alloc::{AllocError, Global};
+
+/// The greatest rank of a rule or derived function.
+pub(crate) const RANK: usize = 16;
+
+/// Notes rules and derived functions that lead back to themselves, and those whose rank passes the limit.
+pub(crate) fn note_steps(
+    alloc: Global,
+    spec: &Spec,
+    names: &Names,
+    least: &mut Least,
+) -> Result<(), AllocError>
+    requires { IsTableOf (spec_of spec.now) names.now.entries }
+    ensures { OnOk result (IsSoonestWith (IsStepFault (spec_of spec.now)) (found_of least.old.found) (found_of least.new.found)) }
+{
+    let steps = steps_of(alloc, spec, names)?;
+    let steps = steps.as_slice();
+    let reaching = reaching_cycles(alloc, steps)?;
+    let reaching = reaching.as_slice();
+    let long = on_ways(alloc, steps, RANK + 1)?;
+    let long = long.as_slice();
+    for node in 0..names.len() {
+        if let Some((_, declared)) = names.get_index(node) {
+            note_node(
+                alloc,
+                steps,
+                node,
+                reaching[node],
+                long[node],
+                *declared,
+                least,
+            )?;
+        }
+    }
+    Ok(())
+}
+
+/// Notes the faults of a declaration from which a cycle is reached, or a long way begins.
+fn note_node(
+    alloc: Global,
+    steps: &[Vec<usize>],
+    node: usize,
+    is_reaching: bool,
+    is_long: bool,
+    declared: Declared,
+    least: &mut Least,
+) -> Result<(), AllocError>
+    requires graph { IsGraph (step_lists steps.now) }
+    requires node { node < length steps.now }
+    requires reaching { is_reaching ≡ true → ReachesCycle (next_of (step_lists steps.now)) node }
+    requires settled { is_reaching ≡ false → ¬ (ReachesCycle (next_of (step_lists steps.now)) node) }
+    requires long { is_long ≡ true → IsOnWay (next_of (step_lists steps.now)) 17 node }
+    requires short { is_long ≡ false → ¬ (IsOnWay (next_of (step_lists steps.now)) 17 node) }
+    ensures { OnOk result (IsSoonestWith (IsFaultOf (step_lists steps.now) node declared.entry) (found_of least.old.found) (found_of least.new.found)) }
+{
+    if is_reaching {
+        note_cycle(alloc, steps, node, declared, least)?;
+    } else if is_long {
+        least.note(FaultKind::TooMany, declared.at);
+    }
+    Ok(())
+}
+
+/// Notes a declaration from which a cycle is reached, if it is on one. Where that would change nothing it isn't looked at.
+fn note_cycle(
+    alloc: Global,
+    steps: &[Vec<usize>],
+    node: usize,
+    declared: Declared,
+    least: &mut Least,
+) -> Result<(), AllocError>
+    requires graph { IsGraph (step_lists steps.now) }
+    requires node { node < length steps.now }
+    ensures { OnOk result (IsSoonestWith (IsCycleAt (step_lists steps.now) node declared.entry.at declared.entry.meaning)
+        (found_of least.old.found) (found_of least.new.found)) }
+{
+    let Some(kind) = cycle_kind(declared.meaning) else {
+        return Ok(());
+    };
+    if least.is_sooner(kind, declared.at) && leads_back(alloc, steps, node)? {
+        least.note(kind, declared.at);
+    }
+    Ok(())
+}
+
+/// What a cycle is called where such a declaration is on it.
+fn cycle_kind(meaning: Meaning) -> Option<FaultKind>
+    ensures { option_map number_of result ≡ cycle_number meaning.entry }
+{
+    match meaning {
+        Meaning::Procedure(_, _) => Some(FaultKind::CyclicRule),
+        Meaning::Derived(_, _) => Some(FaultKind::CyclicDerived),
+        _ => None,
+    }
+}

@@ -1,0 +1,32 @@
+//! Laws of faults, and what a specification without faults has.
+ghost use Rattle.asm_check.specs.Laws.{LeastIsOnly, RanksExist, BodiesAreFit, LimitsHold, SignatureFits, SignatureNumbers};
+
+/// A specification has at most one least fault.
+pub fn least_is_only()
+    ensures { LeastIsOnly }
+{}
+
+/// A well-formed specification has ranks, which fall with each call of a rule and each use of a derived function.
+pub fn ranks_exist()
+    ensures { RanksExist }
+{}
+
+/// In a well-formed specification each name that is used is known, with as many arguments as it has.
+pub fn bodies_are_fit()
+    ensures { BodiesAreFit }
+{}
+
+/// A well-formed specification passes no limit.
+pub fn limits_hold()
+    ensures { LimitsHold }
+{}
+
+/// What a well-formed specification declares fits into a signature.
+pub fn signature_fits()
+    ensures { SignatureFits }
+{}
+
+/// Universes, functions and elements have the numbers in the signature that they have among the declarations.
+pub fn signature_numbers()
+    ensures { SignatureNumbers }
+{}

@@ -1,0 +1,47 @@
+//! The least fault, as a search meets one after another.
+ghost use Rattle.std.specs.Prelude.{◌≡◌, false, None, [], ◌∷◌};
+ghost use Rattle.asm_check.specs.Errors.{number_of, found_of};
+ghost use Rattle.asm_check.specs.Soonest.{noted};
+
+use crate::error::{CheckError, FaultKind};
+
+/// The least fault that was met so far: the least place, and there the least number.
+#[derive(Clone, Copy, Debug)]
+pub(crate) struct Least {
+    pub found: Option<CheckError>,
+}
+
+impl Least {
+    pub(crate) fn new() -> Least
+        ensures { found_of result.found ≡ None }
+    {
+        Least { found: None }
+    }
+
+    /// A fault is met.
+    pub(crate) fn note(&mut self, kind: FaultKind, at: usize)
+        ensures { found_of self.new.found ≡ noted (found_of self.old.found) ((at, number_of kind) ∷ []) }
+    {
+        let met = CheckError { kind, at };
+        let is_sooner = match self.found {
+            None => true,
+            Some(found) => (met.at, met.number()) < (found.at, found.number()),
+        };
+        if is_sooner {
+            self.found = Some(met);
+        }
+    }
+
+    /// Whether a fault of this kind and at this place would change what is found.
+    pub(crate) fn is_sooner(&self, kind: FaultKind, at: usize) -> bool
+        ensures { result ≡ false → noted (found_of self.now.found) ((at, number_of kind) ∷ []) ≡ found_of self.now.found }
+    {
+        match self.found {
+            None => true,
+            Some(found) => {
+                let met = CheckError { kind, at };
+                (met.at, met.number()) < (found.at, found.number())
+            }
+        }
+    }
+}

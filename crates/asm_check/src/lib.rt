@@ -1,0 +1,28 @@
+//! Whether a specification is well formed.
+#![tactic(auto)]
+
+mod bodies;
+mod checked;
+mod checking;
+mod collector;
+mod cycles;
+mod error;
+mod graph;
+mod known;
+pub mod laws;
+mod least;
+mod limits;
+mod meaning;
+mod names;
+mod numbering;
+mod roles;
+mod search;
+mod shape;
+mod starts;
+mod steps;
+mod tables;
+mod uses;
+
+pub use checked::{Checked, Named};
+pub use checking::check;
+pub use error::{CheckError, FaultKind};

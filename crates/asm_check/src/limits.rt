@@ -1,0 +1,247 @@
+//! Limits on what is declared.
+ghost use Rattle.std.specs.Prelude.{◌≡◌, ◌<◌, ◌≤◌, ℕ, IfOk, OnOk, Some, map, List, [], ◌∷◌, ◌++◌, length, option_map, slice_get, All};
+ghost use Rattle.asm_syntax.specs.Placed as placed;
+ghost use Rattle.asm_syntax.specs.Views.{name_of, spec_of};
+ghost use Rattle.asm_check.specs.Counted.{AreCountedSizes, AreElementCounts, AreTotals, counted_from, value_of_entry, size_with};
+ghost use Rattle.asm_check.specs.Errors.{found_of};
+ghost use Rattle.asm_check.specs.FaultLists.{limit_faults, passes_limit};
+ghost use Rattle.asm_check.specs.Limits.{counted_size, domain_of, lists_of, range_size, size_of, is_universe};
+ghost use Rattle.asm_check.specs.Names.{Declaration, declares};
+ghost use Rattle.asm_check.specs.Soonest.{noted};
+ghost use Rattle.asm_check.specs.Tables.{IsTableOf, declaration_of, meaning_of};
+
+use crate::error::FaultKind;
+use crate::least::Least;
+use crate::meaning::{Declared, Meaning};
+use crate::names::{Names, position};
+use asm_state::number::Number;
+use asm_syntax::name::{Name, Text};
+use asm_syntax::spec::Spec;
+use std::alloc::{AllocError, Global};
+
+/// How many universes there can be.
+pub(crate) const UNIVERSES: usize = 64;
+
+/// How many elements one universe can have.
+pub(crate) const ELEMENTS: usize = 4096;
+
+/// How many functions of all three kinds there can be.
+pub(crate) const FUNCTIONS: usize = 256;
+
+/// How many universes a domain can have.
+pub(crate) const DOMAIN: usize = 4;
+
+/// How many locations of controlled functions there can be, stray ones with them.
+pub(crate) const LOCATIONS: usize = 16_384;
+
+/// How many argument lists all static functions together can have.
+pub(crate) const STATIC_LISTS: usize = 16_384;
+
+/// How many rules there can be.
+pub(crate) const RULES: usize = 256;
+
+/// Notes the declarations that pass a limit, but for those of ranks.
+pub(crate) fn note_limits(
+    alloc: Global,
+    spec: &Spec,
+    names: &Names,
+    least: &mut Least,
+) -> Result<(), AllocError>
+    requires { IsTableOf (spec_of spec.now) names.now.entries }
+    ensures { OnOk result (found_of least.new.found ≡ noted (found_of least.old.found) (limit_faults (spec_of spec.now))) }
+{
+    let elements = element_counts(alloc, spec, names)?;
+    let counted = counted_sizes(alloc, names, elements.as_slice())?;
+    let mut totals = Totals::new();
+    for i in 0..names.len() {
+        let declared = declared_at(names, i);
+        let size = size(&declared.meaning, elements.as_slice());
+        let lists = lists(domain(&declared.meaning), names, counted.as_slice());
+        if totals.add(&declared.meaning, size, lists) {
+            least.note(FaultKind::TooMany, declared.at);
+        }
+    }
+    Ok(())
+}
+
+/// The declaration at a position of the table.
+fn declared_at<'a>(names: &Names<'a>, i: usize) -> Declared<'a>
+    requires { i < length names.now.entries }
+    ensures { option_map value_of_entry (slice_get names.now.entries i) ≡ Some result }
+{
+    let (_, declared) = names.get_index(i).unwrap();
+    *declared
+}
+
+/// Of each enumeration, by its item, how many elements it has in the table.
+pub(crate) fn element_counts(
+    alloc: Global,
+    spec: &Spec,
+    names: &Names,
+) -> Result<Vec<usize>, AllocError>
+    requires { IsTableOf (spec_of spec.now) names.now.entries }
+    ensures { IfOk result (λ counts. AreElementCounts (spec_of spec.now) counts.items) }
+{
+    let mut counts = vec![in alloc; 0; spec.items.len()]?;
+    for i in 0..names.len() {
+        if let Meaning::Element(item) = declared_at(names, i).meaning {
+            if item < counts.len() {
+                counts[item] += 1;
+            }
+        }
+    }
+    Ok(counts)
+}
+
+/// How many elements a universe has, where these are those of the enumerations. What is no universe has none.
+pub(crate) fn size(meaning: &Meaning, elements: &[usize]) -> usize
+    ensures { result ≡ size_with elements.now (meaning_of meaning.now) }
+{
+    match *meaning {
+        Meaning::Range { first, last } => range_size(first, last),
+        Meaning::Enumeration(item) => elements.get(item).copied().unwrap_or(0),
+        _ => 0,
+    }
+}
+
+fn range_size(first: Number, last: Number) -> usize
+    ensures { result ≡ range_size first.value last.value }
+{
+    if first.value <= last.value {
+        (last.value - first.value) as usize + 1
+    } else {
+        0
+    }
+}
+
+fn is_universe(meaning: &Meaning) -> bool
+    ensures { result ≡ is_universe (meaning_of meaning.now) }
+{
+    matches!(meaning, Meaning::Range { .. } | Meaning::Enumeration(_))
+}
+
+/// By positions in the table, the sizes of the universes that pass no limit, and 0 for everything else.
+pub(crate) fn counted_sizes(
+    alloc: Global,
+    names: &Names,
+    elements: &[usize],
+) -> Result<Vec<usize>, AllocError>
+    ensures small { IfOk result (λ sizes. All (λ n. n ≤ 4096) sizes.items) }
+    ensures sizes { IfOk result (λ sizes. sizes.items ≡ counted_from (size_with elements.now) 64 (map declaration_of names.now.entries)) }
+{
+    let mut sizes = Vec::new(alloc);
+    let mut left = UNIVERSES;
+    for i in 0..names.len() {
+        let meaning = declared_at(names, i).meaning;
+        let mut counted = 0;
+        if left > 0 && is_universe(&meaning) {
+            left -= 1;
+            let size = size(&meaning, elements);
+            if size <= ELEMENTS {
+                counted = size;
+            }
+        }
+        sizes.push(counted)?;
+    }
+    Ok(sizes)
+}
+
+/// The size of the universe of this name, if it passes no limit, and else 0.
+fn counted_size(names: &Names, name: &Text, sizes: &[usize]) -> usize
+    requires { All (λ n. n ≤ 4096) sizes.now }
+    ensures small { result ≤ 4096 }
+    ensures size { (spec : placed.Spec) (at : ℕ) → IsTableOf spec names.now.entries → AreCountedSizes spec names.now.entries sizes.now
+        → result ≡ counted_size spec (record { at = at; text = name.now }) }
+{
+    match position(names, name) {
+        Some(i) => sizes.get(i).copied().unwrap_or(0),
+        None => 0,
+    }
+}
+
+/// How many argument lists a domain has: none where it or one of its universes passes a limit.
+pub(crate) fn lists(domain: &[Name], names: &Names, sizes: &[usize]) -> usize
+    requires { All (λ n. n ≤ 4096) sizes.now }
+    ensures { (spec : placed.Spec) → IsTableOf spec names.now.entries → AreCountedSizes spec names.now.entries sizes.now
+        → result ≡ lists_of spec (map name_of domain.now) }
+{
+    if domain.len() > DOMAIN {
+        return 0;
+    }
+    let mut product = 1;
+    for name in domain {
+        product *= counted_size(names, &name.text, sizes);
+    }
+    product
+}
+
+/// The domain of a function that is no derived one.
+fn domain<'a>(meaning: &Meaning<'a>) -> &'a [Name]
+    ensures { map name_of result.now ≡ domain_of (meaning_of meaning.now) }
+{
+    match *meaning {
+        Meaning::Controlled(domain) | Meaning::Static(domain) => domain,
+        _ => &[],
+    }
+}
+
+/// What the declarations so far add together, each total `usize::MAX` at most.
+#[derive(Clone, Copy)]
+struct Totals {
+    universes: usize,
+    functions: usize,
+    locations: usize,
+    static_lists: usize,
+    rules: usize,
+}
+
+impl Totals {
+    fn new() -> Totals
+        ensures { (spec : placed.Spec) → AreTotals spec [] result }
+    {
+        Totals {
+            universes: 0,
+            functions: 0,
+            locations: 0,
+            static_lists: 0,
+            rules: 0,
+        }
+    }
+
+    /// Adds a declaration, with the size of its universe and the number of its argument lists. Answers whether it passes
+    /// a limit.
+    fn add(&mut self, meaning: &Meaning, size: usize, lists: usize) -> bool
+        ensures { (spec : placed.Spec) (before : List Declaration) (x : placed.Name) → AreTotals spec before self.old
+            → size ≡ size_of spec (meaning_of meaning.now) → lists ≡ lists_of spec (domain_of (meaning_of meaning.now))
+            → AreTotals spec (before ++ declares x (meaning_of meaning.now) ∷ []) self.new
+            × (result ≡ passes_limit spec before (declares x (meaning_of meaning.now))) }
+    {
+        match *meaning {
+            Meaning::Predeclared | Meaning::Element(_) => false,
+            Meaning::Range { .. } | Meaning::Enumeration(_) => {
+                self.universes = self.universes.saturating_add(1);
+                self.universes > UNIVERSES || size > ELEMENTS
+            }
+            Meaning::Controlled(domain) => {
+                self.functions = self.functions.saturating_add(1);
+                self.locations = self.locations.saturating_add(lists).saturating_add(1);
+                self.functions > FUNCTIONS || domain.len() > DOMAIN || self.locations > LOCATIONS
+            }
+            Meaning::Static(domain) => {
+                self.functions = self.functions.saturating_add(1);
+                self.static_lists = self.static_lists.saturating_add(lists);
+                self.functions > FUNCTIONS
+                    || domain.len() > DOMAIN
+                    || self.static_lists > STATIC_LISTS
+            }
+            Meaning::Derived(_, _) => {
+                self.functions = self.functions.saturating_add(1);
+                self.functions > FUNCTIONS
+            }
+            Meaning::Procedure(_, _) => {
+                self.rules = self.rules.saturating_add(1);
+                self.rules > RULES
+            }
+        }
+    }
+}

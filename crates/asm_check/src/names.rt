@@ -1,0 +1,220 @@
+//! The table of declared names.
+ghost use Rattle.std.specs.Prelude.{◌≡◌, ◌<◌, IfOk, OnOk, IfSome, IfNone, None, length, option_map, [], ◌∷◌, map};
+ghost use Rattle.asm_syntax.specs.Views.{spec_of, item_of, name_of};
+ghost use Rattle.asm_check.specs.Errors.{found_of};
+ghost use Rattle.asm_check.specs.FaultLists.{twice_faults, repeats, at_with};
+ghost use Rattle.asm_check.specs.Faults.{parameters_of};
+ghost use Rattle.asm_check.specs.Soonest.{noted};
+ghost use Rattle.asm_check.specs.Tables.{IsTableOf, meaning_of, text_at, declaration_of};
+ghost use Rattle.asm_check.specs.Gathering.{Gathers, predeclares, parameter_faults};
+ghost use Rattle.asm_check.specs.Names as meanings;
+ghost use Rattle.asm_check.specs.Names.{declared, declares, predeclared, declarations_of, declarations_from, Element};
+ghost use Rattle.asm_syntax.specs.Placed as placed;
+
+use crate::error::FaultKind;
+use crate::least::Least;
+use crate::meaning::{Declared, Meaning};
+use asm_syntax::name::{Name, Text};
+use asm_syntax::spec::{FunctionKind, Item, Spec};
+use indexmap::{IndexMap, IndexSet};
+use std::alloc::{AllocError, Global};
+
+/// The declarations that count, the first of each name, in the order of the text.
+pub(crate) type Names<'a> = IndexMap<&'a [u8], Declared<'a>>;
+
+/// The table of a specification. Names that are declared twice are noted.
+pub(crate) fn first_names<'a>(
+    alloc: Global,
+    spec: &'a Spec,
+    least: &mut Least,
+) -> Result<Names<'a>, AllocError>
+    ensures table { IfOk result (λ names. IsTableOf (spec_of spec.now) names.entries) }
+    ensures least { OnOk result (found_of least.new.found ≡ noted (found_of least.old.found) (twice_faults (spec_of spec.now))) }
+{
+    let mut names = IndexMap::new(alloc);
+    predeclare_all(&mut names, least)?;
+    declare_items(&mut names, &spec.items, least)?;
+    note_parameters(alloc, &spec.items, least)?;
+    Ok(names)
+}
+
+/// The names that are declared before any text. They have no place of their own.
+fn predeclare_all(names: &mut Names, least: &mut Least) -> Result<(), AllocError>
+    ensures { OnOk result (Gathers predeclared names.old.entries (found_of least.old.found) names.new.entries (found_of least.new.found)) }
+{
+    predeclare(names, "NUMBER", least)?;
+    predeclare(names, "BOOLEAN", least)?;
+    predeclare(names, "ANY", least)
+}
+
+fn predeclare(names: &mut Names, name: &'static str, least: &mut Least) -> Result<(), AllocError>
+    ensures { OnOk result (Gathers (predeclares name.entry.now ∷ []) names.old.entries (found_of least.old.found) names.new.entries (found_of least.new.found)) }
+{
+    let declared = Declared {
+        at: 0,
+        meaning: Meaning::Predeclared,
+    };
+    declare(names, name.as_bytes(), declared, least)
+}
+
+/// The declarations of the items, in their order.
+fn declare_items<'a>(
+    names: &mut Names<'a>,
+    items: &'a [Item],
+    least: &mut Least,
+) -> Result<(), AllocError>
+    ensures { OnOk result (Gathers (declarations_from 0 (map item_of items.now)) names.old.entries (found_of least.old.found) names.new.entries (found_of least.new.found)) }
+{
+    for (k, item) in items.iter().enumerate() {
+        declare_item(names, item, k, least)?;
+    }
+    Ok(())
+}
+
+/// What the item with this index declares.
+fn declare_item<'a>(
+    names: &mut Names<'a>,
+    item: &'a Item,
+    k: usize,
+    least: &mut Least,
+) -> Result<(), AllocError>
+    ensures { OnOk result (Gathers (declarations_of k (item_of item.now)) names.old.entries (found_of least.old.found) names.new.entries (found_of least.new.found)) }
+{
+    match item {
+        Item::Uses(_) | Item::Init(_) => Ok(()),
+        Item::Enum { name, elements } => {
+            declare_name(names, name, Meaning::Enumeration(k), least)?;
+            declare_elements(names, elements, k, least)
+        }
+        Item::Universe { name, first, last } => {
+            let range = Meaning::Range {
+                first: *first,
+                last: *last,
+            };
+            declare_name(names, name, range, least)
+        }
+        Item::Function {
+            name,
+            kind,
+            domain,
+            ..
+        } => declare_name(names, name, function_of(*kind, domain), least),
+        Item::Derived {
+            name,
+            parameters,
+            body,
+        } => declare_name(names, name, Meaning::Derived(parameters, body), least),
+        Item::Declared {
+            name,
+            parameters,
+            body,
+        } => declare_name(names, name, Meaning::Procedure(parameters, body), least),
+    }
+}
+
+/// A function of this kind.
+fn function_of<'a>(kind: FunctionKind, domain: &'a [Name]) -> Meaning<'a>
+    ensures { meaning_of result ≡ meanings.function_of kind (map name_of domain.now) }
+{
+    match kind {
+        FunctionKind::Controlled => Meaning::Controlled(domain),
+        FunctionKind::Static => Meaning::Static(domain),
+    }
+}
+
+/// The elements of the enumeration that is the item with this index.
+fn declare_elements<'a>(
+    names: &mut Names<'a>,
+    elements: &'a [Name],
+    k: usize,
+    least: &mut Least,
+) -> Result<(), AllocError>
+    ensures { OnOk result (Gathers (map (λ y. declares y (Element k)) (map name_of elements.now)) names.old.entries (found_of least.old.found) names.new.entries (found_of least.new.found)) }
+{
+    for element in elements {
+        declare_name(names, element, Meaning::Element(k), least)?;
+    }
+    Ok(())
+}
+
+fn declare_name<'a>(
+    names: &mut Names<'a>,
+    name: &'a Name,
+    meaning: Meaning<'a>,
+    least: &mut Least,
+) -> Result<(), AllocError>
+    ensures { OnOk result (Gathers (declares (name_of name.now) (meaning_of meaning.entry) ∷ []) names.old.entries (found_of least.old.found) names.new.entries (found_of least.new.found)) }
+{
+    let declared = Declared {
+        at: name.at,
+        meaning,
+    };
+    declare(names, name.text.as_bytes(), declared, least)
+}
+
+/// One more declaration.
+fn declare<'a>(
+    names: &mut Names<'a>,
+    text: &'a [u8],
+    declared: Declared<'a>,
+    least: &mut Least,
+) -> Result<(), AllocError>
+    ensures { OnOk result (Gathers (declaration_of (text.entry, declared.entry) ∷ []) names.old.entries (found_of least.old.found) names.new.entries (found_of least.new.found)) }
+{
+    if names.contains_key(text) {
+        least.note(FaultKind::Twice, declared.at);
+    } else {
+        names.insert(text, declared)?;
+    }
+    Ok(())
+}
+
+/// Parameters that are named twice in one list.
+fn note_parameters(alloc: Global, items: &[Item], least: &mut Least) -> Result<(), AllocError>
+    ensures { OnOk result (found_of least.new.found ≡ noted (found_of least.old.found) (parameter_faults (map item_of items.now))) }
+{
+    for item in items {
+        note_repeats(alloc, parameters(item), least)?;
+    }
+    Ok(())
+}
+
+/// The parameters of the item, if it can have any.
+fn parameters(item: &Item) -> &[Name]
+    ensures { map name_of result.now ≡ parameters_of (item_of item.now) }
+{
+    match item {
+        Item::Derived { parameters, .. } | Item::Declared { parameters, .. } => parameters,
+        _ => &[],
+    }
+}
+
+/// Names that stand in the list before.
+fn note_repeats(alloc: Global, names: &[Name], least: &mut Least) -> Result<(), AllocError>
+    ensures { OnOk result (found_of least.new.found ≡ noted (found_of least.old.found) (at_with 8 (repeats [] (map name_of names.now)))) }
+{
+    let mut seen = IndexSet::new(alloc);
+    for name in names {
+        if !seen.insert(name.text.as_bytes())? {
+            least.note(FaultKind::Twice, name.at);
+        }
+    }
+    Ok(())
+}
+
+/// What a name is declared as.
+pub(crate) fn meaning<'a>(names: &Names<'a>, name: &Text) -> Option<Meaning<'a>>
+    ensures { (spec : placed.Spec) → IsTableOf spec names.now.entries → option_map meaning_of result ≡ declared spec name.now }
+{
+    let declared = names.get(name.as_bytes())?;
+    Some(declared.meaning)
+}
+
+/// Where a name stands in the table.
+pub(crate) fn position(names: &Names, name: &Text) -> Option<usize>
+    ensures found { IfSome result (λ i. i < length names.now.entries) }
+    ensures name { IfSome result (λ i. text_at names.now.entries i ≡ name.now) }
+    ensures missing { (spec : placed.Spec) → IsTableOf spec names.now.entries → IfNone result (declared spec name.now ≡ None) }
+{
+    names.get_index_of(name.as_bytes())
+}

@@ -1,0 +1,166 @@
+//! What the names of a specification stand for, by numbers.
+ghost use Rattle.std.specs.Prelude.{◌≡◌, ◌<◌, ◌++◌, [], ◌∷◌, List, false, IfOk, OnOk, length, slice_get, slice_index, option_map, Some};
+ghost use Rattle.std.specs.Option.{option_flatten};
+ghost use Rattle.std.specs.Cmp.Lexicographic.{pointwise};
+ghost use Rattle.std.specs.Map.{lookup};
+ghost use Rattle.std.specs.Prelude.{nat_eq};
+ghost use Rattle.asm_syntax.specs.Placed as placed;
+ghost use Rattle.asm_syntax.specs.Views.{spec_of};
+ghost use Rattle.asm_check.specs.Names as declarations;
+ghost use Rattle.asm_check.specs.Names.{is_among, first_declarations};
+ghost use Rattle.asm_check.specs.NumberTables.{IsPlaced, next_number, IsNumberingOf, text_kept_at};
+ghost use Rattle.asm_check.specs.Shapes.{texts_of};
+ghost use Rattle.asm_check.specs.Tables.{meaning_of, declaration_of, IsTableOf};
+
+use crate::checked::Named;
+use crate::least::Least;
+use crate::meaning::{Declared, Meaning};
+use crate::names::{Names, first_names};
+use asm_syntax::spec::Spec;
+use indexmap::IndexMap;
+use std::alloc::{AllocError, Global};
+
+/// What names stand for, and the names of what has a number.
+#[derive(Drop)]
+pub(crate) struct Numbering {
+    /// All names in the order of their first declarations. A predeclared name has no number.
+    names: IndexMap<Vec<u8>, Option<Named>>,
+    places: Places,
+}
+
+impl Numbering {
+    /// The numbering of what a specification declares first.
+    pub(crate) fn of(alloc: Global, spec: &Spec) -> Result<Numbering, AllocError>
+        ensures { IfOk result (IsNumberingOf (first_declarations (spec_of spec.now))) }
+    {
+        let names = first_names(alloc, spec, &mut Least::new())?;
+        Numbering::of_table(alloc, &names)
+    }
+
+    fn of_table(alloc: Global, names: &Names) -> Result<Numbering, AllocError>
+        ensures { IfOk result (λ n. (spec : placed.Spec) → IsTableOf spec names.now.entries → IsNumberingOf (first_declarations spec) n) }
+    {
+        let mut numbering = Numbering::new(alloc);
+        for i in 0..names.len() {
+            let (name, declared) = entry_at(names, i);
+            numbering.add(alloc, name, declared.meaning)?;
+        }
+        Ok(numbering)
+    }
+
+    fn new(alloc: Global) -> Numbering
+        ensures { IsNumberingOf [] result }
+    {
+        Numbering {
+            names: IndexMap::new(alloc),
+            places: Places::new(alloc),
+        }
+    }
+
+    /// One more declaration.
+    fn add(&mut self, alloc: Global, name: &[u8], meaning: Meaning) -> Result<(), AllocError>
+        ensures { OnOk result ((ds : List declarations.Declaration) (d : declarations.Declaration) → d.name.text ≡ name.now → d.meaning ≡ meaning_of meaning.entry
+            → is_among (texts_of ds) name.now ≡ false → IsNumberingOf ds self.old → IsNumberingOf (ds ++ d ∷ []) self.new) }
+    {
+        let number = self.places.add(meaning, self.names.len())?;
+        self.names.insert(name.to_vec(alloc)?, number)?;
+        Ok(())
+    }
+
+    /// What a name stands for, if it has a number.
+    pub(crate) fn named(&self, name: &[u8]) -> Option<Named>
+        ensures { result ≡ option_flatten (lookup (λ key. pointwise nat_eq name.now key.items) self.now.names.entries) }
+    {
+        *self.names.get(name)?
+    }
+
+    /// The name of the function with this number.
+    pub(crate) fn function_name(&self, f: usize) -> &[u8]
+        requires number { f < length self.now.places.functions.items }
+        requires place { slice_index self.now.places.functions.items f < length self.now.names.entries }
+        ensures { text_kept_at self.now (slice_index self.now.places.functions.items f) ≡ Some result.now }
+    {
+        self.name_at(self.places.functions[f])
+    }
+
+    /// The name of the element with this number.
+    pub(crate) fn element_name(&self, e: usize) -> &[u8]
+        requires number { e < length self.now.places.elements.items }
+        requires place { slice_index self.now.places.elements.items e < length self.now.names.entries }
+        ensures { text_kept_at self.now (slice_index self.now.places.elements.items e) ≡ Some result.now }
+    {
+        self.name_at(self.places.elements[e])
+    }
+
+    fn name_at(&self, place: usize) -> &[u8]
+        requires { place < length self.now.names.entries }
+        ensures { text_kept_at self.now place ≡ Some result.now }
+    {
+        let (name, _) = self.names.get_index(place).unwrap();
+        name.as_slice()
+    }
+}
+
+/// The declaration at a place, with its name.
+fn entry_at<'a>(names: &Names<'a>, i: usize) -> (&'a [u8], Declared<'a>)
+    requires { i < length names.now.entries }
+    ensures { option_map declaration_of (slice_get names.now.entries i) ≡ Some (declaration_of result) }
+{
+    let (name, declared) = names.get_index(i).unwrap();
+    (*name, *declared)
+}
+
+/// By number, where a declaration stands among all of them.
+#[derive(Drop)]
+pub(crate) struct Places {
+    universes: Vec<usize>,
+    elements: Vec<usize>,
+    functions: Vec<usize>,
+    derived: Vec<usize>,
+    rules: Vec<usize>,
+}
+
+impl Places {
+    fn new(alloc: Global) -> Places
+        ensures universes { result.universes.items ≡ [] }
+        ensures elements { result.elements.items ≡ [] }
+        ensures functions { result.functions.items ≡ [] }
+        ensures derived { result.derived.items ≡ [] }
+        ensures rules { result.rules.items ≡ [] }
+    {
+        Places {
+            universes: Vec::new(alloc),
+            elements: Vec::new(alloc),
+            functions: Vec::new(alloc),
+            derived: Vec::new(alloc),
+            rules: Vec::new(alloc),
+        }
+    }
+
+    /// One more declaration, which stands at this place. The answer is its number.
+    fn add(&mut self, meaning: Meaning, place: usize) -> Result<Option<Named>, AllocError>
+        ensures number { IfOk result (λ r. r ≡ next_number self.old (meaning_of meaning.entry)) }
+        ensures placed { OnOk result (IsPlaced self.old place (meaning_of meaning.entry) self.new) }
+    {
+        match meaning {
+            Meaning::Predeclared => Ok(None),
+            Meaning::Range { .. } => Ok(Some(Named::Universe(push(&mut self.universes, place)?))),
+            Meaning::Enumeration(_) => Ok(Some(Named::Universe(push(&mut self.universes, place)?))),
+            Meaning::Element(_) => Ok(Some(Named::Element(push(&mut self.elements, place)?))),
+            Meaning::Controlled(_) => Ok(Some(Named::Function(push(&mut self.functions, place)?))),
+            Meaning::Static(_) => Ok(Some(Named::Function(push(&mut self.functions, place)?))),
+            Meaning::Derived(_, _) => Ok(Some(Named::Derived(push(&mut self.derived, place)?))),
+            Meaning::Procedure(_, _) => Ok(Some(Named::Called(push(&mut self.rules, place)?))),
+        }
+    }
+}
+
+/// Puts a place behind the others, and answers its number.
+fn push(places: &mut Vec<usize>, place: usize) -> Result<usize, AllocError>
+    ensures number { IfOk result (λ n. n ≡ length places.old.items) }
+    ensures items { OnOk result (places.new.items ≡ places.old.items ++ place ∷ []) }
+{
+    let number = places.len();
+    places.push(place)?;
+    Ok(number)
+}

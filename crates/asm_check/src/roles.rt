@@ -1,0 +1,91 @@
+//! What a name may be declared as where it is used.
+ghost use Rattle.std.specs.Prelude.{◌≡◌, false, option_map, if◌then◌else◌};
+ghost use Rattle.asm_check.specs.Names as names;
+ghost use Rattle.asm_check.specs.Tables.{meaning_of};
+ghost use Rattle.asm_check.specs.UseViews.{role_of};
+ghost use Rattle.asm_check.specs.Ways.{is_call, is_use};
+
+use crate::meaning::Meaning;
+use crate::uses::Role;
+
+/// Whether a name that is declared so can stand in this role.
+pub(crate) fn is_known(role: Role, is_bound: bool, meaning: Option<Meaning>) -> bool
+    ensures { result ≡ names.is_known (role_of role) is_bound (option_map meaning_of meaning.entry) }
+{
+    match role {
+        Role::InTerm => is_bound || has_value(meaning),
+        Role::AsTarget => is_bound || meaning.is_some(),
+        Role::AsCalled => matches!(meaning, Some(Meaning::Procedure(_, _))),
+        Role::AsUniverse => is_universe(meaning),
+        Role::AsCodomain => matches!(meaning, Some(Meaning::Predeclared)) || is_universe(meaning),
+        Role::AsElement => matches!(meaning, Some(Meaning::Element(_))),
+    }
+}
+
+/// Whether it stands for a value, or for one at each list of arguments.
+fn has_value(meaning: Option<Meaning>) -> bool
+    ensures { result ≡ names.is_known names.InTerm false (option_map meaning_of meaning.entry) }
+{
+    matches!(
+        meaning,
+        Some(
+            Meaning::Element(_)
+                | Meaning::Controlled(_)
+                | Meaning::Static(_)
+                | Meaning::Derived(_, _)
+        )
+    )
+}
+
+/// Whether it has elements to go through.
+fn is_universe(meaning: Option<Meaning>) -> bool
+    ensures { result ≡ names.is_known names.AsUniverse false (option_map meaning_of meaning.entry) }
+{
+    matches!(
+        meaning,
+        Some(Meaning::Range { .. } | Meaning::Enumeration(_))
+    )
+}
+
+/// How many arguments a name that is declared so has in this role, if they are looked at.
+pub(crate) fn arguments_of(role: Role, is_bound: bool, meaning: Option<Meaning>) -> Option<usize>
+    ensures { result ≡ names.arguments_of (role_of role) is_bound (option_map meaning_of meaning.entry) }
+{
+    match role {
+        Role::InTerm if is_bound => Some(0),
+        Role::InTerm => match meaning {
+            Some(Meaning::Element(_)) => Some(0),
+            Some(Meaning::Controlled(domain)) => Some(domain.len()),
+            Some(Meaning::Static(domain)) => Some(domain.len()),
+            Some(Meaning::Derived(parameters, _)) => Some(parameters.len()),
+            _ => None,
+        },
+        Role::AsTarget => match meaning {
+            Some(Meaning::Controlled(domain)) if !is_bound => Some(domain.len()),
+            _ => None,
+        },
+        Role::AsCalled => match meaning {
+            Some(Meaning::Procedure(parameters, _)) => Some(parameters.len()),
+            _ => None,
+        },
+        _ => None,
+    }
+}
+
+/// Whether a name that is declared so is a controlled function, with no binder around it.
+pub(crate) fn is_assignable(is_bound: bool, meaning: Option<Meaning>) -> bool
+    ensures { result ≡ names.is_assignable is_bound (option_map meaning_of meaning.entry) }
+{
+    !is_bound && matches!(meaning, Some(Meaning::Controlled(_)))
+}
+
+/// Whether a use, in the body of a rule or else of a derived function, of a name that is declared so is a step.
+pub(crate) fn is_step(in_rule: bool, role: Role, is_bound: bool, meaning: Option<Meaning>) -> bool
+    ensures { result ≡ (if in_rule then is_call (role_of role) (option_map meaning_of meaning.entry) else is_use (role_of role) is_bound (option_map meaning_of meaning.entry)) }
+{
+    match role {
+        Role::AsCalled => in_rule && matches!(meaning, Some(Meaning::Procedure(_, _))),
+        Role::InTerm => !in_rule && !is_bound && matches!(meaning, Some(Meaning::Derived(_, _))),
+        _ => false,
+    }
+}

@@ -1,0 +1,13 @@
+//! Tests of the public functions of the crates below.
+#![tactic(auto)]
+
+#[cfg(test)]
+mod checking;
+#[cfg(test)]
+mod reader;
+#[cfg(test)]
+mod state;
+#[cfg(test)]
+mod syntax;
+#[cfg(test)]
+mod updates;

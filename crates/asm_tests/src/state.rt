@@ -1,0 +1,121 @@
+//! Values, universes and signatures: codes, positions, limits, locations by number, and the contents and values at the beginning.
+ghost use Rattle.std.specs.Prelude.{◌≡◌, IfOk};
+
+use asm_state::arguments::Arguments;
+use asm_state::domain::Domain;
+use asm_state::element::Element;
+use asm_state::entries::Entries;
+use asm_state::function::{Function, Kind, Table};
+use asm_state::limits::fits;
+use asm_state::number::Number;
+use asm_state::place::Place;
+use asm_state::signature::Signature;
+use asm_state::universe::Universe;
+use asm_state::value::Value;
+use std::alloc::{AllocError, Global};
+use std::test::Fail;
+
+mod contents;
+mod limits;
+mod numbers;
+mod universes;
+mod values;
+
+/// A list of arguments with the value that a table gives it.
+type Row<'a> = (&'a [Value], Value);
+
+fn number(value: u16) -> Value {
+    Value::Number(Number {
+        value: i64::from(value),
+    })
+}
+
+fn element(index: u16) -> Value {
+    Value::Element(Element {
+        index: u32::from(index),
+    })
+}
+
+fn table_of(alloc: Global, rows: &[Row]) -> Result<Table, AllocError> {
+    let mut entries = Vec::new(alloc);
+    for (arguments, value) in rows {
+        entries.push((Arguments::new(arguments.to_vec(alloc)?), *value))?;
+    }
+    Ok(Table::Entries(Entries::new(entries)))
+}
+
+fn function_of(
+    alloc: Global,
+    kind: Kind,
+    domain: &[usize],
+    table: Table,
+) -> Result<Function, AllocError> {
+    Ok(Function {
+        kind,
+        domain: Domain::new(domain.to_vec(alloc)?),
+        table,
+    })
+}
+
+/// The signature of these functions over these universes, if it fits.
+fn signature_of(
+    alloc: Global,
+    universes: Vec<Universe>,
+    functions: Vec<Function>,
+) -> Result<Signature, Fail>
+    ensures { IfOk result (λ s. s ≡ record { universes = universes.items; functions = functions.items }) }
+{
+    if !fits(&universes, &functions) {
+        return Err(Fail::new("the signature doesn't fit"));
+    }
+    Ok(Signature::build(alloc, universes, functions)?)
+}
+
+/// The number of a location, if its function is a controlled one.
+fn number_of(signature: &Signature, f: usize, arguments: &[Value]) -> Option<usize> {
+    if f < signature.functions() && signature.function(f).kind == Kind::Controlled {
+        Some(signature.number_of(f, arguments))
+    } else {
+        None
+    }
+}
+
+/// The value of a function for arguments, if it is a static one.
+fn given(signature: &Signature, f: usize, arguments: &[Value]) -> Option<Value> {
+    if f < signature.functions() && signature.function(f).kind == Kind::Static {
+        Some(signature.given(f, arguments))
+    } else {
+        None
+    }
+}
+
+/// Whether the location with a number is that of a function with these arguments.
+fn is_proper(
+    alloc: Global,
+    signature: &Signature,
+    n: usize,
+    f: usize,
+    arguments: &[Value],
+) -> Result<bool, AllocError> {
+    if n >= signature.count() {
+        return Ok(false);
+    }
+    match signature.location(alloc, n)? {
+        Place::Proper {
+            function,
+            arguments: found,
+        } => Ok(function == f && found.as_slice() == arguments),
+        Place::Stray { .. } => Ok(false),
+    }
+}
+
+/// Whether the location with a number is the stray one of a function.
+fn is_stray(alloc: Global, signature: &Signature, n: usize, f: usize) -> Result<bool, AllocError> {
+    if n >= signature.count() {
+        return Ok(false);
+    }
+    match signature.location(alloc, n)? {
+        Place::Proper { .. } => Ok(false),
+        Place::Stray { function } => Ok(function == f && signature.stray(n) == Some(f)),
+    }
+}

@@ -1,0 +1,37 @@
+//! Codes of values.
+use asm_state::element::{ELEMENTS, Element};
+use asm_state::number::{LARGEST, Number};
+use asm_state::value::Value;
+
+#[test]
+fn code_edges(rt: HostRuntime) {
+    let cases = [
+        (Value::Undef, 1),
+        (Value::Truth(false), 2),
+        (Value::Truth(true), 3),
+        (Value::Number(Number { value: -LARGEST }), 4),
+        (Value::Number(Number { value: 0 }), 1_000_000_000_000_004),
+        (
+            Value::Number(Number { value: LARGEST }),
+            2_000_000_000_000_004,
+        ),
+        (Value::Element(Element { index: 0 }), 2_000_000_000_000_005),
+        (
+            Value::Element(Element {
+                index: ELEMENTS - 1,
+            }),
+            2_000_000_000_262_148,
+        ),
+    ];
+    for (value, code) in cases {
+        assert_eq!(rt; value.code(), code);
+        assert!(rt; Value::from_code(code) == Some(value));
+    }
+}
+
+#[test]
+fn no_value_has_a_code_outside(rt: HostRuntime) {
+    for code in [0, 2_000_000_000_262_149, u64::MAX] {
+        assert!(rt; Value::from_code(code) == None);
+    }
+}

@@ -1,0 +1,88 @@
+//! Tokens of texts, and faults of their bytes.
+use asm_syntax::{Kind, LexError, Refused, Symbol, Token, Word, tokens};
+use std::alloc::Global;
+use std::test::Fail;
+
+/// Whether the text has just these tokens.
+fn gives(alloc: Global, text: &[u8], wanted: &[Token]) -> bool {
+    match tokens(alloc, text) {
+        Ok(found) => found.as_slice() == wanted,
+        Err(_) => false,
+    }
+}
+
+/// Whether the text has this fault.
+fn fails(alloc: Global, text: &[u8], wanted: LexError) -> bool {
+    match tokens(alloc, text) {
+        Err(Refused::Named(fault)) => fault == wanted,
+        _ => false,
+    }
+}
+
+fn token(kind: Kind, start: usize, end: usize) -> Token {
+    Token { kind, start, end }
+}
+
+#[test]
+fn longest_tokens(rt: HostRuntime) -> Result<(), Fail> {
+    let alloc = rt.alloc();
+    let dots = Kind::Symbol(Symbol::Dots);
+    let range = [
+        token(Kind::Number(0), 0, 1),
+        token(dots, 1, 3),
+        token(Kind::Number(3), 3, 4),
+    ];
+    assert!(rt; gives(alloc, b"0..3", &range));
+    let arrow = Kind::Symbol(Symbol::LeftArrow);
+    let less = [
+        token(Kind::Name, 0, 1),
+        token(arrow, 1, 3),
+        token(Kind::Number(1), 3, 4),
+    ];
+    assert!(rt; gives(alloc, b"a<-1", &less));
+    let spaced = [
+        token(Kind::Name, 0, 1),
+        token(Kind::Symbol(Symbol::Less), 2, 3),
+        token(Kind::Symbol(Symbol::Minus), 4, 5),
+    ];
+    assert!(rt; gives(alloc, b"a < -", &spaced));
+    let words = [
+        token(Kind::Word(Word::CoreAsm), 0, 7),
+        token(Kind::Name, 8, 15),
+        token(Kind::Name, 16, 18),
+    ];
+    assert!(rt; !gives(alloc, b"CoreASM coreASM in", &words[..2]));
+    assert!(rt; gives(alloc, b"CoreASM coreASM i_ // end", &words));
+    Ok(())
+}
+
+#[test]
+fn comments(rt: HostRuntime) -> Result<(), Fail> {
+    let alloc = rt.alloc();
+    assert!(rt; gives(alloc, b" \t\r\n// x\n/* $ /* **/", &[]));
+    assert!(rt; gives(alloc, b"/**/x", &[token(Kind::Name, 4, 5)]));
+    assert!(rt; fails(alloc, b"x /*/ y", LexError::OpenComment { at: 2 }));
+    assert!(rt; fails(alloc, b"CoreASM T /*", LexError::OpenComment { at: 10 }));
+    Ok(())
+}
+
+#[test]
+fn faults(rt: HostRuntime) -> Result<(), Fail> {
+    let alloc = rt.alloc();
+    assert!(rt; fails(alloc, b"CoreASM T$", LexError::BadByte { at: 9 }));
+    assert!(rt; fails(alloc, b"a / b", LexError::BadByte { at: 2 }));
+    assert!(rt; fails(alloc, b"a.", LexError::BadByte { at: 1 }));
+    assert!(rt; fails(alloc, b"!", LexError::BadByte { at: 0 }));
+    assert!(rt; fails(alloc, b"x 12_ $", LexError::BadNumber { at: 2 }));
+    assert!(rt; fails(alloc, b"1000000000000001", LexError::BadNumber { at: 0 }));
+    assert!(rt;
+        fails(
+            alloc,
+            b"100000000000000000000000000000000",
+            LexError::BadNumber { at: 0 }
+        )
+    );
+    let greatest = [token(Kind::Number(1_000_000_000_000_000), 0, 18)];
+    assert!(rt; gives(alloc, b"001000000000000000", &greatest));
+    Ok(())
+}
