@@ -48,8 +48,8 @@ fn numbers_lead_to_names_and_bodies(rt: HostRuntime) -> Result<(), Fail> {
     ) else {
         return Err(Fail::from("other kinds of names"));
     };
-    assert!(rt; checked.function_name(g) == b"g");
-    assert!(rt; checked.element_name(b) == b"b");
+    assert!(rt; checked.function_name(g) == b"g".as_slice());
+    assert!(rt; checked.element_name(b) == b"b".as_slice());
     let (Some(Named::Called(r)), Some(Named::Derived(d))) = (checked.named("r"), checked.named("d"))
     else {
         return Err(Fail::from("other kinds of bodies"));
