@@ -21,12 +21,7 @@ pub fn wanted(alloc: Global, answer: &str, mark: Option<usize>) -> Answer {
 pub fn found(alloc: Global, wanted: &str, text: &[u8]) -> Answer {
     let spec = match read(alloc, text) {
         Ok(spec) => spec,
-        Err(Refused::Named(reason)) => return refusal(
-            alloc,
-            "read",
-            u32::from(reason.number()),
-            reason.at(),
-        ),
+        Err(Refused::Named(reason)) => return refusal(alloc, "read", reason.number(), reason.at()),
         Err(Refused::Memory) => return Err(AllocError),
     };
     let (kind, _) = wanted.split_once(' ').unwrap_or((wanted, ""));
@@ -51,7 +46,7 @@ fn checked(alloc: Global, spec: Spec) -> Answer {
 }
 
 /// A refusal in the words of this step.
-fn refusal(alloc: Global, step: &str, number: u32, place: Option<usize>) -> Answer {
+fn refusal(alloc: Global, step: &str, number: u8, place: Option<usize>) -> Answer {
     match place {
         Some(at) => format!(in alloc; "{step} {number} at {at}"),
         None => format!(in alloc; "{step} {number}"),
@@ -66,7 +61,7 @@ fn beginnings(alloc: Global, text: &[u8]) -> Answer {
             Ok(_) => {}
             Err(Refused::Named(reason)) => {
                 if !matches!(reason.number(), 2 | 3 | 5 | 6) {
-                    return refusal(alloc, "beginning", u32::from(reason.number()), reason.at());
+                    return refusal(alloc, "beginning", reason.number(), reason.at());
                 }
             }
             Err(Refused::Memory) => return Err(AllocError),

@@ -4,9 +4,9 @@ use Rattle.std.specs.Prelude.{find, option_map}
 use Rattle.asm_syntax.specs.Placed.{Spec}
 use Rattle.asm_check.specs.Names.{Text, Declaration, is_text, is_among, declarations, first_of_each, first_declarations, declared}
 use Rattle.asm_check.specs.Tables.{Entry, meaning_of, declaration_of, IsTableOf, text_of_entry, text_at}
-use Rattle.asm_check.proofs.Firsts.{first_laws}
-use Rattle.asm_check.proofs.Declared.{same_text}
-use Rattle.asm_check.proofs.Lookups.{is_of, text_itself}
+use Rattle.asm_check.proofs.Firsts.{first_stands}
+use Rattle.asm_check.proofs.Declared.{same_text, text_itself}
+use Rattle.asm_check.proofs.Lookups.{is_of}
 
 abbrev pub texts : List Declaration → List Text
 texts ds = map (λ c. c.name.text) ds
@@ -94,7 +94,7 @@ find_at (f ∷ es) apart (suc i) e at = by_text (is_text f.0.now e.0.now) refl (
 -- the entry at a position is what its name is declared as
 pub entry_declared : (spec : Spec) (entries : List Entry) → IsTableOf spec entries → (i : ℕ) (e : Entry) → slice_get entries i ≡ Some e → declared spec e.0.now ≡ Some (meaning_of e.1.meaning)
 entry_declared spec entries table i e at =
-    sym (first_laws.look_up spec e.0.now)
+    sym (first_stands spec e.0.now)
     ∙ ap (λ ds. option_map (λ d. d.meaning) (find (is_of e.0.now) ds)) (sym table)
     ∙ ap (option_map (λ d. d.meaning)) (find_at entries (table_apart spec entries table) i e at)
 

@@ -2,20 +2,15 @@
 use Rattle.std.proofs.Common.{◌≡◌, ℕ, suc, ◌+◌, ◌<◌, ◌≤◌, Bool, true, false, cond, not, ◌||◌, List, [], ◌∷◌, ◌++◌, map, length, unwrap_or, flat_map, drop, get_or, drop-cons, drop_of_length-le, append_assoc, Bor, refl, sym, ap, subst, ◌∙◌, arith}
 use Rattle.std.specs.Prelude.{Contains, filter_map, nat_lt, Some, None, Option}
 use Rattle.std.specs.List.{cons_option, list_any, position, position_or_len}
-use Rattle.std.specs.Cmp.{unsigned_Decides}
 use Rattle.std.proofs.lemmas.Bool.{false≢true}
 use Rattle.std.proofs.lemmas.Bool.Decides.{nat_tests}
 use Rattle.std.proofs.lemmas.List.Elements.{All-contains, Contains-append_left, Contains-append_right}
 use Rattle.std.proofs.lemmas.List.Kept.{AllPairs-cons}
-use Rattle.std.proofs.lemmas.Slice.Eq.{slice_eq-Decides}
 use Rattle.asm_state.proofs.Rising.{All-from_contained, AllPairs-none, AllPairs-head, AllPairs-tail}
 use Rattle.asm_check.specs.Names.{Text, is_text, is_among}
 use Rattle.asm_check.specs.Shapes.{AreApart, texts_in, place_among}
 use Rattle.asm_check.proofs.Heights.{here, in_map}
-use Rattle.asm_check.proofs.Declared.{same_text}
-
-pub text_itself : (x : Text) → is_text x x ≡ true
-text_itself x = (slice_eq-Decides unsigned_Decides x x (is_text x x) refl).1 refl
+use Rattle.asm_check.proofs.Declared.{same_text, text_itself}
 
 -- the test says the same the other way round
 pub text_turned : (x y : Text) → is_text x y ≡ is_text y x

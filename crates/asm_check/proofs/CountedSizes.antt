@@ -1,21 +1,19 @@
 -- The sizes that are counted, by names and by positions.
 use Rattle.std.proofs.Common.{◌≡◌, ℕ, zero, suc, ◌+◌, ◌-◌, ◌<◌, ◌≤◌, Bool, true, false, cond, ◌||◌, List, [], ◌∷◌, ◌++◌, map, length, take, drop, Option, Some, None, refl, sym, ap, subst, ◌∙◌, arith}
 use Rattle.std.specs.Prelude.{nat_le, filter, find, slice_get, slice_index, option_map, All}
-use Rattle.std.specs.Cmp.{unsigned_Decides}
 use Rattle.std.specs.Option.{option_map_or}
 use Rattle.std.proofs.lemmas.Bool.{leb-true, true≢false, or_right}
 use Rattle.std.proofs.lemmas.Option.{slice_get-map}
 use Rattle.std.proofs.lemmas.List.{drop_all, append-nil, append_assoc}
 use Rattle.std.proofs.lemmas.List.Elements.{All-nil, All-cons}
-use Rattle.std.proofs.lemmas.Slice.Eq.{slice_eq-Decides}
 use Rattle.asm_syntax.specs.Placed.{Name, Spec}
 use Rattle.asm_check.specs.declared.meaning.Declared.{Declared}
 use Rattle.asm_check.specs.Names.{Text, Declaration, Meaning, declares, is_text, is_among, declarations, first_of_each, first_declarations, declared}
 use Rattle.asm_check.specs.Limits.{is_universe, size_of, counted_size}
 use Rattle.asm_check.specs.Tables.{Entry, IsTableOf, declaration_of, meaning_of, text_of_entry}
 use Rattle.asm_check.specs.Counted.{allowed_size, counted_from, size_with, AreCountedSizes, AreElementCounts}
-use Rattle.asm_check.proofs.Declared.{same_text}
-use Rattle.asm_check.proofs.Firsts.{first_laws}
+use Rattle.asm_check.proofs.Declared.{same_text, text_itself}
+use Rattle.asm_check.proofs.Firsts.{first_stands}
 use Rattle.asm_check.proofs.ElementCounts.{size_with_is}
 use Rattle.asm_check.proofs.TableSteps.{Stands}
 
@@ -91,9 +89,6 @@ is_of x d = is_text d.name.text x
 abbrev Lacks : Text → List Declaration → Type 0
 Lacks x ds = find (is_of x) ds ≡ None
 
-text_is : (x : Text) → is_text x x ≡ true
-text_is x = (slice_eq-Decides unsigned_Decides x x (is_text x x) refl).1 refl
-
 lacks_head : (x : Text) (d : Declaration) (ds : List Declaration) → Lacks x (d ∷ ds) → (is_of x d ≡ false) × Lacks x ds
 lacks_head x d ds h = of (is_of x d) refl
   where
@@ -122,7 +117,7 @@ there_is : (ds : List Declaration) (i : ℕ) (d : Declaration) → slice_get ds 
 there_is [] i d s h = cc
 there_is (c ∷ ds) zero d s h =
     let same : c ≡ d = cc in
-    true≢false (sym (text_is d.name.text) ∙ (ap (λ (z : Declaration). is_of d.name.text z) (sym same) ∙ (lacks_head d.name.text c ds h).0))
+    true≢false (sym (text_itself d.name.text) ∙ (ap (λ (z : Declaration). is_of d.name.text z) (sym same) ∙ (lacks_head d.name.text c ds h).0))
 there_is (c ∷ ds) (suc i) d s h = there_is ds i d s (lacks_head d.name.text c ds h).1
 
 -- each name stands there once
@@ -150,7 +145,7 @@ distinct_firsts seen (d ∷ ds) =
     elim (is_among seen d.name.text) as (λ b. AreDistinct (cond b (first_of_each seen ds) (d ∷ first_of_each (d.name.text ∷ seen) ds))) [
       | true ↦ distinct_firsts seen ds
       | false ↦
-          (lacks_seen (d.name.text ∷ seen) ds d.name.text (ap (λ b. b || is_among seen d.name.text) (text_is d.name.text)), distinct_firsts (d.name.text ∷ seen) ds)
+          (lacks_seen (d.name.text ∷ seen) ds d.name.text (ap (λ b. b || is_among seen d.name.text) (text_itself d.name.text)), distinct_firsts (d.name.text ∷ seen) ds)
     ]
 
 module _ (size : Meaning → ℕ) where
@@ -178,7 +173,7 @@ module _ (size : Meaning → ℕ) where
     where
       of : (b : Bool) → cond b (size d.meaning) 0 ≡ size_among d.name.text (cond b (d ∷ filter is_small (take left (universes_in ds))) (filter is_small (take left (universes_in ds))))
       of true =
-          ap (λ b. option_map_or (λ (c : Declaration). size c.meaning) (cond b (Some d) (find (is_of d.name.text) (filter is_small (take left (universes_in ds))))) 0) (sym (text_is d.name.text))
+          ap (λ b. option_map_or (λ (c : Declaration). size c.meaning) (cond b (Some d) (find (is_of d.name.text) (filter is_small (take left (universes_in ds))))) 0) (sym (text_itself d.name.text))
       of false = sym (missing_size left d.name.text ds h)
 
   past_head : (x : Text) (left : ℕ) (d : Declaration) (ds : List Declaration) → is_of x d ≡ false
@@ -259,7 +254,7 @@ pub counted_none : (spec : Spec) (x : Name) → declared spec x.text ≡ None �
 counted_none spec x h = missing_size (size_of spec) 64 x.text (first_declarations spec) (of (find (is_of x.text) (first_declarations spec)) refl)
   where
     none : option_map (λ d. d.meaning) (find (is_of x.text) (first_declarations spec)) ≡ None
-    none = first_laws.look_up spec x.text ∙ h
+    none = first_stands spec x.text ∙ h
 
     of : (o : Option Declaration) → find (is_of x.text) (first_declarations spec) ≡ o → find (is_of x.text) (first_declarations spec) ≡ None
     of None e = e

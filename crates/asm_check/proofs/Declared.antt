@@ -14,6 +14,9 @@ use Rattle.asm_check.proofs.Heights.{here, there, none_in, head_or_tail}
 pub same_text : (x y : Text) → is_text x y ≡ true → x ≡ y
 same_text x y e = (slice_eq-Decides unsigned_Decides x y true (sym e)).0 refl
 
+pub text_itself : (x : Text) → is_text x x ≡ true
+text_itself x = (slice_eq-Decides unsigned_Decides x x (is_text x x) refl).1 refl
+
 -- the first declaration of a name in a list, with what stands before it
 pub record IsFirst (ds : List Declaration) (f : Text) (m : Meaning) : Type 0 where
   pub before : List Declaration

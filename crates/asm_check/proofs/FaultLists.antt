@@ -18,9 +18,8 @@ use Rattle.asm_check.specs.Faults.{IsRepeated, IsTwice, IsUnknown, IsMiscounted,
 use Rattle.asm_check.specs.FaultLists.{repeats, at_with, twice_faults, miscounts, is_target, faults_of_use, use_faults, unfit_starts, faults_of_inits, init_faults, passes, passes_limit, limit_faults_from, limit_faults, is_bad_entry, bad_entries, entry_faults}
 use Rattle.asm_check.specs.Steps as steps
 use Rattle.asm_check.specs.Steps.{IsStepFault}
-use Rattle.asm_check.proofs.Heights.{here, there, none_in, head_or_tail, in_map}
+use Rattle.asm_check.proofs.Heights.{here, there, none_in, head_or_tail, in_map, split}
 use Rattle.asm_check.proofs.Firsts.{covered, turn}
-use Rattle.asm_check.proofs.Sizes.{split}
 use Rattle.asm_check.proofs.Listed.{IsListed, the_only, from_map, in_flat_map, from_flat_map, in_then, in_else, walk_sound, walk_complete}
 
 at_sound : (number : ℕ) (places : List ℕ) (at n : ℕ) → IsListed (at_with number places) at n → Contains places at × (number ≡ n)

@@ -1,9 +1,9 @@
 -- What a table of the first declarations answers, and how it grows.
 use Rattle.std.proofs.Common.{◌≡◌, Bool, true, false, cond, ◌||◌, List, [], ◌∷◌, ◌++◌, map, Some, refl, sym, ap, subst, ◌∙◌}
 use Rattle.std.specs.Prelude.{find, option_map}
+use Rattle.asm_syntax.specs.Placed.{Spec}
 use Rattle.asm_check.specs.Names.{Text}
 use Rattle.asm_check.specs.Names.{Declaration, is_text, is_among, declarations, first_of_each, first_declarations, declared}
-use Rattle.asm_check.specs.Laws.{FirstLaws}
 use Rattle.asm_check.proofs.Declared.{same_text}
 
 abbrev is_of : Text → Declaration → Bool
@@ -75,9 +75,12 @@ grow_behind (c ∷ ds) seen d =
           ∙ ap (λ b. cond b (c ∷ rest) (c ∷ rest ++ d ∷ [])) (turn (is_among seen d.name.text) (is_text c.name.text d.name.text) (is_among (texts ds) d.name.text))
     ] refl
 
-pub first_laws : FirstLaws
+-- what stands first under a name is what the name stands for
+pub first_stands : (spec : Spec) (x : Text) → option_map (λ d. d.meaning) (find (is_of x) (first_declarations spec)) ≡ declared spec x
 unfolding declared first_declarations
-first_laws = record {
-  look_up = λ spec x. ap (option_map (λ d. d.meaning)) (find_first (declarations spec) [] x refl);
-  grow = λ ds d. grow_behind ds [] d;
-}
+first_stands spec x = ap (option_map (λ d. d.meaning)) (find_first (declarations spec) [] x refl)
+
+-- one declaration more
+pub grown : (ds : List Declaration) (d : Declaration)
+    → first_of_each [] (ds ++ d ∷ []) ≡ cond (is_among (texts ds) d.name.text) (first_of_each [] ds) (first_of_each [] ds ++ d ∷ [])
+grown ds d = grow_behind ds [] d

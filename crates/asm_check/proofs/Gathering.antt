@@ -15,7 +15,7 @@ use Rattle.asm_check.specs.Tables.{Entry, declaration_of, IsTableOf}
 use Rattle.asm_check.specs.Gathering.{IsGathered, Gathers, repeated, predeclares, parameter_faults}
 use Rattle.asm_check.proofs.Apart.{texts}
 use Rattle.asm_check.proofs.Declared.{same_text}
-use Rattle.asm_check.proofs.Firsts.{first_laws}
+use Rattle.asm_check.proofs.Firsts.{grown}
 use Rattle.asm_check.proofs.Lookups.{is_key, text_turned}
 use Rattle.asm_check.proofs.Noted.{noted_after}
 use Rattle.asm_check.proofs.Repeats.{repeated_one}
@@ -76,7 +76,7 @@ module _ (first : Option (ℕ × ℕ)) (ds : List Declaration) (entries : List E
   gathered_again it there =
       let known : is_among (texts ds) text.now ≡ true = sym (known_by ds entries text.now it.table) ∙ there in
       record {
-        table = it.table ∙ sym (first_laws.grow ds one ∙ ap (λ b. cond b (first_of_each [] ds) (first_of_each [] ds ++ one ∷ [])) known);
+        table = it.table ∙ sym (grown ds one ∙ ap (λ b. cond b (first_of_each [] ds) (first_of_each [] ds ++ one ∷ [])) known);
         least = noted_after first found (repeated ds) ((declared.at, 8) ∷ []) it.least ∙ ap (noted first) (sym (noted_one_more true known));
       }
 
@@ -89,7 +89,7 @@ module _ (first : Option (ℕ × ℕ)) (ds : List Declaration) (entries : List E
         table =
             map-append declaration_of entries ((text, declared) ∷ [])
             ∙ ap (λ es. es ++ one ∷ []) it.table
-            ∙ sym (first_laws.grow ds one ∙ ap (λ b. cond b (first_of_each [] ds) (first_of_each [] ds ++ one ∷ [])) new);
+            ∙ sym (grown ds one ∙ ap (λ b. cond b (first_of_each [] ds) (first_of_each [] ds ++ one ∷ [])) new);
         least = noted_after first found (repeated ds) [] it.least ∙ ap (noted first) (sym (noted_one_more false new));
       }
 

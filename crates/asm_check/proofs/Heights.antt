@@ -1,5 +1,5 @@
 -- Where no way is longer than 16 steps, heights are ranks.
-use Rattle.std.proofs.Common.{◌≡◌, ◌⊎◌, ℕ, zero, suc, ◌<◌, ◌≤◌, max, List, [], ◌∷◌, map, sym, subst, arith, inl, inr}
+use Rattle.std.proofs.Common.{◌≡◌, ◌⊎◌, ℕ, zero, suc, ◌<◌, ◌≤◌, max, List, [], ◌∷◌, ◌++◌, map, ap, sym, subst, arith, inl, inr}
 use Rattle.std.specs.Prelude.{Contains}
 use Rattle.std.proofs.lemmas.List.Elements.{Contains-append_left, Contains-append_right, Contains-append_cases, Contains-push, Contains-push_cases}
 use Rattle.std.proofs.lemmas.Bool.{cases_lt}
@@ -20,6 +20,14 @@ head_or_tail x y xs c =
     elim (Contains-append_cases (x ∷ []) xs y c) [
       | inl first ↦ elim (Contains-push_cases [] x y first) [ inl bad ↦ none_in y bad | inr e ↦ inl e ]
       | inr rest ↦ inr rest
+    ]
+
+pub split : {X : Type 0} (xs : List X) (x : X) → Contains xs x → (before after : List X) × (xs ≡ before ++ x ∷ after)
+split [] x c = none_in x c
+split (y ∷ xs) x c =
+    elim (head_or_tail y x xs c) [
+      | inl e ↦ ([], xs, ap (λ z. z ∷ xs) e)
+      | inr rest ↦ let it = split xs x rest in (y ∷ it.0, it.1, ap (λ zs. y ∷ zs) it.2)
     ]
 
 pub in_map : {X Y : Type 0} (f : X → Y) (xs : List X) (x : X) → Contains xs x → Contains (map f xs) (f x)

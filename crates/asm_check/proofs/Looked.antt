@@ -16,7 +16,7 @@ use Rattle.asm_check.specs.Faults.{IsWellFormed, is_known_use, unknown}
 use Rattle.asm_check.specs.Limits.{is_universe, product}
 use Rattle.asm_check.specs.Numbers.{universes_of}
 use Rattle.asm_check.specs.Shapes.{place_among, texts_of}
-use Rattle.asm_check.proofs.Firsts.{first_laws}
+use Rattle.asm_check.proofs.Firsts.{first_stands}
 use Rattle.asm_check.proofs.Heights.{none_in, head_or_tail}
 
 abbrev pub is_named : Text → Declaration → Bool
@@ -59,7 +59,7 @@ find_kept p q (y ∷ xs) x found kept =
 
 -- the first declaration of a name
 pub first_named : (spec : Spec) (x : Text) (m : Meaning) → declared spec x ≡ Some m → (d : Declaration) × (find (is_named x) (first_declarations spec) ≡ Some d) × (d.meaning ≡ m)
-first_named spec x m known = go (find (is_named x) (first_declarations spec)) refl (first_laws.look_up spec x ∙ known)
+first_named spec x m known = go (find (is_named x) (first_declarations spec)) refl (first_stands spec x ∙ known)
   where
     go : (found : Option Declaration) → find (is_named x) (first_declarations spec) ≡ found → option_map (λ (d : Declaration). d.meaning) found ≡ Some m
         → (d : Declaration) × (find (is_named x) (first_declarations spec) ≡ Some d) × (d.meaning ≡ m)

@@ -13,7 +13,7 @@ use Rattle.asm_check.specs.declared.meaning.Declared.{Declared}
 use Rattle.asm_check.specs.Names as names
 use Rattle.asm_check.specs.Names.{Text, Declaration, is_text, is_among, first_declarations, declared}
 use Rattle.asm_check.specs.Tables.{Entry, meaning_of, declaration_of, IsTableOf, text_at}
-use Rattle.asm_check.proofs.Firsts.{first_laws}
+use Rattle.asm_check.proofs.Firsts.{first_stands}
 use Rattle.asm_check.proofs.Declared.{same_text}
 
 abbrev pub is_of : Text → Declaration → Bool
@@ -28,9 +28,6 @@ text_turned x y =
     let d = slice_eq-Decides unsigned_Decides y x (is_text y x) refl in
     one_answer (pointwise nat_eq x y) (is_text y x) (slice_eq-Decides unsigned_Decides x y (pointwise nat_eq x y) refl)
     (λ e. sym (d.0 e), λ e. d.1 (sym e))
-
-pub text_itself : (x : Text) → is_text x x ≡ true
-text_itself x = (slice_eq-Decides unsigned_Decides x x (is_text x x) refl).1 refl
 
 abbrev found_in : Text → List Entry → Option names.Meaning
 found_in x entries = option_map (λ d. d.meaning) (find (is_of x) (map declaration_of entries))
@@ -51,7 +48,7 @@ looked_up (e ∷ es) x =
 pub looked_up_declared : (spec : Spec) (entries : List Entry) (x : Text) → IsTableOf spec entries
     → option_map (λ (d : Declared). meaning_of d.meaning) (lookup (is_key x) entries) ≡ declared spec x
 looked_up_declared spec entries x table =
-    looked_up entries x ∙ ap (λ ds. option_map (λ d. d.meaning) (find (is_of x) ds)) table ∙ first_laws.look_up spec x
+    looked_up entries x ∙ ap (λ ds. option_map (λ d. d.meaning) (find (is_of x) ds)) table ∙ first_stands spec x
 
 -- the same, of what `get` answers
 pub got_declared : (spec : Spec) (entries : List Entry) (x key : Text) (got : Option Declared) → IsTableOf spec entries → key ≡ x

@@ -21,11 +21,11 @@ use Rattle.asm_check.specs.Names.{Text, Declaration, Meaning, is_text, is_among,
 use Rattle.asm_check.specs.Numbers.{is_element, is_table, is_derived, number_in, named_as, named}
 use Rattle.asm_check.specs.NumberTables.{placed_if, IsPlaced, next_number, ArePlacesOf, number_after, numbers_from, like, KeptName, kept, IsNumberingOf, places_like}
 use Rattle.asm_check.specs.Shapes.{texts_of}
-use Rattle.asm_check.proofs.Firsts.{first_laws}
-use Rattle.asm_check.proofs.Lookups.{text_turned, text_itself}
+use Rattle.asm_check.proofs.Firsts.{first_stands, grown}
+use Rattle.asm_check.proofs.Lookups.{text_turned}
 use Rattle.asm_check.specs.Tables.{Entry, declaration_of, IsTableOf}
 use Rattle.asm_check.proofs.Apart.{AreApart, table_apart}
-use Rattle.asm_check.proofs.Declared.{same_text}
+use Rattle.asm_check.proofs.Declared.{same_text, text_itself}
 use Rattle.asm_check.proofs.PlacesWhere.{where_one, where_length}
 
 -- ---- one more declaration
@@ -253,4 +253,4 @@ unfolding named
 found_named spec n x it =
     ap option_flatten (plain_lookup n.names.entries x ∙ ap (lookup (pointwise nat_eq x)) it.names)
     ∙ numbers_named spec [] (first_declarations spec) x refl refl
-    ∙ ap (named_as spec x) (first_laws.look_up spec x)
+    ∙ ap (named_as spec x) (first_stands spec x)

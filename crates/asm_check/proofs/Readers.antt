@@ -27,7 +27,7 @@ use Rattle.asm_check.specs.NumberTables.{AreBodiesOf, is_rule_item, is_derived_i
 use Rattle.asm_check.specs.Shapes.{texts_of}
 use Rattle.asm_check.specs.declared.bodies.Bodies.{Bodies}
 use Rattle.asm_check.proofs.BodyPlaces.{body_meaning, IsBody, rules_counted, derived_counted, rule_at, derived_at}
-use Rattle.asm_check.proofs.Firsts.{first_laws}
+use Rattle.asm_check.proofs.Firsts.{first_stands}
 use Rattle.asm_check.proofs.Fit.{bodies_are_fit}
 use Rattle.asm_check.proofs.Numbered.{is_kept_key, kept_length, found_named}
 use Rattle.asm_check.proofs.PlacesWhere.{nth, where_length}
@@ -147,7 +147,7 @@ start_called spec good x is =
     let start = (bodies_are_fit spec good).start in
     let same : start.name ≡ x = cc in
     let rule = ap (λ (y : Name). declared spec y.text) (sym same) ∙ start.rule in
-    let it = has_number (rules_of spec) x.text (is_there is_rule (first_declarations spec) x.text (names.Procedure [] start.body) (first_laws.look_up spec x.text ∙ rule) refl) in
+    let it = has_number (rules_of spec) x.text (is_there is_rule (first_declarations spec) x.text (names.Procedure [] start.body) (first_stands spec x.text ∙ rule) refl) in
     (it.0, ap (named_as spec x.text) rule ∙ ap (option_map number.Called) it.1)
 
 pub main_is : (spec : Spec) (x : Name) (n : ℕ) → inits spec ≡ x ∷ [] → named spec x.text ≡ Some (number.Called n) → IsMain spec n

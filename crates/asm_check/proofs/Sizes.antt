@@ -10,7 +10,7 @@ use Rattle.asm_check.specs.Limits.{is_universe, is_function, is_controlled, is_s
 use Rattle.asm_check.specs.Faults.{too_many}
 use Rattle.asm_check.specs.Sizes.{total}
 use Rattle.asm_check.specs.Laws.{LimitsHold}
-use Rattle.asm_check.proofs.Heights.{none_in, head_or_tail}
+use Rattle.asm_check.proofs.Heights.{split}
 
 module _ (spec : Spec) (most : ℕ) (is_counted : Meaning → Bool) (adds : Meaning → ℕ) where
   same_total : (done : List Declaration) (d : Declaration) → is_counted d.meaning ≡ false → total is_counted adds (done ++ d ∷ []) ≡ total is_counted adds done
@@ -33,14 +33,6 @@ module _ (spec : Spec) (most : ℕ) (is_counted : Meaning → Bool) (adds : Mean
       next : (b : Bool) → is_counted d.meaning ≡ b → total is_counted adds (done ++ d ∷ []) ≤ most
       next true e = elim (cases_lt most (total is_counted adds (done ++ d ∷ []))) [ inl above ↦ absurd (h done rest d refl (e, above)) | inr below ↦ below ]
       next false e = subst (λ n. n ≤ most) (sym (same_total done d e)) low
-
-pub split : (ds : List Declaration) (d : Declaration) → Contains ds d → (before after : List Declaration) × (ds ≡ before ++ d ∷ after)
-split [] d c = none_in d c
-split (x ∷ xs) d c =
-    elim (head_or_tail x d xs c) [
-      | inl e ↦ ([], xs, ap (λ z. z ∷ xs) e)
-      | inr rest ↦ let it = split xs d rest in (x ∷ it.0, it.1, ap (λ zs. x ∷ zs) it.2)
-    ]
 
 pub limits_hold : LimitsHold
 limits_hold spec good = record {

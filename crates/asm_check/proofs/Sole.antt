@@ -1,5 +1,5 @@
 -- In a well-formed specification no name is declared twice, so that all declarations count.
-use Rattle.std.proofs.Common.{◌≡◌, Bool, true, false, cond, ◌||◌, List, [], ◌∷◌, ◌++◌, map, AllPairs, refl, sym, ap, ◌∙◌, inl, inr}
+use Rattle.std.proofs.Common.{◌≡◌, Bool, true, false, cond, ◌||◌, List, [], ◌∷◌, ◌++◌, map, AllPairs, refl, sym, ap, ◌∙◌}
 use Rattle.std.specs.Prelude.{Contains, filter}
 use Rattle.std.proofs.lemmas.Bool.{false≢true}
 use Rattle.std.proofs.lemmas.List.{map-append}
@@ -10,19 +10,11 @@ use Rattle.asm_syntax.specs.Placed.{Spec}
 use Rattle.asm_check.specs.Names.{Text, Declaration, Meaning, Predeclared, predeclared_names, declares, is_text, is_among, text_of, predeclared, declarations_from, declarations, first_of_each, first_declarations}
 use Rattle.asm_check.specs.Faults.{IsWellFormed, IsRepeated, parameters_of, twice}
 use Rattle.asm_check.specs.Shapes.{AreApart, texts_of}
-use Rattle.asm_check.proofs.Heights.{here, there, none_in, head_or_tail}
+use Rattle.asm_check.proofs.Heights.{here, there, split}
 
 -- two declarations of different names
 abbrev pub IsOther : Declaration → Declaration → Type 0
 IsOther c d = is_text c.name.text d.name.text ≡ false
-
-pub split : {X : Type 0} (xs : List X) (x : X) → Contains xs x → (before after : List X) × (xs ≡ before ++ x ∷ after)
-split [] x c = none_in x c
-split (y ∷ xs) x c =
-    elim (head_or_tail y x xs c) [
-      | inl e ↦ ([], xs, ap (λ z. z ∷ xs) e)
-      | inr rest ↦ let it = split xs x rest in (y ∷ it.0, it.1, ap (λ zs. y ∷ zs) it.2)
-    ]
 
 pub left_false : (a b : Bool) → (a || b) ≡ false → a ≡ false
 left_false true b e = e
@@ -65,12 +57,12 @@ pub apart : (spec : Spec) → IsWellFormed spec → AllPairs IsOther (declaratio
 apart spec good = apart_from (declarations spec) (none_twice spec good)
 
 all_kept : (ds : List Declaration) (seen : List Text) → ((d : Declaration) → Contains ds d → is_among seen d.name.text ≡ false) → AllPairs IsOther ds → first_of_each seen ds ≡ ds
-all_kept [] seen new apart = refl
-all_kept (c ∷ ds) seen new apart =
+all_kept [] seen new others = refl
+all_kept (c ∷ ds) seen new others =
     ap (λ b. cond b (first_of_each seen ds) (c ∷ first_of_each (c.name.text ∷ seen) ds)) (new c (here c ds))
     ∙ ap (λ ds. c ∷ ds) (all_kept ds (c.name.text ∷ seen)
-    (λ d it. ap (λ b. b || is_among seen d.name.text) (All-contains (IsOther c) ds d (AllPairs-head IsOther c ds apart) it) ∙ new d (there c d ds it))
-    (AllPairs-tail IsOther c ds apart))
+    (λ d it. ap (λ b. b || is_among seen d.name.text) (All-contains (IsOther c) ds d (AllPairs-head IsOther c ds others) it) ∙ new d (there c d ds it))
+    (AllPairs-tail IsOther c ds others))
 
 pub all_count : (spec : Spec) → IsWellFormed spec → first_declarations spec ≡ predeclared ++ declarations_from 0 spec.items
 unfolding declarations first_declarations

@@ -35,14 +35,13 @@ use Rattle.asm_check.specs.Faults.{IsWellFormed, is_known_use, same_literal, sam
 use Rattle.asm_check.specs.Limits.{is_universe, is_element_of, size_of}
 use Rattle.asm_check.specs.Numbers.{universes_of, elements_of}
 use Rattle.asm_check.specs.Shapes.{place_among, texts_of, domain_by, universe_values, const_value, entry_by, is_element_before, table_by}
-use Rattle.asm_check.proofs.Declared.{same_text}
+use Rattle.asm_check.proofs.Declared.{same_text, text_itself}
 use Rattle.asm_check.proofs.Domains.{values_of}
 use Rattle.asm_check.proofs.ElementNumbers.{number_in, number_small, element_at}
-use Rattle.asm_check.proofs.ApartTexts.{text_itself}
-use Rattle.asm_check.proofs.Heights.{here, there, none_in, head_or_tail}
+use Rattle.asm_check.proofs.Heights.{here, there, none_in, head_or_tail, split}
 use Rattle.asm_check.proofs.ItemLists.{count_like}
 use Rattle.asm_check.proofs.Looked.{is_named, place_is, at_place, find_kept, first_named, all_known}
-use Rattle.asm_check.proofs.Sole.{split, left_false, right_false}
+use Rattle.asm_check.proofs.Sole.{left_false, right_false}
 
 both : (a b : Bool) → a ≡ true → b ≡ true → (a && b) ≡ true
 both a b e f = ap (λ c. c && b) e ∙ f

@@ -1,13 +1,12 @@
 -- Laws of faults.
-use Rattle.std.specs.Prelude.{◌≡◌, ◌↔◌, ◌≤◌, ℕ, Bool, true, cond, List, [], ◌∷◌, ◌++◌, map, length, slice_get, find, Option, Some, option_map, Contains}
+use Rattle.std.specs.Prelude.{◌≡◌, ◌≤◌, ℕ, List, length, slice_get, Option, Some, Contains}
 use Rattle.asm_state.specs.declared.function.Function as state
 use Rattle.asm_state.specs.Fits.{Fits}
 use Rattle.asm_state.specs.Universe.{element}
 use Rattle.asm_syntax.specs.declared.spec.FunctionKind.{FunctionKind}
 use Rattle.asm_syntax.specs.Placed as tree
 use Rattle.asm_syntax.specs.Placed.{Name, Given, Spec}
-use Rattle.asm_check.specs.Names.{Text, Declaration, declares, function_of, Enumeration, Element, first_of_each, first_declarations, declared, is_text, is_among}
-use Rattle.asm_check.specs.Ways.{LeadsTo, IsSettled, ReachesCycle, IsOnWay, height}
+use Rattle.asm_check.specs.Names.{Declaration, declares, function_of, Enumeration, Element}
 use Rattle.asm_check.specs.Sizes.{IsWithinLimits}
 use Rattle.asm_check.specs.Faults.{IsLeastFault, IsWellFormed}
 use Rattle.asm_check.specs.Ranks.{HasRanks}
@@ -28,37 +27,9 @@ RanksExist = (spec : Spec) → IsWellFormed spec → HasRanks spec
 abbrev pub BodiesAreFit : Type 0
 BodiesAreFit = (spec : Spec) → IsWellFormed spec → IsReady spec
 
--- what a table of the first declarations answers, and how it grows
-pub record FirstLaws : Type 0 where
-  pub look_up : (spec : Spec) (x : Text) → option_map (λ d. d.meaning) (find (λ d. is_text d.name.text x) (first_declarations spec)) ≡ declared spec x
-  pub grow : (ds : List Declaration) (d : Declaration)
-      → first_of_each [] (ds ++ d ∷ [])
-      ≡ cond (is_among (map (λ c. c.name.text) ds) d.name.text) (first_of_each [] ds) (first_of_each [] ds ++ d ∷ [])
-
 -- a well-formed specification passes no limit
 abbrev pub LimitsHold : Type 0
 LimitsHold = (spec : Spec) → IsWellFormed spec → IsWithinLimits spec
-
--- Heights are lengths of ways, and what is marked from a name on is where it leads.
-pub record WayLaws : Type 0 where
-  pub longest : (next : Text → List Text) (n k : ℕ) (f : Text) → k ≤ n → (k ≤ height next n f) ↔ IsOnWay next k f
-  pub one_more : (next : Text → List Text) (f g h : Text) → LeadsTo next f g → Contains (next g) h → LeadsTo next f h
-  pub marked : (next : Text → List Text) (is_marked : Text → Bool) (f : Text)
-      → ((g : Text) → Contains (next f) g → is_marked g ≡ true)
-      → ((g h : Text) → is_marked g ≡ true → Contains (next g) h → is_marked h ≡ true)
-      → (g : Text) → LeadsTo next f g → is_marked g ≡ true
-
--- where each way ends, no cycle is reached
-abbrev pub SettledReachesNone : Type 0
-SettledReachesNone = (next : Text → List Text) (f : Text) → IsSettled next f → ¬ (ReachesCycle next f)
-
--- from a finite set that some step from each member stays in, a cycle is reached
-abbrev pub UnsettledReaches : Type 0
-UnsettledReaches =
-    (next : Text → List Text) (all : List Text) (is_inside : Text → Bool)
-    → ((f : Text) → is_inside f ≡ true → is_among all f ≡ true)
-    → ((f : Text) → is_inside f ≡ true → (g : Text) × Contains (next f) g × (is_inside g ≡ true))
-    → (f : Text) → is_inside f ≡ true → ReachesCycle next f
 
 -- what a well-formed specification declares fits into a signature
 abbrev pub SignatureFits : Type 0

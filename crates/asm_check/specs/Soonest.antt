@@ -1,7 +1,8 @@
 -- The least of some faults, as a search keeps it.
 --     IsSoonest P found     found is the least fault of P, or there is none
 --     sooner                the lesser of two
-use Rattle.std.specs.Prelude.{◌≡◌, ◌⊎◌, ℕ, Bool, cond, ◌&&◌, ◌||◌, nat_eq, nat_lt, nat_le, List, [], ◌∷◌, Option, Some, None}
+--     is_before             whether a fault changes what was found
+use Rattle.std.specs.Prelude.{◌≡◌, ◌⊎◌, ℕ, Bool, true, not, cond, ◌&&◌, ◌||◌, nat_eq, nat_lt, nat_le, List, [], ◌∷◌, Option, Some, None}
 use Rattle.asm_check.specs.Faults.{IsUpTo}
 
 abbrev pub IsSoonest : (ℕ → ℕ → Type 0) → Option (ℕ × ℕ) → Type 0
@@ -15,6 +16,11 @@ abbrev pub sooner : Option (ℕ × ℕ) → Option (ℕ × ℕ) → Option (ℕ 
 sooner None found = found
 sooner (Some f) None = Some f
 sooner (Some f) (Some g) = cond (is_up_to f g) (Some f) (Some g)
+
+-- whether a fault comes before what was found
+abbrev pub is_before : ℕ × ℕ → Option (ℕ × ℕ) → Bool
+is_before f None = true
+is_before f (Some found) = not (is_up_to found f)
 
 -- the least after these faults were met too
 abbrev pub noted : Option (ℕ × ℕ) → List (ℕ × ℕ) → Option (ℕ × ℕ)

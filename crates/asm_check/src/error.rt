@@ -35,8 +35,8 @@ pub struct CheckError {
 
 impl CheckError {
     /// The number by which the fault is known, from 8 to 16.
-    pub fn number(&self) -> u32
-        ensures { result ≡ number_of self.now.kind }
+    pub fn number(self) -> u8
+        ensures { result ≡ number_of self.kind }
     {
         match self.kind {
             FaultKind::Twice => 8,

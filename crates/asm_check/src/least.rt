@@ -1,7 +1,7 @@
 //! The least fault, as a search meets one after another.
 ghost use Rattle.std.specs.Prelude.{◌≡◌, false, None, [], ◌∷◌};
 ghost use Rattle.asm_check.specs.Errors.{number_of, found_of};
-ghost use Rattle.asm_check.specs.Soonest.{noted};
+ghost use Rattle.asm_check.specs.Soonest.{noted, is_before};
 
 use crate::error::{CheckError, FaultKind};
 
@@ -34,7 +34,8 @@ impl Least {
 
     /// Whether a fault of this kind and at this place would change what is found.
     pub(crate) fn is_sooner(&self, kind: FaultKind, at: usize) -> bool
-        ensures { result ≡ false → noted (found_of self.now.found) ((at, number_of kind) ∷ []) ≡ found_of self.now.found }
+        ensures exact { result ≡ is_before (at, number_of kind) (found_of self.now.found) }
+        ensures kept { result ≡ false → noted (found_of self.now.found) ((at, number_of kind) ∷ []) ≡ found_of self.now.found }
     {
         match self.found {
             None => true,

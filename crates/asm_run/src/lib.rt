@@ -18,8 +18,6 @@ pub mod run;
 pub mod sink;
 mod step;
 mod steps;
-#[cfg(test)]
-mod tests;
 mod text;
 pub mod through;
 mod trace;

@@ -6,6 +6,8 @@ mod checking;
 #[cfg(test)]
 mod reader;
 #[cfg(test)]
+mod runs;
+#[cfg(test)]
 mod state;
 #[cfg(test)]
 mod syntax;

@@ -1,20 +1,12 @@
 //! Texts of specifications beyond the first path, a construction each.
 //! Whether a text is read, and has no fault, depends on `read` and `check`, so these tests are of all three.
-use crate::end::End;
-use crate::error::RunError;
-use crate::limits::Limits;
-use crate::run::run;
-use crate::through::Through;
+use super::LIMITS;
+use asm_run::end::End;
+use asm_run::error::RunError;
+use asm_run::run::run;
+use asm_run::through::Through;
 use std::alloc::{AllocError, Global};
 use std::test::Fail;
-
-pub(super) const LIMITS: Limits = Limits {
-    steps: 1,
-    turns: 1000,
-    workers: 1,
-    cut: 64,
-    rounds: 4,
-};
 
 /// Lines behind the first two, with one construction that doesn't run, and what it needs.
 static ITEMS: [(&str, &str); 12] = [

@@ -1,8 +1,8 @@
 //! Texts of specifications with faults, and the first fault of each.
-use super::beyond::LIMITS;
-use crate::error::{CheckError, FaultKind, RunError};
-use crate::run::run;
-use crate::through::Through;
+use super::LIMITS;
+use asm_run::error::{CheckError, FaultKind, RunError};
+use asm_run::run::run;
+use asm_run::through::Through;
 use std::test::Fail;
 
 /// A text, and the fault that stands first in it.
