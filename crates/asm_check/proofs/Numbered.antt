@@ -1,12 +1,11 @@
 -- What the code's numbering of declarations says.
-use Rattle.std.proofs.Common.{◌≡◌, ℕ, zero, suc, ◌+◌, ◌<◌, ◌≤◌, Bool, true, false, cond, not, ◌||◌, nat_eq, nat_lt, List, [], ◌∷◌, ◌++◌, map, length, take, slice_get, Option, Some, None, Vec, Global, refl, sym, ap, subst, ◌∙◌, arith, append_assoc, append-nil, take_all, true≢false}
+use Rattle.std.proofs.Common.{◌≡◌, ℕ, zero, suc, ◌+◌, ◌<◌, ◌≤◌, Bool, true, false, cond, not, ◌||◌, nat_eq, nat_lt, List, [], ◌∷◌, ◌++◌, map, length, take, slice_get, Option, Some, None, refl, sym, ap, subst, ◌∙◌, arith, append_assoc, append-nil, take_all, true≢false}
 use Rattle.std.specs.Prelude.{find, position, option_map}
 use Rattle.std.specs.Cmp.Lexicographic.{pointwise}
 use Rattle.std.specs.List.{list_any, position_or_len}
 use Rattle.std.specs.Map.{lookup}
 use Rattle.std.specs.Option.{option_flatten}
 use Rattle.std.proofs.lemmas.Bool.Decides.{nat_tests}
-use Rattle.std.proofs.lemmas.List.{length-map, map-append}
 use Rattle.std.proofs.lemmas.List.Elements.{filter-append}
 use Rattle.std.proofs.lemmas.Option.{slice_get-map}
 use Rattle.indexmap.specs.IndexMap.{insert_entry}
@@ -19,7 +18,7 @@ use Rattle.asm_check.specs.Limits.{is_universe, is_rule}
 use Rattle.asm_check.specs.Names as names
 use Rattle.asm_check.specs.Names.{Text, Declaration, Meaning, is_text, is_among, first_declarations, declared}
 use Rattle.asm_check.specs.Numbers.{is_element, is_table, is_derived, number_in, named_as, named}
-use Rattle.asm_check.specs.NumberTables.{placed_if, IsPlaced, next_number, ArePlacesOf, number_after, numbers_from, like, KeptName, kept, IsNumberingOf, places_like}
+use Rattle.asm_check.specs.NumberTables.{placed_if, IsPlaced, next_number, ArePlacesOf, number_after, numbers_from, like, IsNumberingOf, places_like}
 use Rattle.asm_check.specs.Shapes.{texts_of}
 use Rattle.asm_check.proofs.Firsts.{first_stands, grown}
 use Rattle.asm_check.proofs.Lookups.{text_turned}
@@ -73,17 +72,10 @@ numbers_length : (before ds : List Declaration) → length (numbers_from before 
 numbers_length before [] = refl
 numbers_length before (d ∷ ds) = ap suc (numbers_length (before ++ d ∷ []) ds)
 
-pub kept_length : (ds : List Declaration) (entries : List KeptName) → map kept entries ≡ numbers_from [] ds → length entries ≡ length ds
-kept_length ds entries e = sym (length-map entries kept) ∙ ap length e ∙ numbers_length [] ds
+pub kept_length : (ds : List Declaration) (entries : List (Text × Option Named)) → entries ≡ numbers_from [] ds → length entries ≡ length ds
+kept_length ds entries e = ap length e ∙ numbers_length [] ds
 
 -- ---- look-ups
-
-abbrev pub is_kept_key : Text → Vec ℕ Global → Bool
-is_kept_key x k = pointwise nat_eq x k.items
-
-plain_lookup : (entries : List KeptName) (x : Text) → lookup (is_kept_key x) entries ≡ lookup (pointwise nat_eq x) (map kept entries)
-plain_lookup [] x = refl
-plain_lookup (e ∷ es) x = ap (cond (is_kept_key x e.0) (Some e.1)) (plain_lookup es x)
 
 none_kept : (before ds : List Declaration) (x : Text) → is_among (texts_of ds) x ≡ false → lookup (pointwise nat_eq x) (numbers_from before ds) ≡ None
 none_kept before [] x new = refl
@@ -99,31 +91,31 @@ none_kept before (d ∷ ds) x new = by_text (is_text d.name.text x) refl (none_k
         ap (λ b. cond b (Some (number_after before d.meaning)) (lookup (pointwise nat_eq x) (numbers_from (before ++ d ∷ []) ds))) (text_turned x d.name.text ∙ e) ∙ others new
 
 -- a name that isn't there yet
-pub not_kept : (ds : List Declaration) (entries : List KeptName) (x : Text) → map kept entries ≡ numbers_from [] ds → is_among (texts_of ds) x ≡ false → lookup (is_kept_key x) entries ≡ None
-not_kept ds entries x are new = plain_lookup entries x ∙ ap (lookup (pointwise nat_eq x)) are ∙ none_kept [] ds x new
+pub not_kept : (ds : List Declaration) (entries : List (Text × Option Named)) (x : Text) → entries ≡ numbers_from [] ds → is_among (texts_of ds) x ≡ false → lookup (pointwise nat_eq x) entries ≡ None
+not_kept ds entries x are new = ap (lookup (pointwise nat_eq x)) are ∙ none_kept [] ds x new
 
-inserted : (entries : List KeptName) (key : Vec ℕ Global) (n : Option Named) → lookup (is_kept_key key.items) entries ≡ None
-    → insert_entry (λ (a b : Vec ℕ Global). pointwise nat_eq a.items b.items) entries key n ≡ entries ++ (key, n) ∷ []
+inserted : (entries : List (Text × Option Named)) (key : Text) (n : Option Named) → lookup (pointwise nat_eq key) entries ≡ None
+    → insert_entry (pointwise nat_eq) entries key n ≡ entries ++ (key, n) ∷ []
 inserted [] key n absent = refl
-inserted (e ∷ es) key n absent = by_key (is_kept_key key.items e.0) absent (inserted es key n)
+inserted (e ∷ es) key n absent = by_key (pointwise nat_eq key e.0) absent (inserted es key n)
   where
-    by_key : (b : Bool) → cond b (Some e.1) (lookup (is_kept_key key.items) es) ≡ None
-        → (lookup (is_kept_key key.items) es ≡ None → insert_entry (λ (a b : Vec ℕ Global). pointwise nat_eq a.items b.items) es key n ≡ es ++ (key, n) ∷ [])
-        → cond b ((e.0, n) ∷ es) (e ∷ insert_entry (λ (a b : Vec ℕ Global). pointwise nat_eq a.items b.items) es key n) ≡ e ∷ (es ++ (key, n) ∷ [])
+    by_key : (b : Bool) → cond b (Some e.1) (lookup (pointwise nat_eq key) es) ≡ None
+        → (lookup (pointwise nat_eq key) es ≡ None → insert_entry (pointwise nat_eq) es key n ≡ es ++ (key, n) ∷ [])
+        → cond b ((e.0, n) ∷ es) (e ∷ insert_entry (pointwise nat_eq) es key n) ≡ e ∷ (es ++ (key, n) ∷ [])
     by_key true there rest = cc
     by_key false absent rest = ap (λ xs. e ∷ xs) (rest absent)
 
 -- one more name, and its place
-pub numbering_grows : (ds : List Declaration) (d : Declaration) (m : Meaning) (old new : Numbering) (places : Places) (key : Vec ℕ Global) (n : ℕ) (number : Option Named)
-    → d.name.text ≡ key.items → d.meaning ≡ m → is_among (texts_of ds) key.items ≡ false → n ≡ length old.names.entries
+pub numbering_grows : (ds : List Declaration) (d : Declaration) (m : Meaning) (old new : Numbering) (places : Places) (key : Text) (n : ℕ) (number : Option Named)
+    → d.name.text ≡ key → d.meaning ≡ m → is_among (texts_of ds) key ≡ false → n ≡ length old.names.entries
     → number ≡ next_number old.places m → IsPlaced old.places n m places
-    → new.names.entries ≡ insert_entry (λ (a b : Vec ℕ Global). pointwise nat_eq a.items b.items) old.names.entries key number → new.places ≡ places
+    → new.names.entries ≡ insert_entry (pointwise nat_eq) old.names.entries key number → new.places ≡ places
     → IsNumberingOf ds old → IsNumberingOf (ds ++ d ∷ []) new
 numbering_grows ds d m old new places key n number text means fresh count is placed put same it = record {
   names =
-      ap (map kept) (put ∙ inserted old.names.entries key number (not_kept ds old.names.entries key.items it.names fresh))
-      ∙ map-append kept old.names.entries ((key, number) ∷ [])
-      ∙ ap (λ es. es ++ (key.items, number) ∷ []) it.names
+      put
+      ∙ inserted old.names.entries key number (not_kept ds old.names.entries key it.names fresh)
+      ∙ ap (λ es. es ++ (key, number) ∷ []) it.names
       ∙ ap (λ t. numbers_from [] ds ++ (t, number) ∷ []) (sym text)
       ∙ ap (λ o. numbers_from [] ds ++ (d.name.text, o) ∷ []) (is ∙ number_is ds old.places it.places m ∙ ap (number_after ds) (sym means))
       ∙ sym (numbers_one [] ds d);
@@ -248,9 +240,9 @@ numbers_named spec before (d ∷ ds) x all new =
     by_text false e rest = rest (still_new before d x new e)
 
 -- what the numbering answers
-pub found_named : (spec : Spec) (n : Numbering) (x : Text) → IsNumberingOf (first_declarations spec) n → option_flatten (lookup (is_kept_key x) n.names.entries) ≡ named spec x
+pub found_named : (spec : Spec) (n : Numbering) (x : Text) → IsNumberingOf (first_declarations spec) n → option_flatten (lookup (pointwise nat_eq x) n.names.entries) ≡ named spec x
 unfolding named
 found_named spec n x it =
-    ap option_flatten (plain_lookup n.names.entries x ∙ ap (lookup (pointwise nat_eq x)) it.names)
+    ap option_flatten (ap (lookup (pointwise nat_eq x)) it.names)
     ∙ numbers_named spec [] (first_declarations spec) x refl refl
     ∙ ap (named_as spec x) (first_stands spec x)

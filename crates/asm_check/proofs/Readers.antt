@@ -1,5 +1,6 @@
 -- What the readers of a specification that is checked answer.
-use Rattle.std.proofs.Common.{◌≡◌, ℕ, zero, suc, ◌+◌, ◌<◌, ◌≤◌, Bool, true, false, cond, not, ◌||◌, nat_lt, List, [], ◌∷◌, ◌++◌, map, length, take, get_or, slice_get, Option, Some, None, refl, sym, ap, subst, ◌∙◌, arith, take_all, true≢false}
+use Rattle.std.proofs.Common.{◌≡◌, ℕ, zero, suc, ◌+◌, ◌<◌, ◌≤◌, Bool, true, false, cond, not, ◌||◌, nat_lt, nat_eq, List, [], ◌∷◌, ◌++◌, map, length, take, get_or, slice_get, Option, Some, None, refl, sym, ap, subst, ◌∙◌, arith, take_all, true≢false}
+use Rattle.std.specs.Cmp.Lexicographic.{pointwise}
 use Rattle.std.specs.Prelude.{filter_map, find, option_map}
 use Rattle.std.specs.Map.{lookup}
 use Rattle.std.specs.Option.{option_flatten, IsSome}
@@ -23,13 +24,13 @@ use Rattle.asm_check.specs.Limits.{is_rule}
 use Rattle.asm_check.specs.Names as names
 use Rattle.asm_check.specs.Names.{Text, Declaration, Meaning, is_text, first_declarations, declared}
 use Rattle.asm_check.specs.Numbers.{is_element, is_table, universes_of, elements_of, functions_of, derived_of, rules_of, number_in, named_as, named, name_at, meaning_at}
-use Rattle.asm_check.specs.NumberTables.{AreBodiesOf, is_rule_item, is_derived_item, IsNumberingOf, IsInRange, IsMain, like, places_like, KeptName, kept_text, kept, numbers_from, text_kept_at}
+use Rattle.asm_check.specs.NumberTables.{AreBodiesOf, is_rule_item, is_derived_item, IsNumberingOf, IsInRange, IsMain, like, places_like, numbers_from, text_kept_at}
 use Rattle.asm_check.specs.Shapes.{texts_of}
 use Rattle.asm_check.specs.declared.bodies.Bodies.{Bodies}
 use Rattle.asm_check.proofs.BodyPlaces.{body_meaning, IsBody, rules_counted, derived_counted, rule_at, derived_at}
 use Rattle.asm_check.proofs.Firsts.{first_stands}
 use Rattle.asm_check.proofs.Fit.{bodies_are_fit}
-use Rattle.asm_check.proofs.Numbered.{is_kept_key, kept_length, found_named}
+use Rattle.asm_check.proofs.Numbered.{kept_length, found_named}
 use Rattle.asm_check.proofs.PlacesWhere.{nth, where_length}
 
 -- ---- numbers are in range
@@ -62,18 +63,14 @@ numbered_texts : (before ds : List Declaration) → map (λ (e : Text × Option 
 numbered_texts before [] = refl
 numbered_texts before (d ∷ ds) = ap (λ ts. d.name.text ∷ ts) (numbered_texts (before ++ d ∷ []) ds)
 
-plain_texts : (entries : List KeptName) → map kept_text entries ≡ map (λ (e : Text × Option Named). e.0) (map kept entries)
-plain_texts [] = refl
-plain_texts (e ∷ es) = ap (λ ts. e.0.items ∷ ts) (plain_texts es)
-
 module _ (spec : Spec) (n : Numbering) (it : IsNumberingOf (first_declarations spec) n) where
   abbrev all : List Declaration
   all = first_declarations spec
 
   text_at_place : (k : ℕ) → text_kept_at n k ≡ option_map (λ (d : Declaration). d.name.text) (slice_get all k)
   text_at_place k =
-      sym (slice_get-map kept_text n.names.entries k)
-      ∙ ap (λ ts. slice_get ts k) (plain_texts n.names.entries ∙ ap (map (λ (e : Text × Option Named). e.0)) it.names ∙ numbered_texts [] all)
+      sym (slice_get-map (λ (e : Text × Option Named). e.0) n.names.entries k)
+      ∙ ap (λ ts. slice_get ts k) (ap (map (λ (e : Text × Option Named). e.0)) it.names ∙ numbered_texts [] all)
       ∙ slice_get-map (λ (d : Declaration). d.name.text) all k
 
   -- the place of a number, and the name there
@@ -247,9 +244,9 @@ module _ (spec : code.Spec) (good : IsWellFormed (spec_of spec)) (bodies : Bodie
 -- ---- the look-up of the starting rule
 
 module _ (spec : Spec) (good : IsWellFormed spec) (n : Numbering) (it : IsNumberingOf (first_declarations spec) n) (x : Name) (start : inits spec ≡ x ∷ [])
-    (key : Text) (is : key ≡ x.text) (found : Option Named) (look_up : found ≡ option_flatten (lookup (is_kept_key key) n.names.entries)) where
+    (found : Option Named) (look_up : found ≡ option_flatten (lookup (pointwise nat_eq x.text) n.names.entries)) where
   answered : found ≡ named spec x.text
-  answered = look_up ∙ found_named spec n key it ∙ ap (named spec) is
+  answered = look_up ∙ found_named spec n x.text it
 
   pub start_found : IsSome found
   start_found = let main = start_called spec good x start in subst IsSome (sym (answered ∙ main.1)) refl

@@ -5,7 +5,6 @@
 --     AreBodiesOf items b         where the rules and the derived functions stand among the items
 --     IsMain spec n               n is the number of the rule that the specification starts with
 use Rattle.std.specs.Prelude.{◌≡◌, ◌<◌, ℕ, suc, Bool, true, false, cond, List, [], ◌∷◌, ◌++◌, map, filter, length, slice_get, Option, Some, None, option_map}
-use Rattle.std.proofs.Common.{Vec, Global}
 use Rattle.asm_syntax.specs.Placed as tree
 use Rattle.asm_syntax.specs.Placed.{Name, Item, Spec}
 use Rattle.asm_check.specs.Names as names
@@ -76,22 +75,13 @@ abbrev pub numbers_from : (before ds : List Declaration) → List (Text × Optio
 numbers_from before [] = []
 numbers_from before (d ∷ ds) = (d.name.text, number_after before d.meaning) ∷ numbers_from (before ++ d ∷ []) ds
 
-abbrev pub KeptName : Type 0
-KeptName = Vec ℕ Global × Option Named
-
-abbrev pub kept_text : KeptName → Text
-kept_text e = e.0.items
-
-abbrev pub kept : KeptName → Text × Option Named
-kept e = (e.0.items, e.1)
-
 pub record IsNumberingOf (ds : List Declaration) (n : Numbering) : Type 0 where
-  pub names : map kept n.names.entries ≡ numbers_from [] ds
+  pub names : n.names.entries ≡ numbers_from [] ds
   pub places : ArePlacesOf ds n.places
 
 -- the name at a place
 abbrev pub text_kept_at : Numbering → ℕ → Option Text
-text_kept_at n k = option_map kept_text (slice_get n.names.entries k)
+text_kept_at n k = option_map (λ (e : Text × Option Named). e.0) (slice_get n.names.entries k)
 
 -- ---- in a specification
 

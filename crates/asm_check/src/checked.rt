@@ -74,19 +74,11 @@ impl Checked {
     }
 
     /// What a name stands for where no binder hides it.
-    pub fn named(&self, name: &str) -> Option<Named>
+    pub fn named(&self, name: &Text) -> Option<Named>
         ensures named { result ≡ named (spec_of self.now.spec) name.now }
         ensures in_range { IsInRange (spec_of self.now.spec) result }
     {
-        self.numbering.named(name.as_bytes())
-    }
-
-    /// The same, of a name of the specification's own.
-    pub fn named_text(&self, name: &Text) -> Option<Named>
-        ensures named { result ≡ named (spec_of self.now.spec) name.now }
-        ensures in_range { IsInRange (spec_of self.now.spec) result }
-    {
-        self.numbering.named(name.as_bytes())
+        self.numbering.named(name)
     }
 
     /// The parameters and the body of the rule with this number.
@@ -152,7 +144,7 @@ fn main_of(spec: &Spec, numbering: &Numbering) -> usize
     ensures { IsMain (spec_of spec.now) result }
 {
     let start = start_of(spec);
-    match numbering.named(start.text.as_bytes()).unwrap() {
+    match numbering.named(&start.text).unwrap() {
         Named::Called(main) => main,
         _ => unreachable!(),
     }

@@ -16,6 +16,7 @@ use crate::checked::Named;
 use crate::least::Least;
 use crate::meaning::{Declared, Meaning};
 use crate::names::{Names, first_names};
+use asm_syntax::name::Text;
 use asm_syntax::spec::Spec;
 use indexmap::IndexMap;
 use std::alloc::{AllocError, Global};
@@ -24,7 +25,7 @@ use std::alloc::{AllocError, Global};
 #[derive(Drop)]
 pub(crate) struct Numbering {
     /// All names in the order of their first declarations. A predeclared name has no number.
-    names: IndexMap<Vec<u8>, Option<Named>>,
+    names: IndexMap<Text, Option<Named>>,
     places: Places,
 }
 
@@ -63,13 +64,13 @@ impl Numbering {
             → is_among (texts_of ds) name.now ≡ false → IsNumberingOf ds self.old → IsNumberingOf (ds ++ d ∷ []) self.new) }
     {
         let number = self.places.add(meaning, self.names.len())?;
-        self.names.insert(name.to_vec(alloc)?, number)?;
+        self.names.insert(Text::new(alloc, name)?, number)?;
         Ok(())
     }
 
     /// What a name stands for, if it has a number.
-    pub(crate) fn named(&self, name: &[u8]) -> Option<Named>
-        ensures { result ≡ option_flatten (lookup (λ key. pointwise nat_eq name.now key.items) self.now.names.entries) }
+    pub(crate) fn named(&self, name: &Text) -> Option<Named>
+        ensures { result ≡ option_flatten (lookup (pointwise nat_eq name.now) self.now.names.entries) }
     {
         *self.names.get(name)?
     }
@@ -97,7 +98,7 @@ impl Numbering {
         ensures { text_kept_at self.now place ≡ Some result.now }
     {
         let (name, _) = self.names.get_index(place).unwrap();
-        name.as_slice()
+        name.as_bytes()
     }
 }
 

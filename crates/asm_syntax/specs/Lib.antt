@@ -8,3 +8,4 @@ pub mod Tokens
 pub mod Fronts
 pub mod Lexing
 pub mod Faults
+pub mod Keys

@@ -12,6 +12,7 @@ pub mod rule;
 pub mod spec;
 mod symbols;
 pub mod term;
+pub mod text;
 pub mod token;
 mod words;
 

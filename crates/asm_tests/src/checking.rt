@@ -1,6 +1,11 @@
 //! What a checked specification answers.
+ghost use Rattle.std.specs.Prelude.{IfOk};
+ghost use Rattle.asm_syntax.specs.Views.{spec_of};
+ghost use Rattle.asm_check.specs.NumberTables.{IsInRange};
+
 use asm_check::{Checked, Named, check};
 use asm_reader::read;
+use asm_syntax::name::Text;
 use asm_syntax::rule::Rule;
 use asm_syntax::term::Term;
 use std::alloc::Global;
@@ -9,6 +14,14 @@ use std::test::Fail;
 const TEXT: &[u8] =
     b"CoreASM T init M enum E = { a, b } universe U = 0 .. 3 function controlled f : U -> E initially a \
 function static g : E * U initially { (b, 3) -> 7 } derived d(x) = x + 1 rule M = r(d(1)) rule r(p) = f(p) := b";
+
+/// What a name of a checked specification stands for.
+fn named(alloc: Global, checked: &Checked, name: &str) -> Result<Option<Named>, Fail>
+    ensures { IfOk result (IsInRange (spec_of checked.now.spec)) }
+{
+    let text = Text::new(alloc, name.as_bytes())?;
+    Ok(checked.named(&text))
+}
 
 fn checked(alloc: Global) -> Result<Checked, Fail> {
     let spec = read(alloc, TEXT)?;
@@ -32,9 +45,9 @@ fn names_stand_for_numbers(rt: HostRuntime) -> Result<(), Fail> {
         ("p", None),
         ("T", None),
     ] {
-        assert!(rt; checked.named(name) == number);
+        assert!(rt; named(rt.alloc(), &checked, name)? == number);
     }
-    assert!(rt; checked.named_text(&checked.spec.name.text) == None);
+    assert!(rt; checked.named(&checked.spec.name.text) == None);
     assert_eq!(rt; checked.main(), 0);
     Ok(())
 }
@@ -43,15 +56,17 @@ fn names_stand_for_numbers(rt: HostRuntime) -> Result<(), Fail> {
 fn numbers_lead_to_names_and_bodies(rt: HostRuntime) -> Result<(), Fail> {
     let checked = checked(rt.alloc())?;
     let (Some(Named::Function(g)), Some(Named::Element(b))) = (
-        checked.named("g"),
-        checked.named("b"),
+        named(rt.alloc(), &checked, "g")?,
+        named(rt.alloc(), &checked, "b")?,
     ) else {
         return Err(Fail::from("other kinds of names"));
     };
     assert!(rt; checked.function_name(g) == b"g".as_slice());
     assert!(rt; checked.element_name(b) == b"b".as_slice());
-    let (Some(Named::Called(r)), Some(Named::Derived(d))) = (checked.named("r"), checked.named("d"))
-    else {
+    let (Some(Named::Called(r)), Some(Named::Derived(d))) = (
+        named(rt.alloc(), &checked, "r")?,
+        named(rt.alloc(), &checked, "d")?,
+    ) else {
         return Err(Fail::from("other kinds of bodies"));
     };
     let (parameters, body) = checked.rule(r);

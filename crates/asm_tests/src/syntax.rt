@@ -1,4 +1,5 @@
 //! Tokens of texts, and faults of their bytes.
+use asm_syntax::name::Text;
 use asm_syntax::{Kind, LexError, Refused, Symbol, Token, Word, tokens};
 use std::alloc::Global;
 use std::test::Fail;
@@ -84,5 +85,20 @@ fn faults(rt: HostRuntime) -> Result<(), Fail> {
     );
     let greatest = [token(Kind::Number(1_000_000_000_000_000), 0, 18)];
     assert!(rt; gives(alloc, b"001000000000000000", &greatest));
+    Ok(())
+}
+
+#[test]
+fn texts_are_compared_by_their_bytes(rt: HostRuntime) -> Result<(), Fail> {
+    let text = Text::new(rt.alloc(), b"temperature")?;
+    let same = text.copy(rt.alloc())?;
+    let other = Text::new(rt.alloc(), b"temperaturf")?;
+    assert!(rt; text.is(&same));
+    assert!(rt; text == same);
+    assert_eq!(rt; text.key(), same.key());
+    assert!(rt; !text.is(&other));
+    assert!(rt; text != other);
+    assert!(rt; text.key() != other.key());
+    assert!(rt; same.as_bytes() == b"temperature".as_slice());
     Ok(())
 }

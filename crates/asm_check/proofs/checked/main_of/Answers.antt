@@ -5,14 +5,14 @@ use Rattle.asm_check.proofs.checked.main_of.Goals as goal
 pub unwrap-requires : goal.unwrap-requires
 unwrap-requires c =
     start_found (spec_of c.args.spec.now) c.requires.good c.args.numbering.now c.requires.numbered (name_of c.start_of-start.result.now) c.start_of-start.ensures
-    c.as_bytes.result.now c.as_bytes.ensures c.named.result c.named.ensures
+    c.named.result c.named.ensures
 
 pub unreachable-requires : goal.unreachable-requires
 unreachable-requires c =
     start_other (spec_of c.args.spec.now) c.requires.good c.args.numbering.now c.requires.numbered (name_of c.start_of-start.result.now) c.start_of-start.ensures
-    c.as_bytes.result.now c.as_bytes.ensures c.named.result c.named.ensures c.unwrap.result c.unwrap.ensures c.in_default.not-Called
+    c.named.result c.named.ensures c.unwrap.result c.unwrap.ensures c.in_default.not-Called
 
 pub returns : goal.returns
 returns c =
     start_main (spec_of c.args.spec.now) c.requires.good c.args.numbering.now c.requires.numbered (name_of c.start_of-start.result.now) c.start_of-start.ensures
-    c.as_bytes.result.now c.as_bytes.ensures c.named.result c.named.ensures c.unwrap.result c.in-Called.main c.unwrap.ensures c.in-Called.is
+    c.named.result c.named.ensures c.unwrap.result c.in-Called.main c.unwrap.ensures c.in-Called.is

@@ -1,4 +1,4 @@
-use Rattle.std.proofs.Common.{◌≡◌, refl, sym, ap, ◌∙◌}
+use Rattle.std.proofs.Common.{sym, ap, refl, ◌∙◌}
 use Rattle.asm_check.specs.Names.{is_among}
 use Rattle.asm_check.specs.Shapes.{texts_of}
 use Rattle.asm_check.specs.Tables.{meaning_of}
@@ -7,6 +7,6 @@ use Rattle.asm_check.proofs.numbering.Numbering.add.Goals as goal
 
 pub returns : goal.returns
 returns c = λ ds d text means fresh it.
-    let key : c.in_ok-to_vec.field-0.items ≡ c.args.name.now = c.in_ok-to_vec.ensures.items_if_clones_equal (λ x y e. e) in
-    numbering_grows ds d (meaning_of c.args.meaning) c.args.self.now _ c.add.new.self c.in_ok-to_vec.field-0 c.len.result c.in_ok-number.number
+    let key = c.in_ok-new.ensures in
+    numbering_grows ds d (meaning_of c.args.meaning) c.args.self.now _ c.add.new.self c.in_ok-new.field-0 c.len.result c.in_ok-number.number
     (text ∙ sym key) means (ap (is_among (texts_of ds)) key ∙ fresh) c.len.ensures.len c.in_ok-number.ensures.number c.in_ok-number.ensures.placed c.in_ok-insert.ensures.entries refl it
