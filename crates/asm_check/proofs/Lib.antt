@@ -28,6 +28,7 @@ pub mod ListedDeclarations
 pub mod Looked
 pub mod Lookups
 pub mod Marks
+pub mod NamesNumbered
 pub mod Noted
 pub mod Numbered
 pub mod OneLeast

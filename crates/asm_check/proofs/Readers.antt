@@ -97,6 +97,9 @@ module _ (spec : Spec) (n : Numbering) (it : IsNumberingOf (first_declarations s
   pub element_has_name : (e : ℕ) → e < length (elements_of spec) → HasName n.places.elements.items (elements_of spec) e
   element_has_name = has_name is_element n.places.elements.items it.places.elements
 
+  pub elements_counted : length n.places.elements.items ≡ length (elements_of spec)
+  elements_counted = ap length it.places.elements ∙ where_length (λ (d : Declaration). is_element d.meaning) all
+
 -- ---- the starting rule
 
 is_there : (is_like : Meaning → Bool) (ds : List Declaration) (x : Text) (m : Meaning) → option_map (λ (d : Declaration). d.meaning) (find (λ d. is_text d.name.text x) ds) ≡ Some m → is_like m ≡ true

@@ -1,17 +1,19 @@
 -- Laws of faults.
-use Rattle.std.specs.Prelude.{◌≡◌, ◌≤◌, ℕ, List, length, slice_get, Option, Some, Contains}
+use Rattle.std.specs.Prelude.{◌≡◌, ◌≢◌, ◌≤◌, ℕ, List, length, slice_get, Option, Some, Contains}
 use Rattle.asm_state.specs.declared.function.Function as state
 use Rattle.asm_state.specs.Fits.{Fits}
 use Rattle.asm_state.specs.Universe.{element}
 use Rattle.asm_syntax.specs.declared.spec.FunctionKind.{FunctionKind}
 use Rattle.asm_syntax.specs.Placed as tree
 use Rattle.asm_syntax.specs.Placed.{Name, Given, Spec}
-use Rattle.asm_check.specs.Names.{Declaration, declares, function_of, Enumeration, Element}
+use Rattle.asm_check.specs.Names.{Text, Declaration, Meaning, declares, declared, function_of, Predeclared, Enumeration, Element}
 use Rattle.asm_check.specs.Sizes.{IsWithinLimits}
 use Rattle.asm_check.specs.Faults.{IsLeastFault, IsWellFormed}
 use Rattle.asm_check.specs.Ranks.{HasRanks}
 use Rattle.asm_check.specs.Fit.{IsReady}
-use Rattle.asm_check.specs.Numbers.{universes_of, elements_of, functions_of}
+use Rattle.asm_check.specs.Numbers.{universes_of, elements_of, functions_of, derived_of, rules_of, meaning_at, named}
+use Rattle.asm_check.specs.declared.checked.Named.{Named}
+use Rattle.asm_check.specs.declared.checked.Named.TheVariants as number
 use Rattle.asm_check.specs.Shapes.{universe_values, function_given, shape_of}
 
 -- a specification has at most one least fault
@@ -59,3 +61,20 @@ pub record HasNumbers (spec : Spec) : Type 0 where
 -- the numbers of names are those of the signature
 abbrev pub SignatureNumbers : Type 0
 SignatureNumbers = (spec : Spec) → IsWellFormed spec → HasNumbers spec
+
+-- what has this number among its like
+abbrev pub meaning_numbered : Spec → Named → Option Meaning
+meaning_numbered spec (number.Universe n) = meaning_at (universes_of spec) n
+meaning_numbered spec (number.Element n) = meaning_at (elements_of spec) n
+meaning_numbered spec (number.Function f) = meaning_at (functions_of spec) f
+meaning_numbered spec (number.Derived d) = meaning_at (derived_of spec) d
+meaning_numbered spec (number.Called r) = meaning_at (rules_of spec) r
+
+-- The number of a name leads to what the name is declared as, and each declared name but those of codomains has one.
+pub record HasNumber (spec : Spec) (x : Text) : Type 0 where
+  pub of_number : (n : Named) → named spec x ≡ Some n → meaning_numbered spec n ≡ declared spec x
+  pub of_meaning : (m : Meaning) → declared spec x ≡ Some m → m ≢ Predeclared → (n : Named) × (named spec x ≡ Some n)
+
+-- numbers lead to what names are declared as
+abbrev pub NamesHaveNumbers : Type 0
+NamesHaveNumbers = (spec : Spec) (x : Text) → HasNumber spec x

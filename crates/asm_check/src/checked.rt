@@ -128,6 +128,13 @@ impl Checked {
         self.numbering.function_name(f)
     }
 
+    /// How many elements there are.
+    pub fn elements(&self) -> usize
+        ensures { result ≡ length (elements_of (spec_of self.now.spec)) }
+    {
+        self.numbering.elements()
+    }
+
     /// The name of the element with this number.
     pub fn element_name(&self, e: usize) -> &[u8]
         requires { e < length (elements_of (spec_of self.now.spec)) }

@@ -1,5 +1,5 @@
 //! Laws of faults, and what a specification without faults has.
-ghost use Rattle.asm_check.specs.Laws.{LeastIsOnly, RanksExist, BodiesAreFit, LimitsHold, SignatureFits, SignatureNumbers};
+ghost use Rattle.asm_check.specs.Laws.{LeastIsOnly, RanksExist, BodiesAreFit, LimitsHold, SignatureFits, SignatureNumbers, NamesHaveNumbers};
 
 /// A specification has at most one least fault.
 pub fn least_is_only()
@@ -29,4 +29,9 @@ pub fn signature_fits()
 /// Universes, functions and elements have the numbers in the signature that they have among the declarations.
 pub fn signature_numbers()
     ensures { SignatureNumbers }
+{}
+
+/// The number of a name leads to what the name is declared as.
+pub fn names_have_numbers()
+    ensures { NamesHaveNumbers }
 {}

@@ -84,6 +84,13 @@ impl Numbering {
         self.name_at(self.places.functions[f])
     }
 
+    /// How many elements there are.
+    pub(crate) fn elements(&self) -> usize
+        ensures { result ≡ length self.now.places.elements.items }
+    {
+        self.places.elements.len()
+    }
+
     /// The name of the element with this number.
     pub(crate) fn element_name(&self, e: usize) -> &[u8]
         requires number { e < length self.now.places.elements.items }

@@ -24,6 +24,7 @@ plain_by_cases program turns script step A e = record {
   of_par = λ p Ps. parts_are program turns script step A e p Ps 0;
   of_no_parts = λ p k. refl;
   of_parts = λ p k P Ps. refl;
+  of_if = λ p c P Q. refl;
   of_constant = λ v. refl;
   of_controlled = λ x ts f domain free d. of_declared program A e x ts (Controlled f domain) free d;
   of_not = λ t. refl;

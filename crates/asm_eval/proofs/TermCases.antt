@@ -175,6 +175,11 @@ module _ (program : Program) (A : State) (e : Environment) where
       → value program A e (Named x ts) ≡ named program (inner program) (reading_at program (Some b)) (declared program x) (values program A e ts) A
   of_bound x ts b is = of_name x ts ∙ ap (λ it. named program (inner program) (reading_at program it) (declared program x) (values program A e ts) A) is
 
+  -- a name that isn't bound, whatever it is declared as
+  pub of_unbound : (x : Name) (ts : Terms) → bound_to e x ≡ None
+      → value program A e (Named x ts) ≡ applied program (inner program) (declared program x) (values program A e ts) A
+  of_unbound x ts free = of_name x ts ∙ ap (λ b. named program (inner program) (reading_at program b) (declared program x) (values program A e ts) A) free
+
   pub of_declared : (x : Name) (ts : Terms) (it : Declared) → bound_to e x ≡ None → declared program x ≡ Some it
       → value program A e (Named x ts) ≡ applied program (inner program) (Some it) (values program A e ts) A
   of_declared x ts it free d =

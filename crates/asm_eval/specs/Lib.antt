@@ -11,3 +11,9 @@ pub mod PlainCases
 pub mod Splits
 pub mod Weights
 pub mod Run
+pub mod Environments
+pub mod Seen
+pub mod Declarations
+pub mod Valued
+pub mod PlainRules
+pub mod Formed

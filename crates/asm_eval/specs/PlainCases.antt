@@ -1,7 +1,7 @@
 -- The equations of rules without calls and of terms without derived functions. They hold of any program, whatever its ranks.
 --     does_parts program turns script step A e p k Ps      the outcome of the parts Ps beside each other, from number k on
 --     PlainCases                                           one equation for each form
-use Rattle.std.specs.Prelude.{◌≡◌, ℕ, suc, [], ◌∷◌, Some, None}
+use Rattle.std.specs.Prelude.{◌≡◌, ℕ, suc, cond, [], ◌∷◌, Some, None}
 use Rattle.asm_state.specs.declared.operation.Op.{Op}
 use Rattle.asm_state.specs.declared.operation.Op.TheVariants.{Not, Negate}
 use Rattle.asm_state.specs.declared.value.Value.{Value}
@@ -9,9 +9,9 @@ use Rattle.asm_state.specs.declared.value.Value.TheVariants.{Undef}
 use Rattle.asm_state.specs.Operation.{op}
 use Rattle.asm_state.specs.Location.{State}
 use Rattle.asm_state.specs.Tables.{Domain, location_in}
-use Rattle.asm_syntax.specs.Tree.{Name, Term, Constant, Named, Chain, Not as not_term, Negative, Terms, no_terms, term_then, Links, no_links, link_then, Rule, Skip, Assign, Par, Rules, no_rules, rule_then}
+use Rattle.asm_syntax.specs.Tree.{Name, Term, Constant, Named, Chain, Not as not_term, Negative, Terms, no_terms, term_then, Links, no_links, link_then, Rule, Skip, Assign, Par, If, Rules, no_rules, rule_then}
 use Rattle.asm_eval.specs.Program.{Program, Controlled, declared, Environment, bound_to}
-use Rattle.asm_eval.specs.Value.{value, values, read}
+use Rattle.asm_eval.specs.Value.{value, values, holds, read}
 use Rattle.asm_eval.specs.Yields.{Place, at, Gives, assigned}
 use Rattle.asm_eval.specs.Does.{Script, Outcome, nothing, both, does}
 use Rattle.asm_eval.specs.TermCases.{chain_value}
@@ -32,6 +32,9 @@ pub record PlainCases (program : Program) (turns : ℕ) (script : Script) (step 
   pub of_parts : (p : Place) (k : ℕ) (P : Rule) (Ps : Rules)
       → does_parts program turns script step A e p k (rule_then P Ps)
       ≡ both (does program turns script step A e (at p k) P) (does_parts program turns script step A e p (suc k) Ps)
+  pub of_if : (p : Place) (c : Term) (P Q : Rule)
+      → does program turns script step A e p (If c P Q)
+      ≡ cond (holds program A e (Some c)) (does program turns script step A e (at p 0) P) (does program turns script step A e (at p 1) Q)
   -- terms
   pub of_constant : (v : Value) → value program A e (Constant v) ≡ v
   pub of_controlled : (x : Name) (ts : Terms) (f : ℕ) (domain : Domain) → bound_to e x ≡ None → declared program x ≡ Some (Controlled f domain)

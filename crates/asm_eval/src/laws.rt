@@ -4,6 +4,8 @@ ghost use Rattle.asm_eval.specs.Scripts.{UnrepeatedScript};
 ghost use Rattle.asm_eval.specs.Cases.{ScriptedByCases};
 ghost use Rattle.asm_eval.specs.TermCases.{ValuedByCases};
 ghost use Rattle.asm_eval.specs.PlainCases.{PlainByCases};
+ghost use Rattle.asm_eval.specs.PlainRules.{PlainRulesGive};
+ghost use Rattle.asm_eval.specs.Declarations.{ProgramDeclares};
 ghost use Rattle.asm_eval.specs.Run.{ScriptedRuns, FreeRuns};
 ghost use Rattle.asm_eval.specs.Splits.{BesideLaws, SplitLaws};
 ghost use Rattle.asm_eval.specs.Weights.{TermWeightsFall, CallWeightsFall};
@@ -36,6 +38,16 @@ pub fn valued_by_cases()
 /// Rules without calls and terms without derived functions have one case for each form, whatever the ranks.
 pub fn plain_by_cases()
     ensures { PlainByCases }
+{}
+
+/// Rules that only assign, test and stand beside each other give one set, whatever the choices.
+pub fn plain_rules_give()
+    ensures { PlainRulesGive }
+{}
+
+/// A program declares each name as what the name's number stands for.
+pub fn program_declares()
+    ensures { ProgramDeclares }
 {}
 
 /// Outcomes of parts beside each other may be grouped and ordered as one likes.

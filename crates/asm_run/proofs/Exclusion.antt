@@ -11,9 +11,9 @@ use Rattle.asm_check.specs.Errors.{number_of}
 use Rattle.asm_check.specs.Faults.{IsWellFormed, IsLeastFault}
 use Rattle.asm_check.specs.Laws.{LeastIsOnly}
 use Rattle.asm_run.specs.declared.error.RunError.TheVariants as error
-use Rattle.asm_run.specs.FirstPath.{is_first_path}
+use Rattle.asm_run.specs.Covered.{is_covered}
 use Rattle.asm_run.specs.Limits.{are_in_range}
-use Rattle.asm_run.specs.Headline.{IsFirstPath, IsFaulty, IsBeyond}
+use Rattle.asm_run.specs.Headline.{IsCovered, IsFaulty, IsBeyond}
 use Rattle.asm_run.specs.Exclusion.{OneNamedRefusal, NoRunBesideARefusal}
 
 -- ---- kinds of faults have different numbers
@@ -50,12 +50,12 @@ same_error e f at number =
 
 module _ (one_tree : (text : List ℕ) (s t : Spec) → IsSpecification text s → IsSpecification text t → s ≡ t)
     (no_tree : (text : List ℕ) (s : Spec) (e : ReadError) → IsSpecification text s → ¬ IsRefusal text e) where
-  beyond_or_known : (text : List ℕ) (s : Spec) → IsBeyond text → IsFirstPath text s → ⊥
+  beyond_or_known : (text : List ℕ) (s : Spec) → IsBeyond text → IsCovered text s → ⊥
   beyond_or_known text s k h =
       let same : s ≡ k.0 = one_tree text s k.0 h.spelled k.1 in
-      let yes : is_first_path s ≡ true = h.first_path in
-      let no : is_first_path k.0 ≡ false = k.3 in
-      absurd (cc (ap is_first_path same))
+      let yes : is_covered s ≡ true = h.covered in
+      let no : is_covered k.0 ≡ false = k.3 in
+      absurd (cc (ap is_covered same))
 
   -- no fault stands where there is none
   faulty_or_faultless : (text : List ℕ) (e : CheckError) (s : Spec) → IsFaulty text e → IsSpecification text s → IsWellFormed s → ⊥
@@ -63,7 +63,7 @@ module _ (one_tree : (text : List ℕ) (s t : Spec) → IsSpecification text s �
       let least : IsLeastFault s e.at (number_of e.kind) = subst (λ t. IsLeastFault t e.at (number_of e.kind)) (one_tree text h.0 s h.1 spelled) h.2 in
       faultless e.at (number_of e.kind) least.fault
 
-  faulty_or_known : (text : List ℕ) (e : CheckError) (s : Spec) → IsFaulty text e → IsFirstPath text s → ⊥
+  faulty_or_known : (text : List ℕ) (e : CheckError) (s : Spec) → IsFaulty text e → IsCovered text s → ⊥
   faulty_or_known text e s h k = faulty_or_faultless text e s h k.spelled k.faultless
 
   faulty_or_beyond : (text : List ℕ) (e : CheckError) → IsFaulty text e → IsBeyond text → ⊥

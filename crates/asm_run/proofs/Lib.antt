@@ -1,19 +1,16 @@
 pub mod Appending
-mod Assigned
-mod Declarations
 mod Exclusion
-mod FlatShapes
-mod Formed
-mod Forming
-mod Gathered
-mod Links
-mod MainRule
-mod Operands
-mod Pieces
-mod Ranges
+pub mod MainRule
+pub mod FormedSet
+pub mod Places
+pub mod ArgumentTexts
+pub mod Pieces
+pub mod Ranges
 mod Reached
-mod Running
-mod Stepping
+pub mod Running
+pub mod ProperLocations
+pub mod SortedLines
+pub mod SoundShapes
+pub mod Stepping
 mod Traces
-mod FirstPath
-mod Whole
+pub mod Whole

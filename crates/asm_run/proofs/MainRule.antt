@@ -1,131 +1,91 @@
--- The main rule, by its name.
-use Rattle.std.proofs.Common.{◌≡◌, ℕ, suc, ◌≤◌, Bool, true, false, not, cond, ◌&&◌, ◌||◌, nat_le, List, [], ◌∷◌, length, get_or, map, Option, Some, is_some, refl, sym, ap, ◌∙◌, arith}
+-- The rule that a run starts with: it is the body that its number stands for, and it is plain where the specification is covered.
+use Rattle.std.proofs.Common.{◌≡◌, ℕ, zero, suc, Bool, true, false, cond, List, [], ◌∷◌, Some, refl, sym, ap, subst, ◌∙◌}
+use Rattle.std.specs.Prelude.{filter}
 use Rattle.std.specs.List.{list_all}
-use Rattle.std.proofs.lemmas.Bool.{and_parts}
-use Rattle.std.proofs.lemmas.Bool.Decides.{nat_tests}
-use Rattle.asm_syntax.specs.Placed.{Rule, Item, Function, Declared, Spec}
+use Rattle.std.proofs.lemmas.Bool.{and_from}
+use Rattle.std.proofs.lemmas.List.Folds.{list_all-append}
+use Rattle.asm_state.proofs.Ranges.{and_left, and_right}
+use Rattle.asm_syntax.specs.Placed as tree
+use Rattle.asm_syntax.specs.Placed.{Name, Rule, Item, Spec}
 use Rattle.asm_syntax.specs.Unplaced.{plain_rule}
-use Rattle.asm_eval.specs.Program.{Controlled, Procedure, declared}
-use Rattle.asm_run.specs.FirstPath.{Text, is_same_text, is_among, function_names, rule_names, declared_names, starts, is_distinct, are_free, is_known_rule, is_known_item, is_start, most_declarations, is_first_path}
-use Rattle.asm_run.specs.Meaning.{text_of, declarations, program_of, body_of, rule_named, main_rule}
-use Rattle.asm_run.specs.Numbered.{body_named}
-use Rattle.asm_run.proofs.Operands.{same_text}
+use Rattle.asm_syntax.specs.declared.spec.FunctionKind.TheVariants as kind
+use Rattle.asm_check.specs.Faults.{inits}
+use Rattle.asm_check.specs.Limits.{is_rule}
+use Rattle.asm_check.specs.Names.{Text, Declaration, Meaning, Procedure, is_among, declarations_of, declarations_from, declarations, first_of_each, first_declarations}
+use Rattle.asm_check.specs.Numbers.{named, rules_of, meaning_at}
+use Rattle.asm_check.specs.declared.checked.Named.TheVariants as number
+use Rattle.asm_check.proofs.ItemLists.{element_declarations}
+use Rattle.asm_eval.specs.Declarations.{body_of, numbered, rule_body, main_rule}
+use Rattle.asm_eval.specs.PlainRules.{is_plain}
+use Rattle.asm_eval.proofs.Meant.{program_declares}
+use Rattle.asm_run.specs.Covered.{is_covered_item, is_covered}
 
--- a rule has a body where its name is among the rules
-pub named_among : (items : List Item) (x : Text) → is_some (body_named items x) ≡ is_among (rule_names items) x
-named_among [] x = refl
-named_among (Declared name parameters body ∷ items) x = at (is_same_text name.text x) (body_named items x) (is_among (rule_names items) x) (named_among items x)
-  where
-    at : (b : Bool) (o : Option Rule) (p : Bool) → is_some o ≡ p → is_some (cond b (Some body) o) ≡ (b || p)
-    at true o p e = refl
-    at false o p e = e
-named_among (item ∷ items) x = named_among items x
+-- the rule that the one `init` names is the rule of that number
+pub main_is : (s : Spec) (x : Name) (r : ℕ) (xs : List Name) (P : Rule) → inits s ≡ x ∷ [] → named s x.text ≡ Some (number.Called r)
+    → meaning_at (rules_of s) r ≡ Some (Procedure xs P) → plain_rule P ≡ main_rule s (inits s)
+main_is s x r xs P one called is =
+    sym (ap (main_rule s) one ∙ ap rule_body (program_declares s x.text) ∙ ap (λ it. rule_body (numbered s it)) called ∙ ap (λ m. rule_body (body_of m)) is)
 
-or_either : (b p q : Bool) → (p ≡ true → q ≡ true) → (b || p) ≡ true → (b || q) ≡ true
-or_either true p q f e = refl
-or_either false p q f e = f e
+-- ---- the rules of a covered specification are plain
 
-or_second : (b q : Bool) → q ≡ true → (b || q) ≡ true
-or_second true q e = refl
-or_second false q e = e
+abbrev is_plain_meaning : Meaning → Bool
+is_plain_meaning (Procedure xs P) = is_plain (plain_rule P)
+is_plain_meaning m = true
 
--- the names of rules are declared
-rule_declared : (items : List Item) (x : Text) → is_among (rule_names items) x ≡ true → is_among (declared_names items) x ≡ true
-rule_declared [] x e = e
-rule_declared (Function name kind domain codomain table ∷ items) x e = or_second (is_same_text name.text x) (is_among (declared_names items) x) (rule_declared items x e)
-rule_declared (Declared name parameters body ∷ items) x e = or_either (is_same_text name.text x) (is_among (rule_names items) x) (is_among (declared_names items) x) (rule_declared items x) e
-rule_declared (item ∷ items) x e = rule_declared items x e
+abbrev are_plain : List Declaration → Bool
+are_plain ds = list_all (λ d. is_plain_meaning d.meaning) ds
 
--- where names are declared once, the first declaration of a rule's name is that rule
-declared_named : (f : ℕ) (items : List Item) (x : Text) (r : Rule) → is_distinct (declared_names items) ≡ true → body_named items x ≡ Some r
-    → body_of (declared (declarations f items) x) ≡ plain_rule r
-declared_named f [] x r distinct e = absurd cc
-declared_named f (Function name kind domain codomain table ∷ items) x r distinct e =
-    let parts = and_parts (not (is_among (declared_names items) name.text)) (is_distinct (declared_names items)) distinct in
-    at (is_same_text name.text x) refl parts.0 (declared_named (suc f) items x r parts.1 e)
-  where
-    among : is_among (declared_names items) x ≡ true
-    among = rule_declared items x (sym (named_among items x) ∙ ap is_some e)
+plain_elements : (k : ℕ) (xs : List Name) → are_plain (element_declarations k xs) ≡ true
+plain_elements k [] = refl
+plain_elements k (x ∷ xs) = plain_elements k xs
 
-    at : (b : Bool) → is_same_text name.text x ≡ b → not (is_among (declared_names items) name.text) ≡ true → body_of (declared (declarations (suc f) items) x) ≡ plain_rule r
-        → body_of (cond b (Some (Controlled f [])) (declared (declarations (suc f) items) x)) ≡ plain_rule r
-    at true is alone rest =
-        let other : not (is_among (declared_names items) x) ≡ true = ap (λ y. not (is_among (declared_names items) y)) (sym (same_text name.text x is)) ∙ alone in
-        let none : not true ≡ true = ap not (sym among) ∙ other in
-        absurd cc
-    at false is alone rest = rest
-declared_named f (Declared name parameters body ∷ items) x r distinct e =
-    let parts = and_parts (not (is_among (declared_names items) name.text)) (is_distinct (declared_names items)) distinct in
-    at (is_same_text name.text x) (body_named items x) (declared_named f items x r parts.1) e
-  where
-    at : (b : Bool) (o : Option Rule) → (o ≡ Some r → body_of (declared (declarations f items) x) ≡ plain_rule r) → cond b (Some body) o ≡ Some r
-        → body_of (cond b (Some (Procedure (map text_of parameters) (plain_rule body))) (declared (declarations f items) x)) ≡ plain_rule r
-    at true o rest e = let same : body ≡ r = cc in ap plain_rule same
-    at false o rest e = rest e
-declared_named f (item ∷ items) x r distinct e = declared_named f items x r distinct e
+plain_item : (k : ℕ) (item : Item) → is_covered_item item ≡ true → are_plain (declarations_of k item) ≡ true
+plain_item k (tree.Uses x) covered = refl
+plain_item k (tree.Init x) covered = refl
+plain_item k (tree.Enum x xs) covered = plain_elements k xs
+plain_item k (tree.Universe x first last) covered = refl
+plain_item k (tree.Function x kind.Controlled domain codomain table) covered = refl
+plain_item k (tree.Function x kind.Static domain codomain table) covered = refl
+plain_item k (tree.Derived x xs t) covered = refl
+plain_item k (tree.Declared x xs P) covered = and_from (is_plain (plain_rule P)) true covered refl
 
--- the names that a rule uses are functions where all the items' are
-known_named : (fs : List Text) (items : List Item) (x : Text) (r : Rule) → list_all (is_known_item fs) items ≡ true → body_named items x ≡ Some r → is_known_rule fs r ≡ true
-known_named fs [] x r all e = absurd cc
-known_named fs (Declared name (p ∷ parameters) body ∷ items) x r all e = absurd cc
-known_named fs (Declared name [] body ∷ items) x r all e =
-    let parts = and_parts (is_known_rule fs body) (list_all (is_known_item fs) items) all in
-    at (is_same_text name.text x) (body_named items x) parts.0 (known_named fs items x r parts.1) e
-  where
-    at : (b : Bool) (o : Option Rule) → is_known_rule fs body ≡ true → (o ≡ Some r → is_known_rule fs r ≡ true) → cond b (Some body) o ≡ Some r → is_known_rule fs r ≡ true
-    at true o here rest e = let same : body ≡ r = cc in ap (is_known_rule fs) (sym same) ∙ here
-    at false o here rest e = rest e
-known_named fs (item ∷ items) x r all e = known_named fs items x r (and_parts (is_known_item fs item) (list_all (is_known_item fs) items) all).1 e
+plain_items : (k : ℕ) (items : List Item) → list_all is_covered_item items ≡ true → are_plain (declarations_from k items) ≡ true
+plain_items k [] covered = refl
+plain_items k (item ∷ items) covered =
+    list_all-append (λ d. is_plain_meaning d.meaning) (declarations_of k item) (declarations_from (suc k) items)
+    ∙ and_from (are_plain (declarations_of k item)) (are_plain (declarations_from (suc k) items))
+    (plain_item k item (and_left (is_covered_item item) (list_all is_covered_item items) covered))
+    (plain_items (suc k) items (and_right (is_covered_item item) (list_all is_covered_item items) covered))
 
--- ---- a specification of the first path
+-- those that count
+plain_firsts : (seen : List Text) (ds : List Declaration) → are_plain ds ≡ true → are_plain (first_of_each seen ds) ≡ true
+plain_firsts seen [] plain = refl
+plain_firsts seen (d ∷ ds) plain =
+    let own = and_left (is_plain_meaning d.meaning) (are_plain ds) plain in
+    let rest = and_right (is_plain_meaning d.meaning) (are_plain ds) plain in
+    elim (is_among seen d.name.text) as (λ b. are_plain (cond b (first_of_each seen ds) (d ∷ first_of_each (d.name.text ∷ seen) ds)) ≡ true) [
+      | true ↦ plain_firsts seen ds rest
+      | false ↦ and_from (is_plain_meaning d.meaning) (are_plain (first_of_each (d.name.text ∷ seen) ds)) own (plain_firsts (d.name.text ∷ seen) ds rest)
+    ]
 
-pub record FirstPathParts (s : Spec) : Type 0 where
-  pub distinct : is_distinct (declared_names s.items) ≡ true
-  pub known : list_all (is_known_item (function_names s.items)) s.items ≡ true
-  pub start : is_start (rule_names s.items) (starts s.items) ≡ true
-  pub few : length (function_names s.items) ≤ most_declarations
+plain_kept : (is_like : Meaning → Bool) (ds : List Declaration) → are_plain ds ≡ true → are_plain (filter (λ d. is_like d.meaning) ds) ≡ true
+plain_kept is_like [] plain = refl
+plain_kept is_like (d ∷ ds) plain =
+    let own = and_left (is_plain_meaning d.meaning) (are_plain ds) plain in
+    let rest = and_right (is_plain_meaning d.meaning) (are_plain ds) plain in
+    elim (is_like d.meaning) as (λ b. are_plain (cond b (d ∷ filter (λ d. is_like d.meaning) ds) (filter (λ d. is_like d.meaning) ds)) ≡ true) [
+      | true ↦ and_from (is_plain_meaning d.meaning) (are_plain (filter (λ d. is_like d.meaning) ds)) own (plain_kept is_like ds rest)
+      | false ↦ plain_kept is_like ds rest
+    ]
 
-pub first_path_parts : (s : Spec) → is_first_path s ≡ true → FirstPathParts s
-first_path_parts s e =
-    let functions : Bool = nat_le (length (function_names s.items)) most_declarations in
-    let rules : Bool = nat_le (length (rule_names s.items)) most_declarations in
-    let start : Bool = is_start (rule_names s.items) (starts s.items) in
-    let known : Bool = list_all (is_known_item (function_names s.items)) s.items in
-    let distinct : Bool = is_distinct (declared_names s.items) in
-    let free : Bool = are_free (declared_names s.items) in
-    let five = and_parts (distinct && free && known && start && functions) rules e in
-    let four = and_parts (distinct && free && known && start) functions five.0 in
-    let three = and_parts (distinct && free && known) start four.0 in
-    let two = and_parts (distinct && free) known three.0 in
-    let one = and_parts distinct free two.0 in
-    record { distinct = one.0; known = two.1; start = three.1; few = at_most (length (function_names s.items)) most_declarations four.1 }
-  where
-    at_most : (m n : ℕ) → nat_le m n ≡ true → m ≤ n
-    at_most m n e = grind (arith, nat_tests)
+plain_at : (ds : List Declaration) (n : ℕ) (m : Meaning) → are_plain ds ≡ true → meaning_at ds n ≡ Some m → is_plain_meaning m ≡ true
+plain_at [] n m plain at = cc
+plain_at (d ∷ ds) zero m plain at = let same : d.meaning ≡ m = cc in subst (λ m. is_plain_meaning m ≡ true) same (and_left (is_plain_meaning d.meaning) (are_plain ds) plain)
+plain_at (d ∷ ds) (suc n) m plain at = plain_at ds n m (and_right (is_plain_meaning d.meaning) (are_plain ds) plain) at
 
-one_start : (rules xs : List Text) → is_start rules xs ≡ true → length xs ≡ 1
-one_start rules [] e = absurd cc
-one_start rules (x ∷ []) e = refl
-one_start rules (x ∷ y ∷ xs) e = absurd cc
+plain_declarations : (s : Spec) → is_covered s ≡ true → are_plain (first_declarations s) ≡ true
+unfolding declarations first_declarations
+plain_declarations s covered = plain_firsts [] (declarations s) (plain_items 0 s.items covered)
 
-single : (xs : List Text) (x : Text) → length xs ≡ 1 → x ≡ get_or xs 0 x → xs ≡ x ∷ []
-single [] x one at = absurd (omega arith)
-single (y ∷ []) x one at = ap (λ z. z ∷ []) (sym at)
-single (y ∷ z ∷ xs) x one at = absurd (omega arith)
-
-module _ (s : Spec) (e : is_first_path s ≡ true) where
-  pub some_start : length (starts s.items) ≡ 1
-  some_start = one_start (rule_names s.items) (starts s.items) (first_path_parts s e).start
-
-  module _ (x : Text) (at : x ≡ get_or (starts s.items) 0 x) where
-    starts_at : starts s.items ≡ x ∷ []
-    starts_at = single (starts s.items) x some_start at
-
-    pub start_named : is_some (body_named s.items x) ≡ true
-    start_named = named_among s.items x ∙ ap (is_start (rule_names s.items)) (sym starts_at) ∙ (first_path_parts s e).start
-
-    pub main_named : (r : Rule) → body_named s.items x ≡ Some r → main_rule s.items ≡ plain_rule r
-    main_named r found = ap (rule_named (program_of s.items)) starts_at ∙ declared_named 0 s.items x r (first_path_parts s e).distinct found
-
-    pub main_known : (r : Rule) → body_named s.items x ≡ Some r → is_known_rule (function_names s.items) r ≡ true
-    main_known r found = known_named (function_names s.items) s.items x r (first_path_parts s e).known found
+pub main_plain : (s : Spec) (r : ℕ) (xs : List Name) (P : Rule) → is_covered s ≡ true → meaning_at (rules_of s) r ≡ Some (Procedure xs P) → is_plain (plain_rule P) ≡ true
+main_plain s r xs P covered is = plain_at (rules_of s) r (Procedure xs P) (plain_kept is_rule (first_declarations s) (plain_declarations s covered)) is

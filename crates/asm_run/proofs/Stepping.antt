@@ -1,82 +1,56 @@
 -- What a step writes, and where its fault is.
-use Rattle.std.proofs.Common.{◌≡◌, ℕ, zero, suc, ◌+◌, ◌*◌, ◌/◌, ◌<◌, ◌≤◌, List, [], ◌∷◌, ◌++◌, length, map, get_or, append_assoc, inl, inr, refl, sym, ap, subst, ◌∙◌, arith}
+use Rattle.std.proofs.Common.{◌≡◌, ℕ, ◌<◌, List, ◌++◌, length, append_assoc, ap, subst, ◌∙◌, arith}
 use Rattle.std.specs.Prelude.{codes}
-use Rattle.std.specs.List.{flat_map, range_with_len}
-use Rattle.std.proofs.lemmas.Bool.{cases_lt}
-use Rattle.std.proofs.lemmas.List.{get_or_past}
+use Rattle.std.specs.List.Sorted.{IsStrictlyIncreasing}
+use Rattle.std.specs.Map.{keys_of}
 use Rattle.asm_state.specs.declared.value.Value.{Value}
-use Rattle.asm_state.specs.declared.value.Value.TheVariants.{Undef}
-use Rattle.asm_state.specs.Location.{Location, Proper, Stray}
-use Rattle.asm_state.specs.Signature.{Shape, functions_of, locations, count_of, location_at, state_of}
-use Rattle.asm_state.specs.Updates.{UpdateSet, Range, range_at, together, none, Clash, IsFirstFault}
+use Rattle.asm_state.specs.Location.{Stray, function_of}
+use Rattle.asm_state.specs.Signature.{Shape, count_of, location_at, state_of}
+use Rattle.asm_state.specs.Updates.{UpdateSet, IsConsistent, IsFirstFault, together, none}
 use Rattle.asm_state.proofs.Algebra.{union_laws}
-use Rattle.asm_updates.specs.Entries.{Entries, entry, range}
+use Rattle.asm_state.proofs.NumberedLocations.{number_laws}
+use Rattle.asm_syntax.specs.Placed.{Spec}
+use Rattle.asm_check.specs.Faults.{IsWellFormed}
+use Rattle.asm_check.specs.Numbers.{functions_of}
+use Rattle.asm_check.specs.Shapes.{shape_of}
+use Rattle.asm_check.proofs.SignatureNumbers.{signature_numbers}
+use Rattle.asm_updates.specs.Entries.{Entries, range, AreEntries}
 use Rattle.asm_updates.specs.Stands.{Stands}
 use Rattle.asm_updates.specs.Faults.{fault_of}
 use Rattle.asm_updates.specs.declared.fault.Fault.{Fault}
 use Rattle.asm_updates.specs.declared.fault.Fault.TheVariants as fault
-use Rattle.asm_run.specs.FirstPath.{Text}
-use Rattle.asm_run.specs.Flat.{IsFlat}
-use Rattle.asm_run.specs.Trace.{update_text, set_text, content_text, state_text, step_text, line_end}
-use Rattle.asm_run.specs.Written.{names_of, locations_of, step_line, entries_text, contents_text}
-use Rattle.asm_run.specs.Step.{AreSized, IsFaultBelow}
-use Rattle.asm_run.proofs.FlatShapes.{count_is, proper_at, content_is, stray_below}
-
--- there are two contents for each name
-pub two_each : (names : List Text) (shape : Shape) (contents : List Value) (count : ℕ) → AreSized names shape contents count → length contents ≡ 2 * length names
-two_each names shape contents count sized =
-    let both : count_of shape ≡ 2 * functions_of shape = count_is shape sized.flat in
-    omega (arith, sized.contents_fit, sized.names_fit)
+use Rattle.asm_run.specs.Trace.{line_end, set_text, state_text, step_text}
+use Rattle.asm_run.specs.Written.{names_in, locations_in, step_line, entries_text, contents_text}
+use Rattle.asm_run.specs.Step.{IsFaultBelow}
+use Rattle.asm_run.proofs.ProperLocations.{function_inside, clash_inside, entries_are_set, contents_are_state}
+use Rattle.asm_run.proofs.SoundShapes.{shape_is_sound}
 
 -- a set that is formed from nothing
 pub stands_alone : (shape : Shape) (summary : Entries) (U : UpdateSet) → Stands shape summary (together none U) → Stands shape summary U
 stands_alone shape summary U h = subst (λ V. Stands shape summary V) (union_laws.unit U) h
 
--- ---- texts for the functions below n
+-- the function of each location is one of the specification
+pub function_below : (s : Spec) (n : ℕ) → IsWellFormed s → n < count_of (shape_of s) → function_of (location_at (shape_of s) n) < length (functions_of s)
+function_below s n good below =
+    let inside = function_inside (shape_of s) (location_at (shape_of s) n) (number_laws.is_location (shape_of s) n below) in
+    omega (arith, inside, (signature_numbers s good).count_of_functions)
 
-flat_map-map : {X : Type 0} (g : Location → List X) (ks : List ℕ) → flat_map g (map (λ f. Proper f []) ks) ≡ flat_map (λ f. g (Proper f [])) ks
-flat_map-map g [] = refl
-flat_map-map g (k ∷ ks) = ap (λ w. g (Proper k []) ++ w) (flat_map-map g ks)
+-- entries that rise are the lines of the set
+pub set_written : (s : Spec) (summary : Entries) (U : UpdateSet) → IsWellFormed s → Stands (shape_of s) summary U → IsConsistent U → AreEntries summary.count summary.ranges
+    → IsStrictlyIncreasing (keys_of summary.ranges) → entries_text s summary.ranges ≡ set_text (names_in s) (locations_in s) U
+set_written s summary U good stands consistent entries rising = entries_are_set (names_in s) (shape_of s) summary U stands consistent entries rising
 
-same_lines : (g h : ℕ → List ℕ) (a n : ℕ) → ((f : ℕ) → a ≤ f → f < a + n → g f ≡ h f) → flat_map g (range_with_len a n) ≡ flat_map h (range_with_len a n)
-same_lines g h a zero e = refl
-same_lines g h a (suc n) e =
-    let here : g a ≡ h a = e a (omega arith) (omega arith) in
-    let more : flat_map g (range_with_len (a + 1) n) ≡ flat_map h (range_with_len (a + 1) n) = same_lines g h (a + 1) n (λ f low high. e f (omega arith) (omega arith)) in
-    ap (λ w. w ++ flat_map g (range_with_len (a + 1) n)) here ∙ ap (λ w. h a ++ w) more
+pub step_written : (s : Spec) (summary : Entries) (U : UpdateSet) (step : ℕ) → entries_text s summary.ranges ≡ set_text (names_in s) (locations_in s) U
+    → step_line step 0 ++ entries_text s summary.ranges ≡ step_text (names_in s) (locations_in s) step (record { set = U; instances = 0 })
+step_written s summary U step e = ap (λ w. step_line step 0 ++ w) e ∙ simp append_assoc
 
-module _ (names : List Text) (shape : Shape) (flat : IsFlat shape) (fit : length names ≡ functions_of shape) where
-  module _ (summary : Entries) (U : UpdateSet) (stands : Stands shape summary U) where
-    entry_is : (f : ℕ) → f < length names → entry summary (2 * f) ≡ range_at U (Proper f [])
-    entry_is f h =
-        let count : count_of shape ≡ 2 * functions_of shape = count_is shape flat in
-        let below : 2 * f < count_of shape = omega arith in
-        stands.has_ranges (2 * f) below ∙ ap (range_at U) (proper_at shape flat f (omega arith))
+-- a first fault is at a location, or a function, of the specification
+pub fault_below : (s : Spec) (summary : Entries) (U : UpdateSet) (f : Fault) → IsWellFormed s → Stands (shape_of s) summary U → IsFirstFault U (fault_of (shape_of s) f) → IsFaultBelow s f
+fault_below s summary U (fault.Clash n low high) good stands first = clash_inside (shape_of s) U n (range (low, high)) first
+fault_below s summary U (fault.Outside f) good stands first =
+    let inside = function_inside (shape_of s) (Stray f) (stands.names_within (Stray f) first.is_faulty) in
+    omega (arith, inside, (signature_numbers s good).count_of_functions)
 
-    pub set_written : entries_text names (entry summary) ≡ set_text (names_of names) (locations_of (length names)) U
-    set_written =
-        same_lines (λ f. update_text (names_of names) (Proper f []) (entry summary (2 * f))) (λ f. update_text (names_of names) (Proper f []) (range_at U (Proper f []))) 0 (length names)
-        (λ f low high. ap (λ r. update_text (names_of names) (Proper f []) r) (entry_is f (omega arith)))
-        ∙ sym (flat_map-map (λ l. update_text (names_of names) l (range_at U l)) (range_with_len 0 (length names)))
-
-    pub step_written : (step : ℕ) → step_line step 0 ++ entries_text names (entry summary) ≡ step_text (names_of names) (locations_of (length names)) step (record { set = U; instances = 0 })
-    step_written step = ap (λ w. step_line step 0 ++ w) set_written ∙ simp append_assoc
-
-    -- a clash is at a location of the shape: there is none past them but the stray one that stands for nothing
-    below_at : (n : ℕ) (r : Range) → IsFirstFault U (Clash (location_at shape n) r) → n / 2 < length names
-    below_at n r h =
-        elim (cases_lt n (count_of shape)) [
-          | inl inside ↦ let count : count_of shape ≡ 2 * functions_of shape = count_is shape flat in omega arith
-          | inr past ↦ absurd (subst (λ l. IsFirstFault U (Clash l r)) (get_or_past (locations shape) n (Stray 0) past) h)
-        ]
-
-    pub fault_below : (f : Fault) → IsFirstFault U (fault_of shape f) → IsFaultBelow (length names) f
-    fault_below (fault.Clash n low high) h = below_at n (range (low, high)) h
-    fault_below (fault.Outside f) h = let below : f < functions_of shape = stray_below shape f (stands.names_within (Stray f) h.is_faulty) in omega arith
-
-  pub state_written : (contents : List Value) → contents_text names contents ≡ state_text (names_of names) (locations_of (length names)) (state_of shape contents)
-  state_written contents =
-      ap (λ w. codes "state" ++ (line_end ++ w))
-      (same_lines (λ f. content_text (names_of names) (Proper f []) (get_or contents (2 * f) Undef)) (λ f. content_text (names_of names) (Proper f []) (state_of shape contents (Proper f []))) 0 (length names)
-      (λ f low high. ap (content_text (names_of names) (Proper f [])) (sym (content_is shape flat f (omega arith) contents)))
-      ∙ sym (flat_map-map (λ l. content_text (names_of names) l (state_of shape contents l)) (range_with_len 0 (length names))))
+-- the contents of the proper locations are the lines of the state
+pub state_written : (s : Spec) (contents : List Value) → IsWellFormed s → length contents ≡ count_of (shape_of s) → contents_text s contents ≡ state_text (names_in s) (locations_in s) (state_of (shape_of s) contents)
+state_written s contents good whole = ap (λ w. codes "state" ++ (line_end ++ w)) (contents_are_state (names_in s) (shape_of s) contents (shape_is_sound s good))

@@ -5,14 +5,15 @@ use Rattle.asm_state.specs.Updates.{UpdateSet, is_consistent, fire}
 use Rattle.asm_state.proofs.Faults.{fault_laws}
 use Rattle.asm_state.proofs.Updates.{test_laws}
 use Rattle.asm_syntax.specs.Tree.{Rule}
+use Rattle.asm_eval.specs.Declarations.{specification_of}
 use Rattle.asm_eval.specs.Program.{Program, nothing_bound}
 use Rattle.asm_eval.specs.Yields.{Result, Gives, Exhausted}
 use Rattle.asm_eval.specs.Does.{Script, does}
 use Rattle.asm_eval.specs.Run.{Run, End, AtFault, ended, fired, step_and, run_from}
 use Rattle.asm_run.specs.Trace.{Names, IsEndText, fault_text, steps_text, state_text}
 use Rattle.asm_run.specs.Traces.{OneTrace, SomeTrace}
-use Rattle.asm_run.specs.Headline.{book_run, names_in, locations_in}
-use Rattle.asm_run.specs.Meaning.{meaning_of}
+use Rattle.asm_run.specs.Written.{names_in, locations_in}
+use Rattle.asm_run.specs.Headline.{book_run}
 use Rattle.asm_run.proofs.Reached.{one_end_text}
 
 pub one_trace : OneTrace
@@ -42,7 +43,7 @@ module _ (names : Names) (program : Program) (turns : ℕ) (main : Rule) where
 pub some_trace : SomeTrace
 some_trace s turns choices steps =
     let r : Run = book_run s turns choices steps in
-    let line = has_line (names_in s) (meaning_of s).program turns (meaning_of s).main choices steps 1 (meaning_of s).initial in (
+    let line = has_line (names_in s) (specification_of s).program turns (specification_of s).main choices steps 1 (specification_of s).initial in (
       steps_text (names_in s) (locations_in s) 1 r.steps ++ (line.0 ++ state_text (names_in s) (locations_in s) r.last),
       record { end_text = line.0; is_end = line.1; whole = refl },
     )

@@ -1,9 +1,6 @@
 -- From the steps of a run to what is said of the whole.
-use Rattle.std.proofs.Common.{◌≡◌, ◌↔◌, ℕ, Bool, true, false, List, [], length, map, Option, Result, Ok, Err, inl, inr, refl, subst}
-use Rattle.std.specs.Prelude.{IsTrue, All, IfOk, IfErr, MatchResult}
-use Rattle.std.proofs.lemmas.List.Elements.{recursion_from_All}
-use Rattle.asm_state.specs.Signature.{Shape, initial_state}
-use Rattle.asm_syntax.specs.Tree.{Rule}
+use Rattle.std.proofs.Common.{◌≡◌, ◌↔◌, ℕ, Bool, true, false, List, [], Option, Result, Ok, Err, inl, inr, refl}
+use Rattle.std.specs.Prelude.{IsTrue, IfOk, IfErr, MatchResult}
 use Rattle.asm_syntax.specs.declared.refused.Refused.{Refused}
 use Rattle.asm_syntax.specs.declared.refused.Refused.TheVariants as refused
 use Rattle.asm_syntax.specs.Placed.{Spec}
@@ -12,22 +9,15 @@ use Rattle.asm_reader.specs.Refusals as reader
 use Rattle.asm_reader.specs.Specification.{IsSpecification}
 use Rattle.asm_check.specs.declared.error.CheckError.{CheckError}
 use Rattle.asm_check.specs.Errors as checker
-use Rattle.asm_eval.specs.Program.{Program}
 use Rattle.asm_eval.specs.Does.{Script}
-use Rattle.asm_eval.specs.Run.{run_from}
-use Rattle.asm_run.specs.declared.resolved.Assignment.{Assignment}
 use Rattle.asm_run.specs.declared.end.End.{End}
 use Rattle.asm_run.specs.declared.error.RunError.{RunError}
 use Rattle.asm_run.specs.declared.error.RunError.TheVariants as error
-use Rattle.asm_run.specs.FirstPath.{Text, function_names}
-use Rattle.asm_run.specs.Resolved.{assignment_tree, flattened, IsBelow}
-use Rattle.asm_run.specs.Meaning.{program_of, main_rule, shape_of}
 use Rattle.asm_run.specs.Limits.{are_in_range}
 use Rattle.asm_run.specs.Refusal.{read_answer, check_answer}
-use Rattle.asm_run.specs.Written.{names_of, locations_of}
-use Rattle.asm_run.specs.Headline.{IsFirstPath, IsDone, Explains, book_run, names_in, locations_in}
-use Rattle.asm_run.specs.Reached.{Forms, Runs}
-use Rattle.asm_run.proofs.Formed.{main_rule_formed, stand_for_main}
+use Rattle.asm_run.specs.Written.{names_in, locations_in}
+use Rattle.asm_run.specs.Headline.{IsCovered, IsDone, Explains, book_run}
+use Rattle.asm_run.specs.Reached.{Runs}
 use Rattle.asm_run.proofs.Running.{Appends-none}
 
 -- a text that the reader refuses
@@ -42,20 +32,14 @@ pub refused_tree : (text : List ℕ) (steps turns workers cut rounds : ℕ) (old
 refused_tree text steps turns workers cut rounds old s spelled refused.Memory h = inl (Appends-none old)
 refused_tree text steps turns workers cut rounds old s spelled (refused.Named e) h = ((s, spelled, h), Appends-none old)
 
--- what is said of the steps, of any names and signature
-abbrev pub StepsOf : List Text → Shape → List Assignment → ℕ → (old new : Option (List ℕ)) → Bool → Result End RunError → Type 0
-StepsOf names shape assignments steps old new failed result =
-    (program : Program) (main : Rule) (turns : ℕ) (choices : Script) → Forms program main turns choices shape assignments
-    → Runs (names_of names) (locations_of (length names)) old new failed (run_from program turns main choices steps 1 (initial_state shape)) result
-
-module _ (text : List ℕ) (steps turns workers cut rounds : ℕ) (old new : Option (List ℕ)) (failed : Bool) (s : Spec) (first_path : IsFirstPath text s) (in_range : are_in_range steps turns workers cut rounds ≡ true) where
+module _ (text : List ℕ) (steps turns workers cut rounds : ℕ) (old new : Option (List ℕ)) (failed : Bool) (s : Spec) (covered : IsCovered text s) (in_range : are_in_range steps turns workers cut rounds ≡ true) where
   abbrev all : Result End RunError → Type 0
   all result = (choices : Script) → Runs (names_in s) (locations_in s) old new failed (book_run s turns choices steps) result
 
   said : (result : Result End RunError) → all result → MatchResult result (IsDone text steps turns workers cut rounds old new) (Explains text steps turns workers cut rounds old new)
-  said (Ok e) h = record { tree = s; first_path = first_path; in_range = in_range; written = λ choices. (h choices).0; answered = λ choices. (h choices).1 }
-  said (Err error.Memory) h = inr (record { tree = s; first_path = first_path; in_range = in_range; holds = λ choices. (h choices).0 })
-  said (Err error.Write) h = record { tree = s; first_path = first_path; in_range = in_range; holds = λ choices. (h choices).0 }
+  said (Ok e) h = record { tree = s; covered = covered; in_range = in_range; written = λ choices. (h choices).0; answered = λ choices. (h choices).1 }
+  said (Err error.Memory) h = inr (record { tree = s; covered = covered; in_range = in_range; holds = λ choices. (h choices).0 })
+  said (Err error.Write) h = record { tree = s; covered = covered; in_range = in_range; holds = λ choices. (h choices).0 }
   said (Err error.Limits) h = absurd (h [])
   said (Err error.Beyond) h = absurd (h [])
   said (Err (error.Read e)) h = absurd (h [])
@@ -85,19 +69,9 @@ module _ (text : List ℕ) (steps turns workers cut rounds : ℕ) (old new : Opt
     pub refused : IfErr result (Explains text steps turns workers cut rounds old new)
     pub fails_just_so : IsTrue failed ↔ (result ≡ Err error.Write)
 
-  module _ (names : List Text) (shape : Shape) (assignments : List Assignment) (named : names ≡ function_names s.items) (shaped : shape ≡ shape_of s.items)
-      (trees : map (assignment_tree names) assignments ≡ flattened (main_rule s.items)) (below : All (IsBelow (length names)) assignments)
-      (result : Result End RunError) (h : StepsOf names shape assignments steps old new failed result) where
-    every : all result
-    every choices =
-        let k : StepsOf (function_names s.items) (shape_of s.items) assignments steps old new failed result =
-        subst (λ ns. StepsOf ns (shape_of s.items) assignments steps old new failed result) named (subst (λ (v : Shape). StepsOf names v assignments steps old new failed result) shaped h) in
-        k (program_of s.items) (main_rule s.items) turns choices
-        (λ step contents. main_rule_formed s assignments first_path.first_path (stand_for_main s names assignments named trees (recursion_from_All (IsBelow (length names)) assignments below)) turns choices step contents [])
-
-    pub whole : Whole result
-    whole = record {
-      done = at_ok result (said result every);
-      refused = at_err result (said result every);
-      fails_just_so = fails result every;
-    }
+  pub whole : (result : Result End RunError) → all result → Whole result
+  whole result every = record {
+    done = at_ok result (said result every);
+    refused = at_err result (said result every);
+    fails_just_so = fails result every;
+  }

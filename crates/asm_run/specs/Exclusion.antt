@@ -5,7 +5,7 @@
 use Rattle.std.specs.Prelude.{◌≡◌, ℕ, true, List, Option}
 use Rattle.asm_syntax.specs.Placed.{Spec}
 use Rattle.asm_run.specs.Limits.{are_in_range}
-use Rattle.asm_run.specs.Headline.{IsFirstPath, Explains}
+use Rattle.asm_run.specs.Headline.{IsCovered, Explains}
 use Rattle.asm_run.specs.declared.error.RunError.{RunError}
 use Rattle.asm_run.specs.declared.error.RunError.TheVariants as error
 
@@ -24,5 +24,5 @@ OneNamedRefusal =
 
 abbrev pub NoRunBesideARefusal : Type 0
 NoRunBesideARefusal =
-    (text : List ℕ) (steps turns workers cut rounds : ℕ) (old new : Option (List ℕ)) (s : Spec) (e : RunError) → IsFirstPath text s
+    (text : List ℕ) (steps turns workers cut rounds : ℕ) (old new : Option (List ℕ)) (s : Spec) (e : RunError) → IsCovered text s
     → are_in_range steps turns workers cut rounds ≡ true → IsNamed e → ¬ Explains text steps turns workers cut rounds old new e

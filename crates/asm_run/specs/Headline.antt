@@ -1,11 +1,11 @@
 -- What a run writes and answers.
---     IsFirstPath text s               the text is that of the specification s, which has no fault and is of the first path
+--     IsCovered text s                 the text is that of the specification s, which has no fault and is one of those that run
 --     IsFaulty text e                  the text is that of a specification whose first fault is this
---     IsBeyond text                    the text is that of a specification without faults that isn't of the first path
+--     IsBeyond text                    the text is that of a specification without faults that isn't one of those that run
 --     book_run s turns choices steps   the run of s, under these choices
 --     IsWritten, IsCut, AreWholeSteps  what the bytes of the sink grew by
 --     Explains                         what a refusal says
-use Rattle.std.specs.Prelude.{◌≡◌, ◌⊎◌, ℕ, false, true, List, [], ◌++◌, length, take, Option}
+use Rattle.std.specs.Prelude.{◌≡◌, ◌⊎◌, ℕ, false, true, List, [], ◌++◌, take, Option}
 use Rattle.std.specs.Io.KnownBytes.{Appends}
 use Rattle.asm_state.specs.Location.{Location}
 use Rattle.asm_state.specs.Updates.{Range, Clash, Outside, IsFirstFault}
@@ -15,40 +15,33 @@ use Rattle.asm_reader.specs.Refusals.{IsRefusal}
 use Rattle.asm_check.specs.declared.error.CheckError.{CheckError}
 use Rattle.asm_check.specs.Errors.{number_of}
 use Rattle.asm_check.specs.Faults.{IsWellFormed, IsLeastFault}
+use Rattle.asm_eval.specs.Declarations.{specification_of}
 use Rattle.asm_eval.specs.Does.{Script}
 use Rattle.asm_eval.specs.Run as run
 use Rattle.asm_eval.specs.Run.{Run, AtLimit, AtExhausted, AtFault}
-use Rattle.asm_run.specs.FirstPath.{function_names, is_first_path}
-use Rattle.asm_run.specs.Meaning.{meaning_of}
+use Rattle.asm_run.specs.Covered.{is_covered}
 use Rattle.asm_run.specs.Limits.{are_in_range}
 use Rattle.asm_run.specs.Trace.{Names, IsTrace, steps_text}
-use Rattle.asm_run.specs.Written.{names_of, locations_of}
+use Rattle.asm_run.specs.Written.{names_in, locations_in}
 use Rattle.asm_run.specs.declared.end.End.{End}
 use Rattle.asm_run.specs.declared.end.End.TheVariants as end
 use Rattle.asm_run.specs.declared.error.RunError.{RunError}
 use Rattle.asm_run.specs.declared.error.RunError.TheVariants as error
 
-pub record IsFirstPath (text : List ℕ) (s : Spec) : Type 0 where
+pub record IsCovered (text : List ℕ) (s : Spec) : Type 0 where
   pub spelled : IsSpecification text s
   pub faultless : IsWellFormed s
-  pub first_path : is_first_path s ≡ true
+  pub covered : is_covered s ≡ true
 
 abbrev pub IsFaulty : List ℕ → CheckError → Type 0
 IsFaulty text e = (s : Spec) × IsSpecification text s × IsLeastFault s e.at (number_of e.kind)
 
 abbrev pub IsBeyond : List ℕ → Type 0
-IsBeyond text = (s : Spec) × IsSpecification text s × IsWellFormed s × (is_first_path s ≡ false)
+IsBeyond text = (s : Spec) × IsSpecification text s × IsWellFormed s × (is_covered s ≡ false)
 
-abbrev pub names_in : Spec → Names
-names_in s = names_of (function_names s.items)
-
--- the proper locations of a specification, in their order
-abbrev pub locations_in : Spec → List Location
-locations_in s = locations_of (length (function_names s.items))
-
--- no rule of the first path makes choices, so the run is the same for all of them
+-- no rule that runs yet makes choices, so the run is the same for all of them
 abbrev pub book_run : Spec → (turns : ℕ) → Script → (steps : ℕ) → Run
-book_run s turns choices steps = run.run (meaning_of s) turns choices steps
+book_run s turns choices steps = run.run (specification_of s) turns choices steps
 
 -- ---- runs from any step on, with these names and locations
 
@@ -89,7 +82,7 @@ module _ (text : List ℕ) (steps turns workers cut rounds : ℕ) (old new : Opt
   -- The whole trace is written, and the answer is the end of the run.
   pub record IsDone (answer : End) : Type 0 where
     pub tree : Spec
-    pub first_path : IsFirstPath text tree
+    pub covered : IsCovered text tree
     pub in_range : are_in_range steps turns workers cut rounds ≡ true
     pub written : (choices : Script) → IsWritten (names_in tree) (locations_in tree) 1 old new (book_run tree turns choices steps)
     pub answered : (choices : Script) → IsAnswer (book_run tree turns choices steps).end answer
@@ -97,7 +90,7 @@ module _ (text : List ℕ) (steps turns workers cut rounds : ℕ) (old new : Opt
   -- A run was begun, and what was written of it.
   pub record IsBegun (P : Spec → Run → Type 0) : Type 0 where
     pub tree : Spec
-    pub first_path : IsFirstPath text tree
+    pub covered : IsCovered text tree
     pub in_range : are_in_range steps turns workers cut rounds ≡ true
     pub holds : (choices : Script) → P tree (book_run tree turns choices steps)
 
@@ -105,6 +98,6 @@ module _ (text : List ℕ) (steps turns workers cut rounds : ℕ) (old new : Opt
   Explains (error.Read e) = IsRefusal text e × IsUnwritten old new
   Explains (error.Check e) = IsFaulty text e × IsUnwritten old new
   Explains error.Beyond = IsBeyond text × IsUnwritten old new
-  Explains error.Limits = (s : Spec) × IsFirstPath text s × (are_in_range steps turns workers cut rounds ≡ false) × IsUnwritten old new
+  Explains error.Limits = (s : Spec) × IsCovered text s × (are_in_range steps turns workers cut rounds ≡ false) × IsUnwritten old new
   Explains error.Memory = IsUnwritten old new ⊎ IsBegun (λ s r. AreWholeSteps (names_in s) (locations_in s) 1 old new r)
   Explains error.Write = IsBegun (λ s r. IsCut (names_in s) (locations_in s) 1 old new r)

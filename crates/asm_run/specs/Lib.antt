@@ -1,10 +1,4 @@
-pub mod FirstPath
-pub mod Resolved
-pub mod Flat
-pub mod Meaning
-pub mod Numbered
-pub mod Evaluated
-pub mod Formed
+pub mod Covered
 pub mod Sink
 pub mod Through
 pub mod Limits

@@ -1,52 +1,56 @@
 -- One step of a run, and its last lines.
---     AreSized      names, contents and summary fit the signature, which is flat
---     IsFired       the set of the assignments is fired, and this is the text of the step
---     Finishes      what the last lines do to the bytes of a sink
-use Rattle.std.specs.Prelude.{◌≡◌, ℕ, ◌/◌, ◌<◌, ◌≤◌, Bool, true, false, List, [], length, Option, Result, Ok, Err}
+--     main_set s contents      the set that the main rule gives where the locations have these contents
+--     AreSized                 contents and summary fit the signature
+--     IsFired                  the set is fired, and this is the text of the step
+--     IsStopped                the set has this first fault
+--     Finishes                 what the last lines do to the bytes of a sink
+use Rattle.std.specs.Prelude.{◌≡◌, ℕ, ◌<◌, Bool, true, false, List, [], length, Option, Result, Ok, Err}
 use Rattle.std.specs.Io.KnownBytes.{Appends}
 use Rattle.asm_state.specs.declared.value.Value.{Value}
-use Rattle.asm_state.specs.Signature.{Shape, functions_of, count_of, state_of}
-use Rattle.asm_state.specs.Updates.{IsConsistent, IsFirstFault, fire}
+use Rattle.asm_state.specs.Signature.{count_of, state_of}
+use Rattle.asm_state.specs.Updates.{UpdateSet, IsConsistent, IsFirstFault, fire}
+use Rattle.asm_syntax.specs.Placed.{Spec}
+use Rattle.asm_check.specs.Faults.{inits}
+use Rattle.asm_check.specs.Numbers.{functions_of}
+use Rattle.asm_check.specs.Shapes.{shape_of}
 use Rattle.asm_updates.specs.declared.fault.Fault.{Fault}
 use Rattle.asm_updates.specs.declared.fault.Fault.TheVariants.{Clash, Outside}
 use Rattle.asm_updates.specs.Faults.{fault_of}
-use Rattle.asm_run.specs.declared.resolved.Assignment.{Assignment}
+use Rattle.asm_eval.specs.Declarations.{program_of, main_rule}
+use Rattle.asm_eval.specs.PlainRules.{set_of}
+use Rattle.asm_eval.specs.Program.{nothing_bound}
 use Rattle.asm_run.specs.declared.end.End.{End}
 use Rattle.asm_run.specs.declared.end.End.TheVariants as end
 use Rattle.asm_run.specs.declared.error.RunError.{RunError}
 use Rattle.asm_run.specs.declared.error.RunError.TheVariants as error
-use Rattle.asm_run.specs.FirstPath.{Text}
-use Rattle.asm_run.specs.Flat.{IsFlat}
 use Rattle.asm_run.specs.Sink.{AppendsFront}
-use Rattle.asm_run.specs.Evaluated.{update_set}
-use Rattle.asm_run.specs.Trace.{step_text}
-use Rattle.asm_run.specs.Written.{names_of, locations_of, clash_line, outside_line}
+use Rattle.asm_run.specs.Trace.{step_text, fault_text}
+use Rattle.asm_run.specs.Written.{names_in, locations_in}
 
-pub record AreSized (names : List Text) (shape : Shape) (contents : List Value) (count : ℕ) : Type 0 where
-  pub flat : IsFlat shape
-  pub names_fit : length names ≡ functions_of shape
-  pub contents_fit : length contents ≡ count_of shape
-  pub set_fits : count ≡ count_of shape
-  pub few : functions_of shape ≤ 256
+abbrev pub main_set : Spec → (contents : List Value) → UpdateSet
+main_set s contents = set_of (program_of s) (state_of (shape_of s) contents) nothing_bound (main_rule s (inits s))
 
-pub record IsFired (names : List Text) (shape : Shape) (assignments : List Assignment) (step : ℕ) (old new : List Value) (text : List ℕ) : Type 0 where
-  pub consistent : IsConsistent (update_set old assignments)
-  pub fired : state_of shape new ≡ fire (state_of shape old) (update_set old assignments)
-  pub written : text ≡ step_text (names_of names) (locations_of (length names)) step (record { set = update_set old assignments; instances = 0 })
+pub record AreSized (s : Spec) (contents : List Value) (count : ℕ) : Type 0 where
+  pub contents_fit : length contents ≡ count_of (shape_of s)
+  pub set_fits : count ≡ count_of (shape_of s)
 
--- the functions of the fault are below n
-abbrev pub IsFaultBelow : ℕ → Fault → Type 0
-IsFaultBelow n (Clash location low high) = location / 2 < n
-IsFaultBelow n (Outside f) = f < n
+pub record IsFired (s : Spec) (step : ℕ) (old new : List Value) (text : List ℕ) : Type 0 where
+  pub consistent : IsConsistent (main_set s old)
+  pub fired : state_of (shape_of s) new ≡ fire (state_of (shape_of s) old) (main_set s old)
+  pub written : text ≡ step_text (names_in s) (locations_in s) step (record { set = main_set s old; instances = 0 })
 
-pub record IsStopped (shape : Shape) (functions : ℕ) (assignments : List Assignment) (old new : List Value) (fault : Fault) : Type 0 where
-  pub is_first : IsFirstFault (update_set old assignments) (fault_of shape fault)
-  pub below : IsFaultBelow functions fault
+-- the fault is at a location, or a function, of the specification
+abbrev pub IsFaultBelow : Spec → Fault → Type 0
+IsFaultBelow s (Clash location low high) = location < count_of (shape_of s)
+IsFaultBelow s (Outside f) = f < length (functions_of s)
+
+pub record IsStopped (s : Spec) (old new : List Value) (fault : Fault) : Type 0 where
+  pub is_first : IsFirstFault (main_set s old) (fault_of (shape_of s) fault)
+  pub below : IsFaultBelow s fault
   pub stays : new ≡ old
 
-abbrev pub fault_line : List Text → (step : ℕ) → Fault → List ℕ
-fault_line names step (Clash location low high) = clash_line names step (location / 2) low high
-fault_line names step (Outside f) = outside_line names step f
+abbrev pub fault_line : Spec → (step : ℕ) → Fault → List ℕ
+fault_line s step fault = fault_text (names_in s) step (fault_of (shape_of s) fault)
 
 abbrev pub end_of_fault : Fault → End
 end_of_fault (Clash location low high) = end.Clash

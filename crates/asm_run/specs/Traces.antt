@@ -7,7 +7,8 @@ use Rattle.asm_syntax.specs.Placed.{Spec}
 use Rattle.asm_eval.specs.Does.{Script}
 use Rattle.asm_eval.specs.Run.{Run}
 use Rattle.asm_run.specs.Trace.{Names, IsTrace}
-use Rattle.asm_run.specs.Headline.{book_run, names_in, locations_in}
+use Rattle.asm_run.specs.Written.{names_in, locations_in}
+use Rattle.asm_run.specs.Headline.{book_run}
 
 abbrev pub OneTrace : Type 0
 OneTrace = (names : Names) (ls : List Location) (i : ℕ) (r : Run) (a b : List ℕ) → IsTrace names ls i r a → IsTrace names ls i r b → a ≡ b

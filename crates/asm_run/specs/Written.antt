@@ -1,39 +1,44 @@
--- What is written of specifications whose functions have no arguments.
---     names_of functions          no elements are declared
---     locations_of n              the proper locations of so many functions, in order
---     update_line, step_line      a line of a step;  its first line
---     contents_text, entries_text      the last state;  the lines of a set
-use Rattle.std.specs.Prelude.{ℕ, ◌*◌, List, [], ◌++◌, length, map, slice_index_or, Option, codes, decimal}
+-- What is written of a specification's locations.
+--     names_in s, locations_in s      what its functions and elements are called;  its proper locations, in order
+--     step_line                       the first line of a step
+--     entries_text, contents_text     the lines of the entries of a set;  the last state
+use Rattle.std.specs.Prelude.{ℕ, cond, List, [], ◌++◌, map, filter, slice_index_or, Some, codes, decimal}
 use Rattle.std.specs.List.{flat_map, range_with_len}
 use Rattle.asm_state.specs.declared.value.Value.{Value}
 use Rattle.asm_state.specs.declared.value.Value.TheVariants.{Undef}
-use Rattle.asm_state.specs.Location.{Location, Proper}
-use Rattle.asm_state.specs.Updates.{Range}
-use Rattle.asm_run.specs.Trace.{Names, line_end, function_text, value_text, update_text, content_text}
+use Rattle.asm_state.specs.Location.{Location}
+use Rattle.asm_state.specs.Signature.{locations, location_at, count_of}
+use Rattle.asm_state.specs.Updates.{is_proper}
+use Rattle.asm_syntax.specs.Placed.{Spec}
+use Rattle.asm_check.specs.Names.{Declaration}
+use Rattle.asm_check.specs.Numbers.{functions_of, elements_of}
+use Rattle.asm_check.specs.Shapes.{shape_of}
+use Rattle.asm_updates.specs.Entries.{NamedRanges, range}
+use Rattle.asm_run.specs.Trace.{Names, line_end, update_text, content_text}
 
-abbrev pub names_of : List (List ℕ) → Names
-names_of functions = record { functions = functions; elements = [] }
+abbrev pub texts_of : List Declaration → List (List ℕ)
+texts_of ds = map (λ (d : Declaration). d.name.text) ds
 
-abbrev pub locations_of : ℕ → List Location
-locations_of n = map (λ f. Proper f []) (range_with_len 0 n)
+abbrev pub names_in : Spec → Names
+names_in s = record { functions = texts_of (functions_of s); elements = texts_of (elements_of s) }
 
-abbrev pub update_line : List (List ℕ) → ℕ → Value → List ℕ
-update_line functions f v = function_text (names_of functions) f ++ (codes " := " ++ (value_text [] v ++ line_end))
+abbrev pub locations_in : Spec → List Location
+locations_in s = filter is_proper (locations (shape_of s))
 
 abbrev pub step_line : (step instances : ℕ) → List ℕ
 step_line step instances = codes "step " ++ (decimal step ++ (codes " instances " ++ (decimal instances ++ line_end)))
 
-abbrev pub clash_line : List (List ℕ) → (step f : ℕ) → (low high : Value) → List ℕ
-clash_line functions step f low high = codes "end clash step " ++ (decimal step ++ (codes " " ++ (function_text (names_of functions) f
-    ++ (codes " least " ++ (value_text [] low ++ (codes " greatest " ++ (value_text [] high ++ line_end)))))))
+-- an entry of a set, with the number of its location
+abbrev pub entry_line : Spec → ℕ × (Value × Value) → List ℕ
+entry_line s e = update_text (names_in s) (location_at (shape_of s) e.0) (Some (range e.1))
 
-abbrev pub outside_line : List (List ℕ) → (step f : ℕ) → List ℕ
-outside_line functions step f = codes "end outside step " ++ (decimal step ++ (codes " " ++ (function_text (names_of functions) f ++ line_end)))
+abbrev pub entries_text : Spec → NamedRanges → List ℕ
+entries_text s es = flat_map (entry_line s) es
 
--- the contents go by the numbers of locations: the proper one of each function, and then its stray one
-abbrev pub contents_text : List (List ℕ) → List Value → List ℕ
-contents_text functions contents = codes "state" ++ (line_end
-    ++ flat_map (λ f. content_text (names_of functions) (Proper f []) (slice_index_or contents (2 * f) Undef)) (range_with_len 0 (length functions)))
+-- the content of the location with this number, if it is proper
+abbrev pub content_line : Spec → List Value → ℕ → List ℕ
+content_line s contents n =
+    cond (is_proper (location_at (shape_of s) n)) (content_text (names_in s) (location_at (shape_of s) n) (slice_index_or contents n Undef)) []
 
-abbrev pub entries_text : List (List ℕ) → (ℕ → Option Range) → List ℕ
-entries_text functions ranges = flat_map (λ f. update_text (names_of functions) (Proper f []) (ranges (2 * f))) (range_with_len 0 (length functions))
+abbrev pub contents_text : Spec → List Value → List ℕ
+contents_text s contents = codes "state" ++ (line_end ++ flat_map (content_line s contents) (range_with_len 0 (count_of (shape_of s))))

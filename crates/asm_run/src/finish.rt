@@ -1,5 +1,8 @@
 //! The last lines of a run.
-ghost use Rattle.std.specs.Prelude.{◌≡◌, ◌*◌, ◌++◌, false, length, OnOk, codes};
+ghost use Rattle.std.specs.Prelude.{◌≡◌, ◌++◌, false, length, OnOk, codes};
+ghost use Rattle.asm_state.specs.Signature.{count_of};
+ghost use Rattle.asm_syntax.specs.Views.{spec_of};
+ghost use Rattle.asm_check.specs.Shapes.{shape_of};
 ghost use Rattle.asm_run.specs.declared.end.End.TheVariants.{Limit};
 ghost use Rattle.asm_run.specs.Trace.{line_end};
 ghost use Rattle.asm_run.specs.Written.{contents_text};
@@ -10,25 +13,30 @@ use crate::error::RunError;
 use crate::sink::Sink;
 use crate::trace::{push_clash, push_limit, push_outside, push_state};
 use crate::write_all::write_all;
+use asm_check::Checked;
 use asm_state::state::State;
-use asm_syntax::name::Text;
 use asm_updates::fault::Fault;
-use std::alloc::AllocError;
+use std::alloc::{AllocError, Global};
 
 /// Adds the line of a fault.
-fn push_fault(out: &mut Vec<u8>, names: &[Text], step: u64, fault: Fault) -> Result<(), AllocError>
-    requires { IsFaultBelow (length names.now) fault }
-    ensures { OnOk result (out.new.items ≡ out.old.items ++ fault_line names.now step fault) }
+fn push_fault(
+    alloc: Global,
+    out: &mut Vec<u8>,
+    checked: &Checked,
+    step: u64,
+    fault: Fault,
+) -> Result<(), AllocError>
+    requires { IsFaultBelow (spec_of checked.now.spec) fault }
+    ensures { OnOk result (out.new.items ≡ out.old.items ++ fault_line (spec_of checked.now.spec) step fault) }
 {
     match fault {
         Fault::Clash {
             location,
             low,
             high,
-        } => push_clash(out, names, step, location / 2, low, high)?,
-        Fault::Outside { function } => push_outside(out, names, step, function)?,
+        } => push_clash(alloc, out, checked, step, location, low, high),
+        Fault::Outside { function } => push_outside(out, checked, step, function),
     }
-    Ok(())
 }
 
 /// The answer for a fault.
@@ -43,39 +51,43 @@ fn end_of(fault: Fault) -> End
 
 /// Writes the lines for a run that stops at a fault.
 pub fn finish_at_fault<S: Sink>(
+    alloc: Global,
     text: &mut Vec<u8>,
-    names: &[Text],
+    checked: &Checked,
     step: u64,
     fault: Fault,
     state: &State,
     out: &mut S,
 ) -> Result<End, RunError>
     requires open { S.has_failed out.old ≡ false }
-    requires below { IsFaultBelow (length names.now) fault }
-    requires whole { length state.now ≡ 2 * length names.now }
-    ensures { Finishes (S.bytes out.old) (S.bytes out.new) (S.has_failed out.new) (fault_line names.now step fault ++ contents_text names.now state.now) (end_of_fault fault) result }
+    requires below { IsFaultBelow (spec_of checked.now.spec) fault }
+    requires whole { length state.now ≡ count_of (shape_of (spec_of checked.now.spec)) }
+    ensures { let s = spec_of checked.now.spec in
+        Finishes (S.bytes out.old) (S.bytes out.new) (S.has_failed out.new) (fault_line s step fault ++ contents_text s state.now) (end_of_fault fault) result }
 {
     text.clear();
-    push_fault(text, names, step, fault)?;
-    push_state(text, names, state)?;
+    push_fault(alloc, text, checked, step, fault)?;
+    push_state(alloc, text, checked, state)?;
     write_all(out, text.as_slice())?;
     Ok(end_of(fault))
 }
 
 /// Writes the lines for a run that makes all its steps.
 pub fn finish_at_limit<S: Sink>(
+    alloc: Global,
     text: &mut Vec<u8>,
-    names: &[Text],
+    checked: &Checked,
     state: &State,
     out: &mut S,
 ) -> Result<End, RunError>
     requires open { S.has_failed out.old ≡ false }
-    requires whole { length state.now ≡ 2 * length names.now }
-    ensures { Finishes (S.bytes out.old) (S.bytes out.new) (S.has_failed out.new) ((codes "end limit" ++ line_end) ++ contents_text names.now state.now) Limit result }
+    requires whole { length state.now ≡ count_of (shape_of (spec_of checked.now.spec)) }
+    ensures { let s = spec_of checked.now.spec in
+        Finishes (S.bytes out.old) (S.bytes out.new) (S.has_failed out.new) ((codes "end limit" ++ line_end) ++ contents_text s state.now) Limit result }
 {
     text.clear();
     push_limit(text)?;
-    push_state(text, names, state)?;
+    push_state(alloc, text, checked, state)?;
     write_all(out, text.as_slice())?;
     Ok(End::Limit)
 }

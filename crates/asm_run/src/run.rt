@@ -3,11 +3,10 @@ ghost use Rattle.std.specs.Prelude.{◌≡◌, ◌↔◌, false, IsTrue, IfOk, I
 ghost use Rattle.asm_run.specs.Headline.{IsDone, Explains};
 ghost use Rattle.asm_run.specs.declared.error.RunError.TheVariants.{Write};
 
+use crate::covered::is_covered;
 use crate::end::End;
 use crate::error::RunError;
-use crate::flat::flat_signature;
 use crate::limits::Limits;
-use crate::numbered::{Numbered, number_names};
 use crate::sink::Sink;
 use crate::steps::run_steps;
 use asm_check::check;
@@ -17,8 +16,9 @@ use std::thread::Threads;
 
 /// Runs the specification with this text, and writes its trace: the text of each step when it is whole, and then the last lines.
 ///
-/// A text that is no specification is refused, and so are a specification with a fault, one beyond the first path, and limits out of their
-/// ranges; then nothing is written. The script isn't looked at, since no rule of the first path makes choices. No thread is started yet.
+/// A text that is no specification is refused, and so are a specification with a fault, one with a construction that doesn't run yet, and
+/// limits out of their ranges; then nothing is written. The script isn't looked at, since no rule that runs yet makes choices. No thread is
+/// started yet.
 pub fn run<R: Threads, S: Sink>(
     _rt: &R,
     alloc: Global,
@@ -38,17 +38,12 @@ pub fn run<R: Threads, S: Sink>(
 {
     let tree = read(alloc, spec)?;
     let checked = check(alloc, tree)?;
-    let Some(numbered) = number_names(alloc, &checked.spec)? else {
+    if !is_covered(&checked.spec) {
         return Err(RunError::Beyond);
-    };
+    }
     if !limits.are_in_range() {
         return Err(RunError::Limits);
     }
-    let Numbered {
-        names,
-        initial,
-        assignments,
-    } = numbered;
-    let signature = flat_signature(alloc, &initial)?;
-    run_steps(alloc, &names, &signature, &assignments, limits.steps, out)
+    let (_parameters, main) = checked.rule(checked.main());
+    run_steps(alloc, &checked, main, limits.steps, out)
 }

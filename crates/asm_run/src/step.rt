@@ -1,42 +1,70 @@
 //! One step of a run.
-ghost use Rattle.std.specs.Prelude.{◌≡◌, length, IfOk, IfSome, IfNone, OnOk};
-ghost use Rattle.std.specs.List.{AllByRecursion};
-ghost use Rattle.asm_run.specs.Resolved.{IsBelow};
-ghost use Rattle.asm_run.specs.Step.{AreSized, IsFired, IsStopped};
+ghost use Rattle.std.specs.Prelude.{◌≡◌, true, IfOk, IfSome, IfNone, OnOk};
+ghost use Rattle.asm_syntax.specs.Unplaced.{plain_rule};
+ghost use Rattle.asm_syntax.specs.Views.{spec_of, rule_of};
+ghost use Rattle.asm_check.specs.Faults.{inits};
+ghost use Rattle.asm_check.specs.Shapes.{shape_of};
+ghost use Rattle.asm_updates.specs.Stands.{Stands};
+ghost use Rattle.asm_eval.specs.Declarations.{main_rule};
+ghost use Rattle.asm_eval.specs.PlainRules.{is_plain};
+ghost use Rattle.asm_run.specs.Step.{AreSized, IsFired, IsStopped, main_set};
 
-use crate::evaluate::form;
-use crate::resolved::Assignment;
 use crate::trace::push_step;
-use asm_state::signature::Signature;
+use asm_check::Checked;
+use asm_eval::form::form;
+use asm_eval::{Env, View};
 use asm_state::state::State;
-use asm_syntax::name::Text;
+use asm_syntax::rule::Rule;
 use asm_updates::fault::Fault;
 use asm_updates::summary::Summary;
-use std::alloc::AllocError;
+use std::alloc::{AllocError, Global};
+
+/// Adds the updates of the main rule to the empty set.
+fn form_main(
+    alloc: Global,
+    checked: &Checked,
+    main: &Rule,
+    state: &State,
+    set: &mut Summary,
+) -> Result<(), AllocError>
+    requires sized { AreSized (spec_of checked.now.spec) state.now set.old.count }
+    requires main { plain_rule (rule_of main.now) ≡ main_rule (spec_of checked.now.spec) (inits (spec_of checked.now.spec)) }
+    requires plain { is_plain (plain_rule (rule_of main.now)) ≡ true }
+    ensures count { set.new.count ≡ set.old.count }
+    ensures formed { OnOk result (Stands (shape_of (spec_of checked.now.spec)) set.new (main_set (spec_of checked.now.spec) state.now)) }
+{
+    set.clear();
+    let signature = checked.signature();
+    let nothing = Summary::new(alloc, signature.count());
+    let view = View::new(signature, state, nothing);
+    let env = Env::new();
+    form(alloc, checked, &view, &env, main, set)
+}
 
 /// Forms the set of a step. Fires it and puts the text of the step in place of what was there, or answers the set's first fault.
 pub fn make_step(
-    names: &[Text],
-    signature: &Signature,
-    assignments: &[Assignment],
+    alloc: Global,
+    checked: &Checked,
+    main: &Rule,
     step: u64,
     state: &mut State,
     set: &mut Summary,
     text: &mut Vec<u8>,
 ) -> Result<Option<Fault>, AllocError>
-    requires sized { AreSized names.now signature.now state.old set.old.count }
-    requires below { AllByRecursion (IsBelow (length names.now)) assignments.now }
-    ensures sized { OnOk result (AreSized names.now signature.now state.new set.new.count) }
-    ensures fired { IfOk result (λ fault. IfNone fault (IsFired names.now signature.now assignments.now step state.old state.new text.new.items)) }
-    ensures stopped { IfOk result (λ fault. IfSome fault (IsStopped signature.now (length names.now) assignments.now state.old state.new)) }
+    requires sized { AreSized (spec_of checked.now.spec) state.old set.old.count }
+    requires main { plain_rule (rule_of main.now) ≡ main_rule (spec_of checked.now.spec) (inits (spec_of checked.now.spec)) }
+    requires plain { is_plain (plain_rule (rule_of main.now)) ≡ true }
+    ensures sized { OnOk result (AreSized (spec_of checked.now.spec) state.new set.new.count) }
+    ensures fired { IfOk result (λ fault. IfNone fault (IsFired (spec_of checked.now.spec) step state.old state.new text.new.items)) }
+    ensures stopped { IfOk result (λ fault. IfSome fault (IsStopped (spec_of checked.now.spec) state.old state.new)) }
 {
-    set.clear();
-    form(assignments, state, set)?;
-    if let Some(fault) = set.first_fault(signature) {
+    form_main(alloc, checked, main, state, set)?;
+    if let Some(fault) = set.first_fault(checked.signature()) {
         return Ok(Some(fault));
     }
+    set.sort()?;
     text.clear();
-    push_step(text, names, step, set)?;
+    push_step(alloc, text, checked, step, set)?;
     set.fire_into(state);
     Ok(None)
 }

@@ -1,77 +1,84 @@
-//! The text of a trace.
-ghost use Rattle.std.specs.Prelude.{◌≡◌, ◌*◌, ◌<◌, ◌++◌, [], length, OnOk, codes};
-ghost use Rattle.asm_state.specs.Location.{Proper};
-ghost use Rattle.std.specs.Option.{option_map};
-ghost use Rattle.asm_updates.specs.Entries.{entry, range};
-ghost use Rattle.asm_run.specs.Trace.{line_end, value_text, update_text, content_text};
-ghost use Rattle.asm_run.specs.Written.{names_of, update_line, step_line, clash_line, outside_line, contents_text, entries_text};
+//! The lines of a trace.
+ghost use Rattle.std.specs.Prelude.{◌≡◌, ◌<◌, ◌++◌, Some, length, OnOk, codes};
+ghost use Rattle.asm_state.specs.Location.{function_of};
+ghost use Rattle.asm_state.specs.Places.{location_of};
+ghost use Rattle.asm_state.specs.Signature.{count_of};
+ghost use Rattle.asm_syntax.specs.Views.{spec_of};
+ghost use Rattle.asm_check.specs.Numbers.{functions_of};
+ghost use Rattle.asm_check.specs.Shapes.{shape_of};
+ghost use Rattle.asm_updates.specs.Entries.{range};
+ghost use Rattle.asm_updates.specs.declared.fault.Fault.TheVariants as fault;
+ghost use Rattle.asm_run.specs.Step.{fault_line};
+ghost use Rattle.asm_run.specs.Trace.{line_end, update_text};
+ghost use Rattle.asm_run.specs.Written.{names_in, step_line, entries_text, content_line, contents_text};
 
-use crate::text::{push_count, push_number, push_text};
+use crate::locations::{push_function, push_location, push_value};
+use crate::text::{push_count, push_text};
+use asm_check::Checked;
+use asm_state::place::Place;
 use asm_state::state::State;
 use asm_state::value::Value;
-use asm_syntax::name::Text;
 use asm_updates::summary::Summary;
-use std::alloc::AllocError;
+use std::alloc::{AllocError, Global};
 
-/// Adds a value. No elements are declared, so none has a name.
-fn push_value(out: &mut Vec<u8>, value: Value) -> Result<(), AllocError>
-    ensures { OnOk result (out.new.items ≡ out.old.items ++ value_text [] value) }
-{
-    match value {
-        Value::Undef => push_text(out, b"undef"),
-        Value::Truth(false) => push_text(out, b"false"),
-        Value::Truth(true) => push_text(out, b"true"),
-        Value::Number(number) => push_number(out, number.value),
-        Value::Element(_) => Ok(()),
-    }
-}
-
-/// Adds the line of an update of the function with this number.
+/// Adds the line of an update of the location.
 fn push_update(
     out: &mut Vec<u8>,
-    names: &[Text],
-    function: usize,
-    value: Value,
+    checked: &Checked,
+    place: &Place,
+    bounds: (Value, Value),
 ) -> Result<(), AllocError>
-    requires { function < length names.now }
-    ensures { OnOk result (out.new.items ≡ out.old.items ++ update_line names.now function value) }
+    requires { function_of (location_of place.now) < length (functions_of (spec_of checked.now.spec)) }
+    ensures { let names = names_in (spec_of checked.now.spec) in
+        OnOk result (out.new.items ≡ out.old.items ++ update_text names (location_of place.now) (Some (range bounds))) }
 {
-    push_text(out, names[function].as_bytes())?;
+    push_location(out, checked, place)?;
     push_text(out, b" := ")?;
-    push_value(out, value)?;
-    push_text(out, b"\n")?;
-    Ok(())
+    push_value(out, checked, bounds.0)?;
+    push_text(out, b"\n")
 }
 
-/// Adds the line of a content of the function with this number, unless it is undef.
-fn push_content(
+/// Adds the line of a location in the last state, if it is proper and isn't undef there.
+fn push_line(
+    alloc: Global,
     out: &mut Vec<u8>,
-    names: &[Text],
-    function: usize,
-    value: Value,
+    checked: &Checked,
+    state: &State,
+    n: usize,
 ) -> Result<(), AllocError>
-    requires { function < length names.now }
-    ensures { OnOk result (out.new.items ≡ out.old.items ++ content_text (names_of names.now) (Proper function []) value) }
+    requires whole { length state.now ≡ count_of (shape_of (spec_of checked.now.spec)) }
+    requires in_range { n < length state.now }
+    ensures { OnOk result (out.new.items ≡ out.old.items ++ content_line (spec_of checked.now.spec) state.now n) }
 {
+    let signature = checked.signature();
+    if signature.stray(n).is_some() {
+        return Ok(());
+    }
+    let value = state.content(n);
     if value == Value::Undef {
         return Ok(());
     }
-    push_text(out, names[function].as_bytes())?;
+    let place = signature.location(alloc, n)?;
+    push_location(out, checked, &place)?;
     push_text(out, b" = ")?;
-    push_value(out, value)?;
-    push_text(out, b"\n")?;
-    Ok(())
+    push_value(out, checked, value)?;
+    push_text(out, b"\n")
 }
 
 /// Adds the last state.
 #[tactic(auto, using(crate::proofs::Ranges::text_more))]
-pub fn push_state(out: &mut Vec<u8>, names: &[Text], state: &State) -> Result<(), AllocError>
-    requires { length state.now ≡ 2 * length names.now }
-    ensures { OnOk result (out.new.items ≡ out.old.items ++ contents_text names.now state.now) }
+pub fn push_state(
+    alloc: Global,
+    out: &mut Vec<u8>,
+    checked: &Checked,
+    state: &State,
+) -> Result<(), AllocError>
+    requires { length state.now ≡ count_of (shape_of (spec_of checked.now.spec)) }
+    ensures { OnOk result (out.new.items ≡ out.old.items ++ contents_text (spec_of checked.now.spec) state.now) }
 {
     push_text(out, b"state\n")?;
-    for function in 0..names.len() {
-        push_content(out, names, function, state.content(2 * function))?;
+    for n in 0..checked.signature().count() {
+        push_line(alloc, out, checked, state, n)?;
     }
     Ok(())
 }
@@ -88,76 +95,68 @@ fn push_step_line(out: &mut Vec<u8>, step: u64, instances: u64) -> Result<(), Al
     Ok(())
 }
 
-/// Adds the line of what a set has at the function with this number.
-fn push_entry(
+/// Adds the lines of a set, in the order of its entries.
+fn push_set(
+    alloc: Global,
     out: &mut Vec<u8>,
-    names: &[Text],
-    function: usize,
-    bounds: Option<(Value, Value)>,
+    checked: &Checked,
+    set: &Summary,
 ) -> Result<(), AllocError>
-    requires { function < length names.now }
-    ensures { OnOk result (out.new.items ≡ out.old.items ++ update_text (names_of names.now) (Proper function []) (option_map range bounds)) }
+    requires { set.now.count ≡ count_of (shape_of (spec_of checked.now.spec)) }
+    ensures { OnOk result (out.new.items ≡ out.old.items ++ entries_text (spec_of checked.now.spec) set.now.ranges) }
 {
-    match bounds {
-        Some((value, _)) => push_update(out, names, function, value)?,
-        None => {}
+    for i in 0..set.len() {
+        let (n, low, high) = set.entry_at(i);
+        let place = checked.signature().location(alloc, n)?;
+        push_update(out, checked, &place, (low, high))?;
     }
     Ok(())
 }
 
-/// Adds the lines of a set.
-#[tactic(auto, using(crate::proofs::Ranges::text_more))]
-fn push_set(out: &mut Vec<u8>, names: &[Text], set: &Summary) -> Result<(), AllocError>
-    ensures { OnOk result (out.new.items ≡ out.old.items ++ entries_text names.now (entry set.now)) }
-{
-    for function in 0..names.len() {
-        push_entry(out, names, function, set.get(2 * function))?;
-    }
-    Ok(())
-}
-
-/// Adds the text of a step that is fired.
+/// Adds the text of a step that is fired, with the entries of its set in their order.
 pub fn push_step(
+    alloc: Global,
     out: &mut Vec<u8>,
-    names: &[Text],
+    checked: &Checked,
     step: u64,
     set: &Summary,
 ) -> Result<(), AllocError>
-    ensures { OnOk result (out.new.items ≡ out.old.items ++ (step_line step 0 ++ entries_text names.now (entry set.now))) }
+    requires { set.now.count ≡ count_of (shape_of (spec_of checked.now.spec)) }
+    ensures { OnOk result (out.new.items ≡ out.old.items ++ (step_line step 0 ++ entries_text (spec_of checked.now.spec) set.now.ranges)) }
 {
     push_step_line(out, step, 0)?;
-    push_set(out, names, set)?;
-    Ok(())
+    push_set(alloc, out, checked, set)
 }
 
 /// Adds the line for a run that makes all its steps.
 pub fn push_limit(out: &mut Vec<u8>) -> Result<(), AllocError>
     ensures { OnOk result (out.new.items ≡ out.old.items ++ (codes "end limit" ++ line_end)) }
 {
-    push_text(out, b"end limit\n")?;
-    Ok(())
+    push_text(out, b"end limit\n")
 }
 
 /// Adds the line for a location with two values.
 pub fn push_clash(
+    alloc: Global,
     out: &mut Vec<u8>,
-    names: &[Text],
+    checked: &Checked,
     step: u64,
-    function: usize,
+    location: usize,
     low: Value,
     high: Value,
 ) -> Result<(), AllocError>
-    requires { function < length names.now }
-    ensures { OnOk result (out.new.items ≡ out.old.items ++ clash_line names.now step function low high) }
+    requires { location < count_of (shape_of (spec_of checked.now.spec)) }
+    ensures { OnOk result (out.new.items ≡ out.old.items ++ fault_line (spec_of checked.now.spec) step (fault.Clash location low high)) }
 {
+    let place = checked.signature().location(alloc, location)?;
     push_text(out, b"end clash step ")?;
     push_count(out, step)?;
     push_text(out, b" ")?;
-    push_text(out, names[function].as_bytes())?;
+    push_location(out, checked, &place)?;
     push_text(out, b" least ")?;
-    push_value(out, low)?;
+    push_value(out, checked, low)?;
     push_text(out, b" greatest ")?;
-    push_value(out, high)?;
+    push_value(out, checked, high)?;
     push_text(out, b"\n")?;
     Ok(())
 }
@@ -165,17 +164,16 @@ pub fn push_clash(
 /// Adds the line for an update outside a function's domain.
 pub fn push_outside(
     out: &mut Vec<u8>,
-    names: &[Text],
+    checked: &Checked,
     step: u64,
     function: usize,
 ) -> Result<(), AllocError>
-    requires { function < length names.now }
-    ensures { OnOk result (out.new.items ≡ out.old.items ++ outside_line names.now step function) }
+    requires { function < length (functions_of (spec_of checked.now.spec)) }
+    ensures { OnOk result (out.new.items ≡ out.old.items ++ fault_line (spec_of checked.now.spec) step (fault.Outside function)) }
 {
     push_text(out, b"end outside step ")?;
     push_count(out, step)?;
     push_text(out, b" ")?;
-    push_text(out, names[function].as_bytes())?;
-    push_text(out, b"\n")?;
-    Ok(())
+    push_function(out, checked, function)?;
+    push_text(out, b"\n")
 }

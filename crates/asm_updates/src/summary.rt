@@ -98,6 +98,7 @@ impl Summary {
         ensures len { length self.new.ranges ≡ length self.old.ranges }
         ensures entries { (n : ℕ) → entry self.new n ≡ entry self.old n }
         ensures rising { OnOk result (IsStrictlyIncreasing (keys_of self.new.ranges)) }
+        ensures sound { AreEntries self.new.count self.new.ranges }
         ensures err { OnErr result (self.new ≡ self.old) }
     {
         self.ranges.sort_unstable_keys()

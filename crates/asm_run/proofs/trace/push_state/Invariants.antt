@@ -1,11 +1,8 @@
-use Rattle.std.proofs.Common.{◌≡◌, ◌*◌, ◌++◌, [], slice_index_or}
+use Rattle.std.proofs.Common.{◌≡◌, ◌++◌}
 use Rattle.std.specs.List.{flat_map, range_with_len}
-use Rattle.asm_state.specs.declared.value.Value.TheVariants.{Undef}
-use Rattle.asm_state.specs.Location.{Proper}
-use Rattle.asm_run.specs.Trace.{content_text}
-use Rattle.asm_run.specs.Written.{names_of}
+use Rattle.asm_syntax.specs.Views.{spec_of}
+use Rattle.asm_run.specs.Written.{content_line}
 use Rattle.asm_run.proofs.trace.push_state.Given as goal
 
-abbrev pub invariant-loop-function : goal.invariant-loop-function
-invariant-loop-function l =
-    l.out.items ≡ l.initial.out.items ++ flat_map (λ f. content_text (names_of l.names) (Proper f []) (slice_index_or l.state (2 * f) Undef)) (range_with_len 0 l.function)
+abbrev pub invariant-loop-n : goal.invariant-loop-n
+invariant-loop-n l = l.out.items ≡ l.initial.out.items ++ flat_map (content_line (spec_of l.checked.spec) l.state) (range_with_len 0 l.n)

@@ -1,0 +1,9 @@
+use Rattle.std.proofs.Common.{◌∙◌}
+use Rattle.asm_syntax.specs.Views.{spec_of}
+use Rattle.asm_check.proofs.Readers.{elements_counted}
+use Rattle.asm_check.proofs.checked.Checked.elements.Goals as goal
+
+pub returns : goal.returns
+returns c =
+    let self = c.args.self.now in
+    c.elements.ensures ∙ elements_counted (spec_of self.spec) self.numbering self.numbered

@@ -1,0 +1,76 @@
+-- The value of what a number stands for.
+use Rattle.std.proofs.Common.{◌≡◌, ℕ, zero, suc, ◌<◌, true, List, [], ◌∷◌, length, map, Option, Some, None, refl, ap, subst, ◌∙◌, arith}
+use Rattle.std.specs.List.{All}
+use Rattle.std.specs.Prelude.{option_map, slice_get}
+use Rattle.std.proofs.lemmas.List.Elements.{filter_passes}
+use Rattle.asm_state.specs.declared.value.Value.{Value}
+use Rattle.asm_state.specs.declared.value.Value.TheVariants.{Undef}
+use Rattle.asm_state.specs.Location.{State}
+use Rattle.asm_state.specs.Signature.{Shape}
+use Rattle.asm_syntax.specs.Placed.{Spec}
+use Rattle.asm_syntax.specs.Unplaced.{plain_term}
+use Rattle.asm_syntax.specs.Views.{term_of, name_of}
+use Rattle.asm_syntax.specs.declared.name.Name.{Name}
+use Rattle.asm_syntax.specs.declared.term.Term.{Term}
+use Rattle.asm_check.proofs.SignatureNumbers.{signature_numbers}
+use Rattle.asm_check.specs.Faults.{IsWellFormed}
+use Rattle.asm_check.specs.Limits.{is_rule}
+use Rattle.asm_check.specs.NumberTables.{IsInRange}
+use Rattle.asm_check.specs.Names as names
+use Rattle.asm_check.specs.Names.{Meaning, Declaration, first_declarations}
+use Rattle.asm_check.specs.Numbers.{elements_of, functions_of, derived_of, rules_of, meaning_at}
+use Rattle.asm_check.specs.Shapes.{shape_of}
+use Rattle.asm_check.specs.declared.checked.Named.{Named}
+use Rattle.asm_check.specs.declared.checked.Named.TheVariants as number
+use Rattle.asm_eval.specs.Declarations.{numbered, body_of}
+use Rattle.asm_eval.specs.Environments.{text_of}
+use Rattle.asm_eval.specs.Program.{Program, Derived, Universe}
+use Rattle.asm_eval.specs.Valued.{declared_value}
+
+-- the numbers of elements and of functions are below the signature's limits
+pub element_below : (spec : Spec) (it : Option Named) (e : ℕ) → IsWellFormed spec → IsInRange spec it → it ≡ Some (number.Element e) → e < 262_144
+element_below spec it e good below is =
+    let own : e < length (elements_of spec) = subst (IsInRange spec) is below in
+    let few = (signature_numbers spec good).few_elements in
+    omega (arith, few, own)
+
+pub function_below : (spec : Spec) (shape : Shape) (it : Option Named) (f : ℕ) → IsWellFormed spec → shape ≡ shape_of spec → IsInRange spec it → it ≡ Some (number.Function f)
+    → f < length shape.functions
+function_below spec shape it f good shaped below is =
+    let own : f < length (functions_of spec) = subst (IsInRange spec) is below in
+    let same = (signature_numbers spec good).count_of_functions in
+    let held : length shape.functions ≡ length (shape_of spec).functions = ap (λ s. length s.functions) shaped in
+    omega (arith, same, held, own)
+
+-- the texts of placed names are those of the names
+texts : (xs : List Name) → map names.text_of (map name_of xs) ≡ map text_of xs
+texts [] = refl
+texts (x ∷ xs) = ap (λ ys. x.text ∷ ys) (texts xs)
+
+-- a derived function with the code's parameters and body
+pub numbered_derived : (spec : Spec) (it : Option Named) (d : ℕ) (xs : List Name) (t : Term) → it ≡ Some (number.Derived d)
+    → meaning_at (derived_of spec) d ≡ Some (names.Derived (map name_of xs) (term_of t))
+    → numbered spec it ≡ Some (Derived (map text_of xs) (plain_term (term_of t)))
+numbered_derived spec it d xs t is meant = ap (numbered spec) is ∙ ap body_of meant ∙ ap (λ ys. Some (Derived ys (plain_term (term_of t)))) (texts xs)
+
+-- ---- what has no value
+
+module _ (program : Program) (A : State) (vs : List Value) where
+  rule_undef : (m : Meaning) → is_rule m ≡ true → Undef ≡ declared_value program A (body_of (Some m)) vs
+  rule_undef (names.Derived xs t) is = cc
+  rule_undef m is = refl
+
+  rules_undef : (ds : List Declaration) (r : ℕ) → All (λ d. is_rule d.meaning ≡ true) ds → Undef ≡ declared_value program A (body_of (meaning_at ds r)) vs
+  rules_undef [] r each = refl
+  rules_undef (d ∷ ds) zero each = rule_undef d.meaning (each 0 d (omega arith))
+  rules_undef (d ∷ ds) (suc r) each = rules_undef ds r (λ k d below. each (suc k) d (omega arith))
+
+  pub universe_undef : (spec : Spec) (n : ℕ) → Undef ≡ declared_value program A (numbered spec (Some (number.Universe n))) vs
+  universe_undef spec n = by (slice_get (shape_of spec).universes n)
+    where
+      by : (o : Option (List Value)) → Undef ≡ declared_value program A (option_map Universe o) vs
+      by None = refl
+      by (Some us) = refl
+
+  pub called_undef : (spec : Spec) (r : ℕ) → Undef ≡ declared_value program A (numbered spec (Some (number.Called r))) vs
+  called_undef spec r = rules_undef (rules_of spec) r (filter_passes (λ d. is_rule d.meaning) (first_declarations spec))

@@ -1,0 +1,92 @@
+-- The controlled function that a name stands for, and its location.
+use Rattle.std.proofs.Common.{◌≡◌, ℕ, ◌+◌, ◌<◌, List, [], ◌∷◌, ◌++◌, map, take, slice_index_or, slice_set, Option, Some, None, length, refl, sym, ap, subst, ◌∙◌, arith}
+use Rattle.std.specs.Prelude.{slice_get, option_map}
+use Rattle.std.proofs.lemmas.List.{map-append, take_more, take_more_set}
+use Rattle.asm_state.specs.declared.value.Value.{Value}
+use Rattle.asm_state.specs.declared.function.Function as state
+use Rattle.asm_state.specs.declared.function.Kind.TheVariants as kind
+use Rattle.asm_state.specs.Signature.{Shape, functions_of, domain_by, domain_of}
+use Rattle.asm_state.specs.Updates.{none}
+use Rattle.asm_syntax.specs.Placed.{Spec}
+use Rattle.asm_syntax.specs.Tree.{Name}
+use Rattle.asm_check.proofs.SignatureNumbers.{signature_numbers}
+use Rattle.asm_check.specs.Faults.{IsWellFormed}
+use Rattle.asm_check.specs.Names as names
+use Rattle.asm_check.specs.Names.{Meaning}
+use Rattle.asm_check.specs.Numbers as numbers
+use Rattle.asm_check.specs.Numbers.{meaning_at, named}
+use Rattle.asm_check.specs.NumberTables.{IsInRange}
+use Rattle.asm_check.specs.Shapes.{shape_of}
+use Rattle.asm_check.specs.declared.checked.Named.{Named}
+use Rattle.asm_check.specs.declared.checked.Named.TheVariants as number
+use Rattle.asm_eval.specs.Program.{Universe, Controlled, declared}
+use Rattle.asm_eval.specs.Declarations.{held_as, function_at, body_of, numbered, program_of}
+use Rattle.asm_eval.specs.Yields.{assigned}
+use Rattle.asm_eval.proofs.Meant.{program_declares}
+
+-- the number of a controlled or static function
+abbrev pub function_number : Option Named → Option ℕ
+function_number (Some (number.Function f)) = Some f
+function_number it = None
+
+module _ (spec : Spec) (x : Name) (shape : Shape) (shaped : shape ≡ shape_of spec) where
+  -- what a name is declared as whose number is that of a function
+  declared_at : (f : ℕ) (it : state.Function) → Some (number.Function f) ≡ named spec x → slice_get shape.functions f ≡ Some it
+      → declared (program_of spec) x ≡ Some (held_as shape f it it.kind)
+  declared_at f it is at =
+      program_declares spec x ∙ ap (numbered spec) (sym is)
+      ∙ ap (λ (s : Shape). function_at s f (slice_get s.functions f)) (sym shaped) ∙ ap (function_at shape f) at
+
+  pub is_controlled : (f : ℕ) (it : state.Function) → Some (number.Function f) ≡ named spec x → slice_get shape.functions f ≡ Some it → it.kind ≡ kind.Controlled
+      → declared (program_of spec) x ≡ Some (Controlled f (domain_of shape f))
+  is_controlled f it is at held =
+      declared_at f it is at ∙ ap (λ k. Some (held_as shape f it k)) held ∙ ap (λ o. Some (Controlled f (domain_by shape.universes o))) (sym at)
+
+  pub static_assigns_none : (f : ℕ) (it : state.Function) → Some (number.Function f) ≡ named spec x → slice_get shape.functions f ≡ Some it → it.kind ≡ kind.Static
+      → (vs : List Value) (v : Value) → assigned (declared (program_of spec) x) vs v ≡ none
+  static_assigns_none f it is at held vs v =
+      ap (λ o. assigned o vs v) (declared_at f it is at ∙ ap (λ k. Some (held_as shape f it k)) held)
+
+-- the numbers of functions are those of the signature
+pub function_below : (spec : Spec) (shape : Shape) (it : Option Named) (f : ℕ) → IsWellFormed spec → shape ≡ shape_of spec → IsInRange spec it
+    → it ≡ Some (number.Function f) → f < functions_of shape
+function_below spec shape it f good shaped below is =
+    let same = (signature_numbers spec good).count_of_functions in
+    let low : f < length (numbers.functions_of spec) = subst (IsInRange spec) is below in
+    subst (λ (s : Shape). f < functions_of s) (sym shaped) (omega (arith, same, low))
+
+body_assigns_none : (m : Option Meaning) (vs : List Value) (v : Value) → assigned (body_of m) vs v ≡ none
+body_assigns_none None vs v = refl
+body_assigns_none (Some names.Predeclared) vs v = refl
+body_assigns_none (Some (names.Range first last)) vs v = refl
+body_assigns_none (Some (names.Enumeration k)) vs v = refl
+body_assigns_none (Some (names.Element k)) vs v = refl
+body_assigns_none (Some (names.Controlled domain)) vs v = refl
+body_assigns_none (Some (names.Static domain)) vs v = refl
+body_assigns_none (Some (names.Derived xs t)) vs v = refl
+body_assigns_none (Some (names.Procedure xs P)) vs v = refl
+
+universe_assigns_none : (us : Option (List Value)) (vs : List Value) (v : Value) → assigned (option_map Universe us) vs v ≡ none
+universe_assigns_none None vs v = refl
+universe_assigns_none (Some us) vs v = refl
+
+number_assigns_none : (spec : Spec) (it : Option Named) → function_number it ≡ None → (vs : List Value) (v : Value) → assigned (numbered spec it) vs v ≡ none
+number_assigns_none spec None is vs v = refl
+number_assigns_none spec (Some (number.Universe n)) is vs v = universe_assigns_none (slice_get (shape_of spec).universes n) vs v
+number_assigns_none spec (Some (number.Element n)) is vs v = refl
+number_assigns_none spec (Some (number.Function f)) is vs v = cc
+number_assigns_none spec (Some (number.Derived d)) is vs v = body_assigns_none (meaning_at (numbers.derived_of spec) d) vs v
+number_assigns_none spec (Some (number.Called r)) is vs v = body_assigns_none (meaning_at (numbers.rules_of spec) r) vs v
+
+-- a name that stands for no function is updated nowhere
+pub other_assigns_none : (spec : Spec) (x : Name) (it : Option Named) → it ≡ named spec x → function_number it ≡ None → (vs : List Value) (v : Value)
+    → assigned (declared (program_of spec) x) vs v ≡ none
+other_assigns_none spec x it is other vs v =
+    ap (λ o. assigned o vs v) (program_declares spec x ∙ ap (numbered spec) (sym is)) ∙ number_assigns_none spec it other vs v
+
+-- one more value in its place
+pub one_more_value : {X Y : Type 0} (f : X → Y) (xs : List X) (ys : List Y) (i : ℕ) (x : X) (y : Y) → i < length xs → i < length ys → x ≡ slice_index_or xs i x → y ≡ f x
+    → take i ys ≡ map f (take i xs) → take (i + 1) (slice_set ys i y) ≡ map f (take (i + 1) xs)
+one_more_value f xs ys i x y low room at is so_far =
+    take_more_set ys i y room ∙ ap (λ zs. zs ++ y ∷ []) so_far ∙ ap (λ z. map f (take i xs) ++ z ∷ []) (is ∙ ap f at)
+    ∙ sym (map-append f (take i xs) (slice_index_or xs i x ∷ [])) ∙ ap (map f) (sym (take_more xs i x low))

@@ -1,0 +1,14 @@
+use Rattle.std.proofs.Common.{◌≡◌, length, map, take}
+use Rattle.asm_eval.specs.Environments.{environment}
+use Rattle.asm_eval.specs.Valued.{term_value}
+use Rattle.asm_eval.proofs.target.location_number.Given as goal
+
+-- the arguments so far have their values
+abbrev pub invariant-loop-i : goal.invariant-loop-i
+invariant-loop-i l = record {
+  room : length l.values ≡ 4;
+  so_far : take l.i l.values ≡ map (term_value l.checked l.view (environment l.env)) (take l.i l.arguments);
+}
+
+abbrev pub invariant-loop-argument : goal.invariant-loop-argument
+invariant-loop-argument l = l.values.items ≡ map (term_value l.checked l.view (environment l.env)) (take l.argument-index l.arguments)

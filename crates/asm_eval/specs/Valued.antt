@@ -1,0 +1,45 @@
+-- The values of the code's terms.
+--     program checked                        what the specification declares
+--     shown view                             the state that a view shows
+--     term_value checked view e t            the value of a term of the code
+use Rattle.std.specs.Prelude.{List, map, Option, Some}
+use Rattle.asm_state.specs.declared.value.Value.{Value}
+use Rattle.asm_state.specs.declared.value.Value.TheVariants.{Undef}
+use Rattle.asm_state.specs.Location.{State}
+use Rattle.asm_state.specs.Tables.{location_in, value_in}
+use Rattle.asm_syntax.specs.Views.{term_of, terms_of, spec_of}
+use Rattle.asm_syntax.specs.Unplaced.{plain_term, plain_terms}
+use Rattle.asm_syntax.specs.Tree.{Name, Named}
+use Rattle.asm_syntax.specs.declared.term.Term.{Term}
+use Rattle.asm_check.specs.declared.checked.Checked.{Checked}
+use Rattle.asm_eval.specs.Program.{Program, Declared, Enumerated, Controlled, Static, Derived, Environment, bind_values}
+use Rattle.asm_eval.specs.Value.{value, read}
+use Rattle.asm_eval.specs.Declarations.{program_of}
+use Rattle.asm_eval.specs.Seen.{seen}
+use Rattle.asm_eval.specs.declared.view.View.{View}
+
+abbrev pub program : Checked → Program
+program checked = program_of (spec_of checked.spec)
+
+abbrev pub shown : View → State
+shown view = seen view.signature.now view.state.now view.over
+
+module _ (checked : Checked) (view : View) (e : Environment) where
+  abbrev pub term_value : Term → Value
+  term_value t = value (program checked) (shown view) e (plain_term (term_of t))
+
+  -- a name with arguments
+  abbrev pub named_value : Name → List Term → Value
+  named_value x ts = value (program checked) (shown view) e (Named x (plain_terms (terms_of (map term_of ts))))
+
+-- a function that is held in the state, or a table
+abbrev pub held : Option Declared → List Value → State → Value
+held (Some (Controlled f domain)) vs A = read A (location_in f domain vs)
+held (Some (Static domain table)) vs A = value_in domain table vs
+held it vs A = Undef
+
+-- a name that isn't bound, with the values of its arguments
+abbrev pub declared_value : Program → State → Option Declared → List Value → Value
+declared_value program A (Some (Enumerated v)) vs = v
+declared_value program A (Some (Derived xs t)) vs = value program A (bind_values xs vs) t
+declared_value program A it vs = held it vs A

@@ -1,0 +1,71 @@
+//! What a name is bound to in an environment.
+ghost use Rattle.std.specs.Prelude.{◌≡◌, slice_index_or};
+ghost use Rattle.std.specs.List.{position};
+ghost use Rattle.std.specs.Option.{option_map};
+ghost use Rattle.asm_state.specs.declared.value.Value.TheVariants.{Undef};
+ghost use Rattle.asm_eval.specs.Environments.{environment, binding, text_of, beside};
+ghost use Rattle.asm_eval.specs.Program.{bound_to, is_name};
+
+use crate::env::{Binding, Env};
+use asm_state::value::Value;
+use asm_syntax::name::Name;
+use asm_syntax::term::Term;
+
+/// What the name is bound to, by the innermost binder of its text.
+#[tactic(auto, using(crate::proofs::Bound::bound_value, crate::proofs::Bound::bound_term))]
+pub(crate) fn find<'a>(env: &'a Env<'a>, name: &Name) -> Binding<'a>
+    ensures { binding result ≡ bound_to (environment env.now) name.now.text }
+{
+    let mut rest = env;
+    while let Env::One {
+        name: bound,
+        value,
+        outer,
+    } = rest
+    {
+        if bound.text.is(&name.text) {
+            return Binding::Known(*value);
+        }
+        rest = outer;
+    }
+    match *rest {
+        Env::Empty | Env::One { .. } => Binding::Unbound,
+        Env::Values { names, values } => match place_of(names, name) {
+            None => Binding::Unbound,
+            Some(i) => Binding::Known(value_at(values, i)),
+        },
+        Env::Terms {
+            names,
+            terms,
+            caller,
+        } => match term_of(names, terms, name) {
+            None => Binding::Unbound,
+            Some(term) => Binding::ByName(term, caller),
+        },
+    }
+}
+
+/// The place of the first of these names that has the text.
+fn place_of(names: &[Name], name: &Name) -> Option<usize>
+    ensures { result ≡ position (λ x. is_name (text_of x) name.now.text) names.now }
+{
+    names.iter().position(|x| x.text.is(&name.text))
+}
+
+/// The term in the place of the name, if both are there.
+fn term_of<'a>(names: &[Name], terms: &'a [Term], name: &Name) -> Option<&'a Term>
+    ensures { let place = position (λ x. is_name (text_of x) name.now.text) names.now in
+        option_map (λ t. t.now) result ≡ beside place terms.now }
+{
+    terms.get(place_of(names, name)?)
+}
+
+/// The value in a place, which is `Undef` behind the last one.
+fn value_at(values: &[Value], i: usize) -> Value
+    ensures { result ≡ slice_index_or values.now i Undef }
+{
+    match values.get(i) {
+        Some(value) => *value,
+        None => Value::Undef,
+    }
+}

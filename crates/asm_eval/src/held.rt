@@ -1,0 +1,68 @@
+//! Values that need no environment: of literals, functions and universes.
+ghost use Rattle.std.specs.Prelude.{◌≡◌, ◌<◌, List, [], IfSome, IfNone, slice_get};
+ghost use Rattle.asm_state.specs.Signature.{functions_of};
+ghost use Rattle.asm_syntax.specs.Unplaced as plain;
+ghost use Rattle.asm_syntax.specs.Views.{spec_of};
+ghost use Rattle.asm_eval.specs.Declarations as declared;
+ghost use Rattle.asm_eval.specs.Declarations.{function_at};
+ghost use Rattle.asm_eval.specs.Valued.{program, shown, held};
+ghost use Rattle.asm_eval.specs.Value as spec;
+
+use crate::view::View;
+use asm_check::{Checked, Named};
+use asm_state::function::Kind;
+use asm_state::universe::Universe;
+use asm_state::value::Value;
+use asm_syntax::name::Name;
+use asm_syntax::term::Literal;
+
+/// The value of a literal.
+pub(crate) fn literal_value(literal: Literal) -> Value
+    ensures { result ≡ plain.literal_value literal }
+{
+    match literal {
+        Literal::Undef => Value::Undef,
+        Literal::Truth(truth) => Value::Truth(truth),
+        Literal::Number(number) => Value::Number(number),
+    }
+}
+
+/// Whether a value is the truth value true.
+pub(crate) fn is_true(value: Value) -> bool
+    ensures { result ≡ spec.is_true value }
+{
+    matches!(value, Value::Truth(true))
+}
+
+/// The value of the controlled or static function with this number.
+pub(crate) fn function_value(view: &View, f: usize, values: &[Value]) -> Value
+    requires { f < functions_of view.now.signature.now }
+    ensures { let shape = view.now.signature.now in
+        result ≡ held (function_at shape f (slice_get shape.functions f)) values.now (shown view.now) }
+{
+    match view.signature.function(f).kind {
+        Kind::Controlled => view.read(f, values),
+        Kind::Static => view.signature.given(f, values),
+    }
+}
+
+/// The number of a universe.
+fn universe_number(it: Option<Named>) -> Option<usize>
+    ensures { result ≡ declared.universe_number it }
+{
+    match it {
+        Some(Named::Universe(n)) => Some(n),
+        _ => None,
+    }
+}
+
+/// The universe that the name stands for.
+pub(crate) fn universe_of<'a>(checked: &'a Checked, name: &Name) -> Option<&'a Universe>
+    ensures some { IfSome result (λ u. u.now ≡ spec.universe (program checked.now) name.now.text) }
+    ensures none { IfNone result (spec.universe (program checked.now) name.now.text ≡ []) }
+{
+    match universe_number(checked.named(&name.text)) {
+        None => None,
+        Some(n) => Some(checked.signature().universe(n)),
+    }
+}

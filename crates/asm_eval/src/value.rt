@@ -1,0 +1,232 @@
+//! The values of terms.
+ghost use Rattle.std.specs.Prelude.{◌≡◌, None, IfOk};
+ghost use Rattle.asm_state.specs.declared.value.Value.TheVariants.{Truth};
+ghost use Rattle.asm_syntax.specs.Unplaced as plain;
+ghost use Rattle.asm_syntax.specs.Tree as tree;
+ghost use Rattle.asm_syntax.specs.Views.{spec_of, term_of};
+ghost use Rattle.asm_check.specs.NumberTables.{IsInRange};
+ghost use Rattle.asm_check.specs.Shapes.{shape_of};
+ghost use Rattle.asm_eval.specs.Declarations.{numbered};
+ghost use Rattle.asm_eval.specs.Environments.{environment};
+ghost use Rattle.asm_eval.specs.Program.{bound_to};
+ghost use Rattle.asm_eval.specs.Valued.{program, shown, named_value, declared_value};
+ghost use Rattle.asm_eval.specs.Value as spec;
+
+use crate::env::{Binding, Env};
+use crate::find::find;
+use crate::held::{function_value, is_true, literal_value, universe_of};
+use crate::view::View;
+use asm_check::{Checked, Named};
+use asm_state::element::Element;
+use asm_state::operation::{Op, apply};
+use asm_state::value::Value;
+use asm_syntax::name::Name;
+use asm_syntax::term::Term;
+use std::alloc::{AllocError, Global};
+
+/// So many arguments are valued without memory of their own.
+pub(crate) const FEW: usize = 4;
+
+/// The value of the term, in the state that the view shows and under the environment. A name that is bound to a term has the value
+/// of that term in the environment of its call, in the same state (Börger and Stärk, 2.4 and 4.1). A derived function's body is valued
+/// with the values of its parameters, and nothing else bound.
+///
+/// Nests as deep as terms, bound names and derived functions do; a chain of any length is valued in one loop. Memory is taken for
+/// argument lists of five and more.
+#[cycle(value)]
+pub fn value<'e>(
+    alloc: Global,
+    checked: &Checked,
+    view: &View,
+    env: &'e Env<'e>,
+    term: &'e Term,
+) -> Result<Value, AllocError>
+    requires { view.now.signature.now ≡ shape_of (spec_of checked.now.spec) }
+    ensures { IfOk result (λ v. v ≡ spec.value (program checked.now) (shown view.now) (environment env.now) (plain.plain_term (term_of term.now))) }
+{
+    match term {
+        Term::Constant(literal) => Ok(literal_value(*literal)),
+        Term::Named { name, arguments } => {
+            let value = named(alloc, checked, view, env, name, arguments.as_slice())?;
+            Ok(value)
+        }
+        Term::Chain { first, rest } => {
+            let mut total = value(alloc, checked, view, env, first)?;
+            for (operation, operand) in rest.as_slice() {
+                let right = value(alloc, checked, view, env, operand)?;
+                total = apply(*operation, total, right);
+            }
+            Ok(total)
+        }
+        Term::Not(inner) => {
+            let operand = value(alloc, checked, view, env, inner)?;
+            Ok(apply(Op::Not, operand, Value::Undef))
+        }
+        Term::Negative(inner) => {
+            let operand = value(alloc, checked, view, env, inner)?;
+            Ok(apply(Op::Negate, operand, Value::Undef))
+        }
+        Term::Exists { name, over, test } => {
+            let found = exists(alloc, checked, view, env, name, over, test)?;
+            Ok(Value::Truth(found))
+        }
+        Term::Every { name, over, test } => {
+            let holds = every(alloc, checked, view, env, name, over, test)?;
+            Ok(Value::Truth(holds))
+        }
+    }
+}
+
+/// The value of a name with arguments.
+#[cycle(value)]
+fn named<'e>(
+    alloc: Global,
+    checked: &Checked,
+    view: &View,
+    env: &'e Env<'e>,
+    name: &'e Name,
+    arguments: &'e [Term],
+) -> Result<Value, AllocError>
+    requires { view.now.signature.now ≡ shape_of (spec_of checked.now.spec) }
+    ensures { IfOk result (λ v. v ≡ named_value checked.now view.now (environment env.now) name.now.text arguments.now) }
+{
+    match find(env, name) {
+        Binding::Known(value) => Ok(value),
+        Binding::ByName(term, caller) => {
+            let value = value(alloc, checked, view, caller, term)?;
+            Ok(value)
+        }
+        Binding::Unbound => {
+            let value = applied(alloc, checked, view, env, name, arguments)?;
+            Ok(value)
+        }
+    }
+}
+
+/// The value of a name that isn't bound, with arguments.
+#[cycle(value)]
+#[inline(never)]
+fn applied<'e>(
+    alloc: Global,
+    checked: &Checked,
+    view: &View,
+    env: &'e Env<'e>,
+    name: &'e Name,
+    arguments: &'e [Term],
+) -> Result<Value, AllocError>
+    requires shaped { view.now.signature.now ≡ shape_of (spec_of checked.now.spec) }
+    requires unbound { bound_to (environment env.now) name.now.text ≡ None }
+    ensures { IfOk result (λ v. v ≡ named_value checked.now view.now (environment env.now) name.now.text arguments.now) }
+{
+    let it = checked.named(&name.text);
+    if arguments.is_empty() {
+        let value = value_of(alloc, checked, view, it, &[])?;
+        return Ok(value);
+    }
+    if arguments.len() <= FEW {
+        let mut values = [Value::Undef; FEW];
+        for i in 0..arguments.len() {
+            values[i] = value(alloc, checked, view, env, &arguments[i])?;
+        }
+        let value = value_of(alloc, checked, view, it, &values[..arguments.len()])?;
+        return Ok(value);
+    }
+    let mut values = Vec::with_capacity(alloc, arguments.len())?;
+    for argument in arguments {
+        values.push(value(alloc, checked, view, env, argument)?)?;
+    }
+    let value = value_of(alloc, checked, view, it, values.as_slice())?;
+    Ok(value)
+}
+
+/// The value of what a name stands for, with the values of its arguments.
+#[cycle(value)]
+#[inline(never)]
+fn value_of(
+    alloc: Global,
+    checked: &Checked,
+    view: &View,
+    it: Option<Named>,
+    values: &[Value],
+) -> Result<Value, AllocError>
+    requires shaped { view.now.signature.now ≡ shape_of (spec_of checked.now.spec) }
+    requires in_range { IsInRange (spec_of checked.now.spec) it }
+    ensures { IfOk result (λ v. v ≡ declared_value (program checked.now) (shown view.now) (numbered (spec_of checked.now.spec) it) values.now) }
+{
+    match it {
+        Some(Named::Function(f)) => Ok(function_value(view, f, values)),
+        Some(Named::Element(e)) => Ok(Value::Element(Element { index: e as u32 })),
+        Some(Named::Derived(d)) => {
+            let (names, body) = checked.derived(d);
+            let value = value(alloc, checked, view, &Env::Values { names, values }, body)?;
+            Ok(value)
+        }
+        Some(Named::Universe(_) | Named::Called(_)) | None => Ok(Value::Undef),
+    }
+}
+
+/// Whether the test has the value true for some element.
+#[cycle(value)]
+#[inline(never)]
+fn exists<'e>(
+    alloc: Global,
+    checked: &Checked,
+    view: &View,
+    env: &'e Env<'e>,
+    name: &'e Name,
+    over: &Name,
+    test: &'e Term,
+) -> Result<bool, AllocError>
+    requires { view.now.signature.now ≡ shape_of (spec_of checked.now.spec) }
+    ensures { let t = tree.Exists name.now.text over.now.text (plain.plain_term (term_of test.now)) in
+        IfOk result (λ b. Truth b ≡ spec.value (program checked.now) (shown view.now) (environment env.now) t) }
+{
+    let Some(universe) = universe_of(checked, over) else {
+        return Ok(false);
+    };
+    for i in 0..universe.size() {
+        let bound = Env::One {
+            name,
+            value: universe.element(i),
+            outer: env,
+        };
+        let tested = value(alloc, checked, view, &bound, test)?;
+        if is_true(tested) {
+            return Ok(true);
+        }
+    }
+    Ok(false)
+}
+
+/// Whether the test has the value true for each element.
+#[cycle(value)]
+#[inline(never)]
+fn every<'e>(
+    alloc: Global,
+    checked: &Checked,
+    view: &View,
+    env: &'e Env<'e>,
+    name: &'e Name,
+    over: &Name,
+    test: &'e Term,
+) -> Result<bool, AllocError>
+    requires { view.now.signature.now ≡ shape_of (spec_of checked.now.spec) }
+    ensures { let t = tree.Every name.now.text over.now.text (plain.plain_term (term_of test.now)) in
+        IfOk result (λ b. Truth b ≡ spec.value (program checked.now) (shown view.now) (environment env.now) t) }
+{
+    let Some(universe) = universe_of(checked, over) else {
+        return Ok(true);
+    };
+    for i in 0..universe.size() {
+        let bound = Env::One {
+            name,
+            value: universe.element(i),
+            outer: env,
+        };
+        let tested = value(alloc, checked, view, &bound, test)?;
+        if !is_true(tested) {
+            return Ok(false);
+        }
+    }
+    Ok(true)
+}

@@ -1,0 +1,70 @@
+//! Views of states.
+ghost use Rattle.std.specs.Prelude.{◌≡◌, ◌<◌, length, slice_index_or};
+ghost use Rattle.asm_state.specs.declared.function.Kind.TheVariants.{Controlled};
+ghost use Rattle.asm_state.specs.declared.value.Value.TheVariants.{Undef};
+ghost use Rattle.asm_state.specs.Signature.{HasKind, count_of, domain_of, state_of};
+ghost use Rattle.asm_state.specs.Tables.{location_in};
+ghost use Rattle.asm_state.specs.Updates.{UpdateSet, IsConsistent, overwritten, fire};
+ghost use Rattle.asm_updates.specs.Entries.{entry};
+ghost use Rattle.asm_updates.specs.Stands.{Stands};
+ghost use Rattle.asm_eval.specs.Seen.{seen};
+ghost use Rattle.asm_eval.specs.Value.{read};
+
+use asm_state::signature::Signature;
+use asm_state::state::State;
+use asm_state::value::Value;
+use asm_updates::summary::Summary;
+
+/// A state with a set of updates over it, read as the state in which the set has been fired.
+#[derive(Drop)]
+pub struct View<'a> {
+    pub signature: &'a Signature,
+    pub state: &'a State,
+    pub over: Summary,
+    ghost whole: { length state.now ≡ count_of signature.now },
+    ghost counted: { over.count ≡ count_of signature.now },
+}
+
+impl<'a> View<'a> {
+    /// The state with the set over it.
+    pub fn new(signature: &'a Signature, state: &'a State, over: Summary) -> View<'a>
+        requires whole { length state.now ≡ count_of signature.now }
+        requires counted { over.count ≡ count_of signature.now }
+        ensures parts { (result.signature.now ≡ signature.now) × (result.state.now ≡ state.now) × (result.over ≡ over) }
+        ensures fired { (U : UpdateSet) → Stands signature.now over U → IsConsistent U →
+            seen signature.now state.now over ≡ fire (state_of signature.now state.now) U }
+    {
+        // The call says that each entry is of a location below the count.
+        let _len = over.len();
+        View {
+            signature,
+            state,
+            over,
+        }
+    }
+
+    /// What the view shows at the location with this number.
+    pub fn content(&self, n: usize) -> Value
+        requires { n < count_of self.now.signature.now }
+        ensures { result ≡ overwritten (entry self.now.over n) (slice_index_or self.now.state.now n Undef) }
+    {
+        match self.over.get(n) {
+            Some((value, _)) => value,
+            None => self.state.content(n),
+        }
+    }
+
+    /// What the view shows at the location of a controlled function with these arguments: `Undef` outside the domain.
+    #[tactic(auto, using(crate::proofs::Viewed::read_at))]
+    pub fn read(&self, f: usize, arguments: &[Value]) -> Value
+        requires { HasKind Controlled self.now.signature.now f }
+        ensures { let at = location_in f (domain_of self.now.signature.now f) arguments.now in
+            result ≡ read (seen self.now.signature.now self.now.state.now self.now.over) at }
+    {
+        let n = self.signature.number_of(f, arguments);
+        match self.signature.stray(n) {
+            Some(_) => Value::Undef,
+            None => self.content(n),
+        }
+    }
+}
