@@ -1,6 +1,7 @@
-//! Answers to texts, as tables write them: `read`, `tree` and the tree, `beginnings`, `checked`, or a refusal as
-//! `read 5 at 30` or `check 9 at 26`.
+//! Answers to texts, as tables write them: `read`, `tree` and the tree, `beginnings`, `checked`, a refusal as `read 5 at 30` or
+//! `check 9 at 26`, or what is said of a script.
 use crate::printed::line;
+use crate::{refusal, script};
 use asm_check::check;
 use asm_reader::read;
 use asm_syntax::Refused;
@@ -19,12 +20,20 @@ pub fn wanted(alloc: Global, answer: &str, mark: Option<usize>) -> Answer {
 
 /// The answer that is found, of the kind that is wanted.
 pub fn found(alloc: Global, wanted: &str, text: &[u8]) -> Answer {
+    let (kind, _) = wanted.split_once(' ').unwrap_or((wanted, ""));
+    match kind {
+        "script" | "asked" => script::found(alloc, wanted, text),
+        _ => found_of_spec(alloc, kind, text),
+    }
+}
+
+/// The answer to a specification.
+fn found_of_spec(alloc: Global, kind: &str, text: &[u8]) -> Answer {
     let spec = match read(alloc, text) {
         Ok(spec) => spec,
-        Err(Refused::Named(reason)) => return refusal(alloc, "read", reason.number(), reason.at()),
+        Err(Refused::Named(reason)) => return refusal::of_read(alloc, reason),
         Err(Refused::Memory) => return Err(AllocError),
     };
-    let (kind, _) = wanted.split_once(' ').unwrap_or((wanted, ""));
     match kind {
         "tree" => {
             let line = line(alloc, &spec)?;
@@ -40,16 +49,8 @@ pub fn found(alloc: Global, wanted: &str, text: &[u8]) -> Answer {
 fn checked(alloc: Global, spec: Spec) -> Answer {
     match check(alloc, spec) {
         Ok(_) => String::from_str(alloc, "checked"),
-        Err(Refused::Named(fault)) => refusal(alloc, "check", fault.number(), Some(fault.at)),
+        Err(Refused::Named(fault)) => refusal::of_check(alloc, fault),
         Err(Refused::Memory) => Err(AllocError),
-    }
-}
-
-/// A refusal in the words of this step.
-fn refusal(alloc: Global, step: &str, number: u8, place: Option<usize>) -> Answer {
-    match place {
-        Some(at) => format!(in alloc; "{step} {number} at {at}"),
-        None => format!(in alloc; "{step} {number}"),
     }
 }
 
@@ -61,7 +62,8 @@ fn beginnings(alloc: Global, text: &[u8]) -> Answer {
             Ok(_) => {}
             Err(Refused::Named(reason)) => {
                 if !matches!(reason.number(), 2 | 3 | 5 | 6) {
-                    return refusal(alloc, "beginning", reason.number(), reason.at());
+                    let refusal = refusal::of_read(alloc, reason)?;
+                    return format!(in alloc; "a beginning: {refusal}");
                 }
             }
             Err(Refused::Memory) => return Err(AllocError),

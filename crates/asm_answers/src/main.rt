@@ -3,7 +3,11 @@
 #![tactic(auto)]
 
 mod answer;
+mod parts;
 mod printed;
+mod refusal;
+mod run;
+mod script;
 mod table;
 mod text;
 
@@ -13,7 +17,7 @@ use std::process::ExitCode;
 fn main(rt: HostRuntime) -> io::Result<ExitCode> {
     let alloc = rt.alloc();
     let table = io::read_to_string(alloc, rt.stdin())?;
-    let counts = table::compare(alloc, table.as_str(), &mut rt.stdout())?;
+    let counts = table::compare(&rt, alloc, table.as_str(), &mut rt.stdout())?;
     Ok(if counts.others == 0 {
         ExitCode::SUCCESS
     } else {

@@ -2,12 +2,13 @@
 //!
 //! A case begins with a line `=== ANSWER`, and the lines up to the next such line are its text, without the last line feed:
 //! so a text that ends in a line feed has an empty line behind it, and with no line at all a text is empty. What stands
-//! before the first case, and below a line `=== note`, is for people.
-use crate::answer;
+//! before the first case, and below a line `=== note`, is for people. The text of a run has parts (`parts`).
 use crate::text::expanded;
+use crate::{answer, run};
 use std::alloc::{AllocError, Global};
 use std::io;
 use std::io::Write;
+use std::thread::Threads;
 
 /// How many cases were as expected, and how many not.
 #[derive(Clone, Copy)]
@@ -30,7 +31,10 @@ impl<'a> Case<'a> {
     }
 
     /// What is expected and what is found, both in full.
-    fn answers(&self, alloc: Global) -> Result<(String, String), AllocError> {
+    fn answers<R: Threads>(&self, rt: &R, alloc: Global) -> Result<(String, String), AllocError> {
+        if self.wanted.starts_with("run") {
+            return run::answers(rt, alloc, self.wanted, self.text);
+        }
         let Some(marked) = expanded(alloc, self.text)? else {
             let wanted = String::from_str(alloc, self.wanted)?;
             let found = String::from_str(alloc, "no text: a repetition doesn't fit")?;
@@ -43,7 +47,12 @@ impl<'a> Case<'a> {
 }
 
 /// Writes each case of the table where something else is found than is expected, and how many there are of both.
-pub fn compare<W: Write>(alloc: Global, table: &str, out: &mut W) -> io::Result<Counts> {
+pub fn compare<R: Threads, W: Write>(
+    rt: &R,
+    alloc: Global,
+    table: &str,
+    out: &mut W,
+) -> io::Result<Counts> {
     let table = table.strip_suffix('\n').unwrap_or(table);
     let mut counts = Counts {
         as_expected: 0,
@@ -54,13 +63,17 @@ pub fn compare<W: Write>(alloc: Global, table: &str, out: &mut W) -> io::Result<
         if case.wanted == "note" {
             continue;
         }
-        let (wanted, found) = case.answers(alloc)?;
+        let (wanted, found) = case.answers(rt, alloc)?;
         if wanted == found {
             counts.as_expected = counts.as_expected.saturating_add(1);
         } else {
             counts.others = counts.others.saturating_add(1);
             let number = counts.as_expected.saturating_add(counts.others);
-            writeln!(out, "case {number}: {wanted} expected, {found} found")?;
+            let header = case.wanted;
+            writeln!(
+                out,
+                "case {number}, {header}: {wanted} expected, {found} found"
+            )?;
         }
     }
     let Counts {

@@ -1,7 +1,8 @@
 //! Texts as tables write them.
 //!
 //! `@^` marks a place and is no part of the text. What stands between `@N{` and `@}` comes N times, and in it `@#` is the
-//! number of the time, from 0. Repetitions nest, and `@#` belongs to the innermost one.
+//! number of the time, from 0. Repetitions nest, and `@#` belongs to the innermost one. `@x0D` is the byte with this number in
+//! base 16, of two digits.
 use std::alloc::{AllocError, Global};
 use std::mem;
 
@@ -17,6 +18,8 @@ pub struct Marked {
 enum Piece<'a> {
     /// What stands in the table.
     Plain(&'a str),
+    /// A byte that the table gives by its number.
+    Byte(u8),
     /// The number of the time, which only the end of the repetition gives.
     Number,
     /// The number of a time.
@@ -81,38 +84,52 @@ impl<'a> Reading<'a> {
                 return Ok(false);
             }
             plain
-        } else {
-            let Some((times, plain)) = part.split_once('{') else {
-                return Ok(false);
-            };
-            let Ok(times) = times.parse::<u32>() else {
-                return Ok(false);
-            };
+        } else if let Some((byte, plain)) = numbered_byte(part) {
+            self.push(Piece::Byte(byte))?;
+            plain
+        } else if let Some((times, plain)) = beginning(part) {
             self.begin(alloc, times)?;
             plain
+        } else {
+            return Ok(false);
         };
         self.push(Piece::Plain(plain))?;
         Ok(true)
     }
 }
 
+/// The byte with the number that stands behind an `x`, and what stands behind that.
+fn numbered_byte(part: &str) -> Option<(u8, &str)> {
+    let (digits, plain) = part.strip_prefix('x')?.split_at_checked(2)?;
+    let byte = u8::from_str_radix(digits, 16).ok()?;
+    Some((byte, plain))
+}
+
+/// How often the repetition comes that begins here, and what stands behind its beginning.
+fn beginning(part: &str) -> Option<(u32, &str)> {
+    let (times, plain) = part.split_once('{')?;
+    let times = times.parse::<u32>().ok()?;
+    Some((times, plain))
+}
+
 /// The pieces, one behind the other.
 fn joined(alloc: Global, pieces: &[Piece<'_>]) -> Result<Marked, AllocError> {
-    let mut text = String::new(alloc);
+    let mut text = Vec::new(alloc);
     let mut at = None;
     for piece in pieces {
         match piece {
-            Piece::Plain(plain) => text.push_str(plain)?,
-            Piece::Time(time) => write!(text, "{time}")?,
+            Piece::Plain(plain) => text.extend_from_slice(plain.as_bytes())?,
+            Piece::Byte(byte) => text.push(*byte)?,
+            Piece::Time(time) => {
+                let digits = format!(in alloc; "{time}")?;
+                text.extend_from_slice(digits.as_bytes())?;
+            }
             // No number is left outside repetitions.
             Piece::Number => {}
             Piece::Mark => at = Some(text.len()),
         }
     }
-    Ok(Marked {
-        text: text.into_bytes(),
-        at,
-    })
+    Ok(Marked { text, at })
 }
 
 /// The text that the table writes so; none if a repetition isn't closed, or something else than these stands behind an `@`.

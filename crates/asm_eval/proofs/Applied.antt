@@ -42,12 +42,12 @@ applied_value checked view e x ts free =
     (numbered (spec_of checked.spec) (named (spec_of checked.spec) x)) (program_declares (spec_of checked.spec) x)
     ∙ ap (declared_value (program checked) (shown view) (numbered (spec_of checked.spec) (named (spec_of checked.spec) x))) (values_map checked view e ts)
 
--- what was found for the name's number and the values of its arguments
-pub named_value_is : (checked : Checked) (view : View) (e : Environment) (x : Name) (ts : List Term) (it : Option Number) (vs : List Value) (v : Value)
+-- the same by what was found for the name's number, and the values of its arguments
+pub declared_is_named : (checked : Checked) (view : View) (e : Environment) (x : Name) (ts : List Term) (it : Option Number) (vs : List Value)
     → bound_to e x ≡ None → it ≡ named (spec_of checked.spec) x → vs ≡ map (term_value checked view e) ts
-    → v ≡ declared_value (program checked) (shown view) (numbered (spec_of checked.spec) it) vs → v ≡ named_value checked view e x ts
-named_value_is checked view e x ts it vs v free is are given =
-    given ∙ (λ i. declared_value (program checked) (shown view) (numbered (spec_of checked.spec) (is i)) (are i)) ∙ sym (applied_value checked view e x ts free)
+    → declared_value (program checked) (shown view) (numbered (spec_of checked.spec) it) vs ≡ named_value checked view e x ts
+declared_is_named checked view e x ts it vs free is are =
+    (λ i. declared_value (program checked) (shown view) (numbered (spec_of checked.spec) (is i)) (are i)) ∙ sym (applied_value checked view e x ts free)
 
 -- values of so many arguments, where there are no more
 pub all_valued : (f : Term → Value) (ts : List Term) (vs : List Value) (i : ℕ) → length ts ≤ i → i ≤ length ts → take i vs ≡ map f (take i ts) → take (length ts) vs ≡ map f ts
@@ -55,11 +55,11 @@ all_valued f ts vs i above below are =
     let same : length ts ≡ i = omega arith in
     ap (λ n. take n vs) same ∙ are ∙ ap (map f) (take_all i ts above)
 
--- one more argument is valued
-pub one_more : (f : Term → Value) (ts : List Term) (vs : List Value) (i : ℕ) (t : Term) (v : Value) → i < length ts → i < length vs → t ≡ slice_index_or ts i t → v ≡ f t
-    → take i vs ≡ map f (take i ts) → take (i + 1) (slice_set vs i v) ≡ map f (take (i + 1) ts)
-one_more f ts vs i t v within room is e are =
-    take_more_set vs i v room ∙ (λ j. are j ++ (e ∙ ap f is) j ∷ []) ∙ sym (map_more f ts i t within)
+-- one more value in its place
+pub one_more_value : {X Y : Type 0} (f : X → Y) (xs : List X) (ys : List Y) (i : ℕ) (x : X) (y : Y) → i < length xs → i < length ys → x ≡ slice_index_or xs i x → y ≡ f x
+    → take i ys ≡ map f (take i xs) → take (i + 1) (slice_set ys i y) ≡ map f (take (i + 1) xs)
+one_more_value f xs ys i x y within room is e are =
+    take_more_set ys i y room ∙ (λ j. are j ++ (e ∙ ap f is) j ∷ []) ∙ sym (map_more f xs i x within)
 
 -- where there are no arguments there are no values
 pub none_valued : (f : Term → Value) (ts : List Term) → length ts ≡ 0 → [] ≡ map f ts

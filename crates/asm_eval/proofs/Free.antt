@@ -12,7 +12,8 @@ use Rattle.asm_syntax.specs.Tree.{Name, Term, Rule, Skip, Assign, Call, Par, Seq
 use Rattle.asm_eval.specs.Program.{Program, Procedure, declared, Environment, with_value, bind_terms}
 use Rattle.asm_eval.specs.Value.{value, holds, candidates, universe, nesting}
 use Rattle.asm_eval.specs.Yields.{Place, at, Result, Gives, Exhausted, beside, all_beside, Yields, YieldsParts, YieldsInOrder, YieldsEach, YieldsTurns, skip, assign, call, par, seq, if_true, if_false, bind, forall, choose, if_none, iterate, no_part, part_then, end, faulty, exhausted, go_on, no_element, left_out, element_then, turn_limit, last_turn, exhausted_turn, turn_then}
-use Rattle.asm_eval.specs.Does.{pick, does, Outcome, Meaning, meaning, meanings, parts, in_order, part_and, turn_and, each, one_of, turns_of, called, does_within}
+use Rattle.asm_reader.specs.ScriptLines.{pick}
+use Rattle.asm_eval.specs.Does.{does, Outcome, Meaning, meaning, meanings, parts, in_order, part_and, turn_and, each, one_of, turns_of, called, does_within}
 use Rattle.asm_eval.specs.Law.{ScriptedIsFree}
 use Rattle.asm_eval.specs.Ranks.{CallsBelow, EachCallsBelow, IsRanked, lower}
 

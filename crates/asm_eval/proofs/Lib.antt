@@ -23,5 +23,5 @@ pub mod Applied
 pub mod ArgumentWeights
 pub mod NumberedValues
 pub mod Targets
-pub mod PlainRules
-pub mod Forming
+pub mod Candidates
+pub mod FormedRules

@@ -2,8 +2,6 @@
 use Rattle.std.proofs.Common.{◌≡◌, ℕ, ◌<◌, Bool, true, false, cond, List, [], ◌∷◌, length, Option, Some, None, refl, sym, ap, ◌∙◌, arith}
 use Rattle.std.specs.Prelude.{find, option_map, slice_get}
 use Rattle.std.specs.List.{filter_map, cons_option}
-use Rattle.std.specs.Cmp.{unsigned_Decides}
-use Rattle.std.proofs.lemmas.Slice.Eq.{slice_eq-Decides}
 use Rattle.asm_state.specs.declared.value.Value.{Value}
 use Rattle.asm_state.specs.declared.function.Function as state
 use Rattle.asm_state.specs.declared.function.Kind.{Kind}
@@ -11,6 +9,7 @@ use Rattle.asm_state.specs.declared.function.Kind.TheVariants as kind
 use Rattle.asm_state.specs.Signature.{Shape}
 use Rattle.asm_syntax.specs.Placed.{Spec}
 use Rattle.asm_syntax.specs.Tree.{Name}
+use Rattle.asm_check.proofs.Declared.{same_text}
 use Rattle.asm_check.proofs.SignatureNumbers.{signature_numbers}
 use Rattle.asm_check.specs.Faults.{IsWellFormed}
 use Rattle.asm_check.specs.NumberTables.{IsInRange}
@@ -23,9 +22,6 @@ use Rattle.asm_check.specs.declared.checked.Named.TheVariants as number
 use Rattle.asm_eval.specs.Program.{Declared, declared, look_up, Universe}
 use Rattle.asm_eval.specs.Value.{universe, elements_of}
 use Rattle.asm_eval.specs.Declarations.{held_as, function_at, body_of, universe_number, meant, numbered, paired, program_of}
-
-same : (x y : Name) → is_text x y ≡ true → x ≡ y
-same x y e = (slice_eq-Decides unsigned_Decides x y true (sym e)).0 refl
 
 -- what is found among the declarations that mean something
 found : (spec : Spec) (x : Name) (ds : List Declaration) → (find (λ d. is_text d.name.text x) ds ≡ None → meant spec x ≡ None)
@@ -45,7 +41,7 @@ found spec x (d ∷ ds) h = by (found spec x ds) (is_text d.name.text x) refl
 
     by : ((find (λ d. is_text d.name.text x) ds ≡ None → meant spec x ≡ None) → look_up (filter_map (paired spec) ds) x ≡ meant spec x)
         → (b : Bool) → is_text d.name.text x ≡ b → look_up (filter_map (paired spec) (d ∷ ds)) x ≡ meant spec x
-    by rest true e = here (meant spec d.name.text) (ap (meant spec) (same d.name.text x e)) e (λ is. rest (λ none. sym is))
+    by rest true e = here (meant spec d.name.text) (ap (meant spec) (same_text d.name.text x e)) e (λ is. rest (λ none. sym is))
     by rest false e = behind (meant spec d.name.text) e (rest (λ none. h (ap (λ b. cond b (Some d) (find (λ d. is_text d.name.text x) ds)) e ∙ none)))
 
 undeclared : (spec : Spec) (x : Name) → find (λ d. is_text d.name.text x) (declarations spec) ≡ None → meant spec x ≡ None

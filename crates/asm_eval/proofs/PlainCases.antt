@@ -5,7 +5,8 @@ use Rattle.asm_syntax.specs.Tree.{Rules, no_rules, rule_then}
 use Rattle.asm_eval.specs.Program.{Program, Controlled, Environment}
 use Rattle.asm_eval.specs.Value.{value, values, reading, reading_within}
 use Rattle.asm_eval.specs.Yields.{Place, at}
-use Rattle.asm_eval.specs.Does.{Script, pick, both, parts, meaning, meanings, does_within, does}
+use Rattle.asm_reader.specs.ScriptLines.{Script, pick}
+use Rattle.asm_eval.specs.Does.{both, parts, meaning, meanings, does_within, does}
 use Rattle.asm_eval.specs.PlainCases.{does_parts, PlainByCases}
 use Rattle.asm_eval.proofs.TermCases.{inner, value_is, chain_is, of_declared}
 
@@ -25,6 +26,9 @@ plain_by_cases program turns script step A e = record {
   of_no_parts = λ p k. refl;
   of_parts = λ p k P Ps. refl;
   of_if = λ p c P Q. refl;
+  of_let = λ p x t P. refl;
+  of_forall = λ p x u c P. refl;
+  of_choose = λ p x u c P Q. refl;
   of_constant = λ v. refl;
   of_controlled = λ x ts f domain free d. of_declared program A e x ts (Controlled f domain) free d;
   of_not = λ t. refl;

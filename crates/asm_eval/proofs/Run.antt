@@ -11,7 +11,8 @@ use Rattle.asm_syntax.specs.Tree.{Name, Rule}
 use Rattle.asm_eval.specs.Program.{Program, nothing_bound}
 use Rattle.asm_eval.specs.Value.{nesting}
 use Rattle.asm_eval.specs.Yields.{Place, Result, Gives, Exhausted, Yields}
-use Rattle.asm_eval.specs.Does.{Line, Script, pick, does, does_within}
+use Rattle.asm_reader.specs.ScriptLines.{Line, Script, pick}
+use Rattle.asm_eval.specs.Does.{does, does_within}
 use Rattle.asm_eval.specs.Scripts.{unrepeated}
 use Rattle.asm_eval.specs.Ranks.{CallsBelow, IsRanked}
 use Rattle.asm_eval.specs.Run.{End, AtLimit, AtExhausted, AtFault, Run, sets_of, ended, fired, IsRunFrom, at_limit, at_exhausted, at_fault, step_then, step_and, run_from, ScriptedRuns, FreeRuns}

@@ -1,7 +1,6 @@
 -- The controlled function that a name stands for, and its location.
-use Rattle.std.proofs.Common.{◌≡◌, ℕ, ◌+◌, ◌<◌, List, [], ◌∷◌, ◌++◌, map, take, slice_index_or, slice_set, Option, Some, None, length, refl, sym, ap, subst, ◌∙◌, arith}
+use Rattle.std.proofs.Common.{◌≡◌, ℕ, ◌<◌, List, Option, Some, None, length, refl, sym, ap, subst, ◌∙◌, arith}
 use Rattle.std.specs.Prelude.{slice_get, option_map}
-use Rattle.std.proofs.lemmas.List.{map-append, take_more, take_more_set}
 use Rattle.asm_state.specs.declared.value.Value.{Value}
 use Rattle.asm_state.specs.declared.function.Function as state
 use Rattle.asm_state.specs.declared.function.Kind.TheVariants as kind
@@ -83,10 +82,3 @@ pub other_assigns_none : (spec : Spec) (x : Name) (it : Option Named) → it ≡
     → assigned (declared (program_of spec) x) vs v ≡ none
 other_assigns_none spec x it is other vs v =
     ap (λ o. assigned o vs v) (program_declares spec x ∙ ap (numbered spec) (sym is)) ∙ number_assigns_none spec it other vs v
-
--- one more value in its place
-pub one_more_value : {X Y : Type 0} (f : X → Y) (xs : List X) (ys : List Y) (i : ℕ) (x : X) (y : Y) → i < length xs → i < length ys → x ≡ slice_index_or xs i x → y ≡ f x
-    → take i ys ≡ map f (take i xs) → take (i + 1) (slice_set ys i y) ≡ map f (take (i + 1) xs)
-one_more_value f xs ys i x y low room at is so_far =
-    take_more_set ys i y room ∙ ap (λ zs. zs ++ y ∷ []) so_far ∙ ap (λ z. map f (take i xs) ++ z ∷ []) (is ∙ ap f at)
-    ∙ sym (map-append f (take i xs) (slice_index_or xs i x ∷ [])) ∙ ap (map f) (sym (take_more xs i x low))

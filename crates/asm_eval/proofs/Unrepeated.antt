@@ -7,7 +7,8 @@ use Rattle.std.proofs.lemmas.Bool.Decides.{Decides-eqb}
 use Rattle.std.proofs.lemmas.Map.Keys.{IsDistinct-cons, IsDistinct-head, IsDistinct-tail}
 use Rattle.std.proofs.lemmas.Slice.Eq.{slice_eq-Decides}
 use Rattle.asm_eval.specs.Yields.{Place}
-use Rattle.asm_eval.specs.Does.{Line, Script, is_line_of, pick, does, does_within}
+use Rattle.asm_reader.specs.ScriptLines.{Line, Script, is_line_of, pick}
+use Rattle.asm_eval.specs.Does.{does, does_within}
 use Rattle.asm_eval.specs.Value.{nesting}
 use Rattle.asm_eval.specs.Scripts.{have_one_key, IsUnrepeated, unrepeated, UnrepeatedScript}
 

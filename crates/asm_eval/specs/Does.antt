@@ -1,33 +1,16 @@
 -- What a rule yields under a script.
---     Script, pick          a finite map from step and place to a number, 0 elsewhere;  its number there
 --     Outcome               what a rule yields, with the number of instances
 --     does program turns script step A e p R      the outcome of R, where a choose with n candidates takes the one whose number is
 --                                                 the script's at its place, modulo n
-use Rattle.std.specs.Prelude.{ℕ, zero, suc, ◌+◌, ◌%◌, Bool, cond, not, ◌&&◌, ◌||◌, List, [], ◌∷◌, Option, Some, slice_index_or, length, nat_eq}
-use Rattle.std.specs.Cmp.Lexicographic.{pointwise}
+use Rattle.std.specs.Prelude.{ℕ, zero, suc, ◌+◌, ◌%◌, Bool, cond, not, ◌||◌, List, [], ◌∷◌, Option, Some, slice_index_or, length}
 use Rattle.asm_state.specs.declared.value.Value.{Value}
 use Rattle.asm_state.specs.Location.{State}
 use Rattle.asm_state.specs.Updates.{UpdateSet, is_consistent, is_none, none, fire}
 use Rattle.asm_syntax.specs.Tree.{Terms, Rule, Skip, Assign, Call, Par, Seq, If, Let, Forall, Choose, Iterate, Rules, no_rules, rule_then}
+use Rattle.asm_reader.specs.ScriptLines.{Script, pick}
 use Rattle.asm_eval.specs.Program.{Program, Declared, Procedure, declared, Environment, with_value, bind_terms}
 use Rattle.asm_eval.specs.Value.{value, values, holds, candidates, universe, nesting}
 use Rattle.asm_eval.specs.Yields.{Place, at, Result, Gives, Exhausted, beside, after, assigned}
-
-pub record Line : Type 0 where
-  pub step : ℕ
-  pub place : Place
-  pub choice : ℕ
-
-abbrev pub Script : Type 0
-Script = List Line
-
-abbrev pub is_line_of : ℕ → Place → Line → Bool
-is_line_of step p line = nat_eq line.step step && pointwise nat_eq line.place p
-
--- the number of the first line with this step and place
-abbrev pub pick : Script → ℕ → Place → ℕ
-pick [] step p = 0
-pick (line ∷ lines) step p = cond (is_line_of step p line) line.choice (pick lines step p)
 
 pub record Outcome : Type 0 where
   pub result : Result

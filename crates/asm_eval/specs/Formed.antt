@@ -1,9 +1,39 @@
--- What forming a set does to a summary.
-use Rattle.asm_state.specs.Signature.{Shape}
+-- What forming a rule's outcome does to a summary and to a number of instances.
+--     Adds        a set is added to whatever the summary stands for
+--     Forms       an outcome that gives a set: its set is added, and its instances are counted
+--     IsFormed    an outcome of the code is one of the definitions
+use Rattle.std.specs.Prelude.{◌≡◌, ℕ, ◌+◌, min}
+use Rattle.asm_state.specs.Signature.{Shape, count_of}
 use Rattle.asm_state.specs.Updates.{UpdateSet, together}
 use Rattle.asm_updates.specs.Entries.{Entries}
 use Rattle.asm_updates.specs.Stands.{Stands}
+use Rattle.asm_eval.specs.Yields.{Gives, Exhausted}
+use Rattle.asm_eval.specs.Does as does
+use Rattle.asm_eval.specs.declared.outcome.Outcome.{Outcome}
+use Rattle.asm_eval.specs.declared.outcome.Outcome.TheVariants.{Set, Exhausted as ExhaustedAt}
 
 -- the set V is added to whatever the summary stands for
 abbrev pub Adds : Shape → (V : UpdateSet) → (old new : Entries) → Type 0
 Adds shape V old new = (U : UpdateSet) → Stands shape old U → Stands shape new (together U V)
+
+-- the number of instances is cut off where it doesn't fit 64 bits
+abbrev pub greatest_count : ℕ
+greatest_count = 18_446_744_073_709_551_615
+
+pub record Forms (shape : Shape) (o : does.Outcome) (old new : Entries) (before after : ℕ) : Type 0 where
+  pub set : UpdateSet
+  pub gives : o.result ≡ Gives set
+  pub adds : Adds shape set old new
+  pub counts : after ≡ min (before + o.instances) greatest_count
+
+-- a set by its summary, with the instances
+pub record IsSet (shape : Shape) (o : does.Outcome) (summary : Entries) (instances : ℕ) : Type 0 where
+  pub set : UpdateSet
+  pub gives : o.result ≡ Gives set
+  pub count : summary.count ≡ count_of shape
+  pub stands : Stands shape summary set
+  pub counts : instances ≡ min o.instances greatest_count
+
+abbrev pub IsFormed : Shape → does.Outcome → Outcome → Type 0
+IsFormed shape o (Set summary instances) = IsSet shape o summary instances
+IsFormed shape o (ExhaustedAt p) = o.result ≡ Exhausted p.items

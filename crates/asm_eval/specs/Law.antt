@@ -5,7 +5,8 @@ use Rattle.asm_syntax.specs.Tree.{Name, Rule}
 use Rattle.asm_eval.specs.Program.{Program, Environment}
 use Rattle.asm_eval.specs.Value.{nesting}
 use Rattle.asm_eval.specs.Yields.{Place, Result, Yields}
-use Rattle.asm_eval.specs.Does.{Script, does}
+use Rattle.asm_reader.specs.ScriptLines.{Script}
+use Rattle.asm_eval.specs.Does.{does}
 use Rattle.asm_eval.specs.Scripts.{IsUnrepeated}
 use Rattle.asm_eval.specs.Ranks.{CallsBelow, IsRanked}
 

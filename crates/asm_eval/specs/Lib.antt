@@ -15,5 +15,6 @@ pub mod Environments
 pub mod Seen
 pub mod Declarations
 pub mod Valued
-pub mod PlainRules
+pub mod BasicRules
 pub mod Formed
+pub mod Taken

@@ -11,7 +11,8 @@ use Rattle.asm_syntax.specs.Tree.{Name, Rule}
 use Rattle.asm_eval.specs.Program.{Program, nothing_bound}
 use Rattle.asm_eval.specs.Value.{nesting}
 use Rattle.asm_eval.specs.Yields.{Place, Result, Gives, Exhausted, Yields}
-use Rattle.asm_eval.specs.Does.{Script, Outcome, does}
+use Rattle.asm_reader.specs.ScriptLines.{Script}
+use Rattle.asm_eval.specs.Does.{Outcome, does}
 use Rattle.asm_eval.specs.Scripts.{IsUnrepeated}
 use Rattle.asm_eval.specs.Ranks.{CallsBelow, IsRanked}
 

@@ -7,7 +7,8 @@ use Rattle.asm_state.specs.Location.{State}
 use Rattle.asm_syntax.specs.Tree.{Rule}
 use Rattle.asm_eval.specs.Program.{Program, Environment}
 use Rattle.asm_eval.specs.Yields.{Place}
-use Rattle.asm_eval.specs.Does.{Line, Script, is_line_of, pick, does}
+use Rattle.asm_reader.specs.ScriptLines.{Line, Script, is_line_of, pick}
+use Rattle.asm_eval.specs.Does.{does}
 
 -- two lines have one step and place
 abbrev pub have_one_key : Line → Line → Bool

@@ -2,18 +2,24 @@
 --     program checked                        what the specification declares
 --     shown view                             the state that a view shows
 --     term_value checked view e t            the value of a term of the code
-use Rattle.std.specs.Prelude.{List, map, Option, Some}
+--     condition test, holds_at               a condition of the code, if there is one;  whether it holds
+--     branch other                           a branch of the code, which may be left out
+use Rattle.std.specs.Prelude.{Bool, List, map, Option, Some, None, option_map}
+use Rattle.std.proofs.Common.{Box, Global}
 use Rattle.asm_state.specs.declared.value.Value.{Value}
 use Rattle.asm_state.specs.declared.value.Value.TheVariants.{Undef}
 use Rattle.asm_state.specs.Location.{State}
 use Rattle.asm_state.specs.Tables.{location_in, value_in}
-use Rattle.asm_syntax.specs.Views.{term_of, terms_of, spec_of}
+use Rattle.asm_syntax.specs.Placed as placed
+use Rattle.asm_syntax.specs.Views.{term_of, terms_of, test_of, rule_of, spec_of}
 use Rattle.asm_syntax.specs.Unplaced.{plain_term, plain_terms}
+use Rattle.asm_syntax.specs.Tree as tree
 use Rattle.asm_syntax.specs.Tree.{Name, Named}
+use Rattle.asm_syntax.specs.declared.rule.Rule.{Rule}
 use Rattle.asm_syntax.specs.declared.term.Term.{Term}
 use Rattle.asm_check.specs.declared.checked.Checked.{Checked}
 use Rattle.asm_eval.specs.Program.{Program, Declared, Enumerated, Controlled, Static, Derived, Environment, bind_values}
-use Rattle.asm_eval.specs.Value.{value, read}
+use Rattle.asm_eval.specs.Value.{value, holds, read}
 use Rattle.asm_eval.specs.Declarations.{program_of}
 use Rattle.asm_eval.specs.Seen.{seen}
 use Rattle.asm_eval.specs.declared.view.View.{View}
@@ -31,6 +37,16 @@ module _ (checked : Checked) (view : View) (e : Environment) where
   -- a name with arguments
   abbrev pub named_value : Name → List Term → Value
   named_value x ts = value (program checked) (shown view) e (Named x (plain_terms (terms_of (map term_of ts))))
+
+abbrev pub branch : Option (Box Rule Global) → placed.Branch
+branch None = placed.left_out
+branch (Some P) = placed.written (rule_of P.value)
+
+abbrev pub condition : Option Term → Option tree.Term
+condition test = option_map plain_term (test_of test)
+
+abbrev pub holds_at : Checked → View → Environment → Option Term → Bool
+holds_at checked view e test = holds (program checked) (shown view) e (condition test)
 
 -- a function that is held in the state, or a table
 abbrev pub held : Option Declared → List Value → State → Value

@@ -4,7 +4,6 @@ ghost use Rattle.asm_eval.specs.Scripts.{UnrepeatedScript};
 ghost use Rattle.asm_eval.specs.Cases.{ScriptedByCases};
 ghost use Rattle.asm_eval.specs.TermCases.{ValuedByCases};
 ghost use Rattle.asm_eval.specs.PlainCases.{PlainByCases};
-ghost use Rattle.asm_eval.specs.PlainRules.{PlainRulesGive};
 ghost use Rattle.asm_eval.specs.Declarations.{ProgramDeclares};
 ghost use Rattle.asm_eval.specs.Run.{ScriptedRuns, FreeRuns};
 ghost use Rattle.asm_eval.specs.Splits.{BesideLaws, SplitLaws};
@@ -35,14 +34,9 @@ pub fn valued_by_cases()
     ensures { ValuedByCases }
 {}
 
-/// Rules without calls and terms without derived functions have one case for each form, whatever the ranks.
+/// Basic rules without calls and terms without derived functions have one case for each form, whatever the ranks.
 pub fn plain_by_cases()
     ensures { PlainByCases }
-{}
-
-/// Rules that only assign, test and stand beside each other give one set, whatever the choices.
-pub fn plain_rules_give()
-    ensures { PlainRulesGive }
 {}
 
 /// A program declares each name as what the name's number stands for.

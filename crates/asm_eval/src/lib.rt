@@ -1,15 +1,21 @@
 //! The meaning of terms, rules and specifications, as definitions for contracts, with its laws, and the evaluation of terms and rules.
 #![tactic(auto)]
 
+pub mod basic;
+mod choose;
 pub mod env;
+pub mod evaluation;
 mod find;
 pub mod form;
 mod held;
 pub mod laws;
-pub mod plain;
+pub mod outcome;
 mod target;
 pub mod value;
 pub mod view;
+pub mod whole;
 
 pub use env::Env;
+pub use evaluation::{Choices, Evaluation};
+pub use outcome::{Forming, Outcome};
 pub use view::View;

@@ -1,6 +1,5 @@
 //! The values of terms.
-ghost use Rattle.std.specs.Prelude.{◌≡◌, None, IfOk};
-ghost use Rattle.asm_state.specs.declared.value.Value.TheVariants.{Truth};
+ghost use Rattle.std.specs.Prelude.{◌≡◌, ◌≤◌, None, IfOk, length};
 ghost use Rattle.asm_syntax.specs.Unplaced as plain;
 ghost use Rattle.asm_syntax.specs.Tree as tree;
 ghost use Rattle.asm_syntax.specs.Views.{spec_of, term_of};
@@ -9,7 +8,7 @@ ghost use Rattle.asm_check.specs.Shapes.{shape_of};
 ghost use Rattle.asm_eval.specs.Declarations.{numbered};
 ghost use Rattle.asm_eval.specs.Environments.{environment};
 ghost use Rattle.asm_eval.specs.Program.{bound_to};
-ghost use Rattle.asm_eval.specs.Valued.{program, shown, named_value, declared_value};
+ghost use Rattle.asm_eval.specs.Valued.{program, shown, term_value, named_value, declared_value};
 ghost use Rattle.asm_eval.specs.Value as spec;
 
 use crate::env::{Binding, Env};
@@ -46,39 +45,65 @@ pub fn value<'e>(
 {
     match term {
         Term::Constant(literal) => Ok(literal_value(*literal)),
-        Term::Named { name, arguments } => {
-            let value = named(alloc, checked, view, env, name, arguments.as_slice())?;
-            Ok(value)
-        }
+        Term::Named { name, arguments } => named(
+            alloc,
+            checked,
+            view,
+            env,
+            name,
+            arguments.as_slice(),
+        ),
         Term::Chain { first, rest } => {
-            let mut total = value(alloc, checked, view, env, first)?;
-            for (operation, operand) in rest.as_slice() {
-                let right = value(alloc, checked, view, env, operand)?;
+            let mut total = operand(alloc, checked, view, env, first)?;
+            for (operation, right) in rest.as_slice() {
+                let right = operand(alloc, checked, view, env, right)?;
                 total = apply(*operation, total, right);
             }
             Ok(total)
         }
         Term::Not(inner) => {
-            let operand = value(alloc, checked, view, env, inner)?;
-            Ok(apply(Op::Not, operand, Value::Undef))
+            let inner = operand(alloc, checked, view, env, inner)?;
+            Ok(apply(Op::Not, inner, Value::Undef))
         }
         Term::Negative(inner) => {
-            let operand = value(alloc, checked, view, env, inner)?;
-            Ok(apply(Op::Negate, operand, Value::Undef))
+            let inner = operand(alloc, checked, view, env, inner)?;
+            Ok(apply(Op::Negate, inner, Value::Undef))
         }
-        Term::Exists { name, over, test } => {
-            let found = exists(alloc, checked, view, env, name, over, test)?;
-            Ok(Value::Truth(found))
-        }
-        Term::Every { name, over, test } => {
-            let holds = every(alloc, checked, view, env, name, over, test)?;
-            Ok(Value::Truth(holds))
-        }
+        Term::Exists { name, over, test } => exists(alloc, checked, view, env, name, over, test),
+        Term::Every { name, over, test } => every(alloc, checked, view, env, name, over, test),
+    }
+}
+
+/// The same value. Constants and names, which most operands and arguments are, have it without a call of `value`.
+#[cycle(value)]
+#[inline(always)]
+fn operand<'e>(
+    alloc: Global,
+    checked: &Checked,
+    view: &View,
+    env: &'e Env<'e>,
+    term: &'e Term,
+) -> Result<Value, AllocError>
+    requires { view.now.signature.now ≡ shape_of (spec_of checked.now.spec) }
+    ensures { IfOk result (λ v. v ≡ term_value checked.now view.now (environment env.now) term.now) }
+{
+    match term {
+        Term::Constant(literal) => Ok(literal_value(*literal)),
+        Term::Named { name, arguments } => named(
+            alloc,
+            checked,
+            view,
+            env,
+            name,
+            arguments.as_slice(),
+        ),
+        _ => value(alloc, checked, view, env, term),
     }
 }
 
 /// The value of a name with arguments.
 #[cycle(value)]
+#[inline(never)]
 fn named<'e>(
     alloc: Global,
     checked: &Checked,
@@ -92,21 +117,52 @@ fn named<'e>(
 {
     match find(env, name) {
         Binding::Known(value) => Ok(value),
-        Binding::ByName(term, caller) => {
-            let value = value(alloc, checked, view, caller, term)?;
-            Ok(value)
-        }
+        Binding::ByName(term, caller) => value(alloc, checked, view, caller, term),
         Binding::Unbound => {
-            let value = applied(alloc, checked, view, env, name, arguments)?;
-            Ok(value)
+            if arguments.is_empty() {
+                value_of(alloc, checked, view, checked.named(&name.text), &[])
+            } else if arguments.len() <= FEW {
+                of_few(alloc, checked, view, env, name, arguments)
+            } else {
+                of_many(alloc, checked, view, env, name, arguments)
+            }
         }
     }
 }
 
-/// The value of a name that isn't bound, with arguments.
+/// The value of a name that isn't bound, with a few arguments.
 #[cycle(value)]
 #[inline(never)]
-fn applied<'e>(
+fn of_few<'e>(
+    alloc: Global,
+    checked: &Checked,
+    view: &View,
+    env: &'e Env<'e>,
+    name: &'e Name,
+    arguments: &'e [Term],
+) -> Result<Value, AllocError>
+    requires shaped { view.now.signature.now ≡ shape_of (spec_of checked.now.spec) }
+    requires unbound { bound_to (environment env.now) name.now.text ≡ None }
+    requires few { length arguments.now ≤ 4 }
+    ensures { IfOk result (λ v. v ≡ named_value checked.now view.now (environment env.now) name.now.text arguments.now) }
+{
+    let mut values = [Value::Undef; FEW];
+    for i in 0..arguments.len() {
+        values[i] = operand(alloc, checked, view, env, &arguments[i])?;
+    }
+    value_of(
+        alloc,
+        checked,
+        view,
+        checked.named(&name.text),
+        &values[..arguments.len()],
+    )
+}
+
+/// The value of a name that isn't bound, with any number of arguments.
+#[cycle(value)]
+#[inline(never)]
+fn of_many<'e>(
     alloc: Global,
     checked: &Checked,
     view: &View,
@@ -118,25 +174,17 @@ fn applied<'e>(
     requires unbound { bound_to (environment env.now) name.now.text ≡ None }
     ensures { IfOk result (λ v. v ≡ named_value checked.now view.now (environment env.now) name.now.text arguments.now) }
 {
-    let it = checked.named(&name.text);
-    if arguments.is_empty() {
-        let value = value_of(alloc, checked, view, it, &[])?;
-        return Ok(value);
-    }
-    if arguments.len() <= FEW {
-        let mut values = [Value::Undef; FEW];
-        for i in 0..arguments.len() {
-            values[i] = value(alloc, checked, view, env, &arguments[i])?;
-        }
-        let value = value_of(alloc, checked, view, it, &values[..arguments.len()])?;
-        return Ok(value);
-    }
     let mut values = Vec::with_capacity(alloc, arguments.len())?;
     for argument in arguments {
-        values.push(value(alloc, checked, view, env, argument)?)?;
+        values.push(operand(alloc, checked, view, env, argument)?)?;
     }
-    let value = value_of(alloc, checked, view, it, values.as_slice())?;
-    Ok(value)
+    value_of(
+        alloc,
+        checked,
+        view,
+        checked.named(&name.text),
+        values.as_slice(),
+    )
 }
 
 /// The value of what a name stands for, with the values of its arguments.
@@ -158,14 +206,13 @@ fn value_of(
         Some(Named::Element(e)) => Ok(Value::Element(Element { index: e as u32 })),
         Some(Named::Derived(d)) => {
             let (names, body) = checked.derived(d);
-            let value = value(alloc, checked, view, &Env::Values { names, values }, body)?;
-            Ok(value)
+            value(alloc, checked, view, &Env::Values { names, values }, body)
         }
         Some(Named::Universe(_) | Named::Called(_)) | None => Ok(Value::Undef),
     }
 }
 
-/// Whether the test has the value true for some element.
+/// The truth value of whether the test has the value true for some element.
 #[cycle(value)]
 #[inline(never)]
 fn exists<'e>(
@@ -176,13 +223,13 @@ fn exists<'e>(
     name: &'e Name,
     over: &Name,
     test: &'e Term,
-) -> Result<bool, AllocError>
+) -> Result<Value, AllocError>
     requires { view.now.signature.now ≡ shape_of (spec_of checked.now.spec) }
     ensures { let t = tree.Exists name.now.text over.now.text (plain.plain_term (term_of test.now)) in
-        IfOk result (λ b. Truth b ≡ spec.value (program checked.now) (shown view.now) (environment env.now) t) }
+        IfOk result (λ v. v ≡ spec.value (program checked.now) (shown view.now) (environment env.now) t) }
 {
     let Some(universe) = universe_of(checked, over) else {
-        return Ok(false);
+        return Ok(Value::Truth(false));
     };
     for i in 0..universe.size() {
         let bound = Env::One {
@@ -192,13 +239,13 @@ fn exists<'e>(
         };
         let tested = value(alloc, checked, view, &bound, test)?;
         if is_true(tested) {
-            return Ok(true);
+            return Ok(Value::Truth(true));
         }
     }
-    Ok(false)
+    Ok(Value::Truth(false))
 }
 
-/// Whether the test has the value true for each element.
+/// The truth value of whether the test has the value true for each element.
 #[cycle(value)]
 #[inline(never)]
 fn every<'e>(
@@ -209,13 +256,13 @@ fn every<'e>(
     name: &'e Name,
     over: &Name,
     test: &'e Term,
-) -> Result<bool, AllocError>
+) -> Result<Value, AllocError>
     requires { view.now.signature.now ≡ shape_of (spec_of checked.now.spec) }
     ensures { let t = tree.Every name.now.text over.now.text (plain.plain_term (term_of test.now)) in
-        IfOk result (λ b. Truth b ≡ spec.value (program checked.now) (shown view.now) (environment env.now) t) }
+        IfOk result (λ v. v ≡ spec.value (program checked.now) (shown view.now) (environment env.now) t) }
 {
     let Some(universe) = universe_of(checked, over) else {
-        return Ok(true);
+        return Ok(Value::Truth(true));
     };
     for i in 0..universe.size() {
         let bound = Env::One {
@@ -225,8 +272,8 @@ fn every<'e>(
         };
         let tested = value(alloc, checked, view, &bound, test)?;
         if !is_true(tested) {
-            return Ok(false);
+            return Ok(Value::Truth(false));
         }
     }
-    Ok(true)
+    Ok(Value::Truth(true))
 }

@@ -45,14 +45,14 @@ is_within_up_to before more whole t e h = front_is_within (before ++ t ∷ []) m
 pub goes_on_up_to : (text : List ℕ) (before more whole : List Token) (t : Token) → whole ≡ before ++ t ∷ more → GoesOn text whole → GoesOn text (before ++ t ∷ [])
 goes_on_up_to text before more whole t e g = front_goes_on text (before ++ t ∷ []) more (rw (up_to before more whole t e) at g)
 
--- ---- two fronts, each with the token behind it
+-- ---- two fronts of any list, each with the item behind it
 
--- the list begins with these tokens and this one
-abbrev pub GoesPast : List Token → List Token → Token → Type 0
-GoesPast whole before t = (more : List Token) × (whole ≡ before ++ t ∷ more)
+-- the list begins with these items and this one
+abbrev pub GoesPast : {A : Type 0} → List A → List A → A → Type 0
+GoesPast {A} whole before t = (more : List A) × (whole ≡ before ++ t ∷ more)
 
 -- They are one, or one of them goes past the other.
-pub two_fronts : (before front : List Token) (s t : Token) (after back : List Token) → before ++ s ∷ after ≡ front ++ t ∷ back
+pub two_fronts : {A : Type 0} (before front : List A) (s t : A) (after back : List A) → before ++ s ∷ after ≡ front ++ t ∷ back
     → ((before ≡ front) × (s ≡ t)) ⊎ GoesPast front before s ⊎ GoesPast before front t
 two_fronts [] [] s t after back e = inl (refl, cc)
 two_fronts [] (v ∷ front) s t after back e = inr (inl (front, cc))

@@ -28,3 +28,7 @@ pub mod OneRefusal
 pub mod OneTree
 pub mod Whole
 pub mod Spellings
+pub mod LineLookups
+pub mod Places
+pub mod Fields
+pub mod FirstFaults

@@ -11,3 +11,7 @@ pub mod Steps
 pub mod TermReading
 pub mod RuleReading
 pub mod Reading
+pub mod ScriptLines
+pub mod ScriptText
+pub mod ScriptRefusals
+pub mod Spots

@@ -1,4 +1,4 @@
-//! Laws of the definitions of specifications and refusals.
+//! Laws of the definitions of specifications, scripts and refusals.
 
 ghost use Rattle.std.specs.Prelude.{◌≡◌, ℕ, List};
 ghost use Rattle.asm_syntax.specs.declared.token.Token.{Token};
@@ -7,6 +7,9 @@ ghost use Rattle.asm_reader.specs.declared.error.ReadError.{ReadError};
 ghost use Rattle.asm_reader.specs.Grammar.{specification};
 ghost use Rattle.asm_reader.specs.Specification.{IsSpecification};
 ghost use Rattle.asm_reader.specs.Refusals.{IsRefusal};
+ghost use Rattle.asm_reader.specs.ScriptLines.{Script};
+ghost use Rattle.asm_reader.specs.ScriptText.{IsScript, IsScriptRefusal};
+ghost use Rattle.asm_reader.specs.declared.script_error.ScriptError.{ScriptError};
 
 use asm_syntax::{no_tokens_beside_a_fault, one_fault, one_list_of_tokens};
 
@@ -38,3 +41,18 @@ pub fn one_refusal()
     no_tokens_beside_a_fault();
     one_fault();
 }
+
+/// A text spells one script at most.
+pub fn one_script()
+    ensures { (text : List ℕ) (s t : Script) → IsScript text s → IsScript text t → s ≡ t }
+{}
+
+/// A text that spells a script has no refusal as one.
+pub fn no_script_beside_a_refusal()
+    ensures { (text : List ℕ) (s : Script) (e : ScriptError) → IsScript text s → ¬ IsScriptRefusal text e }
+{}
+
+/// A text has one refusal as a script at most.
+pub fn one_script_refusal()
+    ensures { (text : List ℕ) (e f : ScriptError) → IsScriptRefusal text e → IsScriptRefusal text f → e ≡ f }
+{}

@@ -1,4 +1,4 @@
-//! Specifications, from their texts.
+//! Specifications and scripts, from their texts.
 #![tactic(auto)]
 
 mod contents;
@@ -7,10 +7,22 @@ pub mod error;
 mod items;
 mod laws;
 mod names;
+pub mod picks;
 mod reading;
 mod rules;
+pub mod script;
+pub mod script_error;
+mod script_line;
+mod script_reading;
 mod terms;
 
 pub use error::ReadError;
-pub use laws::{no_tree_beside_a_refusal, one_refusal, one_tree, one_tree_of_tokens};
+pub use laws::{
+    no_script_beside_a_refusal, no_tree_beside_a_refusal, one_refusal, one_script,
+    one_script_refusal, one_tree, one_tree_of_tokens,
+};
+pub use picks::Picks;
 pub use reading::read;
+pub use script::Script;
+pub use script_error::ScriptError;
+pub use script_reading::read_script;

@@ -4,6 +4,9 @@ use Rattle.asm_syntax.specs.Placed.{Spec}
 use Rattle.asm_reader.specs.declared.error.ReadError.{ReadError}
 use Rattle.asm_reader.specs.Specification.{IsSpecification}
 use Rattle.asm_reader.specs.Refusals.{IsRefusal}
+use Rattle.asm_reader.specs.declared.script_error.ScriptError.{ScriptError}
+use Rattle.asm_reader.specs.ScriptLines.{Script}
+use Rattle.asm_reader.specs.ScriptText.{IsScript, IsScriptRefusal}
 use Rattle.asm_check.specs.declared.error.FaultKind.{FaultKind}
 use Rattle.asm_check.specs.declared.error.FaultKind.TheVariants.{Twice, Unknown, Arity, NotControlled, CyclicRule, CyclicDerived, Init, TooMany, TableEntry}
 use Rattle.asm_check.specs.declared.error.CheckError.{CheckError}
@@ -49,7 +52,8 @@ same_error e f at number =
 -- ---- one of them at most
 
 module _ (one_tree : (text : List ℕ) (s t : Spec) → IsSpecification text s → IsSpecification text t → s ≡ t)
-    (no_tree : (text : List ℕ) (s : Spec) (e : ReadError) → IsSpecification text s → ¬ IsRefusal text e) where
+    (no_tree : (text : List ℕ) (s : Spec) (e : ReadError) → IsSpecification text s → ¬ IsRefusal text e)
+    (no_script : (text : List ℕ) (s : Script) (e : ScriptError) → IsScript text s → ¬ IsScriptRefusal text e) where
   beyond_or_known : (text : List ℕ) (s : Spec) → IsBeyond text → IsCovered text s → ⊥
   beyond_or_known text s k h =
       let same : s ≡ k.0 = one_tree text s k.0 h.spelled k.1 in
@@ -76,37 +80,50 @@ module _ (one_tree : (text : List ℕ) (s t : Spec) → IsSpecification text s �
       same_error e f same.0 same.1
 
   pub excludes : NoRunBesideARefusal
-  excludes text steps turns workers cut rounds old new s (error.Read e) h in_range named k = no_tree text s e h.spelled k.0
-  excludes text steps turns workers cut rounds old new s (error.Check e) h in_range named k = faulty_or_known text e s k.0 h
-  excludes text steps turns workers cut rounds old new s error.Beyond h in_range named k = beyond_or_known text s k.0 h
-  excludes text steps turns workers cut rounds old new s error.Limits h in_range named k = let no : are_in_range steps turns workers cut rounds ≡ false = k.2 in absurd cc
-  excludes text steps turns workers cut rounds old new s error.Memory h in_range named k = named
-  excludes text steps turns workers cut rounds old new s error.Write h in_range named k = named
+  excludes text script_text steps turns workers cut rounds old new s script (error.Read e) h spelled in_range named k = no_tree text s e h.spelled k.0
+  excludes text script_text steps turns workers cut rounds old new s script (error.Check e) h spelled in_range named k = faulty_or_known text e s k.0 h
+  excludes text script_text steps turns workers cut rounds old new s script error.Beyond h spelled in_range named k = beyond_or_known text s k.0 h
+  excludes text script_text steps turns workers cut rounds old new s script (error.Script e) h spelled in_range named k = no_script script_text script e spelled k.2
+  excludes text script_text steps turns workers cut rounds old new s script error.Limits h spelled in_range named k = let no : are_in_range steps turns workers cut rounds ≡ false = k.4 in absurd cc
+  excludes text script_text steps turns workers cut rounds old new s script error.Memory h spelled in_range named k = named
+  excludes text script_text steps turns workers cut rounds old new s script error.Write h spelled in_range named k = named
 
-  pub once : ((text : List ℕ) (e f : ReadError) → IsRefusal text e → IsRefusal text f → e ≡ f) → LeastIsOnly → OneNamedRefusal
-  once one least text steps turns workers cut rounds old new other_old other_new (error.Read e) (error.Read f) n m h k = ap error.Read (one text e f h.0 k.0)
-  once one least text steps turns workers cut rounds old new other_old other_new (error.Read e) (error.Check f) n m h k = absurd (no_tree text k.0.0 e k.0.1 h.0)
-  once one least text steps turns workers cut rounds old new other_old other_new (error.Read e) error.Beyond n m h k = absurd (no_tree text k.0.0 e k.0.1 h.0)
-  once one least text steps turns workers cut rounds old new other_old other_new (error.Read e) error.Limits n m h k = absurd (no_tree text k.0 e k.1.spelled h.0)
-  once one least text steps turns workers cut rounds old new other_old other_new (error.Read e) error.Memory n m h k = absurd m
-  once one least text steps turns workers cut rounds old new other_old other_new (error.Read e) error.Write n m h k = absurd m
-  once one least text steps turns workers cut rounds old new other_old other_new (error.Check e) (error.Read f) n m h k = absurd (no_tree text h.0.0 f h.0.1 k.0)
-  once one least text steps turns workers cut rounds old new other_old other_new (error.Check e) (error.Check f) n m h k = ap error.Check (one_fault least text e f h.0 k.0)
-  once one least text steps turns workers cut rounds old new other_old other_new (error.Check e) error.Beyond n m h k = absurd (faulty_or_beyond text e h.0 k.0)
-  once one least text steps turns workers cut rounds old new other_old other_new (error.Check e) error.Limits n m h k = absurd (faulty_or_known text e k.0 h.0 k.1)
-  once one least text steps turns workers cut rounds old new other_old other_new (error.Check e) error.Memory n m h k = absurd m
-  once one least text steps turns workers cut rounds old new other_old other_new (error.Check e) error.Write n m h k = absurd m
-  once one least text steps turns workers cut rounds old new other_old other_new error.Beyond (error.Read f) n m h k = absurd (no_tree text h.0.0 f h.0.1 k.0)
-  once one least text steps turns workers cut rounds old new other_old other_new error.Beyond (error.Check f) n m h k = absurd (faulty_or_beyond text f k.0 h.0)
-  once one least text steps turns workers cut rounds old new other_old other_new error.Beyond error.Beyond n m h k = refl
-  once one least text steps turns workers cut rounds old new other_old other_new error.Beyond error.Limits n m h k = absurd (beyond_or_known text k.0 h.0 k.1)
-  once one least text steps turns workers cut rounds old new other_old other_new error.Beyond error.Memory n m h k = absurd m
-  once one least text steps turns workers cut rounds old new other_old other_new error.Beyond error.Write n m h k = absurd m
-  once one least text steps turns workers cut rounds old new other_old other_new error.Limits (error.Read f) n m h k = absurd (no_tree text h.0 f h.1.spelled k.0)
-  once one least text steps turns workers cut rounds old new other_old other_new error.Limits (error.Check f) n m h k = absurd (faulty_or_known text f h.0 k.0 h.1)
-  once one least text steps turns workers cut rounds old new other_old other_new error.Limits error.Beyond n m h k = absurd (beyond_or_known text h.0 k.0 h.1)
-  once one least text steps turns workers cut rounds old new other_old other_new error.Limits error.Limits n m h k = refl
-  once one least text steps turns workers cut rounds old new other_old other_new error.Limits error.Memory n m h k = absurd m
-  once one least text steps turns workers cut rounds old new other_old other_new error.Limits error.Write n m h k = absurd m
-  once one least text steps turns workers cut rounds old new other_old other_new error.Memory f n m h k = absurd n
-  once one least text steps turns workers cut rounds old new other_old other_new error.Write f n m h k = absurd n
+  pub once : ((text : List ℕ) (e f : ReadError) → IsRefusal text e → IsRefusal text f → e ≡ f) → LeastIsOnly
+      → ((text : List ℕ) (e f : ScriptError) → IsScriptRefusal text e → IsScriptRefusal text f → e ≡ f) → OneNamedRefusal
+  once one least one_script text script_text steps turns workers cut rounds old new other_old other_new (error.Read e) (error.Read f) n m h k = ap error.Read (one text e f h.0 k.0)
+  once one least one_script text script_text steps turns workers cut rounds old new other_old other_new (error.Read e) (error.Check f) n m h k = absurd (no_tree text k.0.0 e k.0.1 h.0)
+  once one least one_script text script_text steps turns workers cut rounds old new other_old other_new (error.Read e) error.Beyond n m h k = absurd (no_tree text k.0.0 e k.0.1 h.0)
+  once one least one_script text script_text steps turns workers cut rounds old new other_old other_new (error.Read e) (error.Script f) n m h k = absurd (no_tree text k.0 e k.1.spelled h.0)
+  once one least one_script text script_text steps turns workers cut rounds old new other_old other_new (error.Read e) error.Limits n m h k = absurd (no_tree text k.0 e k.1.spelled h.0)
+  once one least one_script text script_text steps turns workers cut rounds old new other_old other_new (error.Read e) error.Memory n m h k = absurd m
+  once one least one_script text script_text steps turns workers cut rounds old new other_old other_new (error.Read e) error.Write n m h k = absurd m
+  once one least one_script text script_text steps turns workers cut rounds old new other_old other_new (error.Check e) (error.Read f) n m h k = absurd (no_tree text h.0.0 f h.0.1 k.0)
+  once one least one_script text script_text steps turns workers cut rounds old new other_old other_new (error.Check e) (error.Check f) n m h k = ap error.Check (one_fault least text e f h.0 k.0)
+  once one least one_script text script_text steps turns workers cut rounds old new other_old other_new (error.Check e) error.Beyond n m h k = absurd (faulty_or_beyond text e h.0 k.0)
+  once one least one_script text script_text steps turns workers cut rounds old new other_old other_new (error.Check e) (error.Script f) n m h k = absurd (faulty_or_known text e k.0 h.0 k.1)
+  once one least one_script text script_text steps turns workers cut rounds old new other_old other_new (error.Check e) error.Limits n m h k = absurd (faulty_or_known text e k.0 h.0 k.1)
+  once one least one_script text script_text steps turns workers cut rounds old new other_old other_new (error.Check e) error.Memory n m h k = absurd m
+  once one least one_script text script_text steps turns workers cut rounds old new other_old other_new (error.Check e) error.Write n m h k = absurd m
+  once one least one_script text script_text steps turns workers cut rounds old new other_old other_new error.Beyond (error.Read f) n m h k = absurd (no_tree text h.0.0 f h.0.1 k.0)
+  once one least one_script text script_text steps turns workers cut rounds old new other_old other_new error.Beyond (error.Check f) n m h k = absurd (faulty_or_beyond text f k.0 h.0)
+  once one least one_script text script_text steps turns workers cut rounds old new other_old other_new error.Beyond error.Beyond n m h k = refl
+  once one least one_script text script_text steps turns workers cut rounds old new other_old other_new error.Beyond (error.Script f) n m h k = absurd (beyond_or_known text k.0 h.0 k.1)
+  once one least one_script text script_text steps turns workers cut rounds old new other_old other_new error.Beyond error.Limits n m h k = absurd (beyond_or_known text k.0 h.0 k.1)
+  once one least one_script text script_text steps turns workers cut rounds old new other_old other_new error.Beyond error.Memory n m h k = absurd m
+  once one least one_script text script_text steps turns workers cut rounds old new other_old other_new error.Beyond error.Write n m h k = absurd m
+  once one least one_script text script_text steps turns workers cut rounds old new other_old other_new (error.Script e) (error.Read f) n m h k = absurd (no_tree text h.0 f h.1.spelled k.0)
+  once one least one_script text script_text steps turns workers cut rounds old new other_old other_new (error.Script e) (error.Check f) n m h k = absurd (faulty_or_known text f h.0 k.0 h.1)
+  once one least one_script text script_text steps turns workers cut rounds old new other_old other_new (error.Script e) error.Beyond n m h k = absurd (beyond_or_known text h.0 k.0 h.1)
+  once one least one_script text script_text steps turns workers cut rounds old new other_old other_new (error.Script e) (error.Script f) n m h k = ap error.Script (one_script script_text e f h.2 k.2)
+  once one least one_script text script_text steps turns workers cut rounds old new other_old other_new (error.Script e) error.Limits n m h k = absurd (no_script script_text k.2 e k.3 h.2)
+  once one least one_script text script_text steps turns workers cut rounds old new other_old other_new (error.Script e) error.Memory n m h k = absurd m
+  once one least one_script text script_text steps turns workers cut rounds old new other_old other_new (error.Script e) error.Write n m h k = absurd m
+  once one least one_script text script_text steps turns workers cut rounds old new other_old other_new error.Limits (error.Read f) n m h k = absurd (no_tree text h.0 f h.1.spelled k.0)
+  once one least one_script text script_text steps turns workers cut rounds old new other_old other_new error.Limits (error.Check f) n m h k = absurd (faulty_or_known text f h.0 k.0 h.1)
+  once one least one_script text script_text steps turns workers cut rounds old new other_old other_new error.Limits error.Beyond n m h k = absurd (beyond_or_known text h.0 k.0 h.1)
+  once one least one_script text script_text steps turns workers cut rounds old new other_old other_new error.Limits (error.Script f) n m h k = absurd (no_script script_text h.2 f h.3 k.2)
+  once one least one_script text script_text steps turns workers cut rounds old new other_old other_new error.Limits error.Limits n m h k = refl
+  once one least one_script text script_text steps turns workers cut rounds old new other_old other_new error.Limits error.Memory n m h k = absurd m
+  once one least one_script text script_text steps turns workers cut rounds old new other_old other_new error.Limits error.Write n m h k = absurd m
+  once one least one_script text script_text steps turns workers cut rounds old new other_old other_new error.Memory f n m h k = absurd n
+  once one least one_script text script_text steps turns workers cut rounds old new other_old other_new error.Write f n m h k = absurd n

@@ -1,5 +1,6 @@
--- The set that the main rule forms over a state.
-use Rattle.std.proofs.Common.{◌≡◌, List, ap, subst, ◌∙◌}
+-- What the main rule forms over a state.
+use Rattle.std.proofs.Common.{◌≡◌, ℕ, ◌+◌, List, [], ap, subst, ◌∙◌, arith}
+use Rattle.std.specs.Prelude.{min}
 use Rattle.asm_state.specs.declared.value.Value.{Value}
 use Rattle.asm_state.specs.Location.{State}
 use Rattle.asm_state.specs.Signature.{Shape, state_of}
@@ -8,15 +9,17 @@ use Rattle.asm_state.proofs.Members.{member_laws}
 use Rattle.asm_state.proofs.Summaries.{fire_laws}
 use Rattle.asm_syntax.specs.Placed.{Spec}
 use Rattle.asm_syntax.specs.Tree.{Rule}
+use Rattle.asm_reader.specs.ScriptLines.{Script}
 use Rattle.asm_check.specs.Faults.{inits}
 use Rattle.asm_check.specs.Shapes.{shape_of}
 use Rattle.asm_updates.specs.Entries.{Entries}
 use Rattle.asm_updates.specs.Stands.{Stands}
 use Rattle.asm_eval.specs.Declarations.{program_of, main_rule}
-use Rattle.asm_eval.specs.Formed.{Adds}
-use Rattle.asm_eval.specs.PlainRules.{set_of}
+use Rattle.asm_eval.specs.Does.{Outcome, does}
+use Rattle.asm_eval.specs.Formed.{Forms, IsSet, greatest_count}
 use Rattle.asm_eval.specs.Program.{Environment, nothing_bound}
-use Rattle.asm_run.specs.Step.{main_set}
+use Rattle.asm_eval.specs.Yields.{Place}
+use Rattle.asm_run.specs.Step.{main_outcome}
 use Rattle.asm_run.proofs.Stepping.{stands_alone}
 
 none_fired : (A : State) → fire A none ≡ A
@@ -25,13 +28,27 @@ none_fired A = λ i l. fire_laws.others A none l (λ named. member_laws.of_none 
 none_consistent : IsConsistent none
 none_consistent = record { one_value = λ l v w h k. absurd (member_laws.of_none l v h); no_stray = λ f v h. member_laws.of_none _ v h }
 
--- over the empty set, and from the empty set on, the set is the main rule's
-pub formed_alone : (s : Spec) (shape : Shape) (contents : List Value) (A : State) (over cleared new : Entries) (e : Environment) (R : Rule) → shape ≡ shape_of s
-    → ((U : UpdateSet) → Stands shape over U → IsConsistent U → A ≡ fire (state_of shape contents) U) → Stands shape over none → Stands shape cleared none
-    → e ≡ nothing_bound → R ≡ main_rule s (inits s) → Adds shape (set_of (program_of s) A e R) cleared new
-    → Stands (shape_of s) new (main_set s contents)
-formed_alone s shape contents A over cleared new e R shaped seen empty fresh free main adds =
+-- from the empty set and no instances on, a summary and a number are those of the outcome
+formed_from_none : (shape : Shape) (o : Outcome) (cleared new : Entries) (before after : ℕ) → Stands shape cleared none → before ≡ 0 → Forms shape o cleared new before after
+    → IsSet shape o new after
+formed_from_none shape o cleared new before after fresh none_yet forms =
+    let stands : Stands shape new forms.set = stands_alone shape new forms.set (forms.adds none fresh) in
+    let all : before + o.instances ≡ o.instances = omega arith in
+    record {
+      set = forms.set;
+      gives = forms.gives;
+      count = stands.has_count;
+      stands = stands;
+      counts = forms.counts ∙ ap (λ n. min n greatest_count) all;
+    }
+
+-- over the empty set, and from the empty set on, what is formed is the main rule's outcome
+pub formed_alone : (s : Spec) (shape : Shape) (turns : ℕ) (script : Script) (step : ℕ) (contents : List Value) (A : State) (over cleared new : Entries) (before after : ℕ) (e : Environment) (p : Place) (R : Rule)
+    → shape ≡ shape_of s → ((U : UpdateSet) → Stands shape over U → IsConsistent U → A ≡ fire (state_of shape contents) U)
+    → Stands shape over none → Stands shape cleared none → before ≡ 0 → e ≡ nothing_bound → p ≡ [] → R ≡ main_rule s (inits s)
+    → Forms shape (does (program_of s) turns script step A e p R) cleared new before after → IsSet (shape_of s) (main_outcome s turns script step contents) new after
+formed_alone s shape turns script step contents A over cleared new before after e p R shaped seen empty fresh none_yet free top main forms =
     let here : A ≡ state_of (shape_of s) contents = seen none empty none_consistent ∙ none_fired (state_of shape contents) ∙ ap (λ v. state_of v contents) shaped in
-    let all = stands_alone shape new (set_of (program_of s) A e R) (adds none fresh) in
-    let same : set_of (program_of s) A e R ≡ main_set s contents = λ i. set_of (program_of s) (here i) (free i) (main i) in
-    subst (λ v. Stands v new (main_set s contents)) shaped (subst (λ U. Stands shape new U) same all)
+    let same : does (program_of s) turns script step A e p R ≡ main_outcome s turns script step contents = λ i. does (program_of s) turns script step (here i) (free i) (top i) (main i) in
+    subst (λ v. IsSet v (main_outcome s turns script step contents) new after) shaped
+    (subst (λ o. IsSet shape o new after) same (formed_from_none shape (does (program_of s) turns script step A e p R) cleared new before after fresh none_yet forms))

@@ -18,11 +18,10 @@ use Rattle.asm_updates.specs.Faults.{fault_of}
 use Rattle.asm_updates.specs.declared.fault.Fault.{Fault}
 use Rattle.asm_updates.specs.declared.fault.Fault.TheVariants as fault
 use Rattle.asm_eval.specs.Declarations.{program_of, main_rule}
-use Rattle.asm_eval.specs.Does.{Script, Outcome, does}
-use Rattle.asm_eval.specs.PlainRules.{is_plain, gives}
-use Rattle.asm_eval.specs.Program.{nothing_bound}
+use Rattle.asm_reader.specs.ScriptLines.{Script}
+use Rattle.asm_eval.specs.Does.{Outcome}
+use Rattle.asm_eval.specs.Yields.{Result as Yielded, Gives}
 use Rattle.asm_eval.specs.Run.{Run, run_from, step_and, ended, fired, AtLimit, AtFault}
-use Rattle.asm_eval.proofs.PlainRules.{plain_rules_give}
 use Rattle.asm_run.specs.declared.end.End.{End}
 use Rattle.asm_run.specs.declared.end.End.TheVariants.{Limit}
 use Rattle.asm_run.specs.declared.error.RunError.{RunError}
@@ -31,7 +30,7 @@ use Rattle.asm_run.specs.Sink.{AppendsFront}
 use Rattle.asm_run.specs.Trace.{Names, IsEndText, step_text, line_end}
 use Rattle.asm_run.specs.Written.{names_in, locations_in, contents_text}
 use Rattle.asm_run.specs.Headline.{IsAnswer, book_run}
-use Rattle.asm_run.specs.Step.{main_set, AreSized, IsFired, IsStopped, Finishes, fault_line, end_of_fault}
+use Rattle.asm_run.specs.Step.{main_outcome, AreSized, IsFired, IsStopped, Finishes, fault_line, end_of_fault}
 use Rattle.asm_run.specs.Reached.{IsReached, Runs, Goes}
 use Rattle.asm_run.proofs.Stepping.{state_written}
 use Rattle.asm_run.proofs.Reached.{reached_more, cut_in_step, written_at_end, cut_at_end, whole_steps}
@@ -43,34 +42,28 @@ Appends-none (Some xs) = sym (append-nil xs)
 
 -- ---- one step of a run
 
-module _ (s : Spec) (plain : is_plain (main_rule s (inits s)) ≡ true) (turns : ℕ) (choices : Script) where
+module _ (s : Spec) (turns : ℕ) (script : Script) where
   abbrev left : ℕ → ℕ → State → Run
-  left n i A = run_from (program_of s) turns (main_rule s (inits s)) choices n i A
+  left n i A = run_from (program_of s) turns (main_rule s (inits s)) script n i A
 
-  forms : (i : ℕ) (contents : List Value) → does (program_of s) turns choices i (state_of (shape_of s) contents) nothing_bound [] (main_rule s (inits s)) ≡ gives (main_set s contents)
-  forms i contents = plain_rules_give (program_of s) turns choices i (state_of (shape_of s) contents) nothing_bound [] (main_rule s (inits s)) plain
+  module _ (n i : ℕ) (contents : List Value) (U : UpdateSet) (gives : (main_outcome s turns script i contents).result ≡ Gives U) where
+    abbrev before : State
+    before = state_of (shape_of s) contents
 
-  a_step : (n i : ℕ) (contents : List Value)
-      → left (suc n) i (state_of (shape_of s) contents)
-      ≡ cond (is_consistent (main_set s contents)) (fired (main_set s contents) 0 (left n (suc i) (fire (state_of (shape_of s) contents) (main_set s contents))))
-      (ended (AtFault i (main_set s contents)) (state_of (shape_of s) contents))
-  a_step n i contents =
-      ap (λ (o : Outcome). step_and (program_of s) turns (main_rule s (inits s)) o.result o.instances i (state_of (shape_of s) contents) (λ U. left n (suc i) (fire (state_of (shape_of s) contents) U))) (forms i contents)
+    abbrev instances : ℕ
+    instances = (main_outcome s turns script i contents).instances
 
-  fires : (n i : ℕ) (contents next : List Value) → IsConsistent (main_set s contents) → state_of (shape_of s) next ≡ fire (state_of (shape_of s) contents) (main_set s contents)
-      → left (suc n) i (state_of (shape_of s) contents) ≡ fired (main_set s contents) 0 (left n (suc i) (state_of (shape_of s) next))
-  fires n i contents next consistent is =
-      let U : UpdateSet = main_set s contents in
-      a_step n i contents
-      ∙ ap (λ b. cond b (fired U 0 (left n (suc i) (fire (state_of (shape_of s) contents) U))) (ended (AtFault i U) (state_of (shape_of s) contents))) ((test_laws.consistency U).1 consistent)
-      ∙ ap (λ (A : State). fired U 0 (left n (suc i) A)) (sym is)
+    abbrev by_test : Bool → Run
+    by_test b = cond b (fired U instances (left n (suc i) (fire before U))) (ended (AtFault i U) before)
 
-  stops : (n i : ℕ) (contents : List Value) → ¬ (IsConsistent (main_set s contents))
-      → left (suc n) i (state_of (shape_of s) contents) ≡ ended (AtFault i (main_set s contents)) (state_of (shape_of s) contents)
-  stops n i contents faulty =
-      let U : UpdateSet = main_set s contents in
-      a_step n i contents
-      ∙ ap (λ b. cond b (fired U 0 (left n (suc i) (fire (state_of (shape_of s) contents) U))) (ended (AtFault i U) (state_of (shape_of s) contents))) (false_from_ne_true (is_consistent U) (λ e. faulty ((test_laws.consistency U).0 e)))
+    a_step : left (suc n) i before ≡ by_test (is_consistent U)
+    a_step = ap (λ (r : Yielded). step_and (program_of s) turns (main_rule s (inits s)) r instances i before (λ V. left n (suc i) (fire before V))) gives
+
+    fires : (next : List Value) → IsConsistent U → state_of (shape_of s) next ≡ fire before U → left (suc n) i before ≡ fired U instances (left n (suc i) (state_of (shape_of s) next))
+    fires next consistent is = a_step ∙ ap by_test ((test_laws.consistency U).1 consistent) ∙ ap (λ (A : State). fired U instances (left n (suc i) A)) (sym is)
+
+    stops : ¬ (IsConsistent U) → left (suc n) i before ≡ ended (AtFault i U) before
+    stops faulty = a_step ∙ ap by_test (false_from_ne_true (is_consistent U) (λ e. faulty ((test_laws.consistency U).0 e)))
 
 -- a set with a fault isn't consistent
 first_fault_is_faulty : (U : UpdateSet) (f : _) → IsFirstFault U f → ¬ (IsConsistent U)
@@ -86,121 +79,120 @@ fault_answered s U i (fault.Outside f) h = (f, h)
 
 -- ---- from one step to the next
 
-module _ (s : Spec) (good : IsWellFormed s) (plain : is_plain (main_rule s (inits s)) ≡ true) (steps made : ℕ) (contents : List Value) (count : ℕ) (old mid : Option (List ℕ)) (failed : Bool)
-    (goes : Goes s steps made contents count old mid failed) where
+module _ (s : Spec) (good : IsWellFormed s) (turns : ℕ) (script : Script) (steps made : ℕ) (contents : List Value) (count : ℕ) (old mid : Option (List ℕ)) (failed : Bool)
+    (goes : Goes s turns script steps made contents count old mid failed) where
   abbrev called : Names
   called = names_in s
 
   abbrev places : List Location
   places = locations_in s
 
-  abbrev left_of : (turns : ℕ) → Script → ℕ → ℕ → List Value → Run
-  left_of turns choices n i values = run_from (program_of s) turns (main_rule s (inits s)) choices n i (state_of (shape_of s) values)
+  abbrev left_of : ℕ → ℕ → List Value → Run
+  left_of n i values = left s turns script n i (state_of (shape_of s) values)
 
   abbrev now : Bool → Option (List ℕ) → Result End RunError → Type 0
-  now failed new result =
-      (turns : ℕ) (choices : Script) → Runs called places old new failed (book_run s turns choices steps) result
+  now failed new result = Runs called places old new failed (book_run s turns script steps) result
 
   -- memory ran out
   pub out_of_memory : now failed mid (Err error.Memory)
-  out_of_memory turns choices =
-      let r = goes.reached turns choices in
-      (whole_steps called places _ _ _ old mid mid r (Appends-none mid), goes.is_open)
+  out_of_memory = (whole_steps called places _ _ _ old mid mid goes.reached (Appends-none mid), goes.is_open)
 
   -- the last lines, where what is left of the run has come to this end
   module _ (new : Option (List ℕ)) (flag : Bool) (e : _) (end_text : List ℕ) (ends : IsEndText called e end_text) (answer : End) (answers : IsAnswer e answer) where
     finished : (result : Result End RunError) → Finishes mid new flag (end_text ++ contents_text s contents) answer result
-        → ((turns : ℕ) (choices : Script) → left_of turns choices (steps - made) (1 + made) contents ≡ ended e (state_of (shape_of s) contents))
-        → now flag new result
-    finished (Ok a) f is turns choices =
-        let r = goes.reached turns choices in
-        let at_end = is turns choices in
+        → left_of (steps - made) (1 + made) contents ≡ ended e (state_of (shape_of s) contents) → now flag new result
+    finished (Ok a) f at_end =
+        let r = goes.reached in
         let lines = ap (λ w. end_text ++ w) (state_written s contents good goes.sized.contents_fit) in (
           written_at_end called places _ _ _ old mid new r e (state_of (shape_of s) contents) at_end end_text ends (subst (λ t. Appends mid new t) lines f.0),
           subst (λ v. IsAnswer v a) (sym (r.end ∙ ap (λ (v : Run). v.end) at_end)) (subst (λ v. IsAnswer e v) (sym f.2) answers),
           f.1,
         )
-    finished (Err error.Memory) f is turns choices =
-        let r = goes.reached turns choices in
-        (whole_steps called places _ _ _ old mid new r f.0, f.1)
-    finished (Err error.Write) f is turns choices =
-        let r = goes.reached turns choices in
-        let at_end = is turns choices in
+    finished (Err error.Memory) f at_end = (whole_steps called places _ _ _ old mid new goes.reached f.0, f.1)
+    finished (Err error.Write) f at_end =
         let lines = ap (λ w. end_text ++ w) (state_written s contents good goes.sized.contents_fit) in
-        (cut_at_end called places _ _ _ old mid new r e (state_of (shape_of s) contents) at_end end_text ends (subst (λ t. AppendsFront mid new t) lines f.0), f.1)
-    finished (Err error.Limits) f is turns choices = f
-    finished (Err error.Beyond) f is turns choices = f
-    finished (Err (error.Read refusal)) f is turns choices = f
-    finished (Err (error.Check refusal)) f is turns choices = f
+        (cut_at_end called places _ _ _ old mid new goes.reached e (state_of (shape_of s) contents) at_end end_text ends (subst (λ t. AppendsFront mid new t) lines f.0), f.1)
+    finished (Err error.Limits) f at_end = f
+    finished (Err error.Beyond) f at_end = f
+    finished (Err (error.Read refusal)) f at_end = f
+    finished (Err (error.Check refusal)) f at_end = f
+    finished (Err (error.Script refusal)) f at_end = f
 
   pub at_limit : (new : Option (List ℕ)) (flag : Bool) (result : Result End RunError) → steps ≤ made
       → Finishes mid new flag ((codes "end limit" ++ line_end) ++ contents_text s contents) Limit result → now flag new result
   at_limit new flag result all f =
       let none : steps - made ≡ 0 = omega arith in
-      finished new flag AtLimit (codes "end limit" ++ line_end) refl Limit refl result f
-      (λ turns choices. ap (λ n. left_of turns choices n (1 + made) contents) none)
+      finished new flag AtLimit (codes "end limit" ++ line_end) refl Limit refl result f (ap (λ n. left_of n (1 + made) contents) none)
 
   module _ (more : made < steps) (step : ℕ) (is : step ≡ 1 + made) where
     one_left : steps - made ≡ suc (steps - (made + 1))
     one_left = omega arith
 
+    -- the outcome of the main rule in this step
+    abbrev outcome_at : ℕ → Outcome
+    outcome_at i = main_outcome s turns script i contents
+
     -- the set has a fault
-    pub at_fault : (new : Option (List ℕ)) (flag : Bool) (result : Result End RunError) (next : List Value) (f : Fault) → IsStopped s contents next f
+    pub at_fault : (new : Option (List ℕ)) (flag : Bool) (result : Result End RunError) (next : List Value) (f : Fault) → IsStopped s turns script step contents next f
         → Finishes mid new flag (fault_line s step f ++ contents_text s next) (end_of_fault f) result → now flag new result
     at_fault new flag result next f stopped finish =
-        let U : UpdateSet = main_set s contents in
+        let U : UpdateSet = stopped.set in
+        let gives : (outcome_at (1 + made)).result ≡ Gives U = subst (λ i. (outcome_at i).result ≡ Gives U) is stopped.gives in
         let line : fault_line s step f ≡ fault_line s (1 + made) f = ap (λ i. fault_line s i f) is in
         finished new flag (AtFault (1 + made) U) (fault_line s step f) (fault_of (shape_of s) f, stopped.is_first, line)
         (end_of_fault f) (fault_answered s U (1 + made) f stopped.is_first) result
         (subst (λ v. Finishes mid new flag (fault_line s step f ++ contents_text s v) (end_of_fault f) result) stopped.stays finish)
-        (λ turns choices.
-        ap (λ n. left_of turns choices n (1 + made) contents) one_left
-        ∙ stops s plain turns choices (steps - (made + 1)) (1 + made) contents (first_fault_is_faulty U (fault_of (shape_of s) f) stopped.is_first))
+        (ap (λ n. left_of n (1 + made) contents) one_left
+        ∙ stops s turns script (steps - (made + 1)) (1 + made) contents U gives (first_fault_is_faulty U (fault_of (shape_of s) f) stopped.is_first))
 
-    module _ (next : List Value) (text : List ℕ) (step_fired : IsFired s step contents next text) where
+    module _ (next : List Value) (text : List ℕ) (step_fired : IsFired s turns script step contents next text) where
       abbrev U : UpdateSet
-      U = main_set s contents
+      U = step_fired.set
 
-      goes_on_by : (turns : ℕ) (choices : Script)
-          → left_of turns choices (steps - made) (1 + made) contents ≡ fired U 0 (left_of turns choices (steps - (made + 1)) (suc (1 + made)) next)
-      goes_on_by turns choices =
-          ap (λ n. left_of turns choices n (1 + made) contents) one_left
-          ∙ fires s plain turns choices (steps - (made + 1)) (1 + made) contents next step_fired.consistent step_fired.fired
+      abbrev instances_of : ℕ
+      instances_of = (outcome_at (1 + made)).instances
 
-      text_is : text ≡ step_text called places (1 + made) (record { set = U; instances = 0 })
-      text_is = step_fired.written ∙ ap (λ i. step_text called places i (record { set = U; instances = 0 })) is
+      goes_on_by : left_of (steps - made) (1 + made) contents ≡ fired U instances_of (left_of (steps - (made + 1)) (suc (1 + made)) next)
+      goes_on_by =
+          let gives : (outcome_at (1 + made)).result ≡ Gives U = subst (λ i. (outcome_at i).result ≡ Gives U) is step_fired.gives in
+          ap (λ n. left_of n (1 + made) contents) one_left
+          ∙ fires s turns script (steps - (made + 1)) (1 + made) contents U gives next step_fired.consistent step_fired.fired
+
+      text_is : text ≡ step_text called places (1 + made) (record { set = U; instances = instances_of })
+      text_is = step_fired.written ∙ ap (λ i. step_text called places i (record { set = U; instances = (outcome_at i).instances })) is
 
       -- the sink failed in the step's text
       pub cut : (new : Option (List ℕ)) (flag : Bool) → AppendsFront mid new text → flag ≡ true → now flag new (Err error.Write)
-      cut new flag f failed' turns choices =
-          let r = goes.reached turns choices in
-          (cut_in_step called places _ _ _ old mid new r U 0 _ (goes_on_by turns choices) (subst (λ t. AppendsFront mid new t) text_is f), failed')
+      cut new flag f failed' = (cut_in_step called places _ _ _ old mid new goes.reached U instances_of _ goes_on_by (subst (λ t. AppendsFront mid new t) text_is f), failed')
 
       -- the step is written
       pub goes_on : (new : Option (List ℕ)) (flag : Bool) (new_count : ℕ) → AreSized s next new_count → Appends mid new text → flag ≡ false
-          → Goes s steps (made + 1) next new_count old new flag
-      goes_on new flag new_count sized w is_open = record {
-        sized = sized;
-        is_open = is_open;
-        reached = λ turns choices.
-            let r = goes.reached turns choices in
-            let number : suc (1 + made) ≡ 1 + (made + 1) = omega arith in
-            let total : Run = book_run s turns choices steps in
-            subst (λ i. IsReached called places total i (left_of turns choices (steps - (made + 1)) i next) old new) number
-            (reached_more called places _ _ _ old mid new r U 0 _ (goes_on_by turns choices) (subst (λ t. Appends mid new t) text_is w));
-      }
+          → Goes s turns script steps (made + 1) next new_count old new flag
+      goes_on new flag new_count sized w is_open =
+          let number : suc (1 + made) ≡ 1 + (made + 1) = omega arith in
+          let total : Run = book_run s turns script steps in
+          record {
+            sized = sized;
+            is_open = is_open;
+            reached = subst (λ i. IsReached called places total i (left_of (steps - (made + 1)) i next) old new) number
+                (reached_more called places _ _ _ old mid new goes.reached U instances_of _ goes_on_by (subst (λ t. Appends mid new t) text_is w));
+          }
+
+-- memory ran out before the first step
+pub none_begun : (s : Spec) (turns : ℕ) (script : Script) (steps : ℕ) (bytes : Option (List ℕ)) (failed : Bool) → failed ≡ false
+    → Runs (names_in s) (locations_in s) bytes bytes failed (book_run s turns script steps) (Err error.Memory)
+none_begun s turns script steps bytes failed is_open = (record { count = 0; appended = Appends-none bytes }, is_open)
 
 -- before the first step
-pub begins : (s : Spec) (steps : ℕ) (contents : List Value) (count : ℕ) (bytes : Option (List ℕ)) (failed : Bool)
-    → AreSized s contents count → state_of (shape_of s) contents ≡ initial_state (shape_of s) → failed ≡ false → Goes s steps 0 contents count bytes bytes failed
-begins s steps contents count bytes failed sized initial is_open =
+pub begins : (s : Spec) (turns : ℕ) (script : Script) (steps : ℕ) (contents : List Value) (count : ℕ) (bytes : Option (List ℕ)) (failed : Bool)
+    → AreSized s contents count → state_of (shape_of s) contents ≡ initial_state (shape_of s) → failed ≡ false → Goes s turns script steps 0 contents count bytes bytes failed
+begins s turns script steps contents count bytes failed sized initial is_open =
     let all : steps ≡ steps - 0 = omega arith in
+    let total : Run = book_run s turns script steps in
     record {
       sized = sized;
       is_open = is_open;
-      reached = λ turns choices.
-          let total : Run = book_run s turns choices steps in
-          subst (λ n. IsReached (names_in s) (locations_in s) total 1 (run_from (program_of s) turns (main_rule s (inits s)) choices n 1 (state_of (shape_of s) contents)) bytes bytes) all
-          (subst (λ (A : State). IsReached (names_in s) (locations_in s) total 1 (run_from (program_of s) turns (main_rule s (inits s)) choices steps 1 A) bytes bytes) (sym initial)
+      reached = subst (λ n. IsReached (names_in s) (locations_in s) total 1 (left s turns script n 1 (state_of (shape_of s) contents)) bytes bytes) all
+          (subst (λ (A : State). IsReached (names_in s) (locations_in s) total 1 (left s turns script steps 1 A) bytes bytes) (sym initial)
           (record { done = []; number = refl; steps = refl; end = refl; last = refl; written = Appends-none bytes }));
     }

@@ -1,6 +1,6 @@
 -- What a step writes, and where its fault is.
 use Rattle.std.proofs.Common.{◌≡◌, ℕ, ◌<◌, List, ◌++◌, length, append_assoc, ap, subst, ◌∙◌, arith}
-use Rattle.std.specs.Prelude.{codes}
+use Rattle.std.specs.Prelude.{codes, min}
 use Rattle.std.specs.List.Sorted.{IsStrictlyIncreasing}
 use Rattle.std.specs.Map.{keys_of}
 use Rattle.asm_state.specs.declared.value.Value.{Value}
@@ -19,6 +19,7 @@ use Rattle.asm_updates.specs.Stands.{Stands}
 use Rattle.asm_updates.specs.Faults.{fault_of}
 use Rattle.asm_updates.specs.declared.fault.Fault.{Fault}
 use Rattle.asm_updates.specs.declared.fault.Fault.TheVariants as fault
+use Rattle.asm_eval.specs.Formed.{greatest_count}
 use Rattle.asm_run.specs.Trace.{line_end, set_text, state_text, step_text}
 use Rattle.asm_run.specs.Written.{names_in, locations_in, step_line, entries_text, contents_text}
 use Rattle.asm_run.specs.Step.{IsFaultBelow}
@@ -40,9 +41,11 @@ pub set_written : (s : Spec) (summary : Entries) (U : UpdateSet) → IsWellForme
     → IsStrictlyIncreasing (keys_of summary.ranges) → entries_text s summary.ranges ≡ set_text (names_in s) (locations_in s) U
 set_written s summary U good stands consistent entries rising = entries_are_set (names_in s) (shape_of s) summary U stands consistent entries rising
 
-pub step_written : (s : Spec) (summary : Entries) (U : UpdateSet) (step : ℕ) → entries_text s summary.ranges ≡ set_text (names_in s) (locations_in s) U
-    → step_line step 0 ++ entries_text s summary.ranges ≡ step_text (names_in s) (locations_in s) step (record { set = U; instances = 0 })
-step_written s summary U step e = ap (λ w. step_line step 0 ++ w) e ∙ simp append_assoc
+-- the line of a step, where its number of instances is cut off
+pub step_written : (s : Spec) (summary : Entries) (U : UpdateSet) (step instances all : ℕ) → instances ≡ min all greatest_count → entries_text s summary.ranges ≡ set_text (names_in s) (locations_in s) U
+    → step_line step instances ++ entries_text s summary.ranges ≡ step_text (names_in s) (locations_in s) step (record { set = U; instances = all })
+step_written s summary U step instances all cut e =
+    ap (λ n. step_line step n ++ entries_text s summary.ranges) cut ∙ ap (λ w. step_line step (min all greatest_count) ++ w) e ∙ simp append_assoc
 
 -- a first fault is at a location, or a function, of the specification
 pub fault_below : (s : Spec) (summary : Entries) (U : UpdateSet) (f : Fault) → IsWellFormed s → Stands (shape_of s) summary U → IsFirstFault U (fault_of (shape_of s) f) → IsFaultBelow s f

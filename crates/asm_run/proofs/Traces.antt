@@ -8,7 +8,8 @@ use Rattle.asm_syntax.specs.Tree.{Rule}
 use Rattle.asm_eval.specs.Declarations.{specification_of}
 use Rattle.asm_eval.specs.Program.{Program, nothing_bound}
 use Rattle.asm_eval.specs.Yields.{Result, Gives, Exhausted}
-use Rattle.asm_eval.specs.Does.{Script, does}
+use Rattle.asm_reader.specs.ScriptLines.{Script}
+use Rattle.asm_eval.specs.Does.{does}
 use Rattle.asm_eval.specs.Run.{Run, End, AtFault, ended, fired, step_and, run_from}
 use Rattle.asm_run.specs.Trace.{Names, IsEndText, fault_text, steps_text, state_text}
 use Rattle.asm_run.specs.Traces.{OneTrace, SomeTrace}

@@ -1,5 +1,5 @@
 -- From the steps of a run to what is said of the whole.
-use Rattle.std.proofs.Common.{◌≡◌, ◌↔◌, ℕ, Bool, true, false, List, [], Option, Result, Ok, Err, inl, inr, refl}
+use Rattle.std.proofs.Common.{◌≡◌, ◌↔◌, ℕ, Bool, true, false, List, Option, Result, Ok, Err, inl, inr, refl}
 use Rattle.std.specs.Prelude.{IsTrue, IfOk, IfErr, MatchResult}
 use Rattle.asm_syntax.specs.declared.refused.Refused.{Refused}
 use Rattle.asm_syntax.specs.declared.refused.Refused.TheVariants as refused
@@ -9,69 +9,85 @@ use Rattle.asm_reader.specs.Refusals as reader
 use Rattle.asm_reader.specs.Specification.{IsSpecification}
 use Rattle.asm_check.specs.declared.error.CheckError.{CheckError}
 use Rattle.asm_check.specs.Errors as checker
-use Rattle.asm_eval.specs.Does.{Script}
+use Rattle.asm_reader.specs.declared.script_error.ScriptError.{ScriptError}
+use Rattle.asm_reader.specs.ScriptLines.{Script}
+use Rattle.asm_reader.specs.ScriptRefusals.{ExplainsScript}
+use Rattle.asm_reader.specs.ScriptText.{IsScript}
 use Rattle.asm_run.specs.declared.end.End.{End}
 use Rattle.asm_run.specs.declared.error.RunError.{RunError}
 use Rattle.asm_run.specs.declared.error.RunError.TheVariants as error
 use Rattle.asm_run.specs.Limits.{are_in_range}
-use Rattle.asm_run.specs.Refusal.{read_answer, check_answer}
+use Rattle.asm_run.specs.Refusal.{read_answer, check_answer, script_answer}
 use Rattle.asm_run.specs.Written.{names_in, locations_in}
 use Rattle.asm_run.specs.Headline.{IsCovered, IsDone, Explains, book_run}
 use Rattle.asm_run.specs.Reached.{Runs}
 use Rattle.asm_run.proofs.Running.{Appends-none}
 
--- a text that the reader refuses
-pub refused_text : (text : List ℕ) (steps turns workers cut rounds : ℕ) (old : Option (List ℕ)) (r : Refused ReadError) → reader.Explains text r
-    → Explains text steps turns workers cut rounds old old (read_answer r)
-refused_text text steps turns workers cut rounds old refused.Memory h = inl (Appends-none old)
-refused_text text steps turns workers cut rounds old (refused.Named e) h = (h, Appends-none old)
+module _ (text script_text : List ℕ) (steps turns workers cut rounds : ℕ) where
+  -- a text that the reader refuses
+  pub refused_text : (old : Option (List ℕ)) (r : Refused ReadError) → reader.Explains text r → Explains text script_text steps turns workers cut rounds old old (read_answer r)
+  refused_text old refused.Memory h = inl (Appends-none old)
+  refused_text old (refused.Named e) h = (h, Appends-none old)
 
--- a specification that the check refuses
-pub refused_tree : (text : List ℕ) (steps turns workers cut rounds : ℕ) (old : Option (List ℕ)) (s : Spec) → IsSpecification text s → (r : Refused CheckError)
-    → checker.Explains s r → Explains text steps turns workers cut rounds old old (check_answer r)
-refused_tree text steps turns workers cut rounds old s spelled refused.Memory h = inl (Appends-none old)
-refused_tree text steps turns workers cut rounds old s spelled (refused.Named e) h = ((s, spelled, h), Appends-none old)
+  -- a specification that the check refuses
+  pub refused_tree : (old : Option (List ℕ)) (s : Spec) → IsSpecification text s → (r : Refused CheckError) → checker.Explains s r
+      → Explains text script_text steps turns workers cut rounds old old (check_answer r)
+  refused_tree old s spelled refused.Memory h = inl (Appends-none old)
+  refused_tree old s spelled (refused.Named e) h = ((s, spelled, h), Appends-none old)
 
-module _ (text : List ℕ) (steps turns workers cut rounds : ℕ) (old new : Option (List ℕ)) (failed : Bool) (s : Spec) (covered : IsCovered text s) (in_range : are_in_range steps turns workers cut rounds ≡ true) where
-  abbrev all : Result End RunError → Type 0
-  all result = (choices : Script) → Runs (names_in s) (locations_in s) old new failed (book_run s turns choices steps) result
+  -- a script that the reader refuses
+  pub refused_script : (old : Option (List ℕ)) (s : Spec) → IsCovered text s → (r : Refused ScriptError) → ExplainsScript script_text r
+      → Explains text script_text steps turns workers cut rounds old old (script_answer r)
+  refused_script old s covered refused.Memory h = inl (Appends-none old)
+  refused_script old s covered (refused.Named e) h = (s, covered, h, Appends-none old)
 
-  said : (result : Result End RunError) → all result → MatchResult result (IsDone text steps turns workers cut rounds old new) (Explains text steps turns workers cut rounds old new)
-  said (Ok e) h = record { tree = s; covered = covered; in_range = in_range; written = λ choices. (h choices).0; answered = λ choices. (h choices).1 }
-  said (Err error.Memory) h = inr (record { tree = s; covered = covered; in_range = in_range; holds = λ choices. (h choices).0 })
-  said (Err error.Write) h = record { tree = s; covered = covered; in_range = in_range; holds = λ choices. (h choices).0 }
-  said (Err error.Limits) h = absurd (h [])
-  said (Err error.Beyond) h = absurd (h [])
-  said (Err (error.Read e)) h = absurd (h [])
-  said (Err (error.Check e)) h = absurd (h [])
+  module _ (old new : Option (List ℕ)) where
+    abbrev done : End → Type 0
+    done = IsDone text script_text steps turns workers cut rounds old new
 
-  fails : (result : Result End RunError) → all result → IsTrue failed ↔ (result ≡ Err error.Write)
-  fails (Ok e) h = let no : failed ≡ false = (h []).2 in (λ f. absurd (cc), λ e. absurd cc)
-  fails (Err error.Memory) h = let no : failed ≡ false = (h []).1 in (λ f. absurd (cc), λ e. absurd cc)
-  fails (Err error.Write) h = (λ f. refl, λ e. (h []).1)
-  fails (Err error.Limits) h = absurd (h [])
-  fails (Err error.Beyond) h = absurd (h [])
-  fails (Err (error.Read e)) h = absurd (h [])
-  fails (Err (error.Check e)) h = absurd (h [])
+    abbrev explains : RunError → Type 0
+    explains = Explains text script_text steps turns workers cut rounds old new
 
-  at_ok : (result : Result End RunError) → MatchResult result (IsDone text steps turns workers cut rounds old new) (Explains text steps turns workers cut rounds old new)
-      → IfOk result (IsDone text steps turns workers cut rounds old new)
-  at_ok (Ok e) h = h
-  at_ok (Err e) h = tt
+    at_ok : (result : Result End RunError) → MatchResult result done explains → IfOk result done
+    at_ok (Ok e) h = h
+    at_ok (Err e) h = tt
 
-  at_err : (result : Result End RunError) → MatchResult result (IsDone text steps turns workers cut rounds old new) (Explains text steps turns workers cut rounds old new)
-      → IfErr result (Explains text steps turns workers cut rounds old new)
-  at_err (Ok e) h = tt
-  at_err (Err e) h = h
+    at_err : (result : Result End RunError) → MatchResult result done explains → IfErr result explains
+    at_err (Ok e) h = tt
+    at_err (Err e) h = h
 
-  pub record Whole (result : Result End RunError) : Type 0 where
-    pub done : IfOk result (IsDone text steps turns workers cut rounds old new)
-    pub refused : IfErr result (Explains text steps turns workers cut rounds old new)
-    pub fails_just_so : IsTrue failed ↔ (result ≡ Err error.Write)
+    module _ (failed : Bool) (s : Spec) (covered : IsCovered text s) (script : Script) (spelled : IsScript script_text script) (in_range : are_in_range steps turns workers cut rounds ≡ true) where
+      abbrev all : Result End RunError → Type 0
+      all result = Runs (names_in s) (locations_in s) old new failed (book_run s turns script steps) result
 
-  pub whole : (result : Result End RunError) → all result → Whole result
-  whole result every = record {
-    done = at_ok result (said result every);
-    refused = at_err result (said result every);
-    fails_just_so = fails result every;
-  }
+      said : (result : Result End RunError) → all result → MatchResult result done explains
+      said (Ok e) h = record { tree = s; covered = covered; script = script; spelled = spelled; in_range = in_range; written = h.0; answered = h.1 }
+      said (Err error.Memory) h = inr (record { tree = s; covered = covered; script = script; spelled = spelled; in_range = in_range; holds = h.0 })
+      said (Err error.Write) h = record { tree = s; covered = covered; script = script; spelled = spelled; in_range = in_range; holds = h.0 }
+      said (Err error.Limits) h = absurd h
+      said (Err error.Beyond) h = absurd h
+      said (Err (error.Read e)) h = absurd h
+      said (Err (error.Check e)) h = absurd h
+      said (Err (error.Script e)) h = absurd h
+
+      fails : (result : Result End RunError) → all result → IsTrue failed ↔ (result ≡ Err error.Write)
+      fails (Ok e) h = let no : failed ≡ false = h.2 in (λ f. absurd (cc), λ e. absurd cc)
+      fails (Err error.Memory) h = let no : failed ≡ false = h.1 in (λ f. absurd (cc), λ e. absurd cc)
+      fails (Err error.Write) h = (λ f. refl, λ e. h.1)
+      fails (Err error.Limits) h = absurd h
+      fails (Err error.Beyond) h = absurd h
+      fails (Err (error.Read e)) h = absurd h
+      fails (Err (error.Check e)) h = absurd h
+      fails (Err (error.Script e)) h = absurd h
+
+      pub record Whole (result : Result End RunError) : Type 0 where
+        pub done : IfOk result (IsDone text script_text steps turns workers cut rounds old new)
+        pub refused : IfErr result (Explains text script_text steps turns workers cut rounds old new)
+        pub fails_just_so : IsTrue failed ↔ (result ≡ Err error.Write)
+
+      pub whole : (result : Result End RunError) → all result → Whole result
+      whole result runs = record {
+        done = at_ok result (said result runs);
+        refused = at_err result (said result runs);
+        fails_just_so = fails result runs;
+      }

@@ -1,9 +1,11 @@
 -- Laws of refusals.
---     IsNamed e                 the refusal is of the text or of the limits
---     OneNamedRefusal           a text has one of these with its limits, at most
---     NoRunBesideARefusal       a text and limits that have a run have none of these
+--     IsNamed e                 the refusal is of the text, of the script or of the limits
+--     OneNamedRefusal           a text has one of these with its script and limits, at most
+--     NoRunBesideARefusal       a text, a script and limits that have a run have none of these
 use Rattle.std.specs.Prelude.{◌≡◌, ℕ, true, List, Option}
 use Rattle.asm_syntax.specs.Placed.{Spec}
+use Rattle.asm_reader.specs.ScriptLines.{Script}
+use Rattle.asm_reader.specs.ScriptText.{IsScript}
 use Rattle.asm_run.specs.Limits.{are_in_range}
 use Rattle.asm_run.specs.Headline.{IsCovered, Explains}
 use Rattle.asm_run.specs.declared.error.RunError.{RunError}
@@ -13,16 +15,18 @@ abbrev pub IsNamed : RunError → Type 0
 IsNamed (error.Read e) = Unit {0}
 IsNamed (error.Check e) = Unit {0}
 IsNamed error.Beyond = Unit {0}
+IsNamed (error.Script e) = Unit {0}
 IsNamed error.Limits = Unit {0}
 IsNamed error.Memory = ⊥
 IsNamed error.Write = ⊥
 
 abbrev pub OneNamedRefusal : Type 0
 OneNamedRefusal =
-    (text : List ℕ) (steps turns workers cut rounds : ℕ) (old new other_old other_new : Option (List ℕ)) (e f : RunError) → IsNamed e → IsNamed f
-    → Explains text steps turns workers cut rounds old new e → Explains text steps turns workers cut rounds other_old other_new f → e ≡ f
+    (text script_text : List ℕ) (steps turns workers cut rounds : ℕ) (old new other_old other_new : Option (List ℕ)) (e f : RunError) → IsNamed e → IsNamed f
+    → Explains text script_text steps turns workers cut rounds old new e → Explains text script_text steps turns workers cut rounds other_old other_new f → e ≡ f
 
 abbrev pub NoRunBesideARefusal : Type 0
 NoRunBesideARefusal =
-    (text : List ℕ) (steps turns workers cut rounds : ℕ) (old new : Option (List ℕ)) (s : Spec) (e : RunError) → IsCovered text s
-    → are_in_range steps turns workers cut rounds ≡ true → IsNamed e → ¬ Explains text steps turns workers cut rounds old new e
+    (text script_text : List ℕ) (steps turns workers cut rounds : ℕ) (old new : Option (List ℕ)) (s : Spec) (script : Script) (e : RunError) → IsCovered text s
+    → IsScript script_text script
+    → are_in_range steps turns workers cut rounds ≡ true → IsNamed e → ¬ Explains text script_text steps turns workers cut rounds old new e

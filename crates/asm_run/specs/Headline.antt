@@ -2,7 +2,7 @@
 --     IsCovered text s                 the text is that of the specification s, which has no fault and is one of those that run
 --     IsFaulty text e                  the text is that of a specification whose first fault is this
 --     IsBeyond text                    the text is that of a specification without faults that isn't one of those that run
---     book_run s turns choices steps   the run of s, under these choices
+--     book_run s turns script steps    the run of s under the script
 --     IsWritten, IsCut, AreWholeSteps  what the bytes of the sink grew by
 --     Explains                         what a refusal says
 use Rattle.std.specs.Prelude.{◌≡◌, ◌⊎◌, ℕ, false, true, List, [], ◌++◌, take, Option}
@@ -16,7 +16,8 @@ use Rattle.asm_check.specs.declared.error.CheckError.{CheckError}
 use Rattle.asm_check.specs.Errors.{number_of}
 use Rattle.asm_check.specs.Faults.{IsWellFormed, IsLeastFault}
 use Rattle.asm_eval.specs.Declarations.{specification_of}
-use Rattle.asm_eval.specs.Does.{Script}
+use Rattle.asm_reader.specs.ScriptLines.{Script}
+use Rattle.asm_reader.specs.ScriptText.{IsScript, IsScriptRefusal}
 use Rattle.asm_eval.specs.Run as run
 use Rattle.asm_eval.specs.Run.{Run, AtLimit, AtExhausted, AtFault}
 use Rattle.asm_run.specs.Covered.{is_covered}
@@ -39,9 +40,8 @@ IsFaulty text e = (s : Spec) × IsSpecification text s × IsLeastFault s e.at (n
 abbrev pub IsBeyond : List ℕ → Type 0
 IsBeyond text = (s : Spec) × IsSpecification text s × IsWellFormed s × (is_covered s ≡ false)
 
--- no rule that runs yet makes choices, so the run is the same for all of them
 abbrev pub book_run : Spec → (turns : ℕ) → Script → (steps : ℕ) → Run
-book_run s turns choices steps = run.run (specification_of s) turns choices steps
+book_run s turns script steps = run.run (specification_of s) turns script steps
 
 -- ---- runs from any step on, with these names and locations
 
@@ -78,26 +78,32 @@ module _ (names : Names) (ls : List Location) (first : ℕ) where
 abbrev pub IsUnwritten : (old new : Option (List ℕ)) → Type 0
 IsUnwritten old new = Appends old new []
 
-module _ (text : List ℕ) (steps turns workers cut rounds : ℕ) (old new : Option (List ℕ)) where
+module _ (text script_text : List ℕ) (steps turns workers cut rounds : ℕ) (old new : Option (List ℕ)) where
   -- The whole trace is written, and the answer is the end of the run.
   pub record IsDone (answer : End) : Type 0 where
     pub tree : Spec
     pub covered : IsCovered text tree
+    pub script : Script
+    pub spelled : IsScript script_text script
     pub in_range : are_in_range steps turns workers cut rounds ≡ true
-    pub written : (choices : Script) → IsWritten (names_in tree) (locations_in tree) 1 old new (book_run tree turns choices steps)
-    pub answered : (choices : Script) → IsAnswer (book_run tree turns choices steps).end answer
+    pub written : IsWritten (names_in tree) (locations_in tree) 1 old new (book_run tree turns script steps)
+    pub answered : IsAnswer (book_run tree turns script steps).end answer
 
   -- A run was begun, and what was written of it.
   pub record IsBegun (P : Spec → Run → Type 0) : Type 0 where
     pub tree : Spec
     pub covered : IsCovered text tree
+    pub script : Script
+    pub spelled : IsScript script_text script
     pub in_range : are_in_range steps turns workers cut rounds ≡ true
-    pub holds : (choices : Script) → P tree (book_run tree turns choices steps)
+    pub holds : P tree (book_run tree turns script steps)
 
   abbrev pub Explains : RunError → Type 0
   Explains (error.Read e) = IsRefusal text e × IsUnwritten old new
   Explains (error.Check e) = IsFaulty text e × IsUnwritten old new
   Explains error.Beyond = IsBeyond text × IsUnwritten old new
-  Explains error.Limits = (s : Spec) × IsCovered text s × (are_in_range steps turns workers cut rounds ≡ false) × IsUnwritten old new
+  Explains (error.Script e) = (s : Spec) × IsCovered text s × IsScriptRefusal script_text e × IsUnwritten old new
+  Explains error.Limits =
+      (s : Spec) × IsCovered text s × (script : Script) × IsScript script_text script × (are_in_range steps turns workers cut rounds ≡ false) × IsUnwritten old new
   Explains error.Memory = IsUnwritten old new ⊎ IsBegun (λ s r. AreWholeSteps (names_in s) (locations_in s) 1 old new r)
   Explains error.Write = IsBegun (λ s r. IsCut (names_in s) (locations_in s) 1 old new r)

@@ -11,7 +11,7 @@ use Rattle.asm_syntax.specs.Placed.{Spec}
 use Rattle.asm_check.specs.Faults.{inits}
 use Rattle.asm_check.specs.Shapes.{shape_of}
 use Rattle.asm_eval.specs.Declarations.{program_of, main_rule}
-use Rattle.asm_eval.specs.Does.{Script}
+use Rattle.asm_reader.specs.ScriptLines.{Script}
 use Rattle.asm_eval.specs.Run.{Run, FiredStep, run_from}
 use Rattle.asm_run.specs.declared.end.End.{End}
 use Rattle.asm_run.specs.declared.error.RunError.{RunError}
@@ -38,11 +38,11 @@ Runs names ls old new failed r (Err error.Limits) = ⊥
 Runs names ls old new failed r (Err error.Beyond) = ⊥
 Runs names ls old new failed r (Err (error.Read refusal)) = ⊥
 Runs names ls old new failed r (Err (error.Check refusal)) = ⊥
+Runs names ls old new failed r (Err (error.Script refusal)) = ⊥
 
 -- What stays true from step to step, where so many steps were made of all.
-pub record Goes (s : Spec) (steps made : ℕ) (contents : List Value) (count : ℕ) (old new : Option (List ℕ)) (failed : Bool) : Type 0 where
+pub record Goes (s : Spec) (turns : ℕ) (script : Script) (steps made : ℕ) (contents : List Value) (count : ℕ) (old new : Option (List ℕ)) (failed : Bool) : Type 0 where
   pub sized : AreSized s contents count
   pub is_open : failed ≡ false
-  pub reached : (turns : ℕ) (choices : Script)
-      → IsReached (names_in s) (locations_in s) (book_run s turns choices steps) (1 + made)
-      (run_from (program_of s) turns (main_rule s (inits s)) choices (steps - made) (1 + made) (state_of (shape_of s) contents)) old new
+  pub reached : IsReached (names_in s) (locations_in s) (book_run s turns script steps) (1 + made)
+      (run_from (program_of s) turns (main_rule s (inits s)) script (steps - made) (1 + made) (state_of (shape_of s) contents)) old new

@@ -1,8 +1,8 @@
 -- One step of a run, and its last lines.
---     main_set s contents      the set that the main rule gives where the locations have these contents
+--     main_outcome             what the main rule yields in a step where the locations have these contents
 --     AreSized                 contents and summary fit the signature
---     IsFired                  the set is fired, and this is the text of the step
---     IsStopped                the set has this first fault
+--     IsFired                  its set is fired, and this is the text of the step
+--     IsStopped                its set has this first fault
 --     Finishes                 what the last lines do to the bytes of a sink
 use Rattle.std.specs.Prelude.{◌≡◌, ℕ, ◌<◌, Bool, true, false, List, [], length, Option, Result, Ok, Err}
 use Rattle.std.specs.Io.KnownBytes.{Appends}
@@ -10,6 +10,7 @@ use Rattle.asm_state.specs.declared.value.Value.{Value}
 use Rattle.asm_state.specs.Signature.{count_of, state_of}
 use Rattle.asm_state.specs.Updates.{UpdateSet, IsConsistent, IsFirstFault, fire}
 use Rattle.asm_syntax.specs.Placed.{Spec}
+use Rattle.asm_reader.specs.ScriptLines.{Script}
 use Rattle.asm_check.specs.Faults.{inits}
 use Rattle.asm_check.specs.Numbers.{functions_of}
 use Rattle.asm_check.specs.Shapes.{shape_of}
@@ -17,8 +18,9 @@ use Rattle.asm_updates.specs.declared.fault.Fault.{Fault}
 use Rattle.asm_updates.specs.declared.fault.Fault.TheVariants.{Clash, Outside}
 use Rattle.asm_updates.specs.Faults.{fault_of}
 use Rattle.asm_eval.specs.Declarations.{program_of, main_rule}
-use Rattle.asm_eval.specs.PlainRules.{set_of}
+use Rattle.asm_eval.specs.Does.{Outcome, does}
 use Rattle.asm_eval.specs.Program.{nothing_bound}
+use Rattle.asm_eval.specs.Yields.{Gives}
 use Rattle.asm_run.specs.declared.end.End.{End}
 use Rattle.asm_run.specs.declared.end.End.TheVariants as end
 use Rattle.asm_run.specs.declared.error.RunError.{RunError}
@@ -27,25 +29,30 @@ use Rattle.asm_run.specs.Sink.{AppendsFront}
 use Rattle.asm_run.specs.Trace.{step_text, fault_text}
 use Rattle.asm_run.specs.Written.{names_in, locations_in}
 
-abbrev pub main_set : Spec → (contents : List Value) → UpdateSet
-main_set s contents = set_of (program_of s) (state_of (shape_of s) contents) nothing_bound (main_rule s (inits s))
+abbrev pub main_outcome : Spec → (turns : ℕ) → Script → (step : ℕ) → (contents : List Value) → Outcome
+main_outcome s turns script step contents =
+    does (program_of s) turns script step (state_of (shape_of s) contents) nothing_bound [] (main_rule s (inits s))
 
 pub record AreSized (s : Spec) (contents : List Value) (count : ℕ) : Type 0 where
   pub contents_fit : length contents ≡ count_of (shape_of s)
   pub set_fits : count ≡ count_of (shape_of s)
 
-pub record IsFired (s : Spec) (step : ℕ) (old new : List Value) (text : List ℕ) : Type 0 where
-  pub consistent : IsConsistent (main_set s old)
-  pub fired : state_of (shape_of s) new ≡ fire (state_of (shape_of s) old) (main_set s old)
-  pub written : text ≡ step_text (names_in s) (locations_in s) step (record { set = main_set s old; instances = 0 })
+pub record IsFired (s : Spec) (turns : ℕ) (script : Script) (step : ℕ) (old new : List Value) (text : List ℕ) : Type 0 where
+  pub set : UpdateSet
+  pub gives : (main_outcome s turns script step old).result ≡ Gives set
+  pub consistent : IsConsistent set
+  pub fired : state_of (shape_of s) new ≡ fire (state_of (shape_of s) old) set
+  pub written : text ≡ step_text (names_in s) (locations_in s) step (record { set = set; instances = (main_outcome s turns script step old).instances })
 
 -- the fault is at a location, or a function, of the specification
 abbrev pub IsFaultBelow : Spec → Fault → Type 0
 IsFaultBelow s (Clash location low high) = location < count_of (shape_of s)
 IsFaultBelow s (Outside f) = f < length (functions_of s)
 
-pub record IsStopped (s : Spec) (old new : List Value) (fault : Fault) : Type 0 where
-  pub is_first : IsFirstFault (main_set s old) (fault_of (shape_of s) fault)
+pub record IsStopped (s : Spec) (turns : ℕ) (script : Script) (step : ℕ) (old new : List Value) (fault : Fault) : Type 0 where
+  pub set : UpdateSet
+  pub gives : (main_outcome s turns script step old).result ≡ Gives set
+  pub is_first : IsFirstFault set (fault_of (shape_of s) fault)
   pub below : IsFaultBelow s fault
   pub stays : new ≡ old
 
@@ -65,3 +72,4 @@ Finishes old new failed text e (Err error.Limits) = ⊥
 Finishes old new failed text e (Err error.Beyond) = ⊥
 Finishes old new failed text e (Err (error.Read refusal)) = ⊥
 Finishes old new failed text e (Err (error.Check refusal)) = ⊥
+Finishes old new failed text e (Err (error.Script refusal)) = ⊥

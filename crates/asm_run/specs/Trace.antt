@@ -11,6 +11,7 @@ use Rattle.asm_state.specs.declared.value.Value.{Value}
 use Rattle.asm_state.specs.declared.value.Value.TheVariants.{Undef, Truth, Number, Element}
 use Rattle.asm_state.specs.Location.{Location, Proper, Stray, State}
 use Rattle.asm_state.specs.Updates.{UpdateSet, Range, range_at, Fault, Clash, Outside, IsFirstFault}
+use Rattle.asm_eval.specs.Formed.{greatest_count}
 use Rattle.asm_eval.specs.Yields.{Place}
 use Rattle.asm_eval.specs.Run.{End, AtLimit, AtExhausted, AtFault, FiredStep, Run}
 
@@ -65,9 +66,6 @@ abbrev pub set_text : Names → List Location → UpdateSet → List ℕ
 set_text names ls U = flat_map (λ l. update_text names l (range_at U l)) ls
 
 -- the number of instances is cut off where it doesn't fit 64 bits
-abbrev pub greatest_count : ℕ
-greatest_count = 18_446_744_073_709_551_615
-
 abbrev pub step_text : Names → List Location → ℕ → FiredStep → List ℕ
 step_text names ls i step =
     codes "step " ++ (decimal i ++ (codes " instances " ++ (decimal (min step.instances greatest_count) ++ (line_end ++ set_text names ls step.set))))

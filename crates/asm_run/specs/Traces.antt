@@ -4,7 +4,7 @@
 use Rattle.std.specs.Prelude.{◌≡◌, ℕ, List}
 use Rattle.asm_state.specs.Location.{Location}
 use Rattle.asm_syntax.specs.Placed.{Spec}
-use Rattle.asm_eval.specs.Does.{Script}
+use Rattle.asm_reader.specs.ScriptLines.{Script}
 use Rattle.asm_eval.specs.Run.{Run}
 use Rattle.asm_run.specs.Trace.{Names, IsTrace}
 use Rattle.asm_run.specs.Written.{names_in, locations_in}
@@ -15,5 +15,5 @@ OneTrace = (names : Names) (ls : List Location) (i : ℕ) (r : Run) (a b : List 
 
 abbrev pub SomeTrace : Type 0
 SomeTrace =
-    (s : Spec) (turns : ℕ) (choices : Script) (steps : ℕ)
-    → (trace : List ℕ) × IsTrace (names_in s) (locations_in s) 1 (book_run s turns choices steps) trace
+    (s : Spec) (turns : ℕ) (script : Script) (steps : ℕ)
+    → (trace : List ℕ) × IsTrace (names_in s) (locations_in s) 1 (book_run s turns script steps) trace

@@ -4,7 +4,7 @@ ghost use Rattle.std.specs.List.{list_all};
 ghost use Rattle.asm_syntax.specs.Views.{item_of, spec_of};
 ghost use Rattle.asm_run.specs.Covered as runs;
 
-use asm_eval::plain::is_plain;
+use asm_eval::basic::is_basic;
 use asm_syntax::spec::{Item, Spec};
 
 /// Whether each rule has no construction but those that run yet.
@@ -29,7 +29,7 @@ fn is_covered_item(item: &Item) -> bool
     ensures { result ≡ runs.is_covered_item (item_of item.now) }
 {
     match item {
-        Item::Declared { body, .. } => is_plain(body),
+        Item::Declared { body, .. } => is_basic(body),
         _ => true,
     }
 }

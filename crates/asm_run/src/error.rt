@@ -1,16 +1,17 @@
 //! Why a specification didn't run to its end.
 ghost use Rattle.std.specs.Prelude.{◌≡◌};
-ghost use Rattle.asm_run.specs.Refusal.{read_answer, check_answer};
+ghost use Rattle.asm_run.specs.Refusal.{read_answer, check_answer, script_answer};
 ghost use Rattle.asm_run.specs.declared.error.RunError.TheVariants.{Memory, Write};
 
 use crate::sink::SinkFault;
 pub use asm_check::{CheckError, FaultKind};
-pub use asm_reader::ReadError;
+pub use asm_reader::{ReadError, ScriptError};
 use asm_syntax::Refused;
 use std::alloc::{AllocError, AllocFailed};
 use thiserror::Error;
 
-/// A refusal. The first that applies is answered, in the order `Read`, `Check`, `Beyond`, `Limits`, and then `Memory` and `Write`;
+/// A refusal. The first that applies is answered, in the order `Read`, `Check`, `Beyond`, `Script`, `Limits`, and then `Memory` and
+/// `Write`;
 /// `Memory` can come before any.
 #[derive(Debug, Drop, Error)]
 pub enum RunError {
@@ -20,6 +21,9 @@ pub enum RunError {
     /// The specification has a fault.
     #[error("the specification has a fault")]
     Check(CheckError),
+    /// The script isn't one.
+    #[error("the script is refused")]
+    Script(ScriptError),
     /// A limit is out of its range.
     #[error("a limit is out of its range")]
     Limits,
@@ -68,6 +72,17 @@ impl From<Refused<CheckError>> for RunError {
         match refused {
             Refused::Memory => RunError::Memory,
             Refused::Named(error) => RunError::Check(error),
+        }
+    }
+}
+
+impl From<Refused<ScriptError>> for RunError {
+    ghost from_gives = { λ refused e. e ≡ script_answer refused };
+
+    fn from(refused: Refused<ScriptError>) -> RunError {
+        match refused {
+            Refused::Memory => RunError::Memory,
+            Refused::Named(error) => RunError::Script(error),
         }
     }
 }

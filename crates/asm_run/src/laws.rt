@@ -3,7 +3,9 @@ ghost use Rattle.asm_run.specs.Traces.{OneTrace, SomeTrace};
 ghost use Rattle.asm_run.specs.Exclusion.{OneNamedRefusal, NoRunBesideARefusal};
 
 use asm_check::laws::least_is_only;
-use asm_reader::{no_tree_beside_a_refusal, one_refusal, one_tree};
+use asm_reader::{
+    no_script_beside_a_refusal, no_tree_beside_a_refusal, one_refusal, one_script_refusal, one_tree,
+};
 
 /// A run has one trace at most.
 pub fn one_trace()
@@ -15,7 +17,7 @@ pub fn some_trace()
     ensures { SomeTrace }
 {}
 
-/// A text and limits have one refusal at most that is of the text or of the limits.
+/// A text, a script and limits have one refusal at most that is of one of them.
 pub fn one_named_refusal()
     ensures { OneNamedRefusal }
 {
@@ -23,12 +25,15 @@ pub fn one_named_refusal()
     no_tree_beside_a_refusal();
     one_refusal();
     least_is_only();
+    no_script_beside_a_refusal();
+    one_script_refusal();
 }
 
-/// A text and limits that have a run have no such refusal.
+/// A text, a script and limits that have a run have no such refusal.
 pub fn no_run_beside_a_refusal()
     ensures { NoRunBesideARefusal }
 {
     one_tree();
     no_tree_beside_a_refusal();
+    no_script_beside_a_refusal();
 }

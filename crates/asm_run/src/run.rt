@@ -10,29 +10,28 @@ use crate::limits::Limits;
 use crate::sink::Sink;
 use crate::steps::run_steps;
 use asm_check::check;
-use asm_reader::read;
+use asm_reader::{read, read_script};
 use std::alloc::Global;
 use std::thread::Threads;
 
 /// Runs the specification with this text, and writes its trace: the text of each step when it is whole, and then the last lines.
 ///
-/// A text that is no specification is refused, and so are a specification with a fault, one with a construction that doesn't run yet, and
-/// limits out of their ranges; then nothing is written. The script isn't looked at, since no rule that runs yet makes choices. No thread is
-/// started yet.
+/// A text that is no specification is refused, and so are a specification with a fault, one with a construction that doesn't run yet, a
+/// text that is no script, and limits out of their ranges; then nothing is written. No thread is started yet.
 pub fn run<R: Threads, S: Sink>(
     _rt: &R,
     alloc: Global,
     spec: &[u8],
-    _script: &[u8],
+    script: &[u8],
     limits: &Limits,
     out: &mut S,
 ) -> Result<End, RunError>
     requires { S.has_failed out.old ≡ false }
     // The bytes grew by the trace of the book's run, and by nothing else.
-    ensures done { IfOk result (IsDone spec.now limits.now.steps limits.now.turns limits.now.workers limits.now.cut limits.now.rounds (S.bytes out.old) (S.bytes out.new)) }
-    // What a refusal says of the text, of the limits, and of what was written. Those of the text and of the limits exclude one another, and a
-    // run (`laws`).
-    ensures refused { IfErr result (Explains spec.now limits.now.steps limits.now.turns limits.now.workers limits.now.cut limits.now.rounds (S.bytes out.old) (S.bytes out.new)) }
+    ensures done { IfOk result (IsDone spec.now script.now limits.now.steps limits.now.turns limits.now.workers limits.now.cut limits.now.rounds (S.bytes out.old) (S.bytes out.new)) }
+    // What a refusal says of the text, of the script, of the limits, and of what was written. Those of texts and limits exclude one another,
+    // and a run (`laws`).
+    ensures refused { IfErr result (Explains spec.now script.now limits.now.steps limits.now.turns limits.now.workers limits.now.cut limits.now.rounds (S.bytes out.old) (S.bytes out.new)) }
     // The sink failed just where that is the answer.
     ensures failed { IsTrue (S.has_failed out.new) ↔ (result ≡ Err Write) }
 {
@@ -41,9 +40,10 @@ pub fn run<R: Threads, S: Sink>(
     if !is_covered(&checked.spec) {
         return Err(RunError::Beyond);
     }
+    let script = read_script(alloc, script)?;
     if !limits.are_in_range() {
         return Err(RunError::Limits);
     }
     let (_parameters, main) = checked.rule(checked.main());
-    run_steps(alloc, &checked, main, limits.steps, out)
+    run_steps(alloc, &checked, main, &script, limits, out)
 }

@@ -4,67 +4,87 @@ ghost use Rattle.asm_syntax.specs.Unplaced.{plain_rule};
 ghost use Rattle.asm_syntax.specs.Views.{spec_of, rule_of};
 ghost use Rattle.asm_check.specs.Faults.{inits};
 ghost use Rattle.asm_check.specs.Shapes.{shape_of};
-ghost use Rattle.asm_updates.specs.Stands.{Stands};
+ghost use Rattle.asm_eval.specs.BasicRules.{is_basic};
 ghost use Rattle.asm_eval.specs.Declarations.{main_rule};
-ghost use Rattle.asm_eval.specs.PlainRules.{is_plain};
-ghost use Rattle.asm_run.specs.Step.{AreSized, IsFired, IsStopped, main_set};
+ghost use Rattle.asm_eval.specs.Formed.{IsSet};
+ghost use Rattle.asm_run.specs.Step.{AreSized, IsFired, IsStopped, main_outcome};
 
 use crate::trace::push_step;
 use asm_check::Checked;
 use asm_eval::form::form;
-use asm_eval::{Env, View};
+use asm_eval::{Choices, Env, Evaluation, Forming, View};
+use asm_reader::Picks;
 use asm_state::state::State;
 use asm_syntax::rule::Rule;
 use asm_updates::fault::Fault;
 use asm_updates::summary::Summary;
 use std::alloc::{AllocError, Global};
 
-/// Adds the updates of the main rule to the empty set.
-fn form_main(
+/// Forms what the main rule yields, in place of what was formed before.
+fn form_main<P: Picks>(
     alloc: Global,
     checked: &Checked,
     main: &Rule,
+    choices: &Choices<'_, P>,
+    turns: u32,
     state: &State,
-    set: &mut Summary,
+    made: &mut Forming,
 ) -> Result<(), AllocError>
-    requires sized { AreSized (spec_of checked.now.spec) state.now set.old.count }
+    requires sized { AreSized (spec_of checked.now.spec) state.now made.old.set.count }
     requires main { plain_rule (rule_of main.now) ≡ main_rule (spec_of checked.now.spec) (inits (spec_of checked.now.spec)) }
-    requires plain { is_plain (plain_rule (rule_of main.now)) ≡ true }
-    ensures count { set.new.count ≡ set.old.count }
-    ensures formed { OnOk result (Stands (shape_of (spec_of checked.now.spec)) set.new (main_set (spec_of checked.now.spec) state.now)) }
+    requires basic { is_basic (plain_rule (rule_of main.now)) ≡ true }
+    ensures count { made.new.set.count ≡ made.old.set.count }
+    ensures formed { let o = main_outcome (spec_of checked.now.spec) turns (P.script choices.now.script.now) choices.now.step state.now in
+        OnOk result (IsSet (shape_of (spec_of checked.now.spec)) o made.new.set made.new.instances) }
 {
-    set.clear();
+    made.set.clear();
+    made.instances = 0;
+    made.place.clear();
     let signature = checked.signature();
     let nothing = Summary::new(alloc, signature.count());
     let view = View::new(signature, state, nothing);
     let env = Env::new();
-    form(alloc, checked, &view, &env, main, set)
+    let at = Evaluation {
+        checked,
+        view: &view,
+        choices,
+        turns,
+    };
+    form(alloc, &at, &env, main, made)
 }
 
 /// Forms the set of a step. Fires it and puts the text of the step in place of what was there, or answers the set's first fault.
-pub fn make_step(
+pub fn make_step<P: Picks>(
     alloc: Global,
     checked: &Checked,
     main: &Rule,
-    step: u64,
+    choices: &Choices<'_, P>,
+    turns: u32,
     state: &mut State,
-    set: &mut Summary,
+    made: &mut Forming,
     text: &mut Vec<u8>,
 ) -> Result<Option<Fault>, AllocError>
-    requires sized { AreSized (spec_of checked.now.spec) state.old set.old.count }
+    requires sized { AreSized (spec_of checked.now.spec) state.old made.old.set.count }
     requires main { plain_rule (rule_of main.now) ≡ main_rule (spec_of checked.now.spec) (inits (spec_of checked.now.spec)) }
-    requires plain { is_plain (plain_rule (rule_of main.now)) ≡ true }
-    ensures sized { OnOk result (AreSized (spec_of checked.now.spec) state.new set.new.count) }
-    ensures fired { IfOk result (λ fault. IfNone fault (IsFired (spec_of checked.now.spec) step state.old state.new text.new.items)) }
-    ensures stopped { IfOk result (λ fault. IfSome fault (IsStopped (spec_of checked.now.spec) state.old state.new)) }
+    requires basic { is_basic (plain_rule (rule_of main.now)) ≡ true }
+    ensures sized { OnOk result (AreSized (spec_of checked.now.spec) state.new made.new.set.count) }
+    ensures fired { IfOk result (λ fault. IfNone fault (IsFired (spec_of checked.now.spec) turns (P.script choices.now.script.now) choices.now.step state.old state.new text.new.items)) }
+    ensures stopped { IfOk result (λ fault. IfSome fault (IsStopped (spec_of checked.now.spec) turns (P.script choices.now.script.now) choices.now.step state.old state.new)) }
 {
-    form_main(alloc, checked, main, state, set)?;
-    if let Some(fault) = set.first_fault(checked.signature()) {
+    form_main(alloc, checked, main, choices, turns, state, made)?;
+    if let Some(fault) = made.set.first_fault(checked.signature()) {
         return Ok(Some(fault));
     }
-    set.sort()?;
+    made.set.sort()?;
     text.clear();
-    push_step(alloc, text, checked, step, set)?;
-    set.fire_into(state);
+    push_step(
+        alloc,
+        text,
+        checked,
+        choices.step,
+        made.instances,
+        &made.set,
+    )?;
+    made.set.fire_into(state);
     Ok(None)
 }

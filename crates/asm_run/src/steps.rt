@@ -1,11 +1,10 @@
 //! The steps of a run, one after the other.
-ghost use Rattle.std.specs.Prelude.{◌≡◌, ℕ, true, false};
+ghost use Rattle.std.specs.Prelude.{◌≡◌, true, false};
 ghost use Rattle.asm_syntax.specs.Unplaced.{plain_rule};
 ghost use Rattle.asm_syntax.specs.Views.{spec_of, rule_of};
 ghost use Rattle.asm_check.specs.Faults.{inits};
+ghost use Rattle.asm_eval.specs.BasicRules.{is_basic};
 ghost use Rattle.asm_eval.specs.Declarations.{main_rule};
-ghost use Rattle.asm_eval.specs.Does.{Script};
-ghost use Rattle.asm_eval.specs.PlainRules.{is_plain};
 ghost use Rattle.asm_run.specs.Headline.{book_run};
 ghost use Rattle.asm_run.specs.Reached.{Runs};
 ghost use Rattle.asm_run.specs.Written.{names_in, locations_in};
@@ -13,38 +12,58 @@ ghost use Rattle.asm_run.specs.Written.{names_in, locations_in};
 use crate::end::End;
 use crate::error::RunError;
 use crate::finish::{finish_at_fault, finish_at_limit};
+use crate::limits::Limits;
 use crate::sink::Sink;
 use crate::step::make_step;
 use crate::write_all::write_all;
 use asm_check::Checked;
+use asm_eval::{Choices, Forming};
+use asm_reader::Picks;
 use asm_state::state::State;
 use asm_syntax::rule::Rule;
 use asm_updates::summary::Summary;
 use std::alloc::Global;
 
-/// Makes the steps, and writes each one's text when it is whole.
-pub fn run_steps<S: Sink>(
+/// Makes the steps under the script, and writes each one's text when it is whole.
+pub fn run_steps<S: Sink, P: Picks>(
     alloc: Global,
     checked: &Checked,
     main: &Rule,
-    steps: u32,
+    script: &P,
+    limits: &Limits,
     out: &mut S,
 ) -> Result<End, RunError>
     requires open { S.has_failed out.old ≡ false }
     requires main { plain_rule (rule_of main.now) ≡ main_rule (spec_of checked.now.spec) (inits (spec_of checked.now.spec)) }
-    requires plain { is_plain (plain_rule (rule_of main.now)) ≡ true }
+    requires basic { is_basic (plain_rule (rule_of main.now)) ≡ true }
     ensures { let s = spec_of checked.now.spec in
-        (turns : ℕ) (choices : Script) → Runs (names_in s) (locations_in s) (S.bytes out.old) (S.bytes out.new) (S.has_failed out.new) (book_run s turns choices steps) result }
+        Runs (names_in s) (locations_in s) (S.bytes out.old) (S.bytes out.new) (S.has_failed out.new) (book_run s limits.now.turns (P.script script.now) limits.now.steps) result }
 {
     let signature = checked.signature();
     let mut state = State::initial(alloc, signature)?;
-    let mut set = Summary::new(alloc, signature.count());
+    let mut made = Forming {
+        set: Summary::new(alloc, signature.count()),
+        instances: 0,
+        place: Vec::new(alloc),
+    };
     let mut text = Vec::new(alloc);
-    for made in 0..steps {
-        let step = u64::from(made) + 1;
-        let fault = make_step(alloc, checked, main, step, &mut state, &mut set, &mut text)?;
+    for done in 0..limits.steps {
+        let choices = Choices {
+            script,
+            step: u64::from(done) + 1,
+        };
+        let fault = make_step(
+            alloc,
+            checked,
+            main,
+            &choices,
+            limits.turns,
+            &mut state,
+            &mut made,
+            &mut text,
+        )?;
         if let Some(fault) = fault {
-            return finish_at_fault(alloc, &mut text, checked, step, fault, &state, out);
+            return finish_at_fault(alloc, &mut text, checked, choices.step, fault, &state, out);
         }
         write_all(out, text.as_slice())?;
     }

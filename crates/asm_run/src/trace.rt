@@ -119,12 +119,13 @@ pub fn push_step(
     out: &mut Vec<u8>,
     checked: &Checked,
     step: u64,
+    instances: u64,
     set: &Summary,
 ) -> Result<(), AllocError>
     requires { set.now.count ≡ count_of (shape_of (spec_of checked.now.spec)) }
-    ensures { OnOk result (out.new.items ≡ out.old.items ++ (step_line step 0 ++ entries_text (spec_of checked.now.spec) set.now.ranges)) }
+    ensures { OnOk result (out.new.items ≡ out.old.items ++ (step_line step instances ++ entries_text (spec_of checked.now.spec) set.now.ranges)) }
 {
-    push_step_line(out, step, 0)?;
+    push_step_line(out, step, instances)?;
     push_set(alloc, out, checked, set)
 }
 

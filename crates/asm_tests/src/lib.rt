@@ -4,6 +4,8 @@
 #[cfg(test)]
 mod checking;
 #[cfg(test)]
+mod choices;
+#[cfg(test)]
 mod reader;
 #[cfg(test)]
 mod runs;

@@ -1,18 +1,12 @@
 //! Runs of specifications, from bytes to bytes.
 use asm_run::end::End;
-use asm_run::error::RunError;
 use asm_run::limits::Limits;
 use asm_run::run::run;
 use asm_run::through::Through;
 use std::alloc::{AllocError, Global};
 use std::thread::Threads;
 
-mod beyond;
-mod declarations;
-mod faults;
-mod names;
 mod operations;
-mod rows;
 mod writers;
 
 pub(crate) const LIMITS: Limits = Limits {
@@ -23,64 +17,13 @@ pub(crate) const LIMITS: Limits = Limits {
     rounds: 4,
 };
 
-/// The lines of a text behind its first two, the steps that are asked for, and the run.
-pub(crate) struct Row {
-    pub(crate) name: &'static str,
-    pub(crate) lines: &'static str,
-    pub(crate) steps: u32,
-    pub(crate) trace: &'static str,
-    pub(crate) end: End,
-}
-
 /// The text with these parts behind its first two lines.
-pub(crate) fn text_of(alloc: Global, parts: &[&str]) -> Result<Vec<u8>, AllocError> {
+fn text_of(alloc: Global, parts: &[&str]) -> Result<Vec<u8>, AllocError> {
     let mut text = b"CoreASM T\ninit M\n".to_vec(alloc)?;
     for part in parts {
         text.extend_from_slice(part.as_bytes())?;
     }
     Ok(text)
-}
-
-/// What `run` answers, and what it writes.
-pub(crate) fn shown_by<R: Threads>(
-    rt: &R,
-    alloc: Global,
-    text: &[u8],
-    steps: u32,
-) -> (Result<End, RunError>, Vec<u8>) {
-    let limits = Limits { steps, ..LIMITS };
-    let mut out = Through::new(Vec::new(alloc));
-    let answer = run(rt, alloc, text, b"", &limits, &mut out);
-    (answer, out.into_inner())
-}
-
-/// Whether the run of a text makes so many steps at most, ends so and has this trace.
-pub(crate) fn runs_as<R: Threads>(
-    rt: &R,
-    alloc: Global,
-    text: &[u8],
-    steps: u32,
-    end: End,
-    trace: &[u8],
-) -> bool {
-    let (answer, written) = shown_by(rt, alloc, text, steps);
-    matches!(answer, Ok(found) if found == end) && written.as_slice() == trace
-}
-
-/// The name of the first row with another run.
-pub(crate) fn first_other<R: Threads>(
-    rt: &R,
-    alloc: Global,
-    rows: &'static [Row],
-) -> Result<Option<&'static str>, AllocError> {
-    for row in rows {
-        let text = text_of(alloc, &[row.lines])?;
-        let trace = row.trace.as_bytes();
-        if !runs_as(rt, alloc, text.as_slice(), row.steps, row.end, trace) {
-            return Ok(Some(row.name));
-        }
-    }
-    Ok(None)
 }
 
 /// Whether a step gives this value to `x`, the only controlled function of the text.
@@ -99,5 +42,7 @@ pub(crate) fn gives<R: Threads>(
         trace.extend_from_slice(value.as_bytes())?;
         trace.extend_from_slice(b"\n")?;
     }
-    Ok(runs_as(rt, alloc, text.as_slice(), 1, End::Limit, trace.as_slice()))
+    let mut out = Through::new(Vec::new(alloc));
+    let answer = run(rt, alloc, text.as_slice(), b"", &LIMITS, &mut out);
+    Ok(matches!(answer, Ok(End::Limit)) && out.get_ref().as_slice() == trace.as_slice())
 }

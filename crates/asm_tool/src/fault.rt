@@ -1,6 +1,6 @@
 //! Why the program ends without the whole trace.
 use crate::settings::WordFault;
-use asm_run::error::{CheckError, ReadError};
+use asm_run::error::{CheckError, ReadError, ScriptError};
 use std::alloc::AllocError;
 use std::{fmt, io};
 use thiserror::Error;
@@ -17,6 +17,22 @@ impl fmt::Display for Refusal {
         match self.error.at() {
             Some(at) => write!(f, "read {number} at {at}"),
             None => write!(f, "read {number}"),
+        }
+    }
+}
+
+/// What is wrong with a script, as the program says it: a number, and the line where there is one.
+#[derive(Drop)]
+struct ScriptRefusal {
+    error: ScriptError,
+}
+
+impl fmt::Display for ScriptRefusal {
+    fn fmt<W: fmt::Write>(&self, f: &mut fmt::Formatter<W>) -> fmt::Result {
+        let number = self.error.number();
+        match self.error.line() {
+            Some(line) => write!(f, "script {number} line {line}"),
+            None => write!(f, "script {number}"),
         }
     }
 }
@@ -39,10 +55,13 @@ pub enum Fault {
     /// The specification has no fault, and is beyond what runs yet.
     #[error("beyond\n")]
     Beyond,
+    /// The script is refused.
+    #[error("{}\n", ScriptRefusal {error: *.0})]
+    Script(ScriptError),
     /// Memory ran out.
     #[error("memory\n")]
     Memory,
-    /// The specification can't be read.
+    /// The specification or the script can't be read.
     #[error("file\n")]
     File,
     /// The trace can't be written.
@@ -54,7 +73,7 @@ impl Fault {
     /// The program's status.
     pub fn status(&self) -> u8 {
         match self {
-            Fault::Read(_) | Fault::Check(_) | Fault::Beyond => 2,
+            Fault::Read(_) | Fault::Check(_) | Fault::Beyond | Fault::Script(_) => 2,
             Fault::Memory | Fault::File | Fault::Write => 3,
             Fault::Words(_) | Fault::NotText => 4,
         }

@@ -6,7 +6,9 @@ use std::alloc::AllocError;
 
 /// What the words ask for.
 #[derive(Clone, Copy, Debug, PartialEq, Eq)]
-pub struct Settings {
+pub struct Settings<'w> {
+    /// The name of the script's file, where there is one.
+    pub script: Option<&'w str>,
     /// How far the run goes.
     pub limits: Limits,
 }

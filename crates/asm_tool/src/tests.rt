@@ -1,15 +1,30 @@
 //! The program over readers and writers in memory.
 use crate::status::status;
 use std::alloc::Global;
+use std::io;
 use std::io::{Read, Write};
+use std::rt::Files;
 use std::thread::Threads;
 
 mod faults;
 mod limits;
 mod rows;
+mod scripts;
 
 const COUNTER: &[u8] =
     b"CoreASM T\ninit M\nfunction controlled x initially 0\nrule M = x := x + 1\n";
+
+/// Fails at its first read.
+#[derive(Drop)]
+struct Unreadable {
+    kind: io::ErrorKind,
+}
+
+impl Read for Unreadable {
+    fn read(&mut self, _buffer: &mut [u8]) -> io::Result<usize> {
+        Err(io::Error::from(self.kind))
+    }
+}
 
 /// What the program shows.
 #[derive(Debug, Drop)]
@@ -20,7 +35,12 @@ struct Shown {
 }
 
 /// What the program shows where both writers take everything.
-fn shown_by<R: Threads, I: Read + Drop>(rt: &R, alloc: Global, words: &[&str], input: I) -> Shown {
+fn shown_by<R: Threads + Files, I: Read + Drop>(
+    rt: &R,
+    alloc: Global,
+    words: &[&str],
+    input: I,
+) -> Shown {
     let mut trace = Vec::new(alloc);
     let mut line = Vec::new(alloc);
     let status = status(rt, alloc, words, input, &mut trace, &mut line);

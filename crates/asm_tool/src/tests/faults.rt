@@ -1,6 +1,6 @@
 //! Statuses and lines of faults.
 use super::limits::TwentyBytes;
-use super::{COUNTER, shown_by};
+use super::{COUNTER, Unreadable, shown_by};
 use crate::status::status;
 use std::alloc::AllocError;
 use std::io;
@@ -20,18 +20,6 @@ impl Read for Endless {
         }
         self.given = self.given.saturating_add(buffer.len());
         Ok(buffer.len())
-    }
-}
-
-/// Fails at its first read.
-#[derive(Drop)]
-struct Unreadable {
-    kind: io::ErrorKind,
-}
-
-impl Read for Unreadable {
-    fn read(&mut self, _buffer: &mut [u8]) -> io::Result<usize> {
-        Err(io::Error::from(self.kind))
     }
 }
 
@@ -65,7 +53,7 @@ impl Write for Unflushed {
 
 #[test]
 fn words_that_are_refused(rt: HostRuntime) -> Result<(), Fail> {
-    let refused: [&[&str]; 8] = [
+    let refused: [&[&str]; 10] = [
         &[],
         &["--steps"],
         &["--steps", "1000001"],
@@ -73,6 +61,8 @@ fn words_that_are_refused(rt: HostRuntime) -> Result<(), Fail> {
         &["--steps", "three"],
         &["--steps", "3", "--walks", "1"],
         &["--steps", "3", "--steps", "4"],
+        &["--steps", "3", "--script"],
+        &["--steps", "3", "--script", "a", "--script", "b"],
         &["--help"],
     ];
     for words in refused {

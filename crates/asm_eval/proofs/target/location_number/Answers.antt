@@ -2,7 +2,7 @@ use Rattle.std.proofs.Common.{◌∙◌, arith}
 use Rattle.std.proofs.lemmas.List.{length-set}
 use Rattle.asm_eval.specs.Environments.{environment}
 use Rattle.asm_eval.specs.Valued.{term_value}
-use Rattle.asm_eval.proofs.Targets.{one_more_value}
+use Rattle.asm_eval.proofs.Applied.{one_more_value}
 use Rattle.asm_eval.proofs.target.location_number.Goals as goal
 
 pub loop-i-preserved : goal.loop-i-preserved

@@ -1,4 +1,4 @@
-use Rattle.std.proofs.Common.{[], Some, refl, sym, arith, ap, ◌∙◌, map, take, ◌≡◌, length}
+use Rattle.std.proofs.Common.{[], Some, refl, sym, arith, ap, ◌∙◌, map, take, ◌≡◌, length, subst, IfOk}
 use Rattle.std.proofs.lemmas.Grind.{common_steps}
 use Rattle.std.proofs.lemmas.List.{length-set, take_all}
 use Rattle.asm_state.proofs.UniverseValues.{element_in_range}
@@ -9,7 +9,7 @@ use Rattle.asm_eval.specs.Declarations.{numbered}
 use Rattle.asm_eval.specs.Environments.{environment, binding}
 use Rattle.asm_eval.specs.Value as spec
 use Rattle.asm_eval.specs.Valued.{term_value, program, shown, declared_value}
-use Rattle.asm_eval.proofs.Applied.{named_value_is, none_valued, all_valued, one_more}
+use Rattle.asm_eval.proofs.Applied.{declared_is_named, none_valued, all_valued, one_more_value}
 use Rattle.asm_eval.proofs.ArgumentWeights.{argument_lighter, body_lighter}
 use Rattle.asm_eval.proofs.ChainLinks.{first_falls, link_falls, chain_starts}
 use Rattle.asm_eval.proofs.Evaluating.{cases, falls}
@@ -19,145 +19,62 @@ use Rattle.asm_eval.proofs.OneOperand.{not_falls, negative_falls, constant_value
 use Rattle.asm_eval.proofs.Quantified.{passes, exists_of_none, every_of_none, exists_at, fails_at, exists_past, every_past, none_more, all_more}
 use Rattle.asm_eval.proofs.value.+value.Goals as goal
 
--- src/value.rt:124:25
-pub applied-value-requires : goal.applied-value-requires
-applied-value-requires t c =
-    let a = c.args in
-    let it = argument_lighter a.checked.now (environment a.env.now) a.name.now.text a.arguments.now c.loop-i.i c.index-arguments-i.result c.loop-i-test.true c.index-arguments-i.is in
-    (omega (arith, c.decreases, it), c.requires.shaped)
-
--- src/value.rt:123:9
-pub applied-loop-i-preserved : goal.applied-loop-i-preserved
-applied-loop-i-preserved t c =
-    let a = c.args in
-    let f = term_value a.checked.now a.view.now (environment a.env.now) in record {
-      valued = one_more f a.arguments.now c.loop-i.values c.loop-i.i c.index-arguments-i.result c.in_ok-values.field-0
-          c.loop-i-test.true (omega arith) c.index-arguments-i.is c.in_ok-values.ensures c.loop-i.invariant.valued;
-      room = length-set c.loop-i.values c.loop-i.i c.in_ok-values.field-0 ∙ c.loop-i.invariant.room;
-    }
-
--- src/value.rt:126:21
-pub applied-value_of-requires : goal.applied-value_of-requires
-applied-value_of-requires t c =
-    let a = c.args in
-    let it = body_lighter a.checked.now (environment a.env.now) a.name.now.text a.arguments.now c.named-it.result [] c.requires.unbound c.named-it.ensures.named in
-    (omega (arith, c.decreases, it), (c.requires.shaped, c.named-it.ensures.in_range))
-
-pub applied-returns-then-is_empty : goal.applied-returns-then-is_empty
-applied-returns-then-is_empty t c =
-    let a = c.args in
-    let f = term_value a.checked.now a.view.now (environment a.env.now) in
-    let none : length a.arguments.now ≡ 0 = grind (arith, common_steps, sym c.is_empty.ensures ∙ c.if-is_empty.true) in
-    named_value_is a.checked.now a.view.now (environment a.env.now) a.name.now.text a.arguments.now c.named-it.result [] c.in_ok-value.value
-    c.requires.unbound c.named-it.ensures.named (none_valued f a.arguments.now none) c.in_ok-value.ensures
-
-pub applied-value_of-requires-then-arguments-le-FEW :
-    goal.applied-value_of-requires-then-arguments-le-FEW
-applied-value_of-requires-then-arguments-le-FEW t c =
-    let a = c.args in
-    let vs = take (length a.arguments.now) c.loop-i.values in
-    let it = body_lighter a.checked.now (environment a.env.now) a.name.now.text a.arguments.now c.named-it.result vs c.requires.unbound c.named-it.ensures.named in
-    (omega (arith, c.decreases, it), (c.requires.shaped, c.named-it.ensures.in_range))
-
--- src/value.rt:127:9
-pub applied-returns-then-arguments-le-FEW : goal.applied-returns-then-arguments-le-FEW
-applied-returns-then-arguments-le-FEW t c =
-    let a = c.args in
-    let f = term_value a.checked.now a.view.now (environment a.env.now) in
-    let are = all_valued f a.arguments.now c.loop-i.values c.loop-i.i c.loop-i-test.false c.loop-i.auto.i-end c.loop-i.invariant.valued in
-    named_value_is a.checked.now a.view.now (environment a.env.now) a.name.now.text a.arguments.now c.named-it.result _ c.in_ok-value-2.value
-    c.requires.unbound c.named-it.ensures.named are c.in_ok-value-2.ensures
-
--- src/value.rt:131:21
-pub applied-value-requires-in-loop-argument : goal.applied-value-requires-in-loop-argument
-applied-value-requires-in-loop-argument t c =
-    let a = c.args in
-    let it = argument_lighter a.checked.now (environment a.env.now) a.name.now.text a.arguments.now c.loop-argument.argument-index c.argument-item.result (omega arith) c.argument-item.is in
-    (omega (arith, c.decreases, it), c.requires.shaped)
-
--- src/value.rt:133:17
-pub applied-value_of-requires-2 : goal.applied-value_of-requires-2
-applied-value_of-requires-2 t c =
-    let a = c.args in
-    let it = body_lighter a.checked.now (environment a.env.now) a.name.now.text a.arguments.now c.named-it.result c.as_slice.result.now c.requires.unbound c.named-it.ensures.named in
-    (omega (arith, c.decreases, it), (c.requires.shaped, c.named-it.ensures.in_range))
-
--- src/value.rt:107:1
-pub applied-returns : goal.applied-returns
-applied-returns t c =
-    let a = c.args in
-    let f = term_value a.checked.now a.view.now (environment a.env.now) in
-    let are = c.as_slice.ensures.value ∙ c.loop-argument.invariant ∙ ap (map f) (take_all c.loop-argument.argument-index a.arguments.now (omega arith)) in
-    named_value_is a.checked.now a.view.now (environment a.env.now) a.name.now.text a.arguments.now c.named-it.result c.as_slice.result.now c.in_ok-value-4.value
-    c.requires.unbound c.named-it.ensures.named are c.in_ok-value-4.ensures
-
--- src/value.rt:210:9
 pub every-returns-in_default : goal.every-returns-in_default
 every-returns-in_default t c =
     let a = c.args in
     every_of_none a.checked.now a.view.now (environment a.env.now) a.name.now.text a.over.now.text (plain.plain_term (term_of a.test.now)) c.in_default.ensures.none
 
--- src/value.rt:218:22
 pub every-value-requires : goal.every-value-requires
 every-value-requires t c =
     let a = c.args in
     let it = (falls a.checked.now (environment a.env.now)).at_every a.name.now.text a.over.now.text (plain.plain_term (term_of a.test.now)) c.element.result in
     (omega (arith, c.decreases, it), c.requires)
 
--- src/value.rt:220:13
 pub every-returns-then-not-is_true : goal.every-returns-then-not-is_true
 every-returns-then-not-is_true t c =
     let a = c.args in
     let fails = ap spec.is_true (sym c.in_ok-tested.ensures) ∙ sym c.is_true.ensures ∙ c.if-not-is_true.true in
     fails_at a.checked.now a.view.now (environment a.env.now) a.name.now.text a.over.now.text (plain.plain_term (term_of a.test.now)) c.in-Some.universe.now c.loop-i.i c.element.result c.in-Some.ensures.some c.element.ensures fails
 
--- src/value.rt:212:5
 pub every-loop-i-preserved : goal.every-loop-i-preserved
 every-loop-i-preserved t c =
     let a = c.args in
     let passed = ap spec.is_true (sym c.in_ok-tested.ensures) ∙ sym c.is_true.ensures ∙ c.if-not-is_true.false in
     all_more (passes a.checked.now a.view.now (environment a.env.now) a.name.now.text a.over.now.text (plain.plain_term (term_of a.test.now))) c.in-Some.universe.now c.loop-i.i c.element.result c.element.ensures c.loop-i.invariant passed
 
--- src/value.rt:195:1
 pub every-returns : goal.every-returns
 every-returns t c =
     let a = c.args in
     every_past a.checked.now a.view.now (environment a.env.now) a.name.now.text a.over.now.text (plain.plain_term (term_of a.test.now)) c.in-Some.universe.now c.loop-i.i c.in-Some.ensures.some (omega (arith, c.size-i-end.ensures.size)) c.loop-i.invariant
 
--- src/value.rt:178:9
 pub exists-returns-in_default : goal.exists-returns-in_default
 exists-returns-in_default t c =
     let a = c.args in
     exists_of_none a.checked.now a.view.now (environment a.env.now) a.name.now.text a.over.now.text (plain.plain_term (term_of a.test.now)) c.in_default.ensures.none
 
--- src/value.rt:186:22
 pub exists-value-requires : goal.exists-value-requires
 exists-value-requires t c =
     let a = c.args in
     let it = (falls a.checked.now (environment a.env.now)).at_exists a.name.now.text a.over.now.text (plain.plain_term (term_of a.test.now)) c.element.result in
     (omega (arith, c.decreases, it), c.requires)
 
--- src/value.rt:188:13
 pub exists-returns-then-is_true : goal.exists-returns-then-is_true
 exists-returns-then-is_true t c =
     let a = c.args in
     let passed = ap spec.is_true (sym c.in_ok-tested.ensures) ∙ sym c.is_true.ensures ∙ c.if-is_true.true in
     exists_at a.checked.now a.view.now (environment a.env.now) a.name.now.text a.over.now.text (plain.plain_term (term_of a.test.now)) c.in-Some.universe.now c.loop-i.i c.element.result c.in-Some.ensures.some c.element.ensures passed
 
--- src/value.rt:180:5
 pub exists-loop-i-preserved : goal.exists-loop-i-preserved
 exists-loop-i-preserved t c =
     let a = c.args in
     let fails = ap spec.is_true (sym c.in_ok-tested.ensures) ∙ sym c.is_true.ensures ∙ c.if-is_true.false in
     none_more (passes a.checked.now a.view.now (environment a.env.now) a.name.now.text a.over.now.text (plain.plain_term (term_of a.test.now))) c.in-Some.universe.now c.loop-i.i c.element.result c.element.ensures c.loop-i.invariant fails
 
--- src/value.rt:163:1
 pub exists-returns : goal.exists-returns
 exists-returns t c =
     let a = c.args in
     exists_past a.checked.now a.view.now (environment a.env.now) a.name.now.text a.over.now.text (plain.plain_term (term_of a.test.now)) c.in-Some.universe.now c.loop-i.i c.in-Some.ensures.some (omega (arith, c.size-i-end.ensures.size)) c.loop-i.invariant
 
--- src/value.rt:96:25
 pub named-value-requires : goal.named-value-requires
 named-value-requires t c =
     let a = c.args in
@@ -166,70 +83,129 @@ named-value-requires t c =
     let it = (falls a.checked.now e).at_bound a.name.now.text (plain.plain_terms (terms_of (map term_of a.arguments.now))) (plain.plain_term (term_of c.in-ByName.term.now)) (environment c.in-ByName.caller.now) is in
     (omega (arith, c.decreases, it), c.requires)
 
--- src/value.rt:81:1
+pub named-value_of-requires : goal.named-value_of-requires
+named-value_of-requires t c =
+    let a = c.args in
+    let unbound = sym c.find.ensures ∙ ap binding c.in-Unbound.is in
+    let it = body_lighter a.checked.now (environment a.env.now) a.name.now.text a.arguments.now c.named.result [] unbound c.named.ensures.named in
+    (omega (arith, c.decreases, it), (c.requires, c.named.ensures.in_range))
+
 pub named-returns-in-Known : goal.named-returns-in-Known
 named-returns-in-Known t c =
     let a = c.args in
     sym ((cases a.checked.now a.view.now (environment a.env.now)).of_value a.name.now.text (plain.plain_terms (terms_of (map term_of a.arguments.now))) c.in-Known.value (sym c.find.ensures ∙ ap binding c.in-Known.is))
 
--- src/value.rt:81:1
-pub named-returns-in_ok-value-in-ByName : goal.named-returns-in_ok-value-in-ByName
-named-returns-in_ok-value-in-ByName t c =
+pub named-returns-in-ByName : goal.named-returns-in-ByName
+named-returns-in-ByName t c =
     let a = c.args in
-    c.in_ok-value-in-ByName.ensures ∙ sym ((cases a.checked.now a.view.now (environment a.env.now)).of_term a.name.now.text (plain.plain_terms (terms_of (map term_of a.arguments.now))) (plain.plain_term (term_of c.in-ByName.term.now)) (environment c.in-ByName.caller.now) (sym c.find.ensures ∙ ap binding c.in-ByName.is))
+    let it = (cases a.checked.now a.view.now (environment a.env.now)).of_term a.name.now.text (plain.plain_terms (terms_of (map term_of a.arguments.now))) (plain.plain_term (term_of c.in-ByName.term.now)) (environment c.in-ByName.caller.now) (sym c.find.ensures ∙ ap binding c.in-ByName.is) in
+    subst (λ x. IfOk c.value.result (λ v. v ≡ x)) (sym it) c.value.ensures
 
--- src/value.rt:54:29
-pub value-value-requires : goal.value-value-requires
-value-value-requires t c =
+pub named-returns-then-is_empty : goal.named-returns-then-is_empty
+named-returns-then-is_empty t c =
+    let a = c.args in
+    let f = term_value a.checked.now a.view.now (environment a.env.now) in
+    let none : length a.arguments.now ≡ 0 = grind (arith, common_steps, sym c.is_empty.ensures ∙ c.if-is_empty.true) in
+    let unbound = sym c.find.ensures ∙ ap binding c.in-Unbound.is in
+    let it = declared_is_named a.checked.now a.view.now (environment a.env.now) a.name.now.text a.arguments.now c.named.result [] unbound c.named.ensures.named (none_valued f a.arguments.now none) in
+    subst (λ x. IfOk c.value_of.result (λ v. v ≡ x)) it c.value_of.ensures
+
+pub of_few-loop-i-preserved : goal.of_few-loop-i-preserved
+of_few-loop-i-preserved t c =
+    let a = c.args in
+    let f = term_value a.checked.now a.view.now (environment a.env.now) in record {
+      valued = one_more_value f a.arguments.now c.loop-i.values c.loop-i.i c.index-arguments-i.result c.in_ok-values.field-0
+          c.loop-i-test.true (omega arith) c.index-arguments-i.is c.in_ok-values.ensures c.loop-i.invariant.valued;
+      room = length-set c.loop-i.values c.loop-i.i c.in_ok-values.field-0 ∙ c.loop-i.invariant.room;
+    }
+
+pub of_few-value_of-requires : goal.of_few-value_of-requires
+of_few-value_of-requires t c =
+    let a = c.args in
+    let vs = take (length a.arguments.now) c.loop-i.values in
+    let it = body_lighter a.checked.now (environment a.env.now) a.name.now.text a.arguments.now c.named.result vs c.requires.unbound c.named.ensures.named in
+    (omega (arith, c.decreases, it), (c.requires.shaped, c.named.ensures.in_range))
+
+pub of_few-returns : goal.of_few-returns
+of_few-returns t c =
+    let a = c.args in
+    let f = term_value a.checked.now a.view.now (environment a.env.now) in
+    let are = all_valued f a.arguments.now c.loop-i.values c.loop-i.i c.loop-i-test.false c.loop-i.auto.i-end c.loop-i.invariant.valued in
+    let it = declared_is_named a.checked.now a.view.now (environment a.env.now) a.name.now.text a.arguments.now c.named.result _ c.requires.unbound c.named.ensures.named are in
+    subst (λ x. IfOk c.value_of.result (λ v. v ≡ x)) it c.value_of.ensures
+
+pub of_few-operand-requires : goal.of_few-operand-requires
+of_few-operand-requires t c =
+    let a = c.args in
+    let it = argument_lighter a.checked.now (environment a.env.now) a.name.now.text a.arguments.now c.loop-i.i c.index-arguments-i.result c.loop-i-test.true c.index-arguments-i.is in
+    (omega (arith, c.decreases, it), c.requires.shaped)
+
+pub of_many-value_of-requires : goal.of_many-value_of-requires
+of_many-value_of-requires t c =
+    let a = c.args in
+    let it = body_lighter a.checked.now (environment a.env.now) a.name.now.text a.arguments.now c.named.result c.as_slice.result.now c.requires.unbound c.named.ensures.named in
+    (omega (arith, c.decreases, it), (c.requires.shaped, c.named.ensures.in_range))
+
+pub of_many-returns : goal.of_many-returns
+of_many-returns t c =
+    let a = c.args in
+    let f = term_value a.checked.now a.view.now (environment a.env.now) in
+    let are = c.as_slice.ensures.value ∙ c.loop-argument.invariant ∙ ap (map f) (take_all c.loop-argument.argument-index a.arguments.now (omega arith)) in
+    let it = declared_is_named a.checked.now a.view.now (environment a.env.now) a.name.now.text a.arguments.now c.named.result c.as_slice.result.now c.requires.unbound c.named.ensures.named are in
+    subst (λ x. IfOk c.value_of.result (λ v. v ≡ x)) it c.value_of.ensures
+
+pub of_many-operand-requires : goal.of_many-operand-requires
+of_many-operand-requires t c =
+    let a = c.args in
+    let it = argument_lighter a.checked.now (environment a.env.now) a.name.now.text a.arguments.now c.loop-argument.argument-index c.argument-item.result (omega arith) c.argument-item.is in
+    (omega (arith, c.decreases, it), c.requires.shaped)
+
+pub operand-returns-in-Constant : goal.operand-returns-in-Constant
+operand-returns-in-Constant t c =
+    c.literal_value.ensures ∙ constant_value c.args.checked.now (environment c.args.env.now) c.args.term.now c.args.view.now c.in-Constant.literal c.in-Constant.is
+
+pub value-operand-requires : goal.value-operand-requires
+value-operand-requires t c =
     let it = first_falls c.args.checked.now (environment c.args.env.now) c.args.term.now c.in-Chain.first c.in-Chain.rest c.in-Chain.is _ c.deref.ensures in
     (omega (arith, c.decreases, it), c.requires)
 
--- src/value.rt:55:13
 pub value-loop-operation-init : goal.value-loop-operation-init
 value-loop-operation-init t c =
     chain_starts c.args.checked.now (environment c.args.env.now) c.args.term.now c.in-Chain.first c.in-Chain.rest c.in-Chain.is c.args.view.now _ _ _ c.as_slice-operation-items.ensures.value c.deref.ensures c.in_ok-total-in-Chain.ensures
 
--- src/value.rt:56:29
-pub value-value-requires-in-loop-operation : goal.value-value-requires-in-loop-operation
-value-value-requires-in-loop-operation t c =
+pub value-operand-requires-in-loop-operation : goal.value-operand-requires-in-loop-operation
+value-operand-requires-in-loop-operation t c =
     let it = link_falls c.args.checked.now (environment c.args.env.now) c.args.term.now c.in-Chain.first c.in-Chain.rest c.in-Chain.is _ _ _ c.as_slice-operation-items.ensures.value c.loop-operation-test.true c.loop-operation-item.is in
     (omega (arith, c.decreases, it), c.requires)
 
--- src/value.rt:62:27
-pub value-value-requires-in-Not : goal.value-value-requires-in-Not
-value-value-requires-in-Not t c =
+pub value-operand-requires-in-Not : goal.value-operand-requires-in-Not
+value-operand-requires-in-Not t c =
     let it = not_falls c.args.checked.now (environment c.args.env.now) c.args.term.now c.in-Not.inner c.in-Not.is _ c.deref-in-Not.ensures in
     (omega (arith, c.decreases, it), c.requires)
 
--- src/value.rt:66:27
-pub value-value-requires-in-Negative : goal.value-value-requires-in-Negative
-value-value-requires-in-Negative t c =
+pub value-operand-requires-in-Negative : goal.value-operand-requires-in-Negative
+value-operand-requires-in-Negative t c =
     let it = negative_falls c.args.checked.now (environment c.args.env.now) c.args.term.now c.in-Negative.inner c.in-Negative.is _ c.deref-in-Negative.ensures in
     (omega (arith, c.decreases, it), c.requires)
 
--- src/value.rt:36:1
 pub value-returns-in-Constant : goal.value-returns-in-Constant
 value-returns-in-Constant t c =
     c.literal_value.ensures ∙ constant_value c.args.checked.now (environment c.args.env.now) c.args.term.now c.args.view.now c.in-Constant.literal c.in-Constant.is
 
--- src/value.rt:36:1
-pub value-returns-in_ok-operand-in-Not : goal.value-returns-in_ok-operand-in-Not
-value-returns-in_ok-operand-in-Not t c =
-    c.apply.ensures ∙ not_value c.args.checked.now (environment c.args.env.now) c.args.term.now c.args.view.now c.in-Not.inner c.in-Not.is _ _ c.deref-in-Not.ensures c.in_ok-operand-in-Not.ensures
+pub value-returns-in_ok-inner-in-Not : goal.value-returns-in_ok-inner-in-Not
+value-returns-in_ok-inner-in-Not t c =
+    c.apply.ensures ∙ not_value c.args.checked.now (environment c.args.env.now) c.args.term.now c.args.view.now c.in-Not.inner c.in-Not.is _ _ c.deref-in-Not.ensures c.in_ok-inner-in-Not.ensures
 
--- src/value.rt:36:1
-pub value-returns-in_ok-operand-in-Negative : goal.value-returns-in_ok-operand-in-Negative
-value-returns-in_ok-operand-in-Negative t c =
-    c.apply-in-Negative.ensures ∙ negative_value c.args.checked.now (environment c.args.env.now) c.args.term.now c.args.view.now c.in-Negative.inner c.in-Negative.is _ _ c.deref-in-Negative.ensures c.in_ok-operand-in-Negative.ensures
+pub value-returns-in_ok-inner-in-Negative : goal.value-returns-in_ok-inner-in-Negative
+value-returns-in_ok-inner-in-Negative t c =
+    c.apply-in-Negative.ensures ∙ negative_value c.args.checked.now (environment c.args.env.now) c.args.term.now c.args.view.now c.in-Negative.inner c.in-Negative.is _ _ c.deref-in-Negative.ensures c.in_ok-inner-in-Negative.ensures
 
--- src/value.rt:151:40
 pub value_of-function_value-requires : goal.value_of-function_value-requires
 value_of-function_value-requires t c =
     let a = c.args in
     let field : c.in-Some-Function.field-0 ≡ number.Function c.in-Some-Function.f = rw c.in-Some-Function.is at c.in-Some-Function.field-0-is in
     function_below (spec_of a.checked.now.spec) a.view.now.signature.now a.it c.in-Some-Function.f a.checked.now.well_formed c.requires.shaped c.requires.in_range (c.in-Some-Function.is ∙ ap Some field)
 
--- src/value.rt:152:71
 pub value_of-overflow_cast-result : goal.value_of-overflow_cast-result
 value_of-overflow_cast-result t c =
     let a = c.args in
@@ -237,14 +213,12 @@ value_of-overflow_cast-result t c =
     let low = element_below (spec_of a.checked.now.spec) a.it c.in-Some-Element.e a.checked.now.well_formed c.requires.in_range (c.in-Some-Element.is ∙ ap Some field) in
     omega (arith, low)
 
--- src/value.rt:152:39
 pub value_of-invariant_of-result : goal.value_of-invariant_of-result
 value_of-invariant_of-result t c =
     let a = c.args in
     let field : c.in-Some-Element.field-0 ≡ number.Element c.in-Some-Element.e = rw c.in-Some-Element.is at c.in-Some-Element.field-0-is in
     record { in_range = element_below (spec_of a.checked.now.spec) a.it c.in-Some-Element.e a.checked.now.well_formed c.requires.in_range (c.in-Some-Element.is ∙ ap Some field) }
 
--- src/value.rt:155:25
 pub value_of-value-requires : goal.value_of-value-requires
 value_of-value-requires t c =
     let a = c.args in
@@ -253,7 +227,6 @@ value_of-value-requires t c =
     let it = ap (λ it. body_weight (program a.checked.now) it a.values.now) stands in
     (omega (arith, c.decreases, it), c.requires.shaped)
 
--- src/value.rt:138:1
 pub value_of-returns-in-Some-Element : goal.value_of-returns-in-Some-Element
 value_of-returns-in-Some-Element t c =
     let a = c.args in
@@ -261,15 +234,12 @@ value_of-returns-in-Some-Element t c =
     element_in_range c.in-Some-Element.e _ refl
     ∙ ap (λ it. declared_value (program a.checked.now) (shown a.view.now) (numbered (spec_of a.checked.now.spec) it) a.values.now) (sym (c.in-Some-Element.is ∙ ap Some field))
 
--- src/value.rt:138:1
-pub value_of-returns-in_ok-value-in-Some-Derived :
-    goal.value_of-returns-in_ok-value-in-Some-Derived
-value_of-returns-in_ok-value-in-Some-Derived t c =
+pub value_of-returns-in-Some-Universe : goal.value_of-returns-in-Some-Universe
+value_of-returns-in-Some-Universe t c = grind (arith, common_steps, universe_undef, called_undef)
+
+pub value_of-returns-in-Some-Derived : goal.value_of-returns-in-Some-Derived
+value_of-returns-in-Some-Derived t c =
     let a = c.args in
     let field : c.in-Some-Derived.field-0 ≡ number.Derived c.in-Some-Derived.d = rw c.in-Some-Derived.is at c.in-Some-Derived.field-0-is in
     let stands = numbered_derived (spec_of a.checked.now.spec) a.it c.in-Some-Derived.d c.derived.result.0.now c.derived.result.1.now (c.in-Some-Derived.is ∙ ap Some field) c.derived.ensures in
-    c.in_ok-value-in-Some-Derived.ensures ∙ ap (λ it. declared_value (program a.checked.now) (shown a.view.now) it a.values.now) (sym stands)
-
--- src/value.rt:138:1
-pub value_of-returns-in-Some-Universe : goal.value_of-returns-in-Some-Universe
-value_of-returns-in-Some-Universe t c = grind (arith, common_steps, universe_undef, called_undef)
+    subst (λ it. IfOk c.value.result (λ v. v ≡ declared_value (program a.checked.now) (shown a.view.now) it a.values.now)) (sym stands) c.value.ensures

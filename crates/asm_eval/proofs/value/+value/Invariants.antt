@@ -17,11 +17,17 @@ use Rattle.asm_eval.proofs.value.+value.Given as goal
 abbrev pub decreases-value : goal.decreases-value
 decreases-value l = 4 * term_weight (program l.checked.now) (environment l.env.now) l.term.now + 3
 
+abbrev pub decreases-operand : goal.decreases-operand
+decreases-operand l = 4 * term_weight (program l.checked.now) (environment l.env.now) l.term.now + 4
+
 abbrev pub decreases-named : goal.decreases-named
 decreases-named l = 4 * named_weight (program l.checked.now) (environment l.env.now) l.name.now.text l.arguments.now + 2
 
-abbrev pub decreases-applied : goal.decreases-applied
-decreases-applied l = 4 * named_weight (program l.checked.now) (environment l.env.now) l.name.now.text l.arguments.now + 1
+abbrev pub decreases-of_few : goal.decreases-of_few
+decreases-of_few l = 4 * named_weight (program l.checked.now) (environment l.env.now) l.name.now.text l.arguments.now + 1
+
+abbrev pub decreases-of_many : goal.decreases-of_many
+decreases-of_many l = 4 * named_weight (program l.checked.now) (environment l.env.now) l.name.now.text l.arguments.now + 1
 
 abbrev pub decreases-value_of : goal.decreases-value_of
 decreases-value_of l = body_weight (program l.checked.now) (numbered (spec_of l.checked.now.spec) l.it) l.values.now
@@ -33,14 +39,14 @@ abbrev pub decreases-every : goal.decreases-every
 decreases-every l = 4 * weight (program l.checked.now) (environment l.env.now) (tree.Every l.name.now.text l.over.now.text (plain_term (term_of l.test.now))) + 2
 
 -- the arguments so far have their values, and there is room for four
-abbrev pub invariant-applied-loop-i : goal.invariant-applied-loop-i
-invariant-applied-loop-i l = record {
+abbrev pub invariant-of_few-loop-i : goal.invariant-of_few-loop-i
+invariant-of_few-loop-i l = record {
   valued : take l.i l.values ≡ map (term_value l.checked l.view (environment l.env)) (take l.i l.arguments);
   room : length l.values ≡ 4;
 }
 
-abbrev pub invariant-applied-loop-argument : goal.invariant-applied-loop-argument
-invariant-applied-loop-argument l = l.values.items ≡ map (term_value l.checked l.view (environment l.env)) (take l.argument-index l.arguments)
+abbrev pub invariant-of_many-loop-argument : goal.invariant-of_many-loop-argument
+invariant-of_many-loop-argument l = l.values.items ≡ map (term_value l.checked l.view (environment l.env)) (take l.argument-index l.arguments)
 
 -- no element so far passes the test
 abbrev pub invariant-exists-loop-i : goal.invariant-exists-loop-i

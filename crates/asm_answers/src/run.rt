@@ -1,0 +1,117 @@
+//! Runs of specifications: what a case wants of one, and what `run` does.
+//!
+//! Behind the word `run` of a case stand limits, as `steps 3` or `turns 4`, and `whole` where the text is one from its first byte on,
+//! then a colon and the name of the case.
+use crate::parts::Parts;
+use crate::refusal;
+use asm_run::end::End;
+use asm_run::limits::Limits;
+use asm_run::run::run;
+use asm_run::through::Through;
+use std::alloc::{AllocError, Global};
+use std::thread::Threads;
+
+/// The limits of a case that doesn't say others.
+const LIMITS: Limits = Limits {
+    steps: 1,
+    turns: 1000,
+    workers: 1,
+    cut: 64,
+    rounds: 4,
+};
+
+/// What a case says of its run.
+#[derive(Clone, Copy)]
+struct Setting {
+    is_whole: bool,
+    limits: Limits,
+}
+
+impl Setting {
+    /// The setting that these words say, as ` whole, steps 3`; none if they say nothing.
+    fn said(words: &str) -> Option<Setting> {
+        let mut setting = Setting {
+            is_whole: false,
+            limits: LIMITS,
+        };
+        if words.is_empty() {
+            return Some(setting);
+        }
+        for word in words.strip_prefix(' ')?.split(", ") {
+            if word == "whole" {
+                setting.is_whole = true;
+            } else {
+                setting.limit(word)?;
+            }
+        }
+        Some(setting)
+    }
+
+    /// Sets a limit, as `steps 3`; none if there is no such limit.
+    fn limit(&mut self, word: &str) -> Option<()> {
+        let (name, number) = word.split_once(' ')?;
+        let number = number.parse::<u32>().ok()?;
+        match name {
+            "steps" => self.limits.steps = number,
+            "turns" => self.limits.turns = number,
+            "workers" => self.limits.workers = number,
+            "cut" => self.limits.cut = number,
+            "rounds" => self.limits.rounds = number,
+            _ => return None,
+        }
+        Some(())
+    }
+}
+
+/// What is expected of the run of a case and what is found, both in full: how the run ends or is refused, and behind this line what is
+/// written.
+pub fn answers<R: Threads>(
+    rt: &R,
+    alloc: Global,
+    header: &str,
+    text: &str,
+) -> Result<(String, String), AllocError> {
+    let (words, _name) = header.split_once(": ").unwrap_or((header, ""));
+    let Some(setting) = words.strip_prefix("run").and_then(Setting::said) else {
+        return unfit(alloc, "such limits");
+    };
+    let Some(parts) = Parts::new(alloc, text, setting.is_whole)? else {
+        return unfit(alloc, "such parts");
+    };
+    let found = found(rt, alloc, &parts, &setting.limits)?;
+    Ok((parts.wanted, found))
+}
+
+/// The answers where a case is none.
+fn unfit(alloc: Global, missing: &str) -> Result<(String, String), AllocError> {
+    let wanted = String::from_str(alloc, "a run")?;
+    let found = format!(in alloc; "no run has {missing}")?;
+    Ok((wanted, found))
+}
+
+/// How the run ends, or why it is refused, and what is written.
+fn found<R: Threads>(
+    rt: &R,
+    alloc: Global,
+    parts: &Parts,
+    limits: &Limits,
+) -> Result<String, AllocError> {
+    let mut out = Through::new(Vec::new(alloc));
+    let (text, script) = (parts.text.as_slice(), parts.script.as_slice());
+    let ending = match run(rt, alloc, text, script, limits, &mut out) {
+        Ok(end) => String::from_str(alloc, ending(end))?,
+        Err(reason) => refusal::of_run(alloc, reason)?,
+    };
+    let written = String::from_utf8_lossy(alloc, out.get_ref().as_slice())?;
+    format!(in alloc; "{ending}\n{written}")
+}
+
+/// An end by the word for it in the line of a trace.
+fn ending(end: End) -> &'static str {
+    match end {
+        End::Limit => "limit",
+        End::Clash => "clash",
+        End::Outside => "outside",
+        End::Exhausted => "exhausted",
+    }
+}

@@ -1,0 +1,310 @@
+-- How a summary and a count of instances come to hold what a rule of the code does.
+--     forms_nothing, forms_both, forms_counted     of nothing, of two parts, and with one more instance;  forms_same     of an equal outcome
+--     forms_bounded                                the count of instances stays within its type
+--     left_to_form, part_is_less                   how far the code has still to go down;  that a part is further down
+--     rule_does, branch_does, rules_do, each_does  what rules of the code do: one, a branch, some beside each other, one for each element
+--     candidates_of                                the elements for which a condition of the code holds
+-- A lemma whose name ends in _does says what a form of rule does, by what its parts do, or what a turn of a loop adds to the turns after it.
+use Rattle.std.proofs.Common.{◌≡◌, ℕ, zero, suc, ◌+◌, ◌*◌, ◌≤◌, ◌<◌, Bool, true, false, ◌&&◌, cond, min, List, [], ◌∷◌, length, map, drop, slice_index_or, ◌%◌, Option, Some, None, Box, Vec, Global, refl, sym, ap, subst, ◌∙◌, arith, add-one}
+use Rattle.std.specs.Prelude.{slice_get}
+use Rattle.std.proofs.lemmas.List.{at_drop_more, drop_all}
+use Rattle.std.proofs.lemmas.Option.{slice_get_within, get_or_from_slice_get}
+use Rattle.asm_state.specs.declared.value.Value.{Value}
+use Rattle.asm_state.specs.Signature.{Shape, domain_of, location_at}
+use Rattle.asm_state.specs.Tables.{location_in}
+use Rattle.asm_state.specs.Updates.{UpdateSet, none, one, together}
+use Rattle.asm_state.proofs.Algebra.{union_laws}
+use Rattle.asm_updates.specs.Entries.{Entries}
+use Rattle.asm_updates.specs.Stands.{Stands}
+use Rattle.asm_syntax.specs.declared.name.Name as syntax
+use Rattle.asm_syntax.specs.declared.term.Term.{Term}
+use Rattle.asm_syntax.specs.declared.rule.Rule.{Rule}
+use Rattle.asm_syntax.specs.declared.rule.Rule.TheVariants as rule
+use Rattle.asm_syntax.specs.Tree as tree
+use Rattle.asm_syntax.specs.Unplaced.{plain_term, plain_terms, plain_rule, plain_rules, plain_branch}
+use Rattle.asm_syntax.specs.Views.{term_of, terms_of, rule_of, rules_of}
+use Rattle.asm_syntax.specs.ViewCases.{rule_of-Skip, rule_of-Par}
+use Rattle.asm_check.specs.declared.checked.Checked.{Checked}
+use Rattle.asm_reader.specs.ScriptLines.{Script, pick}
+use Rattle.asm_eval.specs.declared.view.View.{View}
+use Rattle.asm_eval.specs.BasicRules.{is_basic, are_basic}
+use Rattle.asm_eval.specs.Does.{Outcome, nothing, both, counted, each, one_of, does}
+use Rattle.asm_eval.specs.Formed.{Adds, Forms, greatest_count}
+use Rattle.asm_eval.specs.PlainCases.{PlainCases, does_parts}
+use Rattle.asm_eval.specs.Program.{Environment, Controlled, declared, with_value}
+use Rattle.asm_eval.specs.Taken.{taken}
+use Rattle.asm_eval.specs.Value.{is_true, values, candidates, universe}
+use Rattle.asm_eval.specs.Valued.{program, shown, term_value, branch, condition, holds_at}
+use Rattle.asm_eval.specs.Yields.{Place, Gives, at, assigned, beside}
+use Rattle.asm_eval.proofs.PlainCases.{plain_by_cases}
+
+-- ---- what is added
+
+right_unit : (U : UpdateSet) → together U none ≡ U
+right_unit U = union_laws.swap U none ∙ union_laws.unit U
+
+-- the count is cut off, whether once or twice
+same_count : (n g : ℕ) → n ≤ g → n ≡ min (n + 0) g
+same_count n g small = omega arith
+
+count_twice : (n a b g : ℕ) → min (min (n + a) g + b) g ≡ min (n + (a + b)) g
+count_twice n a b g = omega arith
+
+module _ (shape : Shape) where
+  adds_none : (s : Entries) → Adds shape none s s
+  adds_none s U stands = subst (Stands shape s) (sym (right_unit U)) stands
+
+  -- one set after another
+  adds_both : (old mid new : Entries) (V W : UpdateSet) → Adds shape V old mid → Adds shape W mid new → Adds shape (together V W) old new
+  adds_both old mid new V W first then U stands = subst (Stands shape new) (union_laws.group U V W) (then (together U V) (first U stands))
+
+  pub forms_same : (o q : Outcome) (old new : Entries) (before after : ℕ) → o ≡ q → Forms shape o old new before after → Forms shape q old new before after
+  forms_same o q old new before after e = subst (λ it. Forms shape it old new before after) e
+
+  pub forms_nothing : (s : Entries) (n : ℕ) → n ≤ greatest_count → Forms shape nothing s s n n
+  forms_nothing s n small = record { set = none; gives = refl; adds = adds_none s; counts = same_count n greatest_count small }
+
+  pub forms_both : (o q : Outcome) (old mid new : Entries) (before n after : ℕ)
+      → Forms shape o old mid before n → Forms shape q mid new n after → Forms shape (both o q) old new before after
+  forms_both o q old mid new before n after first then = record {
+    set = together first.set then.set;
+    gives = ap (λ r. beside r q.result) first.gives ∙ ap (beside (Gives first.set)) then.gives;
+    adds = adds_both old mid new first.set then.set first.adds then.adds;
+    counts = then.counts ∙ ap (λ m. min (m + q.instances) greatest_count) first.counts ∙ count_twice before o.instances q.instances greatest_count;
+  }
+
+  pub forms_bounded : (o : Outcome) (old new : Entries) (before after : ℕ) → Forms shape o old new before after → after ≤ greatest_count
+  forms_bounded o old new before after formed = omega (arith, formed.counts)
+
+  -- an instance is counted first
+  pub forms_counted : (o : Outcome) (old new : Entries) (before more after : ℕ) → more ≡ min (before + 1) greatest_count
+      → Forms shape o old new more after → Forms shape (counted o) old new before after
+  forms_counted o old new before more after is formed = record {
+    set = formed.set;
+    gives = formed.gives;
+    adds = formed.adds;
+    counts = formed.counts ∙ ap (λ m. min (m + o.instances) greatest_count) is ∙ count_twice before 1 o.instances greatest_count;
+  }
+
+-- ---- rules that are basic one by one
+
+pub first_of_two : (a b : Bool) → a && b ≡ true → a ≡ true
+first_of_two true b is = refl
+first_of_two false b is = is
+
+pub second_of_two : (a b : Bool) → a && b ≡ true → b ≡ true
+second_of_two true b is = is
+second_of_two false b is = cc
+
+abbrev pub are_basic_rules : List Rule → Bool
+are_basic_rules rs = are_basic (plain_rules (rules_of (map rule_of rs)))
+
+module _ (rs : List Rule) (i : ℕ) (r : Rule) (low : i < length rs) (is : r ≡ slice_index_or rs i r) (are : are_basic_rules (drop i rs) ≡ true) where
+  both_basic : is_basic (plain_rule (rule_of r)) && are_basic_rules (drop (i + 1) rs) ≡ true
+  both_basic =
+      ap (λ x. is_basic (plain_rule (rule_of x)) && are_basic_rules (drop (i + 1) rs)) is ∙ sym (at_drop_more are_basic_rules rs i r low) ∙ are
+
+  pub next_is_basic : is_basic (plain_rule (rule_of r)) ≡ true
+  next_is_basic = first_of_two (is_basic (plain_rule (rule_of r))) (are_basic_rules (drop (i + 1) rs)) both_basic
+
+  pub rest_is_basic : are_basic_rules (drop (i + 1) rs) ≡ true
+  rest_is_basic = second_of_two (is_basic (plain_rule (rule_of r))) (are_basic_rules (drop (i + 1) rs)) both_basic
+
+-- ---- how many rules a rule is made of, itself among them: fewer on the way down
+
+abbrev mutual
+  pub rules_in : tree.Rule → ℕ
+  rules_in tree.Skip = 1
+  rules_in (tree.Assign f ts t) = 1
+  rules_in (tree.Call f ts) = 1
+  rules_in (tree.Par Ps) = 1 + rules_in_all Ps
+  rules_in (tree.Seq Ps) = 1 + rules_in_all Ps
+  rules_in (tree.If c P Q) = 1 + (rules_in P + rules_in Q)
+  rules_in (tree.Let x t P) = 1 + rules_in P
+  rules_in (tree.Forall x u c P) = 1 + rules_in P
+  rules_in (tree.Choose x u c P Q) = 1 + (rules_in P + rules_in Q)
+  rules_in (tree.Iterate P) = 1 + rules_in P
+
+  rules_in_all : tree.Rules → ℕ
+  rules_in_all tree.no_rules = 0
+  rules_in_all (tree.rule_then P Ps) = rules_in P + rules_in_all Ps
+
+-- how far the code has still to go down. Where a function calls one for the same rule, its own rank is the higher
+abbrev pub left_to_form : (rank : ℕ) → tree.Rule → ℕ
+left_to_form rank R = 4 * rules_in R + rank
+
+part_is_in : (rs : List Rule) (i : ℕ) (r : Rule) → i < length rs → r ≡ slice_index_or rs i r
+    → rules_in (plain_rule (rule_of r)) ≤ rules_in_all (plain_rules (rules_of (map rule_of rs)))
+part_is_in [] i r low is = omega (arith, low)
+part_is_in (p ∷ rs) zero r low is = rw is (omega arith)
+part_is_in (p ∷ rs) (suc i) r low is = let fewer = part_is_in rs i r (omega (arith, low)) is in omega (arith, fewer)
+
+pub part_is_less : (rs : List Rule) (i : ℕ) (r : Rule) → i < length rs → r ≡ slice_index_or rs i r
+    → rules_in (plain_rule (rule_of r)) < rules_in (tree.Par (plain_rules (rules_of (map rule_of rs))))
+part_is_less rs i r low is = omega (arith, part_is_in rs i r low is)
+
+-- ---- the candidate that is taken
+
+some_taken : (n : ℕ) (vs : List Value) (v : Value) (m : Value → Outcome) (other : Outcome) → Some v ≡ taken n vs → m v ≡ one_of n vs m other
+some_taken n [] v m other is = cc
+some_taken n (w ∷ ws) v m other is = let same : v ≡ slice_index_or (w ∷ ws) (n % length (w ∷ ws)) w = cc in ap m same
+
+none_taken : (n : ℕ) (vs : List Value) (m : Value → Outcome) (other : Outcome) → None ≡ taken n vs → other ≡ one_of n vs m other
+none_taken n [] m other is = refl
+none_taken n (w ∷ ws) m other is = cc
+
+-- ---- what the code's rules do
+
+abbrev pub candidates_of : Checked → View → Environment → (x u : tree.Name) → Option Term → List Value
+candidates_of checked view e x u c = candidates (program checked) (shown view) e x u (condition c)
+
+module _ (checked : Checked) (view : View) (turns : ℕ) (script : Script) (step : ℕ) where
+  abbrev plain_does : Environment → Place → tree.Rule → Outcome
+  plain_does = does (program checked) turns script step (shown view)
+
+  abbrev pub rule_does : Environment → Place → Rule → Outcome
+  rule_does e p R = plain_does e p (plain_rule (rule_of R))
+
+  abbrev pub branch_does : Environment → Place → Option (Box Rule Global) → Outcome
+  branch_does e p Q = plain_does e p (plain_branch (branch Q))
+
+  -- rules beside each other, from number k on
+  abbrev pub rules_do : Environment → Place → ℕ → List Rule → Outcome
+  rules_do e p k rs = does_parts (program checked) turns script step (shown view) e p k (plain_rules (rules_of (map rule_of rs)))
+
+  -- a rule for each element for which a condition holds, from number k on
+  abbrev pub each_does : Environment → Place → tree.Name → Option Term → Rule → ℕ → List Value → Outcome
+  each_does e p x c R k vs = each (λ v n. rule_does (with_value x v e) (at p n) R) (λ v. holds_at checked view (with_value x v e) c) k vs
+
+  abbrev assign_does : Environment → Place → syntax.Name → List Term → Term → Outcome
+  assign_does e p x ts t = plain_does e p (tree.Assign x.text (plain_terms (terms_of (map term_of ts))) (plain_term (term_of t)))
+
+  abbrev forall_does : Environment → Place → tree.Name → tree.Name → Option Term → Rule → Outcome
+  forall_does e p x u c R = plain_does e p (tree.Forall x u (condition c) (plain_rule (rule_of R)))
+
+  abbrev if_does : Environment → Place → Term → Rule → Option (Box Rule Global) → Outcome
+  if_does e p c R Q = plain_does e p (tree.If (plain_term (term_of c)) (plain_rule (rule_of R)) (plain_branch (branch Q)))
+
+  abbrev choose_does : Environment → Place → tree.Name → tree.Name → Option Term → Rule → Option (Box Rule Global) → Outcome
+  choose_does e p x u c R Q = plain_does e p (tree.Choose x u (condition c) (plain_rule (rule_of R)) (plain_branch (branch Q)))
+
+  module _ (e : Environment) where
+    cases : PlainCases (program checked) turns script step (shown view) e
+    cases = plain_by_cases (program checked) turns script step (shown view) e
+
+    values_are : (ts : List Term) → map (term_value checked view e) ts ≡ values (program checked) (shown view) e (plain_terms (terms_of (map term_of ts)))
+    values_are [] = sym cases.of_no_terms
+    values_are (t ∷ ts) =
+        ap (λ vs. term_value checked view e t ∷ vs) (values_are ts) ∙ sym (cases.of_terms (plain_term (term_of t)) (plain_terms (terms_of (map term_of ts))))
+
+    module _ (p : Place) where
+      abbrev assigned_set : syntax.Name → List Term → Term → UpdateSet
+      assigned_set x ts t = assigned (declared (program checked) x.text) (values (program checked) (shown view) e (plain_terms (terms_of (map term_of ts)))) (term_value checked view e t)
+
+      -- a set that is the assignment's
+      forms_assigned : (shape : Shape) (old new : Entries) (n : ℕ) (x : syntax.Name) (ts : List Term) (t : Term) (V : UpdateSet) → n ≤ greatest_count
+          → assigned_set x ts t ≡ V → Adds shape V old new → Forms shape (assign_does e p x ts t) old new n n
+      forms_assigned shape old new n x ts t V small is adds = record {
+        set = V;
+        gives = ap (λ o. o.result) (cases.of_assign p x.text (plain_terms (terms_of (map term_of ts))) (plain_term (term_of t))) ∙ ap Gives is;
+        adds = adds;
+        counts = same_count n greatest_count small
+            ∙ ap (λ o. min (n + o.instances) greatest_count) (sym (cases.of_assign p x.text (plain_terms (terms_of (map term_of ts))) (plain_term (term_of t))));
+      }
+
+      -- the update of a controlled function at the number of its location
+      pub forms_update : (shape : Shape) (old new : Entries) (m : ℕ) (x : syntax.Name) (ts : List Term) (t : Term) (f n : ℕ) (v : Value) → m ≤ greatest_count
+          → declared (program checked) x.text ≡ Some (Controlled f (domain_of shape f))
+          → location_at shape n ≡ location_in f (domain_of shape f) (map (term_value checked view e) ts) → v ≡ term_value checked view e t
+          → Adds shape (one (location_at shape n) v) old new → Forms shape (assign_does e p x ts t) old new m m
+      forms_update shape old new m x ts t f n v small d l is =
+          forms_assigned shape old new m x ts t (one (location_at shape n) v) small
+          (ap (λ it. assigned it (values (program checked) (shown view) e (plain_terms (terms_of (map term_of ts)))) (term_value checked view e t)) d
+          ∙ ap (λ vs. one (location_in f (domain_of shape f) vs) (term_value checked view e t)) (sym (values_are ts))
+          ∙ ap (one (location_in f (domain_of shape f) (map (term_value checked view e) ts))) (sym is) ∙ ap (λ k. one k v) (sym l))
+
+      -- a name that no update is of
+      pub forms_no_update : (shape : Shape) (s : Entries) (m : ℕ) (x : syntax.Name) (ts : List Term) (t : Term) → m ≤ greatest_count
+          → ((vs : List Value) (v : Value) → assigned (declared (program checked) x.text) vs v ≡ none) → Forms shape (assign_does e p x ts t) s s m m
+      forms_no_update shape s m x ts t small no_set = forms_assigned shape s s m x ts t none small (no_set _ _) (adds_none shape s)
+
+      pub skip_does : (R : Rule) → R ≡ rule.Skip → nothing ≡ rule_does e p R
+      skip_does R is =
+          sym (ap (rule_does e p) is ∙ ap (λ P. plain_does e p (plain_rule P)) rule_of-Skip ∙ cases.of_skip p)
+
+      pub left_out_does : (Q : Option (Box Rule Global)) → Q ≡ None → nothing ≡ branch_does e p Q
+      left_out_does Q is = sym (ap (branch_does e p) is ∙ cases.of_skip p)
+
+      pub par_does : (R : Rule) (Ps : Vec Rule Global) (rs : List Rule) → R ≡ rule.Par Ps → rs ≡ Ps.items → rules_do e p 0 rs ≡ rule_does e p R
+      par_does R Ps rs is same =
+          ap (rules_do e p 0) same
+          ∙ sym (ap (rule_does e p) is ∙ ap (λ P. plain_does e p (plain_rule P)) (rule_of-Par Ps)
+          ∙ cases.of_par p (plain_rules (rules_of (map rule_of Ps.items))))
+
+      pub first_does : (c : Term) (R : Rule) (Q : Option (Box Rule Global)) → is_true (term_value checked view e c) ≡ true → rule_does e (at p 0) R ≡ if_does e p c R Q
+      first_does c R Q test =
+          ap (λ b. cond b (rule_does e (at p 0) R) (branch_does e (at p 1) Q)) (sym test)
+          ∙ sym (cases.of_if p (plain_term (term_of c)) (plain_rule (rule_of R)) (plain_branch (branch Q)))
+
+      pub other_does : (c : Term) (R : Rule) (Q : Option (Box Rule Global)) → is_true (term_value checked view e c) ≡ false → branch_does e (at p 1) Q ≡ if_does e p c R Q
+      other_does c R Q test =
+          ap (λ b. cond b (rule_does e (at p 0) R) (branch_does e (at p 1) Q)) (sym test)
+          ∙ sym (cases.of_if p (plain_term (term_of c)) (plain_rule (rule_of R)) (plain_branch (branch Q)))
+
+      pub let_does : (x : tree.Name) (t : Term) (R : Rule) (v : Value) → v ≡ term_value checked view e t
+          → rule_does (with_value x v e) (at p 0) R ≡ plain_does e p (tree.Let x (plain_term (term_of t)) (plain_rule (rule_of R)))
+      let_does x t R v is = ap (λ w. rule_does (with_value x w e) (at p 0) R) is ∙ sym (cases.of_let p x (plain_term (term_of t)) (plain_rule (rule_of R)))
+
+      pub chosen_does : (x u : tree.Name) (c : Option Term) (R : Rule) (Q : Option (Box Rule Global)) (v : Value)
+          → Some v ≡ taken (pick script step p) (candidates_of checked view e x u c) → rule_does (with_value x v e) (at p 0) R ≡ choose_does e p x u c R Q
+      chosen_does x u c R Q v there =
+          some_taken (pick script step p) (candidates_of checked view e x u c) v (λ w. rule_does (with_value x w e) (at p 0) R) (branch_does e (at p 1) Q) there
+          ∙ sym (cases.of_choose p x u (condition c) (plain_rule (rule_of R)) (plain_branch (branch Q)))
+
+      pub none_does : (x u : tree.Name) (c : Option Term) (R : Rule) (Q : Option (Box Rule Global))
+          → None ≡ taken (pick script step p) (candidates_of checked view e x u c) → branch_does e (at p 1) Q ≡ choose_does e p x u c R Q
+      none_does x u c R Q there =
+          none_taken (pick script step p) (candidates_of checked view e x u c) (λ w. rule_does (with_value x w e) (at p 0) R) (branch_does e (at p 1) Q) there
+          ∙ sym (cases.of_choose p x u (condition c) (plain_rule (rule_of R)) (plain_branch (branch Q)))
+
+      -- ---- the loops: what is left of the rules or of the elements, and what the next one adds to it
+
+      pub next_rule_does : (rs : List Rule) (i : ℕ) (r : Rule) → i < length rs → r ≡ slice_index_or rs i r
+          → both (rule_does e (at p i) r) (rules_do e p (i + 1) (drop (i + 1) rs)) ≡ rules_do e p i (drop i rs)
+      next_rule_does rs i r low is =
+          ap (λ x. both (rule_does e (at p i) x) (rules_do e p (i + 1) (drop (i + 1) rs))) is
+          ∙ ap (λ k. both (rule_does e (at p i) (slice_index_or rs i r)) (rules_do e p k (drop (i + 1) rs))) (add-one i)
+          ∙ sym (at_drop_more (rules_do e p i) rs i r low)
+
+      pub no_rule_does : (rs : List Rule) (i : ℕ) → length rs ≤ i → nothing ≡ rules_do e p i (drop i rs)
+      no_rule_does rs i past = sym (ap (rules_do e p i) (drop_all i rs past))
+
+      pub forall_of : (x u : tree.Name) (c : Option Term) (R : Rule) (vs : List Value) → vs ≡ universe (program checked) u
+          → each_does e p x c R 0 vs ≡ forall_does e p x u c R
+      forall_of x u c R vs is = ap (each_does e p x c R 0) is ∙ sym (cases.of_forall p x u (condition c) (plain_rule (rule_of R)))
+
+      element_next : (x : tree.Name) (c : Option Term) (R : Rule) (vs : List Value) (i : ℕ) (v : Value) (b : Bool) → slice_get vs i ≡ Some v
+          → b ≡ holds_at checked view (with_value x v e) c
+          → cond b (counted (both (rule_does (with_value x v e) (at p i) R) (each_does e p x c R (i + 1) (drop (i + 1) vs)))) (each_does e p x c R (i + 1) (drop (i + 1) vs))
+          ≡ each_does e p x c R i (drop i vs)
+      element_next x c R vs i v b there test =
+          ap (λ b. cond b (counted (both (rule_does (with_value x v e) (at p i) R) (each_does e p x c R (i + 1) (drop (i + 1) vs)))) (each_does e p x c R (i + 1) (drop (i + 1) vs))) test
+          ∙ ap (λ k. cond (holds_at checked view (with_value x v e) c) (counted (both (rule_does (with_value x v e) (at p i) R) (each_does e p x c R k (drop (i + 1) vs))))
+          (each_does e p x c R k (drop (i + 1) vs))) (add-one i)
+          ∙ ap (λ w. each_does e p x c R i (w ∷ drop (i + 1) vs)) (sym (get_or_from_slice_get vs i v v there))
+          ∙ sym (at_drop_more (each_does e p x c R i) vs i v (slice_get_within vs i v there))
+
+      -- an element for which the condition holds
+      pub element_does : (x : tree.Name) (c : Option Term) (R : Rule) (vs : List Value) (i : ℕ) (v : Value) → slice_get vs i ≡ Some v
+          → true ≡ holds_at checked view (with_value x v e) c
+          → counted (both (rule_does (with_value x v e) (at p i) R) (each_does e p x c R (i + 1) (drop (i + 1) vs))) ≡ each_does e p x c R i (drop i vs)
+      element_does x c R vs i v there test = element_next x c R vs i v true there test
+
+      -- one for which it doesn't
+      pub element_passed : (x : tree.Name) (c : Option Term) (R : Rule) (vs : List Value) (i : ℕ) (v : Value) → slice_get vs i ≡ Some v
+          → false ≡ holds_at checked view (with_value x v e) c
+          → each_does e p x c R (i + 1) (drop (i + 1) vs) ≡ each_does e p x c R i (drop i vs)
+      element_passed x c R vs i v there test = element_next x c R vs i v false there test
+
+      pub no_element_does : (x : tree.Name) (c : Option Term) (R : Rule) (vs : List Value) (i : ℕ) → length vs ≤ i → nothing ≡ each_does e p x c R i (drop i vs)
+      no_element_does x c R vs i past = sym (ap (each_does e p x c R i) (drop_all i vs past))

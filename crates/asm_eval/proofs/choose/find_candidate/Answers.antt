@@ -1,0 +1,48 @@
+use Rattle.std.proofs.Common.{◌≡◌, filter, ap, sym, ◌∙◌, arith}
+use Rattle.asm_state.specs.declared.value.Value.{Value}
+use Rattle.asm_eval.specs.declared.choose.Walk.TheVariants.{Met}
+use Rattle.asm_eval.specs.Environments.{environment}
+use Rattle.asm_eval.specs.Program.{with_value}
+use Rattle.asm_eval.specs.Taken.{walk_to}
+use Rattle.asm_eval.specs.Valued.{holds_at}
+use Rattle.asm_eval.proofs.Candidates.{all_hold, one_more_passes, none_more_passes, met_at, passed_all}
+use Rattle.asm_eval.proofs.choose.find_candidate.Goals as goal
+use Rattle.asm_eval.proofs.choose.find_candidate.Goals.{then-branch+else-met-number, else-branch}
+
+-- src/choose.rt:77:9
+pub returns-then-is_none : goal.returns-then-is_none
+returns-then-is_none g c =
+    let a = c.args in
+    c.element_at.ensures ∙ ap (walk_to a.number) (all_hold a.at.now.checked.now a.at.now.view.now (environment a.env.now) a.name.now.text a.test.now a.universe.now c.if-is_none.ensures)
+
+-- src/choose.rt:88:17
+pub returns-then-met-number : goal.returns-then-met-number
+returns-then-met-number g c =
+    let a = c.args in
+    let p = λ (v : Value). holds_at a.at.now.checked.now a.at.now.view.now (with_value a.name.now.text v (environment a.env.now)) a.test.now in
+    let same : c.element-then-met-number.result ≡ c.element.result = cc in
+    ap Met same ∙ met_at p a.universe.now c.loop-i.i c.element.result c.loop-i.met c.element.ensures (sym c.in_ok-holds.ensures ∙ c.if-branch.true) c.loop-i.invariant.counted
+    ∙ ap (λ n. walk_to n (filter p a.universe.now)) c.if-met-number.true
+
+-- src/choose.rt:80:5
+pub loop-i-preserved : goal.loop-i-preserved
+loop-i-preserved g c =
+    let a = c.args in
+    let p = λ (v : Value). holds_at a.at.now.checked.now a.at.now.view.now (with_value a.name.now.text v (environment a.env.now)) a.test.now in
+    elim c.if-branch.branch [
+      | then-branch+else-met-number w ↦ record {
+        counted = w.met-is ∙ one_more_passes p a.universe.now c.loop-i.i c.element.result c.loop-i.met c.element.ensures (sym c.in_ok-holds.ensures ∙ w.if-branch.true) c.loop-i.invariant.counted;
+        behind = omega arith;
+      }
+      | else-branch w ↦ record {
+        counted = w.met-is ∙ none_more_passes p a.universe.now c.loop-i.i c.element.result c.loop-i.met c.element.ensures (sym c.in_ok-holds.ensures ∙ w.if-branch.false) c.loop-i.invariant.counted;
+        behind = omega arith;
+      }
+    ]
+
+-- src/choose.rt:64:1
+pub returns : goal.returns
+returns g c =
+    let a = c.args in
+    let p = λ (v : Value). holds_at a.at.now.checked.now a.at.now.view.now (with_value a.name.now.text v (environment a.env.now)) a.test.now in
+    passed_all p a.universe.now c.loop-i.i c.loop-i.met a.number (omega (arith, c.size-i-end.ensures.size)) c.loop-i.invariant.counted c.loop-i.invariant.behind

@@ -1,0 +1,34 @@
+use Rattle.std.proofs.Common.{◌≡◌, ℕ, ◌+◌, List, min, ap, subst, ◌∙◌, arith}
+use Rattle.asm_state.specs.Signature.{Shape, count_of}
+use Rattle.asm_state.specs.Updates.{none}
+use Rattle.asm_state.proofs.Algebra.{union_laws}
+use Rattle.asm_updates.specs.Entries.{Entries}
+use Rattle.asm_updates.specs.Stands.{Stands}
+use Rattle.asm_syntax.specs.Unplaced as plain
+use Rattle.asm_syntax.specs.Views.{rule_of}
+use Rattle.asm_eval.specs.Does.{Outcome, does}
+use Rattle.asm_eval.specs.Environments.{environment}
+use Rattle.asm_eval.specs.Valued.{program, shown}
+use Rattle.asm_eval.specs.Formed.{Forms, IsSet, greatest_count}
+use Rattle.asm_eval.proofs.whole.whole.Goals as goal
+
+-- what is formed from nothing is the outcome's set and its instances
+formed_from_none : (shape : Shape) (o : Outcome) (empty new : Entries) (n : ℕ) → Stands shape empty none → new.count ≡ count_of shape → Forms shape o empty new 0 n → IsSet shape o new n
+formed_from_none shape o empty new n nothing count formed = record {
+  set = formed.set;
+  gives = formed.gives;
+  count = count;
+  stands = subst (Stands shape new) (union_laws.unit formed.set) (formed.adds none nothing);
+  counts = let all : 0 + o.instances ≡ o.instances = omega arith in formed.counts ∙ ap (λ m. min m greatest_count) all;
+}
+
+-- src/whole.rt:25:1
+pub returns : goal.returns
+returns g c =
+    let a = c.args in
+    let shape : Shape = a.view.now.signature.now in
+    let o = λ (p : List ℕ). does (program a.checked.now) a.turns (g.P.Picks.script a.choices.now.script.now) a.choices.now.step (shown a.view.now) (environment a.env.now) p (plain.plain_rule (rule_of a.rule.now)) in
+    let at_place : c.in_ok-to_vec.field-0.items ≡ a.place.now = c.in_ok-to_vec.ensures.items_if_clones_equal (λ x y h. h) in
+    formed_from_none shape (o a.place.now) c.new.result c.form.new.made.set c.form.new.made.instances
+    (c.new.ensures.empty shape c.count.ensures.sound c.count.ensures.count) (c.in_ok-form.ensures.count ∙ c.new.ensures.count ∙ c.count.ensures.count)
+    (subst (λ p. Forms shape (o p) c.new.result c.form.new.made.set 0 c.form.new.made.instances) at_place c.in_ok-form.ensures.formed)

@@ -1,0 +1,137 @@
+//! Which candidate a `choose` takes.
+ghost use Rattle.std.specs.Prelude.{◌≡◌, filter, IfOk};
+ghost use Rattle.asm_reader.specs.ScriptLines.{pick};
+ghost use Rattle.asm_syntax.specs.Views.{spec_of};
+ghost use Rattle.asm_check.specs.Shapes.{shape_of};
+ghost use Rattle.asm_eval.specs.Environments.{environment};
+ghost use Rattle.asm_eval.specs.Program.{with_value};
+ghost use Rattle.asm_eval.specs.Valued.{program, shown, condition, holds_at};
+ghost use Rattle.asm_eval.specs.Taken.{taken, walk_to};
+ghost use Rattle.asm_eval.specs.Value as spec;
+
+use crate::env::Env;
+use crate::evaluation::Evaluation;
+use crate::held::{is_true, universe_of};
+use crate::value::value;
+use asm_reader::Picks;
+use asm_state::universe::Universe;
+use asm_state::value::Value;
+use asm_syntax::name::Name;
+use asm_syntax::term::Term;
+use std::alloc::{AllocError, Global};
+
+/// Where a walk along the candidates ends.
+#[derive(Clone, Copy)]
+enum Walk {
+    /// At the candidate that was looked for.
+    Met(Value),
+    /// Behind the last one: so many there are.
+    Passed(u64),
+}
+
+/// Whether the condition holds, or there is none.
+pub(crate) fn holds<'e, P: Picks>(
+    alloc: Global,
+    at: &Evaluation<'_, '_, P>,
+    env: &'e Env<'e>,
+    test: &'e Option<Term>,
+) -> Result<bool, AllocError>
+    requires { at.now.view.now.signature.now ≡ shape_of (spec_of at.now.checked.now.spec) }
+    ensures { IfOk result (λ b. b ≡ holds_at at.now.checked.now at.now.view.now (environment env.now) test.now) }
+{
+    match test {
+        None => Ok(true),
+        Some(test) => {
+            let tested = value(alloc, at.checked, at.view, env, test)?;
+            Ok(is_true(tested))
+        }
+    }
+}
+
+/// Walks to the element with this number, where all are candidates.
+fn element_at(universe: &Universe, number: u64) -> Walk
+    ensures { result ≡ walk_to number universe.now }
+{
+    let size = universe.size() as u64;
+    if number < size {
+        Walk::Met(universe.element(number as usize))
+    } else {
+        Walk::Passed(size)
+    }
+}
+
+/// Walks to the candidate with this number, from 0.
+fn find_candidate<'e, P: Picks>(
+    alloc: Global,
+    at: &Evaluation<'_, '_, P>,
+    env: &'e Env<'e>,
+    name: &'e Name,
+    universe: &Universe,
+    test: &'e Option<Term>,
+    number: u64,
+) -> Result<Walk, AllocError>
+    requires { at.now.view.now.signature.now ≡ shape_of (spec_of at.now.checked.now.spec) }
+    ensures { IfOk result (λ w. w ≡ walk_to number (filter (λ v. holds_at at.now.checked.now at.now.view.now (with_value name.now.text v (environment env.now)) test.now) universe.now)) }
+{
+    if test.is_none() {
+        return Ok(element_at(universe, number));
+    }
+    let mut met = 0;
+    for i in 0..universe.size() {
+        let bound = Env::One {
+            name,
+            value: universe.element(i),
+            outer: env,
+        };
+        if holds(alloc, at, &bound, test)? {
+            if met == number {
+                return Ok(Walk::Met(universe.element(i)));
+            }
+            met += 1;
+        }
+    }
+    Ok(Walk::Passed(met))
+}
+
+/// The candidate that is taken at this place. Where there are candidates the script is asked once, else never.
+///
+/// Without a condition, every element of the universe is a candidate, and none is looked at but the one that is taken.
+pub(crate) fn chosen<'e, P: Picks>(
+    alloc: Global,
+    at: &Evaluation<'_, '_, P>,
+    env: &'e Env<'e>,
+    name: &'e Name,
+    over: &Name,
+    test: &'e Option<Term>,
+    place: &[u64],
+) -> Result<Option<Value>, AllocError>
+    requires { at.now.view.now.signature.now ≡ shape_of (spec_of at.now.checked.now.spec) }
+    ensures { let candidates = spec.candidates (program at.now.checked.now) (shown at.now.view.now) (environment env.now) name.now.text over.now.text (condition test.now) in
+        IfOk result (λ v. v ≡ taken (pick (P.script at.now.choices.now.script.now) at.now.choices.now.step place.now) candidates) }
+{
+    let Some(universe) = universe_of(at.checked, over) else {
+        return Ok(None);
+    };
+    let Walk::Met(first) = find_candidate(alloc, at, env, name, universe, test, 0)? else {
+        return Ok(None);
+    };
+    let number = at.choices.script.pick(at.choices.step, place);
+    if number == 0 {
+        return Ok(Some(first));
+    }
+    match find_candidate(alloc, at, env, name, universe, test, number)? {
+        Walk::Met(value) => Ok(Some(value)),
+        Walk::Passed(count) => match find_candidate(
+            alloc,
+            at,
+            env,
+            name,
+            universe,
+            test,
+            number % count,
+        )? {
+            Walk::Met(value) => Ok(Some(value)),
+            Walk::Passed(_) => unreachable!(),
+        },
+    }
+}

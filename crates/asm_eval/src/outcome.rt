@@ -1,0 +1,21 @@
+//! What comes of evaluating a rule.
+use asm_updates::summary::Summary;
+
+/// What a rule yields.
+#[derive(Drop)]
+pub enum Outcome {
+    /// An update set, with the number of elements for which the condition of a `forall` held, cut off where it doesn't fit.
+    Set { set: Summary, instances: u64 },
+    /// No set: the `iterate` at this place has made its last turn.
+    Exhausted(Vec<u64>),
+}
+
+/// What has been formed of a step's set so far, and where the evaluation stands.
+#[derive(Drop)]
+pub struct Forming {
+    pub set: Summary,
+    /// Cut off where the number doesn't fit.
+    pub instances: u64,
+    /// The place of the rule that is evaluated: its numbers come and go here, so that no place is built anew.
+    pub place: Vec<u64>,
+}

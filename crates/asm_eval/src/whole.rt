@@ -1,0 +1,56 @@
+//! The outcome of a rule.
+ghost use Rattle.std.specs.Prelude.{◌≡◌, true, IfOk};
+ghost use Rattle.asm_syntax.specs.Unplaced as plain;
+ghost use Rattle.asm_syntax.specs.Views.{spec_of, rule_of};
+ghost use Rattle.asm_check.specs.Shapes.{shape_of};
+ghost use Rattle.asm_eval.specs.BasicRules.{is_basic};
+ghost use Rattle.asm_eval.specs.Does.{does};
+ghost use Rattle.asm_eval.specs.Environments.{environment};
+ghost use Rattle.asm_eval.specs.Valued.{program, shown};
+ghost use Rattle.asm_eval.specs.Formed.{IsFormed};
+
+use crate::env::Env;
+use crate::evaluation::{Choices, Evaluation};
+use crate::form::form;
+use crate::outcome::{Forming, Outcome};
+use crate::view::View;
+use asm_check::Checked;
+use asm_reader::Picks;
+use asm_syntax::rule::Rule;
+use asm_updates::summary::Summary;
+use std::alloc::{AllocError, Global};
+
+/// What the rule yields at this place, in the state that the view shows, under the environment and these choices, all of it on this
+/// thread. The rule is a basic one without calls (`is_basic`).
+pub fn whole<'e, P: Picks>(
+    alloc: Global,
+    checked: &Checked,
+    view: &View,
+    env: &'e Env<'e>,
+    rule: &'e Rule,
+    choices: &Choices<'_, P>,
+    place: &[u64],
+    turns: u32,
+) -> Result<Outcome, AllocError>
+    requires shaped { view.now.signature.now ≡ shape_of (spec_of checked.now.spec) }
+    requires basic { is_basic (plain.plain_rule (rule_of rule.now)) ≡ true }
+    ensures { let o = does (program checked.now) turns (P.script choices.now.script.now) choices.now.step (shown view.now) (environment env.now) place.now (plain.plain_rule (rule_of rule.now)) in
+        IfOk result (IsFormed view.now.signature.now o) }
+{
+    let mut made = Forming {
+        set: Summary::new(alloc, view.signature.count()),
+        instances: 0,
+        place: place.to_vec(alloc)?,
+    };
+    let at = Evaluation {
+        checked,
+        view,
+        choices,
+        turns,
+    };
+    form(alloc, &at, env, rule, &mut made)?;
+    Ok(Outcome::Set {
+        set: made.set,
+        instances: made.instances,
+    })
+}

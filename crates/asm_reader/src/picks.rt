@@ -1,0 +1,13 @@
+//! Who says which candidate is taken.
+ghost use Rattle.std.specs.Prelude.{◌≡◌};
+ghost use Rattle.asm_reader.specs.ScriptLines.{Script, pick};
+
+/// Answers as a script does.
+pub trait Picks {
+    // The script by which it answers.
+    ghost script: { Self → Script };
+
+    /// The number for the `choose` at this place, in this step. Among n candidates it takes the one with this number modulo n.
+    fn pick(&self, step: u64, place: &[u64]) -> u64
+        ensures { result ≡ pick (script self.now) step place.now };
+}

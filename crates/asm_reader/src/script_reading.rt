@@ -1,0 +1,52 @@
+//! Whole texts as scripts.
+ghost use Rattle.std.specs.Prelude.{◌≡◌, map, IfOk, IfErr};
+ghost use Rattle.std.specs.Str.Lines.{strip_carriage_return};
+ghost use Rattle.asm_syntax.specs.declared.refused.Refused.TheVariants.{Memory};
+ghost use Rattle.asm_reader.specs.ScriptLines as lines;
+ghost use Rattle.asm_reader.specs.ScriptText.{AreFaultless, IsScript, script_in};
+ghost use Rattle.asm_reader.specs.ScriptRefusals.{ExplainsScript, ExplainsLines};
+
+use crate::script::Script;
+use crate::script_error::ScriptError;
+use crate::script_line::{choice, is_skipped, parts, without_return};
+use asm_syntax::Refused;
+use std::alloc::Global;
+
+/// So many bytes a script may have.
+const MAX_SCRIPT: usize = 1_048_576;
+
+/// What the lines say.
+fn read_lines(alloc: Global, lines: &[&[u8]]) -> Result<Script, Refused<ScriptError>>
+    ensures faultless { IfOk result (λ s. AreFaultless (map (λ l. strip_carriage_return l.now) lines.now)) }
+    ensures says { IfOk result (λ s. s ≡ script_in (map (λ l. strip_carriage_return l.now) lines.now)) }
+    ensures refused { IfErr result (ExplainsLines (map (λ l. strip_carriage_return l.now) lines.now)) }
+{
+    let mut script = Script::new(alloc);
+    for i in 0..lines.len() {
+        let line = without_return(lines[i]);
+        if is_skipped(line) {
+            continue;
+        }
+        let Some(choice) = choice(alloc, line)? else {
+            return Err(Refused::Named(ScriptError::BadLine { line: i + 1 }));
+        };
+        if !script.add(choice)? {
+            return Err(Refused::Named(ScriptError::Repeated { line: i + 1 }));
+        }
+    }
+    Ok(script)
+}
+
+/// The script that the text spells, or why it spells none: the first line that has a fault.
+pub fn read_script(alloc: Global, text: &[u8]) -> Result<Script, Refused<ScriptError>>
+    ensures found { IfOk result (λ s. IsScript text.now s) }
+    ensures refused { IfErr result (ExplainsScript text.now) }
+    // A text that spells a script is refused only where memory runs out.
+    ensures accepted { (s : lines.Script) → IsScript text.now s → IfErr result (λ e. e ≡ Memory) }
+{
+    if text.len() > MAX_SCRIPT {
+        return Err(Refused::Named(ScriptError::TooLong));
+    }
+    let lines = parts(alloc, text, b'\n')?;
+    read_lines(alloc, lines.as_slice())
+}

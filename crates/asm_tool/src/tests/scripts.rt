@@ -1,0 +1,82 @@
+//! The script's file.
+use super::{COUNTER, Unreadable, shown_by};
+use crate::fault::Fault;
+use crate::input;
+use crate::status::refusal;
+use asm_run::error::ScriptError;
+use std::test::Fail;
+use std::{fs, io};
+
+/// No folder has this name.
+const NOWHERE: &str = "no_such_folder/script";
+
+#[test]
+fn scripts_that_cannot_be_read(rt: HostRuntime) {
+    // A folder can be opened, and not read.
+    for name in [NOWHERE, ".", ""] {
+        let words = ["--steps", "3", "--script", name];
+        let shown = shown_by(&rt, rt.alloc(), words.as_slice(), COUNTER);
+        assert_eq!(rt; shown.line.as_slice(), b"file\n".as_slice(), "{name}");
+        assert_eq!(rt; shown.trace.len(), 0, "{name}");
+        assert_eq!(rt; shown.status, 3, "{name}");
+    }
+}
+
+#[test]
+fn the_script_is_read_behind_the_text_and_before_the_run(rt: HostRuntime) {
+    let words = ["--steps", "3", "--script", NOWHERE];
+    let full = Unreadable {
+        kind: io::ErrorKind::OutOfMemory,
+    };
+    let text_first = shown_by(&rt, rt.alloc(), words.as_slice(), full);
+    assert_eq!(rt; text_first.line.as_slice(), b"memory\n".as_slice());
+    assert_eq!(rt; text_first.status, 3);
+    let run_last = shown_by(&rt, rt.alloc(), words.as_slice(), b"".as_slice());
+    assert_eq!(rt; run_last.line.as_slice(), b"file\n".as_slice());
+    assert_eq!(rt; run_last.status, 3);
+}
+
+#[test]
+fn a_script_is_read_as_far_as_is_asked_for(rt: HostRuntime) -> Result<(), Fail> {
+    let name = "asm_tool_bytes";
+    fs::write(&rt, name, b"12345".as_slice())?;
+    for (most, bytes) in [(0, ""), (3, "123"), (5, "12345"), (6, "12345")] {
+        let script = input::script(&rt, rt.alloc(), Some(name), most)?;
+        assert_eq!(rt; script.as_slice(), bytes.as_bytes(), "{most}");
+    }
+    fs::remove_file(&rt, name)?;
+    Ok(())
+}
+
+#[test]
+fn an_empty_script_is_none(rt: HostRuntime) -> Result<(), Fail> {
+    let name = "asm_tool_empty";
+    fs::write(&rt, name, b"".as_slice())?;
+    let named = shown_by(
+        &rt,
+        rt.alloc(),
+        &["--steps", "1", "--script", name],
+        COUNTER,
+    );
+    let none = shown_by(&rt, rt.alloc(), &["--steps", "1"], COUNTER);
+    assert_eq!(rt; named.trace.as_slice(), none.trace.as_slice());
+    assert_eq!(rt; named.line.len(), 0);
+    assert_eq!(rt; named.status, 0);
+    fs::remove_file(&rt, name)?;
+    Ok(())
+}
+
+#[test]
+fn refused_scripts_are_told_with_their_lines(rt: HostRuntime) {
+    let refused: [(ScriptError, &str); 3] = [
+        (ScriptError::BadLine { line: 7 }, "script 1 line 7\n"),
+        (ScriptError::Repeated { line: 20 }, "script 2 line 20\n"),
+        (ScriptError::TooLong, "script 3\n"),
+    ];
+    for (error, text) in refused {
+        let mut line = Vec::new(rt.alloc());
+        let status = refusal(&Fault::Script(error), &mut line);
+        assert_eq!(rt; line.as_slice(), text.as_bytes());
+        assert_eq!(rt; status, 2, "{text}");
+    }
+}
