@@ -319,8 +319,8 @@ static BEYOND: [(&str, &str); 3] = [
         "CoreASM T\ninit M\nrule M = seq skip endseq\n",
     ),
     (
-        "a binder in a rule that none calls",
-        "CoreASM T\ninit M\nrule M = skip\nrule r = let x = 1 in skip endlet\n",
+        "turns in a rule that none calls",
+        "CoreASM T\ninit M\nrule M = skip\nrule r = let x = 1 in iterate skip enditerate endlet\n",
     ),
 ];
 
