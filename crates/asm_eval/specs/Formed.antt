@@ -1,6 +1,7 @@
 -- What forming a rule's outcome does to a summary and to a number of instances.
 --     Adds        a set is added to whatever the summary stands for
 --     Forms       an outcome that gives a set: its set is added, and its instances are counted
+--     IsSet       a summary and a number are the set and the instances of an outcome that gives a set
 --     IsFormed    an outcome of the code is one of the definitions
 use Rattle.std.specs.Prelude.{◌≡◌, ℕ, ◌+◌, min}
 use Rattle.asm_state.specs.Signature.{Shape, count_of}
