@@ -1,4 +1,4 @@
-//! Refusals as tables write them: `read 5 at 30`, `read 6`, `check 9 at 26`, `script 1 line 2`, `script 3`, `beyond`, `limits`.
+//! Refusals as tables write them: `read 5 at 30`, `read 6`, `check 9 at 26`, `script 1 line 2`, `script 3`, `limits`.
 use asm_check::CheckError;
 use asm_reader::{ReadError, ScriptError};
 use asm_run::error::RunError;
@@ -39,7 +39,6 @@ pub fn of_run(alloc: Global, reason: RunError) -> Answer {
         RunError::Script(reason) => of_script(alloc, reason),
         RunError::Limits => String::from_str(alloc, "limits"),
         RunError::Write => String::from_str(alloc, "write"),
-        RunError::Beyond => String::from_str(alloc, "beyond"),
         RunError::Memory => Err(AllocError),
     }
 }

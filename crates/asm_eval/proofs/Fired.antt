@@ -1,10 +1,8 @@
 -- What a view shows where its summary stands for a consistent set: the state in which the set has been fired.
-use Rattle.std.proofs.Common.{◌≡◌, ℕ, ◌≤◌, List, Option, Some, None, refl, sym, ap, ◌∙◌, inl, inr, arith}
+use Rattle.std.proofs.Common.{◌≡◌, ℕ, ◌≤◌, Option, Some, None, refl, sym, ap, ◌∙◌, inl, inr, arith}
 use Rattle.std.proofs.lemmas.Bool.{cases_lt}
-use Rattle.asm_state.specs.declared.value.Value.{Value}
-use Rattle.asm_state.specs.declared.value.Value.TheVariants.{Undef}
-use Rattle.asm_state.specs.Location.{Location, Proper, Stray}
-use Rattle.asm_state.specs.Signature.{Shape, count_of, number_at, state_of}
+use Rattle.asm_state.specs.Location.{Location, Proper, Stray, State}
+use Rattle.asm_state.specs.Signature.{Shape, count_of, number_at}
 use Rattle.asm_state.specs.Updates.{UpdateSet, Has, IsConsistent, Range, range_at, IsRangeOf, overwritten, fire}
 use Rattle.asm_state.proofs.NumberedLocations.{number_laws, location_below}
 use Rattle.asm_state.proofs.Summaries.{summary_laws}
@@ -14,7 +12,7 @@ use Rattle.asm_updates.proofs.Found.{found-above}
 use Rattle.asm_updates.proofs.Standing.{range_cases}
 use Rattle.asm_eval.specs.Seen.{seen}
 
-module _ (shape : Shape) (contents : List Value) (over : Entries) (U : UpdateSet) (stands : Stands shape over U) (sound : AreEntries over.count over.ranges) where
+module _ (shape : Shape) (A : State) (over : Entries) (U : UpdateSet) (stands : Stands shape over U) (sound : AreEntries over.count over.ranges) where
   -- a location without a number has no value
   unnamed : (l : Location) → count_of shape ≤ number_at shape l → range_at U l ≡ None
   unnamed l past =
@@ -37,10 +35,10 @@ module _ (shape : Shape) (contents : List Value) (over : Entries) (U : UpdateSet
   no_range f None consistent is = refl
   no_range f (Some r) consistent is = absurd (consistent.no_stray f r.least is.has_least)
 
-  fired_at : IsConsistent U → (l : Location) → seen shape contents over l ≡ fire (state_of shape contents) U l
+  fired_at : IsConsistent U → (l : Location) → seen shape A over l ≡ fire A U l
   unfolding seen fire
-  fired_at consistent (Proper f vs) = ap (λ r. overwritten r (state_of shape contents (Proper f vs))) (entry_is (Proper f vs))
-  fired_at consistent (Stray f) = ap (λ r. overwritten r Undef) (sym (no_range f (range_at U (Stray f)) consistent (summary_laws.exists U (Stray f))))
+  fired_at consistent (Proper f vs) = ap (λ r. overwritten r (A (Proper f vs))) (entry_is (Proper f vs))
+  fired_at consistent (Stray f) = ap (λ r. overwritten r (A (Stray f))) (sym (no_range f (range_at U (Stray f)) consistent (summary_laws.exists U (Stray f))))
 
-  pub seen_fired : IsConsistent U → seen shape contents over ≡ fire (state_of shape contents) U
+  pub seen_fired : IsConsistent U → seen shape A over ≡ fire A U
   seen_fired consistent = λ i l. fired_at consistent l i

@@ -1,15 +1,18 @@
 -- How a summary and a count of instances come to hold what a rule of the code does.
 --     forms_nothing, forms_both, forms_counted     of nothing, of two parts, and with one more instance;  forms_same     of an equal outcome
 --     forms_bounded                                the count of instances stays within its type
+--     stopped_with, stopped_same                   where forming stops, for what is exhausted together, and for an equal outcome
 --     left_to_form, part_is_less                   how far the code has still to go down;  that a part is further down
 --     rule_does, branch_does, rules_do, each_does  what rules of the code do: one, a branch, some beside each other, one for each element
 --     candidates_of                                the elements for which a condition of the code holds
+--     exhausted_behind_rule, exhausted_behind_element      what is exhausted later in a loop, after a part that gives a set
 -- A lemma whose name ends in _does says what a form of rule does, by what its parts do, or what a turn of a loop adds to the turns after it.
-use Rattle.std.proofs.Common.{◌≡◌, ℕ, zero, suc, ◌+◌, ◌*◌, ◌≤◌, ◌<◌, Bool, true, false, ◌&&◌, cond, min, List, [], ◌∷◌, length, map, drop, slice_index_or, ◌%◌, Option, Some, None, Box, Vec, Global, refl, sym, ap, subst, ◌∙◌, arith, add-one}
-use Rattle.std.specs.Prelude.{slice_get}
+use Rattle.std.proofs.Common.{◌≡◌, ℕ, zero, suc, ◌+◌, ◌*◌, ◌≤◌, ◌<◌, Bool, true, false, cond, min, List, [], ◌∷◌, length, map, drop, slice_index_or, ◌%◌, Option, Some, None, Box, Vec, Global, refl, sym, ap, subst, ◌∙◌, arith, add-one}
+use Rattle.std.specs.Prelude.{slice_get, Result, IfErr}
 use Rattle.std.proofs.lemmas.List.{at_drop_more, drop_all}
 use Rattle.std.proofs.lemmas.Option.{slice_get_within, get_or_from_slice_get}
 use Rattle.asm_state.specs.declared.value.Value.{Value}
+use Rattle.asm_state.specs.Location.{State}
 use Rattle.asm_state.specs.Signature.{Shape, domain_of, location_at}
 use Rattle.asm_state.specs.Tables.{location_in}
 use Rattle.asm_state.specs.Updates.{UpdateSet, none, one, together}
@@ -22,21 +25,26 @@ use Rattle.asm_syntax.specs.declared.rule.Rule.{Rule}
 use Rattle.asm_syntax.specs.declared.rule.Rule.TheVariants as rule
 use Rattle.asm_syntax.specs.Tree as tree
 use Rattle.asm_syntax.specs.Unplaced.{plain_term, plain_terms, plain_rule, plain_rules, plain_branch}
-use Rattle.asm_syntax.specs.Views.{term_of, terms_of, rule_of, rules_of}
-use Rattle.asm_syntax.specs.ViewCases.{rule_of-Skip, rule_of-Par}
+use Rattle.asm_syntax.specs.Views.{term_of, terms_of, rule_of, rules_of, spec_of}
+use Rattle.asm_syntax.specs.ViewCases.{rule_of-Skip, rule_of-Par, rule_of-Seq}
+use Rattle.asm_check.specs.Ranks.{rule_rank}
 use Rattle.asm_check.specs.declared.checked.Checked.{Checked}
 use Rattle.asm_reader.specs.ScriptLines.{Script, pick}
+use Rattle.asm_eval.specs.declared.stopped.Stopped.{Stopped}
+use Rattle.asm_eval.specs.declared.stopped.Stopped.TheVariants as stopped
 use Rattle.asm_eval.specs.declared.view.View.{View}
-use Rattle.asm_eval.specs.BasicRules.{is_basic, are_basic}
-use Rattle.asm_eval.specs.Does.{Outcome, nothing, both, counted, each, one_of, does}
-use Rattle.asm_eval.specs.Formed.{Adds, Forms, greatest_count}
-use Rattle.asm_eval.specs.PlainCases.{PlainCases, does_parts}
+use Rattle.asm_eval.specs.Does.{Outcome, nothing, both, counted, parts, in_order, turns_of, each, one_of, does}
+use Rattle.asm_eval.specs.Formed.{Adds, Forms, IsStoppedAt, greatest_count}
+use Rattle.asm_eval.specs.Cases.{ScriptedCases, runs, all_run}
 use Rattle.asm_eval.specs.Program.{Environment, Controlled, declared, with_value}
 use Rattle.asm_eval.specs.Taken.{taken}
 use Rattle.asm_eval.specs.Value.{is_true, values, candidates, universe}
 use Rattle.asm_eval.specs.Valued.{program, shown, term_value, branch, condition, holds_at}
-use Rattle.asm_eval.specs.Yields.{Place, Gives, at, assigned, beside}
-use Rattle.asm_eval.proofs.PlainCases.{plain_by_cases}
+use Rattle.asm_eval.specs.Weights.{called_size, rule_size_within}
+use Rattle.asm_eval.specs.Yields.{Place, Gives, Exhausted, at, assigned, beside}
+use Rattle.asm_eval.proofs.Cases.{scripted_by_cases}
+use Rattle.asm_eval.proofs.ExhaustedPlaces.{first_part_first, first_element_first}
+use Rattle.asm_eval.proofs.Ranked.{rules_ranked}
 
 -- ---- what is added
 
@@ -86,62 +94,53 @@ module _ (shape : Shape) where
     counts = formed.counts ∙ ap (λ m. min (m + o.instances) greatest_count) is ∙ count_twice before 1 o.instances greatest_count;
   }
 
--- ---- rules that are basic one by one
+-- ---- where it stopped
 
-pub first_of_two : (a b : Bool) → a && b ≡ true → a ≡ true
-first_of_two true b is = refl
-first_of_two false b is = is
+-- what is exhausted together is exhausted at the same place
+pub stopped_with : (o q : Outcome) (p : Place) (stop : Stopped) → ((at : Place) → o.result ≡ Exhausted at → q.result ≡ Exhausted at) → IsStoppedAt o p stop → IsStoppedAt q p stop
+stopped_with o q p stopped.Memory ends is = tt
+stopped_with o q p stopped.Exhausted ends is = ends p is
 
-pub second_of_two : (a b : Bool) → a && b ≡ true → b ≡ true
-second_of_two true b is = is
-second_of_two false b is = cc
+pub stopped_same : {T : Type 0} (r : Result T Stopped) (o q : Outcome) (p : Place) → o ≡ q → IfErr r (IsStoppedAt o p) → IfErr r (IsStoppedAt q p)
+stopped_same r o q p e = subst (λ it. IfErr r (IsStoppedAt it p)) e
 
-abbrev pub are_basic_rules : List Rule → Bool
-are_basic_rules rs = are_basic (plain_rules (rules_of (map rule_of rs)))
+-- ---- how far the code has still to go down: how many rules a rule is made of, with those that it calls in their places
 
-module _ (rs : List Rule) (i : ℕ) (r : Rule) (low : i < length rs) (is : r ≡ slice_index_or rs i r) (are : are_basic_rules (drop i rs) ≡ true) where
-  both_basic : is_basic (plain_rule (rule_of r)) && are_basic_rules (drop (i + 1) rs) ≡ true
-  both_basic =
-      ap (λ x. is_basic (plain_rule (rule_of x)) && are_basic_rules (drop (i + 1) rs)) is ∙ sym (at_drop_more are_basic_rules rs i r low) ∙ are
+module _ (of_called : tree.Name → ℕ) where
+  abbrev mutual
+    pub rules_in : tree.Rule → ℕ
+    rules_in tree.Skip = 1
+    rules_in (tree.Assign f ts t) = 1
+    rules_in (tree.Call f ts) = 1 + of_called f
+    rules_in (tree.Par Ps) = 1 + rules_in_all Ps
+    rules_in (tree.Seq Ps) = 1 + rules_in_all Ps
+    rules_in (tree.If c P Q) = 1 + (rules_in P + rules_in Q)
+    rules_in (tree.Let x t P) = 1 + rules_in P
+    rules_in (tree.Forall x u c P) = 1 + rules_in P
+    rules_in (tree.Choose x u c P Q) = 1 + (rules_in P + rules_in Q)
+    rules_in (tree.Iterate P) = 1 + rules_in P
 
-  pub next_is_basic : is_basic (plain_rule (rule_of r)) ≡ true
-  next_is_basic = first_of_two (is_basic (plain_rule (rule_of r))) (are_basic_rules (drop (i + 1) rs)) both_basic
+    pub rules_in_all : tree.Rules → ℕ
+    rules_in_all tree.no_rules = 0
+    rules_in_all (tree.rule_then P Ps) = rules_in P + rules_in_all Ps
 
-  pub rest_is_basic : are_basic_rules (drop (i + 1) rs) ≡ true
-  rest_is_basic = second_of_two (is_basic (plain_rule (rule_of r))) (are_basic_rules (drop (i + 1) rs)) both_basic
+  part_is_in : (rs : List Rule) (i : ℕ) (r : Rule) → i < length rs → r ≡ slice_index_or rs i r
+      → rules_in (plain_rule (rule_of r)) ≤ rules_in_all (plain_rules (rules_of (map rule_of rs)))
+  part_is_in [] i r low is = omega (arith, low)
+  part_is_in (p ∷ rs) zero r low is = rw is (omega arith)
+  part_is_in (p ∷ rs) (suc i) r low is = let fewer = part_is_in rs i r (omega (arith, low)) is in omega (arith, fewer)
 
--- ---- how many rules a rule is made of, itself among them: fewer on the way down
+  pub part_is_less : (rs : List Rule) (i : ℕ) (r : Rule) → i < length rs → r ≡ slice_index_or rs i r
+      → rules_in (plain_rule (rule_of r)) < rules_in (tree.Par (plain_rules (rules_of (map rule_of rs))))
+  part_is_less rs i r low is = omega (arith, part_is_in rs i r low is)
 
-abbrev mutual
-  pub rules_in : tree.Rule → ℕ
-  rules_in tree.Skip = 1
-  rules_in (tree.Assign f ts t) = 1
-  rules_in (tree.Call f ts) = 1
-  rules_in (tree.Par Ps) = 1 + rules_in_all Ps
-  rules_in (tree.Seq Ps) = 1 + rules_in_all Ps
-  rules_in (tree.If c P Q) = 1 + (rules_in P + rules_in Q)
-  rules_in (tree.Let x t P) = 1 + rules_in P
-  rules_in (tree.Forall x u c P) = 1 + rules_in P
-  rules_in (tree.Choose x u c P Q) = 1 + (rules_in P + rules_in Q)
-  rules_in (tree.Iterate P) = 1 + rules_in P
+-- how many rules the body of a rule is made of
+abbrev pub in_body : Checked → tree.Name → ℕ
+in_body checked f = called_size (program checked) (rule_size_within (program checked) 16) (declared (program checked) f)
 
-  rules_in_all : tree.Rules → ℕ
-  rules_in_all tree.no_rules = 0
-  rules_in_all (tree.rule_then P Ps) = rules_in P + rules_in_all Ps
-
--- how far the code has still to go down. Where a function calls one for the same rule, its own rank is the higher
-abbrev pub left_to_form : (rank : ℕ) → tree.Rule → ℕ
-left_to_form rank R = 4 * rules_in R + rank
-
-part_is_in : (rs : List Rule) (i : ℕ) (r : Rule) → i < length rs → r ≡ slice_index_or rs i r
-    → rules_in (plain_rule (rule_of r)) ≤ rules_in_all (plain_rules (rules_of (map rule_of rs)))
-part_is_in [] i r low is = omega (arith, low)
-part_is_in (p ∷ rs) zero r low is = rw is (omega arith)
-part_is_in (p ∷ rs) (suc i) r low is = let fewer = part_is_in rs i r (omega (arith, low)) is in omega (arith, fewer)
-
-pub part_is_less : (rs : List Rule) (i : ℕ) (r : Rule) → i < length rs → r ≡ slice_index_or rs i r
-    → rules_in (plain_rule (rule_of r)) < rules_in (tree.Par (plain_rules (rules_of (map rule_of rs))))
-part_is_less rs i r low is = omega (arith, part_is_in rs i r low is)
+-- Where a function calls one for the same rule, its own rank is the higher
+abbrev pub left_to_form : Checked → (rank : ℕ) → tree.Rule → ℕ
+left_to_form checked rank R = 4 * rules_in (in_body checked) R + rank
 
 -- ---- the candidate that is taken
 
@@ -158,8 +157,16 @@ none_taken n (w ∷ ws) m other is = cc
 abbrev pub candidates_of : Checked → View → Environment → (x u : tree.Name) → Option Term → List Value
 candidates_of checked view e x u c = candidates (program checked) (shown view) e x u (condition c)
 
+-- rules one after the other, from number k on, and turns from number t on, of which so many are left: in whatever state
+module _ (checked : Checked) (turns : ℕ) (script : Script) (step : ℕ) where
+  abbrev pub rules_do_in_order : Environment → Place → ℕ → List Rule → State → Outcome
+  rules_do_in_order e p k rs A = in_order (all_run (program checked) turns script step (plain_rules (rules_of (map rule_of rs)))) k A e p
+
+  abbrev pub turns_do : Environment → Place → (left : ℕ) → (t : ℕ) → Rule → State → Outcome
+  turns_do e p left t R A = turns_of (runs (program checked) turns script step (plain_rule (rule_of R))) left t A e p
+
 module _ (checked : Checked) (view : View) (turns : ℕ) (script : Script) (step : ℕ) where
-  abbrev plain_does : Environment → Place → tree.Rule → Outcome
+  abbrev pub plain_does : Environment → Place → tree.Rule → Outcome
   plain_does = does (program checked) turns script step (shown view)
 
   abbrev pub rule_does : Environment → Place → Rule → Outcome
@@ -170,7 +177,7 @@ module _ (checked : Checked) (view : View) (turns : ℕ) (script : Script) (step
 
   -- rules beside each other, from number k on
   abbrev pub rules_do : Environment → Place → ℕ → List Rule → Outcome
-  rules_do e p k rs = does_parts (program checked) turns script step (shown view) e p k (plain_rules (rules_of (map rule_of rs)))
+  rules_do e p k rs = parts (all_run (program checked) turns script step (plain_rules (rules_of (map rule_of rs)))) k (shown view) e p
 
   -- a rule for each element for which a condition holds, from number k on
   abbrev pub each_does : Environment → Place → tree.Name → Option Term → Rule → ℕ → List Value → Outcome
@@ -188,14 +195,14 @@ module _ (checked : Checked) (view : View) (turns : ℕ) (script : Script) (step
   abbrev choose_does : Environment → Place → tree.Name → tree.Name → Option Term → Rule → Option (Box Rule Global) → Outcome
   choose_does e p x u c R Q = plain_does e p (tree.Choose x u (condition c) (plain_rule (rule_of R)) (plain_branch (branch Q)))
 
-  module _ (e : Environment) where
-    cases : PlainCases (program checked) turns script step (shown view) e
-    cases = plain_by_cases (program checked) turns script step (shown view) e
+  pub cases : ScriptedCases (program checked) turns script step (rule_rank (spec_of checked.spec))
+  cases = scripted_by_cases (program checked) (rule_rank (spec_of checked.spec)) turns script step (rules_ranked (spec_of checked.spec) checked.well_formed)
 
+  module _ (e : Environment) where
     values_are : (ts : List Term) → map (term_value checked view e) ts ≡ values (program checked) (shown view) e (plain_terms (terms_of (map term_of ts)))
-    values_are [] = sym cases.of_no_terms
-    values_are (t ∷ ts) =
-        ap (λ vs. term_value checked view e t ∷ vs) (values_are ts) ∙ sym (cases.of_terms (plain_term (term_of t)) (plain_terms (terms_of (map term_of ts))))
+    unfolding values
+    values_are [] = refl
+    values_are (t ∷ ts) = ap (λ vs. term_value checked view e t ∷ vs) (values_are ts)
 
     module _ (p : Place) where
       abbrev assigned_set : syntax.Name → List Term → Term → UpdateSet
@@ -206,10 +213,10 @@ module _ (checked : Checked) (view : View) (turns : ℕ) (script : Script) (step
           → assigned_set x ts t ≡ V → Adds shape V old new → Forms shape (assign_does e p x ts t) old new n n
       forms_assigned shape old new n x ts t V small is adds = record {
         set = V;
-        gives = ap (λ o. o.result) (cases.of_assign p x.text (plain_terms (terms_of (map term_of ts))) (plain_term (term_of t))) ∙ ap Gives is;
+        gives = ap (λ o. o.result) (cases.of_assign x.text (plain_terms (terms_of (map term_of ts))) (plain_term (term_of t)) (shown view) e p) ∙ ap Gives is;
         adds = adds;
         counts = same_count n greatest_count small
-            ∙ ap (λ o. min (n + o.instances) greatest_count) (sym (cases.of_assign p x.text (plain_terms (terms_of (map term_of ts))) (plain_term (term_of t))));
+            ∙ ap (λ o. min (n + o.instances) greatest_count) (sym (cases.of_assign x.text (plain_terms (terms_of (map term_of ts))) (plain_term (term_of t)) (shown view) e p));
       }
 
       -- the update of a controlled function at the number of its location
@@ -230,42 +237,52 @@ module _ (checked : Checked) (view : View) (turns : ℕ) (script : Script) (step
 
       pub skip_does : (R : Rule) → R ≡ rule.Skip → nothing ≡ rule_does e p R
       skip_does R is =
-          sym (ap (rule_does e p) is ∙ ap (λ P. plain_does e p (plain_rule P)) rule_of-Skip ∙ cases.of_skip p)
+          sym (ap (rule_does e p) is ∙ ap (λ P. plain_does e p (plain_rule P)) rule_of-Skip ∙ cases.of_skip (shown view) e p)
 
       pub left_out_does : (Q : Option (Box Rule Global)) → Q ≡ None → nothing ≡ branch_does e p Q
-      left_out_does Q is = sym (ap (branch_does e p) is ∙ cases.of_skip p)
+      left_out_does Q is = sym (ap (branch_does e p) is ∙ cases.of_skip (shown view) e p)
 
       pub par_does : (R : Rule) (Ps : Vec Rule Global) (rs : List Rule) → R ≡ rule.Par Ps → rs ≡ Ps.items → rules_do e p 0 rs ≡ rule_does e p R
       par_does R Ps rs is same =
           ap (rules_do e p 0) same
           ∙ sym (ap (rule_does e p) is ∙ ap (λ P. plain_does e p (plain_rule P)) (rule_of-Par Ps)
-          ∙ cases.of_par p (plain_rules (rules_of (map rule_of Ps.items))))
+          ∙ cases.of_par (plain_rules (rules_of (map rule_of Ps.items))) (shown view) e p)
+
+      pub seq_does : (R : Rule) (Ps : Vec Rule Global) (rs : List Rule) → R ≡ rule.Seq Ps → rs ≡ Ps.items
+          → rules_do_in_order checked turns script step e p 0 rs (shown view) ≡ rule_does e p R
+      seq_does R Ps rs is same =
+          ap (λ (some : List Rule). rules_do_in_order checked turns script step e p 0 some (shown view)) same
+          ∙ sym (ap (rule_does e p) is ∙ ap (λ P. plain_does e p (plain_rule P)) (rule_of-Seq Ps)
+          ∙ cases.of_seq (plain_rules (rules_of (map rule_of Ps.items))) (shown view) e p)
+
+      pub iterate_does : (R : Rule) → turns_do checked turns script step e p turns 0 R (shown view) ≡ plain_does e p (tree.Iterate (plain_rule (rule_of R)))
+      iterate_does R = sym (cases.of_iterate (plain_rule (rule_of R)) (shown view) e p)
 
       pub first_does : (c : Term) (R : Rule) (Q : Option (Box Rule Global)) → is_true (term_value checked view e c) ≡ true → rule_does e (at p 0) R ≡ if_does e p c R Q
       first_does c R Q test =
           ap (λ b. cond b (rule_does e (at p 0) R) (branch_does e (at p 1) Q)) (sym test)
-          ∙ sym (cases.of_if p (plain_term (term_of c)) (plain_rule (rule_of R)) (plain_branch (branch Q)))
+          ∙ sym (cases.of_if (plain_term (term_of c)) (plain_rule (rule_of R)) (plain_branch (branch Q)) (shown view) e p)
 
       pub other_does : (c : Term) (R : Rule) (Q : Option (Box Rule Global)) → is_true (term_value checked view e c) ≡ false → branch_does e (at p 1) Q ≡ if_does e p c R Q
       other_does c R Q test =
           ap (λ b. cond b (rule_does e (at p 0) R) (branch_does e (at p 1) Q)) (sym test)
-          ∙ sym (cases.of_if p (plain_term (term_of c)) (plain_rule (rule_of R)) (plain_branch (branch Q)))
+          ∙ sym (cases.of_if (plain_term (term_of c)) (plain_rule (rule_of R)) (plain_branch (branch Q)) (shown view) e p)
 
       pub let_does : (x : tree.Name) (t : Term) (R : Rule) (v : Value) → v ≡ term_value checked view e t
           → rule_does (with_value x v e) (at p 0) R ≡ plain_does e p (tree.Let x (plain_term (term_of t)) (plain_rule (rule_of R)))
-      let_does x t R v is = ap (λ w. rule_does (with_value x w e) (at p 0) R) is ∙ sym (cases.of_let p x (plain_term (term_of t)) (plain_rule (rule_of R)))
+      let_does x t R v is = ap (λ w. rule_does (with_value x w e) (at p 0) R) is ∙ sym (cases.of_let x (plain_term (term_of t)) (plain_rule (rule_of R)) (shown view) e p)
 
       pub chosen_does : (x u : tree.Name) (c : Option Term) (R : Rule) (Q : Option (Box Rule Global)) (v : Value)
           → Some v ≡ taken (pick script step p) (candidates_of checked view e x u c) → rule_does (with_value x v e) (at p 0) R ≡ choose_does e p x u c R Q
       chosen_does x u c R Q v there =
           some_taken (pick script step p) (candidates_of checked view e x u c) v (λ w. rule_does (with_value x w e) (at p 0) R) (branch_does e (at p 1) Q) there
-          ∙ sym (cases.of_choose p x u (condition c) (plain_rule (rule_of R)) (plain_branch (branch Q)))
+          ∙ sym (cases.of_choose x u (condition c) (plain_rule (rule_of R)) (plain_branch (branch Q)) (shown view) e p)
 
       pub none_does : (x u : tree.Name) (c : Option Term) (R : Rule) (Q : Option (Box Rule Global))
           → None ≡ taken (pick script step p) (candidates_of checked view e x u c) → branch_does e (at p 1) Q ≡ choose_does e p x u c R Q
       none_does x u c R Q there =
           none_taken (pick script step p) (candidates_of checked view e x u c) (λ w. rule_does (with_value x w e) (at p 0) R) (branch_does e (at p 1) Q) there
-          ∙ sym (cases.of_choose p x u (condition c) (plain_rule (rule_of R)) (plain_branch (branch Q)))
+          ∙ sym (cases.of_choose x u (condition c) (plain_rule (rule_of R)) (plain_branch (branch Q)) (shown view) e p)
 
       -- ---- the loops: what is left of the rules or of the elements, and what the next one adds to it
 
@@ -276,12 +293,29 @@ module _ (checked : Checked) (view : View) (turns : ℕ) (script : Script) (step
           ∙ ap (λ k. both (rule_does e (at p i) (slice_index_or rs i r)) (rules_do e p k (drop (i + 1) rs))) (add-one i)
           ∙ sym (at_drop_more (rules_do e p i) rs i r low)
 
+      -- what is exhausted behind a rule that gives a set
+      pub exhausted_behind_rule : (shape : Shape) (old new : Entries) (before after : ℕ) (rs : List Rule) (i : ℕ) (r : Rule) (q : Place) → i < length rs → r ≡ slice_index_or rs i r
+          → Forms shape (rule_does e (at p i) r) old new before after
+          → (rules_do e p (i + 1) (drop (i + 1) rs)).result ≡ Exhausted q → (rules_do e p i (drop i rs)).result ≡ Exhausted q
+      exhausted_behind_rule shape old new before after rs i r q low is formed ends =
+          sym (ap (λ o. o.result) (next_rule_does rs i r low is))
+          ∙ ap (λ it. beside it (rules_do e p (i + 1) (drop (i + 1) rs)).result) formed.gives
+          ∙ ap (beside (Gives formed.set)) ends
+
+      -- an exhausted rule comes before those behind it
+      pub exhausted_rule_does : (rs : List Rule) (i : ℕ) (r : Rule) (q : Place) → i < length rs → r ≡ slice_index_or rs i r
+          → (rule_does e (at p i) r).result ≡ Exhausted q → (rules_do e p i (drop i rs)).result ≡ Exhausted q
+      exhausted_rule_does rs i r q low is ends =
+          sym (ap (λ o. o.result) (next_rule_does rs i r low is))
+          ∙ ap (λ k. beside (rule_does e (at p i) r).result (rules_do e p k (drop (i + 1) rs)).result) (add-one i)
+          ∙ first_part_first (program checked) turns script step (shown view) e p q i (plain_rule (rule_of r)) (plain_rules (rules_of (map rule_of (drop (i + 1) rs)))) ends
+
       pub no_rule_does : (rs : List Rule) (i : ℕ) → length rs ≤ i → nothing ≡ rules_do e p i (drop i rs)
       no_rule_does rs i past = sym (ap (rules_do e p i) (drop_all i rs past))
 
       pub forall_of : (x u : tree.Name) (c : Option Term) (R : Rule) (vs : List Value) → vs ≡ universe (program checked) u
           → each_does e p x c R 0 vs ≡ forall_does e p x u c R
-      forall_of x u c R vs is = ap (each_does e p x c R 0) is ∙ sym (cases.of_forall p x u (condition c) (plain_rule (rule_of R)))
+      forall_of x u c R vs is = ap (each_does e p x c R 0) is ∙ sym (cases.of_forall x u (condition c) (plain_rule (rule_of R)) (shown view) e p)
 
       element_next : (x : tree.Name) (c : Option Term) (R : Rule) (vs : List Value) (i : ℕ) (v : Value) (b : Bool) → slice_get vs i ≡ Some v
           → b ≡ holds_at checked view (with_value x v e) c
@@ -299,6 +333,25 @@ module _ (checked : Checked) (view : View) (turns : ℕ) (script : Script) (step
           → true ≡ holds_at checked view (with_value x v e) c
           → counted (both (rule_does (with_value x v e) (at p i) R) (each_does e p x c R (i + 1) (drop (i + 1) vs))) ≡ each_does e p x c R i (drop i vs)
       element_does x c R vs i v there test = element_next x c R vs i v true there test
+
+      -- what is exhausted behind one whose rule gives a set
+      pub exhausted_behind_element : (shape : Shape) (old new : Entries) (before after : ℕ) (x : tree.Name) (c : Option Term) (R : Rule) (vs : List Value) (i : ℕ) (v : Value) (q : Place)
+          → slice_get vs i ≡ Some v → true ≡ holds_at checked view (with_value x v e) c
+          → Forms shape (rule_does (with_value x v e) (at p i) R) old new before after
+          → (each_does e p x c R (i + 1) (drop (i + 1) vs)).result ≡ Exhausted q → (each_does e p x c R i (drop i vs)).result ≡ Exhausted q
+      exhausted_behind_element shape old new before after x c R vs i v q there test formed ends =
+          sym (ap (λ o. o.result) (element_does x c R vs i v there test))
+          ∙ ap (λ it. beside it (each_does e p x c R (i + 1) (drop (i + 1) vs)).result) formed.gives
+          ∙ ap (beside (Gives formed.set)) ends
+
+      -- one whose rule is exhausted
+      pub exhausted_element_does : (x : tree.Name) (c : Option Term) (R : Rule) (vs : List Value) (i : ℕ) (v : Value) (q : Place) → slice_get vs i ≡ Some v
+          → true ≡ holds_at checked view (with_value x v e) c
+          → (rule_does (with_value x v e) (at p i) R).result ≡ Exhausted q → (each_does e p x c R i (drop i vs)).result ≡ Exhausted q
+      exhausted_element_does x c R vs i v q there test ends =
+          sym (ap (λ o. o.result) (element_does x c R vs i v there test))
+          ∙ ap (λ k. beside (rule_does (with_value x v e) (at p i) R).result (each_does e p x c R k (drop (i + 1) vs)).result) (add-one i)
+          ∙ first_element_first (program checked) turns script step (shown view) e p q x (λ w. holds_at checked view (with_value x w e) c) i v (drop (i + 1) vs) (plain_rule (rule_of R)) ends
 
       -- one for which it doesn't
       pub element_passed : (x : tree.Name) (c : Option Term) (R : Rule) (vs : List Value) (i : ℕ) (v : Value) → slice_get vs i ≡ Some v

@@ -4,7 +4,6 @@ pub mod Unrepeated
 pub mod Scripted
 pub mod Cases
 pub mod TermCases
-pub mod PlainCases
 pub mod Beside
 pub mod Weights
 pub mod Run
@@ -25,3 +24,8 @@ pub mod NumberedValues
 pub mod Targets
 pub mod Candidates
 pub mod FormedRules
+pub mod CalledRules
+pub mod Sequences
+pub mod NestedPlaces
+pub mod OrderedRules
+pub mod ExhaustedPlaces

@@ -8,9 +8,10 @@ use Rattle.asm_state.specs.declared.value.Value.TheVariants.{Undef}
 use Rattle.asm_state.specs.Location.{State}
 use Rattle.asm_state.specs.Signature.{Shape}
 use Rattle.asm_syntax.specs.Placed.{Spec}
-use Rattle.asm_syntax.specs.Unplaced.{plain_term}
-use Rattle.asm_syntax.specs.Views.{term_of, name_of}
+use Rattle.asm_syntax.specs.Unplaced.{plain_term, plain_rule}
+use Rattle.asm_syntax.specs.Views.{term_of, name_of, rule_of}
 use Rattle.asm_syntax.specs.declared.name.Name.{Name}
+use Rattle.asm_syntax.specs.declared.rule.Rule.{Rule}
 use Rattle.asm_syntax.specs.declared.term.Term.{Term}
 use Rattle.asm_check.proofs.SignatureNumbers.{signature_numbers}
 use Rattle.asm_check.specs.Faults.{IsWellFormed}
@@ -24,7 +25,7 @@ use Rattle.asm_check.specs.declared.checked.Named.{Named}
 use Rattle.asm_check.specs.declared.checked.Named.TheVariants as number
 use Rattle.asm_eval.specs.Declarations.{numbered, body_of}
 use Rattle.asm_eval.specs.Environments.{text_of}
-use Rattle.asm_eval.specs.Program.{Program, Derived, Universe}
+use Rattle.asm_eval.specs.Program.{Program, Derived, Procedure, Universe}
 use Rattle.asm_eval.specs.Valued.{declared_value}
 
 -- the numbers of elements and of functions are below the signature's limits
@@ -52,6 +53,12 @@ pub numbered_derived : (spec : Spec) (it : Option Named) (d : ℕ) (xs : List Na
     → meaning_at (derived_of spec) d ≡ Some (names.Derived (map name_of xs) (term_of t))
     → numbered spec it ≡ Some (Derived (map text_of xs) (plain_term (term_of t)))
 numbered_derived spec it d xs t is meant = ap (numbered spec) is ∙ ap body_of meant ∙ ap (λ ys. Some (Derived ys (plain_term (term_of t)))) (texts xs)
+
+-- a rule with the code's parameters and body
+pub numbered_rule : (spec : Spec) (it : Option Named) (r : ℕ) (xs : List Name) (R : Rule) → it ≡ Some (number.Called r)
+    → meaning_at (rules_of spec) r ≡ Some (names.Procedure (map name_of xs) (rule_of R))
+    → numbered spec it ≡ Some (Procedure (map text_of xs) (plain_rule (rule_of R)))
+numbered_rule spec it r xs R is meant = ap (numbered spec) is ∙ ap body_of meant ∙ ap (λ ys. Some (Procedure ys (plain_rule (rule_of R)))) (texts xs)
 
 -- ---- what has no value
 

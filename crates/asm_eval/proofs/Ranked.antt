@@ -1,80 +1,129 @@
--- The ranks of a well-formed specification's derived functions fall in its program too.
-use Rattle.std.proofs.Common.{◌≡◌, ℕ, ◌<◌, false, List, ◌∷◌, map, Option, Some, None, refl, sym, subst, ◌∙◌, arith}
+-- The ranks of a well-formed specification's derived functions and rules fall in its program too.
+use Rattle.std.proofs.Common.{◌≡◌, ℕ, ◌<◌, Bool, true, false, List, ◌∷◌, map, Option, Some, None, refl, sym, ap, subst, ◌∙◌, arith}
 use Rattle.std.specs.Prelude.{option_map, slice_get}
 use Rattle.asm_state.specs.declared.function.Function as state
 use Rattle.asm_state.specs.declared.function.Kind.{Kind}
 use Rattle.asm_state.specs.declared.function.Kind.TheVariants as kind
 use Rattle.asm_state.specs.declared.value.Value.{Value}
 use Rattle.asm_state.specs.Signature.{Shape}
+use Rattle.asm_state.specs.Universe.{element}
 use Rattle.asm_syntax.specs.Placed as placed
 use Rattle.asm_syntax.specs.Placed.{Spec}
-use Rattle.asm_syntax.specs.Tree.{Name, Term}
-use Rattle.asm_syntax.specs.Unplaced.{plain_term, plain_terms, plain_links}
+use Rattle.asm_syntax.specs.Tree.{Name, Term, Rule}
+use Rattle.asm_syntax.specs.Unplaced.{plain_term, plain_terms, plain_links, plain_rule, plain_rules, plain_branch}
 use Rattle.asm_check.specs.Faults.{IsWellFormed}
 use Rattle.asm_check.specs.Names as names
 use Rattle.asm_check.specs.Names.{Meaning, text_of}
-use Rattle.asm_check.specs.Numbers.{named}
+use Rattle.asm_check.specs.Numbers.{rules_of, number_in, named_as, named}
 use Rattle.asm_check.specs.Ranks as placed_ranks
-use Rattle.asm_check.specs.Ranks.{derived_rank}
+use Rattle.asm_check.specs.Ranks.{derived_rank, rule_rank}
 use Rattle.asm_check.specs.Shapes.{shape_of}
 use Rattle.asm_check.specs.declared.checked.Named.{Named}
 use Rattle.asm_check.specs.declared.checked.Named.TheVariants as number
 use Rattle.asm_check.proofs.Ranks.{ranks_exist}
 use Rattle.asm_eval.specs.Declarations.{program_of, held_as, function_at, body_of, numbered}
-use Rattle.asm_eval.specs.Program.{Universe, Derived, declared}
-use Rattle.asm_eval.specs.Ranks.{UsesBelow, EachUsesBelow, LinksUseBelow, AreDerivedRanked}
+use Rattle.asm_eval.specs.Program.{Declared, Universe, Enumerated, Derived, Procedure, declared}
+use Rattle.asm_eval.specs.Ranks.{UsesBelow, EachUsesBelow, LinksUseBelow, AreDerivedRanked, IsCallable, CallsBelow, EachCallsBelow, IsRanked}
 use Rattle.asm_eval.specs.Value.{nesting}
 use Rattle.asm_eval.proofs.Meant.{program_declares}
 use Rattle.asm_check.specs.Laws.{NamesHaveNumbers, meaning_numbered}
 use Rattle.asm_check.proofs.NamesNumbered.{names_have_numbers}
 
--- ---- derived functions of the program are those of the specification
+-- ---- bodies of the program are those of the specification
 
--- a number that stands for a derived function leads to its declaration
-module _ (xs : List Name) (t : Term) where
-  never_held : (shape : Shape) (f : ℕ) (it : state.Function) (k : Kind) → ¬ (Some (held_as shape f it k) ≡ Some (Derived xs t))
-  never_held shape f it kind.Controlled e = cc
-  never_held shape f it kind.Static e = cc
+abbrev has_body : Declared → Bool
+has_body (Derived xs t) = true
+has_body (Procedure xs P) = true
+has_body it = false
 
-  never_function : (shape : Shape) (f : ℕ) (it : Option state.Function) → ¬ (function_at shape f it ≡ Some (Derived xs t))
+-- a number that stands for a derived function or a rule leads to its declaration
+module _ (it : Declared) (body : has_body it ≡ true) where
+  never_held : (shape : Shape) (f : ℕ) (fn : state.Function) (k : Kind) → ¬ (Some (held_as shape f fn k) ≡ Some it)
+  never_held shape f fn kind.Controlled e = let same : held_as shape f fn kind.Controlled ≡ it = cc in let bad : false ≡ true = ap has_body same ∙ body in cc
+  never_held shape f fn kind.Static e = let same : held_as shape f fn kind.Static ≡ it = cc in let bad : false ≡ true = ap has_body same ∙ body in cc
+
+  never_function : (shape : Shape) (f : ℕ) (fn : Option state.Function) → ¬ (function_at shape f fn ≡ Some it)
   never_function shape f None e = cc
-  never_function shape f (Some it) e = never_held shape f it it.kind e
+  never_function shape f (Some fn) e = never_held shape f fn fn.kind e
 
-  never_universe : (u : Option (List Value)) → ¬ (option_map Universe u ≡ Some (Derived xs t))
+  never_universe : (u : Option (List Value)) → ¬ (option_map Universe u ≡ Some it)
   never_universe None e = cc
-  never_universe (Some vs) e = cc
+  never_universe (Some vs) e = let same : Universe vs ≡ it = cc in let bad : false ≡ true = ap has_body same ∙ body in cc
 
-  derived_number : (spec : Spec) (it : Option Named) → numbered spec it ≡ Some (Derived xs t) → (n : Named) × (it ≡ Some n) × (body_of (meaning_numbered spec n) ≡ Some (Derived xs t))
-  derived_number spec None e = cc
-  derived_number spec (Some (number.Universe n)) e = absurd (never_universe (slice_get (shape_of spec).universes n) e)
-  derived_number spec (Some (number.Element n)) e = cc
-  derived_number spec (Some (number.Function f)) e = absurd (never_function (shape_of spec) f (slice_get (shape_of spec).functions f) e)
-  derived_number spec (Some (number.Derived d)) e = (number.Derived d, refl, e)
-  derived_number spec (Some (number.Called r)) e = (number.Called r, refl, e)
+  body_number : (spec : Spec) (k : Option Named) → numbered spec k ≡ Some it → (n : Named) × (k ≡ Some n) × (body_of (meaning_numbered spec n) ≡ Some it)
+  body_number spec None e = cc
+  body_number spec (Some (number.Universe n)) e = absurd (never_universe (slice_get (shape_of spec).universes n) e)
+  body_number spec (Some (number.Element n)) e = let same : Enumerated (element n) ≡ it = cc in let bad : false ≡ true = ap has_body same ∙ body in cc
+  body_number spec (Some (number.Function f)) e = absurd (never_function (shape_of spec) f (slice_get (shape_of spec).functions f) e)
+  body_number spec (Some (number.Derived d)) e = (number.Derived d, refl, e)
+  body_number spec (Some (number.Called r)) e = (number.Called r, refl, e)
 
-  -- the declaration, whose names and body have their places
-  record IsDerived (m : Option Meaning) : Type 0 where
-    parameters : List placed.Name
-    body : placed.Term
-    is_declared : m ≡ Some (names.Derived parameters body)
-    same_parameters : map text_of parameters ≡ xs
-    same_body : plain_term body ≡ t
+  body_of_program : NamesHaveNumbers → (spec : Spec) (x : Name) → declared (program_of spec) x ≡ Some it → body_of (names.declared spec x) ≡ Some it
+  body_of_program law spec x e =
+      let found = body_number spec (named spec x) (sym (program_declares spec x) ∙ e) in
+      subst (λ m. body_of m ≡ Some it) ((law spec x).of_number found.0 found.1) found.2
 
-  derived_body : (m : Option Meaning) → body_of m ≡ Some (Derived xs t) → IsDerived m
-  derived_body None e = cc
-  derived_body (Some names.Predeclared) e = cc
-  derived_body (Some (names.Range first last)) e = cc
-  derived_body (Some (names.Enumeration k)) e = cc
-  derived_body (Some (names.Element k)) e = cc
-  derived_body (Some (names.Controlled domain)) e = cc
-  derived_body (Some (names.Static domain)) e = cc
-  derived_body (Some (names.Derived ys s)) e = record { parameters = ys; body = s; is_declared = refl; same_parameters = cc; same_body = cc }
-  derived_body (Some (names.Procedure ys P)) e = cc
+-- a derived function's declaration, whose names and body have their places
+record IsDerived (xs : List Name) (t : Term) (m : Option Meaning) : Type 0 where
+  parameters : List placed.Name
+  body : placed.Term
+  is_declared : m ≡ Some (names.Derived parameters body)
+  same_parameters : map text_of parameters ≡ xs
+  same_body : plain_term body ≡ t
 
-  derived_of_program : NamesHaveNumbers → (spec : Spec) (x : Name) → declared (program_of spec) x ≡ Some (Derived xs t) → IsDerived (names.declared spec x)
-  derived_of_program law spec x e =
-      let found = derived_number spec (named spec x) (sym (program_declares spec x) ∙ e) in
-      derived_body (names.declared spec x) (subst (λ m. body_of m ≡ Some (Derived xs t)) ((law spec x).of_number found.0 found.1) found.2)
+derived_body : (xs : List Name) (t : Term) (m : Option Meaning) → body_of m ≡ Some (Derived xs t) → IsDerived xs t m
+derived_body xs t None e = cc
+derived_body xs t (Some names.Predeclared) e = cc
+derived_body xs t (Some (names.Range first last)) e = cc
+derived_body xs t (Some (names.Enumeration k)) e = cc
+derived_body xs t (Some (names.Element k)) e = cc
+derived_body xs t (Some (names.Controlled domain)) e = cc
+derived_body xs t (Some (names.Static domain)) e = cc
+derived_body xs t (Some (names.Derived ys s)) e = record { parameters = ys; body = s; is_declared = refl; same_parameters = cc; same_body = cc }
+derived_body xs t (Some (names.Procedure ys P)) e = cc
+
+derived_of_program : (xs : List Name) (t : Term) → NamesHaveNumbers → (spec : Spec) (x : Name) → declared (program_of spec) x ≡ Some (Derived xs t) → IsDerived xs t (names.declared spec x)
+derived_of_program xs t law spec x e = derived_body xs t (names.declared spec x) (body_of_program (Derived xs t) refl law spec x e)
+
+-- likewise a rule's
+record IsProcedure (xs : List Name) (P : Rule) (m : Option Meaning) : Type 0 where
+  parameters : List placed.Name
+  body : placed.Rule
+  is_declared : m ≡ Some (names.Procedure parameters body)
+  same_body : plain_rule body ≡ P
+
+procedure_body : (xs : List Name) (P : Rule) (m : Option Meaning) → body_of m ≡ Some (Procedure xs P) → IsProcedure xs P m
+procedure_body xs P None e = cc
+procedure_body xs P (Some names.Predeclared) e = cc
+procedure_body xs P (Some (names.Range first last)) e = cc
+procedure_body xs P (Some (names.Enumeration k)) e = cc
+procedure_body xs P (Some (names.Element k)) e = cc
+procedure_body xs P (Some (names.Controlled domain)) e = cc
+procedure_body xs P (Some (names.Static domain)) e = cc
+procedure_body xs P (Some (names.Derived ys s)) e = cc
+procedure_body xs P (Some (names.Procedure ys Q)) e = record { parameters = ys; body = Q; is_declared = refl; same_body = cc }
+
+procedure_of_program : (xs : List Name) (P : Rule) → NamesHaveNumbers → (spec : Spec) (x : Name) → declared (program_of spec) x ≡ Some (Procedure xs P) → IsProcedure xs P (names.declared spec x)
+procedure_of_program xs P law spec x e = procedure_body xs P (names.declared spec x) (body_of_program (Procedure xs P) refl law spec x e)
+
+-- and what is declared as a rule is a rule of the program
+called_number : (spec : Spec) (o : Option ℕ) (n : Named) → option_map number.Called o ≡ Some n → numbered spec (Some n) ≡ body_of (meaning_numbered spec n)
+called_number spec None n e = cc
+called_number spec (Some r) n e = let same : number.Called r ≡ n = cc in subst (λ n. numbered spec (Some n) ≡ body_of (meaning_numbered spec n)) same refl
+
+called_as : (spec : Spec) (x : Name) (ys : List placed.Name) (Q : placed.Rule) (n : Named) → names.declared spec x ≡ Some (names.Procedure ys Q) → named spec x ≡ Some n
+    → numbered spec (Some n) ≡ body_of (meaning_numbered spec n)
+unfolding named
+called_as spec x ys Q n is e = called_number spec (number_in (rules_of spec) x) n (ap (named_as spec x) (sym is) ∙ e)
+
+program_calls : NamesHaveNumbers → (spec : Spec) (x : Name) (ys : List placed.Name) (Q : placed.Rule) → names.declared spec x ≡ Some (names.Procedure ys Q)
+    → declared (program_of spec) x ≡ Some (Procedure (map text_of ys) (plain_rule Q))
+program_calls law spec x ys Q is =
+    let found = (law spec x).of_meaning (names.Procedure ys Q) is (λ bad. cc) in
+    program_declares spec x
+    ∙ ap (numbered spec) found.1
+    ∙ called_as spec x ys Q found.0 is found.1
+    ∙ ap body_of ((law spec x).of_number found.0 found.1 ∙ is)
 
 -- ---- uses in a term without its places
 
@@ -115,3 +164,48 @@ ranked spec good = ranked_by names_have_numbers spec good
 
 pub rank_low : (spec : Spec) (x : Name) → IsWellFormed spec → derived_rank spec x < nesting
 rank_low spec x good = let low = (ranks_exist spec good).derived_low x in omega (arith, low)
+
+-- ---- calls in a rule without its places
+
+module _ (law : NamesHaveNumbers) (spec : Spec) (rank : Name → ℕ) (n : ℕ) where
+  callable : (f : Name) → placed_ranks.IsCallable spec rank n f → IsCallable (program_of spec) rank n f
+  callable f c = record {
+    parameters = map text_of c.parameters;
+    body = plain_rule c.body;
+    is_declared = program_calls law spec f c.parameters c.body c.is_declared;
+    is_below = c.is_below;
+  }
+
+  mutual
+    plain_calls : (R : placed.Rule) → placed_ranks.CallsBelow spec rank n R → CallsBelow (program_of spec) rank n (plain_rule R)
+    plain_calls placed.Skip c = tt
+    plain_calls (placed.Assign f ts t) c = tt
+    plain_calls (placed.Call f ts) c = callable f.text c
+    plain_calls (placed.Par Ps) c = each_called Ps c
+    plain_calls (placed.Seq Ps) c = each_called Ps c
+    plain_calls (placed.If t P Q) c = (plain_calls P c.0, branch_called Q c.1)
+    plain_calls (placed.Let x t P) c = plain_calls P c
+    plain_calls (placed.Forall x u t P) c = plain_calls P c
+    plain_calls (placed.Choose x u t P Q) c = (plain_calls P c.0, branch_called Q c.1)
+    plain_calls (placed.Iterate P) c = plain_calls P c
+
+    each_called : (Ps : placed.Rules) → placed_ranks.EachCallsBelow spec rank n Ps → EachCallsBelow (program_of spec) rank n (plain_rules Ps)
+    each_called placed.no_rules c = tt
+    each_called (placed.rule_then P Ps) c = (plain_calls P c.0, each_called Ps c.1)
+
+    branch_called : (Q : placed.Branch) → placed_ranks.BranchCallsBelow spec rank n Q → CallsBelow (program_of spec) rank n (plain_branch Q)
+    branch_called placed.left_out c = tt
+    branch_called (placed.written P) c = plain_calls P c
+
+rules_ranked_by : NamesHaveNumbers → (spec : Spec) → IsWellFormed spec → IsRanked (program_of spec) (rule_rank spec)
+rules_ranked_by law spec good f xs P e =
+    let d = procedure_of_program xs P law spec f e in
+    let rank = rule_rank spec in
+    subst (CallsBelow (program_of spec) rank (rank f)) d.same_body
+    (plain_calls law spec rank (rank f) d.body ((ranks_exist spec good).rules f d.parameters d.body d.is_declared))
+
+pub rules_ranked : (spec : Spec) → IsWellFormed spec → IsRanked (program_of spec) (rule_rank spec)
+rules_ranked spec good = rules_ranked_by names_have_numbers spec good
+
+pub rule_rank_low : (spec : Spec) (x : Name) → IsWellFormed spec → rule_rank spec x < nesting
+rule_rank_low spec x good = let low = (ranks_exist spec good).rules_low x in omega (arith, low)

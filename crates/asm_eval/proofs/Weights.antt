@@ -261,7 +261,7 @@ module _ (program : Program) (body : Rule → ℕ) where
   some_rule_size (Choose x u t P Q) = omega arith
   some_rule_size (Iterate P) = omega arith
 
-rule_within : (program : Program) (R : Rule) → rule_weight program R ≡ rule_size program (rule_size_within program 16) R
+pub rule_within : (program : Program) (R : Rule) → rule_weight program R ≡ rule_size program (rule_size_within program 16) R
 unfolding rule_weight rule_size_within
 rule_within program R = refl
 

@@ -3,15 +3,19 @@
 --     Forms       an outcome that gives a set: its set is added, and its instances are counted
 --     IsSet       a summary and a number are the set and the instances of an outcome that gives a set
 --     IsFormed    an outcome of the code is one of the definitions
+--     IsStoppedAt what is said of an outcome whose forming stopped at a place
+--     GoesOn      a part of a sequence gives a set, which is joined to those of the parts before it
 use Rattle.std.specs.Prelude.{◌≡◌, ℕ, ◌+◌, min}
 use Rattle.asm_state.specs.Signature.{Shape, count_of}
-use Rattle.asm_state.specs.Updates.{UpdateSet, together}
+use Rattle.asm_state.specs.Updates.{UpdateSet, together, merge}
 use Rattle.asm_updates.specs.Entries.{Entries}
 use Rattle.asm_updates.specs.Stands.{Stands}
-use Rattle.asm_eval.specs.Yields.{Gives, Exhausted}
+use Rattle.asm_eval.specs.Yields.{Place, Gives, Exhausted}
 use Rattle.asm_eval.specs.Does as does
 use Rattle.asm_eval.specs.declared.outcome.Outcome.{Outcome}
 use Rattle.asm_eval.specs.declared.outcome.Outcome.TheVariants.{Set, Exhausted as ExhaustedAt}
+use Rattle.asm_eval.specs.declared.stopped.Stopped.{Stopped}
+use Rattle.asm_eval.specs.declared.stopped.Stopped.TheVariants as stopped
 
 -- the set V is added to whatever the summary stands for
 abbrev pub Adds : Shape → (V : UpdateSet) → (old new : Entries) → Type 0
@@ -37,4 +41,17 @@ pub record IsSet (shape : Shape) (o : does.Outcome) (summary : Entries) (instanc
 
 abbrev pub IsFormed : Shape → does.Outcome → Outcome → Type 0
 IsFormed shape o (Set summary instances) = IsSet shape o summary instances
-IsFormed shape o (ExhaustedAt p) = o.result ≡ Exhausted p.items
+IsFormed shape o (ExhaustedAt p) = o.result ≡ Exhausted p
+
+-- want of memory says nothing of the outcome
+abbrev pub IsStoppedAt : does.Outcome → Place → Stopped → Type 0
+IsStoppedAt o p stopped.Memory = Unit {0}
+IsStoppedAt o p stopped.Exhausted = o.result ≡ Exhausted p
+
+-- a part after the set U: its own set, and the turbo merge of U with it
+pub record GoesOn (shape : Shape) (o : does.Outcome) (U : UpdateSet) (so_far part : Entries) (before after : ℕ) : Type 0 where
+  pub set : UpdateSet
+  pub gives : o.result ≡ Gives set
+  pub stands : Stands shape part set
+  pub merged : Stands shape so_far (merge U set)
+  pub counts : after ≡ min (before + o.instances) greatest_count

@@ -7,7 +7,6 @@ pub mod Ranks
 pub mod Law
 pub mod Cases
 pub mod TermCases
-pub mod PlainCases
 pub mod Splits
 pub mod Weights
 pub mod Run
@@ -15,6 +14,5 @@ pub mod Environments
 pub mod Seen
 pub mod Declarations
 pub mod Valued
-pub mod BasicRules
 pub mod Formed
 pub mod Taken

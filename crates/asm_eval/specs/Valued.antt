@@ -21,14 +21,14 @@ use Rattle.asm_check.specs.declared.checked.Checked.{Checked}
 use Rattle.asm_eval.specs.Program.{Program, Declared, Enumerated, Controlled, Static, Derived, Environment, bind_values}
 use Rattle.asm_eval.specs.Value.{value, holds, read}
 use Rattle.asm_eval.specs.Declarations.{program_of}
-use Rattle.asm_eval.specs.Seen.{seen}
+use Rattle.asm_eval.specs.Seen.{shown_over}
 use Rattle.asm_eval.specs.declared.view.View.{View}
 
 abbrev pub program : Checked → Program
 program checked = program_of (spec_of checked.spec)
 
 abbrev pub shown : View → State
-shown view = seen view.signature.now view.state.now view.over
+shown view = shown_over view.signature.now view.state.now view.below view.over
 
 module _ (checked : Checked) (view : View) (e : Environment) where
   abbrev pub term_value : Term → Value

@@ -3,7 +3,6 @@ ghost use Rattle.asm_eval.specs.Law.{ScriptedIsFree, FreeHasScript};
 ghost use Rattle.asm_eval.specs.Scripts.{UnrepeatedScript};
 ghost use Rattle.asm_eval.specs.Cases.{ScriptedByCases};
 ghost use Rattle.asm_eval.specs.TermCases.{ValuedByCases};
-ghost use Rattle.asm_eval.specs.PlainCases.{PlainByCases};
 ghost use Rattle.asm_eval.specs.Declarations.{ProgramDeclares};
 ghost use Rattle.asm_eval.specs.Run.{ScriptedRuns, FreeRuns};
 ghost use Rattle.asm_eval.specs.Splits.{BesideLaws, SplitLaws};
@@ -32,11 +31,6 @@ pub fn scripted_by_cases()
 /// The value of a term has one case for each form.
 pub fn valued_by_cases()
     ensures { ValuedByCases }
-{}
-
-/// Basic rules without calls and terms without derived functions have one case for each form, whatever the ranks.
-pub fn plain_by_cases()
-    ensures { PlainByCases }
 {}
 
 /// A program declares each name as what the name's number stands for.

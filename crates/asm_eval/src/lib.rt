@@ -1,7 +1,7 @@
 //! The meaning of terms, rules and specifications, as definitions for contracts, with its laws, and the evaluation of terms and rules.
 #![tactic(auto)]
 
-pub mod basic;
+pub mod below;
 mod choose;
 pub mod env;
 pub mod evaluation;
@@ -10,6 +10,8 @@ pub mod form;
 mod held;
 pub mod laws;
 pub mod outcome;
+pub mod place;
+pub mod stopped;
 mod target;
 pub mod value;
 pub mod view;
@@ -18,4 +20,6 @@ pub mod whole;
 pub use env::Env;
 pub use evaluation::{Choices, Evaluation};
 pub use outcome::{Forming, Outcome};
+pub use place::Place;
+pub use stopped::Stopped;
 pub use view::View;

@@ -1,4 +1,5 @@
 //! What comes of evaluating a rule.
+use crate::place::Place;
 use asm_updates::summary::Summary;
 
 /// What a rule yields.
@@ -7,7 +8,7 @@ pub enum Outcome {
     /// An update set, with the number of elements for which the condition of a `forall` held, cut off where it doesn't fit.
     Set { set: Summary, instances: u64 },
     /// No set: the `iterate` at this place has made its last turn.
-    Exhausted(Vec<u64>),
+    Exhausted(Place),
 }
 
 /// What has been formed of a step's set so far, and where the evaluation stands.

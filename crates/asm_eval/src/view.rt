@@ -7,19 +7,22 @@ ghost use Rattle.asm_state.specs.Tables.{location_in};
 ghost use Rattle.asm_state.specs.Updates.{UpdateSet, IsConsistent, overwritten, fire};
 ghost use Rattle.asm_updates.specs.Entries.{entry};
 ghost use Rattle.asm_updates.specs.Stands.{Stands};
-ghost use Rattle.asm_eval.specs.Seen.{seen};
+ghost use Rattle.asm_eval.specs.Seen.{content_below, shown_over};
 ghost use Rattle.asm_eval.specs.Value.{read};
 
+use crate::below::Below;
 use asm_state::signature::Signature;
 use asm_state::state::State;
 use asm_state::value::Value;
 use asm_updates::summary::Summary;
 
-/// A state with a set of updates over it, read as the state in which the set has been fired.
+/// A state with sets of updates over it, read as the state in which the sets have been fired one after the other.
 #[derive(Drop)]
 pub struct View<'a> {
     pub signature: &'a Signature,
     pub state: &'a State,
+    /// The sets that are fired before this view's own.
+    pub below: Below<'a>,
     pub over: Summary,
     ghost whole: { length state.now ≡ count_of signature.now },
     ghost counted: { over.count ≡ count_of signature.now },
@@ -30,15 +33,39 @@ impl<'a> View<'a> {
     pub fn new(signature: &'a Signature, state: &'a State, over: Summary) -> View<'a>
         requires whole { length state.now ≡ count_of signature.now }
         requires counted { over.count ≡ count_of signature.now }
-        ensures parts { (result.signature.now ≡ signature.now) × (result.state.now ≡ state.now) × (result.over ≡ over) }
+        ensures signature { result.signature.now ≡ signature.now }
+        ensures over { result.over ≡ over }
         ensures fired { (U : UpdateSet) → Stands signature.now over U → IsConsistent U →
-            seen signature.now state.now over ≡ fire (state_of signature.now state.now) U }
+            shown_over result.signature.now result.state.now result.below result.over ≡ fire (state_of signature.now state.now) U }
     {
         // The call says that each entry is of a location below the count.
         let _len = over.len();
         View {
             signature,
             state,
+            below: Below::Nothing,
+            over,
+        }
+    }
+
+    /// What another view shows, with the set over it. Nothing is copied.
+    pub fn upon(lower: &'a View<'a>, over: Summary) -> View<'a>
+        requires { over.count ≡ count_of lower.now.signature.now }
+        ensures signature { result.signature.now ≡ lower.now.signature.now }
+        ensures over { result.over ≡ over }
+        ensures fired { (U : UpdateSet) → Stands lower.now.signature.now over U → IsConsistent U →
+            shown_over result.signature.now result.state.now result.below result.over
+            ≡ fire (shown_over lower.now.signature.now lower.now.state.now lower.now.below lower.now.over) U }
+    {
+        // The call says that each entry is of a location below the count.
+        let _len = over.len();
+        View {
+            signature: lower.signature,
+            state: lower.state,
+            below: Below::Set {
+                over: &lower.over,
+                below: &lower.below,
+            },
             over,
         }
     }
@@ -46,10 +73,13 @@ impl<'a> View<'a> {
     /// What the view shows at the location with this number.
     pub fn content(&self, n: usize) -> Value
         requires { n < count_of self.now.signature.now }
-        ensures { result ≡ overwritten (entry self.now.over n) (slice_index_or self.now.state.now n Undef) }
+        ensures { result ≡ overwritten (entry self.now.over n) (content_below self.now.below n (slice_index_or self.now.state.now n Undef)) }
     {
-        match self.over.get(n) {
-            Some((value, _)) => value,
+        if let Some((value, _)) = self.over.get(n) {
+            return value;
+        }
+        match self.below.content(n) {
+            Some(value) => value,
             None => self.state.content(n),
         }
     }
@@ -59,7 +89,7 @@ impl<'a> View<'a> {
     pub fn read(&self, f: usize, arguments: &[Value]) -> Value
         requires { HasKind Controlled self.now.signature.now f }
         ensures { let at = location_in f (domain_of self.now.signature.now f) arguments.now in
-            result ≡ read (seen self.now.signature.now self.now.state.now self.now.over) at }
+            result ≡ read (shown_over self.now.signature.now self.now.state.now self.now.below self.now.over) at }
     {
         let n = self.signature.number_of(f, arguments);
         match self.signature.stray(n) {

@@ -1,9 +1,8 @@
 //! The outcome of a rule.
-ghost use Rattle.std.specs.Prelude.{◌≡◌, true, IfOk};
+ghost use Rattle.std.specs.Prelude.{◌≡◌, IfOk};
 ghost use Rattle.asm_syntax.specs.Unplaced as plain;
 ghost use Rattle.asm_syntax.specs.Views.{spec_of, rule_of};
 ghost use Rattle.asm_check.specs.Shapes.{shape_of};
-ghost use Rattle.asm_eval.specs.BasicRules.{is_basic};
 ghost use Rattle.asm_eval.specs.Does.{does};
 ghost use Rattle.asm_eval.specs.Environments.{environment};
 ghost use Rattle.asm_eval.specs.Valued.{program, shown};
@@ -13,6 +12,8 @@ use crate::env::Env;
 use crate::evaluation::{Choices, Evaluation};
 use crate::form::form;
 use crate::outcome::{Forming, Outcome};
+use crate::place::Place;
+use crate::stopped::Stopped;
 use crate::view::View;
 use asm_check::Checked;
 use asm_reader::Picks;
@@ -21,7 +22,7 @@ use asm_updates::summary::Summary;
 use std::alloc::{AllocError, Global};
 
 /// What the rule yields at this place, in the state that the view shows, under the environment and these choices, all of it on this
-/// thread. The rule is a basic one without calls (`is_basic`).
+/// thread.
 pub fn whole<'e, P: Picks>(
     alloc: Global,
     checked: &Checked,
@@ -32,8 +33,7 @@ pub fn whole<'e, P: Picks>(
     place: &[u64],
     turns: u32,
 ) -> Result<Outcome, AllocError>
-    requires shaped { view.now.signature.now ≡ shape_of (spec_of checked.now.spec) }
-    requires basic { is_basic (plain.plain_rule (rule_of rule.now)) ≡ true }
+    requires { view.now.signature.now ≡ shape_of (spec_of checked.now.spec) }
     ensures { let o = does (program checked.now) turns (P.script choices.now.script.now) choices.now.step (shown view.now) (environment env.now) place.now (plain.plain_rule (rule_of rule.now)) in
         IfOk result (IsFormed view.now.signature.now o) }
 {
@@ -48,9 +48,12 @@ pub fn whole<'e, P: Picks>(
         choices,
         turns,
     };
-    form(alloc, &at, env, rule, &mut made)?;
-    Ok(Outcome::Set {
-        set: made.set,
-        instances: made.instances,
-    })
+    match form(alloc, &at, env, rule, &mut made) {
+        Ok(()) => Ok(Outcome::Set {
+            set: made.set,
+            instances: made.instances,
+        }),
+        Err(Stopped::Exhausted) => Ok(Outcome::Exhausted(Place::new(made.place))),
+        Err(Stopped::Memory) => Err(AllocError),
+    }
 }

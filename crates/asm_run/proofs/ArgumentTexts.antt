@@ -1,6 +1,6 @@
--- Texts of argument lists and of entries, one after the other.
-use Rattle.std.proofs.Common.{◌≡◌, ℕ, suc, ◌+◌, ◌<◌, List, [], ◌∷◌, ◌++◌, length, take, get_or, append_assoc, Some, refl, sym, ap, ◌∙◌, arith}
-use Rattle.std.specs.Prelude.{codes, slice_get, slice_index_or}
+-- Texts of argument lists, of entries and of places, one after the other.
+use Rattle.std.proofs.Common.{◌≡◌, ℕ, zero, suc, ◌+◌, ◌<◌, List, [], ◌∷◌, ◌++◌, length, take, get_or, append_assoc, Some, refl, sym, ap, ◌∙◌, arith}
+use Rattle.std.specs.Prelude.{codes, decimal, slice_get, slice_index_or}
 use Rattle.std.proofs.Math.Seq.{take-suc}
 use Rattle.std.proofs.lemmas.Grind.{flat_map-append}
 use Rattle.std.proofs.lemmas.List.{append-nil}
@@ -8,7 +8,7 @@ use Rattle.std.proofs.lemmas.Option.{slice_get_within, get_or_from_slice_get}
 use Rattle.asm_state.specs.declared.value.Value.{Value}
 use Rattle.asm_syntax.specs.Placed.{Spec}
 use Rattle.asm_updates.specs.Entries.{NamedRanges}
-use Rattle.asm_run.specs.Trace.{value_text, values_text}
+use Rattle.asm_run.specs.Trace.{value_text, values_text, numbers_text}
 use Rattle.asm_run.specs.Written.{entry_line, entries_text}
 
 -- one argument more
@@ -39,3 +39,24 @@ entries_grow s es i e first old new at before grown =
     let all : entries_text s (take (i + 1) es) ≡ entries_text s (take i es) ++ entry_line s e =
     ap (entries_text s) more ∙ flat_map-append (entry_line s) (take i es) (e ∷ []) ∙ ap (λ t. entries_text s (take i es) ++ t) (append-nil (entry_line s e)) in
     grown ∙ ap (λ t. t ++ entry_line s e) before ∙ append_assoc first (entries_text s (take i es)) (entry_line s e) ∙ ap (λ t. first ++ t) (sym all)
+
+-- one number of a place more
+numbers_more : (k n : ℕ) (ks : List ℕ) → numbers_text k (ks ++ n ∷ []) ≡ numbers_text k ks ++ (codes "." ++ decimal n)
+numbers_more k n [] = refl
+numbers_more k n (j ∷ js) = ap (λ t. decimal k ++ (codes "." ++ t)) (numbers_more j n js) ∙ simp append_assoc
+
+-- what stands within a list is read whatever is read behind it
+same_read : (ks : List ℕ) (i m n : ℕ) → i < length ks → slice_index_or ks i m ≡ slice_index_or ks i n
+same_read [] i m n low = omega (arith, low)
+same_read (k ∷ ks) zero m n low = refl
+same_read (k ∷ ks) (suc i) m n low = same_read ks i m n (omega (arith, low))
+
+pub numbers_grow : (k : ℕ) (rest : List ℕ) (i : ℕ) (first old middle new : List ℕ) → i < length rest
+    → old ≡ first ++ numbers_text k (take i rest) → middle ≡ old ++ codes "." → new ≡ middle ++ decimal (slice_index_or rest i 0)
+    → new ≡ first ++ numbers_text k (take (i + 1) rest)
+numbers_grow k rest i first old middle new low before dot grown =
+    let n : ℕ = slice_index_or rest i 0 in
+    grown ∙ ap (λ t. t ++ decimal n) (dot ∙ ap (λ t. t ++ codes ".") before)
+    ∙ append_assoc (first ++ numbers_text k (take i rest)) (codes ".") (decimal n)
+    ∙ append_assoc first (numbers_text k (take i rest)) (codes "." ++ decimal n)
+    ∙ ap (λ t. first ++ t) (sym (numbers_more k n (take i rest)) ∙ ap (numbers_text k) (sym (take_more rest i n low (same_read rest i n 0 low))))

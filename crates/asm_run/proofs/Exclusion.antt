@@ -1,5 +1,5 @@
 -- Refusals exclude one another, and runs.
-use Rattle.std.proofs.Common.{◌≡◌, ℕ, nat_eq, cond, true, false, List, refl, sym, ap, subst, ◌∙◌}
+use Rattle.std.proofs.Common.{◌≡◌, ℕ, nat_eq, cond, false, List, refl, sym, ap, subst, ◌∙◌}
 use Rattle.asm_syntax.specs.Placed.{Spec}
 use Rattle.asm_reader.specs.declared.error.ReadError.{ReadError}
 use Rattle.asm_reader.specs.Specification.{IsSpecification}
@@ -14,9 +14,8 @@ use Rattle.asm_check.specs.Errors.{number_of}
 use Rattle.asm_check.specs.Faults.{IsWellFormed, IsLeastFault}
 use Rattle.asm_check.specs.Laws.{LeastIsOnly}
 use Rattle.asm_run.specs.declared.error.RunError.TheVariants as error
-use Rattle.asm_run.specs.Covered.{is_covered}
 use Rattle.asm_run.specs.Limits.{are_in_range}
-use Rattle.asm_run.specs.Headline.{IsCovered, IsFaulty, IsBeyond}
+use Rattle.asm_run.specs.Headline.{IsAccepted, IsFaulty}
 use Rattle.asm_run.specs.Exclusion.{OneNamedRefusal, NoRunBesideARefusal}
 
 -- ---- kinds of faults have different numbers
@@ -54,24 +53,14 @@ same_error e f at number =
 module _ (one_tree : (text : List ℕ) (s t : Spec) → IsSpecification text s → IsSpecification text t → s ≡ t)
     (no_tree : (text : List ℕ) (s : Spec) (e : ReadError) → IsSpecification text s → ¬ IsRefusal text e)
     (no_script : (text : List ℕ) (s : Script) (e : ScriptError) → IsScript text s → ¬ IsScriptRefusal text e) where
-  beyond_or_known : (text : List ℕ) (s : Spec) → IsBeyond text → IsCovered text s → ⊥
-  beyond_or_known text s k h =
-      let same : s ≡ k.0 = one_tree text s k.0 h.spelled k.1 in
-      let yes : is_covered s ≡ true = h.covered in
-      let no : is_covered k.0 ≡ false = k.3 in
-      absurd (cc (ap is_covered same))
-
   -- no fault stands where there is none
   faulty_or_faultless : (text : List ℕ) (e : CheckError) (s : Spec) → IsFaulty text e → IsSpecification text s → IsWellFormed s → ⊥
   faulty_or_faultless text e s h spelled faultless =
       let least : IsLeastFault s e.at (number_of e.kind) = subst (λ t. IsLeastFault t e.at (number_of e.kind)) (one_tree text h.0 s h.1 spelled) h.2 in
       faultless e.at (number_of e.kind) least.fault
 
-  faulty_or_known : (text : List ℕ) (e : CheckError) (s : Spec) → IsFaulty text e → IsCovered text s → ⊥
+  faulty_or_known : (text : List ℕ) (e : CheckError) (s : Spec) → IsFaulty text e → IsAccepted text s → ⊥
   faulty_or_known text e s h k = faulty_or_faultless text e s h k.spelled k.faultless
-
-  faulty_or_beyond : (text : List ℕ) (e : CheckError) → IsFaulty text e → IsBeyond text → ⊥
-  faulty_or_beyond text e h k = faulty_or_faultless text e k.0 h k.1 k.2
 
   one_fault : LeastIsOnly → (text : List ℕ) (e f : CheckError) → IsFaulty text e → IsFaulty text f → e ≡ f
   one_fault least text e f h k =
@@ -82,7 +71,6 @@ module _ (one_tree : (text : List ℕ) (s t : Spec) → IsSpecification text s �
   pub excludes : NoRunBesideARefusal
   excludes text script_text steps turns workers cut rounds old new s script (error.Read e) h spelled in_range named k = no_tree text s e h.spelled k.0
   excludes text script_text steps turns workers cut rounds old new s script (error.Check e) h spelled in_range named k = faulty_or_known text e s k.0 h
-  excludes text script_text steps turns workers cut rounds old new s script error.Beyond h spelled in_range named k = beyond_or_known text s k.0 h
   excludes text script_text steps turns workers cut rounds old new s script (error.Script e) h spelled in_range named k = no_script script_text script e spelled k.2
   excludes text script_text steps turns workers cut rounds old new s script error.Limits h spelled in_range named k = let no : are_in_range steps turns workers cut rounds ≡ false = k.4 in absurd cc
   excludes text script_text steps turns workers cut rounds old new s script error.Memory h spelled in_range named k = named
@@ -92,35 +80,24 @@ module _ (one_tree : (text : List ℕ) (s t : Spec) → IsSpecification text s �
       → ((text : List ℕ) (e f : ScriptError) → IsScriptRefusal text e → IsScriptRefusal text f → e ≡ f) → OneNamedRefusal
   once one least one_script text script_text steps turns workers cut rounds old new other_old other_new (error.Read e) (error.Read f) n m h k = ap error.Read (one text e f h.0 k.0)
   once one least one_script text script_text steps turns workers cut rounds old new other_old other_new (error.Read e) (error.Check f) n m h k = absurd (no_tree text k.0.0 e k.0.1 h.0)
-  once one least one_script text script_text steps turns workers cut rounds old new other_old other_new (error.Read e) error.Beyond n m h k = absurd (no_tree text k.0.0 e k.0.1 h.0)
   once one least one_script text script_text steps turns workers cut rounds old new other_old other_new (error.Read e) (error.Script f) n m h k = absurd (no_tree text k.0 e k.1.spelled h.0)
   once one least one_script text script_text steps turns workers cut rounds old new other_old other_new (error.Read e) error.Limits n m h k = absurd (no_tree text k.0 e k.1.spelled h.0)
   once one least one_script text script_text steps turns workers cut rounds old new other_old other_new (error.Read e) error.Memory n m h k = absurd m
   once one least one_script text script_text steps turns workers cut rounds old new other_old other_new (error.Read e) error.Write n m h k = absurd m
   once one least one_script text script_text steps turns workers cut rounds old new other_old other_new (error.Check e) (error.Read f) n m h k = absurd (no_tree text h.0.0 f h.0.1 k.0)
   once one least one_script text script_text steps turns workers cut rounds old new other_old other_new (error.Check e) (error.Check f) n m h k = ap error.Check (one_fault least text e f h.0 k.0)
-  once one least one_script text script_text steps turns workers cut rounds old new other_old other_new (error.Check e) error.Beyond n m h k = absurd (faulty_or_beyond text e h.0 k.0)
   once one least one_script text script_text steps turns workers cut rounds old new other_old other_new (error.Check e) (error.Script f) n m h k = absurd (faulty_or_known text e k.0 h.0 k.1)
   once one least one_script text script_text steps turns workers cut rounds old new other_old other_new (error.Check e) error.Limits n m h k = absurd (faulty_or_known text e k.0 h.0 k.1)
   once one least one_script text script_text steps turns workers cut rounds old new other_old other_new (error.Check e) error.Memory n m h k = absurd m
   once one least one_script text script_text steps turns workers cut rounds old new other_old other_new (error.Check e) error.Write n m h k = absurd m
-  once one least one_script text script_text steps turns workers cut rounds old new other_old other_new error.Beyond (error.Read f) n m h k = absurd (no_tree text h.0.0 f h.0.1 k.0)
-  once one least one_script text script_text steps turns workers cut rounds old new other_old other_new error.Beyond (error.Check f) n m h k = absurd (faulty_or_beyond text f k.0 h.0)
-  once one least one_script text script_text steps turns workers cut rounds old new other_old other_new error.Beyond error.Beyond n m h k = refl
-  once one least one_script text script_text steps turns workers cut rounds old new other_old other_new error.Beyond (error.Script f) n m h k = absurd (beyond_or_known text k.0 h.0 k.1)
-  once one least one_script text script_text steps turns workers cut rounds old new other_old other_new error.Beyond error.Limits n m h k = absurd (beyond_or_known text k.0 h.0 k.1)
-  once one least one_script text script_text steps turns workers cut rounds old new other_old other_new error.Beyond error.Memory n m h k = absurd m
-  once one least one_script text script_text steps turns workers cut rounds old new other_old other_new error.Beyond error.Write n m h k = absurd m
   once one least one_script text script_text steps turns workers cut rounds old new other_old other_new (error.Script e) (error.Read f) n m h k = absurd (no_tree text h.0 f h.1.spelled k.0)
   once one least one_script text script_text steps turns workers cut rounds old new other_old other_new (error.Script e) (error.Check f) n m h k = absurd (faulty_or_known text f h.0 k.0 h.1)
-  once one least one_script text script_text steps turns workers cut rounds old new other_old other_new (error.Script e) error.Beyond n m h k = absurd (beyond_or_known text h.0 k.0 h.1)
   once one least one_script text script_text steps turns workers cut rounds old new other_old other_new (error.Script e) (error.Script f) n m h k = ap error.Script (one_script script_text e f h.2 k.2)
   once one least one_script text script_text steps turns workers cut rounds old new other_old other_new (error.Script e) error.Limits n m h k = absurd (no_script script_text k.2 e k.3 h.2)
   once one least one_script text script_text steps turns workers cut rounds old new other_old other_new (error.Script e) error.Memory n m h k = absurd m
   once one least one_script text script_text steps turns workers cut rounds old new other_old other_new (error.Script e) error.Write n m h k = absurd m
   once one least one_script text script_text steps turns workers cut rounds old new other_old other_new error.Limits (error.Read f) n m h k = absurd (no_tree text h.0 f h.1.spelled k.0)
   once one least one_script text script_text steps turns workers cut rounds old new other_old other_new error.Limits (error.Check f) n m h k = absurd (faulty_or_known text f h.0 k.0 h.1)
-  once one least one_script text script_text steps turns workers cut rounds old new other_old other_new error.Limits error.Beyond n m h k = absurd (beyond_or_known text h.0 k.0 h.1)
   once one least one_script text script_text steps turns workers cut rounds old new other_old other_new error.Limits (error.Script f) n m h k = absurd (no_script script_text h.2 f h.3 k.2)
   once one least one_script text script_text steps turns workers cut rounds old new other_old other_new error.Limits error.Limits n m h k = refl
   once one least one_script text script_text steps turns workers cut rounds old new other_old other_new error.Limits error.Memory n m h k = absurd m

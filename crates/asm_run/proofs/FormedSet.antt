@@ -1,6 +1,6 @@
 -- What the main rule forms over a state.
-use Rattle.std.proofs.Common.{◌≡◌, ℕ, ◌+◌, List, [], ap, subst, ◌∙◌, arith}
-use Rattle.std.specs.Prelude.{min}
+use Rattle.std.proofs.Common.{◌≡◌, ℕ, ◌+◌, List, [], Result, Ok, Err, sym, ap, subst, ◌∙◌, arith}
+use Rattle.std.specs.Prelude.{min, IfErr}
 use Rattle.asm_state.specs.declared.value.Value.{Value}
 use Rattle.asm_state.specs.Location.{State}
 use Rattle.asm_state.specs.Signature.{Shape, state_of}
@@ -16,7 +16,9 @@ use Rattle.asm_updates.specs.Entries.{Entries}
 use Rattle.asm_updates.specs.Stands.{Stands}
 use Rattle.asm_eval.specs.Declarations.{program_of, main_rule}
 use Rattle.asm_eval.specs.Does.{Outcome, does}
-use Rattle.asm_eval.specs.Formed.{Forms, IsSet, greatest_count}
+use Rattle.asm_eval.specs.Formed.{Forms, IsSet, IsStoppedAt, greatest_count}
+use Rattle.asm_eval.specs.declared.stopped.Stopped.{Stopped}
+use Rattle.asm_eval.specs.declared.stopped.Stopped.TheVariants as stopped
 use Rattle.asm_eval.specs.Program.{Environment, nothing_bound}
 use Rattle.asm_eval.specs.Yields.{Place}
 use Rattle.asm_run.specs.Step.{main_outcome}
@@ -42,13 +44,27 @@ formed_from_none shape o cleared new before after fresh none_yet forms =
       counts = forms.counts ∙ ap (λ n. min n greatest_count) all;
     }
 
+-- over the empty set a rule's outcome is that in the state
+pub outcome_alone : (s : Spec) (shape : Shape) (turns : ℕ) (script : Script) (step : ℕ) (contents : List Value) (A : State) (over : Entries) (e : Environment) (p : Place) (R : Rule)
+    → shape ≡ shape_of s → ((U : UpdateSet) → Stands shape over U → IsConsistent U → A ≡ fire (state_of shape contents) U)
+    → Stands shape over none → e ≡ nothing_bound → p ≡ [] → R ≡ main_rule s (inits s)
+    → does (program_of s) turns script step A e p R ≡ main_outcome s turns script step contents
+outcome_alone s shape turns script step contents A over e p R shaped seen empty free top main =
+    let here : A ≡ state_of (shape_of s) contents = seen none empty none_consistent ∙ none_fired (state_of shape contents) ∙ ap (λ v. state_of v contents) shaped in
+    λ i. does (program_of s) turns script step (here i) (free i) (top i) (main i)
+
 -- over the empty set, and from the empty set on, what is formed is the main rule's outcome
 pub formed_alone : (s : Spec) (shape : Shape) (turns : ℕ) (script : Script) (step : ℕ) (contents : List Value) (A : State) (over cleared new : Entries) (before after : ℕ) (e : Environment) (p : Place) (R : Rule)
     → shape ≡ shape_of s → ((U : UpdateSet) → Stands shape over U → IsConsistent U → A ≡ fire (state_of shape contents) U)
     → Stands shape over none → Stands shape cleared none → before ≡ 0 → e ≡ nothing_bound → p ≡ [] → R ≡ main_rule s (inits s)
     → Forms shape (does (program_of s) turns script step A e p R) cleared new before after → IsSet (shape_of s) (main_outcome s turns script step contents) new after
 formed_alone s shape turns script step contents A over cleared new before after e p R shaped seen empty fresh none_yet free top main forms =
-    let here : A ≡ state_of (shape_of s) contents = seen none empty none_consistent ∙ none_fired (state_of shape contents) ∙ ap (λ v. state_of v contents) shaped in
-    let same : does (program_of s) turns script step A e p R ≡ main_outcome s turns script step contents = λ i. does (program_of s) turns script step (here i) (free i) (top i) (main i) in
+    let same = outcome_alone s shape turns script step contents A over e p R shaped seen empty free top main in
     subst (λ v. IsSet v (main_outcome s turns script step contents) new after) shaped
     (subst (λ o. IsSet shape o new after) same (formed_from_none shape (does (program_of s) turns script step A e p R) cleared new before after fresh none_yet forms))
+
+-- what stops there stops the main rule's outcome
+pub stopped_alone : (result : Result Unit Stopped) (o q : Outcome) (p : Place) → o ≡ q → IfErr result (IsStoppedAt o p) → IfErr result (IsStoppedAt q p)
+stopped_alone (Ok done) o q p same said = said
+stopped_alone (Err stopped.Memory) o q p same said = said
+stopped_alone (Err stopped.Exhausted) o q p same said = ap (λ (x : Outcome). x.result) (sym same) ∙ said

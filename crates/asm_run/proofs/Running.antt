@@ -20,17 +20,20 @@ use Rattle.asm_updates.specs.declared.fault.Fault.TheVariants as fault
 use Rattle.asm_eval.specs.Declarations.{program_of, main_rule}
 use Rattle.asm_reader.specs.ScriptLines.{Script}
 use Rattle.asm_eval.specs.Does.{Outcome}
-use Rattle.asm_eval.specs.Yields.{Result as Yielded, Gives}
-use Rattle.asm_eval.specs.Run.{Run, run_from, step_and, ended, fired, AtLimit, AtFault}
+use Rattle.asm_eval.specs.Yields.{Place, Result as Yielded, Gives, Exhausted}
+use Rattle.asm_eval.specs.Run.{Run, run_from, step_and, ended, fired, AtLimit, AtExhausted, AtFault}
 use Rattle.asm_run.specs.declared.end.End.{End}
 use Rattle.asm_run.specs.declared.end.End.TheVariants.{Limit}
+use Rattle.asm_run.specs.declared.end.End.TheVariants as end
+use Rattle.asm_run.specs.declared.step.Stop.{Stop}
+use Rattle.asm_run.specs.declared.step.Stop.TheVariants as stop
 use Rattle.asm_run.specs.declared.error.RunError.{RunError}
 use Rattle.asm_run.specs.declared.error.RunError.TheVariants as error
 use Rattle.asm_run.specs.Sink.{AppendsFront}
-use Rattle.asm_run.specs.Trace.{Names, IsEndText, step_text, line_end}
+use Rattle.asm_run.specs.Trace.{Names, IsEndText, step_text, exhausted_line, line_end}
 use Rattle.asm_run.specs.Written.{names_in, locations_in, contents_text}
 use Rattle.asm_run.specs.Headline.{IsAnswer, book_run}
-use Rattle.asm_run.specs.Step.{main_outcome, AreSized, IsFired, IsStopped, Finishes, fault_line, end_of_fault}
+use Rattle.asm_run.specs.Step.{main_outcome, AreSized, IsFired, IsAtFault, IsStopped, Finishes, fault_line, end_of_fault, stop_line, end_of_stop}
 use Rattle.asm_run.specs.Reached.{IsReached, Runs, Goes}
 use Rattle.asm_run.proofs.Stepping.{state_written}
 use Rattle.asm_run.proofs.Reached.{reached_more, cut_in_step, written_at_end, cut_at_end, whole_steps}
@@ -64,6 +67,13 @@ module _ (s : Spec) (turns : ℕ) (script : Script) where
 
     stops : ¬ (IsConsistent U) → left (suc n) i before ≡ ended (AtFault i U) before
     stops faulty = a_step ∙ ap by_test (false_from_ne_true (is_consistent U) (λ e. faulty ((test_laws.consistency U).0 e)))
+
+  -- a main rule that is exhausted ends the run
+  exhausts : (n i : ℕ) (contents : List Value) (q : Place) → (main_outcome s turns script i contents).result ≡ Exhausted q
+      → left (suc n) i (state_of (shape_of s) contents) ≡ ended (AtExhausted i q) (state_of (shape_of s) contents)
+  exhausts n i contents q is =
+      ap (λ (r : Yielded). step_and (program_of s) turns (main_rule s (inits s)) r (main_outcome s turns script i contents).instances i (state_of (shape_of s) contents)
+      (λ V. left n (suc i) (fire (state_of (shape_of s) contents) V))) is
 
 -- a set with a fault isn't consistent
 first_fault_is_faulty : (U : UpdateSet) (f : _) → IsFirstFault U f → ¬ (IsConsistent U)
@@ -113,7 +123,6 @@ module _ (s : Spec) (good : IsWellFormed s) (turns : ℕ) (script : Script) (ste
         let lines = ap (λ w. end_text ++ w) (state_written s contents good goes.sized.contents_fit) in
         (cut_at_end called places _ _ _ old mid new goes.reached e (state_of (shape_of s) contents) at_end end_text ends (subst (λ t. AppendsFront mid new t) lines f.0), f.1)
     finished (Err error.Limits) f at_end = f
-    finished (Err error.Beyond) f at_end = f
     finished (Err (error.Read refusal)) f at_end = f
     finished (Err (error.Check refusal)) f at_end = f
     finished (Err (error.Script refusal)) f at_end = f
@@ -133,17 +142,35 @@ module _ (s : Spec) (good : IsWellFormed s) (turns : ℕ) (script : Script) (ste
     outcome_at i = main_outcome s turns script i contents
 
     -- the set has a fault
-    pub at_fault : (new : Option (List ℕ)) (flag : Bool) (result : Result End RunError) (next : List Value) (f : Fault) → IsStopped s turns script step contents next f
+    at_fault : (new : Option (List ℕ)) (flag : Bool) (result : Result End RunError) (next : List Value) (f : Fault) → IsAtFault s turns script step contents f → next ≡ contents
         → Finishes mid new flag (fault_line s step f ++ contents_text s next) (end_of_fault f) result → now flag new result
-    at_fault new flag result next f stopped finish =
+    at_fault new flag result next f stopped stays finish =
         let U : UpdateSet = stopped.set in
         let gives : (outcome_at (1 + made)).result ≡ Gives U = subst (λ i. (outcome_at i).result ≡ Gives U) is stopped.gives in
         let line : fault_line s step f ≡ fault_line s (1 + made) f = ap (λ i. fault_line s i f) is in
         finished new flag (AtFault (1 + made) U) (fault_line s step f) (fault_of (shape_of s) f, stopped.is_first, line)
         (end_of_fault f) (fault_answered s U (1 + made) f stopped.is_first) result
-        (subst (λ v. Finishes mid new flag (fault_line s step f ++ contents_text s v) (end_of_fault f) result) stopped.stays finish)
+        (subst (λ v. Finishes mid new flag (fault_line s step f ++ contents_text s v) (end_of_fault f) result) stays finish)
         (ap (λ n. left_of n (1 + made) contents) one_left
         ∙ stops s turns script (steps - (made + 1)) (1 + made) contents U gives (first_fault_is_faulty U (fault_of (shape_of s) f) stopped.is_first))
+
+    -- the main rule is exhausted
+    at_exhausted : (new : Option (List ℕ)) (flag : Bool) (result : Result End RunError) (next : List Value) (q : Place) → (outcome_at step).result ≡ Exhausted q → next ≡ contents
+        → Finishes mid new flag (exhausted_line step q ++ contents_text s next) end.Exhausted result → now flag new result
+    at_exhausted new flag result next q gives stays finish =
+        finished new flag (AtExhausted (1 + made) q) (exhausted_line step q) (ap (λ i. exhausted_line i q) is)
+        end.Exhausted refl result
+        (subst (λ v. Finishes mid new flag (exhausted_line step q ++ contents_text s v) end.Exhausted result) stays finish)
+        (ap (λ n. left_of n (1 + made) contents) one_left
+        ∙ exhausts s turns script (steps - (made + 1)) (1 + made) contents q (subst (λ i. (outcome_at i).result ≡ Exhausted q) is gives))
+
+    -- the run ends at this step
+    pub at_stop : (new : Option (List ℕ)) (flag : Bool) (result : Result End RunError) (next : List Value) (q place : Place) (at : Stop) → IsStopped s turns script step contents next q at → place ≡ q
+        → Finishes mid new flag (stop_line s step at place ++ contents_text s next) (end_of_stop at) result → now flag new result
+    at_stop new flag result next q place (stop.Fault f) stopped same finish = at_fault new flag result next f stopped.0 stopped.1 finish
+    at_stop new flag result next q place stop.Exhausted stopped same finish =
+        at_exhausted new flag result next q stopped.0 stopped.1
+        (subst (λ p. Finishes mid new flag (exhausted_line step p ++ contents_text s next) end.Exhausted result) same finish)
 
     module _ (next : List Value) (text : List ℕ) (step_fired : IsFired s turns script step contents next text) where
       abbrev U : UpdateSet

@@ -19,7 +19,7 @@ use Rattle.asm_run.specs.declared.error.RunError.TheVariants as error
 use Rattle.asm_run.specs.Limits.{are_in_range}
 use Rattle.asm_run.specs.Refusal.{read_answer, check_answer, script_answer}
 use Rattle.asm_run.specs.Written.{names_in, locations_in}
-use Rattle.asm_run.specs.Headline.{IsCovered, IsDone, Explains, book_run}
+use Rattle.asm_run.specs.Headline.{IsAccepted, IsDone, Explains, book_run}
 use Rattle.asm_run.specs.Reached.{Runs}
 use Rattle.asm_run.proofs.Running.{Appends-none}
 
@@ -36,10 +36,10 @@ module _ (text script_text : List ℕ) (steps turns workers cut rounds : ℕ) wh
   refused_tree old s spelled (refused.Named e) h = ((s, spelled, h), Appends-none old)
 
   -- a script that the reader refuses
-  pub refused_script : (old : Option (List ℕ)) (s : Spec) → IsCovered text s → (r : Refused ScriptError) → ExplainsScript script_text r
+  pub refused_script : (old : Option (List ℕ)) (s : Spec) → IsAccepted text s → (r : Refused ScriptError) → ExplainsScript script_text r
       → Explains text script_text steps turns workers cut rounds old old (script_answer r)
-  refused_script old s covered refused.Memory h = inl (Appends-none old)
-  refused_script old s covered (refused.Named e) h = (s, covered, h, Appends-none old)
+  refused_script old s accepted refused.Memory h = inl (Appends-none old)
+  refused_script old s accepted (refused.Named e) h = (s, accepted, h, Appends-none old)
 
   module _ (old new : Option (List ℕ)) where
     abbrev done : End → Type 0
@@ -56,16 +56,15 @@ module _ (text script_text : List ℕ) (steps turns workers cut rounds : ℕ) wh
     at_err (Ok e) h = tt
     at_err (Err e) h = h
 
-    module _ (failed : Bool) (s : Spec) (covered : IsCovered text s) (script : Script) (spelled : IsScript script_text script) (in_range : are_in_range steps turns workers cut rounds ≡ true) where
+    module _ (failed : Bool) (s : Spec) (accepted : IsAccepted text s) (script : Script) (spelled : IsScript script_text script) (in_range : are_in_range steps turns workers cut rounds ≡ true) where
       abbrev all : Result End RunError → Type 0
       all result = Runs (names_in s) (locations_in s) old new failed (book_run s turns script steps) result
 
       said : (result : Result End RunError) → all result → MatchResult result done explains
-      said (Ok e) h = record { tree = s; covered = covered; script = script; spelled = spelled; in_range = in_range; written = h.0; answered = h.1 }
-      said (Err error.Memory) h = inr (record { tree = s; covered = covered; script = script; spelled = spelled; in_range = in_range; holds = h.0 })
-      said (Err error.Write) h = record { tree = s; covered = covered; script = script; spelled = spelled; in_range = in_range; holds = h.0 }
+      said (Ok e) h = record { tree = s; accepted = accepted; script = script; spelled = spelled; in_range = in_range; written = h.0; answered = h.1 }
+      said (Err error.Memory) h = inr (record { tree = s; accepted = accepted; script = script; spelled = spelled; in_range = in_range; holds = h.0 })
+      said (Err error.Write) h = record { tree = s; accepted = accepted; script = script; spelled = spelled; in_range = in_range; holds = h.0 }
       said (Err error.Limits) h = absurd h
-      said (Err error.Beyond) h = absurd h
       said (Err (error.Read e)) h = absurd h
       said (Err (error.Check e)) h = absurd h
       said (Err (error.Script e)) h = absurd h
@@ -75,7 +74,6 @@ module _ (text script_text : List ℕ) (steps turns workers cut rounds : ℕ) wh
       fails (Err error.Memory) h = let no : failed ≡ false = h.1 in (λ f. absurd (cc), λ e. absurd cc)
       fails (Err error.Write) h = (λ f. refl, λ e. h.1)
       fails (Err error.Limits) h = absurd h
-      fails (Err error.Beyond) h = absurd h
       fails (Err (error.Read e)) h = absurd h
       fails (Err (error.Check e)) h = absurd h
       fails (Err (error.Script e)) h = absurd h

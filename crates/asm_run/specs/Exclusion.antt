@@ -7,14 +7,13 @@ use Rattle.asm_syntax.specs.Placed.{Spec}
 use Rattle.asm_reader.specs.ScriptLines.{Script}
 use Rattle.asm_reader.specs.ScriptText.{IsScript}
 use Rattle.asm_run.specs.Limits.{are_in_range}
-use Rattle.asm_run.specs.Headline.{IsCovered, Explains}
+use Rattle.asm_run.specs.Headline.{IsAccepted, Explains}
 use Rattle.asm_run.specs.declared.error.RunError.{RunError}
 use Rattle.asm_run.specs.declared.error.RunError.TheVariants as error
 
 abbrev pub IsNamed : RunError → Type 0
 IsNamed (error.Read e) = Unit {0}
 IsNamed (error.Check e) = Unit {0}
-IsNamed error.Beyond = Unit {0}
 IsNamed (error.Script e) = Unit {0}
 IsNamed error.Limits = Unit {0}
 IsNamed error.Memory = ⊥
@@ -27,6 +26,6 @@ OneNamedRefusal =
 
 abbrev pub NoRunBesideARefusal : Type 0
 NoRunBesideARefusal =
-    (text script_text : List ℕ) (steps turns workers cut rounds : ℕ) (old new : Option (List ℕ)) (s : Spec) (script : Script) (e : RunError) → IsCovered text s
+    (text script_text : List ℕ) (steps turns workers cut rounds : ℕ) (old new : Option (List ℕ)) (s : Spec) (script : Script) (e : RunError) → IsAccepted text s
     → IsScript script_text script
     → are_in_range steps turns workers cut rounds ≡ true → IsNamed e → ¬ Explains text script_text steps turns workers cut rounds old new e

@@ -1,7 +1,6 @@
 -- What a run writes and answers.
---     IsCovered text s                 the text is that of the specification s, which has no fault and is one of those that run
+--     IsAccepted text s                the text is that of the specification s, which has no fault
 --     IsFaulty text e                  the text is that of a specification whose first fault is this
---     IsBeyond text                    the text is that of a specification without faults that isn't one of those that run
 --     book_run s turns script steps    the run of s under the script
 --     IsWritten, IsCut, AreWholeSteps  what the bytes of the sink grew by
 --     Explains                         what a refusal says
@@ -20,7 +19,6 @@ use Rattle.asm_reader.specs.ScriptLines.{Script}
 use Rattle.asm_reader.specs.ScriptText.{IsScript, IsScriptRefusal}
 use Rattle.asm_eval.specs.Run as run
 use Rattle.asm_eval.specs.Run.{Run, AtLimit, AtExhausted, AtFault}
-use Rattle.asm_run.specs.Covered.{is_covered}
 use Rattle.asm_run.specs.Limits.{are_in_range}
 use Rattle.asm_run.specs.Trace.{Names, IsTrace, steps_text}
 use Rattle.asm_run.specs.Written.{names_in, locations_in}
@@ -29,16 +27,12 @@ use Rattle.asm_run.specs.declared.end.End.TheVariants as end
 use Rattle.asm_run.specs.declared.error.RunError.{RunError}
 use Rattle.asm_run.specs.declared.error.RunError.TheVariants as error
 
-pub record IsCovered (text : List ℕ) (s : Spec) : Type 0 where
+pub record IsAccepted (text : List ℕ) (s : Spec) : Type 0 where
   pub spelled : IsSpecification text s
   pub faultless : IsWellFormed s
-  pub covered : is_covered s ≡ true
 
 abbrev pub IsFaulty : List ℕ → CheckError → Type 0
 IsFaulty text e = (s : Spec) × IsSpecification text s × IsLeastFault s e.at (number_of e.kind)
-
-abbrev pub IsBeyond : List ℕ → Type 0
-IsBeyond text = (s : Spec) × IsSpecification text s × IsWellFormed s × (is_covered s ≡ false)
 
 abbrev pub book_run : Spec → (turns : ℕ) → Script → (steps : ℕ) → Run
 book_run s turns script steps = run.run (specification_of s) turns script steps
@@ -82,7 +76,7 @@ module _ (text script_text : List ℕ) (steps turns workers cut rounds : ℕ) (o
   -- The whole trace is written, and the answer is the end of the run.
   pub record IsDone (answer : End) : Type 0 where
     pub tree : Spec
-    pub covered : IsCovered text tree
+    pub accepted : IsAccepted text tree
     pub script : Script
     pub spelled : IsScript script_text script
     pub in_range : are_in_range steps turns workers cut rounds ≡ true
@@ -92,7 +86,7 @@ module _ (text script_text : List ℕ) (steps turns workers cut rounds : ℕ) (o
   -- A run was begun, and what was written of it.
   pub record IsBegun (P : Spec → Run → Type 0) : Type 0 where
     pub tree : Spec
-    pub covered : IsCovered text tree
+    pub accepted : IsAccepted text tree
     pub script : Script
     pub spelled : IsScript script_text script
     pub in_range : are_in_range steps turns workers cut rounds ≡ true
@@ -101,9 +95,8 @@ module _ (text script_text : List ℕ) (steps turns workers cut rounds : ℕ) (o
   abbrev pub Explains : RunError → Type 0
   Explains (error.Read e) = IsRefusal text e × IsUnwritten old new
   Explains (error.Check e) = IsFaulty text e × IsUnwritten old new
-  Explains error.Beyond = IsBeyond text × IsUnwritten old new
-  Explains (error.Script e) = (s : Spec) × IsCovered text s × IsScriptRefusal script_text e × IsUnwritten old new
+  Explains (error.Script e) = (s : Spec) × IsAccepted text s × IsScriptRefusal script_text e × IsUnwritten old new
   Explains error.Limits =
-      (s : Spec) × IsCovered text s × (script : Script) × IsScript script_text script × (are_in_range steps turns workers cut rounds ≡ false) × IsUnwritten old new
+      (s : Spec) × IsAccepted text s × (script : Script) × IsScript script_text script × (are_in_range steps turns workers cut rounds ≡ false) × IsUnwritten old new
   Explains error.Memory = IsUnwritten old new ⊎ IsBegun (λ s r. AreWholeSteps (names_in s) (locations_in s) 1 old new r)
   Explains error.Write = IsBegun (λ s r. IsCut (names_in s) (locations_in s) 1 old new r)

@@ -1,4 +1,3 @@
-pub mod Covered
 pub mod Sink
 pub mod Through
 pub mod Limits

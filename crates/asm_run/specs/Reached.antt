@@ -35,7 +35,6 @@ Runs names ls old new failed r (Ok e) = IsWritten names ls 1 old new r × IsAnsw
 Runs names ls old new failed r (Err error.Memory) = AreWholeSteps names ls 1 old new r × (failed ≡ false)
 Runs names ls old new failed r (Err error.Write) = IsCut names ls 1 old new r × (failed ≡ true)
 Runs names ls old new failed r (Err error.Limits) = ⊥
-Runs names ls old new failed r (Err error.Beyond) = ⊥
 Runs names ls old new failed r (Err (error.Read refusal)) = ⊥
 Runs names ls old new failed r (Err (error.Check refusal)) = ⊥
 Runs names ls old new failed r (Err (error.Script refusal)) = ⊥

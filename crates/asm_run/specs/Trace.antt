@@ -83,10 +83,12 @@ fault_text names i (Clash l r) =
     ++ (codes " least " ++ (value_text names.elements r.least ++ (codes " greatest " ++ (value_text names.elements r.greatest ++ line_end)))))))
 fault_text names i (Outside f) = codes "end outside step " ++ (decimal i ++ (codes " " ++ (function_text names f ++ line_end)))
 
+abbrev pub exhausted_line : (step : ℕ) → Place → List ℕ
+exhausted_line i p = codes "end exhausted step " ++ (decimal i ++ (codes " place " ++ (place_text p ++ line_end)))
+
 abbrev pub IsEndText : Names → End → List ℕ → Type 0
 IsEndText names AtLimit text = text ≡ codes "end limit" ++ line_end
-IsEndText names (AtExhausted i p) text =
-    text ≡ codes "end exhausted step " ++ (decimal i ++ (codes " place " ++ (place_text p ++ line_end)))
+IsEndText names (AtExhausted i p) text = text ≡ exhausted_line i p
 IsEndText names (AtFault i U) text = (fault : Fault) × IsFirstFault U fault × (text ≡ fault_text names i fault)
 
 abbrev pub content_text : Names → Location → Value → List ℕ

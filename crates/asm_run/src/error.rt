@@ -10,8 +10,7 @@ use asm_syntax::Refused;
 use std::alloc::{AllocError, AllocFailed};
 use thiserror::Error;
 
-/// A refusal. The first that applies is answered, in the order `Read`, `Check`, `Beyond`, `Script`, `Limits`, and then `Memory` and
-/// `Write`;
+/// A refusal. The first that applies is answered, in the order `Read`, `Check`, `Script`, `Limits`, and then `Memory` and `Write`;
 /// `Memory` can come before any.
 #[derive(Debug, Drop, Error)]
 pub enum RunError {
@@ -33,9 +32,6 @@ pub enum RunError {
     /// The sink failed.
     #[error("the trace could not be written")]
     Write,
-    /// The specification has no fault, and is beyond what runs yet.
-    #[error("the specification is beyond what runs yet")]
-    Beyond,
 }
 
 impl From<AllocError> for RunError {

@@ -6,70 +6,77 @@ ghost use Rattle.asm_check.specs.Shapes.{shape_of};
 ghost use Rattle.asm_run.specs.declared.end.End.TheVariants.{Limit};
 ghost use Rattle.asm_run.specs.Trace.{line_end};
 ghost use Rattle.asm_run.specs.Written.{contents_text};
-ghost use Rattle.asm_run.specs.Step.{IsFaultBelow, fault_line, end_of_fault, Finishes};
+ghost use Rattle.asm_run.specs.Step.{IsStopBelow, stop_line, end_of_stop, Finishes};
 
 use crate::end::End;
 use crate::error::RunError;
 use crate::sink::Sink;
-use crate::trace::{push_clash, push_limit, push_outside, push_state};
+use crate::step::Stop;
+use crate::trace::{push_clash, push_exhausted, push_limit, push_outside, push_state};
 use crate::write_all::write_all;
 use asm_check::Checked;
 use asm_state::state::State;
 use asm_updates::fault::Fault;
 use std::alloc::{AllocError, Global};
 
-/// Adds the line of a fault.
-fn push_fault(
+/// Adds the line of a step at which the run ends.
+fn push_stop(
     alloc: Global,
     out: &mut Vec<u8>,
     checked: &Checked,
     step: u64,
-    fault: Fault,
+    stop: Stop,
+    place: &[u64],
 ) -> Result<(), AllocError>
-    requires { IsFaultBelow (spec_of checked.now.spec) fault }
-    ensures { OnOk result (out.new.items ≡ out.old.items ++ fault_line (spec_of checked.now.spec) step fault) }
+    requires { IsStopBelow (spec_of checked.now.spec) stop }
+    ensures { OnOk result (out.new.items ≡ out.old.items ++ stop_line (spec_of checked.now.spec) step stop place.now) }
 {
-    match fault {
-        Fault::Clash {
-            location,
-            low,
-            high,
-        } => push_clash(alloc, out, checked, step, location, low, high),
-        Fault::Outside { function } => push_outside(out, checked, step, function),
+    match stop {
+        Stop::Fault(
+            Fault::Clash {
+                location,
+                low,
+                high,
+            },
+        ) => push_clash(alloc, out, checked, step, location, low, high),
+        Stop::Fault(Fault::Outside { function }) => push_outside(out, checked, step, function),
+        Stop::Exhausted => push_exhausted(out, step, place),
     }
 }
 
-/// The answer for a fault.
-fn end_of(fault: Fault) -> End
-    ensures { result ≡ end_of_fault fault }
+/// The answer for a step at which the run ends.
+fn end_of(stop: Stop) -> End
+    ensures { result ≡ end_of_stop stop }
 {
-    match fault {
-        Fault::Clash { .. } => End::Clash,
-        Fault::Outside { .. } => End::Outside,
+    match stop {
+        Stop::Fault(Fault::Clash { .. }) => End::Clash,
+        Stop::Fault(Fault::Outside { .. }) => End::Outside,
+        Stop::Exhausted => End::Exhausted,
     }
 }
 
-/// Writes the lines for a run that stops at a fault.
-pub fn finish_at_fault<S: Sink>(
+/// Writes the lines for a run that ends at a step.
+pub fn finish_at_stop<S: Sink>(
     alloc: Global,
     text: &mut Vec<u8>,
     checked: &Checked,
     step: u64,
-    fault: Fault,
+    stop: Stop,
+    place: &[u64],
     state: &State,
     out: &mut S,
 ) -> Result<End, RunError>
     requires open { S.has_failed out.old ≡ false }
-    requires below { IsFaultBelow (spec_of checked.now.spec) fault }
+    requires below { IsStopBelow (spec_of checked.now.spec) stop }
     requires whole { length state.now ≡ count_of (shape_of (spec_of checked.now.spec)) }
     ensures { let s = spec_of checked.now.spec in
-        Finishes (S.bytes out.old) (S.bytes out.new) (S.has_failed out.new) (fault_line s step fault ++ contents_text s state.now) (end_of_fault fault) result }
+        Finishes (S.bytes out.old) (S.bytes out.new) (S.has_failed out.new) (stop_line s step stop place.now ++ contents_text s state.now) (end_of_stop stop) result }
 {
     text.clear();
-    push_fault(alloc, text, checked, step, fault)?;
+    push_stop(alloc, text, checked, step, stop, place)?;
     push_state(alloc, text, checked, state)?;
     write_all(out, text.as_slice())?;
-    Ok(end_of(fault))
+    Ok(end_of(stop))
 }
 
 /// Writes the lines for a run that makes all its steps.

@@ -1,7 +1,6 @@
 //! Runs of specifications, from the bytes of their texts to the bytes of their traces.
 #![tactic(auto)]
 
-mod covered;
 pub mod end;
 pub mod error;
 mod finish;

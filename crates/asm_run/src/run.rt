@@ -3,7 +3,6 @@ ghost use Rattle.std.specs.Prelude.{◌≡◌, ◌↔◌, false, IsTrue, IfOk, I
 ghost use Rattle.asm_run.specs.Headline.{IsDone, Explains};
 ghost use Rattle.asm_run.specs.declared.error.RunError.TheVariants.{Write};
 
-use crate::covered::is_covered;
 use crate::end::End;
 use crate::error::RunError;
 use crate::limits::Limits;
@@ -16,8 +15,8 @@ use std::thread::Threads;
 
 /// Runs the specification with this text, and writes its trace: the text of each step when it is whole, and then the last lines.
 ///
-/// A text that is no specification is refused, and so are a specification with a fault, one with a construction that doesn't run yet, a
-/// text that is no script, and limits out of their ranges; then nothing is written. No thread is started yet.
+/// A text that is no specification is refused, and so are a specification with a fault, a text that is no script, and limits out of their
+/// ranges; then nothing is written. No thread is started yet.
 pub fn run<R: Threads, S: Sink>(
     _rt: &R,
     alloc: Global,
@@ -37,9 +36,6 @@ pub fn run<R: Threads, S: Sink>(
 {
     let tree = read(alloc, spec)?;
     let checked = check(alloc, tree)?;
-    if !is_covered(&checked.spec) {
-        return Err(RunError::Beyond);
-    }
     let script = read_script(alloc, script)?;
     if !limits.are_in_range() {
         return Err(RunError::Limits);

@@ -1,18 +1,17 @@
 //! One step of a run.
-ghost use Rattle.std.specs.Prelude.{◌≡◌, true, IfOk, IfSome, IfNone, OnOk};
+ghost use Rattle.std.specs.Prelude.{◌≡◌, IfOk, IfErr, IfSome, IfNone, OnOk};
 ghost use Rattle.asm_syntax.specs.Unplaced.{plain_rule};
 ghost use Rattle.asm_syntax.specs.Views.{spec_of, rule_of};
 ghost use Rattle.asm_check.specs.Faults.{inits};
 ghost use Rattle.asm_check.specs.Shapes.{shape_of};
-ghost use Rattle.asm_eval.specs.BasicRules.{is_basic};
 ghost use Rattle.asm_eval.specs.Declarations.{main_rule};
-ghost use Rattle.asm_eval.specs.Formed.{IsSet};
+ghost use Rattle.asm_eval.specs.Formed.{IsSet, IsStoppedAt};
 ghost use Rattle.asm_run.specs.Step.{AreSized, IsFired, IsStopped, main_outcome};
 
 use crate::trace::push_step;
 use asm_check::Checked;
 use asm_eval::form::form;
-use asm_eval::{Choices, Env, Evaluation, Forming, View};
+use asm_eval::{Choices, Env, Evaluation, Forming, Stopped, View};
 use asm_reader::Picks;
 use asm_state::state::State;
 use asm_syntax::rule::Rule;
@@ -29,13 +28,14 @@ fn form_main<P: Picks>(
     turns: u32,
     state: &State,
     made: &mut Forming,
-) -> Result<(), AllocError>
+) -> Result<(), Stopped>
     requires sized { AreSized (spec_of checked.now.spec) state.now made.old.set.count }
     requires main { plain_rule (rule_of main.now) ≡ main_rule (spec_of checked.now.spec) (inits (spec_of checked.now.spec)) }
-    requires basic { is_basic (plain_rule (rule_of main.now)) ≡ true }
     ensures count { made.new.set.count ≡ made.old.set.count }
     ensures formed { let o = main_outcome (spec_of checked.now.spec) turns (P.script choices.now.script.now) choices.now.step state.now in
         OnOk result (IsSet (shape_of (spec_of checked.now.spec)) o made.new.set made.new.instances) }
+    ensures exhausted { let o = main_outcome (spec_of checked.now.spec) turns (P.script choices.now.script.now) choices.now.step state.now in
+        IfErr result (IsStoppedAt o made.new.place.items) }
 {
     made.set.clear();
     made.instances = 0;
@@ -53,7 +53,16 @@ fn form_main<P: Picks>(
     form(alloc, &at, &env, main, made)
 }
 
-/// Forms the set of a step. Fires it and puts the text of the step in place of what was there, or answers the set's first fault.
+/// Why a run ends at a step.
+#[derive(Clone, Copy, Debug, PartialEq, Eq)]
+pub enum Stop {
+    /// The step's set has this first fault.
+    Fault(Fault),
+    /// There is no set: an `iterate` has made its last turn, the one at the place where the forming stands.
+    Exhausted,
+}
+
+/// Forms the set of a step. Fires it and puts the text of the step in place of what was there, or answers why the run ends.
 pub fn make_step<P: Picks>(
     alloc: Global,
     checked: &Checked,
@@ -63,17 +72,20 @@ pub fn make_step<P: Picks>(
     state: &mut State,
     made: &mut Forming,
     text: &mut Vec<u8>,
-) -> Result<Option<Fault>, AllocError>
+) -> Result<Option<Stop>, AllocError>
     requires sized { AreSized (spec_of checked.now.spec) state.old made.old.set.count }
     requires main { plain_rule (rule_of main.now) ≡ main_rule (spec_of checked.now.spec) (inits (spec_of checked.now.spec)) }
-    requires basic { is_basic (plain_rule (rule_of main.now)) ≡ true }
     ensures sized { OnOk result (AreSized (spec_of checked.now.spec) state.new made.new.set.count) }
-    ensures fired { IfOk result (λ fault. IfNone fault (IsFired (spec_of checked.now.spec) turns (P.script choices.now.script.now) choices.now.step state.old state.new text.new.items)) }
-    ensures stopped { IfOk result (λ fault. IfSome fault (IsStopped (spec_of checked.now.spec) turns (P.script choices.now.script.now) choices.now.step state.old state.new)) }
+    ensures fired { IfOk result (λ stop. IfNone stop (IsFired (spec_of checked.now.spec) turns (P.script choices.now.script.now) choices.now.step state.old state.new text.new.items)) }
+    ensures stopped { IfOk result (λ stop. IfSome stop (IsStopped (spec_of checked.now.spec) turns (P.script choices.now.script.now) choices.now.step state.old state.new made.new.place.items)) }
 {
-    form_main(alloc, checked, main, choices, turns, state, made)?;
+    match form_main(alloc, checked, main, choices, turns, state, made) {
+        Ok(()) => {}
+        Err(Stopped::Exhausted) => return Ok(Some(Stop::Exhausted)),
+        Err(Stopped::Memory) => return Err(AllocError),
+    }
     if let Some(fault) = made.set.first_fault(checked.signature()) {
-        return Ok(Some(fault));
+        return Ok(Some(Stop::Fault(fault)));
     }
     made.set.sort()?;
     text.clear();

@@ -1,9 +1,8 @@
 //! The steps of a run, one after the other.
-ghost use Rattle.std.specs.Prelude.{◌≡◌, true, false};
+ghost use Rattle.std.specs.Prelude.{◌≡◌, false};
 ghost use Rattle.asm_syntax.specs.Unplaced.{plain_rule};
 ghost use Rattle.asm_syntax.specs.Views.{spec_of, rule_of};
 ghost use Rattle.asm_check.specs.Faults.{inits};
-ghost use Rattle.asm_eval.specs.BasicRules.{is_basic};
 ghost use Rattle.asm_eval.specs.Declarations.{main_rule};
 ghost use Rattle.asm_run.specs.Headline.{book_run};
 ghost use Rattle.asm_run.specs.Reached.{Runs};
@@ -11,7 +10,7 @@ ghost use Rattle.asm_run.specs.Written.{names_in, locations_in};
 
 use crate::end::End;
 use crate::error::RunError;
-use crate::finish::{finish_at_fault, finish_at_limit};
+use crate::finish::{finish_at_limit, finish_at_stop};
 use crate::limits::Limits;
 use crate::sink::Sink;
 use crate::step::make_step;
@@ -35,7 +34,6 @@ pub fn run_steps<S: Sink, P: Picks>(
 ) -> Result<End, RunError>
     requires open { S.has_failed out.old ≡ false }
     requires main { plain_rule (rule_of main.now) ≡ main_rule (spec_of checked.now.spec) (inits (spec_of checked.now.spec)) }
-    requires basic { is_basic (plain_rule (rule_of main.now)) ≡ true }
     ensures { let s = spec_of checked.now.spec in
         Runs (names_in s) (locations_in s) (S.bytes out.old) (S.bytes out.new) (S.has_failed out.new) (book_run s limits.now.turns (P.script script.now) limits.now.steps) result }
 {
@@ -52,7 +50,7 @@ pub fn run_steps<S: Sink, P: Picks>(
             script,
             step: u64::from(done) + 1,
         };
-        let fault = make_step(
+        let stop = make_step(
             alloc,
             checked,
             main,
@@ -62,8 +60,18 @@ pub fn run_steps<S: Sink, P: Picks>(
             &mut made,
             &mut text,
         )?;
-        if let Some(fault) = fault {
-            return finish_at_fault(alloc, &mut text, checked, choices.step, fault, &state, out);
+        if let Some(stop) = stop {
+            let place = made.place.as_slice();
+            return finish_at_stop(
+                alloc,
+                &mut text,
+                checked,
+                choices.step,
+                stop,
+                place,
+                &state,
+                out,
+            );
         }
         write_all(out, text.as_slice())?;
     }

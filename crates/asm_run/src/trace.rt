@@ -9,7 +9,7 @@ ghost use Rattle.asm_check.specs.Shapes.{shape_of};
 ghost use Rattle.asm_updates.specs.Entries.{range};
 ghost use Rattle.asm_updates.specs.declared.fault.Fault.TheVariants as fault;
 ghost use Rattle.asm_run.specs.Step.{fault_line};
-ghost use Rattle.asm_run.specs.Trace.{line_end, update_text};
+ghost use Rattle.asm_run.specs.Trace.{line_end, update_text, numbers_text, place_text, exhausted_line};
 ghost use Rattle.asm_run.specs.Written.{names_in, step_line, entries_text, content_line, contents_text};
 
 use crate::locations::{push_function, push_location, push_value};
@@ -177,4 +177,38 @@ pub fn push_outside(
     push_text(out, b" ")?;
     push_function(out, checked, function)?;
     push_text(out, b"\n")
+}
+
+/// Adds a place: its numbers with dots between them, or a hyphen where it has none.
+fn push_place(out: &mut Vec<u8>, place: &[u64]) -> Result<(), AllocError>
+    ensures { OnOk result (out.new.items ≡ out.old.items ++ place_text place.now) }
+{
+    match place {
+        [] => push_text(out, b"-"),
+        [first, rest @ ..] => push_numbers(out, *first, rest),
+    }
+}
+
+/// Adds the numbers of a place that has any.
+fn push_numbers(out: &mut Vec<u8>, first: u64, rest: &[u64]) -> Result<(), AllocError>
+    ensures { OnOk result (out.new.items ≡ out.old.items ++ numbers_text first rest.now) }
+{
+    push_count(out, first)?;
+    for i in 0..rest.len() {
+        push_text(out, b".")?;
+        push_count(out, rest[i])?;
+    }
+    Ok(())
+}
+
+/// Adds the line for an `iterate` that made its last turn.
+pub fn push_exhausted(out: &mut Vec<u8>, step: u64, place: &[u64]) -> Result<(), AllocError>
+    ensures { OnOk result (out.new.items ≡ out.old.items ++ exhausted_line step place.now) }
+{
+    push_text(out, b"end exhausted step ")?;
+    push_count(out, step)?;
+    push_text(out, b" place ")?;
+    push_place(out, place)?;
+    push_text(out, b"\n")?;
+    Ok(())
 }

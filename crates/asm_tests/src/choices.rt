@@ -2,7 +2,6 @@
 ghost use Rattle.std.specs.Prelude.{[]};
 
 use asm_check::check;
-use asm_eval::basic::is_basic;
 use asm_eval::whole::whole;
 use asm_eval::{Choices, Env, Outcome, View};
 use asm_reader::{Picks, read};
@@ -33,7 +32,8 @@ impl Picks for Counting {
 /// What stands before the main rule's body.
 const BEFORE: &str = "CoreASM T init M \
 enum Color = { red, green, blue } universe Idx = 0 .. 2 universe Empty = 1 .. 0 \
-function controlled c : Idx function controlled x rule M = ";
+function controlled c : Idx function controlled x \
+rule Pick(n) = choose i in Idx do x := i endchoose rule M = ";
 
 /// What a main rule with this body yields at the empty place in the initial state, and how often it asks.
 fn yielded(alloc: Global, body: &str) -> Result<(Outcome, u64), Fail> {
@@ -42,9 +42,6 @@ fn yielded(alloc: Global, body: &str) -> Result<(Outcome, u64), Fail> {
     let spec = read(alloc, text.as_bytes())?;
     let checked = check(alloc, spec)?;
     let (_parameters, main) = checked.rule(checked.main());
-    if !is_basic(main) {
-        return Err(Fail::from("a rule that doesn't run yet"));
-    }
     let signature = checked.signature();
     let state = State::initial(alloc, signature)?;
     let nothing = Summary::new(alloc, signature.count());
@@ -62,7 +59,7 @@ fn yielded(alloc: Global, body: &str) -> Result<(Outcome, u64), Fail> {
 }
 
 /// Bodies, and how often they ask.
-static ASKING: [(&str, u64); 18] = [
+static ASKING: [(&str, u64); 23] = [
     ("skip", 0),
     ("choose k in Color do skip endchoose", 1),
     ("choose k in Color with k != red do skip endchoose", 1),
@@ -117,6 +114,20 @@ static ASKING: [(&str, u64); 18] = [
         "forall i in Idx with i = 5 do choose j in Idx do skip endchoose endforall",
         0,
     ),
+    (
+        "seq choose i in Idx do x := i endchoose choose i in Idx with i > x do x := i endchoose endseq",
+        2,
+    ),
+    (
+        "seq par x := 1 x := 2 endpar choose i in Idx do skip endchoose endseq",
+        0,
+    ),
+    (
+        "seq x := 0 iterate choose i in Idx with i > x do x := i endchoose enditerate endseq",
+        2,
+    ),
+    ("Pick(x)", 1),
+    ("seq Pick(x) Pick(x + 1) endseq", 2),
 ];
 
 #[test]
@@ -173,5 +184,39 @@ fn a_clash_and_a_stray_location_stand_in_the_set(rt: HostRuntime) -> Result<(), 
     assert!(rt; set.get(2) == Some((one, one)));
     assert!(rt; set.get(3) == Some((two, two)));
     assert!(rt; set.get(4) == Some((zero, two)));
+    Ok(())
+}
+
+#[test]
+fn a_sequence_yields_one_set(rt: HostRuntime) -> Result<(), Fail> {
+    let body =
+        "seq x := 1 forall i in Idx with i <= x do c(i) := x + i endforall iterate if x < 5 then x := x + 2 endif enditerate endseq";
+    let (outcome, asked) = yielded(rt.alloc(), body)?;
+    let Outcome::Set { set, instances } = outcome else {
+        return Err(Fail::from("no set"));
+    };
+    assert_eq!(rt; asked, 0);
+    assert_eq!(rt; instances, 2);
+    let one = Value::Number(Number { value: 1 });
+    let two = Value::Number(Number { value: 2 });
+    let five = Value::Number(Number { value: 5 });
+    assert_eq!(rt; set.len(), 3);
+    assert!(rt; set.get(0) == Some((one, one)));
+    assert!(rt; set.get(1) == Some((two, two)));
+    assert!(rt; set.get(4) == Some((five, five)));
+    Ok(())
+}
+
+#[test]
+fn an_exhausted_rule_yields_its_place(rt: HostRuntime) -> Result<(), Fail> {
+    let body =
+        "par skip seq x := 0 forall i in Idx with i > 0 do iterate c(i) := 1 enditerate endforall endseq par x := 1 x := 2 endpar endpar";
+    let (outcome, asked) = yielded(rt.alloc(), body)?;
+    let Outcome::Exhausted(place) = outcome else {
+        return Err(Fail::from("a set"));
+    };
+    assert_eq!(rt; asked, 0);
+    assert!(rt; place.as_slice() == [1, 1, 1].as_slice());
+    assert!(rt; place.into_vec().as_slice() == [1, 1, 1].as_slice());
     Ok(())
 }

@@ -52,9 +52,6 @@ pub enum Fault {
     /// The specification has a fault.
     #[error("check {} at {}\n", .0.number(), .0.at)]
     Check(CheckError),
-    /// The specification has no fault, and is beyond what runs yet.
-    #[error("beyond\n")]
-    Beyond,
     /// The script is refused.
     #[error("{}\n", ScriptRefusal {error: *.0})]
     Script(ScriptError),
@@ -73,7 +70,7 @@ impl Fault {
     /// The program's status.
     pub fn status(&self) -> u8 {
         match self {
-            Fault::Read(_) | Fault::Check(_) | Fault::Beyond | Fault::Script(_) => 2,
+            Fault::Read(_) | Fault::Check(_) | Fault::Script(_) => 2,
             Fault::Memory | Fault::File | Fault::Write => 3,
             Fault::Words(_) | Fault::NotText => 4,
         }

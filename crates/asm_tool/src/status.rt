@@ -89,7 +89,6 @@ fn written<R: Threads, O: Write + Drop>(
         Ok(end) => end,
         Err(RunError::Read(error)) => return Err(Fault::Read(error)),
         Err(RunError::Check(error)) => return Err(Fault::Check(error)),
-        Err(RunError::Beyond) => return Err(Fault::Beyond),
         Err(RunError::Script(error)) => return Err(Fault::Script(error)),
         Err(RunError::Memory) => return Err(Fault::Memory),
         Err(RunError::Write) => return Err(Fault::Write),

@@ -1,7 +1,7 @@
 //! Limits out of their ranges, and sinks that fail.
 use super::COUNTER;
 use asm_run::end::End;
-use asm_run::error::{CheckError, FaultKind, ReadError, RunError};
+use asm_run::error::{CheckError, FaultKind, ReadError, RunError, ScriptError};
 use asm_run::limits::Limits;
 use asm_run::run::run;
 use asm_run::through::Through;
@@ -77,11 +77,20 @@ fn a_refused_text_comes_before_a_refused_limit(rt: HostRuntime) -> Result<(), Fa
         at: 9,
     };
     assert!(rt; matches!(check, Err(RunError::Check(fault)) if fault == init));
-    let sequence = b"CoreASM T\ninit M\nrule M = seq skip endseq\n";
-    let beyond = run(&rt, rt.alloc(), sequence, b"", &limits(3, 0), &mut out);
-    assert!(rt; matches!(beyond, Err(RunError::Beyond)));
     assert_eq!(rt; out.into_inner().len(), 0);
     Ok(())
+}
+
+#[test]
+fn a_refused_script_comes_before_a_refused_limit(rt: HostRuntime) {
+    let text = b"CoreASM T\ninit M\nrule M = seq skip r endseq\nrule r = iterate skip enditerate\n";
+    let mut out = Through::new(Vec::new(rt.alloc()));
+    let script = run(&rt, rt.alloc(), text, b"1 -", &limits(3, 0), &mut out);
+    let line = ScriptError::BadLine { line: 1 };
+    assert!(rt; matches!(script, Err(RunError::Script(error)) if error == line));
+    let limit = run(&rt, rt.alloc(), text, b"1 - 1", &limits(3, 0), &mut out);
+    assert!(rt; matches!(limit, Err(RunError::Limits)));
+    assert_eq!(rt; out.into_inner().len(), 0);
 }
 
 #[test]

@@ -12,7 +12,7 @@ struct Row {
     status: u8,
 }
 
-static ROWS: [Row; 10] = [
+static ROWS: [Row; 16] = [
     Row {
         name: "counter",
         text: "CoreASM T\n\
@@ -151,6 +151,96 @@ static ROWS: [Row; 10] = [
             end limit\n\
             state\n",
         status: 0,
+    },
+    Row {
+        name: "call_by_name",
+        text: "CoreASM T\n\
+            init M\n\
+            function controlled x initially 1\n\
+            function controlled y\n\
+            rule M = r(x)\n\
+            rule r(p) = seq x := p + 1 y := p endseq\n",
+        steps: "1",
+        trace: "step 1 instances 0\n\
+            x := 2\n\
+            y := 2\n\
+            end limit\n\
+            state\n\
+            x = 2\n\
+            y = 2\n",
+        status: 0,
+    },
+    Row {
+        name: "merge_beside_an_equal",
+        text: "CoreASM T\n\
+            init M\n\
+            function controlled x\n\
+            rule M = par seq x := 1 x := 2 endseq x := 2 endpar\n",
+        steps: "1",
+        trace: "step 1 instances 0\n\
+            x := 2\n\
+            end limit\n\
+            state\n\
+            x = 2\n",
+        status: 0,
+    },
+    Row {
+        name: "faulty_sequence_stops",
+        text: "CoreASM T\n\
+            init M\n\
+            function controlled x\n\
+            function controlled y initially 0\n\
+            function controlled z\n\
+            rule M = par z := 1 seq par x := 2 x := 1 endpar iterate y := y enditerate endseq endpar\n",
+        steps: "1",
+        trace: "end clash step 1 x least 1 greatest 2\n\
+            state\n\
+            y = 0\n",
+        status: 1,
+    },
+    Row {
+        name: "iterate_to_three",
+        text: "CoreASM T\n\
+            init M\n\
+            function controlled x initially 0\n\
+            rule M = iterate if x < 3 then x := x + 1 endif enditerate\n",
+        steps: "2",
+        trace: "step 1 instances 0\n\
+            x := 3\n\
+            step 2 instances 0\n\
+            end limit\n\
+            state\n\
+            x = 3\n",
+        status: 0,
+    },
+    Row {
+        name: "idle_iterate",
+        text: "CoreASM T\n\
+            init M\n\
+            function controlled x initially 0\n\
+            function controlled y\n\
+            rule M = par y := 1 y := 2 iterate x := x enditerate endpar\n",
+        steps: "1",
+        trace: "end exhausted step 1 place 2\n\
+            state\n\
+            x = 0\n",
+        status: 1,
+    },
+    Row {
+        name: "exhausted_in_a_later_step",
+        text: "CoreASM T\n\
+            init M\n\
+            function controlled n initially 0\n\
+            function controlled x initially 0\n\
+            rule M = seq n := n + 1 if n = 2 then iterate x := n enditerate endif endseq\n",
+        steps: "3",
+        trace: "step 1 instances 0\n\
+            n := 1\n\
+            end exhausted step 2 place 1.0\n\
+            state\n\
+            n = 1\n\
+            x = 0\n",
+        status: 1,
     },
 ];
 
@@ -308,28 +398,5 @@ fn specifications_with_faults_are_refused(rt: HostRuntime) {
         assert_eq!(rt; shown.line.as_slice(), line.as_bytes(), "{text}");
         assert_eq!(rt; shown.trace.len(), 0, "{text}");
         assert_eq!(rt; shown.status, 2, "{text}");
-    }
-}
-
-/// Specifications without faults that don't run, each for a reason of its own.
-static BEYOND: [(&str, &str); 3] = [
-    ("a call", "CoreASM T\ninit M\nrule M = r\nrule r = skip\n"),
-    (
-        "a sequence",
-        "CoreASM T\ninit M\nrule M = seq skip endseq\n",
-    ),
-    (
-        "turns in a rule that none calls",
-        "CoreASM T\ninit M\nrule M = skip\nrule r = let x = 1 in iterate skip enditerate endlet\n",
-    ),
-];
-
-#[test]
-fn specifications_that_do_not_run_yet_are_refused(rt: HostRuntime) {
-    for (reason, text) in &BEYOND {
-        let shown = shown_by(&rt, rt.alloc(), &["--steps", "1"], text.as_bytes());
-        assert_eq!(rt; shown.line.as_slice(), b"beyond\n".as_slice(), "{reason}");
-        assert_eq!(rt; shown.trace.len(), 0, "{reason}");
-        assert_eq!(rt; shown.status, 2, "{reason}");
     }
 }

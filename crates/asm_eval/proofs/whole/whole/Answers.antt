@@ -22,13 +22,12 @@ formed_from_none shape o empty new n nothing count formed = record {
   counts = let all : 0 + o.instances ≡ o.instances = omega arith in formed.counts ∙ ap (λ m. min m greatest_count) all;
 }
 
--- src/whole.rt:25:1
-pub returns : goal.returns
-returns g c =
+pub returns-in-Ok : goal.returns-in-Ok
+returns-in-Ok g c =
     let a = c.args in
     let shape : Shape = a.view.now.signature.now in
     let o = λ (p : List ℕ). does (program a.checked.now) a.turns (g.P.Picks.script a.choices.now.script.now) a.choices.now.step (shown a.view.now) (environment a.env.now) p (plain.plain_rule (rule_of a.rule.now)) in
     let at_place : c.in_ok-to_vec.field-0.items ≡ a.place.now = c.in_ok-to_vec.ensures.items_if_clones_equal (λ x y h. h) in
     formed_from_none shape (o a.place.now) c.new.result c.form.new.made.set c.form.new.made.instances
-    (c.new.ensures.empty shape c.count.ensures.sound c.count.ensures.count) (c.in_ok-form.ensures.count ∙ c.new.ensures.count ∙ c.count.ensures.count)
-    (subst (λ p. Forms shape (o p) c.new.result c.form.new.made.set 0 c.form.new.made.instances) at_place c.in_ok-form.ensures.formed)
+    (c.new.ensures.empty shape c.count.ensures.sound c.count.ensures.count) (c.in-Ok.ensures.count ∙ c.new.ensures.count ∙ c.count.ensures.count)
+    (subst (λ p. Forms shape (o p) c.new.result c.form.new.made.set 0 c.form.new.made.instances) at_place c.in-Ok.ensures.formed)

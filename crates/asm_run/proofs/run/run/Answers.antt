@@ -1,10 +1,10 @@
-use Rattle.std.proofs.Common.{◌≡◌, true, sym, ◌∙◌}
+use Rattle.std.proofs.Common.{◌≡◌, true}
 use Rattle.std.proofs.lemmas.Result.{err_from_is_err_and}
 use Rattle.asm_syntax.specs.Placed.{Spec}
 use Rattle.asm_syntax.specs.Views.{spec_of}
-use Rattle.asm_run.specs.Headline.{IsCovered}
+use Rattle.asm_run.specs.Headline.{IsAccepted}
 use Rattle.asm_run.specs.Limits.{are_in_range}
-use Rattle.asm_run.proofs.MainRule.{main_is, main_basic}
+use Rattle.asm_run.proofs.MainRule.{main_is}
 use Rattle.asm_run.proofs.Whole.{refused_text, refused_tree, refused_script, whole}
 use Rattle.asm_run.proofs.run.run.Goals as goal
 
@@ -24,58 +24,50 @@ pub returns-in_err-script-clause-refused : goal.returns-in_err-script-clause-ref
 returns-in_err-script-clause-refused g c =
     let limits = c.args.limits.now in
     let tree : Spec = spec_of c.in_ok-checked.checked.spec in
-    let covered : IsCovered c.args.spec.now tree = record {
+    let accepted : IsAccepted c.args.spec.now tree = record {
       spelled = rw c.in_ok-checked.ensures.accepted c.in_ok-tree.ensures.found;
       faultless = rw c.in_ok-checked.ensures.accepted c.in_ok-checked.ensures.well_formed;
-      covered = rw (← c.is_covered.ensures) c.if-not-is_covered.false;
     } in
     let p = err_from_is_err_and c.from_residual-in_err-script.result c.from_residual-in_err-script.ensures.1 in
-    rw (p.1, p.2) (refused_script c.args.spec.now c.args.script.now limits.steps limits.turns limits.workers limits.cut limits.rounds (g.S.Sink.bytes c.args.out.now) tree covered c.in_err-script.field-0.0 c.in_err-script.ensures.refused)
+    rw (p.1, p.2) (refused_script c.args.spec.now c.args.script.now limits.steps limits.turns limits.workers limits.cut limits.rounds (g.S.Sink.bytes c.args.out.now) tree accepted c.in_err-script.field-0.0 c.in_err-script.ensures.refused)
 
 pub run_steps-requires-clause-main : goal.run_steps-requires-clause-main
 run_steps-requires-clause-main g c =
     let one = c.main.ensures.one in
     main_is (spec_of c.in_ok-checked.checked.spec) one.0 c.main.result _ _ one.1 (c.main.ensures.main one.0 one.1) c.rule.ensures
 
-pub run_steps-requires-clause-basic : goal.run_steps-requires-clause-basic
-run_steps-requires-clause-basic g c =
-    main_basic (spec_of c.in_ok-checked.checked.spec) c.main.result _ _ (sym c.is_covered.ensures ∙ c.if-not-is_covered.false) c.rule.ensures
-
 pub returns-clause-done : goal.returns-clause-done
 returns-clause-done g c =
     let limits = c.args.limits.now in
     let tree : Spec = spec_of c.in_ok-checked.checked.spec in
-    let covered : IsCovered c.args.spec.now tree = record {
+    let accepted : IsAccepted c.args.spec.now tree = record {
       spelled = rw c.in_ok-checked.ensures.accepted c.in_ok-tree.ensures.found;
       faultless = rw c.in_ok-checked.ensures.accepted c.in_ok-checked.ensures.well_formed;
-      covered = rw (← c.is_covered.ensures) c.if-not-is_covered.false;
     } in
     let in_range : are_in_range limits.steps limits.turns limits.workers limits.cut limits.rounds ≡ true = rw (← c.are_in_range.ensures) c.if-not-are_in_range.false in
-    (whole c.args.spec.now c.args.script.now limits.steps limits.turns limits.workers limits.cut limits.rounds (g.S.Sink.bytes c.args.out.now) (g.S.Sink.bytes c.run_steps.new.out) (g.S.Sink.has_failed c.run_steps.new.out) tree covered
+    (whole c.args.spec.now c.args.script.now limits.steps limits.turns limits.workers limits.cut limits.rounds (g.S.Sink.bytes c.args.out.now) (g.S.Sink.bytes c.run_steps.new.out) (g.S.Sink.has_failed c.run_steps.new.out) tree accepted
     c.in_ok-script.script c.in_ok-script.ensures.found in_range c.run_steps.result c.run_steps.ensures).done
 
 pub returns-clause-refused : goal.returns-clause-refused
 returns-clause-refused g c =
     let limits = c.args.limits.now in
     let tree : Spec = spec_of c.in_ok-checked.checked.spec in
-    let covered : IsCovered c.args.spec.now tree = record {
+    let accepted : IsAccepted c.args.spec.now tree = record {
       spelled = rw c.in_ok-checked.ensures.accepted c.in_ok-tree.ensures.found;
       faultless = rw c.in_ok-checked.ensures.accepted c.in_ok-checked.ensures.well_formed;
-      covered = rw (← c.is_covered.ensures) c.if-not-is_covered.false;
     } in
     let in_range : are_in_range limits.steps limits.turns limits.workers limits.cut limits.rounds ≡ true = rw (← c.are_in_range.ensures) c.if-not-are_in_range.false in
-    (whole c.args.spec.now c.args.script.now limits.steps limits.turns limits.workers limits.cut limits.rounds (g.S.Sink.bytes c.args.out.now) (g.S.Sink.bytes c.run_steps.new.out) (g.S.Sink.has_failed c.run_steps.new.out) tree covered
+    (whole c.args.spec.now c.args.script.now limits.steps limits.turns limits.workers limits.cut limits.rounds (g.S.Sink.bytes c.args.out.now) (g.S.Sink.bytes c.run_steps.new.out) (g.S.Sink.has_failed c.run_steps.new.out) tree accepted
     c.in_ok-script.script c.in_ok-script.ensures.found in_range c.run_steps.result c.run_steps.ensures).refused
 
 pub returns-clause-failed : goal.returns-clause-failed
 returns-clause-failed g c =
     let limits = c.args.limits.now in
     let tree : Spec = spec_of c.in_ok-checked.checked.spec in
-    let covered : IsCovered c.args.spec.now tree = record {
+    let accepted : IsAccepted c.args.spec.now tree = record {
       spelled = rw c.in_ok-checked.ensures.accepted c.in_ok-tree.ensures.found;
       faultless = rw c.in_ok-checked.ensures.accepted c.in_ok-checked.ensures.well_formed;
-      covered = rw (← c.is_covered.ensures) c.if-not-is_covered.false;
     } in
     let in_range : are_in_range limits.steps limits.turns limits.workers limits.cut limits.rounds ≡ true = rw (← c.are_in_range.ensures) c.if-not-are_in_range.false in
-    (whole c.args.spec.now c.args.script.now limits.steps limits.turns limits.workers limits.cut limits.rounds (g.S.Sink.bytes c.args.out.now) (g.S.Sink.bytes c.run_steps.new.out) (g.S.Sink.has_failed c.run_steps.new.out) tree covered
+    (whole c.args.spec.now c.args.script.now limits.steps limits.turns limits.workers limits.cut limits.rounds (g.S.Sink.bytes c.args.out.now) (g.S.Sink.bytes c.run_steps.new.out) (g.S.Sink.has_failed c.run_steps.new.out) tree accepted
     c.in_ok-script.script c.in_ok-script.ensures.found in_range c.run_steps.result c.run_steps.ensures).fails_just_so

@@ -1,4 +1,5 @@
 use Rattle.std.proofs.Common.{◌≡◌, ℕ, List, ◌++◌, refl, sym, ap, subst, ◌∙◌}
+use Rattle.std.specs.Prelude.{OnOk}
 use Rattle.asm_state.specs.Updates.{UpdateSet}
 use Rattle.asm_syntax.specs.Views.{spec_of}
 use Rattle.asm_check.specs.Shapes.{shape_of}
@@ -16,10 +17,10 @@ returns-in-Some-clause-stopped g c =
     let s = spec_of c.args.checked.now.spec in
     let made = c.form_main.new.made in
     let o : Outcome = main_outcome s c.args.turns (g.P.Picks.script c.args.choices.now.script.now) c.args.choices.now.step c.args.state.now in
-    let formed : IsSet (shape_of s) o made.set made.instances = c.in_ok-form_main.ensures.formed in
+    let formed : IsSet (shape_of s) o made.set made.instances = subst (λ r. OnOk r (IsSet (shape_of s) o made.set made.instances)) c.in-Ok.is c.form_main.ensures.formed in
     let U : UpdateSet = formed.set in
     let first = rw c.signature.ensures at (c.in-Some.ensures.first U (subst (λ v. Stands v made.set U) (sym c.signature.ensures) formed.stands)) in
-    record { set = U; gives = formed.gives; is_first = first; below = fault_below s made.set U c.in-Some.fault c.args.checked.now.well_formed formed.stands first; stays = refl }
+    (record { set = U; gives = formed.gives; is_first = first; below = fault_below s made.set U c.in-Some.fault c.args.checked.now.well_formed formed.stands first }, refl)
 
 pub returns-clause-fired : goal.returns-clause-fired
 returns-clause-fired g c =
@@ -28,7 +29,7 @@ returns-clause-fired g c =
     let step = c.args.choices.now.step in
     let made = c.form_main.new.made in
     let o : Outcome = main_outcome s c.args.turns (g.P.Picks.script c.args.choices.now.script.now) step c.args.state.now in
-    let formed : IsSet (shape_of s) o made.set made.instances = c.in_ok-form_main.ensures.formed in
+    let formed : IsSet (shape_of s) o made.set made.instances = subst (λ r. OnOk r (IsSet (shape_of s) o made.set made.instances)) c.in-Ok.is c.form_main.ensures.formed in
     let U : UpdateSet = formed.set in
     let sorted : Stands (shape_of s) c.sort.new.self U = standing_laws.alike (shape_of s) made.set c.sort.new.self U c.in_ok-sort.ensures.count c.in_ok-sort.ensures.entries formed.stands in
     let consistent = c.in_default.ensures.consistent U (subst (λ v. Stands v made.set U) (sym c.signature.ensures) formed.stands) in

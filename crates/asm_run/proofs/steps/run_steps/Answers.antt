@@ -2,7 +2,7 @@ use Rattle.std.proofs.Common.{◌≡◌, ◌+◌, arith, ◌∙◌, rules}
 use Rattle.std.proofs.lemmas.Result.{err_from_is_err_and}
 use Rattle.asm_syntax.specs.Views.{spec_of}
 use Rattle.asm_check.specs.Shapes.{shape_of}
-use Rattle.asm_run.proofs.Running.{begins, none_begun, out_of_memory, at_limit, at_fault, cut, goes_on}
+use Rattle.asm_run.proofs.Running.{begins, none_begun, out_of_memory, at_limit, at_stop, cut, goes_on}
 use Rattle.asm_run.proofs.steps.run_steps.Goals as goal
 
 pub loop-done-init : goal.loop-done-init
@@ -23,11 +23,11 @@ returns-in_err-state g c =
     rw (p.1, p.2)
     (none_begun (spec_of c.args.checked.now.spec) limits.turns (g.P.Picks.script c.args.script.now) limits.steps (g.S.Sink.bytes c.args.out.now) (g.S.Sink.has_failed c.args.out.now) c.requires.open)
 
-pub returns-in_err-fault : goal.returns-in_err-fault
-returns-in_err-fault g c =
+pub returns-in_err-stop : goal.returns-in_err-stop
+returns-in_err-stop g c =
     let limits = c.args.limits.now in
     let now = c.loop-done in
-    let p = err_from_is_err_and c.from_residual-in_err-fault.result c.from_residual-in_err-fault.ensures.1 in
+    let p = err_from_is_err_and c.from_residual-in_err-stop.result c.from_residual-in_err-stop.ensures.1 in
     rw (p.1, p.2)
     (out_of_memory (spec_of c.args.checked.now.spec) c.args.checked.now.well_formed limits.turns (g.P.Picks.script c.args.script.now) limits.steps now.done now.state now.made.set.count
     (g.S.Sink.bytes c.args.out.now) (g.S.Sink.bytes now.out) (g.S.Sink.has_failed now.out) now.invariant)
@@ -36,10 +36,10 @@ pub returns-in-Some : goal.returns-in-Some
 returns-in-Some g c =
     let limits = c.args.limits.now in
     let now = c.loop-done in
-    at_fault (spec_of c.args.checked.now.spec) c.args.checked.now.well_formed limits.turns (g.P.Picks.script c.args.script.now) limits.steps now.done now.state now.made.set.count
+    at_stop (spec_of c.args.checked.now.spec) c.args.checked.now.well_formed limits.turns (g.P.Picks.script c.args.script.now) limits.steps now.done now.state now.made.set.count
     (g.S.Sink.bytes c.args.out.now) (g.S.Sink.bytes now.out) (g.S.Sink.has_failed now.out) now.invariant
-    c.loop-done-test.true (c.from.result + 1) (omega (arith, c.from.ensures)) (g.S.Sink.bytes c.finish_at_fault.new.out) (g.S.Sink.has_failed c.finish_at_fault.new.out)
-    c.finish_at_fault.result c.make_step.new.state c.in-Some.fault (search rules) c.finish_at_fault.ensures
+    c.loop-done-test.true (c.from.result + 1) (omega (arith, c.from.ensures)) (g.S.Sink.bytes c.finish_at_stop.new.out) (g.S.Sink.has_failed c.finish_at_stop.new.out)
+    c.finish_at_stop.result c.make_step.new.state c.make_step.new.made.place.items c.as_slice-place.result.now c.in-Some.stop (search rules) c.as_slice-place.ensures.value c.finish_at_stop.ensures
 
 pub returns-in_err-write_all : goal.returns-in_err-write_all
 returns-in_err-write_all g c =
@@ -69,8 +69,8 @@ returns g c =
     (g.S.Sink.bytes c.args.out.now) (g.S.Sink.bytes now.out) (g.S.Sink.has_failed now.out) now.invariant
     (g.S.Sink.bytes c.finish_at_limit.new.out) (g.S.Sink.has_failed c.finish_at_limit.new.out) c.finish_at_limit.result c.loop-done-test.false c.finish_at_limit.ensures
 
-pub finish_at_fault-requires-clause-whole : goal.finish_at_fault-requires-clause-whole
-finish_at_fault-requires-clause-whole g c = c.in_ok-fault.ensures.sized.contents_fit
+pub finish_at_stop-requires-clause-whole : goal.finish_at_stop-requires-clause-whole
+finish_at_stop-requires-clause-whole g c = c.in_ok-stop.ensures.sized.contents_fit
 
 pub finish_at_limit-requires-clause-whole : goal.finish_at_limit-requires-clause-whole
 finish_at_limit-requires-clause-whole g c = c.loop-done.invariant.sized.contents_fit

@@ -1,0 +1,175 @@
+-- An exhausted place lies within the place of its rule.
+--     IsWithin p q, IsBehind p k q     q is p or below it;  q is in a descent of p whose number is k or more
+--     Within, Behind                   the same of a result, if it is exhausted
+--     rule_within                      of what a rule does
+--     parts_behind, each_behind        of parts beside each other, and of elements, from number k on
+use Rattle.std.proofs.Common.{◌≡◌, ℕ, zero, suc, ◌≤◌, Bool, not, ◌||◌, List, [], ◌∷◌, ◌++◌, Option, Some, None, slice_index_or, ◌%◌, length, sym, ◌∙◌, arith, append_assoc, append-nil}
+use Rattle.std.specs.Cmp.Lexicographic.{slice_cmp}
+use Rattle.std.specs.Ordering.{nat_cmp, is_lt}
+use Rattle.asm_state.specs.declared.value.Value.{Value}
+use Rattle.asm_state.specs.Location.{State}
+use Rattle.asm_state.specs.Updates.{UpdateSet, is_consistent, is_none, fire}
+use Rattle.asm_syntax.specs.Tree.{Terms, Rule, Skip, Assign, Call, Par, Seq, If, Let, Forall, Choose, Iterate, Rules, no_rules, rule_then}
+use Rattle.asm_reader.specs.ScriptLines.{Script, pick}
+use Rattle.asm_eval.specs.Cases.{all_run}
+use Rattle.asm_eval.specs.Does.{Outcome, Meaning, parts, in_order, part_and, turns_of, turn_and, each, one_of, called, meaning, meanings, does_within, does}
+use Rattle.asm_eval.specs.Program.{Program, Declared, Universe, Enumerated, Controlled, Static, Derived, Procedure, declared, Environment, with_value, bind_terms}
+use Rattle.asm_eval.specs.Value.{value, holds, candidates, universe, nesting}
+use Rattle.asm_eval.specs.Yields.{Place, at, Result, Gives, Exhausted, beside, after}
+use Rattle.asm_eval.proofs.Free.{by_test}
+
+-- ---- places
+
+pub record IsWithin (p q : Place) : Type 0 where
+  pub rest : Place
+  pub is : q ≡ p ++ rest
+
+pub record IsBehind (p : Place) (k : ℕ) (q : Place) : Type 0 where
+  pub number : ℕ
+  pub rest : Place
+  pub from : k ≤ number
+  pub is : q ≡ p ++ (number ∷ rest)
+
+abbrev pub Within : Place → Result → Type 0
+Within p (Gives U) = Unit {0}
+Within p (Exhausted q) = IsWithin p q
+
+abbrev pub Behind : Place → ℕ → Result → Type 0
+Behind p k (Gives U) = Unit {0}
+Behind p k (Exhausted q) = IsBehind p k q
+
+behind_is_within : (p : Place) (k : ℕ) (r : Result) → Behind p k r → Within p r
+behind_is_within p k (Gives U) h = tt
+behind_is_within p k (Exhausted q) h = record { rest = h.number ∷ h.rest; is = h.is }
+
+-- what is within a descent is behind its number
+descent_is_behind : (p : Place) (k : ℕ) (r : Result) → Within (at p k) r → Behind p k r
+descent_is_behind p k (Gives U) h = tt
+descent_is_behind p k (Exhausted q) h = record { number = k; rest = h.rest; from = omega arith; is = h.is ∙ append_assoc p (k ∷ []) h.rest }
+
+descent_is_within : (p : Place) (k : ℕ) (r : Result) → Within (at p k) r → Within p r
+descent_is_within p k r h = behind_is_within p k r (descent_is_behind p k r h)
+
+behind_less : (p : Place) (k : ℕ) (r : Result) → Behind p (suc k) r → Behind p k r
+behind_less p k (Gives U) h = tt
+behind_less p k (Exhausted q) h = record { number = h.number; rest = h.rest; from = let low = h.from in omega arith; is = h.is }
+
+-- ---- results beside each other, and after each other
+
+behind_beside : (p : Place) (k : ℕ) (r s : Result) → Behind p k r → Behind p k s → Behind p k (beside r s)
+behind_beside p k (Gives U) (Gives V) h g = tt
+behind_beside p k (Gives U) (Exhausted q) h g = g
+behind_beside p k (Exhausted q) (Gives V) h g = h
+behind_beside p k (Exhausted q) (Exhausted s) h g = by_test (IsBehind p k) (is_lt (slice_cmp nat_cmp s q)) s q (λ _. g) (λ _. h)
+
+within_after : (p : Place) (U : UpdateSet) (r : Result) → Within p r → Within p (after U r)
+within_after p U (Gives V) h = tt
+within_after p U (Exhausted q) h = h
+
+module _ (p : Place) where
+  part_within : (r : Result) (n : ℕ) (rest : UpdateSet → Outcome) → Within p r → ((U : UpdateSet) → Within p (rest U).result) → Within p (part_and r n rest).result
+  part_within (Exhausted q) n rest h g = h
+  part_within (Gives U) n rest h g = by_test (λ (o : Outcome). Within p o.result) (is_consistent U) _ _ (λ _. within_after p U (rest U).result (g U)) (λ _. tt)
+
+  turn_within : (r : Result) (n : ℕ) (rest : UpdateSet → Outcome) → Within p r → ((U : UpdateSet) → Within p (rest U).result) → Within p (turn_and r n rest).result
+  turn_within (Exhausted q) n rest h g = h
+  turn_within (Gives U) n rest h g =
+      by_test (λ (o : Outcome). Within p o.result) (is_none U || not (is_consistent U)) _ _ (λ _. tt) (λ _. within_after p U (rest U).result (g U))
+
+-- ---- meanings
+
+abbrev pub Nests : Meaning → Type 0
+Nests m = (A : State) (e : Environment) (p : Place) → Within p (m A e p).result
+
+abbrev pub AllNest : List Meaning → Type 0
+AllNest [] = Unit {0}
+AllNest (m ∷ ms) = Nests m × AllNest ms
+
+pub parts_behind : (ms : List Meaning) → AllNest ms → (k : ℕ) (A : State) (e : Environment) (p : Place) → Behind p k (parts ms k A e p).result
+parts_behind [] nest k A e p = tt
+parts_behind (m ∷ ms) nest k A e p =
+    behind_beside p k (m A e (at p k)).result (parts ms (suc k) A e p).result (descent_is_behind p k (m A e (at p k)).result (nest.0 A e (at p k)))
+    (behind_less p k (parts ms (suc k) A e p).result (parts_behind ms nest.1 (suc k) A e p))
+
+in_order_within : (ms : List Meaning) → AllNest ms → (k : ℕ) (A : State) (e : Environment) (p : Place) → Within p (in_order ms k A e p).result
+in_order_within [] nest k A e p = tt
+in_order_within (m ∷ ms) nest k A e p =
+    part_within p (m A e (at p k)).result (m A e (at p k)).instances (λ U. in_order ms (suc k) (fire A U) e p)
+    (descent_is_within p k (m A e (at p k)).result (nest.0 A e (at p k))) (λ U. in_order_within ms nest.1 (suc k) (fire A U) e p)
+
+turns_within : (m : Meaning) → Nests m → (left t : ℕ) (A : State) (e : Environment) (p : Place) → Within p (turns_of m left t A e p).result
+turns_within m nest zero t A e p = record { rest = []; is = sym (append-nil p) }
+turns_within m nest (suc left) t A e p =
+    turn_within p (m A e (at p t)).result (m A e (at p t)).instances (λ U. turns_of m left (suc t) (fire A U) e p)
+    (descent_is_within p t (m A e (at p t)).result (nest A e (at p t))) (λ U. turns_within m nest left (suc t) (fire A U) e p)
+
+pub each_behind : (p : Place) (m : Value → ℕ → Outcome) (test : Value → Bool) → ((v : Value) (k : ℕ) → Within (at p k) (m v k).result) → (k : ℕ) (vs : List Value)
+    → Behind p k (each m test k vs).result
+each_behind p m test nest k [] = tt
+each_behind p m test nest k (v ∷ vs) =
+    let more = behind_less p k (each m test (suc k) vs).result (each_behind p m test nest (suc k) vs) in
+    by_test (λ (o : Outcome). Behind p k o.result) (test v) _ _
+    (λ _. behind_beside p k (m v k).result (each m test (suc k) vs).result (descent_is_behind p k (m v k).result (nest v k)) more)
+    (λ _. more)
+
+one_within : (p : Place) (n : ℕ) (vs : List Value) (m : Value → Outcome) (other : Outcome) → ((v : Value) → Within p (m v).result) → Within p other.result
+    → Within p (one_of n vs m other).result
+one_within p n [] m other nest none = none
+one_within p n (v ∷ vs) m other nest none = nest (slice_index_or (v ∷ vs) (n % length (v ∷ vs)) v)
+
+-- ---- rules
+
+module _ (program : Program) (turns : ℕ) (chosen : Place → ℕ) (body : Rule → Meaning) (nest : (P : Rule) → Nests (body P)) where
+  called_within : (d : Option Declared) (ts : Terms) → Nests (called program turns chosen body d ts)
+  called_within None ts A e p = tt
+  called_within (Some (Universe vs)) ts A e p = tt
+  called_within (Some (Enumerated v)) ts A e p = tt
+  called_within (Some (Controlled f domain)) ts A e p = tt
+  called_within (Some (Static domain table)) ts A e p = tt
+  called_within (Some (Derived xs t)) ts A e p = tt
+  called_within (Some (Procedure xs P)) ts A e p =
+      descent_is_within p 0 (body P A (bind_terms xs ts e) (at p 0)).result (nest P A (bind_terms xs ts e) (at p 0))
+
+  abbrev means : Rule → Meaning
+  means = meaning program turns chosen body
+
+  mutual
+    unfolding meaning
+
+    rule_nests : (R : Rule) → Nests (means R)
+    rule_nests Skip A e p = tt
+    rule_nests (Assign f ts t) A e p = tt
+    rule_nests (Call f ts) A e p = called_within (declared program f) ts A e p
+    rule_nests (Par Ps) A e p = behind_is_within p 0 (parts (meanings program turns chosen body Ps) 0 A e p).result (parts_behind (meanings program turns chosen body Ps) (all_nest Ps) 0 A e p)
+    rule_nests (Seq Ps) A e p = in_order_within (meanings program turns chosen body Ps) (all_nest Ps) 0 A e p
+    rule_nests (If t P Q) A e p =
+        by_test (λ (o : Outcome). Within p o.result) (holds program A e (Some t)) _ _
+        (λ _. descent_is_within p 0 (means P A e (at p 0)).result (rule_nests P A e (at p 0)))
+        (λ _. descent_is_within p 1 (means Q A e (at p 1)).result (rule_nests Q A e (at p 1)))
+    rule_nests (Let x t P) A e p = descent_is_within p 0 _ (rule_nests P A (with_value x (value program A e t) e) (at p 0))
+    rule_nests (Forall x u t P) A e p =
+        behind_is_within p 0 _ (each_behind p (λ v k. means P A (with_value x v e) (at p k)) (λ v. holds program A (with_value x v e) t)
+        (λ v k. rule_nests P A (with_value x v e) (at p k)) 0 (universe program u))
+    rule_nests (Choose x u t P Q) A e p =
+        one_within p (chosen p) (candidates program A e x u t) (λ v. means P A (with_value x v e) (at p 0)) (means Q A e (at p 1))
+        (λ v. descent_is_within p 0 (means P A (with_value x v e) (at p 0)).result (rule_nests P A (with_value x v e) (at p 0)))
+        (descent_is_within p 1 (means Q A e (at p 1)).result (rule_nests Q A e (at p 1)))
+    rule_nests (Iterate P) A e p = turns_within (means P) (rule_nests P) turns 0 A e p
+
+    all_nest : (Ps : Rules) → AllNest (meanings program turns chosen body Ps)
+    all_nest no_rules = tt
+    all_nest (rule_then P Ps) = (rule_nests P, all_nest Ps)
+
+within_depth : (program : Program) (turns : ℕ) (chosen : Place → ℕ) (n : ℕ) (R : Rule) → Nests (does_within program turns chosen n R)
+unfolding does_within
+within_depth program turns chosen zero R = rule_nests program turns chosen _ (λ P A e p. tt) R
+within_depth program turns chosen (suc n) R = rule_nests program turns chosen (does_within program turns chosen n) (within_depth program turns chosen n) R
+
+module _ (program : Program) (turns : ℕ) (script : Script) (step : ℕ) where
+  pub rule_within : (A : State) (e : Environment) (p : Place) (R : Rule) → Within p (does program turns script step A e p R).result
+  unfolding does
+  rule_within A e p R = within_depth program turns (pick script step) nesting R A e p
+
+  pub all_within : (Ps : Rules) → AllNest (all_run program turns script step Ps)
+  all_within no_rules = tt
+  all_within (rule_then P Ps) = (λ A e p. rule_within A e p P, all_within Ps)

@@ -1,0 +1,141 @@
+-- Rules of the code in order, and turns of a rule: what the next part or the next turn makes of a sequence that is underway.
+--     parts_left, turns_left          what is left of the parts from a number on, of the turns from a number on
+--     part_goes_on, turn_goes_on      after a part or a turn with a good set
+--     part_ends, turn_ends            after one whose set ends the sequence;  parts_end     where no part is left
+--     part_stops, turn_stops          a part or a turn is exhausted;  turns_stop     no turn is left
+use Rattle.std.proofs.Common.{◌≡◌, ◌≢◌, ℕ, zero, suc, ◌+◌, ◌-◌, ◌<◌, ◌≤◌, List, [], length, drop, slice_index_or, ◌⊎◌, sym, ap, ◌∙◌, arith, add-one}
+use Rattle.std.specs.Prelude.{Result as Returned, Err, OnOk, IfErr, IsErrAnd}
+use Rattle.std.proofs.lemmas.List.{at_drop_more, at_drop_all}
+use Rattle.asm_state.specs.Location.{State}
+use Rattle.asm_state.specs.Signature.{Shape}
+use Rattle.asm_state.specs.Updates.{UpdateSet, IsConsistent, none, fire}
+use Rattle.asm_updates.specs.Entries.{Entries}
+use Rattle.asm_updates.specs.Stands.{Stands}
+use Rattle.asm_syntax.specs.Unplaced.{plain_rule}
+use Rattle.asm_syntax.specs.Views.{rule_of}
+use Rattle.asm_syntax.specs.declared.rule.Rule.{Rule}
+use Rattle.asm_check.specs.declared.checked.Checked.{Checked}
+use Rattle.asm_reader.specs.ScriptLines.{Script}
+use Rattle.asm_eval.specs.Cases.{runs}
+use Rattle.asm_eval.specs.Does.{Outcome, part_and, turn_and}
+use Rattle.asm_eval.specs.Formed.{Adds, Forms, GoesOn, IsStoppedAt}
+use Rattle.asm_eval.specs.Program.{Environment}
+use Rattle.asm_eval.specs.Valued.{program}
+use Rattle.asm_eval.specs.Yields.{Place, Exhausted, at}
+use Rattle.asm_eval.specs.declared.stopped.Stopped.{Stopped}
+use Rattle.asm_eval.proofs.FormedRules.{rules_do_in_order, turns_do}
+use Rattle.asm_eval.proofs.Sequences.{IsUnderway, goes_on, ends, ends_with, ends_at, good_part, faulty_part, exhausted_part, good_turn, last_turn, exhausted_turn, stopped_on}
+
+module _ (checked : Checked) (turns : ℕ) (script : Script) (step : ℕ) (e : Environment) (p : Place) where
+  abbrev pub parts_left : List Rule → ℕ → State → Outcome
+  parts_left rs i = rules_do_in_order checked turns script step e p i (drop i rs)
+
+  abbrev pub turns_left : ℕ → Rule → ℕ → State → Outcome
+  turns_left limit r t = turns_do checked turns script step e p (limit - t) t r
+
+  -- the part or the turn with this number
+  abbrev pub numbered : Place → ℕ → Rule → State → Outcome
+  numbered q k r A = runs (program checked) turns script step (plain_rule (rule_of r)) A e (at q k)
+
+  abbrev part_then : Outcome → (UpdateSet → Outcome) → Outcome
+  part_then o rest = part_and o.result o.instances rest
+
+  abbrev turn_then : Outcome → (UpdateSet → Outcome) → Outcome
+  turn_then o rest = turn_and o.result o.instances rest
+
+  one_left : (n k : ℕ) → k < n → n - k ≡ suc (n - (k + 1))
+  one_left n k h = omega arith
+
+  none_left : (n k : ℕ) → n ≤ k → n - k ≡ zero
+  none_left n k h = omega arith
+
+  next_part : (q : Place) (rs : List Rule) (i : ℕ) (r : Rule) (A : State) → q ≡ p → i < length rs → r ≡ slice_index_or rs i r
+      → parts_left rs i A ≡ part_then (numbered q i r A) (λ U. parts_left rs (i + 1) (fire A U))
+  next_part q rs i r A same low is =
+      at_drop_more (λ (some : List Rule). rules_do_in_order checked turns script step e p i some A) rs i r low
+      ∙ ap (λ k. part_then (numbered p i (slice_index_or rs i r) A) (λ U. rules_do_in_order checked turns script step e p k (drop (i + 1) rs) (fire A U))) (sym (add-one i))
+      ∙ ap (λ x. part_then (numbered p i x A) (λ U. parts_left rs (i + 1) (fire A U))) (sym is)
+      ∙ ap (λ s. part_then (numbered s i r A) (λ U. parts_left rs (i + 1) (fire A U))) (sym same)
+
+  no_part : (rs : List Rule) (i : ℕ) (A : State) → length rs ≤ i → parts_left rs i A ≡ rules_do_in_order checked turns script step e p i [] A
+  no_part rs i A past = at_drop_all (λ (some : List Rule). rules_do_in_order checked turns script step e p i some A) rs i past
+
+  next_turn : (q : Place) (limit t n : ℕ) (r : Rule) (A : State) → q ≡ p → t < limit → n ≡ t
+      → turns_left limit r t A ≡ turn_then (numbered q n r A) (λ U. turns_left limit r (t + 1) (fire A U))
+  next_turn q limit t n r A same low is =
+      ap (λ m. turns_do checked turns script step e p m t r A) (one_left limit t low)
+      ∙ ap (λ k. turn_then (numbered p t r A) (λ U. turns_do checked turns script step e p (limit - (t + 1)) k r (fire A U))) (sym (add-one t))
+      ∙ ap (λ s. turn_then (numbered s t r A) (λ U. turns_left limit r (t + 1) (fire A U))) (sym same)
+      ∙ ap (λ m. turn_then (numbered q m r A) (λ U. turns_left limit r (t + 1) (fire A U))) (sym is)
+
+  no_turn : (limit t : ℕ) (r : Rule) (A : State) → limit ≤ t → (turns_left limit r t A).result ≡ Exhausted p
+  no_turn limit t r A past = ap (λ n. (turns_do checked turns script step e p n t r A).result) (none_left limit t past)
+
+  module _ (shape : Shape) (A : State) (total : Outcome) (so_far : Entries) (before now : ℕ) where
+    -- ---- parts
+
+    module _ (rs : List Rule) (i : ℕ) (under : IsUnderway shape A total (parts_left rs i) so_far before now) where
+      module _ (q : Place) (r : Rule) (same : q ≡ p) (low : i < length rs) (is : r ≡ slice_index_or rs i r) where
+        abbrev part : Outcome
+        part = numbered q i r (fire A under.set)
+
+        then_part : parts_left rs i (fire A under.set) ≡ part_then part (λ U. parts_left rs (i + 1) (fire (fire A under.set) U))
+        then_part = next_part q rs i r (fire A under.set) same low is
+
+        pub part_goes_on : (joined set : Entries) (after : ℕ) (on : GoesOn shape part under.set joined set now after) → IsConsistent on.set
+            → IsUnderway shape A total (parts_left rs (i + 1)) joined before after
+        part_goes_on joined set after on consistent =
+            goes_on shape A total (parts_left rs i) so_far before now under part (parts_left rs (i + 1)) joined set after on consistent
+            (then_part ∙ good_part part on.set (λ U. parts_left rs (i + 1) (fire (fire A under.set) U)) on.gives consistent)
+
+        pub part_ends : {T : Type 0} (joined set was old new : Entries) (after n : ℕ) (returned : Returned T Stopped) (on : GoesOn shape part under.set joined set now after)
+            → ¬ (IsConsistent on.set) → was ≡ old → n ≡ after → ((V : UpdateSet) → Stands shape joined V → OnOk returned (Adds shape V was new))
+            → OnOk returned (Forms shape total old new before n)
+        part_ends joined set was old new after n returned on faulty kept counted put =
+            ends_with shape A total (parts_left rs i) so_far before now under was old new n returned kept part joined set after on counted
+            (then_part ∙ faulty_part part on.set (λ U. parts_left rs (i + 1) (fire (fire A under.set) U)) on.gives faulty) put
+
+        pub part_stops : {S T : Type 0} (place : Place) (given : Returned S Stopped) (returned : Returned T Stopped) (stop : Stopped)
+            → given ≡ Err stop → IsErrAnd returned (λ again. again ≡ stop) → IfErr given (IsStoppedAt part place) → IfErr returned (IsStoppedAt total place)
+        part_stops place given returned stop was again =
+            stopped_on part total place given returned stop was again
+            (λ s at. ends_at shape A total (parts_left rs i) so_far before now under s
+            (ap (λ (o : Outcome). o.result) then_part ∙ exhausted_part part (λ U. parts_left rs (i + 1) (fire (fire A under.set) U)) s at))
+
+      pub parts_end : {T : Type 0} (was old new : Entries) (n : ℕ) (returned : Returned T Stopped) → length rs ≤ i → was ≡ old → n ≡ now
+          → ((V : UpdateSet) → Stands shape so_far V → OnOk returned (Adds shape V was new)) → OnOk returned (Forms shape total old new before n)
+      parts_end was old new n returned past kept counted put =
+          ends shape A total (parts_left rs i) so_far before now under was old new n returned kept counted (no_part rs i (fire A under.set) past) put
+
+    -- ---- turns
+
+    module _ (limit : ℕ) (r : Rule) (t : ℕ) (under : IsUnderway shape A total (turns_left limit r t) so_far before now) where
+      module _ (q : Place) (number : ℕ) (same : q ≡ p) (low : t < limit) (is : number ≡ t) where
+        abbrev turn : Outcome
+        turn = numbered q number r (fire A under.set)
+
+        then_turn : turns_left limit r t (fire A under.set) ≡ turn_then turn (λ U. turns_left limit r (t + 1) (fire (fire A under.set) U))
+        then_turn = next_turn q limit t number r (fire A under.set) same low is
+
+        pub turn_goes_on : (joined set : Entries) (after : ℕ) (on : GoesOn shape turn under.set joined set now after) → on.set ≢ none → IsConsistent on.set
+            → IsUnderway shape A total (turns_left limit r (t + 1)) joined before after
+        turn_goes_on joined set after on some consistent =
+            goes_on shape A total (turns_left limit r t) so_far before now under turn (turns_left limit r (t + 1)) joined set after on consistent
+            (then_turn ∙ good_turn turn on.set (λ U. turns_left limit r (t + 1) (fire (fire A under.set) U)) on.gives some consistent)
+
+        pub turn_ends : {T : Type 0} (joined set was old new : Entries) (after n : ℕ) (returned : Returned T Stopped) (on : GoesOn shape turn under.set joined set now after)
+            → (on.set ≡ none) ⊎ (¬ (IsConsistent on.set)) → was ≡ old → n ≡ after → ((V : UpdateSet) → Stands shape joined V → OnOk returned (Adds shape V was new))
+            → OnOk returned (Forms shape total old new before n)
+        turn_ends joined set was old new after n returned on last kept counted put =
+            ends_with shape A total (turns_left limit r t) so_far before now under was old new n returned kept turn joined set after on counted
+            (then_turn ∙ last_turn turn on.set (λ U. turns_left limit r (t + 1) (fire (fire A under.set) U)) on.gives last) put
+
+        pub turn_stops : {S T : Type 0} (place : Place) (given : Returned S Stopped) (returned : Returned T Stopped) (stop : Stopped)
+            → given ≡ Err stop → IsErrAnd returned (λ again. again ≡ stop) → IfErr given (IsStoppedAt turn place) → IfErr returned (IsStoppedAt total place)
+        turn_stops place given returned stop was again =
+            stopped_on turn total place given returned stop was again
+            (λ s at. ends_at shape A total (turns_left limit r t) so_far before now under s
+            (ap (λ (o : Outcome). o.result) then_turn ∙ exhausted_turn turn (λ U. turns_left limit r (t + 1) (fire (fire A under.set) U)) s at))
+
+      pub turns_stop : limit ≤ t → total.result ≡ Exhausted p
+      turns_stop past = ends_at shape A total (turns_left limit r t) so_far before now under p (no_turn limit t r (fire A under.set) past)
