@@ -4,7 +4,7 @@
 --     ends, ends_with     nothing is left, or a set that ends the sequence;  ends_at     the place where what is left is exhausted
 --     goes_upon           a part that is formed upon the sets so far goes on with them
 --     no_fault_found, fault_found     whether a set is consistent, by the code's search for a fault
---     stopped_on, stopped_for_memory  an error that is handed on, one that says nothing;  stops_alike     of equal outcomes
+--     stopped_on, stopped_for_memory  an error that is handed on, one that says nothing
 -- A lemma whose name ends in _part or _turn says what a part or a turn makes of what comes after it.
 use Rattle.std.proofs.Common.{◌≡◌, ◌≢◌, ℕ, ◌+◌, ◌≤◌, min, Bool, true, false, not, cond, ◌||◌, Option, Some, None, ◌⊎◌, inl, inr, refl, sym, ap, subst, ◌∙◌, arith}
 use Rattle.std.specs.Bool.{Decides}
@@ -127,9 +127,6 @@ stopped_on o q p given (Err other) stop was again too at = subst (IsStoppedAt q 
 pub stopped_for_memory : {T : Type 0} (o : Outcome) (p : Place) (returned : Returned T Stopped) → IfErr returned (λ stop. stop ≡ stopped.Memory) → IfErr returned (IsStoppedAt o p)
 stopped_for_memory o p (Ok x) is = tt
 stopped_for_memory o p (Err stop) is = subst (IsStoppedAt o p) (sym is) tt
-
-pub stops_alike : {T : Type 0} (o q : Outcome) (p : Place) (returned : Returned T Stopped) → o ≡ q → IfErr returned (IsStoppedAt o p) → IfErr returned (IsStoppedAt q p)
-stops_alike o q p returned same = subst (λ it. IfErr returned (IsStoppedAt it p)) same
 
 -- ---- from part to part
 

@@ -7,6 +7,7 @@ ghost use Rattle.asm_state.specs.Tables.{location_in};
 ghost use Rattle.asm_state.specs.Updates.{UpdateSet, IsConsistent, overwritten, fire};
 ghost use Rattle.asm_updates.specs.Entries.{entry};
 ghost use Rattle.asm_updates.specs.Stands.{Stands};
+ghost use Rattle.asm_eval.specs.declared.below.Below.TheVariants.{Nothing};
 ghost use Rattle.asm_eval.specs.Seen.{content_below, shown_over};
 ghost use Rattle.asm_eval.specs.Value.{read};
 
@@ -33,8 +34,8 @@ impl<'a> View<'a> {
     pub fn new(signature: &'a Signature, state: &'a State, over: Summary) -> View<'a>
         requires whole { length state.now ≡ count_of signature.now }
         requires counted { over.count ≡ count_of signature.now }
-        ensures signature { result.signature.now ≡ signature.now }
-        ensures over { result.over ≡ over }
+        ensures parts { (result.signature.now ≡ signature.now) × (result.state.now ≡ state.now) × (result.over ≡ over) }
+        ensures below { result.below ≡ Nothing }
         ensures fired { (U : UpdateSet) → Stands signature.now over U → IsConsistent U →
             shown_over result.signature.now result.state.now result.below result.over ≡ fire (state_of signature.now state.now) U }
     {
@@ -51,6 +52,7 @@ impl<'a> View<'a> {
     /// What another view shows, with the set over it. Nothing is copied.
     pub fn upon(lower: &'a View<'a>, over: Summary) -> View<'a>
         requires { over.count ≡ count_of lower.now.signature.now }
+        ensures parts { (result.signature.now ≡ lower.now.signature.now) × (result.state.now ≡ lower.now.state.now) × (result.over ≡ over) }
         ensures signature { result.signature.now ≡ lower.now.signature.now }
         ensures over { result.over ≡ over }
         ensures fired { (U : UpdateSet) → Stands lower.now.signature.now over U → IsConsistent U →

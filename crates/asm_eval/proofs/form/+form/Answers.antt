@@ -18,7 +18,7 @@ use Rattle.asm_eval.specs.Yields.{at, Exhausted}
 use Rattle.asm_eval.proofs.CalledRules.{call_is_less, called_does, rule_number, not_called_does}
 use Rattle.asm_eval.proofs.FormedRules.{forms_same, forms_nothing, forms_both, forms_bounded, forms_counted, stopped_with, stopped_same, in_body, part_is_less, rule_does, rules_do, each_does, candidates_of, skip_does, left_out_does, par_does, first_does, other_does, let_does, chosen_does, none_does, next_rule_does, exhausted_behind_rule, exhausted_rule_does, no_rule_does, forall_of, element_does, exhausted_behind_element, exhausted_element_does, element_passed, no_element_does, seq_does, iterate_does, rules_do_in_order, turns_do}
 use Rattle.asm_eval.specs.Valued.{program, shown}
-use Rattle.asm_eval.proofs.Sequences.{begins, goes_upon, no_fault_found, fault_found, stops_alike, stopped_for_memory}
+use Rattle.asm_eval.proofs.Sequences.{begins, goes_upon, no_fault_found, fault_found, stopped_for_memory}
 use Rattle.asm_eval.proofs.OrderedRules.{part_goes_on, part_ends, part_stops, parts_end, turn_goes_on, turn_ends, turn_stops, turns_stop}
 use Rattle.asm_eval.proofs.form.+form.Goals as goal
 use Rattle.asm_eval.proofs.form.+form.Goals.{form_each-then-branch+in_ok-form_part, form_each-else-branch, form_turns-then-is_empty-via-then-is_empty, form_turns-then-is_empty-via-else-is_empty+then-is_some}
@@ -349,7 +349,7 @@ form-returns-in-Seq-clause-exhausted g t c =
     let P = g.P.Picks.script a.at.now.choices.now.script.now in
     let o = rules_do_in_order a.at.now.checked.now a.at.now.turns P a.at.now.choices.now.step (environment a.env.now) a.made.now.place.items 0 c.as_slice-in-Seq.result.now (shown a.at.now.view.now) in
     let q = rule_does a.at.now.checked.now a.at.now.view.now a.at.now.turns P a.at.now.choices.now.step (environment a.env.now) a.made.now.place.items a.rule.now in
-    stops_alike o q c.form_in_order.new.made.place.items c.form_in_order.result
+    stopped_same c.form_in_order.result o q c.form_in_order.new.made.place.items
     (seq_does a.at.now.checked.now a.at.now.view.now a.at.now.turns P a.at.now.choices.now.step (environment a.env.now) a.made.now.place.items
     a.rule.now c.in-Seq.rules c.as_slice-in-Seq.result.now c.in-Seq.is c.as_slice-in-Seq.ensures.value)
     c.form_in_order.ensures.exhausted
@@ -539,7 +539,7 @@ form_turns-returns-in_err-form_next-clause-exhausted g t c =
     let a = c.args in
     let l = c.loop-turn in
     let under = l.invariant.underway in
-    stops_alike _ _ c.form_next.new.made.place.items c.from_residual.result
+    stopped_same c.from_residual.result _ _ c.form_next.new.made.place.items
     (iterate_does a.at.now.checked.now a.at.now.view.now a.at.now.turns (g.P.Picks.script a.at.now.choices.now.script.now) a.at.now.choices.now.step (environment a.env.now) a.made.now.place.items a.body.now)
     (turn_stops a.at.now.checked.now a.at.now.turns (g.P.Picks.script a.at.now.choices.now.script.now) a.at.now.choices.now.step (environment a.env.now) a.made.now.place.items
     a.at.now.view.now.signature.now (shown a.at.now.view.now) _ _ _ _ a.at.now.turns a.body.now l.turn under

@@ -31,7 +31,7 @@ returns-clause-formed g c =
     (c.new-nothing.ensures.empty shape c.count.ensures.sound c.count.ensures.count)
     (c.clear.ensures.empty shape c.count.ensures.sound counted)
     refl c.new-env.ensures c.clear-2.ensures.items c.requires.main
-    (subst (λ v. Forms v o c.clear.new.self c.form.new.made.set 0 c.form.new.made.instances) c.new-view.ensures.signature forms))
+    (subst (λ v. Forms v o c.clear.new.self c.form.new.made.set 0 c.form.new.made.instances) c.new-view.ensures.parts.0 forms))
     c.form.ensures.formed
 
 pub returns-clause-exhausted : goal.returns-clause-exhausted
