@@ -4,7 +4,7 @@
 --     IsNumberingOf ds n          the code's numbering of these declarations
 --     AreBodiesOf items b         where the rules and the derived functions stand among the items
 --     IsMain spec n               n is the number of the rule that the specification starts with
-use Rattle.std.specs.Prelude.{◌≡◌, ◌<◌, ℕ, suc, Bool, true, false, cond, List, [], ◌∷◌, ◌++◌, map, filter, length, slice_get, Option, Some, None, option_map}
+use Rattle.std.specs.Prelude.{◌≡◌, ◌<◌, ℕ, suc, Bool, true, false, cond, List, [], ◌∷◌, ◌++◌, filter, length, slice_get, Option, Some, None, option_map}
 use Rattle.asm_syntax.specs.Placed as tree
 use Rattle.asm_syntax.specs.Placed.{Name, Item, Spec}
 use Rattle.asm_check.specs.Names as names

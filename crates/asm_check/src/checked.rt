@@ -74,6 +74,7 @@ impl Checked {
     }
 
     /// What a name stands for where no binder hides it.
+    #[inline(never)]
     pub fn named(&self, name: &Text) -> Option<Named>
         ensures named { result ≡ named (spec_of self.now.spec) name.now }
         ensures in_range { IsInRange (spec_of self.now.spec) result }

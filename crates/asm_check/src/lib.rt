@@ -11,6 +11,7 @@ mod graph;
 mod known;
 pub mod laws;
 mod least;
+mod likely;
 mod limits;
 mod meaning;
 mod names;

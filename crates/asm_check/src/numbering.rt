@@ -1,5 +1,5 @@
 //! What the names of a specification stand for, by numbers.
-ghost use Rattle.std.specs.Prelude.{◌≡◌, ◌<◌, ◌++◌, [], ◌∷◌, List, false, IfOk, OnOk, length, slice_get, slice_index, option_map, Some};
+ghost use Rattle.std.specs.Prelude.{◌≡◌, ◌<◌, ◌++◌, [], ◌∷◌, List, false, IfOk, IfSome, OnOk, length, slice_get, slice_index, option_map, Some};
 ghost use Rattle.std.specs.Option.{option_flatten};
 ghost use Rattle.std.specs.Cmp.Lexicographic.{pointwise};
 ghost use Rattle.std.specs.Map.{lookup};
@@ -14,6 +14,7 @@ ghost use Rattle.asm_check.specs.Tables.{meaning_of, declaration_of, IsTableOf};
 
 use crate::checked::Named;
 use crate::least::Least;
+use crate::likely::Likely;
 use crate::meaning::{Declared, Meaning};
 use crate::names::{Names, first_names};
 use asm_syntax::name::Text;
@@ -26,6 +27,7 @@ use std::alloc::{AllocError, Global};
 pub(crate) struct Numbering {
     /// All names in the order of their first declarations. A predeclared name has no number.
     names: IndexMap<Text, Option<Named>>,
+    likely: Likely,
     places: Places,
 }
 
@@ -46,6 +48,7 @@ impl Numbering {
             let (name, declared) = entry_at(names, i);
             numbering.add(alloc, name, declared.meaning)?;
         }
+        numbering.likely = Likely::of(alloc, &numbering.names)?;
         Ok(numbering)
     }
 
@@ -54,6 +57,7 @@ impl Numbering {
     {
         Numbering {
             names: IndexMap::new(alloc),
+            likely: Likely::new(alloc),
             places: Places::new(alloc),
         }
     }
@@ -69,7 +73,28 @@ impl Numbering {
     }
 
     /// What a name stands for, if it has a number.
+    #[inline(always)]
     pub(crate) fn named(&self, name: &Text) -> Option<Named>
+        ensures { result ≡ option_flatten (lookup (pointwise nat_eq name.now) self.now.names.entries) }
+    {
+        match self.found_at_once(name) {
+            Some(number) => number,
+            None => self.found(name),
+        }
+    }
+
+    /// What a name has in the table, if it stands where it probably does.
+    #[inline(always)]
+    fn found_at_once(&self, name: &Text) -> Option<Option<Named>>
+        ensures { IfSome result (λ number. lookup (pointwise nat_eq name.now) self.now.names.entries ≡ Some number) }
+    {
+        let (text, number) = self.names.get_index(self.likely.place(name)?)?;
+        if text.is(name) { Some(*number) } else { None }
+    }
+
+    /// The same, by a look-up in the table.
+    #[inline(never)]
+    fn found(&self, name: &Text) -> Option<Named>
         ensures { result ≡ option_flatten (lookup (pointwise nat_eq name.now) self.now.names.entries) }
     {
         *self.names.get(name)?

@@ -92,7 +92,7 @@ first_group p q r = up_to_both x y
 
 -- ---- results and outcomes
 
-right_unit : (U : UpdateSet) → together U none ≡ U
+pub right_unit : (U : UpdateSet) → together U none ≡ U
 right_unit U = union_laws.swap U none ∙ union_laws.unit U
 
 beside_swap : (r s : Result) → beside r s ≡ beside s r

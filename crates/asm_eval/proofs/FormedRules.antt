@@ -42,14 +42,12 @@ use Rattle.asm_eval.specs.Value.{is_true, values, candidates, universe}
 use Rattle.asm_eval.specs.Valued.{program, shown, term_value, branch, condition, holds_at}
 use Rattle.asm_eval.specs.Weights.{called_size, rule_size_within}
 use Rattle.asm_eval.specs.Yields.{Place, Gives, Exhausted, at, assigned, beside}
+use Rattle.asm_eval.proofs.Beside.{right_unit}
 use Rattle.asm_eval.proofs.Cases.{scripted_by_cases}
 use Rattle.asm_eval.proofs.ExhaustedPlaces.{first_part_first, first_element_first}
 use Rattle.asm_eval.proofs.Ranked.{rules_ranked}
 
 -- ---- what is added
-
-right_unit : (U : UpdateSet) → together U none ≡ U
-right_unit U = union_laws.swap U none ∙ union_laws.unit U
 
 -- the count is cut off, whether once or twice
 same_count : (n g : ℕ) → n ≤ g → n ≡ min (n + 0) g

@@ -38,8 +38,6 @@ after_both U V (Gives W) = ap Gives (sym (merge_laws.group U V W))
 after_both U V (Exhausted q) = refl
 
 -- nothing is fired
-fire_none : (A : State) → fire A none ≡ A
-fire_none A = λ i l. fire_laws.others A none l (λ h. member_laws.of_none l h.0 h.1) i
 
 none_consistent : IsConsistent none
 none_consistent = record { one_value = λ l v w h k. absurd (member_laws.of_none l v h); no_stray = λ f v. member_laws.of_none (Stray f) v }
@@ -145,7 +143,7 @@ module _ (shape : Shape) where
   begins A total left so_far n is small stands = record {
     set = none;
     instances = 0;
-    whole = is ∙ sym (following_none (left (fire A none)) ∙ ap left (fire_none A));
+    whole = is ∙ sym (following_none (left (fire A none)) ∙ ap left (fire_laws.of_none A));
     stands = stands;
     consistent = none_consistent;
     counts = omega arith;

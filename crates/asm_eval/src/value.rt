@@ -117,7 +117,7 @@ fn named<'e>(
 {
     match find(env, name) {
         Binding::Known(value) => Ok(value),
-        Binding::ByName(term, caller) => value(alloc, checked, view, caller, term),
+        Binding::ByName(term, caller) => operand(alloc, checked, view, caller, term),
         Binding::Unbound => {
             if arguments.is_empty() {
                 value_of(alloc, checked, view, checked.named(&name.text), &[])

@@ -70,7 +70,7 @@ pub fn names(
 ) -> Result<Vec<Name>, Refused<ReadError>>
     ensures { Reads (each_of name_of) (names_at text.now between tokens.old.rest.now) result tokens.new.rest.now }
 {
-    let mut all = Vec::new(alloc);
+    let mut all = Vec::with_capacity(alloc, 1)?;
     let first = name(alloc, text, tokens)?;
     all.push(first)?;
     while tokens.sees(between) {

@@ -126,7 +126,7 @@ fn terms(
 ) -> Result<Vec<Term>, Refused<ReadError>>
     ensures { Reads (each_of term_of) (reading.terms_at text.now levels tokens.old.rest.now) result tokens.new.rest.now }
 {
-    let mut all = Vec::new(alloc);
+    let mut all = Vec::with_capacity(alloc, 1)?;
     let first = term(alloc, text, tokens, levels)?;
     all.push(first)?;
     while tokens.sees(Kind::Symbol(Symbol::Comma)) {
@@ -299,7 +299,7 @@ fn longer_comparison(
 ) -> Result<Term, Refused<ReadError>>
     ensures { Reads term_of (reading.compared_at text.now levels (below (reading.term_at text.now) levels) (term_of first) tokens.old.rest.now) result tokens.new.rest.now }
 {
-    let mut rest = Vec::new(alloc);
+    let mut rest = Vec::with_capacity(alloc, 1)?;
     if tokens.sees_in(comparisons()) {
         let operator = tokens.choice(comparisons())?;
         let second = chain(alloc, text, tokens, levels, Precedence::Sum)?;
@@ -387,7 +387,7 @@ fn longer_chain(
 ) -> Result<Term, Refused<ReadError>>
     ensures { Reads term_of (reading.chain_from_at text.now levels (below (reading.term_at text.now) levels) of (term_of first) tokens.old.rest.now) result tokens.new.rest.now }
 {
-    let mut rest = Vec::new(alloc);
+    let mut rest = Vec::with_capacity(alloc, 1)?;
     while tokens.sees_in(operators(of)) {
         let operator = tokens.choice(operators(of))?;
         let next = operand(alloc, text, tokens, levels, of)?;

@@ -24,9 +24,6 @@ use Rattle.asm_eval.specs.Yields.{Place}
 use Rattle.asm_run.specs.Step.{main_outcome}
 use Rattle.asm_run.proofs.Stepping.{stands_alone}
 
-none_fired : (A : State) → fire A none ≡ A
-none_fired A = λ i l. fire_laws.others A none l (λ named. member_laws.of_none l named.0 named.1) i
-
 none_consistent : IsConsistent none
 none_consistent = record { one_value = λ l v w h k. absurd (member_laws.of_none l v h); no_stray = λ f v h. member_laws.of_none _ v h }
 
@@ -50,7 +47,7 @@ pub outcome_alone : (s : Spec) (shape : Shape) (turns : ℕ) (script : Script) (
     → Stands shape over none → e ≡ nothing_bound → p ≡ [] → R ≡ main_rule s (inits s)
     → does (program_of s) turns script step A e p R ≡ main_outcome s turns script step contents
 outcome_alone s shape turns script step contents A over e p R shaped seen empty free top main =
-    let here : A ≡ state_of (shape_of s) contents = seen none empty none_consistent ∙ none_fired (state_of shape contents) ∙ ap (λ v. state_of v contents) shaped in
+    let here : A ≡ state_of (shape_of s) contents = seen none empty none_consistent ∙ fire_laws.of_none (state_of shape contents) ∙ ap (λ v. state_of v contents) shaped in
     λ i. does (program_of s) turns script step (here i) (free i) (top i) (main i)
 
 -- over the empty set, and from the empty set on, what is formed is the main rule's outcome

@@ -8,7 +8,7 @@ use Rattle.asm_state.specs.Updates.{UpdateSet, Has, Names, IsConsistent, none, o
 use Rattle.asm_state.specs.UpdateLaws.{Summary, IsSettled, SummaryLaws, FireLaws}
 use Rattle.asm_state.proofs.Updates.{same_location, location_itself}
 use Rattle.asm_state.proofs.Ranges.{at_most_itself, at_most_both, range_like, range_unique, widen_is, range_at_is}
-use Rattle.asm_state.proofs.Members.{has_none, has_one, has_union, has_merge, same_updates}
+use Rattle.asm_state.proofs.Members.{member_laws, has_none, has_one, has_union, has_merge, same_updates}
 
 one_summary : (U : UpdateSet) (s t : Summary) → IsSummary U s → IsSummary U t → s ≡ t
 one_summary U s t h k = λ i l. range_unique (Has U l) (s l) (t l) (h l) (k l) i
@@ -155,4 +155,5 @@ fire_laws = record {
   named = λ A U l v c m. fired_value A U l v (range_at U l) c m (range_at_is U l);
   others = λ A U l free. kept_value A U l (range_at U l) free (range_at_is U l);
   of_one = fire_one;
+  of_none = λ A i l. kept_value A none l (range_at none l) (λ h. member_laws.of_none l h.0 h.1) (range_at_is none l) i;
 }

@@ -56,6 +56,7 @@ pub record FireLaws : Type 0 where
   pub named : (A : State) (U : UpdateSet) (l : Location) (v : Value) → IsConsistent U → Has U l v → fire A U l ≡ v
   pub others : (A : State) (U : UpdateSet) (l : Location) → ¬ (Names U l) → fire A U l ≡ A l
   pub of_one : (A : State) (l : Location) (v : Value) → fire A (one l v) ≡ changed A l v
+  pub of_none : (A : State) → fire A none ≡ A
 
 -- ---- unions and merges
 

@@ -8,6 +8,7 @@ pub mod FillerFronts
 pub mod Steps
 pub mod OneGap
 pub mod OnePiece
+pub mod PackedKeys
 pub mod OneKind
 pub mod Stops
 pub mod OneAnswer

@@ -1,8 +1,8 @@
 -- The placed tree of each variant, as the code matches on it.
-use Rattle.std.proofs.Common.{◌≡◌, ℕ, List, map, Option, Box, Vec, Global, ap, ◌∙◌, sym}
+use Rattle.std.proofs.Common.{◌≡◌, map, Option, Box, Vec, Global, ap, ◌∙◌, sym}
 use Rattle.asm_state.specs.declared.operation.Op.{Op}
 use Rattle.asm_syntax.specs.Placed as tree
-use Rattle.asm_syntax.specs.Views.{name_of, term_step, term_of, terms_of, links_of, rule_step, rule_of, rules_of, branch_of, test_of}
+use Rattle.asm_syntax.specs.Views.{name_of, term_step, term_of, terms_of, links_of, rule_step, rule_of, rules_of, test_of}
 use Rattle.asm_syntax.specs.declared.term.Literal.{Literal}
 use Rattle.asm_syntax.specs.declared.name.Name.{Name}
 use Rattle.asm_syntax.specs.declared.term.Term.{Term}

@@ -1,14 +1,17 @@
 //! The bytes of names, each with a key.
-ghost use Rattle.std.specs.Prelude.{◌≡◌, IfOk, List, ℕ, nat_eq};
+ghost use Rattle.std.specs.Prelude.{◌≡◌, ◌≤◌, IfOk, List, ℕ, length, nat_eq};
 ghost use Rattle.std.proofs.Common.{ap};
 ghost use Rattle.std.specs.Cmp.{partial_equiv_from_equiv};
 ghost use Rattle.std.specs.Cmp.Lexicographic.{pointwise, bytes_decides, nat_list_eq_equiv};
 ghost use Rattle.std.specs.Hash as fed;
-ghost use Rattle.asm_syntax.specs.Keys.{key_of};
+ghost use Rattle.asm_syntax.specs.Keys.{key_of, packed, AreBytes};
 
 use std::alloc::{AllocError, Global};
 use std::hash::{FoldHasher, Hash, Hasher};
 use std::marker::Model;
+
+/// Texts up to this length are told apart by their lengths and keys alone.
+const SHORT: usize = 8;
 
 /// The bytes of a name, with a key by which two different ones are mostly told apart at once.
 #[derive(Drop)]
@@ -16,6 +19,7 @@ pub struct Text {
     bytes: Vec<u8>,
     key: u64,
     ghost keyed: { key ≡ key_of bytes.items },
+    ghost in_range: { AreBytes bytes.items },
 }
 
 impl Model for Text {
@@ -56,20 +60,50 @@ impl Text {
     }
 
     /// Whether the two texts are one.
+    #[inline(always)]
     pub fn is(&self, other: &Text) -> bool
         ensures { result ≡ pointwise nat_eq self.now other.now }
     {
-        self.key == other.key && self.as_bytes() == other.as_bytes()
+        let (bytes, others) = (self.as_bytes(), other.as_bytes());
+        if self.key != other.key || bytes.len() != others.len() {
+            return false;
+        }
+        bytes.len() <= SHORT || are_same(bytes, others)
     }
+}
+
+/// Whether two texts that are longer have the same bytes.
+#[inline(never)]
+fn are_same(bytes: &[u8], others: &[u8]) -> bool
+    ensures { result ≡ pointwise nat_eq bytes.now others.now }
+{
+    bytes == others
 }
 
 #[tactic(auto, unfolding(crate::specs::Keys::key_of))]
 fn key_of(bytes: &[u8]) -> u64
     ensures { result ≡ key_of bytes.now }
 {
+    if bytes.len() <= SHORT {
+        return packed(bytes);
+    }
     let mut hasher = FoldHasher::default();
     hasher.write(bytes);
     hasher.finish()
+}
+
+/// The bytes side by side.
+fn packed(bytes: &[u8]) -> u64
+    requires { length bytes.now ≤ SHORT }
+    ensures { result ≡ packed 0 bytes.now }
+{
+    let mut key: u64 = 0;
+    let mut rest = bytes;
+    while let [byte, behind @ ..] = rest {
+        key = 256 * key + *byte as u64;
+        rest = behind;
+    }
+    key
 }
 
 impl PartialEq for Text {

@@ -102,3 +102,24 @@ fn texts_are_compared_by_their_bytes(rt: HostRuntime) -> Result<(), Fail> {
     assert!(rt; same.as_bytes() == b"temperature".as_slice());
     Ok(())
 }
+
+#[test]
+fn short_texts_are_compared_by_their_keys(rt: HostRuntime) -> Result<(), Fail> {
+    let texts: [&[u8]; 7] = [
+        b"",
+        b"\0",
+        b"\0\0",
+        b"pressure",
+        b"pressurf",
+        b"qressure",
+        b"pressures",
+    ];
+    for (i, bytes) in texts.iter().enumerate() {
+        for (k, others) in texts.iter().enumerate() {
+            let text = Text::new(rt.alloc(), bytes)?;
+            let other = Text::new(rt.alloc(), others)?;
+            assert_eq!(rt; text.is(&other), i == k);
+        }
+    }
+    Ok(())
+}

@@ -1,5 +1,6 @@
 //! Maps from locations to the bounds of the values there.
 ghost use Rattle.std.specs.Prelude.{◌≡◌, ◌+◌, ◌<◌, ◌≤◌, ◌==◌, ℕ, Some, if◌then◌else◌};
+ghost use Rattle.std.specs.Option.{option_map};
 ghost use Rattle.indexmap.specs.IndexMap.{index_map_len, spare};
 ghost use Rattle.asm_state.specs.Codes.{code_of};
 ghost use Rattle.asm_state.specs.Updates.{lesser, greater, widen, later_range};
@@ -19,11 +20,21 @@ pub fn widen_at(ranges: &mut Ranges, n: usize, bounds: (Value, Value))
         ≡ (if k == n then widen (found ranges.old.entries n) (Some (range bounds)) else found ranges.old.entries k) }
     ensures room { spare ranges.old ≤ spare ranges.new + 1 }
 {
-    let bounds = match ranges.get(&n) {
-        Some(known) => widened(*known, bounds),
+    let bounds = match bounds_at(ranges, n) {
+        Some(known) => widened(known, bounds),
         None => bounds,
     };
     ranges.insert(n, bounds).unwrap();
+}
+
+/// The bounds of a location, if the set names it. The empty set, which is asked most, takes no look-up.
+pub fn bounds_at(ranges: &Ranges, n: usize) -> Option<(Value, Value)>
+    ensures { option_map range result ≡ found ranges.now.entries n }
+{
+    if ranges.is_empty() {
+        return None;
+    }
+    ranges.get(&n).copied()
 }
 
 /// Widens the bounds of each location by those that the others have. There is room for all of theirs.

@@ -12,7 +12,7 @@ ghost use Rattle.asm_updates.specs.Faults.{fault_of};
 ghost use Rattle.asm_updates.specs.Stands.{Stands};
 
 use crate::fault::{Fault, fault_at};
-use crate::ranges::{Ranges, replace_all, widen_all, widen_at};
+use crate::ranges::{Ranges, bounds_at, replace_all, widen_all, widen_at};
 use asm_state::signature::Signature;
 use asm_state::state::State;
 use asm_state::value::Value;
@@ -78,7 +78,7 @@ impl Summary {
     pub fn get(&self, n: usize) -> Option<(Value, Value)>
         ensures { option_map range result ≡ entry self.now n }
     {
-        self.ranges.get(&n).copied()
+        bounds_at(&self.ranges, n)
     }
 
     /// The named location at a position, with its least and its greatest value. After `sort` locations rise with positions.

@@ -75,8 +75,8 @@ exists-returns t c =
     let a = c.args in
     exists_past a.checked.now a.view.now (environment a.env.now) a.name.now.text a.over.now.text (plain.plain_term (term_of a.test.now)) c.in-Some.universe.now c.loop-i.i c.in-Some.ensures.some (omega (arith, c.size-i-end.ensures.size)) c.loop-i.invariant
 
-pub named-value-requires : goal.named-value-requires
-named-value-requires t c =
+pub named-operand-requires : goal.named-operand-requires
+named-operand-requires t c =
     let a = c.args in
     let e = environment a.env.now in
     let is = sym c.find.ensures ∙ ap binding c.in-ByName.is in
@@ -99,7 +99,7 @@ pub named-returns-in-ByName : goal.named-returns-in-ByName
 named-returns-in-ByName t c =
     let a = c.args in
     let it = (cases a.checked.now a.view.now (environment a.env.now)).of_term a.name.now.text (plain.plain_terms (terms_of (map term_of a.arguments.now))) (plain.plain_term (term_of c.in-ByName.term.now)) (environment c.in-ByName.caller.now) (sym c.find.ensures ∙ ap binding c.in-ByName.is) in
-    subst (λ x. IfOk c.value.result (λ v. v ≡ x)) (sym it) c.value.ensures
+    subst (λ x. IfOk c.operand.result (λ v. v ≡ x)) (sym it) c.operand.ensures
 
 pub named-returns-then-is_empty : goal.named-returns-then-is_empty
 named-returns-then-is_empty t c =

@@ -16,9 +16,9 @@ loop-alloc-preserved c = next_read name_of c.args.between (name_at c.args.text.n
 pub returns-in_err-next : goal.returns-in_err-next
 returns-in_err-next c =
     let p = err_from_is_err_and c.from_residual-in_err-next.result c.from_residual-in_err-next.ensures.1 in
-    rw (p.1, p.2) (λ reason is. next_fails name_of c.args.between (name_at c.args.text.now) c.new-all.result.items c.push.new.self.items c.loop-alloc.all.items c.args.tokens.now.rest.now c.name.new.tokens.rest.now c.loop-alloc.tokens.rest.now c.expect.new.self.rest.now c.in_ok-first.first c.in_ok-expect.field-0 reason
-    c.new-all.ensures.items c.in_ok-push.ensures.items c.in_ok-first.ensures c.loop-alloc-test.ensures c.in_ok-expect.ensures (c.in_err-next.ensures reason is) c.loop-alloc.invariant)
+    rw (p.1, p.2) (λ reason is. next_fails name_of c.args.between (name_at c.args.text.now) c.in_ok-all.all.items c.push.new.self.items c.loop-alloc.all.items c.args.tokens.now.rest.now c.name.new.tokens.rest.now c.loop-alloc.tokens.rest.now c.expect.new.self.rest.now c.in_ok-first.first c.in_ok-expect.field-0 reason
+    c.in_ok-all.ensures.items c.in_ok-push.ensures.items c.in_ok-first.ensures c.loop-alloc-test.ensures c.in_ok-expect.ensures (c.in_err-next.ensures reason is) c.loop-alloc.invariant)
 
 pub returns : goal.returns
-returns c = all_read name_of c.args.between (name_at c.args.text.now) c.new-all.result.items c.push.new.self.items c.loop-alloc.all.items c.args.tokens.now.rest.now c.name.new.tokens.rest.now c.loop-alloc.tokens.rest.now c.in_ok-first.first
-    c.new-all.ensures.items c.in_ok-push.ensures.items c.in_ok-first.ensures c.loop-alloc-test.ensures c.loop-alloc.invariant
+returns c = all_read name_of c.args.between (name_at c.args.text.now) c.in_ok-all.all.items c.push.new.self.items c.loop-alloc.all.items c.args.tokens.now.rest.now c.name.new.tokens.rest.now c.loop-alloc.tokens.rest.now c.in_ok-first.first
+    c.in_ok-all.ensures.items c.in_ok-push.ensures.items c.in_ok-first.ensures c.loop-alloc-test.ensures c.loop-alloc.invariant

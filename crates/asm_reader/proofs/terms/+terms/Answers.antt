@@ -51,13 +51,13 @@ terms-loop-alloc-preserved t c = next_read term_of (Symbol Comma) (term_at c.arg
 pub terms-returns-in_err-next : goal.terms-returns-in_err-next
 terms-returns-in_err-next t c =
     let p = err_from_is_err_and c.from_residual-in_err-next.result c.from_residual-in_err-next.ensures.1 in
-    rw (p.1, p.2) (λ reason is. next_fails term_of (Symbol Comma) (term_at c.args.text.now c.args.levels) c.new-all.result.items c.push.new.self.items c.loop-alloc.all.items
+    rw (p.1, p.2) (λ reason is. next_fails term_of (Symbol Comma) (term_at c.args.text.now c.args.levels) c.in_ok-all.all.items c.push.new.self.items c.loop-alloc.all.items
     c.args.tokens.now.rest.now c.term.new.tokens.rest.now c.loop-alloc.tokens.rest.now c.expect.new.self.rest.now c.in_ok-first.first c.in_ok-expect.field-0 reason
-    c.new-all.ensures.items c.in_ok-push.ensures.items c.in_ok-first.ensures c.loop-alloc-test.ensures c.in_ok-expect.ensures (c.in_err-next.ensures reason is) c.loop-alloc.invariant)
+    c.in_ok-all.ensures.items c.in_ok-push.ensures.items c.in_ok-first.ensures c.loop-alloc-test.ensures c.in_ok-expect.ensures (c.in_err-next.ensures reason is) c.loop-alloc.invariant)
 
 pub terms-returns : goal.terms-returns
-terms-returns t c = all_read term_of (Symbol Comma) (term_at c.args.text.now c.args.levels) c.new-all.result.items c.push.new.self.items c.loop-alloc.all.items c.args.tokens.now.rest.now c.term.new.tokens.rest.now c.loop-alloc.tokens.rest.now c.in_ok-first.first
-    c.new-all.ensures.items c.in_ok-push.ensures.items c.in_ok-first.ensures c.loop-alloc-test.ensures c.loop-alloc.invariant
+terms-returns t c = all_read term_of (Symbol Comma) (term_at c.args.text.now c.args.levels) c.in_ok-all.all.items c.push.new.self.items c.loop-alloc.all.items c.args.tokens.now.rest.now c.term.new.tokens.rest.now c.loop-alloc.tokens.rest.now c.in_ok-first.first
+    c.in_ok-all.ensures.items c.in_ok-push.ensures.items c.in_ok-first.ensures c.loop-alloc-test.ensures c.loop-alloc.invariant
 
 pub longer_chain-loop-of-smaller : goal.longer_chain-loop-of-smaller
 longer_chain-loop-of-smaller t c =
@@ -75,7 +75,7 @@ longer_chain-loop-of-preserved t c =
       c.loop-of.invariant.0,
       turn_seen link_of (keys (table_of c.args.of)) (link_at c.args.text.now c.args.levels (below (term_at c.args.text.now) c.args.levels) c.args.of) (links_consume c.args.text.now c.args.levels c.args.of)
           c.loop-of.rest.items c.push.new.self.items c.loop-of.tokens.rest.now (c.in_ok-operator.operator, c.in_ok-next.next) c.operand.new.tokens.rest.now
-          (with_front (each_of link_of c.new-rest.result) (repeated_of (keys (table_of c.args.of)) (link_at c.args.text.now c.args.levels (below (term_at c.args.text.now) c.args.levels) c.args.of) c.args.tokens.now.rest.now))
+          (with_front (each_of link_of c.in_ok-rest.rest) (repeated_of (keys (table_of c.args.of)) (link_at c.args.text.now c.args.levels (below (term_at c.args.text.now) c.args.levels) c.args.of) c.args.tokens.now.rest.now))
           c.in_ok-push.ensures.items (test ∙ ap (λ (w : List (Kind × Op)). begins (keys w) c.loop-of.tokens.rest.now) c.operators.ensures) one c.loop-of.invariant.1,
     )
 
@@ -86,20 +86,20 @@ longer_chain-returns-in_err-next t c =
     let read : choice_at (table_of c.args.of) c.loop-of.tokens.rest.now ≡ Ok (c.in_ok-operator.operator, c.choice.new.self.rest.now) = ap (λ (w : List (Kind × Op)). choice_at w c.loop-of.tokens.rest.now) (sym c.operators-in-loop-of.ensures) ∙ c.in_ok-operator.ensures in
     rw (p.1, p.2) (λ reason is.
     let one = link_fails (table_of c.args.of) (operand_at c.args.text.now c.args.levels (below (term_at c.args.text.now) c.args.levels) c.args.of) c.loop-of.tokens.rest.now c.choice.new.self.rest.now c.in_ok-operator.operator reason read (c.in_err-next.ensures reason is) in
-    let total = sym (nothing_before link_of (keys (table_of c.args.of)) (link_at c.args.text.now c.args.levels (below (term_at c.args.text.now) c.args.levels) c.args.of) c.new-rest.result.items
-    (repeated_of (keys (table_of c.args.of)) (link_at c.args.text.now c.args.levels (below (term_at c.args.text.now) c.args.levels) c.args.of) c.args.tokens.now.rest.now) c.new-rest.ensures.items)
+    let total = sym (nothing_before link_of (keys (table_of c.args.of)) (link_at c.args.text.now c.args.levels (below (term_at c.args.text.now) c.args.levels) c.args.of) c.in_ok-rest.rest.items
+    (repeated_of (keys (table_of c.args.of)) (link_at c.args.text.now c.args.levels (below (term_at c.args.text.now) c.args.levels) c.args.of) c.args.tokens.now.rest.now) c.in_ok-rest.ensures.items)
     ∙ bad_turn (keys (table_of c.args.of)) (link_at c.args.text.now c.args.levels (below (term_at c.args.text.now) c.args.levels) c.args.of) (each_of link_of c.loop-of.rest) c.loop-of.tokens.rest.now reason
-    (with_front (each_of link_of c.new-rest.result) (repeated_of (keys (table_of c.args.of)) (link_at c.args.text.now c.args.levels (below (term_at c.args.text.now) c.args.levels) c.args.of) c.args.tokens.now.rest.now))
+    (with_front (each_of link_of c.in_ok-rest.rest) (repeated_of (keys (table_of c.args.of)) (link_at c.args.text.now c.args.levels (below (term_at c.args.text.now) c.args.levels) c.args.of) c.args.tokens.now.rest.now))
     (sym (test ∙ ap (λ (w : List (Kind × Op)). begins (keys w) c.loop-of.tokens.rest.now) c.operators.ensures)) one c.loop-of.invariant.1 in
     links_fail (table_of c.args.of) (operand_at c.args.text.now c.args.levels (below (term_at c.args.text.now) c.args.levels) c.args.of) c.args.tokens.now.rest.now (term_of c.args.first) reason total)
 
 pub longer_chain-returns : goal.longer_chain-returns
 longer_chain-returns t c =
     let test : false ≡ begins (keys c.operators.result.now) c.loop-of.tokens.rest.now = c.loop-of-test.ensures in
-    let total = sym (nothing_before link_of (keys (table_of c.args.of)) (link_at c.args.text.now c.args.levels (below (term_at c.args.text.now) c.args.levels) c.args.of) c.new-rest.result.items
-    (repeated_of (keys (table_of c.args.of)) (link_at c.args.text.now c.args.levels (below (term_at c.args.text.now) c.args.levels) c.args.of) c.args.tokens.now.rest.now) c.new-rest.ensures.items)
+    let total = sym (nothing_before link_of (keys (table_of c.args.of)) (link_at c.args.text.now c.args.levels (below (term_at c.args.text.now) c.args.levels) c.args.of) c.in_ok-rest.rest.items
+    (repeated_of (keys (table_of c.args.of)) (link_at c.args.text.now c.args.levels (below (term_at c.args.text.now) c.args.levels) c.args.of) c.args.tokens.now.rest.now) c.in_ok-rest.ensures.items)
     ∙ no_turn (keys (table_of c.args.of)) (link_at c.args.text.now c.args.levels (below (term_at c.args.text.now) c.args.levels) c.args.of) (each_of link_of c.loop-of.rest) c.loop-of.tokens.rest.now
-    (with_front (each_of link_of c.new-rest.result) (repeated_of (keys (table_of c.args.of)) (link_at c.args.text.now c.args.levels (below (term_at c.args.text.now) c.args.levels) c.args.of) c.args.tokens.now.rest.now))
+    (with_front (each_of link_of c.in_ok-rest.rest) (repeated_of (keys (table_of c.args.of)) (link_at c.args.text.now c.args.levels (below (term_at c.args.text.now) c.args.levels) c.args.of) c.args.tokens.now.rest.now))
     (sym (test ∙ ap (λ (w : List (Kind × Op)). begins (keys w) c.loop-of.tokens.rest.now) c.operators.ensures)) c.loop-of.invariant.1 in
     rw c.in_ok-joined.ensures
     (links_done (table_of c.args.of) (operand_at c.args.text.now c.args.levels (below (term_at c.args.text.now) c.args.levels) c.args.of) c.args.tokens.now.rest.now c.loop-of.tokens.rest.now (term_of c.args.first) (each_of link_of c.loop-of.rest) total
