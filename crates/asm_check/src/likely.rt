@@ -44,7 +44,7 @@ impl Likely {
         Ok(likely)
     }
 
-    /// Where the name stands if it is one of these, or else anywhere.
+    /// Where the name probably stands if it is one of these, or else anywhere.
     pub(crate) fn place(&self, name: &Text) -> Option<usize> {
         self.places.get(self.slot(name)).copied()
     }

@@ -1,4 +1,4 @@
--- A number that goes with each text: texts with different keys differ, and so do short ones that have one length.
+-- A number that goes with each text: texts with different keys differ, and short ones of one length with one key are the same.
 use Rattle.std.specs.Prelude.{ℕ, ◌+◌, ◌*◌, ◌<◌, List, get_or, fold, length, nat_le, if◌then◌else◌}
 use Rattle.std.specs.Hash.FoldHasher.{initial, write, finish}
 
