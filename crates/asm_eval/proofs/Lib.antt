@@ -29,3 +29,4 @@ pub mod Sequences
 pub mod NestedPlaces
 pub mod OrderedRules
 pub mod ExhaustedPlaces
+pub mod SpecificationRuns

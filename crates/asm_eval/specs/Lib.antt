@@ -16,3 +16,4 @@ pub mod Declarations
 pub mod Valued
 pub mod Formed
 pub mod Taken
+pub mod SpecificationLaw

@@ -5,6 +5,7 @@ ghost use Rattle.asm_eval.specs.Cases.{ScriptedByCases};
 ghost use Rattle.asm_eval.specs.TermCases.{ValuedByCases};
 ghost use Rattle.asm_eval.specs.Declarations.{ProgramDeclares};
 ghost use Rattle.asm_eval.specs.Run.{ScriptedRuns, FreeRuns};
+ghost use Rattle.asm_eval.specs.SpecificationLaw.{SpecificationsAreRanked, SpecificationRunsAreFree, SpecificationRunsHaveScripts};
 ghost use Rattle.asm_eval.specs.Splits.{BesideLaws, SplitLaws};
 ghost use Rattle.asm_eval.specs.Weights.{TermWeightsFall, CallWeightsFall};
 
@@ -66,4 +67,19 @@ pub fn scripted_runs()
 /// Each run, for whatever choices, is the run under some script without repeated lines.
 pub fn free_runs()
     ensures { FreeRuns }
+{}
+
+/// A specification without faults has all that the law of choice asks of a program and of its rules.
+pub fn specifications_are_ranked()
+    ensures { SpecificationsAreRanked }
+{}
+
+/// The run of a specification without faults under a script is a run of it for some choices.
+pub fn specification_runs_are_free()
+    ensures { SpecificationRunsAreFree }
+{}
+
+/// Each run of a specification without faults, for whatever choices, is its run under some script without repeated lines.
+pub fn specification_runs_have_scripts()
+    ensures { SpecificationRunsHaveScripts }
 {}

@@ -14,3 +14,4 @@ pub mod SoundShapes
 pub mod Stepping
 mod Traces
 pub mod Whole
+pub mod Ends

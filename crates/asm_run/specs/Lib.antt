@@ -9,3 +9,4 @@ pub mod Headline
 pub mod Exclusion
 pub mod Step
 pub mod Reached
+pub mod Ends

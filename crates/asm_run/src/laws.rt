@@ -1,5 +1,6 @@
 //! Laws of traces and of refusals.
 ghost use Rattle.asm_run.specs.Traces.{OneTrace, SomeTrace};
+ghost use Rattle.asm_run.specs.Ends.{AnswersTell};
 ghost use Rattle.asm_run.specs.Exclusion.{OneNamedRefusal, NoRunBesideARefusal};
 
 use asm_check::laws::least_is_only;
@@ -37,3 +38,8 @@ pub fn no_run_beside_a_refusal()
     no_tree_beside_a_refusal();
     no_script_beside_a_refusal();
 }
+
+/// The answer of a run says whether it makes all its steps, ends before, or is one of a text that is refused.
+pub fn answers_tell()
+    ensures { AnswersTell }
+{}

@@ -1,4 +1,9 @@
 //! Why the program ends without the whole trace.
+ghost use Rattle.std.specs.Prelude.{◌≡◌};
+ghost use Rattle.std.specs.IoError.{error_kind};
+ghost use Rattle.asm_tool.specs.Statuses.{read_fault, settings_fault, status_of, word_fault};
+ghost use Rattle.asm_tool.specs.declared.fault.Fault.TheVariants.{Memory};
+
 use crate::settings::WordFault;
 use asm_run::error::{CheckError, ReadError, ScriptError};
 use std::alloc::AllocError;
@@ -68,7 +73,9 @@ pub enum Fault {
 
 impl Fault {
     /// The program's status.
-    pub fn status(&self) -> u8 {
+    pub fn status(&self) -> u8
+        ensures { result ≡ status_of self.now }
+    {
         match self {
             Fault::Read(_) | Fault::Check(_) | Fault::Script(_) => 2,
             Fault::Memory | Fault::File | Fault::Write => 3,
@@ -77,7 +84,9 @@ impl Fault {
     }
 
     /// The fault of words that can't be had.
-    pub fn of_words(error: &io::Error) -> Fault {
+    pub fn of_words(error: &io::Error) -> Fault
+        ensures { result ≡ word_fault (error_kind error.now) }
+    {
         match error.kind() {
             io::ErrorKind::OutOfMemory => Fault::Memory,
             _ => Fault::NotText,
@@ -85,7 +94,9 @@ impl Fault {
     }
 
     /// The fault of a read that failed.
-    pub fn of_read(error: &io::Error) -> Fault {
+    pub fn of_read(error: &io::Error) -> Fault
+        ensures { result ≡ read_fault (error_kind error.now) }
+    {
         match error.kind() {
             io::ErrorKind::OutOfMemory => Fault::Memory,
             _ => Fault::File,
@@ -94,6 +105,8 @@ impl Fault {
 }
 
 impl From<WordFault> for Fault {
+    ghost from_gives = { λ word fault. fault ≡ settings_fault word };
+
     fn from(fault: WordFault) -> Fault {
         match fault {
             WordFault::Memory => Fault::Memory,
@@ -103,6 +116,8 @@ impl From<WordFault> for Fault {
 }
 
 impl From<AllocError> for Fault {
+    ghost from_gives = { λ _ fault. fault ≡ Memory };
+
     fn from(_error: AllocError) -> Fault {
         Fault::Memory
     }

@@ -1,5 +1,6 @@
 //! The words, the text and the script that come in.
-ghost use Rattle.std.specs.Prelude.{◌≡◌, [], None, take, IfOk, IfSome};
+ghost use Rattle.std.specs.Prelude.{◌≡◌, [], None, take, IfOk, IfErr, IfSome};
+ghost use Rattle.asm_tool.specs.Statuses.{status_of};
 
 use crate::fault::Fault;
 use std::alloc::Global;
@@ -15,31 +16,57 @@ pub fn words<R: Env + AllocGlobal>(rt: &R) -> Result<Vec<String>, Fault> {
     }
 }
 
-/// The input to its end, or so many bytes of it where it is longer.
-pub fn front<I: Read + Drop>(alloc: Global, input: I, most: u64) -> Result<Vec<u8>, Fault>
-    ensures { IfSome (I.remaining input) (λ bytes. IfOk result (λ text. text.items ≡ take most bytes)) }
+/// The front of the text: of its file, or of the input where no file is named.
+pub fn text<R: Files, I: Read + Drop>(
+    rt: &R,
+    alloc: Global,
+    name: Option<&str>,
+    input: I,
+    most: u64,
+) -> Result<Vec<u8>, Fault>
+    ensures read { name.entry ≡ None → IfSome (I.remaining input) (λ bytes. IfOk result (λ text. text.items ≡ take most bytes)) }
+    ensures failed { IfErr result (λ fault. status_of fault ≡ 3) }
 {
-    let mut text = Vec::new(alloc);
-    match input.take(most).read_to_end(&mut text) {
-        Ok(_) => Ok(text),
-        Err(error) => Err(Fault::of_read(&error)),
+    match name {
+        Some(name) => named(rt, alloc, name, most),
+        None => front(alloc, input, most),
     }
 }
 
-/// The front of the script: of its file, as `front` reads it, or nothing where no file is named.
+/// The front of the script: of its file, or nothing where no file is named.
 pub fn script<R: Files>(
     rt: &R,
     alloc: Global,
     name: Option<&str>,
     most: u64,
 ) -> Result<Vec<u8>, Fault>
-    ensures { name.entry ≡ None → IfOk result (λ script. script.items ≡ []) }
+    ensures read { name.entry ≡ None → IfOk result (λ script. script.items ≡ []) }
+    ensures failed { IfErr result (λ fault. status_of fault ≡ 3) }
 {
-    let Some(name) = name else {
-        return Ok(Vec::new(alloc));
-    };
+    match name {
+        Some(name) => named(rt, alloc, name, most),
+        None => Ok(Vec::new(alloc)),
+    }
+}
+
+/// The front of the file of this name.
+fn named<R: Files>(rt: &R, alloc: Global, name: &str, most: u64) -> Result<Vec<u8>, Fault>
+    ensures { IfErr result (λ fault. status_of fault ≡ 3) }
+{
     match fs::open(rt, name) {
         Ok(file) => front(alloc, file, most),
+        Err(error) => Err(Fault::of_read(&error)),
+    }
+}
+
+/// The input to its end, or so many bytes of it where it is longer.
+pub fn front<I: Read + Drop>(alloc: Global, input: I, most: u64) -> Result<Vec<u8>, Fault>
+    ensures read { IfSome (I.remaining input) (λ bytes. IfOk result (λ text. text.items ≡ take most bytes)) }
+    ensures failed { IfErr result (λ fault. status_of fault ≡ 3) }
+{
+    let mut text = Vec::new(alloc);
+    match input.take(most).read_to_end(&mut text) {
+        Ok(_) => Ok(text),
         Err(error) => Err(Fault::of_read(&error)),
     }
 }

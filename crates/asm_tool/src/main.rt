@@ -1,7 +1,8 @@
-//! The program `asm`: reads a specification from standard input and writes the trace of its run.
+//! The program `asm`: reads a specification and writes the trace of its run.
 #![tactic(auto)]
 
 mod fault;
+mod help;
 mod input;
 mod settings;
 mod status;
@@ -16,7 +17,7 @@ fn main(rt: HostRuntime) -> ExitCode {
     let status = match input::words(&rt) {
         Ok(words) => {
             let (input, out) = (rt.stdin(), rt.stdout());
-            status::status(&rt, rt.alloc(), words.as_slice(), input, out, &mut err)
+            status::status(&rt, words.as_slice(), input, out, &mut err)
         }
         Err(fault) => status::refusal(&fault, &mut err),
     };

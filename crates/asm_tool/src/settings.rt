@@ -1,4 +1,8 @@
 //! What the program is asked to do.
+ghost use Rattle.std.specs.Prelude.{◌≡◌};
+ghost use Rattle.asm_tool.specs.Said.{IsFaultOf};
+ghost use Rattle.asm_tool.specs.declared.settings.WordFault.TheVariants.{Memory};
+
 use asm_run::limits::Limits;
 use clap::Error;
 use clap::error::ErrorKind;
@@ -7,9 +11,11 @@ use std::alloc::AllocError;
 /// What the words ask for.
 #[derive(Clone, Copy, Debug, PartialEq, Eq)]
 pub struct Settings<'w> {
+    /// The name of the text's file, where there is one; else the text is on standard input.
+    pub spec: Option<&'w str>,
     /// The name of the script's file, where there is one.
     pub script: Option<&'w str>,
-    /// How far the run goes.
+    /// How far the run goes, and how its work is cut.
     pub limits: Limits,
 }
 
@@ -23,12 +29,16 @@ pub enum WordFault {
 }
 
 impl From<AllocError> for WordFault {
+    ghost from_gives = { λ _ fault. fault ≡ Memory };
+
     fn from(_error: AllocError) -> WordFault {
         WordFault::Memory
     }
 }
 
 impl From<Error> for WordFault {
+    ghost from_gives = { λ error fault. IsFaultOf error fault };
+
     fn from(error: Error) -> WordFault {
         match error.kind() {
             ErrorKind::OutOfMemory => WordFault::Memory,

@@ -1,12 +1,15 @@
 //! The program over any reader and writers, and the status that it ends with.
-ghost use Rattle.std.specs.Prelude.{IsTrue};
+ghost use Rattle.std.specs.Prelude.{◌≡◌, ◌≢◌, ◌≤◌, ◌⊎◌, [], map, IsTrue, IfOk, IfErr, IfSome};
 ghost use Rattle.asm_run.specs.Limits.{are_in_range};
+ghost use Rattle.asm_tool.specs.CommandLine.{refusals};
+ghost use Rattle.asm_tool.specs.Statuses.{IsFaultOfWords, Tells, TellsOfWords, run_fault, status_at, status_in, status_of};
 
 use crate::fault::Fault;
 use crate::input;
 use crate::words::settings;
 use asm_run::end::End;
 use asm_run::error::RunError;
+use asm_run::laws::answers_tell;
 use asm_run::limits::Limits;
 use asm_run::run::run;
 use asm_run::through::Through;
@@ -22,40 +25,58 @@ const MOST_BYTES: u64 = 1_048_577;
 /// So many bytes of the trace are written at a time.
 const BUFFER: usize = 1 << 16;
 
-/// Runs the specification that the input has, as the words ask, and writes its trace to `out` and the line of a fault to
-/// `err`. The words are those behind the program's name.
-pub fn status<R: Threads + Files, S: AsStr, I: Read + Drop, O: Write + Drop, E: Write>(
-    rt: &R,
-    alloc: Global,
-    words: &[S],
-    input: I,
-    out: O,
-    err: &mut E,
-) -> u8 {
-    match end(rt, alloc, words, input, out) {
-        Ok(End::Limit) => 0,
-        Ok(End::Clash | End::Outside | End::Exhausted) => 1,
+/// Runs the specification that the words name, or that the input has where they name none, and writes its trace to `out` and
+/// the line of a fault to `err`. The words are those behind the program's name.
+pub fn status<
+    R: Threads + Files + AllocGlobal,
+    S: AsStr,
+    I: Read + Drop,
+    O: Write + Drop,
+    E: Write,
+>(rt: &R, words: &[S], input: I, out: O, err: &mut E) -> u8
+    ensures taken { refusals (map S.text words.entry.now) ≡ [] → result ≤ 3 }
+    ensures refused { refusals (map S.text words.entry.now) ≢ [] → (result ≡ 3) ⊎ (result ≡ 4) }
+    ensures told { IfSome (I.remaining input) (λ bytes. TellsOfWords (map S.text words.entry.now) bytes result) }
+{
+    match end(rt, words, input, out) {
+        Ok(end) => whole_trace(end),
         Err(fault) => refusal(&fault, err),
     }
 }
 
+/// The status of a run whose trace is written whole.
+fn whole_trace(end: End) -> u8
+    ensures { result ≡ status_at end }
+{
+    match end {
+        End::Limit => 0,
+        End::Clash | End::Outside | End::Exhausted => 1,
+    }
+}
+
 /// Says why there is no whole trace, and answers the status of that.
-pub fn refusal<E: Write>(fault: &Fault, err: &mut E) -> u8 {
+pub fn refusal<E: Write>(fault: &Fault, err: &mut E) -> u8
+    ensures { result ≡ status_of fault.now }
+{
     // Where even this line can't be written, the status alone tells.
     let _ = write!(err, "{fault}");
     fault.status()
 }
 
 /// The end of the run, once its whole trace is written. The words come first, then the text, then the script.
-fn end<R: Threads + Files, S: AsStr, I: Read + Drop, O: Write + Drop>(
+fn end<R: Threads + Files + AllocGlobal, S: AsStr, I: Read + Drop, O: Write + Drop>(
     rt: &R,
-    alloc: Global,
     words: &[S],
     input: I,
     out: O,
-) -> Result<End, Fault> {
+) -> Result<End, Fault>
+    ensures taken { IfOk result (λ _. refusals (map S.text words.entry.now) ≡ []) }
+    ensures refused { IfErr result (IsFaultOfWords (map S.text words.entry.now)) }
+    ensures told { IfSome (I.remaining input) (λ bytes. TellsOfWords (map S.text words.entry.now) bytes (status_in result)) }
+{
+    let alloc = rt.alloc();
     let settings = settings(alloc, words)?;
-    let text = input::front(alloc, input, MOST_BYTES)?;
+    let text = input::text(rt, alloc, settings.spec, input, MOST_BYTES)?;
     let script = input::script(rt, alloc, settings.script, MOST_BYTES)?;
     written(
         rt,
@@ -77,7 +98,10 @@ fn written<R: Threads, O: Write + Drop>(
     out: O,
 ) -> Result<End, Fault>
     requires { IsTrue (are_in_range limits.now.steps limits.now.turns limits.now.workers limits.now.cut limits.now.rounds) }
+    ensures low { IfErr result (λ fault. status_of fault ≤ 3) }
+    ensures told { Tells text.now script.now limits.now.steps limits.now.turns (status_in result) }
 {
+    answers_tell();
     let Ok(buffer) = BufWriter::with_capacity(alloc, BUFFER, out) else {
         return Err(Fault::Memory);
     };
@@ -87,16 +111,25 @@ fn written<R: Threads, O: Write + Drop>(
     let flushed = sink.into_inner().flush();
     let end = match answer {
         Ok(end) => end,
-        Err(RunError::Read(error)) => return Err(Fault::Read(error)),
-        Err(RunError::Check(error)) => return Err(Fault::Check(error)),
-        Err(RunError::Script(error)) => return Err(Fault::Script(error)),
-        Err(RunError::Memory) => return Err(Fault::Memory),
-        Err(RunError::Write) => return Err(Fault::Write),
-        // The limits are in their ranges.
-        Err(RunError::Limits) => unreachable!(),
+        Err(error) => return Err(refused_run(error)),
     };
     match flushed {
         Ok(()) => Ok(end),
         Err(_) => Err(Fault::Write),
+    }
+}
+
+/// The fault of a run with limits in their ranges that is refused.
+fn refused_run(error: RunError) -> Fault
+    requires { error ≢ RunError.Limits }
+    ensures { result ≡ run_fault error }
+{
+    match error {
+        RunError::Read(error) => Fault::Read(error),
+        RunError::Check(error) => Fault::Check(error),
+        RunError::Script(error) => Fault::Script(error),
+        RunError::Memory => Fault::Memory,
+        RunError::Write => Fault::Write,
+        RunError::Limits => unreachable!(),
     }
 }

@@ -1,18 +1,24 @@
 //! The program over readers and writers in memory.
 use crate::status::status;
-use std::alloc::Global;
 use std::io;
 use std::io::{Read, Write};
 use std::rt::Files;
 use std::thread::Threads;
 
 mod faults;
+mod files;
 mod limits;
 mod rows;
 mod scripts;
+mod statuses;
+mod words;
 
 const COUNTER: &[u8] =
     b"CoreASM T\ninit M\nfunction controlled x initially 0\nrule M = x := x + 1\n";
+
+/// The trace of the counter's first three steps.
+const THREE_STEPS: &[u8] =
+    b"step 1 instances 0\nx := 1\nstep 2 instances 0\nx := 2\nstep 3 instances 0\nx := 3\nend limit\nstate\nx = 3\n";
 
 /// Fails at its first read.
 #[derive(Drop)]
@@ -35,15 +41,14 @@ struct Shown {
 }
 
 /// What the program shows where both writers take everything.
-fn shown_by<R: Threads + Files, I: Read + Drop>(
+fn shown_by<R: Threads + Files + AllocGlobal, I: Read + Drop>(
     rt: &R,
-    alloc: Global,
     words: &[&str],
     input: I,
 ) -> Shown {
-    let mut trace = Vec::new(alloc);
-    let mut line = Vec::new(alloc);
-    let status = status(rt, alloc, words, input, &mut trace, &mut line);
+    let mut trace = Vec::new(rt.alloc());
+    let mut line = Vec::new(rt.alloc());
+    let status = status(rt, words, input, &mut trace, &mut line);
     Shown {
         status,
         trace,

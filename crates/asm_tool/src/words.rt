@@ -1,69 +1,100 @@
 //! The words that the program is called with.
-ghost use Rattle.std.specs.Prelude.{◌≡◌, ℕ, List, Some, false, pos, codes, IsTrue, IfOk};
-ghost use Rattle.clap.specs.Built.{TakesValue};
-ghost use Rattle.clap.specs.Words.{IsPlainArg, IsSignedIn, found_of, one_text, without_minus};
-ghost use Rattle.clap.specs.declared.builder.value_parser.ValueParser.TheVariants.{Signed};
+ghost use Rattle.std.specs.Prelude.{◌≡◌, [], Some, map, codes, pos, IsTrue, IfOk, IfErr};
+ghost use Rattle.std.specs.Str.Parse.{signed_digits_value};
+ghost use Rattle.clap.specs.Words.{app_of, first_value, found_of, rule_of};
 ghost use Rattle.asm_run.specs.Limits.{are_in_range};
+ghost use Rattle.asm_tool.specs.CommandLine as line;
+ghost use Rattle.asm_tool.specs.CommandLine.{refusals};
+ghost use Rattle.asm_tool.specs.Said.{AreParsed, AreSaid, Explains, HasNumber};
 
+use crate::help;
 use crate::settings::{Settings, WordFault};
 use asm_run::limits::Limits;
 use clap::{Arg, ArgAction, ArgMatches, Command};
-use std::alloc::Global;
+use std::alloc::{AllocError, Global};
 use std::convert::AsStr;
 
 /// The settings that the words give, the program's name not among them.
 pub fn settings<'w, S: AsStr>(alloc: Global, words: &'w [S]) -> Result<Settings<'w>, WordFault>
-    ensures { IfOk result (λ s. IsTrue (are_in_range s.limits.steps s.limits.turns s.limits.workers s.limits.cut s.limits.rounds)) }
+    ensures in_range { IfOk result (λ s. IsTrue (are_in_range s.limits.steps s.limits.turns s.limits.workers s.limits.cut s.limits.rounds)) }
+    ensures taken { IfOk result (λ _. refusals (map S.text words.entry.now) ≡ []) }
+    ensures said { IfOk result (AreSaid (map S.text words.entry.now)) }
+    ensures refused { IfErr result (Explains (map S.text words.entry.now)) }
 {
     let given = given(alloc, words)?;
-    let steps = given.get_one::<u32>("steps").unwrap();
     let limits = Limits {
-        steps,
-        turns: 1000,
-        workers: 1,
-        cut: 64,
-        rounds: 4,
+        steps: number_of(&given, "steps"),
+        turns: number_of(&given, "turns"),
+        workers: number_of(&given, "workers"),
+        cut: number_of(&given, "cut"),
+        rounds: number_of(&given, "rounds"),
     };
+    let spec = given.get_str("spec");
     let script = given.get_str("script");
-    Ok(Settings { script, limits })
+    Ok(Settings {
+        spec,
+        script,
+        limits,
+    })
 }
 
-/// What the words give. The number of steps may not be left out.
+/// What the words give.
 fn given<'w, S: AsStr>(alloc: Global, words: &'w [S]) -> Result<ArgMatches<'w>, WordFault>
-    ensures { IfOk result (λ m. (t : List ℕ) × (one_text (found_of m) (codes "steps") ≡ Some (without_minus t)) × IsSignedIn (pos 0) (pos 1000000) t) }
+    ensures taken { IfOk result (λ _. refusals (map S.text words.entry.now) ≡ []) }
+    ensures parsed { IfOk result (AreParsed (map S.text words.entry.now)) }
+    ensures refused { IfErr result (Explains (map S.text words.entry.now)) }
 {
-    let command = Command::new(alloc, "asm")
-        .about("Runs the specification on standard input and writes the trace of its run.")
+    Ok(command(alloc)?.try_get_matches_from(words)?)
+}
+
+/// What the program may be called with.
+fn command<'w>(alloc: Global) -> Result<Command<'w>, AllocError>
+    ensures { IfOk result (λ c. app_of c ≡ line.command) }
+{
+    let steps = number(alloc, "steps", 0, 1_000_000, help::STEPS).required(true);
+    let turns = number(alloc, "turns", 1, 1_000_000, help::TURNS).default_value("1000");
+    let workers = number(alloc, "workers", 1, 32, help::WORKERS).default_value("1");
+    let cut = number(alloc, "cut", 1, 4096, help::CUT).default_value("64");
+    let rounds = number(alloc, "rounds", 0, 64, help::ROUNDS).default_value("4");
+    Command::new(alloc, "asm")
+        .about(help::ABOUT)
+        .after_help(help::AFTER)
         .no_binary_name(true)
-        .arg(steps(alloc))?
-        .arg(script(alloc))?;
-    Ok(command.try_get_matches_from(words)?)
+        .arg(file(alloc, "spec", "SPEC", help::SPEC))?
+        .arg(steps)?
+        .arg(file(alloc, "script", "FILE", help::SCRIPT).long("script"))?
+        .arg(turns)?
+        .arg(workers)?
+        .arg(cut)?
+        .arg(rounds)
 }
 
-/// The word `--steps`, with a number.
-fn steps<'w>(alloc: Global) -> Arg<'w>
-    ensures named { result.id.now ≡ codes "steps" }
-    ensures plain { IsPlainArg result × (result.global ≡ false) }
-    ensures required { TakesValue result }
-    ensures range { result.value_parser ≡ Some (Signed (pos 0) (pos 1000000)) }
+/// A file's name, as a word of its own.
+fn file<'w>(alloc: Global, name: &'w str, shown: &'w str, help: &'w str) -> Arg<'w>
+    ensures { rule_of result ≡ line.positional name.entry.now }
 {
-    Arg::new(alloc, "steps")
-        .long("steps")
+    Arg::new(alloc, name)
+        .value_name(shown)
+        .help(help)
+        .action(ArgAction::Set)
+}
+
+/// The word `--name`, with a number from `least` to `most`.
+fn number<'w>(alloc: Global, name: &'w str, least: u32, most: u32, help: &'w str) -> Arg<'w>
+    ensures { rule_of result ≡ line.number least most name.entry.now }
+{
+    Arg::new(alloc, name)
+        .long(name)
         .value_name("N")
-        .help("At most so many steps are made: 0 to 1000000")
-        .required(true)
+        .help(help)
         .action(ArgAction::Set)
-        .value_parser(clap::value_parser!(u32).range(..=1_000_000))
+        .value_parser(clap::value_parser!(u32).range(i64::from(least)..=i64::from(most)))
 }
 
-/// The word `--script`, with the name of a file.
-fn script<'w>(alloc: Global) -> Arg<'w>
-    ensures named { result.id.now ≡ codes "script" }
-    ensures plain { IsPlainArg result × (result.global ≡ false) }
+/// The number of an option that has one.
+fn number_of(given: &ArgMatches<'_>, name: &str) -> u32
+    requires { HasNumber (found_of given.now) name.now 0 4_294_967_295 }
+    ensures { (text : _) → first_value (found_of given.now) name.now ≡ Some text → signed_digits_value 10 text ≡ pos result }
 {
-    Arg::new(alloc, "script")
-        .long("script")
-        .value_name("FILE")
-        .help("The choices are read from this file; without it there are none")
-        .action(ArgAction::Set)
+    given.get_one::<u32>(name).unwrap()
 }

@@ -25,7 +25,7 @@ impl Read for Endless {
 
 /// Takes nothing at all.
 #[derive(Drop)]
-struct Closed;
+pub(super) struct Closed;
 
 impl Write for Closed {
     fn write(&mut self, _piece: &[u8]) -> io::Result<usize> {
@@ -52,38 +52,9 @@ impl Write for Unflushed {
 }
 
 #[test]
-fn words_that_are_refused(rt: HostRuntime) -> Result<(), Fail> {
-    let refused: [&[&str]; 10] = [
-        &[],
-        &["--steps"],
-        &["--steps", "1000001"],
-        &["--steps", "-1"],
-        &["--steps", "three"],
-        &["--steps", "3", "--walks", "1"],
-        &["--steps", "3", "--steps", "4"],
-        &["--steps", "3", "--script"],
-        &["--steps", "3", "--script", "a", "--script", "b"],
-        &["--help"],
-    ];
-    for words in refused {
-        let shown = shown_by(&rt, rt.alloc(), words, COUNTER);
-        assert_eq!(rt; shown.status, 4);
-        assert!(rt; !shown.line.is_empty());
-        assert_eq!(rt; shown.trace.len(), 0);
-    }
-    Ok(())
-}
-
-#[test]
-fn the_greatest_number_of_steps_is_taken(rt: HostRuntime) {
-    let shown = shown_by(&rt, rt.alloc(), &["--steps", "1000000"], b"".as_slice());
-    assert_eq!(rt; shown.status, 2);
-}
-
-#[test]
 fn words_are_looked_at_before_the_text(rt: HostRuntime) {
     let mut input = Endless { given: 0 };
-    let shown = shown_by(&rt, rt.alloc(), &["--steps", "x"], &mut input);
+    let shown = shown_by(&rt, &["--steps", "x"], &mut input);
     assert_eq!(rt; shown.status, 4);
     assert_eq!(rt; input.given, 0);
 }
@@ -91,7 +62,7 @@ fn words_are_looked_at_before_the_text(rt: HostRuntime) {
 #[test]
 fn a_text_without_an_end_is_read_no_further_than_it_may_be_long(rt: HostRuntime) {
     let mut input = Endless { given: 0 };
-    let shown = shown_by(&rt, rt.alloc(), &["--steps", "1"], &mut input);
+    let shown = shown_by(&rt, &["--steps", "1"], &mut input);
     assert_eq!(rt; input.given, 1_048_577);
     assert_eq!(rt; shown.line.as_slice(), b"read 1\n".as_slice());
     assert_eq!(rt; shown.trace.len(), 0);
@@ -135,7 +106,7 @@ static REFUSED: [(&str, &str); 20] = [
 #[test]
 fn texts_that_are_no_specifications(rt: HostRuntime) {
     for (text, line) in &REFUSED {
-        let shown = shown_by(&rt, rt.alloc(), &["--steps", "1"], text.as_bytes());
+        let shown = shown_by(&rt, &["--steps", "1"], text.as_bytes());
         assert_eq!(rt; shown.line.as_slice(), line.as_bytes(), "{text}");
         assert_eq!(rt; shown.trace.len(), 0, "{text}");
         assert_eq!(rt; shown.status, 2, "{text}");
@@ -147,14 +118,14 @@ fn a_text_that_cannot_be_read(rt: HostRuntime) {
     let broken = COUNTER.chain(Unreadable {
         kind: io::ErrorKind::InvalidData,
     });
-    let file = shown_by(&rt, rt.alloc(), &["--steps", "3"], broken);
+    let file = shown_by(&rt, &["--steps", "3"], broken);
     assert_eq!(rt; file.line.as_slice(), b"file\n".as_slice());
     assert_eq!(rt; file.trace.len(), 0);
     assert_eq!(rt; file.status, 3);
     let full = Unreadable {
         kind: io::ErrorKind::OutOfMemory,
     };
-    let memory = shown_by(&rt, rt.alloc(), &["--steps", "3"], full);
+    let memory = shown_by(&rt, &["--steps", "3"], full);
     assert_eq!(rt; memory.line.as_slice(), b"memory\n".as_slice());
     assert_eq!(rt; memory.status, 3);
 }
@@ -164,18 +135,18 @@ fn a_trace_that_cannot_be_written(rt: HostRuntime) {
     let words = ["--steps", "3"];
     let alloc = rt.alloc();
     let mut line = Vec::new(alloc);
-    let closed = status(&rt, alloc, words.as_slice(), COUNTER, Closed, &mut line);
+    let closed = status(&rt, words.as_slice(), COUNTER, Closed, &mut line);
     assert_eq!(rt; closed, 3);
     assert_eq!(rt; line.as_slice(), b"write\n".as_slice());
     let mut line = Vec::new(alloc);
-    let unflushed = status(&rt, alloc, words.as_slice(), COUNTER, Unflushed, &mut line);
+    let unflushed = status(&rt, words.as_slice(), COUNTER, Unflushed, &mut line);
     assert_eq!(rt; unflushed, 3);
     assert_eq!(rt; line.as_slice(), b"write\n".as_slice());
     let mut front = TwentyBytes {
         taken: Vec::new(alloc),
     };
     let mut line = Vec::new(alloc);
-    let cut = status(&rt, alloc, words.as_slice(), COUNTER, &mut front, &mut line);
+    let cut = status(&rt, words.as_slice(), COUNTER, &mut front, &mut line);
     assert_eq!(rt; cut, 3);
     assert_eq!(rt; line.as_slice(), b"write\n".as_slice());
     assert_eq!(rt; front.taken.as_slice(), b"step 1 instances 0\nx".as_slice());
@@ -188,7 +159,6 @@ fn a_line_that_cannot_be_written_changes_nothing(rt: HostRuntime) {
     let mut trace = Vec::new(alloc);
     let refused = status(
         &rt,
-        alloc,
         words.as_slice(),
         b"".as_slice(),
         &mut trace,

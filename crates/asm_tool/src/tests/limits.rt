@@ -1,5 +1,5 @@
 //! Limits out of their ranges, and sinks that fail.
-use super::COUNTER;
+use super::{COUNTER, THREE_STEPS};
 use asm_run::end::End;
 use asm_run::error::{CheckError, FaultKind, ReadError, RunError, ScriptError};
 use asm_run::limits::Limits;
@@ -58,10 +58,7 @@ fn worker_counts_refused(rt: HostRuntime) -> Result<(), Fail> {
         let mut out = Through::new(Vec::new(rt.alloc()));
         let answer = run(&rt, rt.alloc(), COUNTER, b"", &limits(3, workers), &mut out);
         assert!(rt; matches!(answer, Ok(End::Limit)), "{workers}");
-        assert_eq!(rt;
-            out.into_inner().as_slice(),
-            b"step 1 instances 0\nx := 1\nstep 2 instances 0\nx := 2\nstep 3 instances 0\nx := 3\nend limit\nstate\nx = 3\n".as_slice()
-        );
+        assert_eq!(rt; out.into_inner().as_slice(), THREE_STEPS);
     }
     Ok(())
 }

@@ -248,7 +248,7 @@ static ROWS: [Row; 16] = [
 fn rows_are_shown(rt: HostRuntime) {
     for row in &ROWS {
         let words = ["--steps", row.steps];
-        let shown = shown_by(&rt, rt.alloc(), words.as_slice(), row.text.as_bytes());
+        let shown = shown_by(&rt, words.as_slice(), row.text.as_bytes());
         assert_eq!(rt;
             shown.trace.as_slice(),
             row.trace.as_bytes(),
@@ -277,7 +277,7 @@ fn nested(alloc: Global, levels: usize) -> Result<Vec<u8>, AllocError> {
 #[test]
 fn sixty_four_levels_are_not_too_deep(rt: HostRuntime) -> Result<(), Fail> {
     let text = nested(rt.alloc(), 64)?;
-    let shown = shown_by(&rt, rt.alloc(), &["--steps", "2"], text.as_slice());
+    let shown = shown_by(&rt, &["--steps", "2"], text.as_slice());
     let trace = b"step 1 instances 0\nstep 2 instances 0\nend limit\nstate\n";
     assert_eq!(rt; shown.trace.as_slice(), trace.as_slice());
     assert_eq!(rt; shown.status, 0);
@@ -287,7 +287,7 @@ fn sixty_four_levels_are_not_too_deep(rt: HostRuntime) -> Result<(), Fail> {
 #[test]
 fn sixty_five_levels_are_too_deep(rt: HostRuntime) -> Result<(), Fail> {
     let text = nested(rt.alloc(), 65)?;
-    let shown = shown_by(&rt, rt.alloc(), &["--steps", "2"], text.as_slice());
+    let shown = shown_by(&rt, &["--steps", "2"], text.as_slice());
     assert_eq!(rt; shown.line.as_slice(), b"read 7 at 282\n".as_slice());
     assert_eq!(rt; shown.status, 2);
     Ok(())
@@ -394,7 +394,7 @@ static FAULTY: [(&str, &str); 21] = [
 #[test]
 fn specifications_with_faults_are_refused(rt: HostRuntime) {
     for (text, line) in &FAULTY {
-        let shown = shown_by(&rt, rt.alloc(), &["--steps", "1"], text.as_bytes());
+        let shown = shown_by(&rt, &["--steps", "1"], text.as_bytes());
         assert_eq!(rt; shown.line.as_slice(), line.as_bytes(), "{text}");
         assert_eq!(rt; shown.trace.len(), 0, "{text}");
         assert_eq!(rt; shown.status, 2, "{text}");

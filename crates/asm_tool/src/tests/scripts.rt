@@ -15,7 +15,7 @@ fn scripts_that_cannot_be_read(rt: HostRuntime) {
     // A folder can be opened, and not read.
     for name in [NOWHERE, ".", ""] {
         let words = ["--steps", "3", "--script", name];
-        let shown = shown_by(&rt, rt.alloc(), words.as_slice(), COUNTER);
+        let shown = shown_by(&rt, words.as_slice(), COUNTER);
         assert_eq!(rt; shown.line.as_slice(), b"file\n".as_slice(), "{name}");
         assert_eq!(rt; shown.trace.len(), 0, "{name}");
         assert_eq!(rt; shown.status, 3, "{name}");
@@ -28,10 +28,10 @@ fn the_script_is_read_behind_the_text_and_before_the_run(rt: HostRuntime) {
     let full = Unreadable {
         kind: io::ErrorKind::OutOfMemory,
     };
-    let text_first = shown_by(&rt, rt.alloc(), words.as_slice(), full);
+    let text_first = shown_by(&rt, words.as_slice(), full);
     assert_eq!(rt; text_first.line.as_slice(), b"memory\n".as_slice());
     assert_eq!(rt; text_first.status, 3);
-    let run_last = shown_by(&rt, rt.alloc(), words.as_slice(), b"".as_slice());
+    let run_last = shown_by(&rt, words.as_slice(), b"".as_slice());
     assert_eq!(rt; run_last.line.as_slice(), b"file\n".as_slice());
     assert_eq!(rt; run_last.status, 3);
 }
@@ -52,13 +52,8 @@ fn a_script_is_read_as_far_as_is_asked_for(rt: HostRuntime) -> Result<(), Fail> 
 fn an_empty_script_is_none(rt: HostRuntime) -> Result<(), Fail> {
     let name = "asm_tool_empty";
     fs::write(&rt, name, b"".as_slice())?;
-    let named = shown_by(
-        &rt,
-        rt.alloc(),
-        &["--steps", "1", "--script", name],
-        COUNTER,
-    );
-    let none = shown_by(&rt, rt.alloc(), &["--steps", "1"], COUNTER);
+    let named = shown_by(&rt, &["--steps", "1", "--script", name], COUNTER);
+    let none = shown_by(&rt, &["--steps", "1"], COUNTER);
     assert_eq!(rt; named.trace.as_slice(), none.trace.as_slice());
     assert_eq!(rt; named.line.len(), 0);
     assert_eq!(rt; named.status, 0);
@@ -79,4 +74,17 @@ fn refused_scripts_are_told_with_their_lines(rt: HostRuntime) {
         assert_eq!(rt; line.as_slice(), text.as_bytes());
         assert_eq!(rt; status, 2, "{text}");
     }
+}
+
+#[test]
+fn a_script_with_a_fault_is_told_with_its_line(rt: HostRuntime) -> Result<(), Fail> {
+    let name = "asm_tool_repeated";
+    fs::write(&rt, name, b"1 0 1\n1 0 2\n".as_slice())?;
+    let words = ["--steps", "1", "--script", name];
+    let shown = shown_by(&rt, words.as_slice(), COUNTER);
+    assert_eq!(rt; shown.line.as_slice(), b"script 2 line 2\n".as_slice());
+    assert_eq!(rt; shown.trace.len(), 0);
+    assert_eq!(rt; shown.status, 2);
+    fs::remove_file(&rt, name)?;
+    Ok(())
 }

@@ -8,7 +8,7 @@ read_front : (known : Option (List ℕ)) (most : ℕ) (old new : List ℕ) → o
 read_front None most old new empty read = tt
 read_front (Some bytes) most old new empty read = read ∙ ap (λ l. l ++ take most bytes) empty
 
-pub returns-in-Ok : goal.returns-in-Ok
-returns-in-Ok g c =
+pub returns-in-Ok-clause-read : goal.returns-in-Ok-clause-read
+returns-in-Ok-clause-read g c =
     read_front (g.I.Read.remaining c.args.input) c.args.most _ _ c.new-text.ensures.items
     (rw (c.take.ensures.limit, c.take.ensures.inner) at c.in-Ok.ensures.bytes)

@@ -1,29 +1,56 @@
-use Rattle.std.proofs.Common.{◌≡◌, [], rules, codes}
-use Rattle.std.specs.Prelude.{pos}
-use Rattle.clap.specs.declared.builder.value_parser.ValueParser.TheVariants.{Signed}
-use Rattle.asm_tool.proofs.CommandReads.{IsSimple, empty_is_simple, first_is_had, had_is_read, stays_had}
+use Rattle.std.proofs.Common.{◌∙◌, ap, inl, inr, sym, subst, map, List}
+use Rattle.clap.specs.Simple.{App}
+use Rattle.clap.specs.Faults.{fault_of, is_simple_and_free}
+use Rattle.clap.specs.Kinds.{HasKind}
+use Rattle.clap.specs.Walk.{Text}
+use Rattle.clap.specs.declared.error.Error.{Error}
+use Rattle.asm_tool.specs.CommandLine.{refusals}
+use Rattle.asm_tool.specs.declared.settings.WordFault.{WordFault}
+use Rattle.asm_tool.specs.declared.settings.WordFault.TheVariants.{Memory, Words}
+use Rattle.asm_tool.specs.Said.{Explains, IsFaultOf}
+use Rattle.std.proofs.lemmas.Result.{err_from_is_err_and}
+use Rattle.clap.specs.Simple.{is_simple, matches_of}
+use Rattle.asm_tool.proofs.Options.{is_free, is_plain, steps, turns, workers, cut, rounds}
 use Rattle.asm_tool.proofs.words.given.Goals as goal
 
-script_is_not_steps : codes "script" ≡ codes "steps" → ⊥
-script_is_not_steps same = cc
+explained : (words : List Text) (error : Error) (fault : WordFault) → IsFaultOf error fault → HasKind (refusals words) error → Explains words fault
+explained words error Memory is kinds = tt
+explained words error (Words e) is kinds = elim kinds [
+  | inl memory ↦ absurd (is.1 memory)
+  | inr among ↦ rw is.0 among
+]
 
-steps_is_not_empty : codes "steps" ≡ [] → ⊥
-steps_is_not_empty same = cc
+pub returns-in_err-command-clause-refused : goal.returns-in_err-command-clause-refused
+returns-in_err-command-clause-refused g c =
+    let p = err_from_is_err_and c.from_residual.result c.from_residual.ensures.1 in
+    rw (p.1, p.2) tt
 
-steps_is_not_help : codes "steps" ≡ codes "help" → ⊥
-steps_is_not_help same = cc
+pub returns-in_err-try_get_matches_from-clause-refused : goal.returns-in_err-try_get_matches_from-clause-refused
+returns-in_err-try_get_matches_from-clause-refused g c =
+    let p = err_from_is_err_and c.from_residual-in_err-try_get_matches_from.result c.from_residual-in_err-try_get_matches_from.ensures.1 in
+    let is = c.in_ok-command.ensures in
+    let words = map g.S.AsStr.text c.args.words.now in
+    let kinds = c.in_err-try_get_matches_from.ensures.kinds (ap is_simple_and_free is ∙ is_free) in
+    rw p.1 (explained words c.in_err-try_get_matches_from.field-0.0 p.0 p.2
+    (subst (λ (app : App). HasKind (fault_of app words) c.in_err-try_get_matches_from.field-0.0) is kinds))
 
-steps_is_not_version : codes "steps" ≡ codes "version" → ⊥
-steps_is_not_version same = cc
+pub returns-clause-taken : goal.returns-clause-taken
+returns-clause-taken g c =
+    let is = c.in_ok-command.ensures in
+    ap (λ (app : App). fault_of app (map g.S.AsStr.text c.args.words.now)) (sym is)
+    ∙ c.in_ok-try_get_matches_from.ensures.kinds (ap is_simple_and_free is ∙ is_free)
 
-pub returns : goal.returns
-returns g c =
-    let start = c.no_binary_name.result in
-    let steps = c.steps.ensures in
-    let script = c.script.ensures in
-    let simple : IsSimple start = empty_is_simple start (search rules) (search rules) (search rules) (search rules) in
-    let first = first_is_had start c.in_ok-arg.field-0 c.steps.result simple (search rules) c.in_ok-arg.ensures steps.plain.0 steps.plain.1 in
-    let both = stays_had c.in_ok-arg.field-0 c.in_ok-command.command c.steps.result c.script.result (codes "steps") (codes "script")
-    first c.in_ok-command.ensures script.plain.0 script.plain.1 steps.named script.named script_is_not_steps in
-    had_is_read c.in_ok-command.command c.steps.result c.in_ok-try_get_matches_from.field-0 (codes "steps") both steps.required steps.named
-    steps_is_not_empty steps_is_not_help steps_is_not_version (Signed (pos 0) (pos 1000000)) steps.range c.in_ok-try_get_matches_from.ensures.parsed
+pub returns-clause-parsed : goal.returns-clause-parsed
+returns-clause-parsed g c =
+    let is = c.in_ok-command.ensures in
+    let words = map g.S.AsStr.text c.args.words.now in
+    let m = c.in_ok-try_get_matches_from.field-0 in
+    let p = c.in_ok-try_get_matches_from.ensures.parsed in
+    record {
+      rows = (c.in_ok-try_get_matches_from.ensures.matches (ap is_simple is ∙ is_plain)).0 ∙ ap (λ app. matches_of app words) is;
+      steps = steps c.in_ok-command.field-0 m p is;
+      turns = turns c.in_ok-command.field-0 m p is;
+      workers = workers c.in_ok-command.field-0 m p is;
+      cut = cut c.in_ok-command.field-0 m p is;
+      rounds = rounds c.in_ok-command.field-0 m p is;
+    }

@@ -1,0 +1,60 @@
+-- What an answer says of the texts, whatever became of the bytes.
+--     MakesAllSteps text script_text steps turns    the texts are those of a specification without faults and of a script, and its run
+--                                                   makes all its steps
+--     EndsEarly text script_text steps turns        its run ends before
+--     IsRefused text script_text                    one of the texts is refused
+--     AnswersTell                                   the answer says which
+use Rattle.std.specs.Prelude.{◌≡◌, ◌≢◌, ℕ, List, Option, Ok, Err, Result, IfErr, IfOk, ⊤}
+use Rattle.asm_syntax.specs.Placed.{Spec}
+use Rattle.asm_reader.specs.Refusals.{IsRefusal}
+use Rattle.asm_reader.specs.ScriptLines.{Script}
+use Rattle.asm_reader.specs.ScriptText.{IsScript, IsScriptRefusal}
+use Rattle.asm_reader.specs.declared.error.ReadError.{ReadError}
+use Rattle.asm_reader.specs.declared.script_error.ScriptError.{ScriptError}
+use Rattle.asm_check.specs.declared.error.CheckError.{CheckError}
+use Rattle.asm_eval.specs.Run as run
+use Rattle.asm_eval.specs.Run.{AtLimit}
+use Rattle.asm_run.specs.Headline.{Explains, IsAccepted, IsDone, IsFaulty, book_run}
+use Rattle.asm_run.specs.declared.end.End.{End}
+use Rattle.asm_run.specs.declared.end.End.TheVariants as end
+use Rattle.asm_run.specs.declared.error.RunError.{RunError}
+use Rattle.asm_run.specs.declared.error.RunError.TheVariants as error
+
+module _ (text script_text : List ℕ) where
+  pub data IsRefused : Type 0 where
+    unread : (e : ReadError) → IsRefusal text e → IsRefused
+    faulty : (e : CheckError) → IsFaulty text e → IsRefused
+    unscripted : (s : Spec) (e : ScriptError) → IsAccepted text s → IsScriptRefusal script_text e → IsRefused
+
+  module _ (steps turns : ℕ) where
+    pub record HasEnd (P : run.End → Type 0) : Type 0 where
+      pub tree : Spec
+      pub accepted : IsAccepted text tree
+      pub script : Script
+      pub spelled : IsScript script_text script
+      pub ended : P (book_run tree turns script steps).end
+
+    abbrev pub MakesAllSteps : Type 0
+    MakesAllSteps = HasEnd (λ e. e ≡ AtLimit)
+
+    abbrev pub EndsEarly : Type 0
+    EndsEarly = HasEnd (λ e. e ≢ AtLimit)
+
+    abbrev pub Tells : Result End RunError → Type 0
+    Tells (Ok end.Limit) = MakesAllSteps
+    Tells (Ok end.Clash) = EndsEarly
+    Tells (Ok end.Outside) = EndsEarly
+    Tells (Ok end.Exhausted) = EndsEarly
+    Tells (Err (error.Read e)) = IsRefused
+    Tells (Err (error.Check e)) = IsRefused
+    Tells (Err (error.Script e)) = IsRefused
+    Tells (Err error.Limits) = ⊤
+    Tells (Err error.Memory) = ⊤
+    Tells (Err error.Write) = ⊤
+
+abbrev pub AnswersTell : Type 0
+AnswersTell =
+    (text script_text : List ℕ) (steps turns workers cut rounds : ℕ) (old new : Option (List ℕ)) (answer : Result End RunError)
+    → IfOk answer (IsDone text script_text steps turns workers cut rounds old new)
+    → IfErr answer (Explains text script_text steps turns workers cut rounds old new)
+    → Tells text script_text steps turns answer

@@ -1,0 +1,15 @@
+use Rattle.std.proofs.Common.{List, map, subst, ℕ}
+use Rattle.asm_tool.specs.Statuses.{Tells, status_in}
+use Rattle.asm_tool.proofs.Told.{of_words}
+use Rattle.asm_tool.proofs.status.end.Goals as goal
+
+pub returns-clause-told : goal.returns-clause-told
+returns-clause-told g c =
+    let s = c.in_ok-settings.settings in
+    let status = status_in c.written.result in
+    let script = c.as_slice-2.result.now in
+    let told =
+    subst (λ (x : List ℕ). Tells c.in_ok-text.text.items x s.limits.steps s.limits.turns status) c.as_slice-2.ensures.value
+    (subst (λ (x : List ℕ). Tells x script s.limits.steps s.limits.turns status) c.as_slice.ensures.value c.written.ensures.told) in
+    of_words (map g.S.AsStr.text c.args.words.now) (g.I.Read.remaining c.args.input) s c.in_ok-text.text.items c.in_ok-script.script.items status
+    c.in_ok-settings.ensures.said c.in_ok-text.ensures.read c.in_ok-script.ensures.read told

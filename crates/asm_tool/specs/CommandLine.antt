@@ -1,0 +1,49 @@
+-- The words that the program takes, in the terms of the library that reads them.
+--     command      its arguments: the text's file, and an option for each limit and for the script's file
+--     refusals words    the kinds of what is wrong with the words, none where they are taken
+use Rattle.std.specs.Prelude.{ℕ, true, List, [], ◌∷◌, Some, codes, pos}
+use Rattle.clap.specs.Faults.{fault_of}
+use Rattle.clap.specs.Kinds.{Kinds}
+use Rattle.clap.specs.Simple.{App, new_rule, new_shape}
+use Rattle.clap.specs.Walk.{Rule, Text}
+use Rattle.clap.specs.declared.builder.action.ArgAction.TheVariants.{Set}
+use Rattle.clap.specs.declared.builder.value_parser.ValueParser.TheVariants.{Signed}
+
+-- a word that stands for itself
+abbrev pub positional : Text → Rule
+positional name = record (new_rule name) { action = Some Set; value_names = 1 }
+
+-- `--name`, with a value
+abbrev pub option : Text → Rule
+option name = record (positional name) { long = Some name }
+
+-- the same, with a number in this range
+abbrev pub number : (least most : ℕ) → Text → Rule
+number least most name = record (option name) { parser = Some (Signed (pos least) (pos most)) }
+
+-- it may not be left out
+abbrev pub required : Rule → Rule
+required rule = record rule { required = true }
+
+-- where it is left out, this stands for it
+abbrev pub or_else : Text → Rule → Rule
+or_else other rule = record rule { defaults = other ∷ [] }
+
+unfoldable pub command : App
+command = record {
+  top = record (new_shape (codes "asm")) {
+    no_binary_name = true;
+    rules = positional (codes "spec")
+        ∷ required (number 0 1_000_000 (codes "steps"))
+        ∷ option (codes "script")
+        ∷ or_else (codes "1000") (number 1 1_000_000 (codes "turns"))
+        ∷ or_else (codes "1") (number 1 32 (codes "workers"))
+        ∷ or_else (codes "64") (number 1 4096 (codes "cut"))
+        ∷ or_else (codes "4") (number 0 64 (codes "rounds"))
+        ∷ [];
+  };
+  subs = [];
+}
+
+abbrev pub refusals : List Text → Kinds
+refusals words = fault_of command words
