@@ -236,3 +236,10 @@ fn each_word_is_read(rt: HostRuntime) -> Result<(), WordFault> {
     assert_eq!(rt; settings(rt.alloc(), words.as_slice())?, wanted);
     Ok(())
 }
+
+#[test]
+fn the_greatest_number_of_steps_is_taken(rt: HostRuntime) {
+    let shown = shown_by(&rt, &["--steps", "1000000"], b"".as_slice());
+    assert_eq!(rt; shown.line.as_slice(), b"read 6\n".as_slice());
+    assert_eq!(rt; shown.status, 2);
+}
