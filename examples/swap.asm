@@ -1,10 +1,12 @@
 CoreASM Swap
 init Exchange
 
+// Two locations exchange their values in one step, and no third one keeps a value meanwhile:
+// both right sides are valued in the state before the step, and the order of the lines means nothing.
+
 function controlled a initially 1
 function controlled b initially 2
 
-// Both right sides are valued in the same state, so no third location is needed.
 rule Exchange = par
   a := b
   b := a

@@ -1,0 +1,36 @@
+CoreASM Philosophers
+init Dine
+
+// Five dining philosophers: each step moves one of those who can move, and the script chooses which.
+// Both forks are taken in one step, so nobody ever waits with one fork in hand, and somebody can always move.
+
+enum Activity = { thinking, hungry, eating }
+universe Philosopher = 0 .. 4
+universe Fork = 0 .. 4
+
+function controlled activity : Philosopher -> Activity initially thinking
+function controlled meals : Philosopher -> NUMBER initially 0
+// Who has the fork; undef while it lies on the table.
+function controlled holder : Fork -> Philosopher
+
+derived left(philosopher) = philosopher
+derived right(philosopher) = (philosopher + 1) mod 5
+derived isFree(fork) = holder(fork) = undef
+derived canMove(philosopher) = activity(philosopher) != hungry or isFree(left(philosopher)) and isFree(right(philosopher))
+
+rule Dine = choose philosopher in Philosopher with canMove(philosopher) do Move(philosopher) endchoose
+
+rule Move(philosopher) = par
+  if activity(philosopher) = thinking then activity(philosopher) := hungry endif
+  if activity(philosopher) = hungry then par
+    activity(philosopher) := eating
+    holder(left(philosopher)) := philosopher
+    holder(right(philosopher)) := philosopher
+  endpar endif
+  if activity(philosopher) = eating then par
+    activity(philosopher) := thinking
+    meals(philosopher) := meals(philosopher) + 1
+    holder(left(philosopher)) := undef
+    holder(right(philosopher)) := undef
+  endpar endif
+endpar
