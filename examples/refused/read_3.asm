@@ -1,0 +1,4 @@
+CoreASM Note
+init Main
+/* The main rule rests.
+rule Main = skip
