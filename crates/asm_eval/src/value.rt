@@ -43,16 +43,18 @@ pub fn value<'e>(
     requires { view.now.signature.now ≡ shape_of (spec_of checked.now.spec) }
     ensures { IfOk result (λ v. v ≡ spec.value (program checked.now) (shown view.now) (environment env.now) (plain.plain_term (term_of term.now))) }
 {
+    // Answers of others are taken out and put in again, so that no form of term writes its own to memory first: it would be read back
+    // before it is there, and the processor would wait.
     match term {
         Term::Constant(literal) => Ok(literal_value(*literal)),
-        Term::Named { name, arguments } => named(
+        Term::Named { name, arguments } => Ok(named(
             alloc,
             checked,
             view,
             env,
             name,
             arguments.as_slice(),
-        ),
+        )?),
         Term::Chain { first, rest } => {
             let mut total = operand(alloc, checked, view, env, first)?;
             for (operation, right) in rest.as_slice() {
@@ -69,8 +71,10 @@ pub fn value<'e>(
             let inner = operand(alloc, checked, view, env, inner)?;
             Ok(apply(Op::Negate, inner, Value::Undef))
         }
-        Term::Exists { name, over, test } => exists(alloc, checked, view, env, name, over, test),
-        Term::Every { name, over, test } => every(alloc, checked, view, env, name, over, test),
+        Term::Exists { name, over, test } => Ok(exists(
+            alloc, checked, view, env, name, over, test,
+        )?),
+        Term::Every { name, over, test } => Ok(every(alloc, checked, view, env, name, over, test)?),
     }
 }
 

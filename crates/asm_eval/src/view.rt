@@ -93,10 +93,9 @@ impl<'a> View<'a> {
         ensures { let at = location_in f (domain_of self.now.signature.now f) arguments.now in
             result ≡ read (shown_over self.now.signature.now self.now.state.now self.now.below self.now.over) at }
     {
-        let n = self.signature.number_of(f, arguments);
-        match self.signature.stray(n) {
-            Some(_) => Value::Undef,
-            None => self.content(n),
+        match self.signature.proper_number(f, arguments) {
+            None => Value::Undef,
+            Some(n) => self.content(n),
         }
     }
 }

@@ -1,6 +1,6 @@
 -- The function of each location, and the location by what the layout has of it.
-use Rattle.std.proofs.Common.{◌≡◌, ◌≢◌, ℕ, suc, ◌+◌, ◌-◌, ◌<◌, ◌≤◌, true, false, nat_lt, nat_eq, List, [], ◌∷◌, ◌++◌, take, length, get_or, refl, sym, ap, subst, ◌∙◌, arith, Option, Some, None, unwrap_or}
-use Rattle.std.specs.Prelude.{slice_get, IfSome, IfNone}
+use Rattle.std.proofs.Common.{◌≡◌, ◌≢◌, ℕ, suc, ◌+◌, ◌-◌, ◌<◌, ◌≤◌, true, false, cond, nat_lt, nat_eq, List, [], ◌∷◌, ◌++◌, take, length, get_or, refl, sym, ap, subst, ◌∙◌, arith, Option, Some, None, unwrap_or}
+use Rattle.std.specs.Prelude.{slice_get, IfSome, IfNone, IsTrue}
 use Rattle.std.specs.List.{flat_map, enumerate_from}
 use Rattle.std.proofs.lemmas.Bool.Decides.{nat_tests}
 use Rattle.std.proofs.lemmas.List.{length-append, get_or-map}
@@ -16,8 +16,10 @@ use Rattle.asm_state.specs.declared.value.Value.{Value}
 use Rattle.asm_state.specs.declared.value.Value.TheVariants.{Undef}
 use Rattle.asm_state.specs.Layout.{IsLayoutOf, IsExtentOf, start_by}
 use Rattle.asm_state.specs.Location.{Proper, Stray, function_of}
-use Rattle.asm_state.specs.Signature.{Shape, HasKind, domain_in, locations_by, function_locations, locations, count_of, location_at}
-use Rattle.asm_state.specs.Tables.{is_in}
+use Rattle.asm_state.specs.Signature.{Shape, HasKind, domain_in, domain_by, domain_of, locations_by, function_locations, locations, count_of, location_at}
+use Rattle.asm_state.specs.Tables.{is_in, location_in}
+use Rattle.asm_state.specs.Updates.{is_proper}
+use Rattle.asm_state.proofs.LayoutsSoFar.{listed_in}
 use Rattle.asm_state.proofs.LocationPlaces.{Holds, start_of, lists_of, how_many, proper_place, stray_place, IsNumberOf, proper_number, stray_number}
 
 -- a place in a list of pieces is one in some piece
@@ -178,3 +180,27 @@ module _ (shape : Shape) (layout : Layout) (laid_out : IsLayoutOf shape layout) 
       subst (λ start. IsNumberOf shape f arguments (start + extent.lists)) (sym sizes.0)
       (subst (λ lists. IsNumberOf shape f arguments (start_of shape f + lists)) (sym sizes.1)
       (stray_number shape f function arguments laid_out.sound holds nothing))
+
+  -- the number of a location whose arguments stand at a position
+  pub number_at_list : (f : ℕ) (function : Function) (extent : Extent) (arguments : List Value) (k : ℕ) → HasKind Controlled shape f
+      → function ≡ get_or shape.functions f function → extent ≡ get_or layout.extents.items f extent
+      → k < length (lists_of shape function) → get_or (lists_of shape function) k [] ≡ arguments → IsNumberOf shape f arguments (extent.start + k)
+  number_at_list f function extent arguments k has is of below at =
+      let same = same_function shape Controlled f function has is in
+      let holds : Holds shape f function = record { at = same.0; kind = same.1 } in
+      subst (λ start. IsNumberOf shape f arguments (start + k)) (sym (extent_is f function extent holds of).0)
+      (proper_number shape f function arguments k laid_out.sound holds below at)
+
+  -- arguments that stand among those of the domain are those of a proper location
+  pub proper_here : (f : ℕ) (function : Function) (arguments : List Value) (k : ℕ) → HasKind Controlled shape f → function ≡ get_or shape.functions f function
+      → k < length (lists_of shape function) → get_or (lists_of shape function) k [] ≡ arguments → IsTrue (is_proper (location_in f (domain_of shape f) arguments))
+  proper_here f function arguments k has is below at =
+      let domain = domain_in shape.universes function.domain in
+      let inside : is_in domain arguments ≡ true = subst (λ vs. is_in domain vs ≡ true) at (listed_in domain k below) in
+      ap is_proper (ap (λ o. location_in f (domain_by shape.universes o) arguments) (same_function shape Controlled f function has is).0 ∙ ap (λ b. cond b (Proper f arguments) (Stray f)) inside)
+
+  -- and others are those of the stray one
+  pub stray_here : (f : ℕ) (function : Function) (arguments : List Value) → HasKind Controlled shape f → function ≡ get_or shape.functions f function
+      → is_in (domain_in shape.universes function.domain) arguments ≡ false → location_in f (domain_of shape f) arguments ≡ Stray f
+  stray_here f function arguments has is out =
+      ap (λ o. location_in f (domain_by shape.universes o) arguments) (same_function shape Controlled f function has is).0 ∙ ap (λ b. cond b (Proper f arguments) (Stray f)) out

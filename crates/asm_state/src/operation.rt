@@ -27,6 +27,8 @@ pub enum Op {
 
 /// The value of an operation, which is `Undef` where an operand is of the wrong kind. An operation with one operand
 /// has it as `a`.
+// Inlined, so that operands and results need no way through memory.
+#[inline(always)]
 pub fn apply(operation: Op, a: Value, b: Value) -> Value
     ensures { result ≡ op operation a b }
 {

@@ -102,6 +102,19 @@ impl Signature {
         extent.start + list.unwrap_or(extent.lists)
     }
 
+    /// The number of the location of a controlled function with these arguments, where they are in its domain.
+    pub fn proper_number(&self, f: usize, arguments: &[Value]) -> Option<usize>
+        requires { HasKind Controlled self.now f }
+        ensures some { let l = location_in f (domain_of self.now f) arguments.now in
+            IfSome result (λ n. (n ≡ number_at self.now l) × (n < count_of self.now) × IsTrue (is_proper l)) }
+        ensures none { IfNone result (location_in f (domain_of self.now f) arguments.now ≡ Stray f) }
+    {
+        let extent = self.layout.extents[f];
+        let domain = self.functions[f].domain.as_slice();
+        let list = list_position(&self.universes, domain, arguments)?;
+        Some(extent.start + list)
+    }
+
     /// The location with this number.
     pub fn location(&self, alloc: Global, n: usize) -> Result<Place, AllocError>
         requires { n < count_of self.now }

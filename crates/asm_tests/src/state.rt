@@ -80,6 +80,15 @@ fn number_of(signature: &Signature, f: usize, arguments: &[Value]) -> Option<usi
     }
 }
 
+/// The number of a location in the domain of a controlled function.
+fn proper_number(signature: &Signature, f: usize, arguments: &[Value]) -> Option<usize> {
+    if f < signature.functions() && signature.function(f).kind == Kind::Controlled {
+        signature.proper_number(f, arguments)
+    } else {
+        None
+    }
+}
+
 /// The value of a function for arguments, if it is a static one.
 fn given(signature: &Signature, f: usize, arguments: &[Value]) -> Option<Value> {
     if f < signature.functions() && signature.function(f).kind == Kind::Static {

@@ -18,6 +18,11 @@ fn location_numbers(rt: HostRuntime) -> Result<(), Fail> {
     assert_eq!(rt; number_of(&signature, 0, &[]), Some(4));
     assert_eq!(rt; number_of(&signature, 1, &[]), Some(5));
     assert_eq!(rt; number_of(&signature, 1, &[number(3)]), Some(6));
+    assert_eq!(rt; proper_number(&signature, 0, &[number(3)]), Some(3));
+    assert_eq!(rt; proper_number(&signature, 0, &[number(9)]), None);
+    assert_eq!(rt; proper_number(&signature, 0, &[]), None);
+    assert_eq!(rt; proper_number(&signature, 1, &[]), Some(5));
+    assert_eq!(rt; proper_number(&signature, 1, &[number(3)]), None);
     assert!(rt; is_stray(alloc, &signature, 6, 1)?);
     assert!(rt; is_stray(alloc, &signature, 4, 0)?);
     assert!(rt; is_proper(alloc, &signature, 3, 0, &[number(3)])?);
@@ -53,9 +58,14 @@ fn two_universes_in_a_domain(rt: HostRuntime) -> Result<(), Fail> {
     for (n, (i, k)) in lists.iter().enumerate() {
         let list = [number(*i), element(*k)];
         assert_eq!(rt; number_of(&signature, 0, &list), Some(n));
+        assert_eq!(rt; proper_number(&signature, 0, &list), Some(n));
         assert!(rt; is_proper(alloc, &signature, n, 0, &list)?, "{n}");
     }
     assert_eq!(rt; number_of(&signature, 0, &[element(0), number(1)]), Some(6));
+    assert_eq!(rt;
+        proper_number(&signature, 0, &[element(0), number(1)]),
+        None
+    );
     assert_eq!(rt; number_of(&signature, 0, &[number(1)]), Some(6));
     assert!(rt; is_stray(alloc, &signature, 6, 0)?);
     Ok(())
