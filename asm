@@ -10,7 +10,7 @@ is_current() {
 
 # All that the building says goes to standard error, and only where it fails.
 build() {
-    echo "asm: proving and building the program, which takes some minutes" >&2
+    echo "asm: proving and building the program, which takes some twenty minutes where nothing is proved yet; ./asm-unproved doesn't wait" >&2
     log="$(mktemp)"
     if ! printf 'CoreASM Nothing\ninit Nothing\nrule Nothing = skip\n' |
         (cd "$root/crates/asm_tool" && rt run -- --steps 0) >"$log" 2>&1; then

@@ -29,11 +29,13 @@ overflow_add-result c =
     omega (arith, below, few)
 
 pub returns-clause-some : goal.returns-clause-some
-returns-clause-some c =
-    ((numbered c).number, (numbered c).in_range,
-    subst (λ s. IsTrue (is_proper (location_in c.args.f (domain_of s c.args.f) c.args.arguments.now))) c.self.view_is
-    (proper_here (shape_of c.self.inside) c.self.inside.layout c.self.invariant c.args.f c.index.result.now c.args.arguments.now c.in_ok-list.list
-    (subst (λ s. HasKind Controlled s c.args.f) (sym c.self.view_is) c.requires) c.index.ensures (listed c).0 (listed c).1))
+returns-clause-some c = (
+  (numbered c).number,
+  (numbered c).in_range,
+  subst (λ s. IsTrue (is_proper (location_in c.args.f (domain_of s c.args.f) c.args.arguments.now))) c.self.view_is
+      (proper_here (shape_of c.self.inside) c.self.inside.layout c.self.invariant c.args.f c.index.result.now c.args.arguments.now c.in_ok-list.list
+      (subst (λ s. HasKind Controlled s c.args.f) (sym c.self.view_is) c.requires) c.index.ensures (listed c).0 (listed c).1),
+)
 
 pub returns-in_err-list-clause-none : goal.returns-in_err-list-clause-none
 returns-in_err-list-clause-none c =
