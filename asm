@@ -1,27 +1,29 @@
 #!/usr/bin/env bash
-# Runs the program with the words given. Builds it first where there is none yet, or where its sources are newer.
+# Runs the program with the words given. The release is run where it is of these sources. Else the program is proved and built,
+# where there is none yet that is newer than they are.
 set -eu
 root="$(cd "$(dirname "$(readlink -f "${BASH_SOURCE[0]}")")" && pwd)"
-program="$root/crates/asm_tool/out/asm_tool"
+built="$root/crates/asm_tool/out/asm_tool"
 
-is_current() {
-    [ -x "$program" ] && [ -z "$(find "$root/crates.txt" "$root"/crates/*/src "$root"/crates/*/specs -newer "$program" -print -quit)" ]
+is_built() {
+    [ -x "$built" ] && [ -z "$(find "$root/crates.txt" "$root"/crates/*/src "$root"/crates/*/specs -newer "$built" -print -quit)" ]
 }
 
-# All that the building says goes to standard error, and only where it fails.
-build() {
-    echo "asm: proving and building the program, which takes some twenty minutes where nothing is proved yet; ./asm-unproved doesn't wait" >&2
-    log="$(mktemp)"
-    if ! printf 'CoreASM Nothing\ninit Nothing\nrule Nothing = skip\n' |
-        (cd "$root/crates/asm_tool" && rt run -- --steps 0) >"$log" 2>&1; then
-        cat "$log" >&2
-        rm -f "$log"
-        echo "asm: the program can't be built" >&2
-        exit 5
+is_released() {
+    [ "$(uname -sm)" = "Linux x86_64" ] && [ "$(sed -n 's/^sources //p' "$root/release/about")" = "$("$root/release/digest")" ]
+}
+
+if is_built; then
+    exec "$built" "$@"
+elif is_released; then
+    released="$root/out/asm-$(sed -n 's/^program //p' "$root/release/about")"
+    if [ ! -x "$released" ]; then
+        mkdir -p "$root/out"
+        "$root/release/unpack" "$released"
     fi
-    rm -f "$log"
-    touch "$program"
-}
-
-is_current || build
-exec "$program" "$@"
+    exec "$released" "$@"
+else
+    echo "asm: the release is of other sources, so the program is proved and built, which takes 30 to 40 minutes where nothing is proved yet" >&2
+    "$root/build" --here </dev/null
+    exec "$built" "$@"
+fi
