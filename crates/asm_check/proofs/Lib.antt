@@ -49,6 +49,7 @@ pub mod Sizes
 pub mod Sole
 pub mod Soonest
 pub mod SoonestWith
+pub mod SoundShapes
 pub mod StepFaults
 pub mod Stepping
 pub mod TableSteps

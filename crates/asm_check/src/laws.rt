@@ -1,5 +1,5 @@
 //! Laws of faults, and what a specification without faults has.
-ghost use Rattle.asm_check.specs.Laws.{LeastIsOnly, RanksExist, BodiesAreFit, LimitsHold, SignatureFits, SignatureNumbers, NamesHaveNumbers};
+ghost use Rattle.asm_check.specs.Laws.{LeastIsOnly, RanksExist, BodiesAreFit, LimitsHold, SignatureFits, ShapeIsSound, SignatureNumbers, NamesHaveNumbers, TextsAreTold};
 
 /// A specification has at most one least fault.
 pub fn least_is_only()
@@ -26,6 +26,11 @@ pub fn signature_fits()
     ensures { SignatureFits }
 {}
 
+/// No universe of a well-formed specification has a value twice.
+pub fn shape_is_sound()
+    ensures { ShapeIsSound }
+{}
+
 /// Universes, functions and elements have the numbers in the signature that they have among the declarations.
 pub fn signature_numbers()
     ensures { SignatureNumbers }
@@ -34,4 +39,9 @@ pub fn signature_numbers()
 /// The number of a name leads to what the name is declared as.
 pub fn names_have_numbers()
     ensures { NamesHaveNumbers }
+{}
+
+/// Two names are the same where the test of their texts passes, and nowhere else.
+pub fn texts_are_told()
+    ensures { TextsAreTold }
 {}
