@@ -52,6 +52,7 @@ pub mod SoonestWith
 pub mod SoundShapes
 pub mod StepFaults
 pub mod Stepping
+pub mod Suited
 pub mod TableSteps
 pub mod TableValues
 pub mod Totals
