@@ -20,6 +20,7 @@ pub mod Fit
 pub mod Gathering
 pub mod Heights
 pub mod Inits
+pub mod Introduced
 pub mod ItemLists
 pub mod LeastOfAll
 pub mod LimitSteps

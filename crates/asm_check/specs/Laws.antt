@@ -12,6 +12,7 @@ use Rattle.asm_check.specs.Sizes.{IsWithinLimits}
 use Rattle.asm_check.specs.Faults.{IsLeastFault, IsWellFormed}
 use Rattle.asm_check.specs.Ranks.{HasRanks}
 use Rattle.asm_check.specs.Fit.{IsReady}
+use Rattle.asm_check.specs.Introduced.{HasNamesApart, HasMeanings}
 use Rattle.asm_check.specs.Numbers.{universes_of, elements_of, functions_of, derived_of, rules_of, meaning_at, named}
 use Rattle.asm_check.specs.declared.checked.Named.{Named}
 use Rattle.asm_check.specs.declared.checked.Named.TheVariants as number
@@ -26,7 +27,15 @@ LeastIsOnly =
 abbrev pub RanksExist : Type 0
 RanksExist = (spec : Spec) → IsWellFormed spec → HasRanks spec
 
--- in a well-formed specification each name that is used is known
+-- in a well-formed specification no name is declared twice, and no item has a parameter twice
+abbrev pub NamesAreApart : Type 0
+NamesAreApart = (spec : Spec) → IsWellFormed spec → HasNamesApart spec
+
+-- in a well-formed specification each name is declared as its item says
+abbrev pub ItemsAreDeclared : Type 0
+ItemsAreDeclared = (spec : Spec) → IsWellFormed spec → HasMeanings spec
+
+-- in a well-formed specification each name stands for what its use asks for
 abbrev pub BodiesAreFit : Type 0
 BodiesAreFit = (spec : Spec) → IsWellFormed spec → IsReady spec
 
