@@ -1,3 +1,4 @@
+pub mod AllFaults
 pub mod Apart
 pub mod ApartTexts
 pub mod ArgumentCounts
@@ -22,6 +23,7 @@ pub mod Heights
 pub mod Inits
 pub mod Introduced
 pub mod ItemLists
+pub mod Leading
 pub mod LeastOfAll
 pub mod LimitSteps
 pub mod Listed
