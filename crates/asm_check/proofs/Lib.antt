@@ -1,3 +1,4 @@
+pub mod AllFaults
 pub mod Apart
 pub mod ApartTexts
 pub mod ArgumentCounts
@@ -20,7 +21,9 @@ pub mod Fit
 pub mod Gathering
 pub mod Heights
 pub mod Inits
+pub mod Introduced
 pub mod ItemLists
+pub mod Leading
 pub mod LeastOfAll
 pub mod LimitSteps
 pub mod Listed
@@ -49,8 +52,10 @@ pub mod Sizes
 pub mod Sole
 pub mod Soonest
 pub mod SoonestWith
+pub mod SoundShapes
 pub mod StepFaults
 pub mod Stepping
+pub mod Suited
 pub mod TableSteps
 pub mod TableValues
 pub mod Totals
