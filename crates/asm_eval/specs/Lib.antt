@@ -20,3 +20,5 @@ pub mod SpecificationLaw
 pub mod Setting
 pub mod Evaluated
 pub mod Scenes
+pub mod ExhaustedLaws
+pub mod InitialLaws
