@@ -5,7 +5,7 @@ use Rattle.std.proofs.lemmas.Bool.{false≢true}
 use Rattle.std.proofs.lemmas.List.{map-append}
 use Rattle.std.proofs.lemmas.List.Elements.{All-contains, All-map, Contains-append_left, Contains-append_right}
 use Rattle.std.proofs.lemmas.List.Kept.{AllPairs-cons}
-use Rattle.asm_state.proofs.Rising.{All-from_contained, AllPairs-none, AllPairs-head, AllPairs-tail, AllPairs-map}
+use Rattle.asm_state.proofs.Lists.{All-from_contained, AllPairs-none, AllPairs-head, AllPairs-tail, AllPairs-map}
 use Rattle.asm_syntax.specs.declared.spec.FunctionKind.TheVariants as kind
 use Rattle.asm_syntax.specs.Placed as tree
 use Rattle.asm_syntax.specs.Placed.{Name, Term, Rule, Given, Item, Spec}
@@ -69,9 +69,11 @@ parameters_different spec good item it = different_from (parameters_of item) onc
     once : (before after : List Name) (x : Name) → parameters_of item ≡ before ++ x ∷ after → is_among (map text_of before) x.text ≡ false
     once before after x parts =
         elim (is_among (map text_of before) x.text) as (λ b. is_among (map text_of before) x.text ≡ b → b ≡ false) [
-          | true ↦ λ e. absurd (good x.at 8 (twice (parameters_of item,
-              there (map (λ d. d.name) (declarations spec)) (parameters_of item) (map parameters_of spec.items) (in_map parameters_of spec.items item it),
-              record { before = before; name = x; after = after; parts = parts; is_before = e; place = refl })))
+          | true ↦ λ e. absurd (good x.at 8 (twice (
+            parameters_of item,
+            there (map (λ d. d.name) (declarations spec)) (parameters_of item) (map parameters_of spec.items) (in_map parameters_of spec.items item it),
+            record { before = before; name = x; after = after; parts = parts; is_before = e; place = refl },
+          )))
           | false ↦ λ e. refl
         ] refl
 
