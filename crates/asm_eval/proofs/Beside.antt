@@ -14,12 +14,10 @@ use Rattle.asm_state.proofs.Algebra.{union_laws}
 use Rattle.asm_eval.specs.Program.{Environment}
 use Rattle.asm_eval.specs.Yields.{Place, at, first_place, Result, Gives, Exhausted, beside}
 use Rattle.asm_eval.specs.Does.{Outcome, Meaning, nothing, both, counted, parts, each}
+use Rattle.asm_eval.specs.ExhaustedLaws.{IsUpTo}
 use Rattle.asm_eval.specs.Splits.{BesideLaws, SplitLaws}
 
 -- ---- the order of places
-
-abbrev IsUpTo : Place → Place → Type 0
-IsUpTo p q = is_gt (slice_cmp nat_cmp p q) ≡ false
 
 not_greater : (r : Ordering) → is_lt r ≡ true → is_gt r ≡ false
 not_greater Less e = refl
@@ -36,7 +34,7 @@ equal_from Less e f = absurd (false≢true (sym f))
 equal_from Equal e f = refl
 equal_from Greater e f = absurd (false≢true (sym e))
 
-up_to_itself : (p : Place) → IsUpTo p p
+pub up_to_itself : (p : Place) → IsUpTo p p
 up_to_itself p = ap is_gt (tied_itself nat_list_cmp_total p)
 
 up_to_both : (p q : Place) → IsUpTo p q → IsUpTo q p → p ≡ q
@@ -45,19 +43,19 @@ up_to_both p q h k =
     (equal_from (slice_cmp nat_cmp p q) h (ap is_gt (sym (nat_list_cmp_total.antisymm q p)) ∙ k))
 
 -- the first of two places is one of them, and isn't after either
-record IsFirst (p q r : Place) : Type 0 where
-  is_one : (r ≡ p) ⊎ (r ≡ q)
-  first : IsUpTo r p
-  second : IsUpTo r q
+pub record IsFirst (p q r : Place) : Type 0 where
+  pub is_one : (r ≡ p) ⊎ (r ≡ q)
+  pub first : IsUpTo r p
+  pub second : IsUpTo r q
 
-first_is : (p q : Place) → IsFirst p q (first_place p q)
+pub first_is : (p q : Place) → IsFirst p q (first_place p q)
 first_is p q =
     elim (is_lt (slice_cmp nat_cmp q p)) as (λ b. is_lt (slice_cmp nat_cmp q p) ≡ b → IsFirst p q (cond b q p)) [
       | true ↦ λ e. record { is_one = inr refl; first = not_greater (slice_cmp nat_cmp q p) e; second = up_to_itself q }
       | false ↦ λ e. record { is_one = inl refl; first = up_to_itself p; second = ap is_gt (nat_list_cmp_total.antisymm p q) ∙ turned (slice_cmp nat_cmp q p) ∙ e }
     ] refl
 
-chain : (p q r : Place) → IsUpTo p q → IsUpTo q r → IsUpTo p r
+pub chain : (p q r : Place) → IsUpTo p q → IsUpTo q r → IsUpTo p r
 chain p q r = upto nat_list_cmp_total p q r
 
 -- what isn't after either isn't after the first

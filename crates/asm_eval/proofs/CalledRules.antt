@@ -18,8 +18,8 @@ use Rattle.asm_syntax.specs.declared.rule.Rule.{Rule}
 use Rattle.asm_syntax.specs.declared.term.Term.{Term}
 use Rattle.asm_syntax.specs.Placed.{Spec}
 use Rattle.asm_syntax.specs.Tree as tree
-use Rattle.asm_syntax.specs.Unplaced.{plain_terms, plain_rule}
-use Rattle.asm_syntax.specs.Views.{name_of, term_of, terms_of, rule_of, spec_of}
+use Rattle.asm_syntax.specs.Unplaced.{plain_rule}
+use Rattle.asm_syntax.specs.Views.{name_of, rule_of, spec_of}
 use Rattle.asm_check.specs.Names as names
 use Rattle.asm_check.specs.Names.{Meaning, Declaration, first_declarations}
 use Rattle.asm_check.specs.Numbers.{is_derived, derived_of, rules_of, meaning_at, named}
@@ -29,12 +29,14 @@ use Rattle.asm_check.specs.declared.checked.Checked.{Checked}
 use Rattle.asm_check.specs.declared.checked.Named.{Named}
 use Rattle.asm_check.specs.declared.checked.Named.TheVariants as number
 use Rattle.asm_reader.specs.ScriptLines.{Script, pick}
-use Rattle.asm_eval.specs.declared.view.View.{View}
+use Rattle.asm_reader.specs.declared.picks.Picks.{Ghosts}
+use Rattle.asm_eval.specs.declared.evaluation.Evaluation.{Evaluation}
 use Rattle.asm_eval.specs.Declarations.{held_as, function_at, body_of, numbered}
 use Rattle.asm_eval.specs.Does.{Outcome, Meaning as Does, nothing, called, meaning, does_within, does}
 use Rattle.asm_eval.specs.Environments.{text_of}
+use Rattle.asm_eval.specs.Evaluated.{state_at, meant, meant_terms}
 use Rattle.asm_eval.specs.Program.{Program, Declared, Universe, Procedure, Environment, declared, bind_terms}
-use Rattle.asm_eval.specs.Valued.{program, shown}
+use Rattle.asm_eval.specs.Valued.{program}
 use Rattle.asm_eval.specs.Weights.{called_size, rule_size, rule_sizes, rule_size_within, rule_weight}
 use Rattle.asm_eval.specs.Yields.{Place, at}
 use Rattle.asm_eval.proofs.FormedRules.{rules_in, rules_in_all, in_body, plain_does, rule_does, cases}
@@ -46,9 +48,9 @@ use Rattle.asm_eval.proofs.Weights.{rule_within, call_weights_fall}
 pub declared_rule : (checked : Checked) (f : tree.Name) (r : ℕ) (xs : List syntax.Name) (R : Rule) → named (spec_of checked.spec) f ≡ Some (number.Called r)
     → meaning_at (rules_of (spec_of checked.spec)) r ≡ Some (names.Procedure (map name_of xs) (rule_of R))
     → declared (program checked) f ≡ Some (Procedure (map text_of xs) (plain_rule (rule_of R)))
-declared_rule checked f r xs R is meant =
+declared_rule checked f r xs R is says =
     let spec = spec_of checked.spec in
-    program_declares spec f ∙ numbered_rule spec (named spec f) r xs R is meant
+    program_declares spec f ∙ numbered_rule spec (named spec f) r xs R is says
 
 -- ---- how far the code has still to go down
 
@@ -82,10 +84,10 @@ weight_is checked R = size_is (program checked) (rule_size_within (program check
 pub call_is_less : (checked : Checked) (f : tree.Name) (ts : tree.Terms) (r : ℕ) (xs : List syntax.Name) (R : Rule) → named (spec_of checked.spec) f ≡ Some (number.Called r)
     → meaning_at (rules_of (spec_of checked.spec)) r ≡ Some (names.Procedure (map name_of xs) (rule_of R))
     → rules_in (in_body checked) (plain_rule (rule_of R)) < rules_in (in_body checked) (tree.Call f ts)
-call_is_less checked f ts r xs R is meant =
+call_is_less checked f ts r xs R is says =
     let spec = spec_of checked.spec in
     let fall = (call_weights_fall (program checked) (rule_rank spec) (rules_ranked spec checked.well_formed)).at_call f ts (map text_of xs) (plain_rule (rule_of R))
-    (declared_rule checked f r xs R is meant) (rule_rank_low spec f checked.well_formed) in
+    (declared_rule checked f r xs R is says) (rule_rank_low spec f checked.well_formed) in
     let small = weight_is checked (plain_rule (rule_of R)) in
     let great = weight_is checked (tree.Call f ts) in
     omega (arith, fall, small, great)
@@ -138,23 +140,23 @@ call_does : (program : Program) (turns : ℕ) (script : Script) (step : ℕ) (A 
 unfolding does does_within meaning
 call_does program turns script step A e p f ts = refl
 
-module _ (checked : Checked) (view : View) (turns : ℕ) (script : Script) (step : ℕ) (e : Environment) (p : Place) (f : tree.Name) (ts : List Term) where
+module _ {P : Type 0} {picks : Ghosts P} (on : Evaluation P picks) (e : Environment) (p : Place) (f : tree.Name) (ts : List Term) where
   abbrev terms : tree.Terms
-  terms = plain_terms (terms_of (map term_of ts))
+  terms = meant_terms ts
 
-  pub called_does : (r : ℕ) (xs : List syntax.Name) (R : Rule) → named (spec_of checked.spec) f ≡ Some (number.Called r)
-      → meaning_at (rules_of (spec_of checked.spec)) r ≡ Some (names.Procedure (map name_of xs) (rule_of R))
-      → rule_does checked view turns script step (bind_terms (map text_of xs) terms e) (at p 0) R ≡ plain_does checked view turns script step e p (tree.Call f terms)
-  called_does r xs R is meant =
-      sym ((cases checked view turns script step).of_call f terms (map text_of xs) (plain_rule (rule_of R)) (shown view) e p
-      (declared_rule checked f r xs R is meant) (rule_rank_low (spec_of checked.spec) f checked.well_formed))
+  pub called_does : (r : ℕ) (xs : List syntax.Name) (R : Rule) → named (spec_of on.scene.checked.now.spec) f ≡ Some (number.Called r)
+      → meaning_at (rules_of (spec_of on.scene.checked.now.spec)) r ≡ Some (names.Procedure (map name_of xs) (rule_of R))
+      → rule_does on (bind_terms (map text_of xs) terms e) (at p 0) R ≡ plain_does on e p (tree.Call f terms)
+  called_does r xs R is says =
+      sym ((cases on).of_call f terms (map text_of xs) (meant R) (state_at on) e p
+      (declared_rule on.scene.checked.now f r xs R is says) (rule_rank_low (spec_of on.scene.checked.now.spec) f on.scene.checked.now.well_formed))
 
-  pub not_called_does : (it : Option Named) → it ≡ named (spec_of checked.spec) f → rule_number it ≡ None
-      → nothing ≡ plain_does checked view turns script step e p (tree.Call f terms)
+  pub not_called_does : (it : Option Named) → it ≡ named (spec_of on.scene.checked.now.spec) f → rule_number it ≡ None
+      → nothing ≡ plain_does on e p (tree.Call f terms)
   not_called_does it is other =
-      let spec = spec_of checked.spec in
-      let runs = called (program checked) turns (pick script step) (does_within (program checked) turns (pick script step) 16) in
-      no_rule (program checked) turns (pick script step) (does_within (program checked) turns (pick script step) 16) terms (shown view) e p spec it other
-      ∙ ap (λ n. runs (numbered spec n) terms (shown view) e p) is
-      ∙ ap (λ it. runs it terms (shown view) e p) (sym (program_declares spec f))
-      ∙ sym (call_does (program checked) turns script step (shown view) e p f terms)
+      let spec = spec_of on.scene.checked.now.spec in
+      let runs = called (program on.scene.checked.now) on.turns (pick (picks.script on.choices.now.script.now) on.choices.now.step) (does_within (program on.scene.checked.now) on.turns (pick (picks.script on.choices.now.script.now) on.choices.now.step) 16) in
+      no_rule (program on.scene.checked.now) on.turns (pick (picks.script on.choices.now.script.now) on.choices.now.step) (does_within (program on.scene.checked.now) on.turns (pick (picks.script on.choices.now.script.now) on.choices.now.step) 16) terms (state_at on) e p spec it other
+      ∙ ap (λ n. runs (numbered spec n) terms (state_at on) e p) is
+      ∙ ap (λ it. runs it terms (state_at on) e p) (sym (program_declares spec f))
+      ∙ sym (call_does (program on.scene.checked.now) on.turns (picks.script on.choices.now.script.now) on.choices.now.step (state_at on) e p f terms)

@@ -1,14 +1,14 @@
 -- How a summary and a count of instances come to hold what a rule of the code does.
 --     forms_nothing, forms_both, forms_counted     of nothing, of two parts, and with one more instance;  forms_same     of an equal outcome
---     forms_bounded                                the count of instances stays within its type
---     stopped_with, stopped_same                   where forming stops, for what is exhausted together, and for an equal outcome
+--     stopped_with                                 where forming stops, for what is exhausted together
+--     follows_same, follows_nothing, follows_both, follows_counted, follows_stopped     the same of what a call promises, and of an error that is handed on
 --     left_to_form, part_is_less                   how far the code has still to go down;  that a part is further down
 --     rule_does, branch_does, rules_do, each_does  what rules of the code do: one, a branch, some beside each other, one for each element
 --     candidates_of                                the elements for which a condition of the code holds
---     exhausted_behind_rule, exhausted_behind_element      what is exhausted later in a loop, after a part that gives a set
 -- A lemma whose name ends in _does says what a form of rule does, by what its parts do, or what a turn of a loop adds to the turns after it.
 use Rattle.std.proofs.Common.{◌≡◌, ℕ, zero, suc, ◌+◌, ◌*◌, ◌≤◌, ◌<◌, Bool, true, false, cond, min, List, [], ◌∷◌, length, map, drop, slice_index_or, ◌%◌, Option, Some, None, Box, Vec, Global, refl, sym, ap, subst, ◌∙◌, arith, add-one}
-use Rattle.std.specs.Prelude.{slice_get, Result, IfErr}
+use Rattle.std.specs.Prelude.{slice_get, Result, Ok, Err, IsErrAnd}
+use Rattle.std.proofs.lemmas.Result.{IfErr-at_err}
 use Rattle.std.proofs.lemmas.List.{at_drop_more, drop_all}
 use Rattle.std.proofs.lemmas.Option.{slice_get_within, get_or_from_slice_get}
 use Rattle.asm_state.specs.declared.value.Value.{Value}
@@ -24,22 +24,27 @@ use Rattle.asm_syntax.specs.declared.term.Term.{Term}
 use Rattle.asm_syntax.specs.declared.rule.Rule.{Rule}
 use Rattle.asm_syntax.specs.declared.rule.Rule.TheVariants as rule
 use Rattle.asm_syntax.specs.Tree as tree
-use Rattle.asm_syntax.specs.Unplaced.{plain_term, plain_terms, plain_rule, plain_rules, plain_branch}
-use Rattle.asm_syntax.specs.Views.{term_of, terms_of, rule_of, rules_of, spec_of}
+use Rattle.asm_syntax.specs.Unplaced.{plain_rule, plain_rules}
+use Rattle.asm_syntax.specs.Views.{rule_of, rules_of, spec_of}
 use Rattle.asm_syntax.specs.ViewCases.{rule_of-Skip, rule_of-Par, rule_of-Seq}
 use Rattle.asm_check.specs.Ranks.{rule_rank}
 use Rattle.asm_check.specs.declared.checked.Checked.{Checked}
-use Rattle.asm_reader.specs.ScriptLines.{Script, pick}
+use Rattle.asm_reader.specs.ScriptLines.{pick}
+use Rattle.asm_reader.specs.declared.picks.Picks.{Ghosts}
+use Rattle.asm_eval.specs.declared.evaluation.Evaluation.{Evaluation}
+use Rattle.asm_eval.specs.declared.outcome.Forming.{Forming}
 use Rattle.asm_eval.specs.declared.stopped.Stopped.{Stopped}
 use Rattle.asm_eval.specs.declared.stopped.Stopped.TheVariants as stopped
 use Rattle.asm_eval.specs.declared.view.View.{View}
-use Rattle.asm_eval.specs.Does.{Outcome, nothing, both, counted, parts, in_order, turns_of, each, one_of, does}
-use Rattle.asm_eval.specs.Formed.{Adds, Forms, IsStoppedAt, greatest_count}
+use Rattle.asm_eval.specs.Does.{Outcome, nothing, both, counted, parts, in_order, turns_of, each, one_of}
+use Rattle.asm_eval.specs.Evaluated.{setting, state_at, meant, meant_rules, meant_branch, meant_term, meant_terms}
+use Rattle.asm_eval.specs.Formed.{Adds, Forms, Follows, IsStoppedAt, greatest_count}
 use Rattle.asm_eval.specs.Cases.{ScriptedCases, runs, all_run}
+use Rattle.asm_eval.specs.Setting.{Setting, outcome}
 use Rattle.asm_eval.specs.Program.{Environment, Controlled, declared, with_value}
 use Rattle.asm_eval.specs.Taken.{taken}
 use Rattle.asm_eval.specs.Value.{is_true, values, candidates, universe}
-use Rattle.asm_eval.specs.Valued.{program, shown, term_value, branch, condition, holds_at}
+use Rattle.asm_eval.specs.Valued.{program, shown, term_value, condition, holds_at}
 use Rattle.asm_eval.specs.Weights.{called_size, rule_size_within}
 use Rattle.asm_eval.specs.Yields.{Place, Gives, Exhausted, at, assigned, beside}
 use Rattle.asm_eval.proofs.Beside.{right_unit}
@@ -79,9 +84,6 @@ module _ (shape : Shape) where
     counts = then.counts ∙ ap (λ m. min (m + q.instances) greatest_count) first.counts ∙ count_twice before o.instances q.instances greatest_count;
   }
 
-  pub forms_bounded : (o : Outcome) (old new : Entries) (before after : ℕ) → Forms shape o old new before after → after ≤ greatest_count
-  forms_bounded o old new before after formed = omega (arith, formed.counts)
-
   -- an instance is counted first
   pub forms_counted : (o : Outcome) (old new : Entries) (before more after : ℕ) → more ≡ min (before + 1) greatest_count
       → Forms shape o old new more after → Forms shape (counted o) old new before after
@@ -99,8 +101,67 @@ pub stopped_with : (o q : Outcome) (p : Place) (stop : Stopped) → ((at : Place
 stopped_with o q p stopped.Memory ends is = tt
 stopped_with o q p stopped.Exhausted ends is = ends p is
 
-pub stopped_same : {T : Type 0} (r : Result T Stopped) (o q : Outcome) (p : Place) → o ≡ q → IfErr r (IsStoppedAt o p) → IfErr r (IsStoppedAt q p)
-stopped_same r o q p e = subst (λ it. IfErr r (IsStoppedAt it p)) e
+-- ---- what a call promises, whichever way it ends
+
+module _ {T : Type 0} (shape : Shape) where
+  -- of an equal outcome
+  pub follows_same : (r : Result T Stopped) (o q : Outcome) (old new : Forming) → o ≡ q → Follows shape o old new r → Follows shape q old new r
+  follows_same r o q old new e = subst (λ it. Follows shape it old new r) e
+
+  -- where nothing is to be formed
+  pub follows_nothing : (x : T) (o : Outcome) (made : Forming) → nothing ≡ o → Follows shape o made made (Ok x)
+  follows_nothing x o made e = record {
+    count = refl;
+    place = refl;
+    formed = forms_same shape nothing o made.set made.set made.instances made.instances e (forms_nothing shape made.set made.instances (omega (arith, made.in_range)));
+    exhausted = tt;
+  }
+
+  -- of two parts, after the first of which there is a set
+  pub follows_both : {S : Type 0} (x : S) (r : Result T Stopped) (o q : Outcome) (old mid new : Forming)
+      → Follows shape o old mid (Ok x) → Follows shape q mid new r → Follows shape (both o q) old new r
+  follows_both x (Ok y) o q old mid new first then = record {
+    count = then.count ∙ first.count;
+    place = then.place ∙ first.place;
+    formed = forms_both shape o q old.set mid.set new.set old.instances mid.instances new.instances first.formed then.formed;
+    exhausted = tt;
+  }
+  follows_both x (Err stop) o q old mid new first then = record {
+    count = then.count ∙ first.count;
+    place = tt;
+    formed = tt;
+    exhausted = stopped_with q (both o q) new.place.items stop
+        (λ p ends. ap (λ it. beside it q.result) first.formed.gives ∙ ap (beside (Gives first.formed.set)) ends) then.exhausted;
+  }
+
+  -- with one more instance, counted first
+  pub follows_counted : (r : Result T Stopped) (o : Outcome) (old mid new : Forming) → mid.set ≡ old.set → mid.place.items ≡ old.place.items
+      → mid.instances ≡ min (old.instances + 1) greatest_count → Follows shape o mid new r → Follows shape (counted o) old new r
+  follows_counted (Ok x) o old mid new same stays is then = record {
+    count = then.count ∙ ap (λ (s : Entries). s.count) same;
+    place = then.place ∙ stays;
+    formed = subst (λ s. Forms shape (counted o) s new.set old.instances new.instances) same
+        (forms_counted shape o mid.set new.set old.instances mid.instances new.instances is then.formed);
+    exhausted = tt;
+  }
+  follows_counted (Err stop) o old mid new same stays is then = record {
+    count = then.count ∙ ap (λ (s : Entries). s.count) same;
+    place = tt;
+    formed = tt;
+    exhausted = stopped_with o (counted o) new.place.items stop (λ p ends. ends) then.exhausted;
+  }
+
+  -- where an error is handed on
+  pub follows_stopped : {S : Type 0} (given : Result S Stopped) (returned : Result T Stopped) (stop : Stopped) (o q : Outcome) (old mid new : Forming) → mid.set.count ≡ old.set.count
+      → given ≡ Err stop → IsErrAnd returned (λ again. again ≡ stop) → ((p : Place) → o.result ≡ Exhausted p → q.result ≡ Exhausted p)
+      → Follows shape o mid new given → Follows shape q old new returned
+  follows_stopped given (Ok x) stop o q old mid new same was again too first = absurd again
+  follows_stopped given (Err other) stop o q old mid new same was again too first = record {
+    count = first.count ∙ same;
+    place = tt;
+    formed = tt;
+    exhausted = subst (IsStoppedAt q new.place.items) (sym again) (stopped_with o q new.place.items stop too (IfErr-at_err (IsStoppedAt o new.place.items) was first.exhausted));
+  }
 
 -- ---- how far the code has still to go down: how many rules a rule is made of, with those that it calls in their places
 
@@ -123,13 +184,13 @@ module _ (of_called : tree.Name → ℕ) where
     rules_in_all (tree.rule_then P Ps) = rules_in P + rules_in_all Ps
 
   part_is_in : (rs : List Rule) (i : ℕ) (r : Rule) → i < length rs → r ≡ slice_index_or rs i r
-      → rules_in (plain_rule (rule_of r)) ≤ rules_in_all (plain_rules (rules_of (map rule_of rs)))
+      → rules_in (meant r) ≤ rules_in_all (meant_rules rs)
   part_is_in [] i r low is = omega (arith, low)
   part_is_in (p ∷ rs) zero r low is = rw is (omega arith)
   part_is_in (p ∷ rs) (suc i) r low is = let fewer = part_is_in rs i r (omega (arith, low)) is in omega (arith, fewer)
 
   pub part_is_less : (rs : List Rule) (i : ℕ) (r : Rule) → i < length rs → r ≡ slice_index_or rs i r
-      → rules_in (plain_rule (rule_of r)) < rules_in (tree.Par (plain_rules (rules_of (map rule_of rs))))
+      → rules_in (meant r) < rules_in (tree.Par (meant_rules rs))
   part_is_less rs i r low is = omega (arith, part_is_in rs i r low is)
 
 -- how many rules the body of a rule is made of
@@ -156,131 +217,131 @@ abbrev pub candidates_of : Checked → View → Environment → (x u : tree.Name
 candidates_of checked view e x u c = candidates (program checked) (shown view) e x u (condition c)
 
 -- rules one after the other, from number k on, and turns from number t on, of which so many are left: in whatever state
-module _ (checked : Checked) (turns : ℕ) (script : Script) (step : ℕ) where
+module _ (s : Setting) where
   abbrev pub rules_do_in_order : Environment → Place → ℕ → List Rule → State → Outcome
-  rules_do_in_order e p k rs A = in_order (all_run (program checked) turns script step (plain_rules (rules_of (map rule_of rs)))) k A e p
+  rules_do_in_order e p k rs A = in_order (all_run s.program s.turns s.script s.step (meant_rules rs)) k A e p
 
   abbrev pub turns_do : Environment → Place → (left : ℕ) → (t : ℕ) → Rule → State → Outcome
-  turns_do e p left t R A = turns_of (runs (program checked) turns script step (plain_rule (rule_of R))) left t A e p
+  turns_do e p left t R A = turns_of (runs s.program s.turns s.script s.step (meant R)) left t A e p
 
-module _ (checked : Checked) (view : View) (turns : ℕ) (script : Script) (step : ℕ) where
+module _ {P : Type 0} {picks : Ghosts P} (on : Evaluation P picks) where
   abbrev pub plain_does : Environment → Place → tree.Rule → Outcome
-  plain_does = does (program checked) turns script step (shown view)
+  plain_does = outcome (setting on) (state_at on)
 
   abbrev pub rule_does : Environment → Place → Rule → Outcome
-  rule_does e p R = plain_does e p (plain_rule (rule_of R))
+  rule_does e p R = plain_does e p (meant R)
 
   abbrev pub branch_does : Environment → Place → Option (Box Rule Global) → Outcome
-  branch_does e p Q = plain_does e p (plain_branch (branch Q))
+  branch_does e p Q = plain_does e p (meant_branch Q)
 
   -- rules beside each other, from number k on
   abbrev pub rules_do : Environment → Place → ℕ → List Rule → Outcome
-  rules_do e p k rs = parts (all_run (program checked) turns script step (plain_rules (rules_of (map rule_of rs)))) k (shown view) e p
+  rules_do e p k rs = parts (all_run (program on.scene.checked.now) on.turns (picks.script on.choices.now.script.now) on.choices.now.step (meant_rules rs)) k (state_at on) e p
 
   -- a rule for each element for which a condition holds, from number k on
   abbrev pub each_does : Environment → Place → tree.Name → Option Term → Rule → ℕ → List Value → Outcome
-  each_does e p x c R k vs = each (λ v n. rule_does (with_value x v e) (at p n) R) (λ v. holds_at checked view (with_value x v e) c) k vs
+  each_does e p x c R k vs = each (λ v n. rule_does (with_value x v e) (at p n) R) (λ v. holds_at on.scene.checked.now on.scene.view.now (with_value x v e) c) k vs
 
   abbrev assign_does : Environment → Place → syntax.Name → List Term → Term → Outcome
-  assign_does e p x ts t = plain_does e p (tree.Assign x.text (plain_terms (terms_of (map term_of ts))) (plain_term (term_of t)))
+  assign_does e p x ts t = plain_does e p (tree.Assign x.text (meant_terms ts) (meant_term t))
 
   abbrev forall_does : Environment → Place → tree.Name → tree.Name → Option Term → Rule → Outcome
-  forall_does e p x u c R = plain_does e p (tree.Forall x u (condition c) (plain_rule (rule_of R)))
+  forall_does e p x u c R = plain_does e p (tree.Forall x u (condition c) (meant R))
 
   abbrev if_does : Environment → Place → Term → Rule → Option (Box Rule Global) → Outcome
-  if_does e p c R Q = plain_does e p (tree.If (plain_term (term_of c)) (plain_rule (rule_of R)) (plain_branch (branch Q)))
+  if_does e p c R Q = plain_does e p (tree.If (meant_term c) (meant R) (meant_branch Q))
 
   abbrev choose_does : Environment → Place → tree.Name → tree.Name → Option Term → Rule → Option (Box Rule Global) → Outcome
-  choose_does e p x u c R Q = plain_does e p (tree.Choose x u (condition c) (plain_rule (rule_of R)) (plain_branch (branch Q)))
+  choose_does e p x u c R Q = plain_does e p (tree.Choose x u (condition c) (meant R) (meant_branch Q))
 
-  pub cases : ScriptedCases (program checked) turns script step (rule_rank (spec_of checked.spec))
-  cases = scripted_by_cases (program checked) (rule_rank (spec_of checked.spec)) turns script step (rules_ranked (spec_of checked.spec) checked.well_formed)
+  pub cases : ScriptedCases (program on.scene.checked.now) on.turns (picks.script on.choices.now.script.now) on.choices.now.step (rule_rank (spec_of on.scene.checked.now.spec))
+  cases = scripted_by_cases (program on.scene.checked.now) (rule_rank (spec_of on.scene.checked.now.spec)) on.turns (picks.script on.choices.now.script.now) on.choices.now.step (rules_ranked (spec_of on.scene.checked.now.spec) on.scene.checked.now.well_formed)
 
   module _ (e : Environment) where
-    values_are : (ts : List Term) → map (term_value checked view e) ts ≡ values (program checked) (shown view) e (plain_terms (terms_of (map term_of ts)))
+    values_are : (ts : List Term) → map (term_value on.scene.checked.now on.scene.view.now e) ts ≡ values (program on.scene.checked.now) (state_at on) e (meant_terms ts)
     unfolding values
     values_are [] = refl
-    values_are (t ∷ ts) = ap (λ vs. term_value checked view e t ∷ vs) (values_are ts)
+    values_are (t ∷ ts) = ap (λ vs. term_value on.scene.checked.now on.scene.view.now e t ∷ vs) (values_are ts)
 
     module _ (p : Place) where
       abbrev assigned_set : syntax.Name → List Term → Term → UpdateSet
-      assigned_set x ts t = assigned (declared (program checked) x.text) (values (program checked) (shown view) e (plain_terms (terms_of (map term_of ts)))) (term_value checked view e t)
+      assigned_set x ts t = assigned (declared (program on.scene.checked.now) x.text) (values (program on.scene.checked.now) (state_at on) e (meant_terms ts)) (term_value on.scene.checked.now on.scene.view.now e t)
 
       -- a set that is the assignment's
       forms_assigned : (shape : Shape) (old new : Entries) (n : ℕ) (x : syntax.Name) (ts : List Term) (t : Term) (V : UpdateSet) → n ≤ greatest_count
           → assigned_set x ts t ≡ V → Adds shape V old new → Forms shape (assign_does e p x ts t) old new n n
       forms_assigned shape old new n x ts t V small is adds = record {
         set = V;
-        gives = ap (λ o. o.result) (cases.of_assign x.text (plain_terms (terms_of (map term_of ts))) (plain_term (term_of t)) (shown view) e p) ∙ ap Gives is;
+        gives = ap (λ o. o.result) (cases.of_assign x.text (meant_terms ts) (meant_term t) (state_at on) e p) ∙ ap Gives is;
         adds = adds;
         counts = same_count n greatest_count small
-            ∙ ap (λ o. min (n + o.instances) greatest_count) (sym (cases.of_assign x.text (plain_terms (terms_of (map term_of ts))) (plain_term (term_of t)) (shown view) e p));
+            ∙ ap (λ o. min (n + o.instances) greatest_count) (sym (cases.of_assign x.text (meant_terms ts) (meant_term t) (state_at on) e p));
       }
 
       -- the update of a controlled function at the number of its location
       pub forms_update : (shape : Shape) (old new : Entries) (m : ℕ) (x : syntax.Name) (ts : List Term) (t : Term) (f n : ℕ) (v : Value) → m ≤ greatest_count
-          → declared (program checked) x.text ≡ Some (Controlled f (domain_of shape f))
-          → location_at shape n ≡ location_in f (domain_of shape f) (map (term_value checked view e) ts) → v ≡ term_value checked view e t
+          → declared (program on.scene.checked.now) x.text ≡ Some (Controlled f (domain_of shape f))
+          → location_at shape n ≡ location_in f (domain_of shape f) (map (term_value on.scene.checked.now on.scene.view.now e) ts) → v ≡ term_value on.scene.checked.now on.scene.view.now e t
           → Adds shape (one (location_at shape n) v) old new → Forms shape (assign_does e p x ts t) old new m m
       forms_update shape old new m x ts t f n v small d l is =
           forms_assigned shape old new m x ts t (one (location_at shape n) v) small
-          (ap (λ it. assigned it (values (program checked) (shown view) e (plain_terms (terms_of (map term_of ts)))) (term_value checked view e t)) d
-          ∙ ap (λ vs. one (location_in f (domain_of shape f) vs) (term_value checked view e t)) (sym (values_are ts))
-          ∙ ap (one (location_in f (domain_of shape f) (map (term_value checked view e) ts))) (sym is) ∙ ap (λ k. one k v) (sym l))
+          (ap (λ it. assigned it (values (program on.scene.checked.now) (state_at on) e (meant_terms ts)) (term_value on.scene.checked.now on.scene.view.now e t)) d
+          ∙ ap (λ vs. one (location_in f (domain_of shape f) vs) (term_value on.scene.checked.now on.scene.view.now e t)) (sym (values_are ts))
+          ∙ ap (one (location_in f (domain_of shape f) (map (term_value on.scene.checked.now on.scene.view.now e) ts))) (sym is) ∙ ap (λ k. one k v) (sym l))
 
       -- a name that no update is of
       pub forms_no_update : (shape : Shape) (s : Entries) (m : ℕ) (x : syntax.Name) (ts : List Term) (t : Term) → m ≤ greatest_count
-          → ((vs : List Value) (v : Value) → assigned (declared (program checked) x.text) vs v ≡ none) → Forms shape (assign_does e p x ts t) s s m m
+          → ((vs : List Value) (v : Value) → assigned (declared (program on.scene.checked.now) x.text) vs v ≡ none) → Forms shape (assign_does e p x ts t) s s m m
       forms_no_update shape s m x ts t small no_set = forms_assigned shape s s m x ts t none small (no_set _ _) (adds_none shape s)
 
       pub skip_does : (R : Rule) → R ≡ rule.Skip → nothing ≡ rule_does e p R
       skip_does R is =
-          sym (ap (rule_does e p) is ∙ ap (λ P. plain_does e p (plain_rule P)) rule_of-Skip ∙ cases.of_skip (shown view) e p)
+          sym (ap (rule_does e p) is ∙ ap (λ P. plain_does e p (plain_rule P)) rule_of-Skip ∙ cases.of_skip (state_at on) e p)
 
       pub left_out_does : (Q : Option (Box Rule Global)) → Q ≡ None → nothing ≡ branch_does e p Q
-      left_out_does Q is = sym (ap (branch_does e p) is ∙ cases.of_skip (shown view) e p)
+      left_out_does Q is = sym (ap (branch_does e p) is ∙ cases.of_skip (state_at on) e p)
 
       pub par_does : (R : Rule) (Ps : Vec Rule Global) (rs : List Rule) → R ≡ rule.Par Ps → rs ≡ Ps.items → rules_do e p 0 rs ≡ rule_does e p R
       par_does R Ps rs is same =
           ap (rules_do e p 0) same
           ∙ sym (ap (rule_does e p) is ∙ ap (λ P. plain_does e p (plain_rule P)) (rule_of-Par Ps)
-          ∙ cases.of_par (plain_rules (rules_of (map rule_of Ps.items))) (shown view) e p)
+          ∙ cases.of_par (meant_rules Ps.items) (state_at on) e p)
 
       pub seq_does : (R : Rule) (Ps : Vec Rule Global) (rs : List Rule) → R ≡ rule.Seq Ps → rs ≡ Ps.items
-          → rules_do_in_order checked turns script step e p 0 rs (shown view) ≡ rule_does e p R
+          → rules_do_in_order (setting on) e p 0 rs (state_at on) ≡ rule_does e p R
       seq_does R Ps rs is same =
-          ap (λ (some : List Rule). rules_do_in_order checked turns script step e p 0 some (shown view)) same
+          ap (λ (some : List Rule). rules_do_in_order (setting on) e p 0 some (state_at on)) same
           ∙ sym (ap (rule_does e p) is ∙ ap (λ P. plain_does e p (plain_rule P)) (rule_of-Seq Ps)
-          ∙ cases.of_seq (plain_rules (rules_of (map rule_of Ps.items))) (shown view) e p)
+          ∙ cases.of_seq (meant_rules Ps.items) (state_at on) e p)
 
-      pub iterate_does : (R : Rule) → turns_do checked turns script step e p turns 0 R (shown view) ≡ plain_does e p (tree.Iterate (plain_rule (rule_of R)))
-      iterate_does R = sym (cases.of_iterate (plain_rule (rule_of R)) (shown view) e p)
+      pub iterate_does : (R : Rule) → turns_do (setting on) e p on.turns 0 R (state_at on) ≡ plain_does e p (tree.Iterate (meant R))
+      iterate_does R = sym (cases.of_iterate (meant R) (state_at on) e p)
 
-      pub first_does : (c : Term) (R : Rule) (Q : Option (Box Rule Global)) → is_true (term_value checked view e c) ≡ true → rule_does e (at p 0) R ≡ if_does e p c R Q
+      pub first_does : (c : Term) (R : Rule) (Q : Option (Box Rule Global)) → is_true (term_value on.scene.checked.now on.scene.view.now e c) ≡ true → rule_does e (at p 0) R ≡ if_does e p c R Q
       first_does c R Q test =
           ap (λ b. cond b (rule_does e (at p 0) R) (branch_does e (at p 1) Q)) (sym test)
-          ∙ sym (cases.of_if (plain_term (term_of c)) (plain_rule (rule_of R)) (plain_branch (branch Q)) (shown view) e p)
+          ∙ sym (cases.of_if (meant_term c) (meant R) (meant_branch Q) (state_at on) e p)
 
-      pub other_does : (c : Term) (R : Rule) (Q : Option (Box Rule Global)) → is_true (term_value checked view e c) ≡ false → branch_does e (at p 1) Q ≡ if_does e p c R Q
+      pub other_does : (c : Term) (R : Rule) (Q : Option (Box Rule Global)) → is_true (term_value on.scene.checked.now on.scene.view.now e c) ≡ false → branch_does e (at p 1) Q ≡ if_does e p c R Q
       other_does c R Q test =
           ap (λ b. cond b (rule_does e (at p 0) R) (branch_does e (at p 1) Q)) (sym test)
-          ∙ sym (cases.of_if (plain_term (term_of c)) (plain_rule (rule_of R)) (plain_branch (branch Q)) (shown view) e p)
+          ∙ sym (cases.of_if (meant_term c) (meant R) (meant_branch Q) (state_at on) e p)
 
-      pub let_does : (x : tree.Name) (t : Term) (R : Rule) (v : Value) → v ≡ term_value checked view e t
-          → rule_does (with_value x v e) (at p 0) R ≡ plain_does e p (tree.Let x (plain_term (term_of t)) (plain_rule (rule_of R)))
-      let_does x t R v is = ap (λ w. rule_does (with_value x w e) (at p 0) R) is ∙ sym (cases.of_let x (plain_term (term_of t)) (plain_rule (rule_of R)) (shown view) e p)
+      pub let_does : (x : tree.Name) (t : Term) (R : Rule) (v : Value) → v ≡ term_value on.scene.checked.now on.scene.view.now e t
+          → rule_does (with_value x v e) (at p 0) R ≡ plain_does e p (tree.Let x (meant_term t) (meant R))
+      let_does x t R v is = ap (λ w. rule_does (with_value x w e) (at p 0) R) is ∙ sym (cases.of_let x (meant_term t) (meant R) (state_at on) e p)
 
       pub chosen_does : (x u : tree.Name) (c : Option Term) (R : Rule) (Q : Option (Box Rule Global)) (v : Value)
-          → Some v ≡ taken (pick script step p) (candidates_of checked view e x u c) → rule_does (with_value x v e) (at p 0) R ≡ choose_does e p x u c R Q
+          → Some v ≡ taken (pick (picks.script on.choices.now.script.now) on.choices.now.step p) (candidates_of on.scene.checked.now on.scene.view.now e x u c) → rule_does (with_value x v e) (at p 0) R ≡ choose_does e p x u c R Q
       chosen_does x u c R Q v there =
-          some_taken (pick script step p) (candidates_of checked view e x u c) v (λ w. rule_does (with_value x w e) (at p 0) R) (branch_does e (at p 1) Q) there
-          ∙ sym (cases.of_choose x u (condition c) (plain_rule (rule_of R)) (plain_branch (branch Q)) (shown view) e p)
+          some_taken (pick (picks.script on.choices.now.script.now) on.choices.now.step p) (candidates_of on.scene.checked.now on.scene.view.now e x u c) v (λ w. rule_does (with_value x w e) (at p 0) R) (branch_does e (at p 1) Q) there
+          ∙ sym (cases.of_choose x u (condition c) (meant R) (meant_branch Q) (state_at on) e p)
 
       pub none_does : (x u : tree.Name) (c : Option Term) (R : Rule) (Q : Option (Box Rule Global))
-          → None ≡ taken (pick script step p) (candidates_of checked view e x u c) → branch_does e (at p 1) Q ≡ choose_does e p x u c R Q
+          → None ≡ taken (pick (picks.script on.choices.now.script.now) on.choices.now.step p) (candidates_of on.scene.checked.now on.scene.view.now e x u c) → branch_does e (at p 1) Q ≡ choose_does e p x u c R Q
       none_does x u c R Q there =
-          none_taken (pick script step p) (candidates_of checked view e x u c) (λ w. rule_does (with_value x w e) (at p 0) R) (branch_does e (at p 1) Q) there
-          ∙ sym (cases.of_choose x u (condition c) (plain_rule (rule_of R)) (plain_branch (branch Q)) (shown view) e p)
+          none_taken (pick (picks.script on.choices.now.script.now) on.choices.now.step p) (candidates_of on.scene.checked.now on.scene.view.now e x u c) (λ w. rule_does (with_value x w e) (at p 0) R) (branch_does e (at p 1) Q) there
+          ∙ sym (cases.of_choose x u (condition c) (meant R) (meant_branch Q) (state_at on) e p)
 
       -- ---- the loops: what is left of the rules or of the elements, and what the next one adds to it
 
@@ -291,69 +352,50 @@ module _ (checked : Checked) (view : View) (turns : ℕ) (script : Script) (step
           ∙ ap (λ k. both (rule_does e (at p i) (slice_index_or rs i r)) (rules_do e p k (drop (i + 1) rs))) (add-one i)
           ∙ sym (at_drop_more (rules_do e p i) rs i r low)
 
-      -- what is exhausted behind a rule that gives a set
-      pub exhausted_behind_rule : (shape : Shape) (old new : Entries) (before after : ℕ) (rs : List Rule) (i : ℕ) (r : Rule) (q : Place) → i < length rs → r ≡ slice_index_or rs i r
-          → Forms shape (rule_does e (at p i) r) old new before after
-          → (rules_do e p (i + 1) (drop (i + 1) rs)).result ≡ Exhausted q → (rules_do e p i (drop i rs)).result ≡ Exhausted q
-      exhausted_behind_rule shape old new before after rs i r q low is formed ends =
-          sym (ap (λ o. o.result) (next_rule_does rs i r low is))
-          ∙ ap (λ it. beside it (rules_do e p (i + 1) (drop (i + 1) rs)).result) formed.gives
-          ∙ ap (beside (Gives formed.set)) ends
-
       -- an exhausted rule comes before those behind it
       pub exhausted_rule_does : (rs : List Rule) (i : ℕ) (r : Rule) (q : Place) → i < length rs → r ≡ slice_index_or rs i r
           → (rule_does e (at p i) r).result ≡ Exhausted q → (rules_do e p i (drop i rs)).result ≡ Exhausted q
       exhausted_rule_does rs i r q low is ends =
           sym (ap (λ o. o.result) (next_rule_does rs i r low is))
           ∙ ap (λ k. beside (rule_does e (at p i) r).result (rules_do e p k (drop (i + 1) rs)).result) (add-one i)
-          ∙ first_part_first (program checked) turns script step (shown view) e p q i (plain_rule (rule_of r)) (plain_rules (rules_of (map rule_of (drop (i + 1) rs)))) ends
+          ∙ first_part_first (program on.scene.checked.now) on.turns (picks.script on.choices.now.script.now) on.choices.now.step (state_at on) e p q i (meant r) (plain_rules (rules_of (map rule_of (drop (i + 1) rs)))) ends
 
       pub no_rule_does : (rs : List Rule) (i : ℕ) → length rs ≤ i → nothing ≡ rules_do e p i (drop i rs)
       no_rule_does rs i past = sym (ap (rules_do e p i) (drop_all i rs past))
 
-      pub forall_of : (x u : tree.Name) (c : Option Term) (R : Rule) (vs : List Value) → vs ≡ universe (program checked) u
+      pub forall_of : (x u : tree.Name) (c : Option Term) (R : Rule) (vs : List Value) → vs ≡ universe (program on.scene.checked.now) u
           → each_does e p x c R 0 vs ≡ forall_does e p x u c R
-      forall_of x u c R vs is = ap (each_does e p x c R 0) is ∙ sym (cases.of_forall x u (condition c) (plain_rule (rule_of R)) (shown view) e p)
+      forall_of x u c R vs is = ap (each_does e p x c R 0) is ∙ sym (cases.of_forall x u (condition c) (meant R) (state_at on) e p)
 
       element_next : (x : tree.Name) (c : Option Term) (R : Rule) (vs : List Value) (i : ℕ) (v : Value) (b : Bool) → slice_get vs i ≡ Some v
-          → b ≡ holds_at checked view (with_value x v e) c
+          → b ≡ holds_at on.scene.checked.now on.scene.view.now (with_value x v e) c
           → cond b (counted (both (rule_does (with_value x v e) (at p i) R) (each_does e p x c R (i + 1) (drop (i + 1) vs)))) (each_does e p x c R (i + 1) (drop (i + 1) vs))
           ≡ each_does e p x c R i (drop i vs)
       element_next x c R vs i v b there test =
           ap (λ b. cond b (counted (both (rule_does (with_value x v e) (at p i) R) (each_does e p x c R (i + 1) (drop (i + 1) vs)))) (each_does e p x c R (i + 1) (drop (i + 1) vs))) test
-          ∙ ap (λ k. cond (holds_at checked view (with_value x v e) c) (counted (both (rule_does (with_value x v e) (at p i) R) (each_does e p x c R k (drop (i + 1) vs))))
+          ∙ ap (λ k. cond (holds_at on.scene.checked.now on.scene.view.now (with_value x v e) c) (counted (both (rule_does (with_value x v e) (at p i) R) (each_does e p x c R k (drop (i + 1) vs))))
           (each_does e p x c R k (drop (i + 1) vs))) (add-one i)
           ∙ ap (λ w. each_does e p x c R i (w ∷ drop (i + 1) vs)) (sym (get_or_from_slice_get vs i v v there))
           ∙ sym (at_drop_more (each_does e p x c R i) vs i v (slice_get_within vs i v there))
 
       -- an element for which the condition holds
       pub element_does : (x : tree.Name) (c : Option Term) (R : Rule) (vs : List Value) (i : ℕ) (v : Value) → slice_get vs i ≡ Some v
-          → true ≡ holds_at checked view (with_value x v e) c
+          → true ≡ holds_at on.scene.checked.now on.scene.view.now (with_value x v e) c
           → counted (both (rule_does (with_value x v e) (at p i) R) (each_does e p x c R (i + 1) (drop (i + 1) vs))) ≡ each_does e p x c R i (drop i vs)
       element_does x c R vs i v there test = element_next x c R vs i v true there test
 
-      -- what is exhausted behind one whose rule gives a set
-      pub exhausted_behind_element : (shape : Shape) (old new : Entries) (before after : ℕ) (x : tree.Name) (c : Option Term) (R : Rule) (vs : List Value) (i : ℕ) (v : Value) (q : Place)
-          → slice_get vs i ≡ Some v → true ≡ holds_at checked view (with_value x v e) c
-          → Forms shape (rule_does (with_value x v e) (at p i) R) old new before after
-          → (each_does e p x c R (i + 1) (drop (i + 1) vs)).result ≡ Exhausted q → (each_does e p x c R i (drop i vs)).result ≡ Exhausted q
-      exhausted_behind_element shape old new before after x c R vs i v q there test formed ends =
-          sym (ap (λ o. o.result) (element_does x c R vs i v there test))
-          ∙ ap (λ it. beside it (each_does e p x c R (i + 1) (drop (i + 1) vs)).result) formed.gives
-          ∙ ap (beside (Gives formed.set)) ends
-
       -- one whose rule is exhausted
       pub exhausted_element_does : (x : tree.Name) (c : Option Term) (R : Rule) (vs : List Value) (i : ℕ) (v : Value) (q : Place) → slice_get vs i ≡ Some v
-          → true ≡ holds_at checked view (with_value x v e) c
+          → true ≡ holds_at on.scene.checked.now on.scene.view.now (with_value x v e) c
           → (rule_does (with_value x v e) (at p i) R).result ≡ Exhausted q → (each_does e p x c R i (drop i vs)).result ≡ Exhausted q
       exhausted_element_does x c R vs i v q there test ends =
           sym (ap (λ o. o.result) (element_does x c R vs i v there test))
           ∙ ap (λ k. beside (rule_does (with_value x v e) (at p i) R).result (each_does e p x c R k (drop (i + 1) vs)).result) (add-one i)
-          ∙ first_element_first (program checked) turns script step (shown view) e p q x (λ w. holds_at checked view (with_value x w e) c) i v (drop (i + 1) vs) (plain_rule (rule_of R)) ends
+          ∙ first_element_first (program on.scene.checked.now) on.turns (picks.script on.choices.now.script.now) on.choices.now.step (state_at on) e p q x (λ w. holds_at on.scene.checked.now on.scene.view.now (with_value x w e) c) i v (drop (i + 1) vs) (meant R) ends
 
       -- one for which it doesn't
       pub element_passed : (x : tree.Name) (c : Option Term) (R : Rule) (vs : List Value) (i : ℕ) (v : Value) → slice_get vs i ≡ Some v
-          → false ≡ holds_at checked view (with_value x v e) c
+          → false ≡ holds_at on.scene.checked.now on.scene.view.now (with_value x v e) c
           → each_does e p x c R (i + 1) (drop (i + 1) vs) ≡ each_does e p x c R i (drop i vs)
       element_passed x c R vs i v there test = element_next x c R vs i v false there test
 

@@ -29,4 +29,7 @@ pub mod Sequences
 pub mod NestedPlaces
 pub mod OrderedRules
 pub mod ExhaustedPlaces
+pub mod ExhaustedLaws
+pub mod Initial
+pub mod Examples
 pub mod SpecificationRuns

@@ -11,31 +11,27 @@ use Rattle.asm_state.specs.Signature.{Shape}
 use Rattle.asm_state.specs.Updates.{UpdateSet, IsConsistent, none, fire}
 use Rattle.asm_updates.specs.Entries.{Entries}
 use Rattle.asm_updates.specs.Stands.{Stands}
-use Rattle.asm_syntax.specs.Unplaced.{plain_rule}
-use Rattle.asm_syntax.specs.Views.{rule_of}
 use Rattle.asm_syntax.specs.declared.rule.Rule.{Rule}
-use Rattle.asm_check.specs.declared.checked.Checked.{Checked}
-use Rattle.asm_reader.specs.ScriptLines.{Script}
-use Rattle.asm_eval.specs.Cases.{runs}
 use Rattle.asm_eval.specs.Does.{Outcome, part_and, turn_and}
+use Rattle.asm_eval.specs.Evaluated.{meant}
+use Rattle.asm_eval.specs.Setting.{Setting, outcome}
 use Rattle.asm_eval.specs.Formed.{Adds, Forms, GoesOn, IsStoppedAt}
 use Rattle.asm_eval.specs.Program.{Environment}
-use Rattle.asm_eval.specs.Valued.{program}
 use Rattle.asm_eval.specs.Yields.{Place, Exhausted, at}
 use Rattle.asm_eval.specs.declared.stopped.Stopped.{Stopped}
 use Rattle.asm_eval.proofs.FormedRules.{rules_do_in_order, turns_do}
 use Rattle.asm_eval.proofs.Sequences.{IsUnderway, goes_on, ends, ends_with, ends_at, good_part, faulty_part, exhausted_part, good_turn, last_turn, exhausted_turn, stopped_on}
 
-module _ (checked : Checked) (turns : ℕ) (script : Script) (step : ℕ) (e : Environment) (p : Place) where
+module _ (s : Setting) (e : Environment) (p : Place) where
   abbrev pub parts_left : List Rule → ℕ → State → Outcome
-  parts_left rs i = rules_do_in_order checked turns script step e p i (drop i rs)
+  parts_left rs i = rules_do_in_order s e p i (drop i rs)
 
   abbrev pub turns_left : ℕ → Rule → ℕ → State → Outcome
-  turns_left limit r t = turns_do checked turns script step e p (limit - t) t r
+  turns_left limit r t = turns_do s e p (limit - t) t r
 
   -- the part or the turn with this number
   abbrev pub numbered : Place → ℕ → Rule → State → Outcome
-  numbered q k r A = runs (program checked) turns script step (plain_rule (rule_of r)) A e (at q k)
+  numbered q k r A = outcome s A e (at q k) (meant r)
 
   abbrev part_then : Outcome → (UpdateSet → Outcome) → Outcome
   part_then o rest = part_and o.result o.instances rest
@@ -52,24 +48,24 @@ module _ (checked : Checked) (turns : ℕ) (script : Script) (step : ℕ) (e : E
   next_part : (q : Place) (rs : List Rule) (i : ℕ) (r : Rule) (A : State) → q ≡ p → i < length rs → r ≡ slice_index_or rs i r
       → parts_left rs i A ≡ part_then (numbered q i r A) (λ U. parts_left rs (i + 1) (fire A U))
   next_part q rs i r A same low is =
-      at_drop_more (λ (some : List Rule). rules_do_in_order checked turns script step e p i some A) rs i r low
-      ∙ ap (λ k. part_then (numbered p i (slice_index_or rs i r) A) (λ U. rules_do_in_order checked turns script step e p k (drop (i + 1) rs) (fire A U))) (sym (add-one i))
+      at_drop_more (λ (some : List Rule). rules_do_in_order s e p i some A) rs i r low
+      ∙ ap (λ k. part_then (numbered p i (slice_index_or rs i r) A) (λ U. rules_do_in_order s e p k (drop (i + 1) rs) (fire A U))) (sym (add-one i))
       ∙ ap (λ x. part_then (numbered p i x A) (λ U. parts_left rs (i + 1) (fire A U))) (sym is)
-      ∙ ap (λ s. part_then (numbered s i r A) (λ U. parts_left rs (i + 1) (fire A U))) (sym same)
+      ∙ ap (λ there. part_then (numbered there i r A) (λ U. parts_left rs (i + 1) (fire A U))) (sym same)
 
-  no_part : (rs : List Rule) (i : ℕ) (A : State) → length rs ≤ i → parts_left rs i A ≡ rules_do_in_order checked turns script step e p i [] A
-  no_part rs i A past = at_drop_all (λ (some : List Rule). rules_do_in_order checked turns script step e p i some A) rs i past
+  no_part : (rs : List Rule) (i : ℕ) (A : State) → length rs ≤ i → parts_left rs i A ≡ rules_do_in_order s e p i [] A
+  no_part rs i A past = at_drop_all (λ (some : List Rule). rules_do_in_order s e p i some A) rs i past
 
   next_turn : (q : Place) (limit t n : ℕ) (r : Rule) (A : State) → q ≡ p → t < limit → n ≡ t
       → turns_left limit r t A ≡ turn_then (numbered q n r A) (λ U. turns_left limit r (t + 1) (fire A U))
   next_turn q limit t n r A same low is =
-      ap (λ m. turns_do checked turns script step e p m t r A) (one_left limit t low)
-      ∙ ap (λ k. turn_then (numbered p t r A) (λ U. turns_do checked turns script step e p (limit - (t + 1)) k r (fire A U))) (sym (add-one t))
-      ∙ ap (λ s. turn_then (numbered s t r A) (λ U. turns_left limit r (t + 1) (fire A U))) (sym same)
+      ap (λ m. turns_do s e p m t r A) (one_left limit t low)
+      ∙ ap (λ k. turn_then (numbered p t r A) (λ U. turns_do s e p (limit - (t + 1)) k r (fire A U))) (sym (add-one t))
+      ∙ ap (λ there. turn_then (numbered there t r A) (λ U. turns_left limit r (t + 1) (fire A U))) (sym same)
       ∙ ap (λ m. turn_then (numbered q m r A) (λ U. turns_left limit r (t + 1) (fire A U))) (sym is)
 
   no_turn : (limit t : ℕ) (r : Rule) (A : State) → limit ≤ t → (turns_left limit r t A).result ≡ Exhausted p
-  no_turn limit t r A past = ap (λ n. (turns_do checked turns script step e p n t r A).result) (none_left limit t past)
+  no_turn limit t r A past = ap (λ n. (turns_do s e p n t r A).result) (none_left limit t past)
 
   module _ (shape : Shape) (A : State) (total : Outcome) (so_far : Entries) (before now : ℕ) where
     -- ---- parts
@@ -99,8 +95,8 @@ module _ (checked : Checked) (turns : ℕ) (script : Script) (step : ℕ) (e : E
             → given ≡ Err stop → IsErrAnd returned (λ again. again ≡ stop) → IfErr given (IsStoppedAt part place) → IfErr returned (IsStoppedAt total place)
         part_stops place given returned stop was again =
             stopped_on part total place given returned stop was again
-            (λ s at. ends_at shape A total (parts_left rs i) so_far before now under s
-            (ap (λ (o : Outcome). o.result) then_part ∙ exhausted_part part (λ U. parts_left rs (i + 1) (fire (fire A under.set) U)) s at))
+            (λ there at. ends_at shape A total (parts_left rs i) so_far before now under there
+            (ap (λ (o : Outcome). o.result) then_part ∙ exhausted_part part (λ U. parts_left rs (i + 1) (fire (fire A under.set) U)) there at))
 
       pub parts_end : {T : Type 0} (was old new : Entries) (n : ℕ) (returned : Returned T Stopped) → length rs ≤ i → was ≡ old → n ≡ now
           → ((V : UpdateSet) → Stands shape so_far V → OnOk returned (Adds shape V was new)) → OnOk returned (Forms shape total old new before n)
@@ -134,8 +130,8 @@ module _ (checked : Checked) (turns : ℕ) (script : Script) (step : ℕ) (e : E
             → given ≡ Err stop → IsErrAnd returned (λ again. again ≡ stop) → IfErr given (IsStoppedAt turn place) → IfErr returned (IsStoppedAt total place)
         turn_stops place given returned stop was again =
             stopped_on turn total place given returned stop was again
-            (λ s at. ends_at shape A total (turns_left limit r t) so_far before now under s
-            (ap (λ (o : Outcome). o.result) then_turn ∙ exhausted_turn turn (λ U. turns_left limit r (t + 1) (fire (fire A under.set) U)) s at))
+            (λ there at. ends_at shape A total (turns_left limit r t) so_far before now under there
+            (ap (λ (o : Outcome). o.result) then_turn ∙ exhausted_turn turn (λ U. turns_left limit r (t + 1) (fire (fire A under.set) U)) there at))
 
       pub turns_stop : limit ≤ t → total.result ≡ Exhausted p
       turns_stop past = ends_at shape A total (turns_left limit r t) so_far before now under p (no_turn limit t r (fire A under.set) past)

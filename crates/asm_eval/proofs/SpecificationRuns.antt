@@ -4,13 +4,13 @@ use Rattle.asm_syntax.specs.Placed as placed
 use Rattle.asm_syntax.specs.Placed.{Spec}
 use Rattle.asm_syntax.specs.Tree.{Name, Rule}
 use Rattle.asm_check.specs.Faults.{IsWellFormed, inits}
-use Rattle.asm_check.specs.Ranks.{rule_rank}
+use Rattle.asm_check.specs.Ranks.{derived_rank, rule_rank}
 use Rattle.asm_eval.specs.Declarations.{main_rule, program_of, rule_body, specification_of}
 use Rattle.asm_eval.specs.Program.{Declared, Controlled, Derived, Enumerated, Procedure, Static, Universe, declared}
 use Rattle.asm_eval.specs.Ranks.{CallsBelow, lower}
 use Rattle.asm_eval.specs.SpecificationLaw.{SpecificationsAreRanked, SpecificationRunsAreFree, SpecificationRunsHaveScripts}
 use Rattle.asm_eval.specs.Value.{nesting}
-use Rattle.asm_eval.proofs.Ranked.{rules_ranked, rule_rank_low}
+use Rattle.asm_eval.proofs.Ranked.{ranked, rank_low, rules_ranked, rule_rank_low}
 use Rattle.asm_eval.proofs.Run.{free_runs, scripted_runs}
 
 module _ (spec : Spec) (good : IsWellFormed spec) where
@@ -36,7 +36,16 @@ module _ (spec : Spec) (good : IsWellFormed spec) where
   main (x ∷ more) = body_of x.text (declared (program_of spec) x.text) refl
 
 pub are_ranked : SpecificationsAreRanked
-are_ranked spec good = record { rank = rule_rank spec; ranked = rules_ranked spec good; bodies = body spec good; main = main spec good (inits spec) }
+are_ranked spec good = record {
+  rank = rule_rank spec;
+  ranked = rules_ranked spec good;
+  bodies = body spec good;
+  main = main spec good (inits spec);
+  rank_low = λ f. rule_rank_low spec f good;
+  derived = derived_rank spec;
+  derived_ranked = ranked spec good;
+  derived_low = λ f. rank_low spec f good;
+}
 
 pub runs_are_free : SpecificationRunsAreFree
 runs_are_free spec turns script steps good =

@@ -22,10 +22,15 @@ below_at shape contents (below.Set' over p lower) (Proper f vs) is =
 below_at shape contents lower (Stray f) is = cc
 
 -- a proper location shows what is at its number
-pub read_at : (shape : Shape) (contents : List Value) (lower : Below) (over : Entries) (l : Location) (n : ℕ) → n ≡ number_at shape l → IsTrue (is_proper l)
-    → overwritten (entry over n) (content_below lower n (slice_index_or contents n Undef)) ≡ read (shown_over shape contents lower over) l
+pub shown_at : (shape : Shape) (contents : List Value) (lower : Below) (over : Entries) (l : Location) (n : ℕ) → n ≡ number_at shape l → IsTrue (is_proper l)
+    → overwritten (entry over n) (content_below lower n (slice_index_or contents n Undef)) ≡ shown_over shape contents lower over l
 unfolding seen
-read_at shape contents lower over (Proper f vs) n e is =
+shown_at shape contents lower over (Proper f vs) n e is =
     ap (λ m. overwritten (entry over m) (content_below lower m (slice_index_or contents m Undef))) e
     ∙ ap (overwritten (entry over (number_at shape (Proper f vs)))) (below_at shape contents lower (Proper f vs) is)
+shown_at shape contents lower over (Stray f) n e is = cc
+
+pub read_at : (shape : Shape) (contents : List Value) (lower : Below) (over : Entries) (l : Location) (n : ℕ) → n ≡ number_at shape l → IsTrue (is_proper l)
+    → overwritten (entry over n) (content_below lower n (slice_index_or contents n Undef)) ≡ read (shown_over shape contents lower over) l
+read_at shape contents lower over (Proper f vs) n e is = shown_at shape contents lower over (Proper f vs) n e is
 read_at shape contents lower over (Stray f) n e is = cc

@@ -5,13 +5,15 @@
 --     IsFormed    an outcome of the code is one of the definitions
 --     IsStoppedAt what is said of an outcome whose forming stopped at a place
 --     GoesOn      a part of a sequence gives a set, which is joined to those of the parts before it
-use Rattle.std.specs.Prelude.{◌≡◌, ℕ, ◌+◌, min}
+--     Follows     what a call promises that forms an outcome, whether it ends, is exhausted or wants memory;  FollowsUpon     the same of a part of a sequence
+use Rattle.std.specs.Prelude.{◌≡◌, ℕ, ◌+◌, min, Result, OnOk, IfErr}
 use Rattle.asm_state.specs.Signature.{Shape, count_of}
-use Rattle.asm_state.specs.Updates.{UpdateSet, together, merge}
+use Rattle.asm_state.specs.Updates.{UpdateSet, IsConsistent, together, merge}
 use Rattle.asm_updates.specs.Entries.{Entries}
 use Rattle.asm_updates.specs.Stands.{Stands}
 use Rattle.asm_eval.specs.Yields.{Place, Gives, Exhausted}
 use Rattle.asm_eval.specs.Does as does
+use Rattle.asm_eval.specs.declared.outcome.Forming.{Forming}
 use Rattle.asm_eval.specs.declared.outcome.Outcome.{Outcome}
 use Rattle.asm_eval.specs.declared.outcome.Outcome.TheVariants.{Set, Exhausted as ExhaustedAt}
 use Rattle.asm_eval.specs.declared.stopped.Stopped.{Stopped}
@@ -55,3 +57,18 @@ pub record GoesOn (shape : Shape) (o : does.Outcome) (U : UpdateSet) (so_far par
   pub stands : Stands shape part set
   pub merged : Stands shape so_far (merge U set)
   pub counts : after ≡ min (before + o.instances) greatest_count
+
+-- what a call promises that forms an outcome
+pub record Follows {T : Type 0} (shape : Shape) (o : does.Outcome) (old new : Forming) (result : Result T Stopped) : Type 0 where
+  pub count : new.set.count ≡ old.set.count
+  pub place : OnOk result (new.place.items ≡ old.place.items)
+  pub formed : OnOk result (Forms shape o old.set new.set old.instances new.instances)
+  pub exhausted : IfErr result (IsStoppedAt o new.place.items)
+
+-- what a call promises that forms a part of a sequence, whose outcome depends on the set of the parts before it
+pub record FollowsUpon {T : Type 0} (shape : Shape) (o : UpdateSet → does.Outcome) (so_far joined : Entries) (old new : Forming) (result : Result T Stopped) : Type 0 where
+  pub count : new.set.count ≡ old.set.count
+  pub so_far_count : OnOk result (joined.count ≡ so_far.count)
+  pub place : OnOk result (new.place.items ≡ old.place.items)
+  pub formed : (U : UpdateSet) → Stands shape so_far U → IsConsistent U → OnOk result (GoesOn shape (o U) U joined new.set old.instances new.instances)
+  pub exhausted : (U : UpdateSet) → Stands shape so_far U → IsConsistent U → IfErr result (IsStoppedAt (o U) new.place.items)

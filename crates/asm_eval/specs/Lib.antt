@@ -17,3 +17,8 @@ pub mod Valued
 pub mod Formed
 pub mod Taken
 pub mod SpecificationLaw
+pub mod Setting
+pub mod Evaluated
+pub mod Scenes
+pub mod ExhaustedLaws
+pub mod InitialLaws

@@ -2,8 +2,9 @@
 --     seen shape A over        the state A with what a summary has at each location in place of A's content
 --     state_below              the state of these contents, with sets fired one after the other
 --     shown_over               the same with one more set fired after them
+--     IsUpon some U lower      some sets are U, fired after those of lower
 --     content_below            what the last of some sets has at a location, and else this value
-use Rattle.std.specs.Prelude.{ℕ, cond, List, Option, Some, None}
+use Rattle.std.specs.Prelude.{◌≡◌, ℕ, cond, List, Option, Some, None}
 use Rattle.asm_state.specs.declared.value.Value.{Value}
 use Rattle.asm_state.specs.Location.{State}
 use Rattle.asm_state.specs.Signature.{Shape, number_at, state_of}
@@ -22,6 +23,10 @@ state_below shape contents (below.Set' over p lower) = seen shape (state_below s
 
 abbrev pub shown_over : Shape → (contents : List Value) → Below → (over : Entries) → State
 shown_over shape contents lower over = seen shape (state_below shape contents lower) over
+
+abbrev pub IsUpon : Below → (over : Entries) → Below → Type 0
+IsUpon below.Nothing over lower = ⊥
+IsUpon (below.Set' top p rest) over lower = (top.now ≡ over) × (rest ≡ lower)
 
 abbrev pub content_below : Below → ℕ → Value → Value
 content_below below.Nothing n v = v

@@ -1,9 +1,9 @@
 -- The law of choice for specifications without faults: their ranks fall, so it asks nothing more of them.
---     RanksFall spec                 what the law of choice asks of a program, and of each rule of it
+--     RanksFall spec                 what the law of choice asks of a program, and of each rule of it, and the value of a term by cases
 --     SpecificationsAreRanked        a specification without faults has that
 --     SpecificationRunsAreFree       its run under a script is a run for some choices
 --     SpecificationRunsHaveScripts   each of its runs, for whatever choices, is the run under some script
-use Rattle.std.specs.Prelude.{◌≡◌, ℕ, List, Some}
+use Rattle.std.specs.Prelude.{◌≡◌, ◌<◌, ℕ, List, Some}
 use Rattle.asm_state.specs.Location.{State}
 use Rattle.asm_state.specs.Updates.{UpdateSet}
 use Rattle.asm_syntax.specs.Placed.{Spec}
@@ -12,7 +12,7 @@ use Rattle.asm_reader.specs.ScriptLines.{Script}
 use Rattle.asm_check.specs.Faults.{IsWellFormed, inits}
 use Rattle.asm_eval.specs.Declarations.{main_rule, program_of, specification_of}
 use Rattle.asm_eval.specs.Program.{Procedure, declared}
-use Rattle.asm_eval.specs.Ranks.{CallsBelow, IsRanked}
+use Rattle.asm_eval.specs.Ranks.{AreDerivedRanked, CallsBelow, IsRanked}
 use Rattle.asm_eval.specs.Run.{End, IsRun, Run, run, sets_of}
 use Rattle.asm_eval.specs.Scripts.{IsUnrepeated}
 use Rattle.asm_eval.specs.Value.{nesting}
@@ -22,6 +22,11 @@ pub record RanksFall (spec : Spec) : Type 0 where
   pub ranked : IsRanked (program_of spec) rank
   pub bodies : (f : Name) (xs : List Name) (P : Rule) → declared (program_of spec) f ≡ Some (Procedure xs P) → CallsBelow (program_of spec) rank nesting P
   pub main : CallsBelow (program_of spec) rank nesting (main_rule spec (inits spec))
+  pub rank_low : (f : Name) → rank f < nesting
+  -- the same of derived functions, for the value of a term by cases
+  pub derived : Name → ℕ
+  pub derived_ranked : AreDerivedRanked (program_of spec) derived
+  pub derived_low : (f : Name) → derived f < nesting
 
 abbrev pub SpecificationsAreRanked : Type 0
 SpecificationsAreRanked = (spec : Spec) → IsWellFormed spec → RanksFall spec

@@ -1,8 +1,6 @@
 //! Which candidate a `choose` takes.
 ghost use Rattle.std.specs.Prelude.{◌≡◌, filter, IfOk};
 ghost use Rattle.asm_reader.specs.ScriptLines.{pick};
-ghost use Rattle.asm_syntax.specs.Views.{spec_of};
-ghost use Rattle.asm_check.specs.Shapes.{shape_of};
 ghost use Rattle.asm_eval.specs.Environments.{environment};
 ghost use Rattle.asm_eval.specs.Program.{with_value};
 ghost use Rattle.asm_eval.specs.Valued.{program, shown, condition, holds_at};
@@ -36,13 +34,12 @@ pub(crate) fn holds<'e, P: Picks>(
     env: &'e Env<'e>,
     test: &'e Option<Term>,
 ) -> Result<bool, AllocError>
-    requires { at.now.view.now.signature.now ≡ shape_of (spec_of at.now.checked.now.spec) }
-    ensures { IfOk result (λ b. b ≡ holds_at at.now.checked.now at.now.view.now (environment env.now) test.now) }
+    ensures { IfOk result (λ b. b ≡ holds_at at.now.scene.checked.now at.now.scene.view.now (environment env.now) test.now) }
 {
     match test {
         None => Ok(true),
         Some(test) => {
-            let tested = value(alloc, at.checked, at.view, env, test)?;
+            let tested = value(alloc, &at.scene, env, test)?;
             Ok(is_true(tested))
         }
     }
@@ -70,8 +67,7 @@ fn find_candidate<'e, P: Picks>(
     test: &'e Option<Term>,
     number: u64,
 ) -> Result<Walk, AllocError>
-    requires { at.now.view.now.signature.now ≡ shape_of (spec_of at.now.checked.now.spec) }
-    ensures { IfOk result (λ w. w ≡ walk_to number (filter (λ v. holds_at at.now.checked.now at.now.view.now (with_value name.now.text v (environment env.now)) test.now) universe.now)) }
+    ensures { IfOk result (λ w. w ≡ walk_to number (filter (λ v. holds_at at.now.scene.checked.now at.now.scene.view.now (with_value name.now.text v (environment env.now)) test.now) universe.now)) }
 {
     if test.is_none() {
         return Ok(element_at(universe, number));
@@ -105,11 +101,10 @@ pub(crate) fn chosen<'e, P: Picks>(
     test: &'e Option<Term>,
     place: &[u64],
 ) -> Result<Option<Value>, AllocError>
-    requires { at.now.view.now.signature.now ≡ shape_of (spec_of at.now.checked.now.spec) }
-    ensures { let candidates = spec.candidates (program at.now.checked.now) (shown at.now.view.now) (environment env.now) name.now.text over.now.text (condition test.now) in
+    ensures { let candidates = spec.candidates (program at.now.scene.checked.now) (shown at.now.scene.view.now) (environment env.now) name.now.text over.now.text (condition test.now) in
         IfOk result (λ v. v ≡ taken (pick (P.script at.now.choices.now.script.now) at.now.choices.now.step place.now) candidates) }
 {
-    let Some(universe) = universe_of(at.checked, over) else {
+    let Some(universe) = universe_of(at.scene.checked, over) else {
         return Ok(None);
     };
     let Walk::Met(first) = find_candidate(alloc, at, env, name, universe, test, 0)? else {

@@ -1,23 +1,18 @@
 //! The outcome of a rule, formed in place.
-ghost use Rattle.std.specs.Prelude.{◌≡◌, map, OnOk, IfErr};
+ghost use Rattle.std.specs.Prelude.{◌≡◌, OnOk, IfErr};
 ghost use Rattle.asm_state.specs.Signature.{Shape, count_of};
-ghost use Rattle.asm_state.specs.Updates.{UpdateSet, IsConsistent, fire};
+ghost use Rattle.asm_state.specs.Updates.{UpdateSet};
 ghost use Rattle.asm_updates.specs.Stands.{Stands};
-ghost use Rattle.asm_syntax.specs.Unplaced as plain;
 ghost use Rattle.asm_syntax.specs.Tree as tree;
-ghost use Rattle.asm_syntax.specs.Views.{spec_of, term_of, terms_of, rule_of, rules_of};
-ghost use Rattle.asm_check.specs.Shapes.{shape_of};
-ghost use Rattle.asm_eval.specs.Does.{does, parts, in_order};
-ghost use Rattle.asm_eval.specs.Environments.{environment};
-ghost use Rattle.asm_eval.specs.Cases.{all_run};
-ghost use Rattle.asm_eval.specs.Valued.{program, shown, condition, branch};
-ghost use Rattle.asm_eval.specs.Formed.{Forms, Adds, IsStoppedAt, GoesOn};
+ghost use Rattle.asm_eval.specs.Evaluated.{Fits, shape_at, outcome_at, outcome_upon, parts_at, in_order_at, meant, meant_branch, meant_term, meant_terms};
+ghost use Rattle.asm_eval.specs.Formed.{Adds, Follows, FollowsUpon};
+ghost use Rattle.asm_eval.specs.Valued.{condition};
 ghost use Rattle.asm_eval.specs.Yields as yields;
 ghost use Rattle.asm_eval.specs.declared.stopped.Stopped.TheVariants.{Memory};
 
 use crate::choose::{chosen, holds};
 use crate::env::Env;
-use crate::evaluation::Evaluation;
+use crate::evaluation::{Evaluation, Scene};
 use crate::held::{is_true, universe_of};
 use crate::outcome::Forming;
 use crate::stopped::Stopped;
@@ -44,17 +39,9 @@ pub fn form<'e, P: Picks>(
     rule: &'e Rule,
     made: &mut Forming,
 ) -> Result<(), Stopped>
-    requires shaped { at.now.view.now.signature.now ≡ shape_of (spec_of at.now.checked.now.spec) }
-    requires counted { made.old.set.count ≡ count_of at.now.view.now.signature.now }
-    ensures count { made.new.set.count ≡ made.old.set.count }
-    ensures place { OnOk result (made.new.place.items ≡ made.old.place.items) }
-    ensures formed { let o = does (program at.now.checked.now) at.now.turns (P.script at.now.choices.now.script.now) at.now.choices.now.step (shown at.now.view.now) (environment env.now) made.old.place.items (plain.plain_rule (rule_of rule.now)) in
-        OnOk result (Forms at.now.view.now.signature.now o made.old.set made.new.set made.old.instances made.new.instances) }
-    ensures exhausted { let o = does (program at.now.checked.now) at.now.turns (P.script at.now.choices.now.script.now) at.now.choices.now.step (shown at.now.view.now) (environment env.now) made.old.place.items (plain.plain_rule (rule_of rule.now)) in
-        IfErr result (IsStoppedAt o made.new.place.items) }
+    requires { Fits at.now made.old }
+    ensures { Follows (shape_at at.now) (outcome_at at.now env.now made.old.place.items (meant rule.now)) made.old made.new result }
 {
-    // Read, so that the proof knows its range.
-    let _instances = made.instances;
     match rule {
         Rule::Skip => Ok(()),
         Rule::Assign {
@@ -101,14 +88,8 @@ fn form_part<'e, P: Picks>(
     number: u64,
     made: &mut Forming,
 ) -> Result<(), Stopped>
-    requires shaped { at.now.view.now.signature.now ≡ shape_of (spec_of at.now.checked.now.spec) }
-    requires counted { made.old.set.count ≡ count_of at.now.view.now.signature.now }
-    ensures count { made.new.set.count ≡ made.old.set.count }
-    ensures place { OnOk result (made.new.place.items ≡ made.old.place.items) }
-    ensures formed { let o = does (program at.now.checked.now) at.now.turns (P.script at.now.choices.now.script.now) at.now.choices.now.step (shown at.now.view.now) (environment env.now) (yields.at made.old.place.items number) (plain.plain_rule (rule_of rule.now)) in
-        OnOk result (Forms at.now.view.now.signature.now o made.old.set made.new.set made.old.instances made.new.instances) }
-    ensures exhausted { let o = does (program at.now.checked.now) at.now.turns (P.script at.now.choices.now.script.now) at.now.choices.now.step (shown at.now.view.now) (environment env.now) (yields.at made.old.place.items number) (plain.plain_rule (rule_of rule.now)) in
-        IfErr result (IsStoppedAt o made.new.place.items) }
+    requires { Fits at.now made.old }
+    ensures { Follows (shape_at at.now) (outcome_at at.now env.now (yields.at made.old.place.items number) (meant rule.now)) made.old made.new result }
 {
     made.place.push(number)?;
     form(alloc, at, env, rule, made)?;
@@ -125,22 +106,12 @@ fn form_other<'e, P: Picks>(
     rule: &'e Option<Box<Rule>>,
     made: &mut Forming,
 ) -> Result<(), Stopped>
-    requires shaped { at.now.view.now.signature.now ≡ shape_of (spec_of at.now.checked.now.spec) }
-    requires counted { made.old.set.count ≡ count_of at.now.view.now.signature.now }
-    ensures count { made.new.set.count ≡ made.old.set.count }
-    ensures place { OnOk result (made.new.place.items ≡ made.old.place.items) }
-    ensures formed { let o = does (program at.now.checked.now) at.now.turns (P.script at.now.choices.now.script.now) at.now.choices.now.step (shown at.now.view.now) (environment env.now) (yields.at made.old.place.items 1) (plain.plain_branch (branch rule.now)) in
-        OnOk result (Forms at.now.view.now.signature.now o made.old.set made.new.set made.old.instances made.new.instances) }
-    ensures exhausted { let o = does (program at.now.checked.now) at.now.turns (P.script at.now.choices.now.script.now) at.now.choices.now.step (shown at.now.view.now) (environment env.now) (yields.at made.old.place.items 1) (plain.plain_branch (branch rule.now)) in
-        IfErr result (IsStoppedAt o made.new.place.items) }
+    requires { Fits at.now made.old }
+    ensures { Follows (shape_at at.now) (outcome_at at.now env.now (yields.at made.old.place.items 1) (meant_branch rule.now)) made.old made.new result }
 {
     match rule {
         Some(rule) => form_part(alloc, at, env, rule, 1, made),
-        None => {
-            // Read, so that the proof knows its range.
-            let _instances = made.instances;
-            Ok(())
-        }
+        None => Ok(()),
     }
 }
 
@@ -155,18 +126,11 @@ fn form_if<'e, P: Picks>(
     no: &'e Option<Box<Rule>>,
     made: &mut Forming,
 ) -> Result<(), Stopped>
-    requires shaped { at.now.view.now.signature.now ≡ shape_of (spec_of at.now.checked.now.spec) }
-    requires counted { made.old.set.count ≡ count_of at.now.view.now.signature.now }
-    ensures count { made.new.set.count ≡ made.old.set.count }
-    ensures place { OnOk result (made.new.place.items ≡ made.old.place.items) }
-    ensures formed { let R = tree.If (plain.plain_term (term_of test.now)) (plain.plain_rule (rule_of yes.now)) (plain.plain_branch (branch no.now)) in
-        let o = does (program at.now.checked.now) at.now.turns (P.script at.now.choices.now.script.now) at.now.choices.now.step (shown at.now.view.now) (environment env.now) made.old.place.items R in
-        OnOk result (Forms at.now.view.now.signature.now o made.old.set made.new.set made.old.instances made.new.instances) }
-    ensures exhausted { let R = tree.If (plain.plain_term (term_of test.now)) (plain.plain_rule (rule_of yes.now)) (plain.plain_branch (branch no.now)) in
-        let o = does (program at.now.checked.now) at.now.turns (P.script at.now.choices.now.script.now) at.now.choices.now.step (shown at.now.view.now) (environment env.now) made.old.place.items R in
-        IfErr result (IsStoppedAt o made.new.place.items) }
+    requires { Fits at.now made.old }
+    ensures { let R = tree.If (meant_term test.now) (meant yes.now) (meant_branch no.now) in
+        Follows (shape_at at.now) (outcome_at at.now env.now made.old.place.items R) made.old made.new result }
 {
-    let tested = value(alloc, at.checked, at.view, env, test)?;
+    let tested = value(alloc, &at.scene, env, test)?;
     if is_true(tested) {
         form_part(alloc, at, env, yes, 0, made)
     } else {
@@ -185,18 +149,11 @@ fn form_let<'e, P: Picks>(
     body: &'e Rule,
     made: &mut Forming,
 ) -> Result<(), Stopped>
-    requires shaped { at.now.view.now.signature.now ≡ shape_of (spec_of at.now.checked.now.spec) }
-    requires counted { made.old.set.count ≡ count_of at.now.view.now.signature.now }
-    ensures count { made.new.set.count ≡ made.old.set.count }
-    ensures place { OnOk result (made.new.place.items ≡ made.old.place.items) }
-    ensures formed { let R = tree.Let name.now.text (plain.plain_term (term_of term.now)) (plain.plain_rule (rule_of body.now)) in
-        let o = does (program at.now.checked.now) at.now.turns (P.script at.now.choices.now.script.now) at.now.choices.now.step (shown at.now.view.now) (environment env.now) made.old.place.items R in
-        OnOk result (Forms at.now.view.now.signature.now o made.old.set made.new.set made.old.instances made.new.instances) }
-    ensures exhausted { let R = tree.Let name.now.text (plain.plain_term (term_of term.now)) (plain.plain_rule (rule_of body.now)) in
-        let o = does (program at.now.checked.now) at.now.turns (P.script at.now.choices.now.script.now) at.now.choices.now.step (shown at.now.view.now) (environment env.now) made.old.place.items R in
-        IfErr result (IsStoppedAt o made.new.place.items) }
+    requires { Fits at.now made.old }
+    ensures { let R = tree.Let name.now.text (meant_term term.now) (meant body.now) in
+        Follows (shape_at at.now) (outcome_at at.now env.now made.old.place.items R) made.old made.new result }
 {
-    let value = value(alloc, at.checked, at.view, env, term)?;
+    let value = value(alloc, &at.scene, env, term)?;
     let bound = Env::One {
         name,
         value,
@@ -214,20 +171,12 @@ fn form_all<'e, P: Picks>(
     rules: &'e [Rule],
     made: &mut Forming,
 ) -> Result<(), Stopped>
-    requires shaped { at.now.view.now.signature.now ≡ shape_of (spec_of at.now.checked.now.spec) }
-    requires counted { made.old.set.count ≡ count_of at.now.view.now.signature.now }
-    ensures count { made.new.set.count ≡ made.old.set.count }
-    ensures place { OnOk result (made.new.place.items ≡ made.old.place.items) }
-    ensures formed { let o = parts (all_run (program at.now.checked.now) at.now.turns (P.script at.now.choices.now.script.now) at.now.choices.now.step (plain.plain_rules (rules_of (map rule_of rules.now)))) 0 (shown at.now.view.now) (environment env.now) made.old.place.items in
-        OnOk result (Forms at.now.view.now.signature.now o made.old.set made.new.set made.old.instances made.new.instances) }
-    ensures exhausted { let o = parts (all_run (program at.now.checked.now) at.now.turns (P.script at.now.choices.now.script.now) at.now.choices.now.step (plain.plain_rules (rules_of (map rule_of rules.now)))) 0 (shown at.now.view.now) (environment env.now) made.old.place.items in
-        IfErr result (IsStoppedAt o made.new.place.items) }
+    requires { Fits at.now made.old }
+    ensures { Follows (shape_at at.now) (parts_at at.now env.now made.old.place.items rules.now) made.old made.new result }
 {
     for i in 0..rules.len() {
         form_part(alloc, at, env, &rules[i], i as u64, made)?;
     }
-    // Read, so that the proof knows its range.
-    let _instances = made.instances;
     Ok(())
 }
 
@@ -243,20 +192,11 @@ fn form_each<'e, P: Picks>(
     body: &'e Rule,
     made: &mut Forming,
 ) -> Result<(), Stopped>
-    requires shaped { at.now.view.now.signature.now ≡ shape_of (spec_of at.now.checked.now.spec) }
-    requires counted { made.old.set.count ≡ count_of at.now.view.now.signature.now }
-    ensures count { made.new.set.count ≡ made.old.set.count }
-    ensures place { OnOk result (made.new.place.items ≡ made.old.place.items) }
-    ensures formed { let R = tree.Forall name.now.text over.now.text (condition test.now) (plain.plain_rule (rule_of body.now)) in
-        let o = does (program at.now.checked.now) at.now.turns (P.script at.now.choices.now.script.now) at.now.choices.now.step (shown at.now.view.now) (environment env.now) made.old.place.items R in
-        OnOk result (Forms at.now.view.now.signature.now o made.old.set made.new.set made.old.instances made.new.instances) }
-    ensures exhausted { let R = tree.Forall name.now.text over.now.text (condition test.now) (plain.plain_rule (rule_of body.now)) in
-        let o = does (program at.now.checked.now) at.now.turns (P.script at.now.choices.now.script.now) at.now.choices.now.step (shown at.now.view.now) (environment env.now) made.old.place.items R in
-        IfErr result (IsStoppedAt o made.new.place.items) }
+    requires { Fits at.now made.old }
+    ensures { let R = tree.Forall name.now.text over.now.text (condition test.now) (meant body.now) in
+        Follows (shape_at at.now) (outcome_at at.now env.now made.old.place.items R) made.old made.new result }
 {
-    // Read, so that the proof knows its range.
-    let _instances = made.instances;
-    let Some(universe) = universe_of(at.checked, over) else {
+    let Some(universe) = universe_of(at.scene.checked, over) else {
         return Ok(());
     };
     for i in 0..universe.size() {
@@ -286,16 +226,9 @@ fn form_choose<'e, P: Picks>(
     none: &'e Option<Box<Rule>>,
     made: &mut Forming,
 ) -> Result<(), Stopped>
-    requires shaped { at.now.view.now.signature.now ≡ shape_of (spec_of at.now.checked.now.spec) }
-    requires counted { made.old.set.count ≡ count_of at.now.view.now.signature.now }
-    ensures count { made.new.set.count ≡ made.old.set.count }
-    ensures place { OnOk result (made.new.place.items ≡ made.old.place.items) }
-    ensures formed { let R = tree.Choose name.now.text over.now.text (condition test.now) (plain.plain_rule (rule_of body.now)) (plain.plain_branch (branch none.now)) in
-        let o = does (program at.now.checked.now) at.now.turns (P.script at.now.choices.now.script.now) at.now.choices.now.step (shown at.now.view.now) (environment env.now) made.old.place.items R in
-        OnOk result (Forms at.now.view.now.signature.now o made.old.set made.new.set made.old.instances made.new.instances) }
-    ensures exhausted { let R = tree.Choose name.now.text over.now.text (condition test.now) (plain.plain_rule (rule_of body.now)) (plain.plain_branch (branch none.now)) in
-        let o = does (program at.now.checked.now) at.now.turns (P.script at.now.choices.now.script.now) at.now.choices.now.step (shown at.now.view.now) (environment env.now) made.old.place.items R in
-        IfErr result (IsStoppedAt o made.new.place.items) }
+    requires { Fits at.now made.old }
+    ensures { let R = tree.Choose name.now.text over.now.text (condition test.now) (meant body.now) (meant_branch none.now) in
+        Follows (shape_at at.now) (outcome_at at.now env.now made.old.place.items R) made.old made.new result }
 {
     match chosen(alloc, at, env, name, over, test, made.place.as_slice())? {
         Some(value) => {
@@ -320,20 +253,13 @@ fn form_call<'e, P: Picks>(
     arguments: &'e [Term],
     made: &mut Forming,
 ) -> Result<(), Stopped>
-    requires shaped { at.now.view.now.signature.now ≡ shape_of (spec_of at.now.checked.now.spec) }
-    requires counted { made.old.set.count ≡ count_of at.now.view.now.signature.now }
-    ensures count { made.new.set.count ≡ made.old.set.count }
-    ensures place { OnOk result (made.new.place.items ≡ made.old.place.items) }
-    ensures formed { let R = tree.Call name.now.text (plain.plain_terms (terms_of (map term_of arguments.now))) in
-        let o = does (program at.now.checked.now) at.now.turns (P.script at.now.choices.now.script.now) at.now.choices.now.step (shown at.now.view.now) (environment env.now) made.old.place.items R in
-        OnOk result (Forms at.now.view.now.signature.now o made.old.set made.new.set made.old.instances made.new.instances) }
-    ensures exhausted { let R = tree.Call name.now.text (plain.plain_terms (terms_of (map term_of arguments.now))) in
-        let o = does (program at.now.checked.now) at.now.turns (P.script at.now.choices.now.script.now) at.now.choices.now.step (shown at.now.view.now) (environment env.now) made.old.place.items R in
-        IfErr result (IsStoppedAt o made.new.place.items) }
+    requires { Fits at.now made.old }
+    ensures { let R = tree.Call name.now.text (meant_terms arguments.now) in
+        Follows (shape_at at.now) (outcome_at at.now env.now made.old.place.items R) made.old made.new result }
 {
-    match at.checked.named(&name.text) {
+    match at.scene.checked.named(&name.text) {
         Some(Named::Called(r)) => {
-            let (names, body) = at.checked.rule(r);
+            let (names, body) = at.scene.checked.rule(r);
             let bound = Env::Terms {
                 names,
                 terms: &*arguments,
@@ -341,11 +267,7 @@ fn form_call<'e, P: Picks>(
             };
             form_part(alloc, at, &bound, body, 0, made)
         }
-        _ => {
-            // Read, so that the proof knows its range.
-            let _instances = made.instances;
-            Ok(())
-        }
+        _ => Ok(()),
     }
 }
 
@@ -358,21 +280,15 @@ fn form_in_order<'e, P: Picks>(
     rules: &'e [Rule],
     made: &mut Forming,
 ) -> Result<(), Stopped>
-    requires shaped { at.now.view.now.signature.now ≡ shape_of (spec_of at.now.checked.now.spec) }
-    requires counted { made.old.set.count ≡ count_of at.now.view.now.signature.now }
-    ensures count { made.new.set.count ≡ made.old.set.count }
-    ensures place { OnOk result (made.new.place.items ≡ made.old.place.items) }
-    ensures formed { let o = in_order (all_run (program at.now.checked.now) at.now.turns (P.script at.now.choices.now.script.now) at.now.choices.now.step (plain.plain_rules (rules_of (map rule_of rules.now)))) 0 (shown at.now.view.now) (environment env.now) made.old.place.items in
-        OnOk result (Forms at.now.view.now.signature.now o made.old.set made.new.set made.old.instances made.new.instances) }
-    ensures exhausted { let o = in_order (all_run (program at.now.checked.now) at.now.turns (P.script at.now.choices.now.script.now) at.now.choices.now.step (plain.plain_rules (rules_of (map rule_of rules.now)))) 0 (shown at.now.view.now) (environment env.now) made.old.place.items in
-        IfErr result (IsStoppedAt o made.new.place.items) }
+    requires { Fits at.now made.old }
+    ensures { Follows (shape_at at.now) (in_order_at at.now env.now made.old.place.items rules.now) made.old made.new result }
 {
-    let nothing = Summary::new(alloc, at.view.signature.count());
+    let nothing = Summary::new(alloc, at.scene.view.signature.count());
     let before = mem::replace(&mut made.set, nothing);
-    let mut so_far = Summary::new(alloc, at.view.signature.count());
+    let mut so_far = Summary::new(alloc, at.scene.view.signature.count());
     for i in 0..rules.len() {
         form_next(alloc, at, env, &rules[i], i as u64, &mut so_far, made)?;
-        if made.set.first_fault(at.view.signature).is_some() {
+        if made.set.first_fault(at.scene.view.signature).is_some() {
             return put_back(before, &so_far, made);
         }
     }
@@ -388,23 +304,16 @@ fn form_turns<'e, P: Picks>(
     body: &'e Rule,
     made: &mut Forming,
 ) -> Result<(), Stopped>
-    requires shaped { at.now.view.now.signature.now ≡ shape_of (spec_of at.now.checked.now.spec) }
-    requires counted { made.old.set.count ≡ count_of at.now.view.now.signature.now }
-    ensures count { made.new.set.count ≡ made.old.set.count }
-    ensures place { OnOk result (made.new.place.items ≡ made.old.place.items) }
-    ensures formed { let R = tree.Iterate (plain.plain_rule (rule_of body.now)) in
-        let o = does (program at.now.checked.now) at.now.turns (P.script at.now.choices.now.script.now) at.now.choices.now.step (shown at.now.view.now) (environment env.now) made.old.place.items R in
-        OnOk result (Forms at.now.view.now.signature.now o made.old.set made.new.set made.old.instances made.new.instances) }
-    ensures exhausted { let R = tree.Iterate (plain.plain_rule (rule_of body.now)) in
-        let o = does (program at.now.checked.now) at.now.turns (P.script at.now.choices.now.script.now) at.now.choices.now.step (shown at.now.view.now) (environment env.now) made.old.place.items R in
-        IfErr result (IsStoppedAt o made.new.place.items) }
+    requires { Fits at.now made.old }
+    ensures { let R = tree.Iterate (meant body.now) in
+        Follows (shape_at at.now) (outcome_at at.now env.now made.old.place.items R) made.old made.new result }
 {
-    let nothing = Summary::new(alloc, at.view.signature.count());
+    let nothing = Summary::new(alloc, at.scene.view.signature.count());
     let before = mem::replace(&mut made.set, nothing);
-    let mut so_far = Summary::new(alloc, at.view.signature.count());
+    let mut so_far = Summary::new(alloc, at.scene.view.signature.count());
     for turn in 0..at.turns {
         form_next(alloc, at, env, body, u64::from(turn), &mut so_far, made)?;
-        if made.set.is_empty() || made.set.first_fault(at.view.signature).is_some() {
+        if made.set.is_empty() || made.set.first_fault(at.scene.view.signature).is_some() {
             return put_back(before, &so_far, made);
         }
     }
@@ -423,25 +332,18 @@ fn form_next<'e, P: Picks>(
     so_far: &mut Summary,
     made: &mut Forming,
 ) -> Result<(), Stopped>
-    requires shaped { at.now.view.now.signature.now ≡ shape_of (spec_of at.now.checked.now.spec) }
-    requires counted { made.old.set.count ≡ count_of at.now.view.now.signature.now }
-    requires so_far { so_far.old.count ≡ count_of at.now.view.now.signature.now }
-    ensures count { made.new.set.count ≡ made.old.set.count }
-    ensures so_far { OnOk result (so_far.new.count ≡ so_far.old.count) }
-    ensures place { OnOk result (made.new.place.items ≡ made.old.place.items) }
-    ensures formed { (U : UpdateSet) → Stands at.now.view.now.signature.now so_far.old U → IsConsistent U →
-        let o = does (program at.now.checked.now) at.now.turns (P.script at.now.choices.now.script.now) at.now.choices.now.step (fire (shown at.now.view.now) U) (environment env.now) (yields.at made.old.place.items number) (plain.plain_rule (rule_of rule.now)) in
-        OnOk result (GoesOn at.now.view.now.signature.now o U so_far.new made.new.set made.old.instances made.new.instances) }
-    ensures exhausted { (U : UpdateSet) → Stands at.now.view.now.signature.now so_far.old U → IsConsistent U →
-        let o = does (program at.now.checked.now) at.now.turns (P.script at.now.choices.now.script.now) at.now.choices.now.step (fire (shown at.now.view.now) U) (environment env.now) (yields.at made.old.place.items number) (plain.plain_rule (rule_of rule.now)) in
-        IfErr result (IsStoppedAt o made.new.place.items) }
+    requires fits { Fits at.now made.old }
+    requires so_far { so_far.old.count ≡ count_of (shape_at at.now) }
+    ensures { FollowsUpon (shape_at at.now) (λ U. outcome_upon at.now U env.now (yields.at made.old.place.items number) (meant rule.now)) so_far.old so_far.new made.old made.new result }
 {
     made.set.clear();
-    let nothing = Summary::new(alloc, at.view.signature.count());
-    let view = View::upon(at.view, mem::replace(so_far, nothing));
+    let nothing = Summary::new(alloc, at.scene.view.signature.count());
+    let view = View::upon(at.scene.view, mem::replace(so_far, nothing));
     let inner = Evaluation {
-        checked: at.checked,
-        view: &view,
+        scene: Scene {
+            checked: at.scene.checked,
+            view: &view,
+        },
         choices: at.choices,
         turns: at.turns,
     };
@@ -475,24 +377,15 @@ fn assign<'e, P: Picks>(
     new: &'e Term,
     made: &mut Forming,
 ) -> Result<(), Stopped>
-    requires shaped { at.now.view.now.signature.now ≡ shape_of (spec_of at.now.checked.now.spec) }
-    requires counted { made.old.set.count ≡ count_of at.now.view.now.signature.now }
-    ensures count { made.new.set.count ≡ made.old.set.count }
-    ensures place { OnOk result (made.new.place.items ≡ made.old.place.items) }
-    ensures formed { let R = tree.Assign name.now.text (plain.plain_terms (terms_of (map term_of arguments.now))) (plain.plain_term (term_of new.now)) in
-        let o = does (program at.now.checked.now) at.now.turns (P.script at.now.choices.now.script.now) at.now.choices.now.step (shown at.now.view.now) (environment env.now) made.old.place.items R in
-        OnOk result (Forms at.now.view.now.signature.now o made.old.set made.new.set made.old.instances made.new.instances) }
-    ensures exhausted { let R = tree.Assign name.now.text (plain.plain_terms (terms_of (map term_of arguments.now))) (plain.plain_term (term_of new.now)) in
-        let o = does (program at.now.checked.now) at.now.turns (P.script at.now.choices.now.script.now) at.now.choices.now.step (shown at.now.view.now) (environment env.now) made.old.place.items R in
-        IfErr result (IsStoppedAt o made.new.place.items) }
+    requires { Fits at.now made.old }
+    ensures { let R = tree.Assign name.now.text (meant_terms arguments.now) (meant_term new.now) in
+        Follows (shape_at at.now) (outcome_at at.now env.now made.old.place.items R) made.old made.new result }
 {
-    // Read, so that the proof knows its range.
-    let _instances = made.instances;
-    let Some(f) = target(at.checked, at.view, name) else {
+    let Some(f) = target(&at.scene, name) else {
         return Ok(());
     };
-    let new = value(alloc, at.checked, at.view, env, new)?;
-    let n = location_number(alloc, at.checked, at.view, env, f, arguments)?;
+    let new = value(alloc, &at.scene, env, new)?;
+    let n = location_number(alloc, &at.scene, env, f, arguments)?;
     made.set.add(n, new, new)?;
     Ok(())
 }

@@ -4,6 +4,8 @@ ghost use Rattle.asm_eval.specs.Scripts.{UnrepeatedScript};
 ghost use Rattle.asm_eval.specs.Cases.{ScriptedByCases};
 ghost use Rattle.asm_eval.specs.TermCases.{ValuedByCases};
 ghost use Rattle.asm_eval.specs.Declarations.{ProgramDeclares};
+ghost use Rattle.asm_eval.specs.InitialLaws.{InitialLaws};
+ghost use Rattle.asm_eval.specs.ExhaustedLaws.{ExhaustedLaws};
 ghost use Rattle.asm_eval.specs.Run.{ScriptedRuns, FreeRuns};
 ghost use Rattle.asm_eval.specs.SpecificationLaw.{SpecificationsAreRanked, SpecificationRunsAreFree, SpecificationRunsHaveScripts};
 ghost use Rattle.asm_eval.specs.Splits.{BesideLaws, SplitLaws};
@@ -39,6 +41,17 @@ pub fn program_declares()
     ensures { ProgramDeclares }
 {}
 
+/// A function without `initially` begins with nothing, one with a constant with that constant everywhere, and one with entries with
+/// their values.
+pub fn initial_laws()
+    ensures { InitialLaws }
+{}
+
+/// Parts beside each other are exhausted where one of them is, at the least of their places, which is that of the first of them.
+pub fn exhausted_laws()
+    ensures { ExhaustedLaws }
+{}
+
 /// Outcomes of parts beside each other may be grouped and ordered as one likes.
 pub fn beside_laws()
     ensures { BesideLaws }
@@ -69,7 +82,8 @@ pub fn free_runs()
     ensures { FreeRuns }
 {}
 
-/// A specification without faults has all that the law of choice asks of a program and of its rules.
+/// A specification without faults has all that the law of choice asks of a program and of its rules, and all that the value of a term
+/// by cases asks of its derived functions.
 pub fn specifications_are_ranked()
     ensures { SpecificationsAreRanked }
 {}

@@ -18,7 +18,7 @@ pub mod view;
 pub mod whole;
 
 pub use env::Env;
-pub use evaluation::{Choices, Evaluation};
+pub use evaluation::{Choices, Evaluation, Scene};
 pub use outcome::{Forming, Outcome};
 pub use place::Place;
 pub use stopped::Stopped;

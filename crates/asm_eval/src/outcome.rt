@@ -1,4 +1,6 @@
 //! What comes of evaluating a rule.
+ghost use Rattle.std.specs.Prelude.{◌<◌, ◌^◌};
+
 use crate::place::Place;
 use asm_updates::summary::Summary;
 
@@ -19,4 +21,5 @@ pub struct Forming {
     pub instances: u64,
     /// The place of the rule that is evaluated: its numbers come and go here, so that no place is built anew.
     pub place: Vec<u64>,
+    pub ghost in_range: { instances < 2 ^ 64 },
 }

@@ -4,18 +4,18 @@ ghost use Rattle.asm_syntax.specs.Unplaced as plain;
 ghost use Rattle.asm_syntax.specs.Tree as tree;
 ghost use Rattle.asm_syntax.specs.Views.{spec_of, term_of};
 ghost use Rattle.asm_check.specs.NumberTables.{IsInRange};
-ghost use Rattle.asm_check.specs.Shapes.{shape_of};
 ghost use Rattle.asm_eval.specs.Declarations.{numbered};
 ghost use Rattle.asm_eval.specs.Environments.{environment};
+ghost use Rattle.asm_eval.specs.Scenes.{scene_value, scene_named};
 ghost use Rattle.asm_eval.specs.Program.{bound_to};
-ghost use Rattle.asm_eval.specs.Valued.{program, shown, term_value, named_value, declared_value};
+ghost use Rattle.asm_eval.specs.Valued.{program, shown, declared_value};
 ghost use Rattle.asm_eval.specs.Value as spec;
 
 use crate::env::{Binding, Env};
+use crate::evaluation::Scene;
 use crate::find::find;
 use crate::held::{function_value, is_true, literal_value, universe_of};
-use crate::view::View;
-use asm_check::{Checked, Named};
+use asm_check::Named;
 use asm_state::element::Element;
 use asm_state::operation::{Op, apply};
 use asm_state::value::Value;
@@ -35,13 +35,11 @@ pub(crate) const FEW: usize = 4;
 #[cycle(value)]
 pub fn value<'e>(
     alloc: Global,
-    checked: &Checked,
-    view: &View,
+    scene: &Scene,
     env: &'e Env<'e>,
     term: &'e Term,
 ) -> Result<Value, AllocError>
-    requires { view.now.signature.now ≡ shape_of (spec_of checked.now.spec) }
-    ensures { IfOk result (λ v. v ≡ spec.value (program checked.now) (shown view.now) (environment env.now) (plain.plain_term (term_of term.now))) }
+    ensures { IfOk result (λ v. v ≡ scene_value scene.now env.now term.now) }
 {
     // Answers of others are taken out and put in again, so that no form of term writes its own to memory first: it would be read back
     // before it is there, and the processor would wait.
@@ -49,32 +47,29 @@ pub fn value<'e>(
         Term::Constant(literal) => Ok(literal_value(*literal)),
         Term::Named { name, arguments } => Ok(named(
             alloc,
-            checked,
-            view,
+            scene,
             env,
             name,
             arguments.as_slice(),
         )?),
         Term::Chain { first, rest } => {
-            let mut total = operand(alloc, checked, view, env, first)?;
+            let mut total = operand(alloc, scene, env, first)?;
             for (operation, right) in rest.as_slice() {
-                let right = operand(alloc, checked, view, env, right)?;
+                let right = operand(alloc, scene, env, right)?;
                 total = apply(*operation, total, right);
             }
             Ok(total)
         }
         Term::Not(inner) => {
-            let inner = operand(alloc, checked, view, env, inner)?;
+            let inner = operand(alloc, scene, env, inner)?;
             Ok(apply(Op::Not, inner, Value::Undef))
         }
         Term::Negative(inner) => {
-            let inner = operand(alloc, checked, view, env, inner)?;
+            let inner = operand(alloc, scene, env, inner)?;
             Ok(apply(Op::Negate, inner, Value::Undef))
         }
-        Term::Exists { name, over, test } => Ok(exists(
-            alloc, checked, view, env, name, over, test,
-        )?),
-        Term::Every { name, over, test } => Ok(every(alloc, checked, view, env, name, over, test)?),
+        Term::Exists { name, over, test } => Ok(exists(alloc, scene, env, name, over, test)?),
+        Term::Every { name, over, test } => Ok(every(alloc, scene, env, name, over, test)?),
     }
 }
 
@@ -83,25 +78,16 @@ pub fn value<'e>(
 #[inline(always)]
 fn operand<'e>(
     alloc: Global,
-    checked: &Checked,
-    view: &View,
+    scene: &Scene,
     env: &'e Env<'e>,
     term: &'e Term,
 ) -> Result<Value, AllocError>
-    requires { view.now.signature.now ≡ shape_of (spec_of checked.now.spec) }
-    ensures { IfOk result (λ v. v ≡ term_value checked.now view.now (environment env.now) term.now) }
+    ensures { IfOk result (λ v. v ≡ scene_value scene.now env.now term.now) }
 {
     match term {
         Term::Constant(literal) => Ok(literal_value(*literal)),
-        Term::Named { name, arguments } => named(
-            alloc,
-            checked,
-            view,
-            env,
-            name,
-            arguments.as_slice(),
-        ),
-        _ => value(alloc, checked, view, env, term),
+        Term::Named { name, arguments } => named(alloc, scene, env, name, arguments.as_slice()),
+        _ => value(alloc, scene, env, term),
     }
 }
 
@@ -110,25 +96,23 @@ fn operand<'e>(
 #[inline(never)]
 fn named<'e>(
     alloc: Global,
-    checked: &Checked,
-    view: &View,
+    scene: &Scene,
     env: &'e Env<'e>,
     name: &'e Name,
     arguments: &'e [Term],
 ) -> Result<Value, AllocError>
-    requires { view.now.signature.now ≡ shape_of (spec_of checked.now.spec) }
-    ensures { IfOk result (λ v. v ≡ named_value checked.now view.now (environment env.now) name.now.text arguments.now) }
+    ensures { IfOk result (λ v. v ≡ scene_named scene.now env.now name.now.text arguments.now) }
 {
     match find(env, name) {
         Binding::Known(value) => Ok(value),
-        Binding::ByName(term, caller) => operand(alloc, checked, view, caller, term),
+        Binding::ByName(term, caller) => operand(alloc, scene, caller, term),
         Binding::Unbound => {
             if arguments.is_empty() {
-                value_of(alloc, checked, view, checked.named(&name.text), &[])
+                value_of(alloc, scene, scene.checked.named(&name.text), &[])
             } else if arguments.len() <= FEW {
-                of_few(alloc, checked, view, env, name, arguments)
+                of_few(alloc, scene, env, name, arguments)
             } else {
-                of_many(alloc, checked, view, env, name, arguments)
+                of_many(alloc, scene, env, name, arguments)
             }
         }
     }
@@ -139,26 +123,23 @@ fn named<'e>(
 #[inline(never)]
 fn of_few<'e>(
     alloc: Global,
-    checked: &Checked,
-    view: &View,
+    scene: &Scene,
     env: &'e Env<'e>,
     name: &'e Name,
     arguments: &'e [Term],
 ) -> Result<Value, AllocError>
-    requires shaped { view.now.signature.now ≡ shape_of (spec_of checked.now.spec) }
     requires unbound { bound_to (environment env.now) name.now.text ≡ None }
     requires few { length arguments.now ≤ 4 }
-    ensures { IfOk result (λ v. v ≡ named_value checked.now view.now (environment env.now) name.now.text arguments.now) }
+    ensures { IfOk result (λ v. v ≡ scene_named scene.now env.now name.now.text arguments.now) }
 {
     let mut values = [Value::Undef; FEW];
     for i in 0..arguments.len() {
-        values[i] = operand(alloc, checked, view, env, &arguments[i])?;
+        values[i] = operand(alloc, scene, env, &arguments[i])?;
     }
     value_of(
         alloc,
-        checked,
-        view,
-        checked.named(&name.text),
+        scene,
+        scene.checked.named(&name.text),
         &values[..arguments.len()],
     )
 }
@@ -168,25 +149,22 @@ fn of_few<'e>(
 #[inline(never)]
 fn of_many<'e>(
     alloc: Global,
-    checked: &Checked,
-    view: &View,
+    scene: &Scene,
     env: &'e Env<'e>,
     name: &'e Name,
     arguments: &'e [Term],
 ) -> Result<Value, AllocError>
-    requires shaped { view.now.signature.now ≡ shape_of (spec_of checked.now.spec) }
-    requires unbound { bound_to (environment env.now) name.now.text ≡ None }
-    ensures { IfOk result (λ v. v ≡ named_value checked.now view.now (environment env.now) name.now.text arguments.now) }
+    requires { bound_to (environment env.now) name.now.text ≡ None }
+    ensures { IfOk result (λ v. v ≡ scene_named scene.now env.now name.now.text arguments.now) }
 {
     let mut values = Vec::with_capacity(alloc, arguments.len())?;
     for argument in arguments {
-        values.push(operand(alloc, checked, view, env, argument)?)?;
+        values.push(operand(alloc, scene, env, argument)?)?;
     }
     value_of(
         alloc,
-        checked,
-        view,
-        checked.named(&name.text),
+        scene,
+        scene.checked.named(&name.text),
         values.as_slice(),
     )
 }
@@ -196,21 +174,19 @@ fn of_many<'e>(
 #[inline(never)]
 fn value_of(
     alloc: Global,
-    checked: &Checked,
-    view: &View,
+    scene: &Scene,
     it: Option<Named>,
     values: &[Value],
 ) -> Result<Value, AllocError>
-    requires shaped { view.now.signature.now ≡ shape_of (spec_of checked.now.spec) }
-    requires in_range { IsInRange (spec_of checked.now.spec) it }
-    ensures { IfOk result (λ v. v ≡ declared_value (program checked.now) (shown view.now) (numbered (spec_of checked.now.spec) it) values.now) }
+    requires { IsInRange (spec_of scene.now.checked.now.spec) it }
+    ensures { IfOk result (λ v. v ≡ declared_value (program scene.now.checked.now) (shown scene.now.view.now) (numbered (spec_of scene.now.checked.now.spec) it) values.now) }
 {
     match it {
-        Some(Named::Function(f)) => Ok(function_value(view, f, values)),
+        Some(Named::Function(f)) => Ok(function_value(scene.view, f, values)),
         Some(Named::Element(e)) => Ok(Value::Element(Element { index: e as u32 })),
         Some(Named::Derived(d)) => {
-            let (names, body) = checked.derived(d);
-            value(alloc, checked, view, &Env::Values { names, values }, body)
+            let (names, body) = scene.checked.derived(d);
+            value(alloc, scene, &Env::Values { names, values }, body)
         }
         Some(Named::Universe(_) | Named::Called(_)) | None => Ok(Value::Undef),
     }
@@ -221,18 +197,16 @@ fn value_of(
 #[inline(never)]
 fn exists<'e>(
     alloc: Global,
-    checked: &Checked,
-    view: &View,
+    scene: &Scene,
     env: &'e Env<'e>,
     name: &'e Name,
     over: &Name,
     test: &'e Term,
 ) -> Result<Value, AllocError>
-    requires { view.now.signature.now ≡ shape_of (spec_of checked.now.spec) }
     ensures { let t = tree.Exists name.now.text over.now.text (plain.plain_term (term_of test.now)) in
-        IfOk result (λ v. v ≡ spec.value (program checked.now) (shown view.now) (environment env.now) t) }
+        IfOk result (λ v. v ≡ spec.value (program scene.now.checked.now) (shown scene.now.view.now) (environment env.now) t) }
 {
-    let Some(universe) = universe_of(checked, over) else {
+    let Some(universe) = universe_of(scene.checked, over) else {
         return Ok(Value::Truth(false));
     };
     for i in 0..universe.size() {
@@ -241,7 +215,7 @@ fn exists<'e>(
             value: universe.element(i),
             outer: env,
         };
-        let tested = value(alloc, checked, view, &bound, test)?;
+        let tested = value(alloc, scene, &bound, test)?;
         if is_true(tested) {
             return Ok(Value::Truth(true));
         }
@@ -254,18 +228,16 @@ fn exists<'e>(
 #[inline(never)]
 fn every<'e>(
     alloc: Global,
-    checked: &Checked,
-    view: &View,
+    scene: &Scene,
     env: &'e Env<'e>,
     name: &'e Name,
     over: &Name,
     test: &'e Term,
 ) -> Result<Value, AllocError>
-    requires { view.now.signature.now ≡ shape_of (spec_of checked.now.spec) }
     ensures { let t = tree.Every name.now.text over.now.text (plain.plain_term (term_of test.now)) in
-        IfOk result (λ v. v ≡ spec.value (program checked.now) (shown view.now) (environment env.now) t) }
+        IfOk result (λ v. v ≡ spec.value (program scene.now.checked.now) (shown scene.now.view.now) (environment env.now) t) }
 {
-    let Some(universe) = universe_of(checked, over) else {
+    let Some(universe) = universe_of(scene.checked, over) else {
         return Ok(Value::Truth(true));
     };
     for i in 0..universe.size() {
@@ -274,7 +246,7 @@ fn every<'e>(
             value: universe.element(i),
             outer: env,
         };
-        let tested = value(alloc, checked, view, &bound, test)?;
+        let tested = value(alloc, scene, &bound, test)?;
         if !is_true(tested) {
             return Ok(Value::Truth(false));
         }

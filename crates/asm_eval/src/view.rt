@@ -1,14 +1,14 @@
 //! Views of states.
-ghost use Rattle.std.specs.Prelude.{◌≡◌, ◌<◌, length, slice_index_or};
+ghost use Rattle.std.specs.Prelude.{◌≡◌, ◌<◌, IsTrue, length, slice_index_or};
 ghost use Rattle.asm_state.specs.declared.function.Kind.TheVariants.{Controlled};
 ghost use Rattle.asm_state.specs.declared.value.Value.TheVariants.{Undef};
-ghost use Rattle.asm_state.specs.Signature.{HasKind, count_of, domain_of, state_of};
+ghost use Rattle.asm_state.specs.Signature.{HasKind, IsSound, count_of, domain_of, location_at, state_of};
 ghost use Rattle.asm_state.specs.Tables.{location_in};
-ghost use Rattle.asm_state.specs.Updates.{UpdateSet, IsConsistent, overwritten, fire};
+ghost use Rattle.asm_state.specs.Updates.{UpdateSet, IsConsistent, is_proper, overwritten, fire};
 ghost use Rattle.asm_updates.specs.Entries.{entry};
 ghost use Rattle.asm_updates.specs.Stands.{Stands};
 ghost use Rattle.asm_eval.specs.declared.below.Below.TheVariants.{Nothing};
-ghost use Rattle.asm_eval.specs.Seen.{content_below, shown_over};
+ghost use Rattle.asm_eval.specs.Seen.{IsUpon, content_below, shown_over};
 ghost use Rattle.asm_eval.specs.Value.{read};
 
 use crate::below::Below;
@@ -27,6 +27,7 @@ pub struct View<'a> {
     pub over: Summary,
     ghost whole: { length state.now ≡ count_of signature.now },
     ghost counted: { over.count ≡ count_of signature.now },
+    ghost sound: { IsSound signature.now },
 }
 
 impl<'a> View<'a> {
@@ -39,7 +40,8 @@ impl<'a> View<'a> {
         ensures fired { (U : UpdateSet) → Stands signature.now over U → IsConsistent U →
             shown_over result.signature.now result.state.now result.below result.over ≡ fire (state_of signature.now state.now) U }
     {
-        // The call says that each entry is of a location below the count.
+        // The calls say that no universe has a value twice, and that each entry is of a location below the count.
+        let _count = signature.count();
         let _len = over.len();
         View {
             signature,
@@ -55,6 +57,7 @@ impl<'a> View<'a> {
         ensures parts { (result.signature.now ≡ lower.now.signature.now) × (result.state.now ≡ lower.now.state.now) × (result.over ≡ over) }
         ensures signature { result.signature.now ≡ lower.now.signature.now }
         ensures over { result.over ≡ over }
+        ensures below { IsUpon result.below lower.now.over lower.now.below }
         ensures fired { (U : UpdateSet) → Stands lower.now.signature.now over U → IsConsistent U →
             shown_over result.signature.now result.state.now result.below result.over
             ≡ fire (shown_over lower.now.signature.now lower.now.state.now lower.now.below lower.now.over) U }
@@ -74,6 +77,16 @@ impl<'a> View<'a> {
 
     /// What the view shows at the location with this number.
     pub fn content(&self, n: usize) -> Value
+        requires { n < count_of self.now.signature.now }
+        ensures kept { result ≡ overwritten (entry self.now.over n) (content_below self.now.below n (slice_index_or self.now.state.now n Undef)) }
+        ensures shown { let l = location_at self.now.signature.now n in
+            IsTrue (is_proper l) → result ≡ shown_over self.now.signature.now self.now.state.now self.now.below self.now.over l }
+    {
+        self.kept(n)
+    }
+
+    /// What the last of the sets that names this number has there, or else the state.
+    fn kept(&self, n: usize) -> Value
         requires { n < count_of self.now.signature.now }
         ensures { result ≡ overwritten (entry self.now.over n) (content_below self.now.below n (slice_index_or self.now.state.now n Undef)) }
     {

@@ -9,7 +9,7 @@ ghost use Rattle.asm_eval.specs.Valued.{program, shown};
 ghost use Rattle.asm_eval.specs.Formed.{IsFormed};
 
 use crate::env::Env;
-use crate::evaluation::{Choices, Evaluation};
+use crate::evaluation::{Choices, Evaluation, Scene};
 use crate::form::form;
 use crate::outcome::{Forming, Outcome};
 use crate::place::Place;
@@ -23,13 +23,13 @@ use std::alloc::{AllocError, Global};
 
 /// What the rule yields at this place, in the state that the view shows, under the environment and these choices, all of it on this
 /// thread.
-pub fn whole<'e, P: Picks>(
+pub fn whole<'a, 'e, P: Picks>(
     alloc: Global,
-    checked: &Checked,
-    view: &View,
+    checked: &'a Checked,
+    view: &'a View<'_>,
     env: &'e Env<'e>,
     rule: &'e Rule,
-    choices: &Choices<'_, P>,
+    choices: &'a Choices<'a, P>,
     place: &[u64],
     turns: u32,
 ) -> Result<Outcome, AllocError>
@@ -43,8 +43,7 @@ pub fn whole<'e, P: Picks>(
         place: place.to_vec(alloc)?,
     };
     let at = Evaluation {
-        checked,
-        view,
+        scene: Scene { checked, view },
         choices,
         turns,
     };

@@ -11,7 +11,7 @@ ghost use Rattle.asm_run.specs.Step.{AreSized, IsFired, IsStopped, main_outcome}
 use crate::trace::push_step;
 use asm_check::Checked;
 use asm_eval::form::form;
-use asm_eval::{Choices, Env, Evaluation, Forming, Stopped, View};
+use asm_eval::{Choices, Env, Evaluation, Forming, Scene, Stopped, View};
 use asm_reader::Picks;
 use asm_state::state::State;
 use asm_syntax::rule::Rule;
@@ -20,11 +20,11 @@ use asm_updates::summary::Summary;
 use std::alloc::{AllocError, Global};
 
 /// Forms what the main rule yields, in place of what was formed before.
-fn form_main<P: Picks>(
+fn form_main<'a, P: Picks>(
     alloc: Global,
-    checked: &Checked,
+    checked: &'a Checked,
     main: &Rule,
-    choices: &Choices<'_, P>,
+    choices: &'a Choices<'a, P>,
     turns: u32,
     state: &State,
     made: &mut Forming,
@@ -45,8 +45,10 @@ fn form_main<P: Picks>(
     let view = View::new(signature, state, nothing);
     let env = Env::new();
     let at = Evaluation {
-        checked,
-        view: &view,
+        scene: Scene {
+            checked,
+            view: &view,
+        },
         choices,
         turns,
     };

@@ -1,13 +1,13 @@
-use Rattle.std.proofs.Common.{◌≡◌, ℕ, ◌≤◌, ◌-◌, map, drop}
+use Rattle.std.proofs.Common.{◌≡◌, ◌-◌, drop}
+use Rattle.std.specs.Prelude.{Result}
 use Rattle.asm_state.specs.Signature.{count_of}
-use Rattle.asm_updates.specs.Entries.{Entries}
 use Rattle.asm_syntax.specs.Tree as tree
-use Rattle.asm_syntax.specs.Unplaced.{plain_term, plain_terms, plain_rule, plain_rules, plain_branch}
-use Rattle.asm_syntax.specs.Views.{term_of, terms_of, rule_of, rules_of}
+use Rattle.asm_eval.specs.declared.outcome.Forming.{Forming}
+use Rattle.asm_eval.specs.declared.stopped.Stopped.{Stopped}
 use Rattle.asm_eval.specs.Environments.{environment}
-use Rattle.asm_eval.specs.Formed.{Forms, greatest_count}
-use Rattle.asm_eval.specs.Valued.{shown, branch, condition}
-use Rattle.asm_eval.specs.Yields.{Place, Exhausted}
+use Rattle.asm_eval.specs.Evaluated.{setting, shape_at, state_at, meant, meant_rules, meant_branch, meant_term, meant_terms}
+use Rattle.asm_eval.specs.Formed.{Follows}
+use Rattle.asm_eval.specs.Valued.{condition}
 use Rattle.asm_eval.proofs.FormedRules.{left_to_form, rules_do, each_does, rules_do_in_order, turns_do}
 use Rattle.asm_eval.proofs.Sequences.{IsUnderway}
 use Rattle.asm_eval.proofs.form.+form.Given as goal
@@ -15,76 +15,61 @@ use Rattle.asm_eval.proofs.form.+form.Given as goal
 -- ---- that it ends: each goes by the rule that it forms
 
 abbrev pub decreases-form : goal.decreases-form
-decreases-form g l = left_to_form l.at.now.checked.now 1 (plain_rule (rule_of l.rule.now))
+decreases-form g l = left_to_form l.at.now.scene.checked.now 1 (meant l.rule.now)
 
 abbrev pub decreases-form_part : goal.decreases-form_part
-decreases-form_part g l = left_to_form l.at.now.checked.now 2 (plain_rule (rule_of l.rule.now))
+decreases-form_part g l = left_to_form l.at.now.scene.checked.now 2 (meant l.rule.now)
 
 abbrev pub decreases-form_other : goal.decreases-form_other
-decreases-form_other g l = left_to_form l.at.now.checked.now 3 (plain_branch (branch l.rule.now))
+decreases-form_other g l = left_to_form l.at.now.scene.checked.now 3 (meant_branch l.rule.now)
 
 abbrev pub decreases-form_if : goal.decreases-form_if
-decreases-form_if g l = left_to_form l.at.now.checked.now 0 (tree.If (plain_term (term_of l.test.now)) (plain_rule (rule_of l.yes.now)) (plain_branch (branch l.no.now)))
+decreases-form_if g l = left_to_form l.at.now.scene.checked.now 0 (tree.If (meant_term l.test.now) (meant l.yes.now) (meant_branch l.no.now))
 
 abbrev pub decreases-form_let : goal.decreases-form_let
-decreases-form_let g l = left_to_form l.at.now.checked.now 0 (tree.Let l.name.now.text (plain_term (term_of l.term.now)) (plain_rule (rule_of l.body.now)))
+decreases-form_let g l = left_to_form l.at.now.scene.checked.now 0 (tree.Let l.name.now.text (meant_term l.term.now) (meant l.body.now))
 
 abbrev pub decreases-form_all : goal.decreases-form_all
-decreases-form_all g l = left_to_form l.at.now.checked.now 0 (tree.Par (plain_rules (rules_of (map rule_of l.rules.now))))
+decreases-form_all g l = left_to_form l.at.now.scene.checked.now 0 (tree.Par (meant_rules l.rules.now))
 
 abbrev pub decreases-form_each : goal.decreases-form_each
-decreases-form_each g l = left_to_form l.at.now.checked.now 0 (tree.Forall l.name.now.text l.over.now.text (condition l.test.now) (plain_rule (rule_of l.body.now)))
+decreases-form_each g l = left_to_form l.at.now.scene.checked.now 0 (tree.Forall l.name.now.text l.over.now.text (condition l.test.now) (meant l.body.now))
 
 abbrev pub decreases-form_choose : goal.decreases-form_choose
-decreases-form_choose g l = left_to_form l.at.now.checked.now 0 (tree.Choose l.name.now.text l.over.now.text (condition l.test.now) (plain_rule (rule_of l.body.now)) (plain_branch (branch l.none.now)))
+decreases-form_choose g l = left_to_form l.at.now.scene.checked.now 0 (tree.Choose l.name.now.text l.over.now.text (condition l.test.now) (meant l.body.now) (meant_branch l.none.now))
 
 abbrev pub decreases-form_call : goal.decreases-form_call
-decreases-form_call g l = left_to_form l.at.now.checked.now 0 (tree.Call l.name.now.text (plain_terms (terms_of (map term_of l.arguments.now))))
+decreases-form_call g l = left_to_form l.at.now.scene.checked.now 0 (tree.Call l.name.now.text (meant_terms l.arguments.now))
 
 abbrev pub decreases-form_in_order : goal.decreases-form_in_order
-decreases-form_in_order g l = left_to_form l.at.now.checked.now 0 (tree.Seq (plain_rules (rules_of (map rule_of l.rules.now))))
+decreases-form_in_order g l = left_to_form l.at.now.scene.checked.now 0 (tree.Seq (meant_rules l.rules.now))
 
 abbrev pub decreases-form_turns : goal.decreases-form_turns
-decreases-form_turns g l = left_to_form l.at.now.checked.now 0 (tree.Iterate (plain_rule (rule_of l.body.now)))
+decreases-form_turns g l = left_to_form l.at.now.scene.checked.now 0 (tree.Iterate (meant l.body.now))
 
 abbrev pub decreases-form_next : goal.decreases-form_next
-decreases-form_next g l = left_to_form l.at.now.checked.now 3 (plain_rule (rule_of l.rule.now))
+decreases-form_next g l = left_to_form l.at.now.scene.checked.now 3 (meant l.rule.now)
 
 -- ---- the loops
 
--- whatever forms the rules that are left forms all of them, from the start on
+-- whatever follows what the rules do that are left follows what all of them do, from the start on
 abbrev pub invariant-form_all-loop-i : goal.invariant-form_all-loop-i
 invariant-form_all-loop-i g l = record {
   same_count : l.made.set.count ≡ l.initial.made.set.count;
   same_place : l.made.place.items ≡ l.initial.made.place.items;
-  formed : (new : Entries) (after : ℕ)
-      → Forms l.at.view.now.signature.now (rules_do l.at.checked.now l.at.view.now l.at.turns (g.P.Picks.script l.at.choices.now.script.now) l.at.choices.now.step (environment l.env)
-      l.initial.made.place.items l.i (drop l.i l.rules)) l.made.set new l.made.instances after
-      → Forms l.at.view.now.signature.now (rules_do l.at.checked.now l.at.view.now l.at.turns (g.P.Picks.script l.at.choices.now.script.now) l.at.choices.now.step (environment l.env)
-      l.initial.made.place.items 0 l.rules) l.initial.made.set new l.initial.made.instances after;
-  exhausted : (q : Place)
-      → (rules_do l.at.checked.now l.at.view.now l.at.turns (g.P.Picks.script l.at.choices.now.script.now) l.at.choices.now.step (environment l.env)
-      l.initial.made.place.items l.i (drop l.i l.rules)).result ≡ Exhausted q
-      → (rules_do l.at.checked.now l.at.view.now l.at.turns (g.P.Picks.script l.at.choices.now.script.now) l.at.choices.now.step (environment l.env)
-      l.initial.made.place.items 0 l.rules).result ≡ Exhausted q;
+  follows : (new : Forming) (r : Result (Unit {0}) Stopped)
+      → Follows (shape_at l.at) (rules_do l.at (environment l.env) l.initial.made.place.items l.i (drop l.i l.rules)) l.made new r
+      → Follows (shape_at l.at) (rules_do l.at (environment l.env) l.initial.made.place.items 0 l.rules) l.initial.made new r;
 }
 
 -- the same of the elements
 abbrev pub invariant-form_each-loop-i : goal.invariant-form_each-loop-i
 invariant-form_each-loop-i g l = record {
-  bounded : l.made.instances ≤ greatest_count;
   same_count : l.made.set.count ≡ l.initial.made.set.count;
   same_place : l.made.place.items ≡ l.initial.made.place.items;
-  formed : (new : Entries) (after : ℕ)
-      → Forms l.at.view.now.signature.now (each_does l.at.checked.now l.at.view.now l.at.turns (g.P.Picks.script l.at.choices.now.script.now) l.at.choices.now.step (environment l.env)
-      l.initial.made.place.items l.name.text l.test l.body l.i (drop l.i l.universe)) l.made.set new l.made.instances after
-      → Forms l.at.view.now.signature.now (each_does l.at.checked.now l.at.view.now l.at.turns (g.P.Picks.script l.at.choices.now.script.now) l.at.choices.now.step (environment l.env)
-      l.initial.made.place.items l.name.text l.test l.body 0 l.universe) l.initial.made.set new l.initial.made.instances after;
-  exhausted : (q : Place)
-      → (each_does l.at.checked.now l.at.view.now l.at.turns (g.P.Picks.script l.at.choices.now.script.now) l.at.choices.now.step (environment l.env)
-      l.initial.made.place.items l.name.text l.test l.body l.i (drop l.i l.universe)).result ≡ Exhausted q
-      → (each_does l.at.checked.now l.at.view.now l.at.turns (g.P.Picks.script l.at.choices.now.script.now) l.at.choices.now.step (environment l.env)
-      l.initial.made.place.items l.name.text l.test l.body 0 l.universe).result ≡ Exhausted q;
+  follows : (new : Forming) (r : Result (Unit {0}) Stopped)
+      → Follows (shape_at l.at) (each_does l.at (environment l.env) l.initial.made.place.items l.name.text l.test l.body l.i (drop l.i l.universe)) l.made new r
+      → Follows (shape_at l.at) (each_does l.at (environment l.env) l.initial.made.place.items l.name.text l.test l.body 0 l.universe) l.initial.made new r;
 }
 
 -- the sets of the parts so far, and what is left of the parts
@@ -93,10 +78,10 @@ invariant-form_in_order-loop-i g l = record {
   same_count : l.made.set.count ≡ l.initial.made.set.count;
   same_place : l.made.place.items ≡ l.initial.made.place.items;
   same_before : l.before ≡ l.initial.before;
-  counted : l.so_far.count ≡ count_of l.at.view.now.signature.now;
-  underway : IsUnderway l.at.view.now.signature.now (shown l.at.view.now)
-      (rules_do_in_order l.at.checked.now l.at.turns (g.P.Picks.script l.at.choices.now.script.now) l.at.choices.now.step (environment l.env) l.initial.made.place.items 0 l.rules (shown l.at.view.now))
-      (rules_do_in_order l.at.checked.now l.at.turns (g.P.Picks.script l.at.choices.now.script.now) l.at.choices.now.step (environment l.env) l.initial.made.place.items l.i (drop l.i l.rules))
+  counted : l.so_far.count ≡ count_of (shape_at l.at);
+  underway : IsUnderway (shape_at l.at) (state_at l.at)
+      (rules_do_in_order (setting l.at) (environment l.env) l.initial.made.place.items 0 l.rules (state_at l.at))
+      (rules_do_in_order (setting l.at) (environment l.env) l.initial.made.place.items l.i (drop l.i l.rules))
       l.so_far l.initial.made.instances l.made.instances;
 }
 
@@ -106,9 +91,9 @@ invariant-form_turns-loop-turn g l = record {
   same_count : l.made.set.count ≡ l.initial.made.set.count;
   same_place : l.made.place.items ≡ l.initial.made.place.items;
   same_before : l.before ≡ l.initial.before;
-  counted : l.so_far.count ≡ count_of l.at.view.now.signature.now;
-  underway : IsUnderway l.at.view.now.signature.now (shown l.at.view.now)
-      (turns_do l.at.checked.now l.at.turns (g.P.Picks.script l.at.choices.now.script.now) l.at.choices.now.step (environment l.env) l.initial.made.place.items l.at.turns 0 l.body (shown l.at.view.now))
-      (turns_do l.at.checked.now l.at.turns (g.P.Picks.script l.at.choices.now.script.now) l.at.choices.now.step (environment l.env) l.initial.made.place.items (l.at.turns - l.turn) l.turn l.body)
+  counted : l.so_far.count ≡ count_of (shape_at l.at);
+  underway : IsUnderway (shape_at l.at) (state_at l.at)
+      (turns_do (setting l.at) (environment l.env) l.initial.made.place.items l.at.turns 0 l.body (state_at l.at))
+      (turns_do (setting l.at) (environment l.env) l.initial.made.place.items (l.at.turns - l.turn) l.turn l.body)
       l.so_far l.initial.made.instances l.made.instances;
 }

@@ -1,0 +1,233 @@
+-- Examples of the values of terms, of what rules yield and of runs, each worked out by hand from the definition in words.
+use Rattle.std.proofs.Common.{◌≡◌, ◌≢◌, ℕ, true, false, cond, not, ◌||◌, List, [], ◌∷◌, ℤ, pos, Some, None, codes, refl, sym, ap, subst, ◌∙◌}
+use Rattle.std.specs.Prelude.{nat_eq}
+use Rattle.asm_state.specs.declared.value.Value.{Value}
+use Rattle.asm_state.specs.declared.value.Value.TheVariants.{Undef, Truth}
+use Rattle.asm_state.specs.declared.operation.Op.TheVariants.{Add, Multiply, Divide, Greater, Equal}
+use Rattle.asm_state.specs.declared.function.Table.TheVariants.{Entries}
+use Rattle.asm_state.specs.Location.{Location, Proper, Stray, State}
+use Rattle.asm_state.specs.Operation.{number_or_undef}
+use Rattle.asm_state.specs.Updates.{UpdateSet, Has, IsConsistent, is_consistent, is_none, none, one, together, merge, fire}
+use Rattle.asm_state.proofs.Members.{member_laws}
+use Rattle.asm_state.proofs.Summaries.{fire_laws}
+use Rattle.asm_state.proofs.Updates.{test_laws}
+use Rattle.asm_syntax.specs.Tree.{Name, Term, Constant, Named, Chain, Exists, Every, Terms, no_terms, term_then, Links, no_links, link_then, Rule, Skip, Assign, Call, Par, Seq, If, Let, Forall, Choose, Iterate, Rules, no_rules, rule_then}
+use Rattle.asm_reader.specs.ScriptLines.{Script}
+use Rattle.asm_eval.specs.Program.{Program, Universe, Controlled, Static, Derived, Procedure, nothing_bound, with_value}
+use Rattle.asm_eval.specs.Value.{value, values, reading, reading_within, readings_of}
+use Rattle.asm_eval.specs.Yields.{Place, Result, Gives, Exhausted, beside}
+use Rattle.asm_eval.specs.Does.{Outcome, nothing, following, meaning, does_within, does}
+use Rattle.asm_eval.specs.Run.{AtLimit, run}
+
+abbrev number : ℤ → Value
+number = number_or_undef
+
+abbrev three : List Value
+three = number (pos 0) ∷ number (pos 1) ∷ number (pos 2) ∷ []
+
+abbrev constant : ℤ → Term
+constant n = Constant (number n)
+
+abbrev name : Name → Term
+name x = Named x no_terms
+
+abbrev of_one : Term → Terms
+of_one t = term_then t no_terms
+
+abbrev greater : Term → Term → Term
+greater s t = Chain s (link_then Greater t no_links)
+
+abbrev two_rules : Rule → Rule → Rules
+two_rules P Q = rule_then P (rule_then Q no_rules)
+
+-- a universe of three numbers, controlled functions f over it, x and y, a static g over it, a derived function, and two rules
+abbrev sample : Program
+sample =
+    (codes "Idx", Universe three)
+    ∷ (codes "f", Controlled 0 (three ∷ []))
+    ∷ (codes "x", Controlled 1 [])
+    ∷ (codes "y", Controlled 2 [])
+    ∷ (codes "g", Static (three ∷ []) (Entries ((number (pos 0) ∷ [], number (pos 7)) ∷ (number (pos 1) ∷ [], number (pos 3)) ∷ [])))
+    ∷ (codes "twice", Derived (codes "n" ∷ []) (Chain (name (codes "n")) (link_then Multiply (constant (pos 2)) no_links)))
+    ∷ (codes "fill", Procedure (codes "p" ∷ []) (Forall (codes "i") (codes "Idx") None (Assign (codes "f") (of_one (name (codes "i"))) (name (codes "p")))))
+    ∷ (codes "next", Procedure (codes "p" ∷ []) (Seq (two_rules
+        (Assign (codes "x") no_terms (Chain (name (codes "p")) (link_then Add (constant (pos 1)) no_links)))
+        (Assign (codes "y") no_terms (name (codes "p"))))))
+    ∷ []
+
+-- x is 1 and y is 2
+abbrev start : State
+start (Proper f vs) = cond (nat_eq f 1) (number (pos 1)) (cond (nat_eq f 2) (number (pos 2)) Undef)
+start (Stray f) = Undef
+
+abbrev at_x : Location
+at_x = Proper 1 []
+
+abbrev at_y : Location
+at_y = Proper 2 []
+
+abbrev valued : Term → Value
+valued t = value sample start nothing_bound t
+
+abbrev done : Script → Place → Rule → Outcome
+done script p R = does sample 1 script 1 start nothing_bound p R
+
+abbrev giving : UpdateSet → ℕ → Outcome
+giving U n = record { result = Gives U; instances = n }
+
+-- ---- terms
+
+of_a_location : valued (name (codes "x")) ≡ number (pos 1)
+unfolding value values reading reading_within readings_of number_or_undef
+of_a_location = refl
+
+outside_the_domain : valued (Named (codes "f") (of_one (constant (pos 9)))) ≡ Undef
+unfolding value values reading reading_within readings_of number_or_undef
+outside_the_domain = refl
+
+of_a_table : valued (Named (codes "g") (of_one (name (codes "x")))) ≡ number (pos 3)
+unfolding value values reading reading_within readings_of number_or_undef
+of_a_table = refl
+
+without_an_entry : valued (Named (codes "g") (of_one (name (codes "y")))) ≡ Undef
+unfolding value values reading reading_within readings_of number_or_undef
+without_an_entry = refl
+
+of_a_derived_function : valued (Named (codes "twice") (of_one (name (codes "y")))) ≡ number (pos 4)
+unfolding value values reading reading_within readings_of number_or_undef
+of_a_derived_function = refl
+
+undef_is_undef : valued (Chain (Constant Undef) (link_then Equal (Chain (constant (pos 1)) (link_then Divide (constant (pos 0)) no_links)) no_links)) ≡ Truth true
+unfolding value values reading reading_within readings_of number_or_undef
+undef_is_undef = refl
+
+some_is_greater : valued (Exists (codes "i") (codes "Idx") (greater (name (codes "i")) (name (codes "x")))) ≡ Truth true
+unfolding value values reading reading_within readings_of number_or_undef
+some_is_greater = refl
+
+-- where a test is undef, it isn't true
+each_is_undef : valued (Every (codes "i") (codes "Idx") (greater (name (codes "i")) (Constant Undef))) ≡ Truth false
+unfolding value values reading reading_within readings_of number_or_undef
+each_is_undef = refl
+
+the_binder_hides_the_function : value sample start (with_value (codes "x") (number (pos 5)) nothing_bound) (name (codes "x")) ≡ number (pos 5)
+unfolding value values reading reading_within readings_of number_or_undef
+the_binder_hides_the_function = refl
+
+-- ---- rules without an order
+
+an_update_outside : done [] [] (Assign (codes "f") (of_one (constant (pos 9))) (constant (pos 1))) ≡ giving (one (Stray 0) (number (pos 1))) 0
+unfolding does does_within meaning value values reading reading_within readings_of number_or_undef
+an_update_outside = refl
+
+exchanged : done [] [] (Par (two_rules (Assign (codes "x") no_terms (name (codes "y"))) (Assign (codes "y") no_terms (name (codes "x")))))
+    ≡ giving (together (one at_x (number (pos 2))) (together (one at_y (number (pos 1))) none)) 0
+unfolding does does_within meaning value values reading reading_within readings_of number_or_undef
+exchanged = refl
+
+for_no_element : done [] [] (Forall (codes "i") (codes "Idx") (Some (greater (name (codes "i")) (constant (pos 5)))) (Assign (codes "x") no_terms (name (codes "i")))) ≡ giving none 0
+unfolding does does_within meaning value values reading reading_within readings_of number_or_undef
+for_no_element = refl
+
+-- the parameter is the caller's i, and not the one that is bound around it
+for_each_element : done [] [] (Let (codes "i") (constant (pos 5)) (Call (codes "fill") (of_one (name (codes "i")))))
+    ≡ giving (together (one (Proper 0 (number (pos 0) ∷ [])) (number (pos 5)))
+    (together (one (Proper 0 (number (pos 1) ∷ [])) (number (pos 5))) (together (one (Proper 0 (number (pos 2) ∷ [])) (number (pos 5))) none))) 3
+unfolding does does_within meaning value values reading reading_within readings_of number_or_undef
+for_each_element = refl
+
+-- ---- choices: candidate 4 of three is the one with number 1
+
+abbrev one_line : Place → Script
+one_line p = record { step = 1; place = p; choice = 4 } ∷ []
+
+abbrev some_number : Rule
+some_number = Choose (codes "k") (codes "Idx") None (Assign (codes "x") no_terms (name (codes "k"))) Skip
+
+the_first_candidate : done [] [] some_number ≡ giving (one at_x (number (pos 0))) 0
+unfolding does does_within meaning value values reading reading_within readings_of number_or_undef
+the_first_candidate = refl
+
+the_line_of_a_part : done (one_line (0 ∷ 1 ∷ [])) (0 ∷ []) (Par (two_rules Skip some_number)) ≡ giving (together none (together (one at_x (number (pos 1))) none)) 0
+unfolding does does_within meaning value values reading reading_within readings_of number_or_undef
+the_line_of_a_part = refl
+
+-- an undef condition doesn't hold
+the_line_of_a_branch : done (one_line (1 ∷ [])) [] (If (Constant Undef) Skip some_number) ≡ giving (one at_x (number (pos 1))) 0
+unfolding does does_within meaning value values reading reading_within readings_of number_or_undef
+the_line_of_a_branch = refl
+
+without_candidates : done [] [] (Choose (codes "i") (codes "Idx") (Some (greater (name (codes "i")) (constant (pos 5)))) Skip (Assign (codes "y") no_terms (Constant Undef))) ≡ giving (one at_y Undef) 0
+unfolding does does_within meaning value values reading reading_within readings_of number_or_undef
+without_candidates = refl
+
+-- ---- one after the other
+
+one_is_consistent : (f : ℕ) (vs : List Value) (v : Value) → IsConsistent (one (Proper f vs) v)
+one_is_consistent f vs v = record {
+  one_value = λ l w u first second.
+      ((member_laws.of_one (Proper f vs) l v w).0 first).1 ∙ sym ((member_laws.of_one (Proper f vs) l v u).0 second).1;
+  no_stray = λ g w has. (let same : Stray g ≡ Proper f vs = ((member_laws.of_one (Proper f vs) (Stray g) v w).0 has).0 in cc);
+}
+
+passes : (f : ℕ) (vs : List Value) (v : Value) → is_consistent (one (Proper f vs) v) ≡ true
+passes f vs v = (test_laws.consistency (one (Proper f vs) v)).1 (one_is_consistent f vs v)
+
+-- a part with a good set, and what comes after it
+good_part : (f : ℕ) (vs : List Value) (v : Value) (n : ℕ) (rest : Outcome)
+    → cond (is_consistent (one (Proper f vs) v)) (following (one (Proper f vs) v) n rest) (giving (one (Proper f vs) v) n) ≡ following (one (Proper f vs) v) n rest
+good_part f vs v n rest = ap (λ b. cond b (following (one (Proper f vs) v) n rest) (giving (one (Proper f vs) v) n)) (passes f vs v)
+
+the_later_part : done [] [] (Seq (two_rules (Assign (codes "x") no_terms (constant (pos 1))) (Assign (codes "x") no_terms (constant (pos 2)))))
+    ≡ giving (merge (one at_x (number (pos 1))) (merge (one at_x (number (pos 2))) none)) 0
+unfolding does does_within meaning value values reading reading_within readings_of number_or_undef
+the_later_part =
+    good_part 1 [] (number (pos 1)) 0
+    (cond (is_consistent (one at_x (number (pos 2)))) (following (one at_x (number (pos 2))) 0 nothing) (giving (one at_x (number (pos 2))) 0))
+    ∙ ap (following (one at_x (number (pos 1))) 0) (good_part 1 [] (number (pos 2)) 0 nothing)
+
+-- the parameter stands for the term x, whose value is another one after the first part
+called_by_name : done [] [] (Call (codes "next") (of_one (name (codes "x")))) ≡ giving (merge (one at_x (number (pos 2))) (merge (one at_y (number (pos 2))) none)) 0
+unfolding does does_within meaning value values reading reading_within readings_of number_or_undef
+called_by_name =
+    let v : Value = fire start (one at_x (number (pos 2))) at_x in
+    good_part 1 [] (number (pos 2)) 0 (cond (is_consistent (one at_y v)) (following (one at_y v) 0 nothing) (giving (one at_y v) 0))
+    ∙ ap (following (one at_x (number (pos 2))) 0) (good_part 2 [] v 0 nothing)
+    ∙ ap (λ w. following (one at_x (number (pos 2))) 0 (following (one at_y w) 0 nothing))
+    (fire_laws.named start (one at_x (number (pos 2))) at_x (number (pos 2)) (one_is_consistent 1 [] (number (pos 2)))
+    ((member_laws.of_one at_x at_x (number (pos 2)) (number (pos 2))).1 (refl, refl)))
+
+-- ---- turns: with a limit of one, the turn that has a set is the last one
+
+has_one : is_none (one at_x (number (pos 1))) ≡ false
+has_one =
+    elim (is_none (one at_x (number (pos 1)))) as (λ b. is_none (one at_x (number (pos 1))) ≡ b → b ≡ false) [
+      | true ↦ λ e.
+          let has : Has (one at_x (number (pos 1))) at_x (number (pos 1)) = (member_laws.of_one at_x at_x (number (pos 1)) (number (pos 1))).1 (refl, refl) in
+          absurd (member_laws.of_none at_x (number (pos 1)) (subst (λ U. Has U at_x (number (pos 1))) ((test_laws.emptiness (one at_x (number (pos 1)))).0 e) has))
+      | false ↦ λ e. refl
+    ] refl
+
+abbrev repeated : Rule
+repeated = Iterate (Assign (codes "x") no_terms (name (codes "x")))
+
+exhausted_at_its_place : (p : Place) → (done [] p repeated).result ≡ Exhausted p
+unfolding does does_within meaning value values reading reading_within readings_of number_or_undef
+exhausted_at_its_place p =
+    let U : UpdateSet = one at_x (number (pos 1)) in
+    (λ i. (cond (has_one i || not (passes 1 [] (number (pos 1)) i)) (giving U 0) (following U 0 (record { result = Exhausted p; instances = 0 }))).result)
+
+-- the least of two places: lists are compared from their first numbers on
+the_least_place : beside (Exhausted (2 ∷ [])) (Exhausted (0 ∷ 7 ∷ [])) ≡ Exhausted (0 ∷ 7 ∷ [])
+the_least_place = refl
+
+before_the_longer : beside (Exhausted (1 ∷ 0 ∷ [])) (Exhausted (1 ∷ [])) ≡ Exhausted (1 ∷ [])
+before_the_longer = refl
+
+outranks_a_clash : (U : UpdateSet) → beside (Gives U) (Exhausted (1 ∷ [])) ≡ Exhausted (1 ∷ [])
+outranks_a_clash U = refl
+
+-- ---- runs
+
+no_step : run (record { program = sample; initial = start; main = repeated }) 1 [] 0 ≡ record { steps = []; end = AtLimit; last = start }
+no_step = refl

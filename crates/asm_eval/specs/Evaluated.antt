@@ -1,0 +1,68 @@
+-- What an evaluation of the code stands for.
+--     setting at                         its setting;  shape_at, state_at     the shape of its state, and the state
+--     outcome_at at e p R                what R yields in its state, under an environment of the code and at the place p
+--     outcome_upon                       the same in the state in which a set has been fired
+--     parts_at, in_order_at              what rules of the code yield, beside each other and one after the other
+--     meant R                            the rule that a rule of the code stands for;  meant_term, meant_terms, meant_branch     the same of its parts
+--     Fits at made                       the set that is being formed has the locations of the state
+use Rattle.std.specs.Prelude.{◌≡◌, List, map, Option}
+use Rattle.std.proofs.Common.{Box, Global}
+use Rattle.asm_state.specs.Location.{State}
+use Rattle.asm_state.specs.Signature.{Shape, count_of}
+use Rattle.asm_state.specs.Updates.{UpdateSet, fire}
+use Rattle.asm_syntax.specs.Tree as tree
+use Rattle.asm_syntax.specs.Unplaced.{plain_term, plain_terms, plain_rule, plain_rules, plain_branch}
+use Rattle.asm_syntax.specs.Views.{term_of, terms_of, rule_of, rules_of}
+use Rattle.asm_syntax.specs.declared.rule.Rule.{Rule}
+use Rattle.asm_syntax.specs.declared.term.Term.{Term}
+use Rattle.asm_reader.specs.declared.picks.Picks.{Ghosts}
+use Rattle.asm_eval.specs.Cases.{all_run}
+use Rattle.asm_eval.specs.Does.{Outcome, parts, in_order}
+use Rattle.asm_eval.specs.Environments.{environment}
+use Rattle.asm_eval.specs.Setting.{Setting, outcome}
+use Rattle.asm_eval.specs.Valued.{program, shown, branch}
+use Rattle.asm_eval.specs.Yields.{Place}
+use Rattle.asm_eval.specs.declared.env.Env.{Env}
+use Rattle.asm_eval.specs.declared.evaluation.Evaluation.{Evaluation}
+use Rattle.asm_eval.specs.declared.outcome.Forming.{Forming}
+
+abbrev pub meant : Rule → tree.Rule
+meant R = plain_rule (rule_of R)
+
+abbrev pub meant_rules : List Rule → tree.Rules
+meant_rules Rs = plain_rules (rules_of (map rule_of Rs))
+
+abbrev pub meant_branch : Option (Box Rule Global) → tree.Rule
+meant_branch Q = plain_branch (branch Q)
+
+abbrev pub meant_term : Term → tree.Term
+meant_term t = plain_term (term_of t)
+
+abbrev pub meant_terms : List Term → tree.Terms
+meant_terms ts = plain_terms (terms_of (map term_of ts))
+
+-- the script is the one by which a `P` answers
+module _ {P : Type 0} {picks : Ghosts P} (at : Evaluation P picks) where
+  abbrev pub setting : Setting
+  setting = record { program = program at.scene.checked.now; turns = at.turns; script = picks.script at.choices.now.script.now; step = at.choices.now.step }
+
+  abbrev pub shape_at : Shape
+  shape_at = at.scene.view.now.signature.now
+
+  abbrev pub state_at : State
+  state_at = shown at.scene.view.now
+
+  abbrev pub Fits : Forming → Type 0
+  Fits made = made.set.count ≡ count_of shape_at
+
+  abbrev pub outcome_at : Env → Place → tree.Rule → Outcome
+  outcome_at e p R = outcome setting state_at (environment e) p R
+
+  abbrev pub outcome_upon : UpdateSet → Env → Place → tree.Rule → Outcome
+  outcome_upon U e p R = outcome setting (fire state_at U) (environment e) p R
+
+  abbrev pub parts_at : Env → Place → List Rule → Outcome
+  parts_at e p Rs = parts (all_run setting.program setting.turns setting.script setting.step (meant_rules Rs)) 0 state_at (environment e) p
+
+  abbrev pub in_order_at : Env → Place → List Rule → Outcome
+  in_order_at e p Rs = in_order (all_run setting.program setting.turns setting.script setting.step (meant_rules Rs)) 0 state_at (environment e) p
