@@ -13,3 +13,4 @@ pub mod OneKind
 pub mod Stops
 pub mod OneAnswer
 pub mod TokenPlaces
+pub mod EachText
