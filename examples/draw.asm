@@ -1,8 +1,9 @@
 CoreASM Draw
 init Draw
 
-// Three players draw a card at once, twice, each of a suit that they don't hold. Which suit is open, and the script says it:
-// a line of it has a step, the place of a choice in this step, and the number of a candidate. Without a line it is the first one.
+// Three players draw a card at once, twice, each of a suit that they don't hold. The script
+// says which: a line has a step, the place of a choice in this step, and the number of a candidate.
+// Without a line it is the first one.
 
 enum Suit = { hearts, spades, clubs }
 universe Player = 1 .. 3

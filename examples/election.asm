@@ -1,12 +1,14 @@
 CoreASM Election
 init Elect
 
-// Leader election on a ring: each process looks at the one before it, and passes on the greatest number that it knows.
-// Who gets its own number back leads: it has been all round, past every other process. Two leaders would be a clash, and end the run.
+// Leader election on a ring: each process looks at the one before it, and passes on the greatest
+// number that it knows. Who gets its own number back leads: it has been all round, past every other
+// process. Two leaders would be a clash, and end the run.
 
 universe Process = 0 .. 5
 
-function static number : Process -> NUMBER initially { (0) -> 12, (1) -> 31, (2) -> 7, (3) -> 45, (4) -> 20, (5) -> 18 }
+function static number : Process -> NUMBER initially {
+  (0) -> 12, (1) -> 31, (2) -> 7, (3) -> 45, (4) -> 20, (5) -> 18 }
 function controlled greatest : Process -> NUMBER
 function controlled leader : -> Process
 

@@ -1,8 +1,9 @@
 CoreASM Lights
 init Turn
 
-// Two traffic lights at a crossing change places in one step, but only while at most one of them is green.
-// The derived functions have no locations: they are valued wherever they are used, and don't show in the trace.
+// Two traffic lights at a crossing change places in one step, but only while at most one of them is
+// green. The derived functions have no locations: they are valued wherever they are used, and don't
+// show in the trace.
 
 enum Colour = { red, green }
 universe Crossing = 1 .. 2

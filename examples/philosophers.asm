@@ -1,8 +1,9 @@
 CoreASM Philosophers
 init Dine
 
-// Five dining philosophers: each step moves one of those who can move, and the script chooses which.
-// Both forks are taken in one step, so nobody ever waits with one fork in hand, and somebody can always move.
+// Five dining philosophers: each step moves one of those who can move, and the script chooses
+// which. Both forks are taken in one step, so nobody ever waits with one fork in hand, and somebody
+// can always move.
 
 enum Activity = { thinking, hungry, eating }
 universe Philosopher = 0 .. 4
@@ -16,9 +17,12 @@ function controlled holder : Fork -> Philosopher
 derived left(philosopher) = philosopher
 derived right(philosopher) = (philosopher + 1) mod 5
 derived isFree(fork) = holder(fork) = undef
-derived canMove(philosopher) = activity(philosopher) != hungry or isFree(left(philosopher)) and isFree(right(philosopher))
+derived mayEat(philosopher) = isFree(left(philosopher)) and isFree(right(philosopher))
+derived canMove(philosopher) = activity(philosopher) != hungry or mayEat(philosopher)
 
-rule Dine = choose philosopher in Philosopher with canMove(philosopher) do Move(philosopher) endchoose
+rule Dine = choose philosopher in Philosopher with canMove(philosopher) do
+  Move(philosopher)
+endchoose
 
 rule Move(philosopher) = par
   if activity(philosopher) = thinking then activity(philosopher) := hungry endif

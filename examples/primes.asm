@@ -1,8 +1,9 @@
 CoreASM Primes
 init Sieve
 
-// The sieve of Eratosthenes: each step takes the next divisor, and crosses out all its multiples at once.
-// What is crossed out becomes undef and leaves the state, so the last state shows the primes up to 50.
+// The sieve of Eratosthenes: each step takes the next divisor, and crosses out all its multiples at
+// once. What is crossed out becomes undef and leaves the state, so the last state shows the primes
+// up to 50.
 
 universe Number = 2 .. 50
 
@@ -14,6 +15,8 @@ rule Sieve = if divisor * divisor <= 50 then par
   divisor := divisor + 1
 endpar endif
 
-rule CrossOutMultiples = forall number in Number with remains(number) and number > divisor and number mod divisor = 0 do
+rule CrossOutMultiples = forall number in Number with remains(number) and isMultiple(number) do
   remains(number) := undef
 endforall
+
+derived isMultiple(number) = number > divisor and number mod divisor = 0

@@ -1,8 +1,9 @@
 CoreASM Sort
 init Sort
 
-// A merge sort from the bottom up, in one step: however often its parts change a location on the way, the step has one update for it.
-// All pairs of runs are merged at once, and each merge goes on by itself, turn after turn.
+// A merge sort from the bottom up, in one step: however often its parts change a location on the
+// way, the step has one update for it. All pairs of runs are merged at once, and each merge goes on
+// by itself, turn after turn.
 
 enum Side = { left, right }
 universe Index = 0 .. 1023
@@ -11,7 +12,8 @@ function controlled number : Index
 function controlled merged : Index
 // How long the sorted runs are.
 function controlled width
-// For each pair of runs, named by the index at which it begins: the index of the next number of either run.
+// For each pair of runs, named by the index at which it begins: the index of the next number of
+// either run.
 function controlled next : Index * Side
 
 rule Sort = seq
@@ -40,7 +42,8 @@ rule Merge(start) = seq
   endseq enditerate
 endseq
 
-// Parameters are by name, so the condition is valued anew in each turn, in the state that the turns before have made.
+// Parameters are by name, so the condition is valued anew in each turn, in the state that the turns
+// before have made.
 rule MoveWhile(condition, start, side) = iterate if condition then par
   merged(next(start, left) + next(start, right) - width - start) := number(next(start, side))
   next(start, side) := next(start, side) + 1
@@ -49,5 +52,7 @@ endpar endif enditerate
 derived hasLeft(start) = next(start, left) < start + width
 derived hasRight(start) = next(start, right) < start + width * 2
 // These two are undef, and not false, where there is no number behind the last run.
-derived leftIsFirst(start) = hasLeft(start) and number(next(start, left)) <= number(next(start, right))
-derived rightIsFirst(start) = hasRight(start) and number(next(start, right)) < number(next(start, left))
+derived leftIsFirst(start) =
+  hasLeft(start) and number(next(start, left)) <= number(next(start, right))
+derived rightIsFirst(start) =
+  hasRight(start) and number(next(start, right)) < number(next(start, left))

@@ -1,8 +1,9 @@
 CoreASM Turing
 init Work
 
-// A Turing machine: the busy beaver with three states, which writes six ones on an empty tape and halts after 14 steps.
-// Its program is three static tables: what to write, where to move the head, and which state comes next.
+// A Turing machine: the busy beaver with three states, which writes six ones on an empty tape and
+// halts after 14 steps. Its program is three static tables: what to write, where to move the head,
+// and which state comes next.
 
 enum State = { A, B, C, halted }
 universe Symbol = 0 .. 1
