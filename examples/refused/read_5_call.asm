@@ -1,0 +1,4 @@
+CoreASM Rest
+init Main
+rule Main = Rest()
+rule Rest = skip
