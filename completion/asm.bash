@@ -1,0 +1,22 @@
+# Completion of the words of asm, for bash: source it, or let ./install put it where bash looks for it.
+_asm() {
+    local current="${COMP_WORDS[COMP_CWORD]}" before="${COMP_WORDS[COMP_CWORD - 1]}"
+    COMPREPLY=()
+    # A name with spaces stays one word.
+    local IFS=$'\n'
+    compopt -o filenames 2>/dev/null
+    case "$before" in
+        --script)
+            COMPREPLY=($(compgen -f -X '!*.script' -- "$current") $(compgen -d -- "$current"))
+            return
+            ;;
+        --steps | --turns | --workers | --cut | --rounds) return ;;
+    esac
+    case "$current" in
+        -*)
+            COMPREPLY=($(compgen -W $'--steps\n--script\n--turns\n--workers\n--cut\n--rounds\n--help' -- "$current"))
+            ;;
+        *) COMPREPLY=($(compgen -f -X '!*.asm' -- "$current") $(compgen -d -- "$current")) ;;
+    esac
+}
+complete -F _asm asm ./asm
