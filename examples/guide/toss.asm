@@ -1,4 +1,4 @@
-CoreASM Forgotten
+CoreASM Toss
 init Play
 enum Side = { heads, tails }
 function controlled rounds initially 2
