@@ -11,6 +11,7 @@ use Rattle.asm_state.specs.Value.{value_cmp}
 use Rattle.asm_state.specs.Location.{Location, Proper, Stray, location_cmp, location_cmp-total, location_cmp-antisymmetric}
 use Rattle.asm_state.specs.Updates.{Update, UpdateSet, update, Has, IsConsistent, is_at, Range, range_at, IsRange, IsRangeOf, IsSummary, IsFaulty, Fault, Clash, Outside, IsFirstFaulty, IsFirstFault}
 use Rattle.asm_state.specs.UpdateLaws.{Summary, IsSettled, FaultLaws}
+use Rattle.asm_state.proofs.Lists.{equal-from_neither}
 use Rattle.asm_state.proofs.Updates.{same_location, same_value, value_itself}
 use Rattle.asm_state.proofs.Ranges.{range_unique, range_at_is, Listed, listed_elsewhere}
 use Rattle.asm_state.proofs.Summaries.{one_value}
@@ -33,15 +34,10 @@ from_no_fault U free = record { one_value = one_value; no_stray = λ f v m. free
     one_value (Proper f vs) v w m n = same_unless_apart v w (λ apart. free (Proper f vs) (v, w, m, n, apart))
     one_value (Stray f) v w m n = absurd (free (Stray f) (v, m))
 
-equal_from : (r : Ordering) → is_gt r ≡ false → is_gt (ordering_reverse r) ≡ false → r ≡ Equal
-equal_from Less e f = absurd (false≢true (sym f))
-equal_from Equal e f = refl
-equal_from Greater e f = absurd (false≢true (sym e))
-
 one_first_faulty : (U : UpdateSet) (l m : Location) → IsFirstFaulty U l → IsFirstFaulty U m → l ≡ m
 one_first_faulty U l m h k =
     location_cmp-antisymmetric l m
-    (equal_from (location_cmp l m) (h.is_first m k.is_faulty) (ap is_gt (sym (location_cmp-total.antisymm m l)) ∙ k.is_first l h.is_faulty))
+    (equal-from_neither (location_cmp l m) (h.is_first m k.is_faulty) (ap is_gt (sym (location_cmp-total.antisymm m l)) ∙ k.is_first l h.is_faulty))
 
 one_range : (U : UpdateSet) (l m : Location) (r s : Range) → l ≡ m → IsRange (Has U l) r → IsRange (Has U m) s → Clash l r ≡ Clash m s
 one_range U l m r s e h k = λ i. Clash (e i) (unwrap (range_unique (Has U m) (Some r) (Some s) (subst (λ l. IsRange (Has U l) r) e h) k) i)

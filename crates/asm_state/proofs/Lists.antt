@@ -1,6 +1,10 @@
--- General lemmas on lists, which say nothing of this product: what a list contains, what holds of each element, and what
--- holds of each element and each later one. The crates above may cite them too.
-use Rattle.std.proofs.Common.{◌≡◌, zero, suc, List, [], ◌∷◌, ◌++◌, map, flat_map, get_or, All, AllPairs, Contains, ◌⊎◌, inl, inr, refl, sym, subst, arith}
+-- General lemmas on lists and orders, which say nothing of this product: what a list contains, what holds of each element,
+-- what holds of each element and each later one, and what tests of an order say. The crates above may cite them too.
+use Rattle.std.proofs.Common.{◌≡◌, zero, suc, true, false, List, [], ◌∷◌, ◌++◌, map, flat_map, get_or, All, AllPairs, Contains, ◌⊎◌, inl, inr, refl, sym, subst, arith}
+use Rattle.std.specs.Ordering.{is_lt, is_gt, ordering_reverse}
+use Rattle.std.specs.declared.cmp.Ordering.{Ordering}
+use Rattle.std.specs.declared.cmp.Ordering.TheVariants.{Less, Equal, Greater}
+use Rattle.std.proofs.lemmas.Bool.{false≢true}
 use Rattle.std.proofs.lemmas.List.Elements.{All-nil, All-cons, All-map, All-contains, Contains-append_left, Contains-append_right, Contains-append_cases}
 use Rattle.std.proofs.lemmas.List.Kept.{AllPairs-cons}
 
@@ -102,3 +106,21 @@ module _ {X Y : Type 0} (R : X → X → Type 0) (S : Y → Y → Type 0) where
       AllPairs-append S (f x) (flat_map f xs) (inner x) (AllPairs-flat_map f inner across xs (AllPairs-tail R x xs h))
       (λ a b here later. let found = Contains-from_flat_map f xs b later in
       across x found.0 a b (All-contains (R x) xs found.0 (AllPairs-head R x xs h) found.1) here found.2)
+
+-- ---- orders
+
+pub is_gt-reverse : (r : Ordering) → is_gt (ordering_reverse r) ≡ is_lt r
+is_gt-reverse Less = refl
+is_gt-reverse Equal = refl
+is_gt-reverse Greater = refl
+
+pub is_gt-from_lt : (r : Ordering) → is_lt r ≡ true → is_gt r ≡ false
+is_gt-from_lt Less e = refl
+is_gt-from_lt Equal e = refl
+is_gt-from_lt Greater e = absurd (false≢true e)
+
+-- two of which neither is above the other
+pub equal-from_neither : (r : Ordering) → is_gt r ≡ false → is_gt (ordering_reverse r) ≡ false → r ≡ Equal
+equal-from_neither Less e f = absurd (false≢true (sym f))
+equal-from_neither Equal e f = refl
+equal-from_neither Greater e f = absurd (false≢true (sym e))

@@ -1,10 +1,11 @@
 -- What the operations on update sets have in them.
 use Rattle.std.proofs.Common.{◌≡◌, Bool, true, false, not, ◌&&◌, ◌||◌, List, [], ◌∷◌, refl, sym, ap, ◌∙◌, arith, ◌⊎◌, inl, inr, ◌↔◌}
 use Rattle.std.specs.Bool.{Decides}
+use Rattle.std.specs.Cmp.{both_ways}
 use Rattle.std.specs.FinSet as set
 use Rattle.std.specs.List.{list_any}
 use Rattle.std.specs.Ordering.{eq_by_cmp, is_eq}
-use Rattle.std.proofs.lemmas.Bool.{false≢true}
+use Rattle.std.proofs.lemmas.Bool.{false≢true, and_parts, and_from, or_cases, or_left, or_right}
 use Rattle.std.proofs.lemmas.Bool.Decides.{not_from_Decides}
 use Rattle.asm_state.specs.declared.value.Value.{Value}
 use Rattle.asm_state.specs.Value.{value_cmp}
@@ -12,14 +13,10 @@ use Rattle.asm_state.specs.Location.{Location, location_cmp}
 use Rattle.asm_state.specs.Updates.{Update, UpdateSet, update, update_cmp, Has, Names, none, one, together, merge, is_at, is_named}
 use Rattle.asm_state.specs.UpdateLaws.{MemberLaws}
 use Rattle.asm_state.proofs.Updates.{update_cmp-total, update_cmp-antisymmetric, same_location, same_value, location_itself}
-use Rattle.asm_state.proofs.Ranges.{is_eq-then, Listed, listed_head, listed_elsewhere, or_first, or_second, and_left, and_right}
+use Rattle.asm_state.proofs.Ranges.{is_eq-then, Listed, listed_head, listed_elsewhere}
 
 pub has_none : (l : Location) (v : Value) → ¬ (Has none l v)
 has_none l v h = false≢true (sym (set.contains-empty update_cmp (update l v)) ∙ h)
-
-or_cases : (a b : Bool) → (a || b) ≡ true → (a ≡ true) ⊎ (b ≡ true)
-or_cases true b h = inl refl
-or_cases false b h = inr h
 
 same_parts : (l m : Location) (v w : Value) → eq_by_cmp update_cmp (update m w) (update l v) ≡ true ↔ (m ≡ l) × (w ≡ v)
 same_parts l m v w = (forth, back)
@@ -27,7 +24,8 @@ same_parts l m v w = (forth, back)
     forth : eq_by_cmp update_cmp (update m w) (update l v) ≡ true → (m ≡ l) × (w ≡ v)
     forth h =
         let k : (is_eq (location_cmp m l) && is_eq (value_cmp w v)) ≡ true = sym (is_eq-then (location_cmp m l) (value_cmp w v)) ∙ h in
-        (same_location m l (and_left (is_eq (location_cmp m l)) (is_eq (value_cmp w v)) k), same_value w v (and_right (is_eq (location_cmp m l)) (is_eq (value_cmp w v)) k))
+        let parts = and_parts (is_eq (location_cmp m l)) (is_eq (value_cmp w v)) k in
+        (same_location m l parts.0, same_value w v parts.1)
 
     back : (m ≡ l) × (w ≡ v) → eq_by_cmp update_cmp (update m w) (update l v) ≡ true
     back e = listed_head m (update l v) w (ap (λ k. is_eq (location_cmp m k)) (sym e.0) ∙ location_itself m) e.1
@@ -42,7 +40,7 @@ has_one l m v w = (forth, back)
     forth h = elim (or_cases _ _ (sym is ∙ h)) [ inl e ↦ (same_parts l m v w).0 e | inr e ↦ absurd (has_none m w e) ]
 
     back : (m ≡ l) × (w ≡ v) → Has (one l v) m w
-    back e = is ∙ or_first _ _ ((same_parts l m v w).1 e)
+    back e = is ∙ or_left _ _ ((same_parts l m v w).1 e)
 
 pub has_union : (U V : UpdateSet) (l : Location) (v : Value) → Has (together U V) l v ↔ Has U l v ⊎ Has V l v
 has_union U V l v = (forth, back)
@@ -54,16 +52,16 @@ has_union U V l v = (forth, back)
     forth h = or_cases _ _ (sym is ∙ h)
 
     back : Has U l v ⊎ Has V l v → Has (together U V) l v
-    back (inl h) = is ∙ or_first _ _ h
-    back (inr h) = is ∙ or_second _ _ h
+    back (inl h) = is ∙ or_left _ _ h
+    back (inr h) = is ∙ or_right _ _ h
 
 -- a location that some update of a list is of
 named_in_list : (l : Location) (us : List Update) → list_any (is_at l) us ≡ true → (v : Value) × Listed l us v
 named_in_list l [] h = absurd (false≢true h)
 named_in_list l (u ∷ us) h =
     elim (is_at l u) as (λ b. is_at l u ≡ b → (b || list_any (is_at l) us) ≡ true → (v : Value) × Listed l (u ∷ us) v) [
-      | true ↦ λ at _. (u.value, or_first _ _ (listed_head l u u.value at refl))
-      | false ↦ λ _ later. let rest = named_in_list l us later in (rest.0, or_second _ _ rest.1)
+      | true ↦ λ at _. (u.value, or_left _ _ (listed_head l u u.value at refl))
+      | false ↦ λ _ later. let rest = named_in_list l us later in (rest.0, or_right _ _ rest.1)
     ] refl h
 
 named_from : (l : Location) (us : List Update) (v : Value) → Listed l us v → list_any (is_at l) us ≡ true
@@ -103,19 +101,11 @@ has_merge U V l v = (forth, back)
         by_cases false e = refl
 
     forth : Has (merge U V) l v → (Has U l v × (¬ (Names V l))) ⊎ Has V l v
-    forth h = elim (or_cases _ _ (sym is ∙ h)) [ inl e ↦ inl (and_left (set.contains U (update l v)) (not (is_named V l)) e, not_named (and_right (set.contains U (update l v)) (not (is_named V l)) e)) | inr e ↦ inr e ]
-
-    both : (a b : Bool) → a ≡ true → b ≡ true → (a && b) ≡ true
-    both a b h k = grind arith
+    forth h = elim (or_cases _ _ (sym is ∙ h)) [ inl e ↦ (let parts = and_parts (set.contains U (update l v)) (not (is_named V l)) e in inl (parts.0, not_named parts.1)) | inr e ↦ inr e ]
 
     back : (Has U l v × (¬ (Names V l))) ⊎ Has V l v → Has (merge U V) l v
-    back (inl h) = is ∙ or_first _ _ (both _ _ h.0 (is_not_named h.1))
-    back (inr h) = is ∙ or_second _ _ h
-
-both_ways : (a b : Bool) → (a ≡ true → b ≡ true) → (b ≡ true → a ≡ true) → a ≡ b
-both_ways true b f g = sym (f refl)
-both_ways false true f g = g refl
-both_ways false false f g = refl
+    back (inl h) = is ∙ or_left _ _ (and_from _ _ h.0 (is_not_named h.1))
+    back (inr h) = is ∙ or_right _ _ h
 
 pub same_updates : (U V : UpdateSet) → ((l : Location) (v : Value) → Has U l v ↔ Has V l v) → U ≡ V
 same_updates U V same = set.same_set update_cmp-total update_cmp-antisymmetric U V (λ u. both_ways _ _ (same u.location u.value).0 (same u.location u.value).1)

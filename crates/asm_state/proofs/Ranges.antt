@@ -3,33 +3,24 @@ use Rattle.std.proofs.Common.{◌≡◌, Bool, true, false, cond, ◌&&◌, ◌|
 use Rattle.std.specs.Cmp.{tied_itself, upto}
 use Rattle.std.specs.FinSet as set
 use Rattle.std.specs.List.{filter, list_any}
-use Rattle.std.specs.Ordering.{ordering_then, ordering_reverse, eq_by_cmp, is_eq, is_lt, is_gt}
+use Rattle.std.specs.Ordering.{ordering_then, eq_by_cmp, is_eq, is_lt, is_gt}
 use Rattle.std.specs.declared.cmp.Ordering.{Ordering}
 use Rattle.std.specs.declared.cmp.Ordering.TheVariants.{Less, Equal, Greater}
-use Rattle.std.proofs.lemmas.Bool.{false≢true}
+use Rattle.std.proofs.lemmas.Bool.{false≢true, and_parts, or_left, or_right}
 use Rattle.asm_state.specs.declared.value.Value.{Value}
 use Rattle.asm_state.specs.Value.{value_cmp, value_cmp-total, value_cmp-antisymmetric}
 use Rattle.asm_state.specs.Location.{Location, location_cmp}
 use Rattle.asm_state.specs.Updates.{Update, UpdateSet, update, update_cmp, is_at, Range, lesser, greater, widen, range_of, range_at, IsAtMost, IsRange, IsRangeOf, IsSummary}
+use Rattle.asm_state.proofs.Lists.{is_gt-reverse, is_gt-from_lt, equal-from_neither}
 use Rattle.asm_state.proofs.Updates.{same_value, value_itself}
 
 -- ---- the order of values
 
-turned : (r : Ordering) → is_gt (ordering_reverse r) ≡ is_lt r
-turned Less = refl
-turned Equal = refl
-turned Greater = refl
-
-not_both : (r : Ordering) → is_lt r ≡ true → is_gt r ≡ false
-not_both Less e = refl
-not_both Equal e = refl
-not_both Greater e = absurd (false≢true e)
-
 at_most_from_lt : (v w : Value) → is_lt (value_cmp v w) ≡ true → IsAtMost v w
-at_most_from_lt v w e = not_both (value_cmp v w) e
+at_most_from_lt v w e = is_gt-from_lt (value_cmp v w) e
 
 at_most_from_not_lt : (v w : Value) → is_lt (value_cmp w v) ≡ false → IsAtMost v w
-at_most_from_not_lt v w e = ap is_gt (value_cmp-total.antisymm v w) ∙ turned (value_cmp w v) ∙ e
+at_most_from_not_lt v w e = ap is_gt (value_cmp-total.antisymm v w) ∙ is_gt-reverse (value_cmp w v) ∙ e
 
 pub at_most_itself : (v : Value) → IsAtMost v v
 at_most_itself v = ap is_gt (tied_itself value_cmp-total v)
@@ -37,14 +28,9 @@ at_most_itself v = ap is_gt (tied_itself value_cmp-total v)
 pub at_most_chain : (u v w : Value) → IsAtMost u v → IsAtMost v w → IsAtMost u w
 at_most_chain u v w = upto value_cmp-total u v w
 
-equal_from : (r : Ordering) → is_gt r ≡ false → is_gt (ordering_reverse r) ≡ false → r ≡ Equal
-equal_from Less e f = absurd (false≢true (sym f))
-equal_from Equal e f = refl
-equal_from Greater e f = absurd (false≢true (sym e))
-
 pub at_most_both : (v w : Value) → IsAtMost v w → IsAtMost w v → v ≡ w
 at_most_both v w h k =
-    value_cmp-antisymmetric v w (equal_from (value_cmp v w) h (ap is_gt (sym (value_cmp-total.antisymm w v)) ∙ k))
+    value_cmp-antisymmetric v w (equal-from_neither (value_cmp v w) h (ap is_gt (sym (value_cmp-total.antisymm w v)) ∙ k))
 
 -- the lesser of two is one of them, and isn't above either
 record IsLesser (v w u : Value) : Type 0 where
@@ -136,25 +122,13 @@ listed_head l u v at e =
     ∙ ap (λ b. b && is_eq (value_cmp v u.value)) at
     ∙ ap (λ w. is_eq (value_cmp w u.value)) e ∙ value_itself u.value
 
-pub or_first : (a b : Bool) → a ≡ true → (a || b) ≡ true
-or_first a b e = grind arith
-
-pub or_second : (a b : Bool) → b ≡ true → (a || b) ≡ true
-or_second a b e = grind arith
-
-pub or_rest : (a b : Bool) → a ≡ false → (a || b) ≡ true → b ≡ true
+or_rest : (a b : Bool) → a ≡ false → (a || b) ≡ true → b ≡ true
 or_rest a b e f = grind arith
-
-pub and_left : (a b : Bool) → (a && b) ≡ true → a ≡ true
-and_left a b h = grind arith
-
-pub and_right : (a b : Bool) → (a && b) ≡ true → b ≡ true
-and_right a b h = grind arith
 
 pub listed_cases : (l : Location) (u : Update) (us : List Update) (v : Value) → Listed l (u ∷ us) v → (v ≡ u.value) ⊎ Listed l us v
 listed_cases l u us v m =
     elim (eq_by_cmp update_cmp (update l v) u) as (λ b. eq_by_cmp update_cmp (update l v) u ≡ b → (b || list_any (eq_by_cmp update_cmp (update l v)) us) ≡ true → (v ≡ u.value) ⊎ Listed l us v) [
-      | true ↦ λ tie _. inl (same_value v u.value (and_right _ _ (sym (is_eq-then (location_cmp l u.location) (value_cmp v u.value)) ∙ tie)))
+      | true ↦ λ tie _. inl (same_value v u.value (and_parts _ _ (sym (is_eq-then (location_cmp l u.location) (value_cmp v u.value)) ∙ tie)).1)
       | false ↦ λ _ later. inr later
     ] refl m
 
@@ -167,9 +141,9 @@ range_in_list l [] = λ v m. false≢true m
 range_in_list l (u ∷ us) =
     elim (is_at l u) as (λ b. is_at l u ≡ b → IsRangeOf (Listed l (u ∷ us)) (range_of (map (λ (u : Update). u.value) (cond b (u ∷ filter (is_at l) us) (filter (is_at l) us))))) [
       | true ↦ λ at. range_like _
-          (λ v. (elim [ inl e ↦ or_first _ _ (listed_head l u v at e) | inr m ↦ or_second _ _ m ], listed_cases l u us v))
+          (λ v. (elim [ inl e ↦ or_left _ _ (listed_head l u v at e) | inr m ↦ or_right _ _ m ], listed_cases l u us v))
           (widen_is (λ v. v ≡ u.value) (Listed l us) (Some (record { least = u.value; greatest = u.value })) _ (own u.value) (range_in_list l us))
-      | false ↦ λ off. range_like _ (λ v. (or_second _ _, listed_elsewhere l u us v off)) (range_in_list l us)
+      | false ↦ λ off. range_like _ (λ v. (or_right _ _, listed_elsewhere l u us v off)) (range_in_list l us)
     ] refl
   where
     own : (w : Value) → IsRange (λ v. v ≡ w) (record { least = w; greatest = w })

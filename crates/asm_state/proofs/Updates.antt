@@ -9,7 +9,7 @@ use Rattle.std.specs.List.{list_all, list_any}
 use Rattle.std.specs.Ordering.{eq_by_cmp}
 use Rattle.std.specs.declared.cmp.Ordering.{Ordering}
 use Rattle.std.proofs.lemmas.Cmp.{on_total, then_total}
-use Rattle.std.proofs.lemmas.Bool.{false≢true}
+use Rattle.std.proofs.lemmas.Bool.{false≢true, and_parts, and_from, or_right}
 use Rattle.asm_state.specs.declared.value.Value.{Value}
 use Rattle.asm_state.specs.Value.{value_cmp, value_cmp-total, value_cmp-antisymmetric}
 use Rattle.asm_state.specs.Location.{Location, Proper, Stray, location_cmp, location_cmp-total, location_cmp-antisymmetric, first_tie, second_tie}
@@ -25,35 +25,23 @@ update_cmp-antisymmetric u w e i = record {
   value = value_cmp-antisymmetric u.value w.value (second_tie (location_cmp u.location w.location) _ e) i;
 }
 
-and_left : (a b : Bool) → (a && b) ≡ true → a ≡ true
-and_left a b h = grind arith
-
-and_right : (a b : Bool) → (a && b) ≡ true → b ≡ true
-and_right a b h = grind arith
-
-both_true : (a b : Bool) → a ≡ true → b ≡ true → (a && b) ≡ true
-both_true a b h k = grind arith
-
 module _ {K : Type 0} {R : K → K → Ordering} (o : IsTotalOrder R) (same : IsAntisymmetric R) (p : K → Bool) where
   -- what each element passes a member passes
   pub passes_at : (xs : List K) (q : K) → list_all p xs ≡ true → list_any (eq_by_cmp R q) xs ≡ true → p q ≡ true
   passes_at [] q h m = absurd (false≢true m)
   passes_at (x ∷ xs) q h m =
       elim (eq_by_cmp R q x) as (λ b. eq_by_cmp R q x ≡ b → (b || list_any (eq_by_cmp R q) xs) ≡ true → p q ≡ true) [
-        | true ↦ λ tie _. subst (λ y. p y ≡ true) (sym (same q x ((Equal-is (R q x)).0 tie))) (and_left (p x) _ h)
-        | false ↦ λ _ later. passes_at xs q (and_right (p x) _ h) later
+        | true ↦ λ tie _. subst (λ y. p y ≡ true) (sym (same q x ((Equal-is (R q x)).0 tie))) (and_parts (p x) _ h).0
+        | false ↦ λ _ later. passes_at xs q (and_parts (p x) _ h).1 later
       ] refl m
 
   -- each element passes where each member does
   pub passes_all : (xs : List K) → ((q : K) → list_any (eq_by_cmp R q) xs ≡ true → p q ≡ true) → list_all p xs ≡ true
   passes_all [] each = refl
   passes_all (x ∷ xs) each =
-      both_true (p x) _
+      and_from (p x) _
       (each x (ap (λ b. b || list_any (eq_by_cmp R x) xs) ((Equal-is (R x x)).1 (tied_itself o x))))
-      (passes_all xs (λ q m. each q (later (eq_by_cmp R q x) _ m)))
-    where
-      later : (a b : Bool) → b ≡ true → (a || b) ≡ true
-      later a b m = grind arith
+      (passes_all xs (λ q m. each q (or_right (eq_by_cmp R q x) _ m)))
 
 -- a set as the list of its updates
 abbrev lists : UpdateSet → Update → Type 0
@@ -112,12 +100,12 @@ Decides-is_consistent U = (forth, back)
 
     forth : is_consistent U ≡ true → IsConsistent U
     forth h = record {
-      one_value = λ l v w hv hw. alike_value l v w (passes_in (are_alike (update l v)) U (update l w) (and_right (is_proper l) (list_all (are_alike (update l v)) (set.items U)) (at_each h (update l v) hv)) hw);
-      no_stray = λ f v m. false≢true (and_left false (list_all (are_alike (update (Stray f) v)) (set.items U)) (at_each h (update (Stray f) v) m));
+      one_value = λ l v w hv hw. alike_value l v w (passes_in (are_alike (update l v)) U (update l w) (and_parts (is_proper l) (list_all (are_alike (update l v)) (set.items U)) (at_each h (update l v) hv)).1 hw);
+      no_stray = λ f v m. false≢true (and_parts false (list_all (are_alike (update (Stray f) v)) (set.items U)) (at_each h (update (Stray f) v) m)).0;
     }
 
     back : IsConsistent U → is_consistent U ≡ true
-    back c = passes_each (λ u. is_proper u.location && list_all (are_alike u) (set.items U)) U (λ u m. both_true _ _
+    back c = passes_each (λ u. is_proper u.location && list_all (are_alike u) (set.items U)) U (λ u m. and_from _ _
         (proper_is u.location (λ f e. c.no_stray f u.value (subst (λ l. set.contains U (update l u.value) ≡ true) e m)))
         (passes_each (are_alike u) U (λ w n. alike_from u w (λ e. c.one_value w.location u.value w.value (subst (λ l. set.contains U (update l u.value) ≡ true) e m) n))))
 

@@ -21,7 +21,7 @@ pub fn codes_apart()
     ensures { (a b : Value) → code_of a ≡ code_of b → a ≡ b }
 {}
 
-/// The test of equality tests just that, and a number and an element are the values that they give.
+/// The tests of equality test just that, and a number and an element are the values that they give.
 pub fn value_laws()
     ensures { ValueLaws }
 {}
