@@ -35,3 +35,4 @@ pub mod FirstFaults
 pub mod EachText
 pub mod EachScript
 pub mod Examples
+pub mod SaidLines

@@ -1,14 +1,14 @@
 //! Laws of the definitions of specifications, scripts and refusals.
 
-ghost use Rattle.std.specs.Prelude.{◌≡◌, ◌⊎◌, ℕ, List};
+ghost use Rattle.std.specs.Prelude.{◌≡◌, ◌⊎◌, ℕ, false, List, ◌∷◌, ◌++◌, IsSome};
 ghost use Rattle.asm_syntax.specs.declared.token.Token.{Token};
 ghost use Rattle.asm_syntax.specs.Placed as placed;
 ghost use Rattle.asm_reader.specs.declared.error.ReadError.{ReadError};
 ghost use Rattle.asm_reader.specs.Grammar.{specification};
 ghost use Rattle.asm_reader.specs.Specification.{IsSpecification};
 ghost use Rattle.asm_reader.specs.Refusals.{IsRefusal};
-ghost use Rattle.asm_reader.specs.ScriptLines.{Script};
-ghost use Rattle.asm_reader.specs.ScriptText.{IsScript, IsScriptRefusal};
+ghost use Rattle.asm_reader.specs.ScriptLines.{Line, Script};
+ghost use Rattle.asm_reader.specs.ScriptText.{lines_of, line_of, is_skipped, IsScript, IsScriptRefusal};
 ghost use Rattle.asm_reader.specs.declared.script_error.ScriptError.{ScriptError};
 
 use asm_syntax::{no_tokens_beside_a_fault, one_fault, one_list_of_tokens, tokens_or_a_fault};
@@ -67,4 +67,10 @@ pub fn no_script_beside_a_refusal()
 /// A text has one refusal as a script at most.
 pub fn one_script_refusal()
     ensures { (text : List ℕ) (e f : ScriptError) → IsScriptRefusal text e → IsScriptRefusal text f → e ≡ f }
+{}
+
+/// Each line of a script is skipped or says something, and no two say it of one step and place.
+pub fn script_lines()
+    ensures said { (text : List ℕ) (s : Script) → IsScript text s → (before after : List (List ℕ)) (line : List ℕ) → lines_of text ≡ before ++ line ∷ after → is_skipped line ≡ false → IsSome (line_of line) }
+    ensures apart { (text : List ℕ) (s : Script) → IsScript text s → (before between after : Script) (k l : Line) → s ≡ before ++ k ∷ between ++ l ∷ after → ¬ ((k.step ≡ l.step) × (k.place ≡ l.place)) }
 {}
