@@ -1,6 +1,6 @@
 -- What the lines of a script are: each that isn't skipped says something, and no two of one step and place.
 use Rattle.std.proofs.Common.{◌≡◌, ℕ, Bool, true, false, not, ◌&&◌, ◌||◌, List, [], ◌∷◌, ◌++◌, length, Option, Some, None, is_none, append_assoc, refl, sym, ap, subst, ◌∙◌, inl, inr, arith}
-use Rattle.std.proofs.lemmas.Bool.{both_ways, eq-eqb, or_right}
+use Rattle.std.proofs.lemmas.Bool.{both_ways, eq-eqb, or_parts, or_right}
 use Rattle.std.proofs.lemmas.List.{append-nil, length-append}
 use Rattle.std.proofs.lemmas.List.Folds.{list_any-append}
 use Rattle.std.proofs.lemmas.Slice.Eq.{bytes_eq-Decides}
@@ -12,16 +12,8 @@ use Rattle.asm_reader.specs.ScriptText.{line_of, is_skipped, said, script_in, is
 use Rattle.asm_reader.proofs.FirstFaults.{script_push}
 use Rattle.asm_reader.proofs.Fronts.{two_fronts}
 
-left_false : (a b : Bool) → a || b ≡ false → a ≡ false
-left_false true b e = e
-left_false false b e = refl
-
-right_false : (a b : Bool) → a || b ≡ false → b ≡ false
-right_false true b e = absurd cc
-right_false false b e = e
-
 pub each_says : (text : List ℕ) (s : Script) → IsScript text s → (before after : List (List ℕ)) (bytes : List ℕ) → lines_of text ≡ before ++ bytes ∷ after → is_skipped bytes ≡ false → IsSome (line_of bytes)
-each_says text s k before after bytes e read = by (line_of bytes) refl (subst (λ b. not b && is_none (line_of bytes) ≡ false) read (left_false (is_bad bytes) (is_repeated before bytes) (k.faultless before after bytes e)))
+each_says text s k before after bytes e read = by (line_of bytes) refl (subst (λ b. not b && is_none (line_of bytes) ≡ false) read (or_parts (is_bad bytes) (is_repeated before bytes) (k.faultless before after bytes e)).0)
   where
     by : (o : Option Line) → line_of bytes ≡ o → is_none o ≡ false → IsSome o
     by None is none = absurd cc
@@ -47,7 +39,7 @@ apart_behind : (before after : List (List ℕ)) → AreFaultless (before ++ afte
 apart_behind before [] faultless apart = subst (λ lines. AreApart (script_in lines)) (sym (append-nil before)) apart
 apart_behind before (bytes ∷ after) faultless apart =
     let whole = append_assoc before (bytes ∷ []) after in
-    let new = right_false (is_bad bytes) (is_repeated before bytes) (faultless before after bytes refl) in
+    let new = (or_parts (is_bad bytes) (is_repeated before bytes) (faultless before after bytes refl)).1 in
     subst (λ lines. AreApart (script_in lines)) whole
     (apart_behind (before ++ bytes ∷ []) after (subst AreFaultless (sym whole) faultless) (subst AreApart (sym (script_push before bytes)) (apart_more (script_in before) (is_skipped bytes) (line_of bytes) apart new)))
 

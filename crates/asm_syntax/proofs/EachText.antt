@@ -2,6 +2,7 @@
 --     front_at               what a text begins with
 --     lexed                  the tokens of a text, or its fault
 use Rattle.std.proofs.Common.{◌≡◌, ◌≢◌, ℕ, zero, suc, ◌+◌, ◌-◌, ◌≤◌, ◌<◌, List, [], ◌∷◌, ◌++◌, length, take, drop, Bool, true, false, refl, ap, sym, subst, ◌∙◌, inl, inr, length-drop, take-append-drop, arith}
+use Rattle.std.proofs.lemmas.Bool.{both_ways}
 use Rattle.std.proofs.lemmas.List.{length-take}
 use Rattle.std.proofs.lemmas.Slice.Eq.{bytes_eq-Decides}
 use Rattle.std.specs.Prelude.{◌⊎◌, Option, Some, None, Result, Ok, Err, bytes_eq, nat_le, if◌then◌else◌, codes, take_while}
@@ -153,9 +154,6 @@ is_symbol (a ∷ b ∷ bytes) p = by (first_with symbol_text all_symbols (a ∷ 
     by (Some s) e = double_front (a ∷ b ∷ bytes) s p (omega arith) (sym (has_text symbol_text all_symbols (a ∷ b ∷ []) s e))
     by None e = is_single a (b ∷ bytes) p (λ s x y behind whole same. none_has symbol_text all_symbols (a ∷ b ∷ []) symbol_found e s (ap (take 2) whole ∙ sym same))
 
-no_true : (r : Bool) → r ≡ true → r ≡ false → ⊥
-no_true r t f = cc
-
 is_front : (b : ℕ) (bytes : List ℕ) → IsFront (b ∷ bytes) (front_at b bytes)
 is_front b bytes = by (is_blank b) (is_letter b) (is_ascii_digit b) (has_mark (codes "//") (b ∷ bytes)) (has_mark (codes "/*") (b ∷ bytes)) refl refl refl refl refl
   where
@@ -167,11 +165,11 @@ is_front b bytes = by (is_blank b) (is_letter b) (is_ascii_digit b) (has_mark (c
     by false false false false true blank letter digit line block = is_block (b ∷ bytes) block
     by false false false false false blank letter digit line block = is_symbol (b ∷ bytes) (record {
       some = λ e. absurd cc;
-      blank = λ h. no_true (is_blank b) h blank;
-      letter = λ h. no_true (is_letter b) h letter;
-      digit = λ h. no_true (is_ascii_digit b) h digit;
-      line_comment = λ behind e. no_true (has_mark (codes "//") (b ∷ bytes)) (ap (has_mark (codes "//")) e) line;
-      block_comment = λ behind e. no_true (has_mark (codes "/*") (b ∷ bytes)) (ap (has_mark (codes "/*")) e) block;
+      blank = λ h. both_ways (is_blank b) blank h;
+      letter = λ h. both_ways (is_letter b) letter h;
+      digit = λ h. both_ways (is_ascii_digit b) digit h;
+      line_comment = λ behind e. both_ways (has_mark (codes "//") (b ∷ bytes)) line (ap (has_mark (codes "//")) e);
+      block_comment = λ behind e. both_ways (has_mark (codes "/*") (b ∷ bytes)) block (ap (has_mark (codes "/*")) e);
     })
 
 -- ---- whole texts
