@@ -32,3 +32,7 @@ pub mod LineLookups
 pub mod Places
 pub mod Fields
 pub mod FirstFaults
+pub mod EachText
+pub mod EachScript
+pub mod Examples
+pub mod SaidLines

@@ -1,17 +1,17 @@
 //! Laws of the definitions of specifications, scripts and refusals.
 
-ghost use Rattle.std.specs.Prelude.{◌≡◌, ℕ, List};
+ghost use Rattle.std.specs.Prelude.{◌≡◌, ◌⊎◌, ℕ, false, List, ◌∷◌, ◌++◌, IsSome};
 ghost use Rattle.asm_syntax.specs.declared.token.Token.{Token};
 ghost use Rattle.asm_syntax.specs.Placed as placed;
 ghost use Rattle.asm_reader.specs.declared.error.ReadError.{ReadError};
 ghost use Rattle.asm_reader.specs.Grammar.{specification};
 ghost use Rattle.asm_reader.specs.Specification.{IsSpecification};
 ghost use Rattle.asm_reader.specs.Refusals.{IsRefusal};
-ghost use Rattle.asm_reader.specs.ScriptLines.{Script};
-ghost use Rattle.asm_reader.specs.ScriptText.{IsScript, IsScriptRefusal};
+ghost use Rattle.asm_reader.specs.ScriptLines.{Line, Script};
+ghost use Rattle.asm_reader.specs.ScriptText.{lines_of, line_of, is_skipped, IsScript, IsScriptRefusal};
 ghost use Rattle.asm_reader.specs.declared.script_error.ScriptError.{ScriptError};
 
-use asm_syntax::{no_tokens_beside_a_fault, one_fault, one_list_of_tokens};
+use asm_syntax::{no_tokens_beside_a_fault, one_fault, one_list_of_tokens, tokens_or_a_fault};
 
 /// Tokens spell one tree at most, at any depth.
 pub fn one_tree_of_tokens()
@@ -23,6 +23,13 @@ pub fn one_tree()
     ensures { (text : List ℕ) (s t : placed.Spec) → IsSpecification text s → IsSpecification text t → s ≡ t }
 {
     one_list_of_tokens();
+}
+
+/// Each text has a specification or a refusal.
+pub fn tree_or_a_refusal()
+    ensures { (text : List ℕ) → ((s : placed.Spec) × IsSpecification text s) ⊎ ((e : ReadError) × IsRefusal text e) }
+{
+    tokens_or_a_fault();
 }
 
 /// A text that spells a specification has no refusal.
@@ -47,6 +54,11 @@ pub fn one_script()
     ensures { (text : List ℕ) (s t : Script) → IsScript text s → IsScript text t → s ≡ t }
 {}
 
+/// Each text has a script or a refusal as one.
+pub fn script_or_a_refusal()
+    ensures { (text : List ℕ) → ((s : Script) × IsScript text s) ⊎ ((e : ScriptError) × IsScriptRefusal text e) }
+{}
+
 /// A text that spells a script has no refusal as one.
 pub fn no_script_beside_a_refusal()
     ensures { (text : List ℕ) (s : Script) (e : ScriptError) → IsScript text s → ¬ IsScriptRefusal text e }
@@ -55,4 +67,10 @@ pub fn no_script_beside_a_refusal()
 /// A text has one refusal as a script at most.
 pub fn one_script_refusal()
     ensures { (text : List ℕ) (e f : ScriptError) → IsScriptRefusal text e → IsScriptRefusal text f → e ≡ f }
+{}
+
+/// Each line of a script is skipped or says something, and no two say it of one step and place.
+pub fn script_lines()
+    ensures said { (text : List ℕ) (s : Script) → IsScript text s → (before after : List (List ℕ)) (line : List ℕ) → lines_of text ≡ before ++ line ∷ after → is_skipped line ≡ false → IsSome (line_of line) }
+    ensures apart { (text : List ℕ) (s : Script) → IsScript text s → (before between after : Script) (k l : Line) → s ≡ before ++ k ∷ between ++ l ∷ after → ¬ ((k.step ≡ l.step) × (k.place ≡ l.place)) }
 {}

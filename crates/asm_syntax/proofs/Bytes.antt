@@ -7,12 +7,6 @@ use Rattle.asm_syntax.specs.Tokens.{is_blank, is_letter}
 pub letter_no_digit : (b : ℕ) → is_letter b ≡ true → is_ascii_digit b ≡ true → ⊥
 letter_no_digit b l d = grind arith
 
-pub or_left : (a b : Bool) → a ≡ true → (a || b) ≡ true
-or_left a b h = grind arith
-
-pub or_right : (a b : Bool) → b ≡ true → (a || b) ≡ true
-or_right a b h = grind arith
-
 -- a blank, or the `/` of a comment
 abbrev pub begins_filler : ℕ → Bool
 begins_filler b = is_blank b || nat_eq b 47

@@ -1,12 +1,16 @@
--- Each text has tokens or a fault.
+-- A lexer of lists, which computes. What it answers for a text are the text's tokens, or its fault.
+--     front_at               what a text begins with
+--     lexed                  the tokens of a text, or its fault
 use Rattle.std.proofs.Common.{◌≡◌, ◌≢◌, ℕ, zero, suc, ◌+◌, ◌-◌, ◌≤◌, ◌<◌, List, [], ◌∷◌, ◌++◌, length, take, drop, Bool, true, false, refl, ap, sym, subst, ◌∙◌, inl, inr, length-drop, take-append-drop, arith}
+use Rattle.std.proofs.lemmas.Bool.{both_ways}
 use Rattle.std.proofs.lemmas.List.{length-take}
-use Rattle.std.proofs.str.Laws.{order}
-use Rattle.std.specs.Prelude.{◌⊎◌, Option, Some, None, bytes_eq, if◌then◌else◌, codes, take_while}
-use Rattle.std.specs.Char.{is_ascii_digit}
 use Rattle.std.proofs.lemmas.Slice.Eq.{bytes_eq-Decides}
+use Rattle.std.specs.Prelude.{◌⊎◌, Option, Some, None, Result, Ok, Err, bytes_eq, nat_le, if◌then◌else◌, codes, take_while}
+use Rattle.std.specs.Char.{is_ascii_digit}
 use Rattle.asm_syntax.specs.declared.token.Kind.TheVariants as kind
+use Rattle.asm_syntax.specs.declared.token.Symbol.{Symbol}
 use Rattle.asm_syntax.specs.declared.token.Token.{Token}
+use Rattle.asm_syntax.specs.declared.token.Word.{Word}
 use Rattle.asm_syntax.specs.declared.error.LexError.{LexError}
 use Rattle.asm_syntax.specs.declared.error.LexError.TheVariants as fault
 use Rattle.asm_syntax.specs.declared.front.Front.{Front}
@@ -20,11 +24,62 @@ use Rattle.asm_syntax.proofs.FillerFronts.{FillerParts, blank_front, line_front,
 use Rattle.asm_syntax.proofs.SymbolFronts.{double_front, single_front, nothing_front}
 use Rattle.asm_syntax.proofs.Steps.{Lexed, start, filler_step, token_step, done, bad_number, open_comment, bad_byte}
 
--- what a text begins with
-abbrev Fronted : List ℕ → Type 0
-Fronted text = (f : Front) × IsFront text f
+-- ---- what a text begins with
 
--- ---- spellings
+abbrev name_by : ℕ → Option Word → Front
+name_by n (Some w) = front.Token (kind.Word w) n
+name_by n None = front.Token kind.Name n
+
+abbrev name_length : List ℕ → ℕ
+name_length text = length (take_while is_letter_or_digit text)
+
+abbrev name_at : List ℕ → Front
+name_at text = name_by (name_length text) (first_with word_text all_words (take (name_length text) text))
+
+abbrev number_by : ℕ → ℕ → (is_small is_followed : Bool) → Front
+number_by n v true false = front.Token (kind.Number v) n
+number_by n v true true = front.BadNumber
+number_by n v false followed = front.BadNumber
+
+abbrev digits_at : List ℕ → List ℕ
+digits_at text = take_while is_ascii_digit text
+
+abbrev number_at : List ℕ → Front
+number_at text = number_by (length (digits_at text)) (value_of 0 (digits_at text)) (nat_le (value_of 0 (digits_at text)) max_number) (begins_by_letter (drop (length (digits_at text)) text))
+
+abbrev block_by : Option ℕ → Front
+block_by (Some n) = front.Filler (n + 4)
+block_by None = front.OpenComment
+
+abbrev symbol_by : ℕ → Option Symbol → Front → Front
+symbol_by n (Some s) other = front.Token (kind.Symbol s) n
+symbol_by n None other = other
+
+abbrev single_at : ℕ → Front
+single_at a = symbol_by 1 (first_with symbol_text all_symbols (a ∷ [])) front.BadByte
+
+abbrev symbol_at : List ℕ → Front
+symbol_at [] = front.BadByte
+symbol_at (a ∷ []) = single_at a
+symbol_at (a ∷ b ∷ bytes) = symbol_by 2 (first_with symbol_text all_symbols (a ∷ b ∷ [])) (single_at a)
+
+-- the two bytes stand first
+abbrev has_mark : List ℕ → List ℕ → Bool
+has_mark mark text = bytes_eq (take 2 text) mark
+
+-- by whether a blank, a letter, a digit, `//` or `/*` stands first
+abbrev front_by : (blank letter digit line block : Bool) → List ℕ → Front
+front_by true letter digit line block text = front.Filler 1
+front_by false true digit line block text = name_at text
+front_by false false true line block text = number_at text
+front_by false false false true block text = front.Filler (2 + line_length (drop 2 text))
+front_by false false false false true text = block_by (length_before_close (drop 2 text))
+front_by false false false false false text = symbol_at text
+
+abbrev front_at : ℕ → List ℕ → Front
+front_at b bytes = front_by (is_blank b) (is_letter b) (is_ascii_digit b) (has_mark (codes "//") (b ∷ bytes)) (has_mark (codes "/*") (b ∷ bytes)) (b ∷ bytes)
+
+-- ---- it does begin with that
 
 module _ {A : Type 0} (f : A → List ℕ) where
   -- the first with this text has it
@@ -40,125 +95,154 @@ module _ {A : Type 0} (f : A → List ℕ) where
   none_has : (all : List A) (text : List ℕ) → ((a : A) → first_with f all (f a) ≡ Some a) → first_with f all text ≡ None → (a : A) → text ≢ f a
   none_has all text found none a e = let both : None ≡ Some a = sym none ∙ ap (first_with f all) e ∙ found a in absurd cc
 
--- ---- fronts
-
-named : (text : List ℕ) → BeginsBy is_letter text → Fronted text
-named text letter = by (first_with word_text all_words (take n text)) refl
+is_name : (text : List ℕ) → BeginsBy is_letter text → IsFront text (name_at text)
+is_name text letter = by (first_with word_text all_words (take n text)) refl
   where
     n : ℕ
-    n = length (take_while is_letter_or_digit text)
+    n = name_length text
 
-    by : (o : Option _) → first_with word_text all_words (take n text) ≡ o → Fronted text
-    by (Some w) e = (front.Token (kind.Word w) n, name_front text n (kind.Word w) letter refl (λ named. has_text word_text all_words (take n text) w e) (λ behind bad. bad))
-    by None e = (front.Token kind.Name n, name_front text n kind.Name letter refl (λ named. (named, none_has word_text all_words (take n text) word_found e)) (λ behind bad. bad))
+    by : (o : Option Word) → first_with word_text all_words (take n text) ≡ o → IsFront text (name_by n o)
+    by (Some w) e = name_front text n (kind.Word w) letter refl (λ named. has_text word_text all_words (take n text) w e) (λ behind bad. bad)
+    by None e = name_front text n kind.Name letter refl (λ named. (named, none_has word_text all_words (take n text) word_found e)) (λ behind bad. bad)
 
-numbered : (text : List ℕ) → BeginsBy is_ascii_digit text → Fronted text
-numbered text digit = by (order max_number v) (begins_by_letter (drop n text)) refl
+within_is : (a b : ℕ) → nat_le a b ≡ true → a ≤ b
+within_is a b h = grind arith
+
+above_is : (a b : ℕ) → nat_le a b ≡ false → b < a
+above_is a b h = grind arith
+
+is_number : (text : List ℕ) → BeginsBy is_ascii_digit text → IsFront text (number_at text)
+is_number text digit = by (nat_le v max_number) (begins_by_letter (drop n text)) refl refl
   where
     n : ℕ
-    n = length (take_while is_ascii_digit text)
+    n = length (digits_at text)
 
     v : ℕ
-    v = value_of 0 (take_while is_ascii_digit text)
+    v = value_of 0 (digits_at text)
 
-    by : (max_number < v) ⊎ (v ≤ max_number) → (b : Bool) → begins_by_letter (drop n text) ≡ b → Fronted text
-    by (inl great) b e = (front.BadNumber, bad_number_front text n v digit refl (inl refl) (inl great))
-    by (inr small) true e = (front.BadNumber, bad_number_front text n v digit refl (inl refl) (inr e))
-    by (inr small) false e = (front.Token (kind.Number v) n, number_front text n v digit refl (inl refl) small e)
+    by : (small followed : Bool) → nat_le v max_number ≡ small → begins_by_letter (drop n text) ≡ followed → IsFront text (number_by n v small followed)
+    by true false s f = number_front text n v digit refl (inl refl) (within_is v max_number s) f
+    by true true s f = bad_number_front text n v digit refl (inl refl) (inr f)
+    by false followed s f = bad_number_front text n v digit refl (inl refl) (inl (above_is v max_number s))
 
--- the two bytes stand first
-abbrev marked : List ℕ → List ℕ → Bool
-marked mark text = bytes_eq (take 2 text) mark
+mark_is : (mark text : List ℕ) → has_mark mark text ≡ true → text ≡ mark ++ drop 2 text
+mark_is mark text h = sym (take-append-drop 2 text) ∙ ap (λ l. l ++ drop 2 text) ((bytes_eq-Decides (take 2 text) mark).0 h)
 
-marked_is : (mark text : List ℕ) → marked mark text ≡ true → text ≡ mark ++ drop 2 text
-marked_is mark text h = sym (take-append-drop 2 text) ∙ ap (λ l. l ++ drop 2 text) ((bytes_eq-Decides (take 2 text) mark).0 h)
+is_line : (text : List ℕ) → has_mark (codes "//") text ≡ true → FillerParts text (2 + line_length (drop 2 text))
+is_line text h = subst (λ (t : List ℕ). FillerParts t (2 + line_length (drop 2 text))) (sym (mark_is (codes "//") text h)) (line_front (drop 2 text))
 
-lined : (text : List ℕ) → marked (codes "//") text ≡ true → Fronted text
-lined text h = (front.Filler (2 + line_length (drop 2 text)), subst (λ (t : List ℕ). FillerParts t (2 + line_length (drop 2 text))) (sym (marked_is (codes "//") text h)) (line_front (drop 2 text)))
-
-blocked : (text : List ℕ) → marked (codes "/*") text ≡ true → Fronted text
-blocked text h = by (length_before_close inside) refl
+is_block : (text : List ℕ) → has_mark (codes "/*") text ≡ true → IsFront text (block_by (length_before_close (drop 2 text)))
+is_block text h = by (length_before_close (drop 2 text)) refl
   where
-    inside : List ℕ
-    inside = drop 2 text
+    by : (o : Option ℕ) → length_before_close (drop 2 text) ≡ o → IsFront text (block_by o)
+    by (Some n) e = subst (λ (t : List ℕ). FillerParts t (n + 4)) (sym (mark_is (codes "/*") text h)) (block_front (drop 2 text) n e)
+    by None e = (drop 2 text, mark_is (codes "/*") text h, never_closed (drop 2 text) e)
 
-    by : (o : Option ℕ) → length_before_close inside ≡ o → Fronted text
-    by (Some n) e = (front.Filler (n + 4), subst (λ (t : List ℕ). FillerParts t (n + 4)) (sym (marked_is (codes "/*") text h)) (block_front inside n e))
-    by None e = (front.OpenComment, (inside, marked_is (codes "/*") text h, never_closed inside e))
-
-single : (a : ℕ) (bytes : List ℕ) → IsPlain (a ∷ bytes) → ((s : _) (x y : ℕ) (behind : List ℕ) → a ∷ bytes ≡ x ∷ y ∷ behind → symbol_text s ≢ x ∷ y ∷ []) → Fronted (a ∷ bytes)
-single a bytes plain no_double = by (first_with symbol_text all_symbols (a ∷ [])) refl
+is_single : (a : ℕ) (bytes : List ℕ) → IsPlain (a ∷ bytes) → ((s : Symbol) (x y : ℕ) (behind : List ℕ) → a ∷ bytes ≡ x ∷ y ∷ behind → symbol_text s ≢ x ∷ y ∷ []) → IsFront (a ∷ bytes) (single_at a)
+is_single a bytes plain no_double = by (first_with symbol_text all_symbols (a ∷ [])) refl
   where
-    by : (o : Option _) → first_with symbol_text all_symbols (a ∷ []) ≡ o → Fronted (a ∷ bytes)
-    by (Some s) e = (front.Token (kind.Symbol s) 1, single_front (a ∷ bytes) s plain no_double (sym (has_text symbol_text all_symbols (a ∷ []) s e)))
-    by None e = (front.BadByte, nothing_front (a ∷ bytes) plain no_double (λ s same. none_has symbol_text all_symbols (a ∷ []) symbol_found e s (sym same)))
+    by : (o : Option Symbol) → first_with symbol_text all_symbols (a ∷ []) ≡ o → IsFront (a ∷ bytes) (symbol_by 1 o front.BadByte)
+    by (Some s) e = single_front (a ∷ bytes) s plain no_double (sym (has_text symbol_text all_symbols (a ∷ []) s e))
+    by None e = nothing_front (a ∷ bytes) plain no_double (λ s same. none_has symbol_text all_symbols (a ∷ []) symbol_found e s (sym same))
 
-plain : (text : List ℕ) → IsPlain text → Fronted text
-plain [] p = absurd (p.some refl)
-plain (a ∷ []) p = single a [] p (λ s x y behind e. absurd cc)
-plain (a ∷ b ∷ bytes) p = by (first_with symbol_text all_symbols (a ∷ b ∷ [])) refl
+is_symbol : (text : List ℕ) → IsPlain text → IsFront text (symbol_at text)
+is_symbol [] p = absurd (p.some refl)
+is_symbol (a ∷ []) p = is_single a [] p (λ s x y behind e. absurd cc)
+is_symbol (a ∷ b ∷ bytes) p = by (first_with symbol_text all_symbols (a ∷ b ∷ [])) refl
   where
-    by : (o : Option _) → first_with symbol_text all_symbols (a ∷ b ∷ []) ≡ o → Fronted (a ∷ b ∷ bytes)
-    by (Some s) e = (front.Token (kind.Symbol s) 2, double_front (a ∷ b ∷ bytes) s p (omega arith) (sym (has_text symbol_text all_symbols (a ∷ b ∷ []) s e)))
-    by None e = single a (b ∷ bytes) p (λ s x y behind e2 same. none_has symbol_text all_symbols (a ∷ b ∷ []) symbol_found e s (first_two x y behind e2 ∙ sym same))
-      where
-        first_two : (x y : ℕ) (behind : List ℕ) → a ∷ b ∷ bytes ≡ x ∷ y ∷ behind → a ∷ b ∷ [] ≡ x ∷ y ∷ []
-        first_two x y behind e = ap (take 2) e
+    by : (o : Option Symbol) → first_with symbol_text all_symbols (a ∷ b ∷ []) ≡ o → IsFront (a ∷ b ∷ bytes) (symbol_by 2 o (single_at a))
+    by (Some s) e = double_front (a ∷ b ∷ bytes) s p (omega arith) (sym (has_text symbol_text all_symbols (a ∷ b ∷ []) s e))
+    by None e = is_single a (b ∷ bytes) p (λ s x y behind whole same. none_has symbol_text all_symbols (a ∷ b ∷ []) symbol_found e s (ap (take 2) whole ∙ sym same))
 
-no_true : (r : Bool) → r ≡ true → r ≡ false → ⊥
-no_true r t f = cc
-
-fronted : (b : ℕ) (bytes : List ℕ) → Fronted (b ∷ bytes)
-fronted b bytes = by (is_blank b) (is_letter b) (is_ascii_digit b) (marked (codes "//") (b ∷ bytes)) (marked (codes "/*") (b ∷ bytes)) refl refl refl refl refl
+is_front : (b : ℕ) (bytes : List ℕ) → IsFront (b ∷ bytes) (front_at b bytes)
+is_front b bytes = by (is_blank b) (is_letter b) (is_ascii_digit b) (has_mark (codes "//") (b ∷ bytes)) (has_mark (codes "/*") (b ∷ bytes)) refl refl refl refl refl
   where
-    by : (u v w x y : Bool) → is_blank b ≡ u → is_letter b ≡ v → is_ascii_digit b ≡ w → marked (codes "//") (b ∷ bytes) ≡ x → marked (codes "/*") (b ∷ bytes) ≡ y → Fronted (b ∷ bytes)
-    by true v w x y blank letter digit line block = (front.Filler 1, blank_front (b ∷ bytes) blank)
-    by false true w x y blank letter digit line block = named (b ∷ bytes) letter
-    by false false true x y blank letter digit line block = numbered (b ∷ bytes) digit
-    by false false false true y blank letter digit line block = lined (b ∷ bytes) line
-    by false false false false true blank letter digit line block = blocked (b ∷ bytes) block
-    by false false false false false blank letter digit line block = plain (b ∷ bytes) (record {
+    by : (u v w x y : Bool) → is_blank b ≡ u → is_letter b ≡ v → is_ascii_digit b ≡ w → has_mark (codes "//") (b ∷ bytes) ≡ x → has_mark (codes "/*") (b ∷ bytes) ≡ y → IsFront (b ∷ bytes) (front_by u v w x y (b ∷ bytes))
+    by true v w x y blank letter digit line block = blank_front (b ∷ bytes) blank
+    by false true w x y blank letter digit line block = is_name (b ∷ bytes) letter
+    by false false true x y blank letter digit line block = is_number (b ∷ bytes) digit
+    by false false false true y blank letter digit line block = is_line (b ∷ bytes) line
+    by false false false false true blank letter digit line block = is_block (b ∷ bytes) block
+    by false false false false false blank letter digit line block = is_symbol (b ∷ bytes) (record {
       some = λ e. absurd cc;
-      blank = λ h. no_true (is_blank b) h blank;
-      letter = λ h. no_true (is_letter b) h letter;
-      digit = λ h. no_true (is_ascii_digit b) h digit;
-      line_comment = λ behind e. no_true (marked (codes "//") (b ∷ bytes)) (ap (marked (codes "//")) e) line;
-      block_comment = λ behind e. no_true (marked (codes "/*") (b ∷ bytes)) (ap (marked (codes "/*")) e) block;
+      blank = λ h. both_ways (is_blank b) blank h;
+      letter = λ h. both_ways (is_letter b) letter h;
+      digit = λ h. both_ways (is_ascii_digit b) digit h;
+      line_comment = λ behind e. both_ways (has_mark (codes "//") (b ∷ bytes)) line (ap (has_mark (codes "//")) e);
+      block_comment = λ behind e. both_ways (has_mark (codes "/*") (b ∷ bytes)) block (ap (has_mark (codes "/*")) e);
     })
 
 -- ---- whole texts
 
-abbrev HasAnswer : List ℕ → Type 0
-HasAnswer text = ((ts : List Token) × AreTokens text ts) ⊎ ((e : LexError) × IsFault text e)
+abbrev Answer : Type 0
+Answer = Result (List Token) LexError
+
+abbrev Lexer : Type 0
+Lexer = List Token → ℕ → List ℕ → Answer
+
+-- what is behind the first bytes
+abbrev behind : ℕ → List ℕ → List ℕ
+behind m rest = take (length rest - m) (drop m rest)
+
+-- on from this front, by a lexer of what is behind it
+abbrev from_front : Lexer → Front → Lexer
+from_front more (front.Filler m) ts at rest = more ts (at + m) (behind m rest)
+from_front more (front.Token k m) ts at rest = more (ts ++ (record { kind = k; start = at; end = at + m }) ∷ []) (at + m) (behind m rest)
+from_front more front.BadNumber ts at rest = Err (fault.BadNumber at)
+from_front more front.OpenComment ts at rest = Err (fault.OpenComment at)
+from_front more front.BadByte ts at rest = Err (fault.BadByte at)
+
+-- Behind these tokens, up to the place `at`. Each turn takes a byte at least.
+abbrev lexed_within : ℕ → Lexer
+lexed_within zero ts at rest = Ok ts
+lexed_within (suc n) ts at [] = Ok ts
+lexed_within (suc n) ts at (b ∷ bytes) = from_front (lexed_within n) (front_at b bytes) ts at (b ∷ bytes)
+
+abbrev pub lexed : List ℕ → Answer
+lexed text = if nat_le (length text) max_length then lexed_within (suc (length text)) [] 0 text else Err fault.TooLong
+
+-- the answer is right
+abbrev pub IsRight : List ℕ → Answer → Type 0
+IsRight text (Ok ts) = AreTokens text ts
+IsRight text (Err e) = IsFault text e
 
 module _ (text : List ℕ) (short : length text ≤ max_length) where
-  -- each shorter rest, with whatever tokens before it, leads to an answer
-  abbrev ShorterAnswer : ℕ → Type 0
-  ShorterAnswer n = (ts : List Token) (at : ℕ) (rest : List ℕ) → length rest < n → Lexed text ts at rest → HasAnswer text
+  abbrev IsRightWithin : ℕ → Lexer → Type 0
+  IsRightWithin n f = (ts : List Token) (at : ℕ) (rest : List ℕ) → length rest < n → Lexed text ts at rest → IsRight text (f ts at rest)
 
-  behind_shorter : (rest : List ℕ) (m : ℕ) → 0 < m → 0 < length rest → length (take (length rest - m) (drop m rest)) < length rest
-  behind_shorter rest m some more = omega (arith, length-take (length rest - m) (drop m rest), length-drop m rest)
+  shorter : (rest : List ℕ) (m : ℕ) → 0 < m → 0 < length rest → length (behind m rest) < length rest
+  shorter rest m some more = omega (arith, length-take (length rest - m) (drop m rest), length-drop m rest)
 
-  answer_by : (ts : List Token) (at b : ℕ) (bytes : List ℕ) → Lexed text ts at (b ∷ bytes) → ShorterAnswer (length (b ∷ bytes)) → (f : Front) → IsFront (b ∷ bytes) f → HasAnswer text
-  answer_by ts at b bytes lexed more (front.Filler m) parts =
-      more ts (at + m) _ (behind_shorter (b ∷ bytes) m parts.some (omega arith)) (filler_step text ts at (b ∷ bytes) m lexed (omega arith) parts)
-  answer_by ts at b bytes lexed more (front.Token k m) parts =
+  right_from : (ts : List Token) (at b : ℕ) (bytes : List ℕ) (more : Lexer) → Lexed text ts at (b ∷ bytes) → IsRightWithin (length (b ∷ bytes)) more → (f : Front) → IsFront (b ∷ bytes) f → IsRight text (from_front more f ts at (b ∷ bytes))
+  right_from ts at b bytes more lexed right (front.Filler m) parts =
+      right ts (at + m) (behind m (b ∷ bytes)) (shorter (b ∷ bytes) m parts.some (omega arith)) (filler_step text ts at (b ∷ bytes) m lexed (omega arith) parts)
+  right_from ts at b bytes more lexed right (front.Token k m) parts =
       let t : Token = record { kind = k; start = at; end = at + m } in
-      more (ts ++ t ∷ []) (at + m) _ (behind_shorter (b ∷ bytes) m parts.some (omega arith)) (token_step text ts at (b ∷ bytes) t m lexed (omega arith) parts refl refl)
-  answer_by ts at b bytes lexed more front.BadNumber bad = inr (fault.BadNumber at, bad_number text ts at (b ∷ bytes) lexed short (omega arith) bad)
-  answer_by ts at b bytes lexed more front.OpenComment unclosed = inr (fault.OpenComment at, open_comment text ts at (b ∷ bytes) lexed short (omega arith) unclosed)
-  answer_by ts at b bytes lexed more front.BadByte nothing = inr (fault.BadByte at, bad_byte text ts at (b ∷ bytes) lexed short (omega arith) nothing)
+      right (ts ++ t ∷ []) (at + m) (behind m (b ∷ bytes)) (shorter (b ∷ bytes) m parts.some (omega arith)) (token_step text ts at (b ∷ bytes) t m lexed (omega arith) parts refl refl)
+  right_from ts at b bytes more lexed right front.BadNumber bad = bad_number text ts at (b ∷ bytes) lexed short (omega arith) bad
+  right_from ts at b bytes more lexed right front.OpenComment unclosed = open_comment text ts at (b ∷ bytes) lexed short (omega arith) unclosed
+  right_from ts at b bytes more lexed right front.BadByte nothing = bad_byte text ts at (b ∷ bytes) lexed short (omega arith) nothing
 
-  answer_within : (n : ℕ) → ShorterAnswer n
-  answer_within zero ts at rest room lexed = absurd (omega (arith, room))
-  answer_within (suc n) ts at [] room lexed = inl (ts, done text ts at [] lexed short refl)
-  answer_within (suc n) ts at (b ∷ bytes) room lexed =
-      let f = fronted b bytes in
-      answer_by ts at b bytes lexed (λ us place rest shorter. answer_within n us place rest (omega (arith, shorter, room))) f.0 f.1
+  right_within : (n : ℕ) → IsRightWithin n (lexed_within n)
+  right_within zero ts at rest room lexed = absurd (omega (arith, room))
+  right_within (suc n) ts at [] room lexed = done text ts at [] lexed short refl
+  right_within (suc n) ts at (b ∷ bytes) room lexed =
+      right_from ts at b bytes (lexed_within n) lexed (λ us place rest less. right_within n us place rest (omega (arith, less, room))) (front_at b bytes) (is_front b bytes)
 
-pub tokens_or_a_fault : (text : List ℕ) → HasAnswer text
-tokens_or_a_fault text = by (order max_length (length text))
+pub is_right : (text : List ℕ) → IsRight text (lexed text)
+is_right text = by (nat_le (length text) max_length) refl
   where
-    by : (max_length < length text) ⊎ (length text ≤ max_length) → HasAnswer text
-    by (inl long) = inr (fault.TooLong, long)
-    by (inr short) = answer_within text short (suc (length text)) [] 0 text (omega arith) (start text)
+    by : (r : Bool) → nat_le (length text) max_length ≡ r → IsRight text (if r then lexed_within (suc (length text)) [] 0 text else Err fault.TooLong)
+    by true h = let short = within_is (length text) max_length h in right_within text short (suc (length text)) [] 0 text (omega arith) (start text)
+    by false h = above_is (length text) max_length h
+
+-- what the lexer answers, where it is known
+pub answers : (text : List ℕ) (r : Answer) → lexed text ≡ r → IsRight text r
+answers text r e = subst (IsRight text) e (is_right text)
+
+pub tokens_or_a_fault : (text : List ℕ) → ((ts : List Token) × AreTokens text ts) ⊎ ((e : LexError) × IsFault text e)
+tokens_or_a_fault text = by (lexed text) (is_right text)
+  where
+    by : (r : Answer) → IsRight text r → ((ts : List Token) × AreTokens text ts) ⊎ ((e : LexError) × IsFault text e)
+    by (Ok ts) right = inl (ts, right)
+    by (Err e) right = inr (e, right)

@@ -1,10 +1,10 @@
 -- Blanks and comments at the front of a text.
 use Rattle.std.proofs.Common.{◌≡◌, ◌≢◌, ℕ, suc, ◌+◌, ◌<◌, List, [], ◌∷◌, ◌++◌, length, length-append, get_or, Bool, true, false, refl, ap, sym, subst, ◌∙◌, inl, inr, ⊎_elim, append_assoc, arith}
+use Rattle.std.proofs.lemmas.Bool.{and_parts, both_ways, eqb-true}
 use Rattle.std.proofs.lemmas.List.{append-nil}
 use Rattle.std.specs.Prelude.{◌⊎◌, nat_eq, codes, Option, Some, None, option_map}
 use Rattle.asm_syntax.specs.Tokens.{newline, is_blank, BeginsBy, StandsIn, IsLineComment, IsFiller}
 use Rattle.asm_syntax.specs.Fronts.{Parts, line_length, closes, length_before_close}
-use Rattle.asm_syntax.proofs.Pieces.{both_left, both_right}
 
 abbrev pub FillerParts : List ℕ → ℕ → Type 0
 FillerParts text n = Parts text n (λ piece behind. IsFiller piece ⊎ (IsLineComment piece × (behind ≡ [])))
@@ -26,9 +26,6 @@ clean_more : (b : ℕ) (inside : List ℕ) → b ≢ newline → ¬ StandsIn (ne
 clean_more b inside other clean ([], back, e) = other (cc)
 clean_more b inside other clean (x ∷ front, back, e) = clean (front, back, let rest : inside ≡ front ++ newline ∷ [] ++ back = cc in rest)
 
-nat_is : (a b : ℕ) → nat_eq a b ≡ true → a ≡ b
-nat_is a b h = grind arith
-
 nat_isnt : (a b : ℕ) → nat_eq a b ≡ false → a ≢ b
 nat_isnt a b h e = grind arith
 
@@ -41,7 +38,7 @@ line_cases b bytes true h line = record {
   inside = [];
   behind = bytes;
   clean = clean_empty newline [];
-  ends = inl (ap (λ c. c ∷ bytes) (nat_is b newline h), rw h refl);
+  ends = inl (ap (λ c. c ∷ bytes) (eqb-true b newline h), rw h refl);
 }
 line_cases b bytes false h line = record {
   inside = b ∷ line.inside;
@@ -90,19 +87,16 @@ record Closed (text : List ℕ) (n : ℕ) : Type 0 where
 
 closes_is : (a : ℕ) (bytes : List ℕ) → closes (a ∷ bytes) ≡ true → (behind : List ℕ) × (a ∷ bytes ≡ 42 ∷ 47 ∷ behind)
 closes_is a [] h = absurd (cc)
-closes_is a (b ∷ bytes) h = (bytes, λ i. nat_is a 42 (both_left (nat_eq a 42) (nat_eq b 47) h) i ∷ nat_is b 47 (both_right (nat_eq a 42) (nat_eq b 47) h) i ∷ bytes)
-
-not_both : (r : Bool) → r ≡ true → r ≡ false → ⊥
-not_both r t f = absurd (cc)
+closes_is a (b ∷ bytes) h = (bytes, λ i. eqb-true a 42 (and_parts (nat_eq a 42) (nat_eq b 47) h).0 i ∷ eqb-true b 47 (and_parts (nat_eq a 42) (nat_eq b 47) h).1 i ∷ bytes)
 
 -- where the text doesn't close at its first byte, an end stands behind that
 end_behind : (a : ℕ) (bytes : List ℕ) → closes (a ∷ bytes) ≡ false → StandsIn (codes "*/") (a ∷ bytes) → StandsIn (codes "*/") bytes
-end_behind a bytes stays ([], back, e) = absurd (not_both (closes (a ∷ bytes)) (ap closes e) stays)
+end_behind a bytes stays ([], back, e) = absurd (both_ways (closes (a ∷ bytes)) stays (ap closes e))
 end_behind a bytes stays (x ∷ front, back, e) = (front, back, let rest : bytes ≡ front ++ codes "*/" ++ back = cc in rest)
 
 -- the same of a front of the bytes, with an end behind it
 end_inside : (a : ℕ) (inside behind : List ℕ) → closes (a ∷ inside ++ 42 ∷ 47 ∷ behind) ≡ false → StandsIn (codes "*/") (a ∷ inside) → StandsIn (codes "*/") inside
-end_inside a inside behind stays ([], back, e) = absurd (not_both (closes (a ∷ inside ++ 42 ∷ 47 ∷ behind)) (ap (λ l. closes (l ++ 42 ∷ 47 ∷ behind)) e) stays)
+end_inside a inside behind stays ([], back, e) = absurd (both_ways (closes (a ∷ inside ++ 42 ∷ 47 ∷ behind)) stays (ap (λ l. closes (l ++ 42 ∷ 47 ∷ behind)) e))
 end_inside a inside behind stays (x ∷ front, back, e) = (front, back, let rest : inside ≡ front ++ codes "*/" ++ back = cc in rest)
 
 some_suc : (o : Option ℕ) (n : ℕ) → option_map suc o ≡ Some n → (m : ℕ) × (o ≡ Some m) × (n ≡ suc m)
@@ -162,7 +156,7 @@ first_by p (b ∷ bytes) r some e h = sym e ∙ h
 
 pub not_first_by : (p : ℕ → Bool) (text : List ℕ) (r : Bool) → r ≡ p (get_or text 0 0) → r ≡ false → ¬ BeginsBy p text
 not_first_by p [] r e h = λ no. no
-not_first_by p (b ∷ bytes) r e h = λ yes. not_both (p b) yes (sym e ∙ h)
+not_first_by p (b ∷ bytes) r e h = λ yes. both_ways (p b) (sym e ∙ h) yes
 
 pub line_behind : (text inside : List ℕ) (n : ℕ) → text ≡ 47 ∷ 47 ∷ inside → n ≡ line_length inside → FillerParts text (2 + n)
 line_behind text inside n whole size =

@@ -14,3 +14,4 @@ pub mod Stops
 pub mod OneAnswer
 pub mod TokenPlaces
 pub mod EachText
+pub mod Examples

@@ -1,6 +1,7 @@
 -- How far tokens go.
 use Rattle.std.proofs.Common.{◌≡◌, ◌≢◌, ℕ, List, [], ◌∷◌, ◌++◌, Bool, true, false, not, refl, ap, sym, subst, ◌∙◌}
-use Rattle.std.specs.Prelude.{◌&&◌, IsTrue, All}
+use Rattle.std.specs.Prelude.{IsTrue, All}
+use Rattle.std.proofs.lemmas.Bool.{and_parts, or_left, or_right}
 use Rattle.std.proofs.lemmas.List.Elements.{All-nil, All-cons, All-head, All-tail}
 use Rattle.std.specs.Char.{is_ascii_digit}
 use Rattle.asm_syntax.specs.declared.token.Kind.{Kind}
@@ -10,7 +11,7 @@ use Rattle.asm_syntax.specs.declared.token.Word as word
 use Rattle.asm_syntax.specs.Tokens.{is_letter, is_letter_or_digit, BeginsBy, IsName, Spells, IsLongest}
 use Rattle.asm_syntax.specs.Spellings.{symbol_text, word_text}
 use Rattle.asm_syntax.proofs.Texts.{begins_plain, all_in_names, is_name, is_short, symbol_is_plain, symbol_is_short, word_is_name}
-use Rattle.asm_syntax.proofs.Bytes.{letter_no_digit, or_left, or_right}
+use Rattle.asm_syntax.proofs.Bytes.{letter_no_digit}
 
 -- ---- lists
 
@@ -24,21 +25,13 @@ no_true false h i = absurd (cc)
 
 -- ---- names
 
-pub both_left : (a b : Bool) → (a && b) ≡ true → a ≡ true
-both_left true b h = refl
-both_left false b h = h
-
-pub both_right : (a b : Bool) → (a && b) ≡ true → b ≡ true
-both_right true b h = h
-both_right false b h = absurd (cc)
-
 all_tested : (text : List ℕ) → all_in_names text ≡ true → All (λ c. IsTrue (is_letter_or_digit c)) text
 all_tested [] h = All-nil (λ c. IsTrue (is_letter_or_digit c))
-all_tested (b ∷ bytes) h = All-cons (λ c. IsTrue (is_letter_or_digit c)) b bytes (both_left _ _ h) (all_tested bytes (both_right _ _ h))
+all_tested (b ∷ bytes) h = All-cons (λ c. IsTrue (is_letter_or_digit c)) b bytes (and_parts _ _ h).0 (all_tested bytes (and_parts _ _ h).1)
 
 name_tested : (text : List ℕ) → is_name text ≡ true → IsName text
 name_tested [] h = absurd (cc)
-name_tested (b ∷ bytes) h = (both_left _ _ h, all_tested bytes (both_right _ _ h))
+name_tested (b ∷ bytes) h = ((and_parts _ _ h).0, all_tested bytes (and_parts _ _ h).1)
 
 pub word_named : (text : List ℕ) (w : word.Word) → text ≡ word_text w → IsName text
 word_named text w e = subst IsName (sym e) (name_tested (word_text w) (word_is_name w))

@@ -1,12 +1,13 @@
 -- What stands behind the gap at the front of a text.
-use Rattle.std.proofs.Common.{◌≡◌, ◌≢◌, ℕ, List, [], ◌∷◌, ◌++◌, Bool, true, false, refl, ap, sym, subst, ◌∙◌, inl, inr, ⊎_elim, append_assoc}
+use Rattle.std.proofs.Common.{◌≡◌, ◌≢◌, ℕ, List, [], ◌∷◌, ◌++◌, true, refl, ap, sym, subst, ◌∙◌, inl, inr, ⊎_elim, append_assoc}
+use Rattle.std.proofs.lemmas.Bool.{both_ways, or_left}
 use Rattle.std.proofs.lemmas.List.Elements.{All-head}
 use Rattle.std.specs.Prelude.{◌⊎◌, IsTrue, codes}
 use Rattle.std.specs.Char.{is_ascii_digit}
 use Rattle.asm_syntax.specs.declared.token.Kind.{Kind}
 use Rattle.asm_syntax.specs.declared.token.Kind.TheVariants as kind
 use Rattle.asm_syntax.specs.Tokens.{newline, is_blank, BeginsBy, StandsIn, IsLineComment, IsGap, Spells, IsLongest, BeginsNothing}
-use Rattle.asm_syntax.proofs.Bytes.{begins_filler, letter_no_filler, digit_no_filler, or_left}
+use Rattle.asm_syntax.proofs.Bytes.{begins_filler, letter_no_filler, digit_no_filler}
 use Rattle.asm_syntax.proofs.Texts.{begins_as_filler, symbol_is_no_filler}
 use Rattle.asm_syntax.proofs.Pieces.{no_empty_token, word_named}
 use Rattle.asm_syntax.proofs.OneGap.{IsSolid, one_gap, blank_no_slash, no_star_slash}
@@ -28,13 +29,10 @@ Stands rest nothing = (rest ≢ []) × BeginsNothing rest
 
 -- ---- a token begins with no blank and no `/`
 
-no_true : (b : Bool) → b ≡ true → b ≡ false → ⊥
-no_true b t f = cc
-
 token_first : (b : ℕ) (bytes : List ℕ) (k : Kind) → Spells (b ∷ bytes) k → begins_filler b ≡ true → ⊥
 token_first b bytes kind.Name spelled f = letter_no_filler b spelled.0.0 f
 token_first b bytes (kind.Number n) spelled f = digit_no_filler b (All-head (λ c. IsTrue (is_ascii_digit c)) b bytes spelled.1) f
-token_first b bytes (kind.Symbol s) spelled f = no_true (begins_filler b) f (ap begins_as_filler spelled ∙ symbol_is_no_filler s)
+token_first b bytes (kind.Symbol s) spelled f = both_ways (begins_filler b) (ap begins_as_filler spelled ∙ symbol_is_no_filler s) f
 token_first b bytes (kind.Word w) spelled f = letter_no_filler b (word_named (b ∷ bytes) w spelled).0 f
 
 -- a text that begins with a token
