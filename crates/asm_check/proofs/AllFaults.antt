@@ -1,7 +1,7 @@
 -- All faults of a specification, as one list: so there is a least one, or none.
 --     all_faults spec      the faults
 --     first_fault spec     the least of them
-use Rattle.std.proofs.Common.{◌≡◌, ◌⊎◌, ℕ, ◌<◌, ◌≤◌, nat_le, Bool, true, false, cond, not, ◌&&◌, List, [], ◌∷◌, ◌++◌, map, Option, Some, None, refl, sym, ap, subst, ◌∙◌, inl, inr, arith}
+use Rattle.std.proofs.Common.{◌≡◌, ◌⊎◌, ℕ, ◌≤◌, nat_le, Bool, true, false, cond, not, ◌&&◌, List, [], ◌∷◌, ◌++◌, map, Option, Some, None, refl, sym, ap, subst, inl, inr, arith}
 use Rattle.std.specs.Prelude.{Contains, filter}
 use Rattle.std.proofs.lemmas.Bool.{false≢true}
 use Rattle.std.proofs.lemmas.Bool.Decides.{nat_tests}
@@ -14,7 +14,7 @@ use Rattle.asm_check.specs.Shapes.{texts_of}
 use Rattle.asm_check.specs.Soonest.{IsSoonest, noted}
 use Rattle.asm_check.specs.Steps as steps
 use Rattle.asm_check.specs.Steps.{IsStepFault, IsTooHigh}
-use Rattle.asm_check.specs.Ways.{called, used, LeadsTo, ReachesCycle, IsOnWay, height}
+use Rattle.asm_check.specs.Ways.{called, used, ReachesCycle, IsOnWay, height}
 use Rattle.asm_check.proofs.Declared.{first_is}
 use Rattle.asm_check.proofs.Ending.{listed, listed_sound, listed_complete}
 use Rattle.asm_check.proofs.FaultLists.{steps_sound}

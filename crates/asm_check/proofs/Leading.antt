@@ -1,13 +1,13 @@
 -- Whether steps lead from one name to another, as a test.
 --     leads S f g      a way leads from f to g, with only names of S between
 --     reaches S f      a cycle is reached from f
-use Rattle.std.proofs.Common.{◌≡◌, ◌⊎◌, Bool, true, false, ◌&&◌, ◌||◌, List, [], ◌∷◌, refl, sym, ap, subst, ◌∙◌, inl, inr}
+use Rattle.std.proofs.Common.{◌≡◌, ◌⊎◌, Bool, true, false, ◌&&◌, ◌||◌, List, [], ◌∷◌, refl, sym, subst, inl, inr}
 use Rattle.std.specs.Prelude.{Contains}
 use Rattle.std.specs.List.{list_any}
 use Rattle.std.proofs.lemmas.Bool.{false≢true}
 use Rattle.asm_check.specs.Names.{Text, is_text, is_among}
 use Rattle.asm_check.specs.Ways.{LeadsTo, at_once, by_way_of, ReachesCycle}
-use Rattle.asm_check.proofs.Declared.{same_text, text_itself}
+use Rattle.asm_check.proofs.Declared.{text_itself}
 use Rattle.asm_check.proofs.Heights.{here, there, none_in, head_or_tail}
 use Rattle.asm_check.proofs.Suited.{among}
 
