@@ -1,5 +1,6 @@
--- Examples of faults of small specifications. Above each one stands its text, behind the line `CoreASM T` and, where nothing else
--- is said, `init M`. Each line ends with a line feed, and places are counted from 0.
+-- Examples of faults of small specifications. Above each one stands its text, behind the line
+-- `CoreASM T` and, where nothing else is said, `init M`. Each line ends with a line feed, and places
+-- are counted from 0.
 use Rattle.std.proofs.Common.{◌≡◌, ℕ, ◌≤◌, pos, List, [], ◌∷◌, None, Some, refl, arith}
 use Rattle.std.specs.Prelude.{codes}
 use Rattle.std.proofs.lemmas.Int.{ints}
