@@ -1,9 +1,9 @@
 -- All faults of a specification, as one list: so there is a least one, or none.
 --     all_faults spec      the faults
 --     first_fault spec     the least of them
-use Rattle.std.proofs.Common.{◌≡◌, ◌⊎◌, ℕ, ◌<◌, ◌≤◌, nat_le, Bool, true, false, cond, not, ◌&&◌, List, [], ◌∷◌, ◌++◌, map, Option, Some, None, refl, sym, ap, subst, ◌∙◌, inl, inr, arith}
+use Rattle.std.proofs.Common.{◌≡◌, ◌⊎◌, ℕ, ◌≤◌, nat_le, Bool, true, false, cond, not, ◌&&◌, List, [], ◌∷◌, ◌++◌, map, Option, Some, None, refl, sym, ap, subst, inl, inr, arith, ◌∙◌}
 use Rattle.std.specs.Prelude.{Contains, filter}
-use Rattle.std.proofs.lemmas.Bool.{false≢true}
+use Rattle.std.proofs.lemmas.Bool.{false≢true, and_parts, and_from, not-true, not_from_false, false_from_ne_true}
 use Rattle.std.proofs.lemmas.Bool.Decides.{nat_tests}
 use Rattle.std.proofs.lemmas.List.Elements.{Contains-append_left, Contains-append_right, Contains-append_cases}
 use Rattle.asm_syntax.specs.Placed.{Spec}
@@ -14,12 +14,12 @@ use Rattle.asm_check.specs.Shapes.{texts_of}
 use Rattle.asm_check.specs.Soonest.{IsSoonest, noted}
 use Rattle.asm_check.specs.Steps as steps
 use Rattle.asm_check.specs.Steps.{IsStepFault, IsTooHigh}
-use Rattle.asm_check.specs.Ways.{called, used, LeadsTo, ReachesCycle, IsOnWay, height}
+use Rattle.asm_check.specs.Ways.{called, used, ReachesCycle, IsOnWay, height}
 use Rattle.asm_check.proofs.Declared.{first_is}
 use Rattle.asm_check.proofs.Ending.{listed, listed_sound, listed_complete}
 use Rattle.asm_check.proofs.FaultLists.{steps_sound}
 use Rattle.asm_check.proofs.Heights.{here, none_in, head_or_tail, there, in_map, way, high, within}
-use Rattle.asm_check.proofs.Leading.{and_left, and_right, and_both, leads, leads_sound, leads_complete, reaches, reaches_sound, reaches_complete}
+use Rattle.asm_check.proofs.Leading.{leads, leads_sound, leads_complete, reaches, reaches_sound, reaches_complete}
 use Rattle.asm_check.proofs.LeastOfAll.{soonest_of_list}
 use Rattle.asm_check.proofs.Listed.{IsListed, from_map}
 use Rattle.asm_check.proofs.Ranks.{in_filter, rules_begun, derived_begun}
@@ -36,14 +36,6 @@ from_filter p (y ∷ xs) x c = by_test (p y) refl c (from_filter p xs x)
           | inr rest ↦ let it = behind rest in (there y x xs it.0, it.1)
         ]
     by_test false e c behind = let it = behind c in (there y x xs it.0, it.1)
-
-not_true : (b : Bool) → ¬ (b ≡ true) → not b ≡ true
-not_true true h = absurd (h refl)
-not_true false h = refl
-
-never_true : (b : Bool) → not b ≡ true → ¬ (b ≡ true)
-never_true true e h = false≢true e
-never_true false e h = false≢true h
 
 -- ---- ways of steps, as tests
 
@@ -105,8 +97,8 @@ module _ (spec : Spec) (next : Text → List Text)
         sym (ap (λ f. f.1) it.2),
         it.0,
         member.0,
-        is_long next 17 f (and_left (nat_le 17 (height next 17 f)) (not (reaches next names all_begin f)) member.1),
-        λ cycle. never_true (reaches next names all_begin f) (and_right (nat_le 17 (height next 17 f)) (not (reaches next names all_begin f)) member.1) (reaches_complete next names all_begin f cycle),
+        is_long next 17 f (and_parts (nat_le 17 (height next 17 f)) (not (reaches next names all_begin f)) member.1).0,
+        λ cycle. false≢true (sym (not-true (reaches next names all_begin f) (and_parts (nat_le 17 (height next 17 f)) (not (reaches next names all_begin f)) member.1).1) ∙ reaches_complete next names all_begin f cycle),
         ap (λ f. f.0) it.2,
       )
 
@@ -116,8 +108,8 @@ module _ (spec : Spec) (next : Text → List Text)
       subst (λ a. IsListed high_faults a 15) place
       (in_map (λ (d : Declaration). (d.name.at, 15)) (filter (λ d. is_high d.name.text) (first_declarations spec)) d
       (in_filter (λ d. is_high d.name.text) (first_declarations spec) d
-      (and_both (nat_le 17 (height next 17 f)) (not (reaches next names all_begin f)) (long_is next 17 f long)
-      (not_true (reaches next names all_begin f) (λ e. none (reaches_sound next names all_begin f e)))) stands))
+      (and_from (nat_le 17 (height next 17 f)) (not (reaches next names all_begin f)) (long_is next 17 f long)
+      (not_from_false (reaches next names all_begin f) (false_from_ne_true (reaches next names all_begin f) (λ e. none (reaches_sound next names all_begin f e))))) stands))
 
 -- ---- all faults
 

@@ -1,41 +1,15 @@
 -- Whether steps lead from one name to another, as a test.
 --     leads S f g      a way leads from f to g, with only names of S between
 --     reaches S f      a cycle is reached from f
-use Rattle.std.proofs.Common.{◌≡◌, ◌⊎◌, Bool, true, false, ◌&&◌, ◌||◌, List, [], ◌∷◌, refl, sym, ap, subst, ◌∙◌, inl, inr}
+use Rattle.std.proofs.Common.{◌≡◌, Bool, true, ◌&&◌, ◌||◌, List, [], ◌∷◌, refl, sym, subst, inl, inr}
 use Rattle.std.specs.Prelude.{Contains}
 use Rattle.std.specs.List.{list_any}
-use Rattle.std.proofs.lemmas.Bool.{false≢true}
+use Rattle.std.proofs.lemmas.Bool.{false≢true, and_parts, and_from, or_cases, or_left, or_right}
 use Rattle.asm_check.specs.Names.{Text, is_text, is_among}
 use Rattle.asm_check.specs.Ways.{LeadsTo, at_once, by_way_of, ReachesCycle}
-use Rattle.asm_check.proofs.Declared.{same_text, text_itself}
+use Rattle.asm_check.proofs.Declared.{text_itself}
 use Rattle.asm_check.proofs.Heights.{here, there, none_in, head_or_tail}
 use Rattle.asm_check.proofs.Suited.{among}
-
--- ---- truth values
-
-or_cases : (a b : Bool) → (a || b) ≡ true → (a ≡ true) ⊎ (b ≡ true)
-or_cases true b e = inl refl
-or_cases false b e = inr e
-
-or_left : (a b : Bool) → a ≡ true → (a || b) ≡ true
-or_left true b e = refl
-or_left false b e = absurd (false≢true e)
-
-or_right : (a b : Bool) → b ≡ true → (a || b) ≡ true
-or_right true b e = refl
-or_right false b e = e
-
-pub and_left : (a b : Bool) → (a && b) ≡ true → a ≡ true
-and_left true b e = refl
-and_left false b e = absurd (false≢true e)
-
-pub and_right : (a b : Bool) → (a && b) ≡ true → b ≡ true
-and_right true b e = e
-and_right false b e = absurd (false≢true e)
-
-pub and_both : (a b : Bool) → a ≡ true → b ≡ true → (a && b) ≡ true
-and_both true b e f = f
-and_both false b e f = absurd (false≢true e)
 
 -- ---- members of lists, by tests
 
@@ -79,7 +53,7 @@ module _ (next : Text → List Text) where
   leads_sound (s ∷ S) f g e =
       elim (or_cases (leads S f g) (leads S f s && leads S s g) e) [
         | inl straight ↦ leads_sound S f g straight
-        | inr by ↦ follow (leads_sound S f s (and_left (leads S f s) (leads S s g) by)) (leads_sound S s g (and_right (leads S f s) (leads S s g) by))
+        | inr by ↦ follow (leads_sound S f s (and_parts (leads S f s) (leads S s g) by).0) (leads_sound S s g (and_parts (leads S f s) (leads S s g) by).1)
       ]
 
   leads_at_once : (S : List Text) (f g : Text) → Contains (next f) g → leads S f g ≡ true
@@ -88,10 +62,10 @@ module _ (next : Text → List Text) where
 
   -- the way to s, and the one from s on, need not pass s itself
   leads_into : (s : Text) (S : List Text) (f : Text) → leads (s ∷ S) f s ≡ true → leads S f s ≡ true
-  leads_into s S f e = elim (or_cases (leads S f s) (leads S f s && leads S s s) e) [ inl way ↦ way | inr by ↦ and_left (leads S f s) (leads S s s) by ]
+  leads_into s S f e = elim (or_cases (leads S f s) (leads S f s && leads S s s) e) [ inl way ↦ way | inr by ↦ (and_parts (leads S f s) (leads S s s) by).0 ]
 
   leads_out : (s : Text) (S : List Text) (g : Text) → leads (s ∷ S) s g ≡ true → leads S s g ≡ true
-  leads_out s S g e = elim (or_cases (leads S s g) (leads S s s && leads S s g) e) [ inl way ↦ way | inr by ↦ and_right (leads S s s) (leads S s g) by ]
+  leads_out s S g e = elim (or_cases (leads S s g) (leads S s s && leads S s g) e) [ inl way ↦ way | inr by ↦ (and_parts (leads S s s) (leads S s g) by).1 ]
 
   -- ways that meet at a name of the list are one
   leads_through : (S : List Text) (f s g : Text) → Contains S s → leads S f s ≡ true → leads S s g ≡ true → leads S f g ≡ true
@@ -104,17 +78,17 @@ module _ (next : Text → List Text) where
             elim (or_cases (leads S f s) (leads S f t && leads S t s) to) [
               | inl way ↦ elim (or_cases (leads S s g) (leads S s t && leads S t g) from) [
                 | inl on ↦ or_left (leads S f g) (leads S f t && leads S t g) (leads_through S f s g rest way on)
-                | inr by ↦ by_head (leads_through S f s t rest way (and_left (leads S s t) (leads S t g) by)) (and_right (leads S s t) (leads S t g) by)
+                | inr by ↦ by_head (leads_through S f s t rest way (and_parts (leads S s t) (leads S t g) by).0) (and_parts (leads S s t) (leads S t g) by).1
               ]
               | inr over ↦ elim (or_cases (leads S s g) (leads S s t && leads S t g) from) [
-                | inl on ↦ by_head (and_left (leads S f t) (leads S t s) over) (leads_through S t s g rest (and_right (leads S f t) (leads S t s) over) on)
-                | inr by ↦ by_head (and_left (leads S f t) (leads S t s) over) (and_right (leads S s t) (leads S t g) by)
+                | inl on ↦ by_head (and_parts (leads S f t) (leads S t s) over).0 (leads_through S t s g rest (and_parts (leads S f t) (leads S t s) over).1 on)
+                | inr by ↦ by_head (and_parts (leads S f t) (leads S t s) over).0 (and_parts (leads S s t) (leads S t g) by).1
               ]
             ]
       ]
     where
       by_head : leads S f t ≡ true → leads S t g ≡ true → leads (t ∷ S) f g ≡ true
-      by_head to from = or_right (leads S f g) (leads S f t && leads S t g) (and_both (leads S f t) (leads S t g) to from)
+      by_head to from = or_right (leads S f g) (leads S f t && leads S t g) (and_from (leads S f t) (leads S t g) to from)
 
   first_step : {f g : Text} → LeadsTo next f g → (h : Text) × Contains (next f) h
   first_step (at_once c) = (_, c)
@@ -136,7 +110,7 @@ module _ (next : Text → List Text) where
           | inl back ↦ (f, inl refl, leads_sound S f f back)
           | inr some ↦
               let it = one_passes (λ g. leads S f g && leads S g g) S some in
-              (it.0, inr (leads_sound S f it.0 (and_left (leads S f it.0) (leads S it.0 it.0) it.2)), leads_sound S it.0 it.0 (and_right (leads S f it.0) (leads S it.0 it.0) it.2))
+              (it.0, inr (leads_sound S f it.0 (and_parts (leads S f it.0) (leads S it.0 it.0) it.2).0), leads_sound S it.0 it.0 (and_parts (leads S f it.0) (leads S it.0 it.0) it.2).1)
         ]
 
     pub reaches_complete : (f : Text) → ReachesCycle next f → reaches f ≡ true
@@ -146,5 +120,5 @@ module _ (next : Text → List Text) where
           | inr there ↦
               let step = first_step back in
               or_right (leads S f f) (list_any (λ g. leads S f g && leads S g g) S)
-              (some_passes (λ g. leads S f g && leads S g g) S g (all g step.0 step.1) (and_both (leads S f g) (leads S g g) (leads_complete there) (leads_complete back)))
+              (some_passes (λ g. leads S f g && leads S g g) S g (all g step.0 step.1) (and_from (leads S f g) (leads S g g) (leads_complete there) (leads_complete back)))
         ]

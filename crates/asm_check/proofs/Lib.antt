@@ -15,6 +15,7 @@ pub mod ElementCounts
 pub mod ElementNumbers
 pub mod Ending
 pub mod EntryArguments
+pub mod Examples
 pub mod FaultLists
 pub mod Firsts
 pub mod Fit

@@ -49,12 +49,12 @@ pub struct Checked {
 
 impl Checked {
     /// The well-formed specification, made ready.
-    pub(crate) fn of(alloc: Global, spec: Spec) -> Result<Checked, AllocError>
-        requires { IsWellFormed (spec_of spec) }
+    pub(crate) fn of(alloc: Global, spec: Spec, numbering: Numbering) -> Result<Checked, AllocError>
+        requires good { IsWellFormed (spec_of spec) }
+        requires numbered { IsNumberingOf (first_declarations (spec_of spec)) numbering }
         ensures { IfOk result (λ c. c.spec ≡ spec) }
     {
         let signature = signature_of(alloc, &spec)?;
-        let numbering = Numbering::of(alloc, &spec)?;
         let bodies = Bodies::of(alloc, &spec.items)?;
         let main = main_of(&spec, &numbering);
         Ok(Checked {

@@ -1,10 +1,14 @@
 //! Whether a specification is well formed, and the fault that stands first where it isn't.
-ghost use Rattle.std.specs.Prelude.{◌≡◌, IfOk, IfErr, OnOk};
+ghost use Rattle.std.specs.Prelude.{◌≡◌, None, IfOk, IfErr, OnOk};
 ghost use Rattle.asm_syntax.specs.declared.refused.Refused.TheVariants.{Memory};
 ghost use Rattle.asm_syntax.specs.Views.{spec_of};
 ghost use Rattle.asm_check.specs.Errors.{Explains, found_of};
 ghost use Rattle.asm_check.specs.Faults.{IsFault, IsWellFormed};
-ghost use Rattle.asm_check.specs.Soonest.{IsSoonest};
+ghost use Rattle.asm_check.specs.FaultLists.{twice_faults};
+ghost use Rattle.asm_check.specs.Names.{first_declarations};
+ghost use Rattle.asm_check.specs.NumberTables.{IsNumberingOf};
+ghost use Rattle.asm_check.specs.Soonest.{IsSoonest, noted as noted_after};
+ghost use Rattle.asm_check.specs.Tables.{IsTableOf};
 
 use crate::checked::Checked;
 use crate::cycles::note_steps;
@@ -12,7 +16,8 @@ use crate::error::CheckError;
 use crate::known::note_uses;
 use crate::least::Least;
 use crate::limits::note_limits;
-use crate::names::first_names;
+use crate::names::{Names, first_names};
+use crate::numbering::Numbering;
 use crate::starts::note_inits;
 use crate::tables::note_entries;
 use asm_syntax::Refused;
@@ -28,23 +33,43 @@ pub fn check(alloc: Global, spec: Spec) -> Result<Checked, Refused<CheckError>>
     // A well-formed specification is refused only where memory runs out.
     ensures good { IsWellFormed (spec_of spec) → IfErr result (λ e. e ≡ Memory) }
 {
-    match least_fault(alloc, &spec)? {
-        Some(fault) => Err(Refused::Named(fault)),
-        None => Ok(Checked::of(alloc, spec)?),
-    }
+    let numbering = numbered(alloc, &spec)?;
+    Ok(Checked::of(alloc, spec, numbering)?)
 }
 
-/// The least of all faults: the one with the least place, and there with the least number.
-pub(crate) fn least_fault(alloc: Global, spec: &Spec) -> Result<Option<CheckError>, AllocError>
-    ensures { IfOk result (λ found. IsSoonest (IsFault (spec_of spec.now)) (found_of found)) }
+/// What the names of a specification without faults stand for, or else its least fault.
+fn numbered(alloc: Global, spec: &Spec) -> Result<Numbering, Refused<CheckError>>
+    ensures numbered { IfOk result (IsNumberingOf (first_declarations (spec_of spec.now))) }
+    ensures well_formed { OnOk result (IsWellFormed (spec_of spec.now)) }
+    ensures refused { IfErr result (Explains (spec_of spec.now)) }
+    ensures good { IsWellFormed (spec_of spec.now) → IfErr result (λ e. e ≡ Memory) }
 {
     let mut least = Least::new();
     let names = first_names(alloc, spec, &mut least)?;
-    note_inits(spec, &names, &mut least);
-    note_uses(alloc, spec, &names, &mut least)?;
-    note_limits(alloc, spec, &names, &mut least)?;
-    note_entries(alloc, spec, &names, &mut least)?;
+    match least_fault(alloc, spec, &names, least)? {
+        Some(fault) => Err(Refused::Named(fault)),
+        None => Ok(Numbering::of(alloc, &names)?),
+    }
+}
+
+/// The least of all faults: the one with the least place, and there with the least number. Those of names that are declared
+/// twice are noted before.
+fn least_fault(
+    alloc: Global,
+    spec: &Spec,
+    names: &Names,
+    noted: Least,
+) -> Result<Option<CheckError>, AllocError>
+    requires table { IsTableOf (spec_of spec.now) names.now.entries }
+    requires twice { found_of noted.found ≡ noted_after None (twice_faults (spec_of spec.now)) }
+    ensures { IfOk result (λ found. IsSoonest (IsFault (spec_of spec.now)) (found_of found)) }
+{
+    let mut least = noted;
+    note_inits(spec, names, &mut least);
+    note_uses(alloc, spec, names, &mut least)?;
+    note_limits(alloc, spec, names, &mut least)?;
+    note_entries(alloc, spec, names, &mut least)?;
     // The search for cycles comes last: it looks only at what stands before the faults that are found by then.
-    note_steps(alloc, spec, &names, &mut least)?;
+    note_steps(alloc, spec, names, &mut least)?;
     Ok(least.found)
 }

@@ -5,7 +5,6 @@ ghost use Rattle.std.specs.Cmp.Lexicographic.{pointwise};
 ghost use Rattle.std.specs.Map.{lookup};
 ghost use Rattle.std.specs.Prelude.{nat_eq};
 ghost use Rattle.asm_syntax.specs.Placed as placed;
-ghost use Rattle.asm_syntax.specs.Views.{spec_of};
 ghost use Rattle.asm_check.specs.Names as declarations;
 ghost use Rattle.asm_check.specs.Names.{is_among, first_declarations};
 ghost use Rattle.asm_check.specs.NumberTables.{IsPlaced, next_number, IsNumberingOf, text_kept_at};
@@ -13,12 +12,10 @@ ghost use Rattle.asm_check.specs.Shapes.{texts_of};
 ghost use Rattle.asm_check.specs.Tables.{meaning_of, declaration_of, IsTableOf};
 
 use crate::checked::Named;
-use crate::least::Least;
 use crate::likely::Likely;
 use crate::meaning::{Declared, Meaning};
-use crate::names::{Names, first_names};
+use crate::names::Names;
 use asm_syntax::name::Text;
-use asm_syntax::spec::Spec;
 use indexmap::IndexMap;
 use std::alloc::{AllocError, Global};
 
@@ -32,15 +29,8 @@ pub(crate) struct Numbering {
 }
 
 impl Numbering {
-    /// The numbering of what a specification declares first.
-    pub(crate) fn of(alloc: Global, spec: &Spec) -> Result<Numbering, AllocError>
-        ensures { IfOk result (IsNumberingOf (first_declarations (spec_of spec.now))) }
-    {
-        let names = first_names(alloc, spec, &mut Least::new())?;
-        Numbering::of_table(alloc, &names)
-    }
-
-    fn of_table(alloc: Global, names: &Names) -> Result<Numbering, AllocError>
+    /// The numbering of what a specification declares first, by the table of its names.
+    pub(crate) fn of(alloc: Global, names: &Names) -> Result<Numbering, AllocError>
         ensures { IfOk result (λ n. (spec : placed.Spec) → IsTableOf spec names.now.entries → IsNumberingOf (first_declarations spec) n) }
     {
         let mut numbering = Numbering::new(alloc);

@@ -1,9 +1,10 @@
 -- From each call of the search to the next.
+use Rattle.std.proofs.Common.{None, refl}
 use Rattle.asm_syntax.specs.Views.{spec_of}
 use Rattle.asm_check.proofs.Ending.{search_ends}
 use Rattle.asm_check.proofs.checking.least_fault.Goals as goal
 
 pub returns : goal.returns
 returns c =
-    search_ends (spec_of c.args.spec.now) _ _ _ _ _ _ _ c.new-least.ensures c.in_ok-names.ensures.least c.note_inits.ensures c.in_ok-note_uses.ensures
+    search_ends (spec_of c.args.spec.now) None _ _ _ _ _ _ refl c.requires.twice c.note_inits.ensures c.in_ok-note_uses.ensures
     c.in_ok-note_limits.ensures c.in_ok-note_entries.ensures c.in_ok-note_steps.ensures

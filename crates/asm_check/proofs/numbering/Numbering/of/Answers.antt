@@ -3,7 +3,7 @@ use Rattle.std.proofs.lemmas.List.{length-map}
 use Rattle.asm_check.specs.NumberTables.{IsNumberingOf}
 use Rattle.asm_check.specs.Tables.{declaration_of}
 use Rattle.asm_check.proofs.Numbered.{next_entry, all_entries}
-use Rattle.asm_check.proofs.numbering.Numbering.of_table.Goals as goal
+use Rattle.asm_check.proofs.numbering.Numbering.of.Goals as goal
 
 pub loop-i-preserved : goal.loop-i-preserved
 loop-i-preserved c = λ spec table.
