@@ -1,6 +1,8 @@
 //! Runs of specifications, from bytes to bytes.
 use asm_run::limits::Limits;
 
+mod refusals;
+mod sinks;
 mod writers;
 
 const LIMITS: Limits = Limits {

@@ -1,17 +1,31 @@
 -- What a status says of the texts, from what the answer of the run says.
-use Rattle.std.proofs.Common.{◌≡◌, ◌≤◌, ◌∙◌, ap, ℕ, List, [], Option, None, Some, codes, refl, sym, subst, arith}
-use Rattle.std.specs.Prelude.{Err, IfSome, Ok, option_map, pos, take, unwrap_or}
+use Rattle.std.proofs.Common.{◌≡◌, ◌≤◌, ◌<◌, ◌⊎◌, ◌∙◌, ap, ℕ, List, [], Option, None, Some, codes, inl, inr, sym, subst, arith}
+use Rattle.std.specs.Prelude.{◌≢◌, Err, IfSome, Ok, length, option_map, pos, take, unwrap_or}
+use Rattle.std.proofs.lemmas.Bool.{cases_lt}
+use Rattle.std.proofs.lemmas.List.{length-take-le, take_all}
 use Rattle.std.specs.Str.Parse.{signed_digits_value}
 use Rattle.std.proofs.lemmas.Int.{ints}
 use Rattle.clap.specs.Simple.{matches_of}
-use Rattle.clap.specs.Walk.{Row, Text}
+use Rattle.clap.specs.Walk.{Row, Text, first_of}
+use Rattle.asm_syntax.specs.Placed.{Spec}
+use Rattle.asm_syntax.specs.declared.error.LexError.TheVariants.{TooLong}
+use Rattle.asm_reader.specs.Refusals.{IsRefusal}
+use Rattle.asm_reader.specs.Specification.{IsSpecification}
+use Rattle.asm_reader.specs.ScriptText.{IsScript, IsScriptRefusal}
+use Rattle.asm_reader.specs.declared.error.ReadError.{ReadError}
+use Rattle.asm_reader.specs.declared.error.ReadError.TheVariants.{Lex}
+use Rattle.asm_reader.specs.declared.script_error.ScriptError.{ScriptError}
+use Rattle.asm_reader.specs.declared.script_error.ScriptError.TheVariants as script_error
+use Rattle.asm_eval.specs.Run as run_of
+use Rattle.asm_eval.specs.Run.{AtLimit}
+use Rattle.asm_run.specs.Headline.{IsAccepted, IsFaulty}
 use Rattle.asm_run.specs.Ends as run
-use Rattle.asm_run.specs.Ends.{EndsEarly, IsRefused, MakesAllSteps}
+use Rattle.asm_run.specs.Ends.{EndsEarly, HasEnd, IsRefused, MakesAllSteps}
 use Rattle.asm_run.specs.declared.end.End.{End}
 use Rattle.asm_run.specs.declared.end.End.TheVariants.{Limit, Clash, Outside, Exhausted}
 use Rattle.asm_run.specs.declared.error.RunError.{RunError}
 use Rattle.asm_run.specs.declared.error.RunError.TheVariants as error
-use Rattle.asm_tool.specs.Statuses.{Tells, TellsOfWords, most_bytes, run_fault, status_at, status_of}
+use Rattle.asm_tool.specs.Statuses.{IsFront, Tells, TellsOfWords, bytes_of, run_fault, status_at, status_of}
 use Rattle.asm_tool.specs.CommandLine.{command}
 use Rattle.asm_tool.specs.Said.{AreSaid, IsNumber}
 use Rattle.asm_tool.specs.declared.settings.Settings.{Settings}
@@ -45,10 +59,6 @@ module _ (text script_text : List ℕ) (steps turns : ℕ) where
 
 -- ---- of words
 
-nothing : {A B : Type 0} (f : A → B) (o : Option A) → option_map f o ≡ None → o ≡ None
-nothing f None e = refl
-nothing f (Some x) e = cc
-
 one_number : (rows : List Row) (name : Text) (n m : ℕ) → IsNumber rows name n → IsNumber rows name m → n ≡ m
 one_number rows name n m a b =
     let texts : Some a.text ≡ Some b.text = sym a.is_given ∙ b.is_given in
@@ -56,17 +66,81 @@ one_number rows name n m a b =
     let numbers : pos n ≡ pos m = sym a.is_read ∙ (ap (signed_digits_value 10) same ∙ b.is_read) in
     omega (arith, ints)
 
-pub of_words : (words : List Text) (known : Option (List ℕ)) (s : Settings) (text script_text : List ℕ) (status : ℕ) → AreSaid words s
-    → (s.spec ≡ None → IfSome known (λ bytes. text ≡ take most_bytes bytes)) → (s.script ≡ None → script_text ≡ [])
-    → Tells text script_text s.limits.steps s.limits.turns status → IfSome known (λ bytes. TellsOfWords words bytes status)
-of_words words None s text script_text status said read empty told = tt
-of_words words (Some bytes) s text script_text status said read empty told = λ no_spec no_script steps turns is_steps is_turns.
+-- ---- of bytes that are read no further than they can matter
+
+abbrev pub most_bytes : ℕ
+most_bytes = 1_048_577
+
+whole : (bytes : List ℕ) → length (take most_bytes bytes) ≤ 1_048_576 → take most_bytes bytes ≡ bytes
+whole bytes short = by_length (cases_lt 1_048_577 (length bytes))
+  where
+    by_length : (1_048_577 < length bytes) ⊎ (length bytes ≤ 1_048_577) → take most_bytes bytes ≡ bytes
+    by_length (inl long) = absurd (omega (arith, short, long, length-take-le most_bytes bytes (omega (arith, long))))
+    by_length (inr low) = take_all most_bytes bytes low
+
+whole_text : (bytes : List ℕ) (s : Spec) → IsSpecification (take most_bytes bytes) s → take most_bytes bytes ≡ bytes
+whole_text bytes s spelled = whole bytes spelled.1.0
+
+refused_front : (bytes : List ℕ) (e : ReadError) → IsRefusal (take most_bytes bytes) e → (script_text : List ℕ) → IsRefused bytes script_text
+refused_front bytes e refusal script_text = by_length (cases_lt 1_048_576 (length bytes))
+  where
+    by_length : (1_048_576 < length bytes) ⊎ (length bytes ≤ 1_048_576) → IsRefused bytes script_text
+    by_length (inl long) = run.unread (Lex TooLong) long
+    by_length (inr low) = run.unread e (subst (λ (x : List ℕ). IsRefusal x e) (take_all most_bytes bytes (omega (arith, low))) refusal)
+
+refused_script : (text bytes : List ℕ) (s : Spec) (e : ScriptError) → IsAccepted text s → IsScriptRefusal (take most_bytes bytes) e → IsRefused text bytes
+refused_script text bytes s e accepted refusal = by_length (cases_lt 1_048_576 (length bytes))
+  where
+    by_length : (1_048_576 < length bytes) ⊎ (length bytes ≤ 1_048_576) → IsRefused text bytes
+    by_length (inl long) = run.unscripted s script_error.TooLong accepted long
+    by_length (inr low) = run.unscripted s e accepted (subst (λ (x : List ℕ). IsScriptRefusal x e) (take_all most_bytes bytes (omega (arith, low))) refusal)
+
+refused_fronts : (text script_text : List ℕ) → IsRefused (take most_bytes text) (take most_bytes script_text) → IsRefused text script_text
+refused_fronts text script_text (run.unread e refusal) = refused_front text e refusal script_text
+refused_fronts text script_text (run.faulty e faulty) =
+    run.faulty e (subst (λ (x : List ℕ). IsFaulty x e) (whole_text text faulty.0 faulty.1) faulty)
+refused_fronts text script_text (run.unscripted s e accepted refusal) =
+    refused_script text script_text s e (subst (λ (x : List ℕ). IsAccepted x s) (whole_text text s accepted.spelled) accepted) refusal
+
+module _ (text script_text : List ℕ) (steps turns : ℕ) where
+  ended_fronts : (P : run_of.End → Type 0) → HasEnd (take most_bytes text) (take most_bytes script_text) steps turns P → HasEnd text script_text steps turns P
+  ended_fronts P h = record {
+    tree = h.tree;
+    accepted = subst (λ (x : List ℕ). IsAccepted x h.tree) (whole_text text h.tree h.accepted.spelled) h.accepted;
+    script = h.script;
+    spelled = subst (λ (x : List ℕ). IsScript x h.script) (whole script_text h.spelled.fits) h.spelled;
+    ended = h.ended;
+  }
+
+  of_fronts : (status : ℕ) → Tells (take most_bytes text) (take most_bytes script_text) steps turns status → Tells text script_text steps turns status
+  of_fronts status told = record {
+    whole = λ e. ended_fronts (λ a. a ≡ AtLimit) (told.whole e);
+    early = λ e. ended_fronts (λ a. a ≢ AtLimit) (told.early e);
+    refused = λ e. refused_fronts text script_text (told.refused e);
+  }
+
+-- ---- of words that say so many steps and turns
+
+module _ (rows : List Row) (steps turns : ℕ) (are_steps : IsNumber rows (codes "steps") steps) (are_turns : IsNumber rows (codes "turns") turns) where
+  of_known : (known known_script : Option (List ℕ)) (text script_text : List ℕ) (status : ℕ)
+      → IsFront known most_bytes text → IsFront known_script most_bytes script_text → Tells text script_text steps turns status
+      → IfSome known (λ bytes. IfSome known_script (λ script_bytes. (n m : ℕ) → IsNumber rows (codes "steps") n → IsNumber rows (codes "turns") m → Tells bytes script_bytes n m status))
+  of_known None known_script text script_text status read read_script told = tt
+  of_known (Some bytes) None text script_text status read read_script told = tt
+  of_known (Some bytes) (Some script_bytes) text script_text status read read_script told = λ n m is_n is_m.
+      of_fronts bytes script_bytes n m status
+      (subst (λ (x : List ℕ). Tells x (take most_bytes script_bytes) n m status) read
+      (subst (λ (x : List ℕ). Tells text x n m status) read_script
+      (subst (λ (x : ℕ). Tells text script_text x m status) (one_number rows (codes "steps") steps n are_steps is_n)
+      (subst (λ (x : ℕ). Tells text script_text steps x status) (one_number rows (codes "turns") turns m are_turns is_m) told))))
+
+pub of_words : (words : List Text) (contents : Text → Option (List ℕ)) (input : Option (List ℕ)) (s : Settings) (text script_text : List ℕ) (status : ℕ)
+    → AreSaid words s → IsFront (bytes_of contents input (option_map (λ name. name.now) s.spec)) most_bytes text
+    → IsFront (bytes_of contents (Some []) (option_map (λ name. name.now) s.script)) most_bytes script_text
+    → Tells text script_text s.limits.steps s.limits.turns status → TellsOfWords words contents input status
+of_words words contents input s text script_text status said read read_script told =
     let rows = matches_of command words in
-    let text_is = read (nothing (λ name. name.now) s.spec (said.spec ∙ no_spec)) in
-    let script_is = empty (nothing (λ name. name.now) s.script (said.script ∙ no_script)) in
-    let steps_are = one_number rows (codes "steps") s.limits.steps steps said.steps is_steps in
-    let turns_are = one_number rows (codes "turns") s.limits.turns turns said.turns is_turns in
-    subst (λ (x : List ℕ). Tells x [] steps turns status) text_is
-    (subst (λ (x : List ℕ). Tells text x steps turns status) script_is
-    (subst (λ (x : ℕ). Tells text script_text x turns status) steps_are
-    (subst (λ (x : ℕ). Tells text script_text s.limits.steps x status) turns_are told)))
+    of_known rows s.limits.steps s.limits.turns said.steps said.turns
+    (bytes_of contents input (first_of (codes "spec") rows)) (bytes_of contents (Some []) (first_of (codes "script") rows)) text script_text status
+    (subst (λ (o : Option Text). IsFront (bytes_of contents input o) most_bytes text) said.spec read)
+    (subst (λ (o : Option Text). IsFront (bytes_of contents (Some []) o) most_bytes script_text) said.script read_script) told

@@ -1,10 +1,10 @@
 -- The statuses that the program ends with.
 --     status_of fault                              the status of a fault
---     word_fault, read_fault                       the fault of words, and of a read, that failed with an error of this kind
+--     word_fault, read_fault, buffer_fault         the fault of words, of a read or of a buffer that failed with an error of this kind
 --     run_fault error                              the fault of a refused run
 --     Tells text script_text steps turns status    0: their run makes all its steps; 1: it ends before; 2: one of the texts is refused
---     TellsOfWords words bytes status              the same of words that name no file, and of an input that has these bytes
-use Rattle.std.specs.Prelude.{◌≡◌, ◌≢◌, ◌≤◌, ◌⊎◌, ℕ, List, [], None, Ok, Err, Result, codes, take}
+--     TellsOfWords words contents input status     the same of words, of files with these contents and of an input with these bytes
+use Rattle.std.specs.Prelude.{◌≡◌, ◌≢◌, ◌≤◌, ◌⊎◌, ℕ, List, [], Option, None, Some, IfSome, Ok, Err, Result, codes, take}
 use Rattle.std.specs.declared.io.ErrorKind.{ErrorKind}
 use Rattle.std.specs.declared.io.ErrorKind.TheVariants.{OutOfMemory}
 use Rattle.clap.specs.Simple.{matches_of}
@@ -38,6 +38,10 @@ word_fault kind = NotText
 abbrev pub read_fault : ErrorKind → Fault
 read_fault OutOfMemory = Memory
 read_fault kind = File
+
+abbrev pub buffer_fault : ErrorKind → Fault
+buffer_fault OutOfMemory = Memory
+buffer_fault kind = Write
 
 abbrev pub settings_fault : WordFault → Fault
 settings_fault word.Memory = Memory
@@ -75,14 +79,22 @@ abbrev pub status_in : Result End Fault → ℕ
 status_in (Ok end) = status_at end
 status_in (Err fault) = status_of fault
 
--- one more than the bytes of the longest text, and of the longest script: reading goes no further
-abbrev pub most_bytes : ℕ
-most_bytes = 1_048_577
+-- ---- of words
 
--- the same of words that name no file, and of an input that has these bytes
-abbrev pub TellsOfWords : List Text → List ℕ → ℕ → Type 0
-TellsOfWords words bytes status =
+-- the bytes of the file with this name, or these where there is no name
+abbrev pub bytes_of : (contents : Text → Option (List ℕ)) → Option (List ℕ) → Option Text → Option (List ℕ)
+bytes_of contents others None = others
+bytes_of contents others (Some name) = contents name
+
+-- known bytes, or so many of them where there are more
+abbrev pub IsFront : Option (List ℕ) → ℕ → List ℕ → Type 0
+IsFront known most text = IfSome known (λ bytes. text ≡ take most bytes)
+
+-- the same of words, of files with these contents and of an input with these bytes, where they are known; without a script it has no bytes
+abbrev pub TellsOfWords : List Text → (contents : Text → Option (List ℕ)) → (input : Option (List ℕ)) → ℕ → Type 0
+TellsOfWords words contents input status =
     let rows : List Row = matches_of command words in
-    first_of (codes "spec") rows ≡ None → first_of (codes "script") rows ≡ None
-    → (steps turns : ℕ) → IsNumber rows (codes "steps") steps → IsNumber rows (codes "turns") turns
-    → Tells (take most_bytes bytes) [] steps turns status
+    IfSome (bytes_of contents input (first_of (codes "spec") rows)) (λ text.
+    IfSome (bytes_of contents (Some []) (first_of (codes "script") rows)) (λ script_text.
+    (steps turns : ℕ) → IsNumber rows (codes "steps") steps → IsNumber rows (codes "turns") turns
+    → Tells text script_text steps turns status))

@@ -1,7 +1,7 @@
 //! Why the program ends without the whole trace.
 ghost use Rattle.std.specs.Prelude.{◌≡◌};
 ghost use Rattle.std.specs.IoError.{error_kind};
-ghost use Rattle.asm_tool.specs.Statuses.{read_fault, settings_fault, status_of, word_fault};
+ghost use Rattle.asm_tool.specs.Statuses.{buffer_fault, read_fault, settings_fault, status_of, word_fault};
 ghost use Rattle.asm_tool.specs.declared.fault.Fault.TheVariants.{Memory};
 
 use crate::settings::WordFault;
@@ -100,6 +100,16 @@ impl Fault {
         match error.kind() {
             io::ErrorKind::OutOfMemory => Fault::Memory,
             _ => Fault::File,
+        }
+    }
+
+    /// The fault of a buffer for the trace that can't be had.
+    pub fn of_buffer(error: &io::Error) -> Fault
+        ensures { result ≡ buffer_fault (error_kind error.now) }
+    {
+        match error.kind() {
+            io::ErrorKind::OutOfMemory => Fault::Memory,
+            _ => Fault::Write,
         }
     }
 }

@@ -1,12 +1,13 @@
 //! The words, the text and the script that come in.
-ghost use Rattle.std.specs.Prelude.{◌≡◌, [], None, take, IfOk, IfErr, IfSome};
-ghost use Rattle.asm_tool.specs.Statuses.{status_of};
+ghost use Rattle.std.specs.Prelude.{◌≡◌, [], Some, option_map, IfOk, IfErr};
+ghost use Rattle.asm_tool.specs.Statuses.{IsFront, bytes_of, status_of};
 
 use crate::fault::Fault;
+use crate::folder::Folder;
 use std::alloc::Global;
+use std::env;
 use std::io::Read;
-use std::rt::{Env, Files};
-use std::{env, fs};
+use std::rt::Env;
 
 /// The words behind the program's name.
 pub fn words<R: Env + AllocGlobal>(rt: &R) -> Result<Vec<String>, Fault> {
@@ -17,43 +18,44 @@ pub fn words<R: Env + AllocGlobal>(rt: &R) -> Result<Vec<String>, Fault> {
 }
 
 /// The front of the text: of its file, or of the input where no file is named.
-pub fn text<R: Files, I: Read + Drop>(
-    rt: &R,
+pub fn text<F: Folder, I: Read + Drop>(
+    folder: &F,
     alloc: Global,
     name: Option<&str>,
     input: I,
     most: u64,
 ) -> Result<Vec<u8>, Fault>
-    ensures read { name.entry ≡ None → IfSome (I.remaining input) (λ bytes. IfOk result (λ text. text.items ≡ take most bytes)) }
+    ensures read { IfOk result (λ text. IsFront (bytes_of (F.contents folder.now) (I.remaining input) (option_map (λ n. n.now) name.entry)) most text.items) }
     ensures failed { IfErr result (λ fault. status_of fault ≡ 3) }
 {
     match name {
-        Some(name) => named(rt, alloc, name, most),
+        Some(name) => named(folder, alloc, name, most),
         None => front(alloc, input, most),
     }
 }
 
 /// The front of the script: of its file, or nothing where no file is named.
-pub fn script<R: Files>(
-    rt: &R,
+pub fn script<F: Folder>(
+    folder: &F,
     alloc: Global,
     name: Option<&str>,
     most: u64,
 ) -> Result<Vec<u8>, Fault>
-    ensures read { name.entry ≡ None → IfOk result (λ script. script.items ≡ []) }
+    ensures read { IfOk result (λ script. IsFront (bytes_of (F.contents folder.now) (Some []) (option_map (λ n. n.now) name.entry)) most script.items) }
     ensures failed { IfErr result (λ fault. status_of fault ≡ 3) }
 {
     match name {
-        Some(name) => named(rt, alloc, name, most),
+        Some(name) => named(folder, alloc, name, most),
         None => Ok(Vec::new(alloc)),
     }
 }
 
 /// The front of the file of this name.
-fn named<R: Files>(rt: &R, alloc: Global, name: &str, most: u64) -> Result<Vec<u8>, Fault>
-    ensures { IfErr result (λ fault. status_of fault ≡ 3) }
+fn named<F: Folder>(folder: &F, alloc: Global, name: &str, most: u64) -> Result<Vec<u8>, Fault>
+    ensures read { IfOk result (λ text. IsFront (F.contents folder.now name.now) most text.items) }
+    ensures failed { IfErr result (λ fault. status_of fault ≡ 3) }
 {
-    match fs::open(rt, name) {
+    match folder.open(name) {
         Ok(file) => front(alloc, file, most),
         Err(error) => Err(Fault::of_read(&error)),
     }
@@ -61,7 +63,7 @@ fn named<R: Files>(rt: &R, alloc: Global, name: &str, most: u64) -> Result<Vec<u
 
 /// The input to its end, or so many bytes of it where it is longer.
 pub fn front<I: Read + Drop>(alloc: Global, input: I, most: u64) -> Result<Vec<u8>, Fault>
-    ensures read { IfSome (I.remaining input) (λ bytes. IfOk result (λ text. text.items ≡ take most bytes)) }
+    ensures read { IfOk result (λ text. IsFront (I.remaining input) most text.items) }
     ensures failed { IfErr result (λ fault. status_of fault ≡ 3) }
 {
     let mut text = Vec::new(alloc);

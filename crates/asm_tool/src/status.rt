@@ -1,11 +1,13 @@
 //! The program over any reader and writers, and the status that it ends with.
-ghost use Rattle.std.specs.Prelude.{◌≡◌, ◌≢◌, ◌≤◌, ◌⊎◌, [], map, IsTrue, IfOk, IfErr, IfSome};
+ghost use Rattle.std.specs.Prelude.{◌≡◌, ◌≢◌, ◌≤◌, ◌⊎◌, [], map, IsTrue, IfOk, IfErr};
 ghost use Rattle.asm_run.specs.Limits.{are_in_range};
 ghost use Rattle.asm_tool.specs.CommandLine.{refusals};
 ghost use Rattle.asm_tool.specs.Statuses.{IsFaultOfWords, Tells, TellsOfWords, run_fault, status_at, status_in, status_of};
 
 use crate::fault::Fault;
+use crate::folder::Folder;
 use crate::input;
+use crate::output::Finish;
 use crate::words::settings;
 use asm_run::end::End;
 use asm_run::error::RunError;
@@ -15,30 +17,28 @@ use asm_run::run::run;
 use asm_run::through::Through;
 use std::alloc::Global;
 use std::convert::AsStr;
-use std::io::{BufWriter, Read, Write};
-use std::rt::Files;
+use std::io::{Read, Write};
 use std::thread::Threads;
 
 /// One more than the bytes of the longest text, and of the longest script: reading goes no further, and what is of this length is too long.
 const MOST_BYTES: u64 = 1_048_577;
 
-/// So many bytes of the trace are written at a time.
-const BUFFER: usize = 1 << 16;
-
-/// Runs the specification that the words name, or that the input has where they name none, and writes its trace to `out` and
+/// Runs the specification of the file that the words name, or of the input where they name none, and writes its trace to `out` and
 /// the line of a fault to `err`. The words are those behind the program's name.
 pub fn status<
-    R: Threads + Files + AllocGlobal,
+    R: Threads + AllocGlobal,
+    F: Folder,
     S: AsStr,
     I: Read + Drop,
-    O: Write + Drop,
+    O: Write + Finish,
     E: Write,
->(rt: &R, words: &[S], input: I, out: O, err: &mut E) -> u8
+>(rt: &R, folder: &F, words: &[S], input: I, out: &mut O, err: &mut E) -> u8
     ensures taken { refusals (map S.text words.entry.now) ≡ [] → result ≤ 3 }
     ensures refused { refusals (map S.text words.entry.now) ≢ [] → (result ≡ 3) ⊎ (result ≡ 4) }
-    ensures told { IfSome (I.remaining input) (λ bytes. TellsOfWords (map S.text words.entry.now) bytes result) }
+    ensures told { TellsOfWords (map S.text words.entry.now) (F.contents folder.now) (I.remaining input) result }
+    ensures finished { result ≤ 1 → IsTrue (O.is_finished out.new) }
 {
-    match end(rt, words, input, out) {
+    match end(rt, folder, words, input, out) {
         Ok(end) => whole_trace(end),
         Err(fault) => refusal(&fault, err),
     }
@@ -64,20 +64,22 @@ pub fn refusal<E: Write>(fault: &Fault, err: &mut E) -> u8
 }
 
 /// The end of the run, once its whole trace is written. The words come first, then the text, then the script.
-fn end<R: Threads + Files + AllocGlobal, S: AsStr, I: Read + Drop, O: Write + Drop>(
+fn end<R: Threads + AllocGlobal, F: Folder, S: AsStr, I: Read + Drop, O: Write + Finish>(
     rt: &R,
+    folder: &F,
     words: &[S],
     input: I,
-    out: O,
+    out: &mut O,
 ) -> Result<End, Fault>
     ensures taken { IfOk result (λ _. refusals (map S.text words.entry.now) ≡ []) }
     ensures refused { IfErr result (IsFaultOfWords (map S.text words.entry.now)) }
-    ensures told { IfSome (I.remaining input) (λ bytes. TellsOfWords (map S.text words.entry.now) bytes (status_in result)) }
+    ensures told { TellsOfWords (map S.text words.entry.now) (F.contents folder.now) (I.remaining input) (status_in result) }
+    ensures finished { IfOk result (λ _. IsTrue (O.is_finished out.new)) }
 {
     let alloc = rt.alloc();
     let settings = settings(alloc, words)?;
-    let text = input::text(rt, alloc, settings.spec, input, MOST_BYTES)?;
-    let script = input::script(rt, alloc, settings.script, MOST_BYTES)?;
+    let text = input::text(folder, alloc, settings.spec, input, MOST_BYTES)?;
+    let script = input::script(folder, alloc, settings.script, MOST_BYTES)?;
     written(
         rt,
         alloc,
@@ -89,31 +91,29 @@ fn end<R: Threads + Files + AllocGlobal, S: AsStr, I: Read + Drop, O: Write + Dr
 }
 
 /// The end of the run of this text with this script, once its whole trace is written.
-fn written<R: Threads, O: Write + Drop>(
+fn written<R: Threads, O: Write + Finish>(
     rt: &R,
     alloc: Global,
     text: &[u8],
     script: &[u8],
     limits: &Limits,
-    out: O,
+    out: &mut O,
 ) -> Result<End, Fault>
     requires { IsTrue (are_in_range limits.now.steps limits.now.turns limits.now.workers limits.now.cut limits.now.rounds) }
     ensures low { IfErr result (λ fault. status_of fault ≤ 3) }
     ensures told { Tells text.now script.now limits.now.steps limits.now.turns (status_in result) }
+    ensures finished { IfOk result (λ _. IsTrue (O.is_finished out.new)) }
 {
     answers_tell();
-    let Ok(buffer) = BufWriter::with_capacity(alloc, BUFFER, out) else {
-        return Err(Fault::Memory);
-    };
-    let mut sink = Through::new(buffer);
+    let mut sink = Through::new(&mut *out);
     let answer = run(rt, alloc, text, script, limits, &mut sink);
     // What a run wrote before a refusal is shown too.
-    let flushed = sink.into_inner().flush();
+    let finished = out.finish();
     let end = match answer {
         Ok(end) => end,
         Err(error) => return Err(refused_run(error)),
     };
-    match flushed {
+    match finished {
         Ok(()) => Ok(end),
         Err(_) => Err(Fault::Write),
     }

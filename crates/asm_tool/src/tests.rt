@@ -1,5 +1,7 @@
 //! The program over readers and writers in memory.
-use crate::status::status;
+use crate::folder::Disk;
+use crate::output::buffered;
+use crate::status::{refusal, status};
 use std::io;
 use std::io::{Read, Write};
 use std::rt::Files;
@@ -40,6 +42,20 @@ struct Shown {
     line: Vec<u8>,
 }
 
+/// The status that the program ends with over these files, this reader and these writers.
+fn status_by<R: Threads + Files + AllocGlobal, I: Read + Drop, O: Write + Drop, E: Write>(
+    rt: &R,
+    words: &[&str],
+    input: I,
+    out: O,
+    err: &mut E,
+) -> u8 {
+    match buffered(rt.alloc(), out) {
+        Ok(mut out) => status(rt, &Disk::new(rt), words, input, &mut out, err),
+        Err(fault) => refusal(&fault, err),
+    }
+}
+
 /// What the program shows where both writers take everything.
 fn shown_by<R: Threads + Files + AllocGlobal, I: Read + Drop>(
     rt: &R,
@@ -48,7 +64,7 @@ fn shown_by<R: Threads + Files + AllocGlobal, I: Read + Drop>(
 ) -> Shown {
     let mut trace = Vec::new(rt.alloc());
     let mut line = Vec::new(rt.alloc());
-    let status = status(rt, words, input, &mut trace, &mut line);
+    let status = status_by(rt, words, input, &mut trace, &mut line);
     Shown {
         status,
         trace,

@@ -92,3 +92,14 @@ fn a_writer_that_takes_nothing_fails(rt: HostRuntime) {
     assert_eq!(rt; out.write(b""), Ok(0));
     assert!(rt; out.has_failed());
 }
+
+#[test]
+fn a_long_piece_is_written_whole(rt: HostRuntime) -> Result<(), Fail> {
+    let mut piece = Vec::new(rt.alloc());
+    piece.resize(4_000_000, b'x')?;
+    let mut out = Through::new(Vec::new(rt.alloc()));
+    assert_eq!(rt; out.write(piece.as_slice()), Ok(4_000_000));
+    assert!(rt; !out.has_failed());
+    assert!(rt; out.into_inner().as_slice() == piece.as_slice());
+    Ok(())
+}

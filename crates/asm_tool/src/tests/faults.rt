@@ -1,7 +1,6 @@
 //! Statuses and lines of faults.
 use super::limits::TwentyBytes;
-use super::{COUNTER, Unreadable, shown_by};
-use crate::status::status;
+use super::{COUNTER, Unreadable, shown_by, status_by};
 use std::alloc::AllocError;
 use std::io;
 use std::io::{Read, Write};
@@ -135,18 +134,18 @@ fn a_trace_that_cannot_be_written(rt: HostRuntime) {
     let words = ["--steps", "3"];
     let alloc = rt.alloc();
     let mut line = Vec::new(alloc);
-    let closed = status(&rt, words.as_slice(), COUNTER, Closed, &mut line);
+    let closed = status_by(&rt, words.as_slice(), COUNTER, Closed, &mut line);
     assert_eq!(rt; closed, 3);
     assert_eq!(rt; line.as_slice(), b"write\n".as_slice());
     let mut line = Vec::new(alloc);
-    let unflushed = status(&rt, words.as_slice(), COUNTER, Unflushed, &mut line);
+    let unflushed = status_by(&rt, words.as_slice(), COUNTER, Unflushed, &mut line);
     assert_eq!(rt; unflushed, 3);
     assert_eq!(rt; line.as_slice(), b"write\n".as_slice());
     let mut front = TwentyBytes {
         taken: Vec::new(alloc),
     };
     let mut line = Vec::new(alloc);
-    let cut = status(&rt, words.as_slice(), COUNTER, &mut front, &mut line);
+    let cut = status_by(&rt, words.as_slice(), COUNTER, &mut front, &mut line);
     assert_eq!(rt; cut, 3);
     assert_eq!(rt; line.as_slice(), b"write\n".as_slice());
     assert_eq!(rt; front.taken.as_slice(), b"step 1 instances 0\nx".as_slice());
@@ -157,7 +156,7 @@ fn a_line_that_cannot_be_written_changes_nothing(rt: HostRuntime) {
     let words = ["--steps", "3"];
     let alloc = rt.alloc();
     let mut trace = Vec::new(alloc);
-    let refused = status(
+    let refused = status_by(
         &rt,
         words.as_slice(),
         b"".as_slice(),

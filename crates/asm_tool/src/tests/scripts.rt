@@ -1,6 +1,7 @@
 //! The script's file.
 use super::{COUNTER, Unreadable, shown_by};
 use crate::fault::Fault;
+use crate::folder::Disk;
 use crate::input;
 use crate::status::refusal;
 use asm_run::error::ScriptError;
@@ -41,7 +42,7 @@ fn a_script_is_read_as_far_as_is_asked_for(rt: HostRuntime) -> Result<(), Fail> 
     let name = "asm_tool_bytes";
     fs::write(&rt, name, b"12345".as_slice())?;
     for (most, bytes) in [(0, ""), (3, "123"), (5, "12345"), (6, "12345")] {
-        let script = input::script(&rt, rt.alloc(), Some(name), most)?;
+        let script = input::script(&Disk::new(&rt), rt.alloc(), Some(name), most)?;
         assert_eq!(rt; script.as_slice(), bytes.as_bytes(), "{most}");
     }
     fs::remove_file(&rt, name)?;

@@ -1,8 +1,8 @@
 //! Every status, and the line on standard error that goes with it.
 use super::faults::Closed;
-use super::{COUNTER, Unreadable, shown_by};
+use super::{COUNTER, Unreadable, shown_by, status_by};
 use crate::fault::Fault;
-use crate::status::{refusal, status};
+use crate::status::refusal;
 use std::alloc::AllocError;
 use std::io;
 use std::test::Fail;
@@ -115,7 +115,7 @@ fn a_file_that_is_named_and_is_not_there(rt: HostRuntime) {
 fn an_output_that_fails_at_once(rt: HostRuntime) {
     let mut line = Vec::new(rt.alloc());
     let words = ["--steps", "3"];
-    let status = status(&rt, words.as_slice(), COUNTER, Closed, &mut line);
+    let status = status_by(&rt, words.as_slice(), COUNTER, Closed, &mut line);
     assert_eq!(rt; line.as_slice(), b"write\n".as_slice());
     assert_eq!(rt; status, 3);
 }

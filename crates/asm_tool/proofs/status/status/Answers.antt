@@ -1,14 +1,13 @@
 use Rattle.std.proofs.Common.{◌∙◌, ap, map, subst, sym, ℕ}
-use Rattle.std.specs.Prelude.{IfSome}
 use Rattle.asm_tool.specs.Statuses.{TellsOfWords, status_in}
 use Rattle.asm_tool.proofs.status.status.Goals as goal
 
 pub returns-in-Ok-clause-told : goal.returns-in-Ok-clause-told
 returns-in-Ok-clause-told g c =
-    subst (λ (n : ℕ). IfSome (g.I.Read.remaining c.args.input) (λ bytes. TellsOfWords (map g.S.AsStr.text c.args.words.now) bytes n))
+    subst (λ (n : ℕ). TellsOfWords (map g.S.AsStr.text c.args.words.now) (g.F.Folder.contents c.args.folder.now) (g.I.Read.remaining c.args.input) n)
     (ap status_in c.in-Ok.is ∙ sym c.whole_trace.ensures) c.end.ensures.told
 
 pub returns-in-Err-clause-told : goal.returns-in-Err-clause-told
 returns-in-Err-clause-told g c =
-    subst (λ (n : ℕ). IfSome (g.I.Read.remaining c.args.input) (λ bytes. TellsOfWords (map g.S.AsStr.text c.args.words.now) bytes n))
+    subst (λ (n : ℕ). TellsOfWords (map g.S.AsStr.text c.args.words.now) (g.F.Folder.contents c.args.folder.now) (g.I.Read.remaining c.args.input) n)
     (ap status_in c.in-Err.is ∙ sym c.refusal.ensures) c.end.ensures.told
