@@ -29,10 +29,10 @@ module _ (spec : Spec) where
   abbrev from_inits : List (ℕ × ℕ)
   from_inits = init_faults spec ++ from_uses
 
-  abbrev listed : List (ℕ × ℕ)
+  abbrev pub listed : List (ℕ × ℕ)
   listed = twice_faults spec ++ from_inits
 
-  listed_sound : (at n : ℕ) → IsListed listed at n → IsFault spec at n
+  pub listed_sound : (at n : ℕ) → IsListed listed at n → IsFault spec at n
   listed_sound =
       either (twice_faults spec) from_inits (IsFault spec) (twice_sound spec)
       (either (init_faults spec) from_uses (IsFault spec) (inits_sound spec)
@@ -51,7 +51,7 @@ module _ (spec : Spec) where
   a_use : (at n : ℕ) → IsListed (use_faults spec) at n → IsListed listed at n
   a_use at n c = of_uses at n (Contains-append_left (use_faults spec) from_limits (at, n) c)
 
-  listed_complete : (at n : ℕ) → IsFault spec at n → IsListed listed at n ⊎ IsStepFault spec at n
+  pub listed_complete : (at n : ℕ) → IsFault spec at n → IsListed listed at n ⊎ IsStepFault spec at n
   listed_complete at n (twice it) = inl (Contains-append_left (twice_faults spec) from_inits (at, 8) (twice_complete spec at it))
   listed_complete at n (unknown it) = inl (a_use at 9 (unknown_complete spec at it))
   listed_complete at n (arity it) = inl (a_use at 10 (arity_complete spec at it))

@@ -89,7 +89,7 @@ module _ (next : Text → List Text) where
       let among = greatest_above (map (λ g. suc (height next n g)) (next f)) (suc (height next n w.0)) (in_map (λ g. suc (height next n g)) (next f) w.0 w.1) in
       omega (arith, below, among)
 
-  within : (n : ℕ) (f : Text) → height next n f ≤ n
+  pub within : (n : ℕ) (f : Text) → height next n f ≤ n
   unfolding height
   within zero f = omega arith
   within (suc n) f =

@@ -1,3 +1,4 @@
+pub mod AllFaults
 pub mod Apart
 pub mod ApartTexts
 pub mod ArgumentCounts
@@ -14,6 +15,7 @@ pub mod ElementCounts
 pub mod ElementNumbers
 pub mod Ending
 pub mod EntryArguments
+pub mod Examples
 pub mod FaultLists
 pub mod Firsts
 pub mod Fit
@@ -22,6 +24,7 @@ pub mod Heights
 pub mod Inits
 pub mod Introduced
 pub mod ItemLists
+pub mod Leading
 pub mod LeastOfAll
 pub mod LimitSteps
 pub mod Listed

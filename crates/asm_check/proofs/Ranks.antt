@@ -110,7 +110,7 @@ module _ (spec : Spec) (rank : Text → ℕ) (n : ℕ) where
 
 -- ---- no long ways
 
-in_filter : {X : Type 0} (p : X → Bool) (xs : List X) (x : X) → p x ≡ true → Contains xs x → Contains (filter p xs) x
+pub in_filter : {X : Type 0} (p : X → Bool) (xs : List X) (x : X) → p x ≡ true → Contains xs x → Contains (filter p xs) x
 in_filter p [] x e c = none_in x c
 in_filter {X = X} p (y ∷ ys) x e c =
     elim (p y) as (λ b. p y ≡ b → Contains (cond b (y ∷ filter p ys) (filter p ys)) x) [
@@ -162,11 +162,11 @@ module _ (spec : Spec) (next : Text → List Text)
       let first = first_is spec f given.0 given.1 in
       limit first.before first.after first.it first.parts (subst (IsOnWay next 17) (sym first.name) (g, c, way)) (reaches_none first.it.name.text)
 
-rules_begun : (spec : Spec) (f g : Text) → Contains (called spec f) g → (m : Meaning) × (declared spec f ≡ Some m)
+pub rules_begun : (spec : Spec) (f g : Text) → Contains (called spec f) g → (m : Meaning) × (declared spec f ≡ Some m)
 unfolding called
 rules_begun spec f g c = starts_declared spec (calls_in spec) (λ u bad. none_in u bad) f g c
 
-derived_begun : (spec : Spec) (f g : Text) → Contains (used spec f) g → (m : Meaning) × (declared spec f ≡ Some m)
+pub derived_begun : (spec : Spec) (f g : Text) → Contains (used spec f) g → (m : Meaning) × (declared spec f ≡ Some m)
 unfolding used
 derived_begun spec f g c = starts_declared spec (uses_in spec) (λ u bad. none_in u bad) f g c
 

@@ -105,7 +105,7 @@ module _ (spec : Spec) (x : Name) where
 
 -- ---- a use, inside binders
 
-among : (xs : List Text) (x : Text) → is_among xs x ≡ true → Contains xs x
+pub among : (xs : List Text) (x : Text) → is_among xs x ≡ true → Contains xs x
 among [] x e = absurd (false≢true e)
 among (y ∷ xs) x e = by_text (is_text y x) refl e (among xs x)
   where

@@ -1,5 +1,5 @@
 -- Laws of faults.
-use Rattle.std.specs.Prelude.{◌≡◌, ◌≢◌, ◌≤◌, ℕ, true, List, length, slice_get, Option, Some, Contains}
+use Rattle.std.specs.Prelude.{◌≡◌, ◌≢◌, ◌≤◌, ◌⊎◌, ℕ, true, List, length, slice_get, Option, Some, Contains}
 use Rattle.asm_state.specs.declared.function.Function as state
 use Rattle.asm_state.specs.Fits.{Fits}
 use Rattle.asm_state.specs.Signature.{IsSound}
@@ -22,6 +22,10 @@ use Rattle.asm_check.specs.Shapes.{universe_values, function_given, shape_of}
 abbrev pub LeastIsOnly : Type 0
 LeastIsOnly =
     (spec : Spec) (at number at' number' : ℕ) → IsLeastFault spec at number → IsLeastFault spec at' number' → (at ≡ at') × (number ≡ number')
+
+-- a specification is well formed, or has a least fault
+abbrev pub LeastExists : Type 0
+LeastExists = (spec : Spec) → IsWellFormed spec ⊎ ((at : ℕ) × (number : ℕ) × IsLeastFault spec at number)
 
 -- a well-formed specification has ranks
 abbrev pub RanksExist : Type 0

@@ -1,9 +1,14 @@
 //! Laws of faults, and what a specification without faults has.
-ghost use Rattle.asm_check.specs.Laws.{LeastIsOnly, RanksExist, NamesAreApart, ItemsAreDeclared, BodiesAreFit, LimitsHold, SignatureFits, ShapeIsSound, SignatureNumbers, NamesHaveNumbers, TextsAreTold};
+ghost use Rattle.asm_check.specs.Laws.{LeastIsOnly, LeastExists, RanksExist, NamesAreApart, ItemsAreDeclared, BodiesAreFit, LimitsHold, SignatureFits, ShapeIsSound, SignatureNumbers, NamesHaveNumbers, TextsAreTold};
 
 /// A specification has at most one least fault.
 pub fn least_is_only()
     ensures { LeastIsOnly }
+{}
+
+/// A specification is well formed, or it has a least fault.
+pub fn least_exists()
+    ensures { LeastExists }
 {}
 
 /// A well-formed specification has ranks, which fall with each call of a rule and each use of a derived function.

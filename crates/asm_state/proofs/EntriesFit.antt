@@ -7,7 +7,8 @@ use Rattle.asm_state.specs.declared.value.Value.{Value}
 use Rattle.asm_state.specs.Tables.{Domain, argument_lists, is_in, is_list, AreEntriesIn}
 use Rattle.asm_state.specs.Universe.{IsUniverse}
 use Rattle.asm_state.proofs.LayoutsSoFar.{listed_in}
-use Rattle.asm_state.proofs.TableValues.{stands_once, list_test, other_list}
+use Rattle.asm_state.proofs.TableValues.{stands_once, other_list}
+use Rattle.asm_state.proofs.ValueLaws.{value_laws}
 
 abbrev pub Entry : Type 0
 Entry = List Value × Value
@@ -100,4 +101,4 @@ pub one_twice : (domain : Domain) (entries : List Entry) (i j : ℕ) (entry : En
     → ((d : Entry) → (get_or entries j d).0 ≡ vs) → vs ≡ entry.0 → ¬ (AreEntriesIn domain entries)
 one_twice domain entries i j entry vs h is less at same fit =
     false≢true (sym (fit.apart j i entry less h)
-    ∙ (list_test (get_or entries j entry).0 (get_or entries i entry).0).1 (at entry ∙ same ∙ ap (λ (x : Entry). x.0) is))
+    ∙ (value_laws.same_list (get_or entries j entry).0 (get_or entries i entry).0).1 (at entry ∙ same ∙ ap (λ (x : Entry). x.0) is))

@@ -17,6 +17,7 @@ pub mod StatesByNumbers
 pub mod Positions
 pub mod UniverseValues
 pub mod ValueLaws
+pub mod BoundLaws
 pub mod Domains
 pub mod ListPositions
 pub mod TableValues

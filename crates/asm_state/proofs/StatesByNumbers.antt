@@ -1,12 +1,13 @@
 -- The states that lists of contents are.
 use Rattle.std.proofs.Common.{◌≡◌, ◌≢◌, ℕ, ◌<◌, ◌≤◌, Bool, true, false, cond, List, map, length, get_or, set, slice_get, Option, Some, None, IsTrue, inl, inr, refl, sym, ap, subst, ◌∙◌, arith}
 use Rattle.std.proofs.lemmas.Bool.{cases_lt, false_from_ne_true, false≢true}
-use Rattle.std.proofs.lemmas.List.{get_or_past, get_or-map, length-map, get_or-set_same, get_or-set_other}
+use Rattle.std.proofs.lemmas.List.{get_or_past, get_or-map, length-map, length-set, get_or-set_same, get_or-set_other}
 use Rattle.asm_state.specs.declared.function.Function.{Function}
 use Rattle.asm_state.specs.declared.function.Kind.{Kind}
 use Rattle.asm_state.specs.declared.function.Kind.TheVariants.{Controlled, Static}
 use Rattle.asm_state.specs.declared.value.Value.{Value}
 use Rattle.asm_state.specs.declared.value.Value.TheVariants.{Undef}
+use Rattle.asm_state.specs.Contents.{IsStateOf}
 use Rattle.asm_state.specs.Location.{Location, Proper, Stray, changed}
 use Rattle.asm_state.specs.Tables.{is_in}
 use Rattle.asm_state.specs.Updates.{is_proper}
@@ -86,8 +87,35 @@ module _ (shape : Shape) (contents : List Value) (n : ℕ) (v : Value) (sound : 
         | false ↦ λ e. set_elsewhere l e
       ] refl
 
+-- in a state of the signature the content by a number is that of its location
+content_at : (shape : Shape) (contents : List Value) (n : ℕ) → IsStateOf shape contents → n < count_of shape → get_or contents n Undef ≡ state_of shape contents (location_at shape n)
+content_at shape contents n state inside = by_location (location_at shape n) refl
+  where
+    by_location : (l : Location) → location_at shape n ≡ l → get_or contents n Undef ≡ state_of shape contents l
+    by_location (Proper f vs) e = ap (λ k. get_or contents k Undef) (sym (number shape n state.sound inside) ∙ ap (number_at shape) e)
+    by_location (Stray f) e = state.no_stray n f inside e
+
+initial_is_state : (shape : Shape) → IsSound shape → IsStateOf shape (map (initial_state shape) (locations shape))
+initial_is_state shape sound = record {
+  sound = sound;
+  whole = length-map (locations shape) (initial_state shape);
+  no_stray = λ n f inside e. get_or-map (initial_state shape) (locations shape) n (Stray 0) Undef inside ∙ ap (initial_state shape) e;
+}
+
+set_is_state : (shape : Shape) (contents : List Value) (n : ℕ) (v : Value) → IsStateOf shape contents → n < count_of shape → IsTrue (is_proper (location_at shape n)) → IsStateOf shape (set contents n v)
+set_is_state shape contents n v state inside proper = record {
+  sound = state.sound;
+  whole = length-set contents n v ∙ state.whole;
+  no_stray = λ k f below e.
+      let other : k ≢ n = λ same. false≢true (ap is_proper (sym e ∙ ap (location_at shape) same) ∙ proper) in
+      get_or-set_other contents n k v Undef other ∙ state.no_stray k f below e;
+}
+
 pub state_laws : StateLaws
 state_laws = record {
+  content_at = content_at;
+  initial_is_state = initial_is_state;
+  set_is_state = set_is_state;
   content = content;
   stray = stray;
   outside = outside;

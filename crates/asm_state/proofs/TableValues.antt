@@ -1,22 +1,20 @@
 -- The values of a table for all argument lists of a domain, written entry after entry from the last one on.
 use Rattle.std.proofs.Common.{◌≡◌, ◌≢◌, ℕ, suc, ◌<◌, ◌≤◌, true, false, cond, nat_eq, nat_lt, ◌+◌, ◌-◌, drop, List, [], ◌∷◌, map, length, get_or, set, refl, sym, ap, subst, ◌∙◌, arith, All, Some, unwrap_or}
 use Rattle.std.specs.Cmp.{tied_itself}
-use Rattle.std.specs.Cmp.Lexicographic.{slice_cmp, lists_total, pointwise_decides}
-use Rattle.std.specs.Bool.{Decides}
+use Rattle.std.specs.Cmp.Lexicographic.{slice_cmp, lists_total}
 use Rattle.std.specs.declared.cmp.Ordering.TheVariants.{Less, Equal}
-use Rattle.std.proofs.lemmas.Bool.{false≢true}
+use Rattle.std.proofs.lemmas.Bool.{false≢true, false_from_ne_true}
 use Rattle.std.proofs.lemmas.Bool.Decides.{nat_tests}
 use Rattle.std.proofs.Math.Seq.{drop-cons, drop-length}
 use Rattle.std.proofs.lemmas.List.{get_or_default, ext_get_or, get_or-map, length-map, length-set, get_or-set_same, get_or-set_other}
 use Rattle.asm_state.specs.declared.value.Value.{Value}
 use Rattle.asm_state.specs.declared.value.Value.TheVariants.{Undef}
-use Rattle.asm_state.specs.Operation.{is_same}
 use Rattle.asm_state.specs.Tables.{Domain, argument_lists, is_in, is_list, entry_of}
 use Rattle.asm_state.specs.Universe.{IsUniverse}
 use Rattle.asm_state.specs.Value.{value_cmp, value_cmp-total}
 use Rattle.asm_state.proofs.ArgumentLists.{lists_apart}
 use Rattle.asm_state.proofs.Containing.{in_contains}
-use Rattle.asm_state.proofs.Updates.{same_value, value_itself}
+use Rattle.asm_state.proofs.ValueLaws.{value_laws}
 
 module _ {X Y : Type 0} where
   -- a list of images under f, with one of them changed, is that under g, if these differ nowhere else
@@ -44,15 +42,8 @@ module _ {X Y : Type 0} where
   map_alike f g (x ∷ xs) d h = λ i. h 0 (omega arith) i ∷ map_alike f g xs d (λ j k. h (suc j) (omega (arith, k))) i
 
 -- the test of argument lists tells them apart
-pub list_test : (us vs : List Value) → Decides (is_list us vs) (us ≡ vs)
-list_test us vs = pointwise_decides {E = is_same} (λ v w. (same_value v w, λ e. subst (λ w. is_same v w ≡ true) e (value_itself v))) us vs
-
 pub other_list : (us vs : List Value) → us ≢ vs → is_list us vs ≡ false
-other_list us vs apart =
-    elim (is_list us vs) as (λ b. is_list us vs ≡ b → b ≡ false) [
-      | true ↦ λ e. absurd (apart ((list_test us vs).0 e))
-      | false ↦ λ e. refl
-    ] refl
+other_list us vs apart = false_from_ne_true (is_list us vs) (λ e. apart ((value_laws.same_list us vs).0 e))
 
 -- one before another isn't that one
 less_differs : (us vs : List Value) → slice_cmp value_cmp us vs ≡ Less → us ≢ vs
@@ -80,7 +71,7 @@ pub one_more : (domain : Domain) (us : List Value) (v : Value) (more : List (Lis
     → k < length (argument_lists domain) → get_or (argument_lists domain) k [] ≡ us → set (values_by domain more) k v ≡ values_by domain ((us, v) ∷ more)
 one_more domain us v more k sound inside is =
     set_map (λ vs. unwrap_or (entry_of more vs) Undef) (λ vs. unwrap_or (entry_of ((us, v) ∷ more) vs) Undef) (argument_lists domain) k v [] inside
-    (ap (λ b. unwrap_or (cond b (Some v) (entry_of more (get_or (argument_lists domain) k []))) Undef) ((list_test us (get_or (argument_lists domain) k [])).1 (sym is)))
+    (ap (λ b. unwrap_or (cond b (Some v) (entry_of more (get_or (argument_lists domain) k []))) Undef) ((value_laws.same_list us (get_or (argument_lists domain) k [])).1 (sym is)))
     (λ j below apart. ap (λ b. unwrap_or (cond b (Some v) (entry_of more (get_or (argument_lists domain) j []))) Undef)
     (sym (other_list us (get_or (argument_lists domain) j []) (λ same. stands_once domain sound k j inside below apart (is ∙ same)))))
 

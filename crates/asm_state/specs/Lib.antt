@@ -9,10 +9,12 @@ pub mod Tables
 pub mod Updates
 pub mod UpdateLaws
 pub mod Signature
+pub mod Contents
 pub mod Fits
 pub mod Layout
 pub mod Places
 pub mod ValueLaws
+pub mod BoundLaws
 pub mod DomainLaws
 pub mod SignatureLaws
 pub mod OperationLaws

@@ -4,6 +4,7 @@ use Rattle.std.specs.declared.cmp.Ordering.TheVariants.{Less}
 use Rattle.asm_state.specs.declared.function.Kind.TheVariants.{Controlled}
 use Rattle.asm_state.specs.declared.value.Value.{Value}
 use Rattle.asm_state.specs.declared.value.Value.TheVariants.{Undef}
+use Rattle.asm_state.specs.Contents.{IsStateOf}
 use Rattle.asm_state.specs.Location.{Location, Proper, Stray, location_cmp, changed}
 use Rattle.asm_state.specs.Tables.{Domain, argument_lists, is_in}
 use Rattle.asm_state.specs.Updates.{is_proper}
@@ -31,11 +32,16 @@ pub record NumberLaws : Type 0 where
   pub below : (shape : Shape) (l : Location) → number_at shape l < count_of shape → location_at shape (number_at shape l) ≡ l
 
 pub record StateLaws : Type 0 where
+  -- in a state of the signature each location has the content by its number, which is undef at a stray one
+  pub content_at : (shape : Shape) (contents : List Value) (n : ℕ) → IsStateOf shape contents → n < count_of shape → slice_index_or contents n Undef ≡ state_of shape contents (location_at shape n)
   -- a proper location has the content by its number, and what isn't a proper location of the signature has none
   pub content : (shape : Shape) (contents : List Value) (l : Location) → IsTrue (is_proper l) → state_of shape contents l ≡ slice_index_or contents (number_at shape l) Undef
   pub stray : (shape : Shape) (contents : List Value) (l : Location) → ¬ (IsTrue (is_proper l)) → state_of shape contents l ≡ Undef
   pub outside : (shape : Shape) (contents : List Value) (l : Location) → length contents ≡ count_of shape → ¬ (IsLocationOf shape l) → state_of shape contents l ≡ Undef
-  -- the contents that the initial state has at the locations are those of the initial state
+  -- the contents that the initial state has at the locations are a state, which is the initial state
+  pub initial_is_state : (shape : Shape) → IsSound shape → IsStateOf shape (map (initial_state shape) (locations shape))
   pub initial : (shape : Shape) → state_of shape (map (initial_state shape) (locations shape)) ≡ initial_state shape
+  -- to set the content of a proper location leaves a state
+  pub set_is_state : (shape : Shape) (contents : List Value) (n : ℕ) (v : Value) → IsStateOf shape contents → n < count_of shape → IsTrue (is_proper (location_at shape n)) → IsStateOf shape (slice_set contents n v)
   -- to set the content with the number of a proper location is to change the state there, and nowhere else
   pub set : (shape : Shape) (contents : List Value) (n : ℕ) (v : Value) → IsSound shape → length contents ≡ count_of shape → n < count_of shape → IsTrue (is_proper (location_at shape n)) → state_of shape (slice_set contents n v) ≡ changed (state_of shape contents) (location_at shape n) v

@@ -26,6 +26,12 @@ impl Arguments {
         Arguments { values }
     }
 
+    pub fn into_vec(self) -> Vec<Value>
+        ensures { result.items ≡ self }
+    {
+        self.values
+    }
+
     pub fn as_slice(&self) -> &[Value]
         ensures { result.now ≡ self.now }
     {

@@ -25,6 +25,12 @@ impl Domain {
         Domain { universes }
     }
 
+    pub fn into_vec(self) -> Vec<usize>
+        ensures { result.items ≡ self }
+    {
+        self.universes
+    }
+
     pub fn as_slice(&self) -> &[usize]
         ensures { result.now ≡ self.now }
     {

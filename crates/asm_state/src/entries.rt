@@ -27,6 +27,12 @@ impl Entries {
         Entries { entries }
     }
 
+    pub fn into_vec(self) -> Vec<(Arguments, Value)>
+        ensures { result.items ≡ self }
+    {
+        self.entries
+    }
+
     pub fn as_slice(&self) -> &[(Arguments, Value)]
         ensures { result.now ≡ self.now }
     {

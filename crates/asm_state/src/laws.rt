@@ -6,6 +6,7 @@ ghost use Rattle.asm_state.specs.Codes.{code_of};
 ghost use Rattle.asm_state.specs.Value.{value_cmp};
 ghost use Rattle.asm_state.specs.OperationLaws.{DivisionLaw};
 ghost use Rattle.asm_state.specs.ValueLaws.{ValueLaws};
+ghost use Rattle.asm_state.specs.BoundLaws.{BoundLaws};
 ghost use Rattle.asm_state.specs.DomainLaws.{UniverseLaws, DomainLaws};
 ghost use Rattle.asm_state.specs.SignatureLaws.{NumberLaws, StateLaws};
 ghost use Rattle.asm_state.specs.UpdateLaws.{MemberLaws, TestLaws, SummaryLaws, FireLaws, UnionLaws, MergeLaws, FaultLaws};
@@ -20,9 +21,14 @@ pub fn codes_apart()
     ensures { (a b : Value) → code_of a ≡ code_of b → a ≡ b }
 {}
 
-/// The test of equality tests just that, and a number and an element are the values that they give.
+/// The tests of equality test just that, and a number and an element are the values that they give.
 pub fn value_laws()
     ensures { ValueLaws }
+{}
+
+/// The bounds of values and of signatures.
+pub fn bound_laws()
+    ensures { BoundLaws }
 {}
 
 /// A number is its quotient by another, taken that many times, and its remainder, which is never negative.

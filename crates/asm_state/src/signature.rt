@@ -165,7 +165,8 @@ impl Signature {
 
     /// The initial contents of all locations, by their numbers.
     pub(crate) fn initial(&self) -> &[Value]
-        ensures { result.now ≡ map (initial_state self.now) (locations self.now) }
+        ensures contents { result.now ≡ map (initial_state self.now) (locations self.now) }
+        ensures sound { IsSound self.now }
     {
         self.layout.initial.as_slice()
     }

@@ -1,6 +1,9 @@
 //! States: the content of each location, by its number.
-ghost use Rattle.std.specs.Prelude.{◌≡◌, ◌<◌, length, map, slice_index_or, slice_set, IfOk};
-ghost use Rattle.asm_state.specs.Signature.{count_of, locations, state_of, initial_state};
+ghost use Rattle.std.specs.Prelude.{◌≡◌, ◌<◌, length, map, slice_index_or, slice_set, IfOk, IsTrue};
+ghost use Rattle.asm_state.specs.Contents.{IsStateOf};
+ghost use Rattle.asm_state.specs.Location.{changed};
+ghost use Rattle.asm_state.specs.Signature.{Shape, count_of, location_at, locations, state_of, initial_state};
+ghost use Rattle.asm_state.specs.Updates.{is_proper};
 ghost use Rattle.asm_state.specs.declared.value.Value.TheVariants.{Undef};
 
 use crate::signature::Signature;
@@ -29,15 +32,17 @@ impl State {
         ensures initial { IfOk result (λ s. state_of signature.now s ≡ initial_state signature.now) }
         ensures contents { IfOk result (λ s. s ≡ map (initial_state signature.now) (locations signature.now)) }
         ensures whole { IfOk result (λ s. length s ≡ count_of signature.now) }
+        ensures state { IfOk result (IsStateOf signature.now) }
     {
         let contents = signature.initial().to_vec(alloc)?;
         Ok(State { contents })
     }
 
-    /// The content of the location with this number.
+    /// The content of the location with this number: `Undef` at a stray one.
     pub fn content(&self, n: usize) -> Value
         requires { n < length self.now }
-        ensures { result ≡ slice_index_or self.now n Undef }
+        ensures content { result ≡ slice_index_or self.now n Undef }
+        ensures location { (shape : Shape) → IsStateOf shape self.now → result ≡ state_of shape self.now (location_at shape n) }
     {
         self.contents[n]
     }
@@ -47,6 +52,9 @@ impl State {
         requires { n < length self.old }
         ensures set { self.new ≡ slice_set self.old n value }
         ensures whole { length self.new ≡ length self.old }
+        ensures changed { (shape : Shape) → IsStateOf shape self.old → IsTrue (is_proper (location_at shape n)) →
+            state_of shape self.new ≡ changed (state_of shape self.old) (location_at shape n) value }
+        ensures state { (shape : Shape) → IsStateOf shape self.old → IsTrue (is_proper (location_at shape n)) → IsStateOf shape self.new }
     {
         self.contents[n] = value;
     }

@@ -5,6 +5,7 @@ use Rattle.std.proofs.lemmas.Bool.{false≢true, cases_eq}
 use Rattle.asm_state.specs.declared.value.Value.{Value}
 use Rattle.asm_state.specs.declared.value.Value.TheVariants.{Undef}
 use Rattle.asm_state.specs.Codes.{code_of}
+use Rattle.asm_state.specs.Contents.{IsStateOf}
 use Rattle.asm_state.specs.Location.{Location, Proper, Stray}
 use Rattle.asm_state.specs.Signature.{Shape, count_of, number_at, IsLocationOf, state_of}
 use Rattle.asm_state.specs.Updates.{UpdateSet, Has, IsConsistent, Range, range_at, IsRangeOf, overwritten, fire, is_proper}
@@ -22,6 +23,14 @@ same_unless v w never = ⊎_elim
     (λ same. codes_apart v w same)
     (λ differ. absurd (never (λ same. differ (ap code_of same))))
     (cases_eq (code_of v) (code_of w))
+
+-- a consistent set has no range at a stray location
+no_stray_range : (U : UpdateSet) (f : ℕ) → IsConsistent U → range_at U (Stray f) ≡ None
+no_stray_range U f consistent = absent (range_at U (Stray f)) (summary_laws.exists U (Stray f))
+  where
+    absent : (r : Option Range) → IsRangeOf (Has U (Stray f)) r → r ≡ None
+    absent None is = refl
+    absent (Some r) is = absurd (consistent.no_stray f r.least is.has_least)
 
 module _ (shape : Shape) (s : Entries) (U : UpdateSet) (old new : List Value) (stands : Stands shape s U) (old_len : length old ≡ count_of shape) (new_len : length new ≡ count_of shape) (each : (n : ℕ) → get_or new n Undef ≡ overwritten (entry s n) (get_or old n Undef)) where
   in_place : (l : Location) → IsLocationOf shape l → IsTrue (is_proper l) → state_of shape new l ≡ overwritten (range_at U l) (state_of shape old l)
@@ -47,16 +56,22 @@ module _ (shape : Shape) (s : Entries) (U : UpdateSet) (old new : List Value) (s
         | inr here ↦ in_place (Proper f vs) here.0 refl
       ]
   fired_at consistent (Stray f) =
-      subst (λ r. state_of shape new (Stray f) ≡ overwritten r (state_of shape old (Stray f))) (sym (absent (range_at U (Stray f)) (summary_laws.exists U (Stray f))))
+      subst (λ r. state_of shape new (Stray f) ≡ overwritten r (state_of shape old (Stray f))) (sym (no_stray_range U f consistent))
       (state_laws.stray shape new (Stray f) false≢true ∙ sym (state_laws.stray shape old (Stray f) false≢true))
-    where
-      absent : (r : Option Range) → IsRangeOf (Has U (Stray f)) r → r ≡ None
-      absent None is = refl
-      absent (Some r) is = absurd (consistent.no_stray f r.least is.has_least)
 
   pub fired_state : IsConsistent U → state_of shape new ≡ fire (state_of shape old) U
   unfolding fire
   fired_state consistent = λ i l. fired_at consistent l i
+
+  -- a stray location has no content after it where it had none before
+  pub fired_is_state : IsConsistent U → IsStateOf shape old → IsStateOf shape new
+  fired_is_state consistent before = record {
+    sound = before.sound;
+    whole = new_len;
+    no_stray = λ n f below e.
+        let unnamed : entry s n ≡ None = stands.has_ranges n below ∙ ap (range_at U) e ∙ no_stray_range U f consistent in
+        each n ∙ ap (λ r. overwritten r (get_or old n Undef)) unnamed ∙ before.no_stray n f below e;
+  }
 
 -- one content more
 pub changed_content : (xs ys : List Value) (n : ℕ) (v : Value) → n < length xs → ys ≡ set xs n v → (k : ℕ) → get_or ys k Undef ≡ cond (eqb k n) v (get_or xs k Undef)

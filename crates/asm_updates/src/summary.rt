@@ -4,6 +4,7 @@ ghost use Rattle.std.specs.List.Sorted.{IsStrictlyIncreasing};
 ghost use Rattle.std.specs.Map.{keys_of};
 ghost use Rattle.std.specs.Option.{option_map};
 ghost use Rattle.asm_state.specs.Codes.{code_of};
+ghost use Rattle.asm_state.specs.Contents.{IsStateOf};
 ghost use Rattle.asm_state.specs.Signature.{Shape, IsSound, count_of, location_at, state_of};
 ghost use Rattle.asm_state.specs.Updates.{UpdateSet, IsConsistent, IsFirstFault, none, one, together, merge, widen, later_range, overwritten, fire};
 ghost use Rattle.asm_state.specs.declared.value.Value.TheVariants.{Undef};
@@ -188,6 +189,8 @@ impl Summary {
             ≡ overwritten (entry self.now n) (slice_index_or state.old n Undef) }
         ensures fired { (shape : Shape) (U : UpdateSet) → Stands shape self.now U → IsConsistent U →
             state_of shape state.new ≡ fire (state_of shape state.old) U }
+        ensures state { (shape : Shape) (U : UpdateSet) → Stands shape self.now U → IsConsistent U → IsStateOf shape state.old →
+            IsStateOf shape state.new }
     {
         for (n, (value, _)) in &self.ranges {
             state.set(*n, *value);
@@ -204,8 +207,12 @@ impl Summary {
         requires count { self.now.count ≡ count_of signature.now }
         requires whole { length state.now ≡ count_of signature.now }
         ensures whole { IfOk result (λ next. length next ≡ count_of signature.now) }
+        ensures contents { IfOk result (λ next. (n : ℕ) → slice_index_or next n Undef
+            ≡ overwritten (entry self.now n) (slice_index_or state.now n Undef)) }
         ensures fired { IfOk result (λ next. (U : UpdateSet) → Stands signature.now self.now U → IsConsistent U →
             state_of signature.now next ≡ fire (state_of signature.now state.now) U) }
+        ensures state { IfOk result (λ next. (U : UpdateSet) → Stands signature.now self.now U → IsConsistent U →
+            IsStateOf signature.now state.now → IsStateOf signature.now next) }
     {
         let mut next = state.copy(alloc)?;
         self.fire_into(&mut next);

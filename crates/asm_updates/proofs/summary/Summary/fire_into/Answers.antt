@@ -3,7 +3,7 @@ use Rattle.asm_state.specs.declared.value.Value.TheVariants.{Undef}
 use Rattle.asm_state.specs.Updates.{overwritten}
 use Rattle.asm_updates.specs.Entries.{found, AreEntries}
 use Rattle.asm_updates.proofs.Found.{AreEntries-head, AreEntries-tail, one_more}
-use Rattle.asm_updates.proofs.Firing.{fired_state, changed_content}
+use Rattle.asm_updates.proofs.Firing.{fired_state, fired_is_state, changed_content}
 use Rattle.asm_updates.proofs.summary.Summary.fire_into.Goals as goal
 
 pub loop-n-preserved : goal.loop-n-preserved
@@ -25,3 +25,11 @@ returns-clause-fired c = λ shape U stands consistent.
     (c.loop-n.invariant.whole ∙ c.requires ∙ stands.has_count)
     (λ n. ap (λ es. overwritten (found es n) (get_or c.loop-n.state n Undef)) (sym c.in-None.ensures.steps.0) ∙ c.loop-n.invariant.fires n)
     consistent
+
+pub returns-clause-state : goal.returns-clause-state
+returns-clause-state c = λ shape U stands consistent before.
+    fired_is_state shape c.args.self.now U c.args.state.now c.loop-n.state stands
+    (c.requires ∙ stands.has_count)
+    (c.loop-n.invariant.whole ∙ c.requires ∙ stands.has_count)
+    (λ n. ap (λ es. overwritten (found es n) (get_or c.loop-n.state n Undef)) (sym c.in-None.ensures.steps.0) ∙ c.loop-n.invariant.fires n)
+    consistent before

@@ -1,0 +1,292 @@
+-- Examples of faults of small specifications. Above each one stands its text, behind the line `CoreASM T` and, where nothing else
+-- is said, `init M`. Each line ends with a line feed, and places are counted from 0.
+use Rattle.std.proofs.Common.{◌≡◌, ℕ, ◌≤◌, pos, List, [], ◌∷◌, map, None, Some, refl, arith}
+use Rattle.std.specs.Prelude.{codes}
+use Rattle.std.proofs.lemmas.Int.{ints}
+use Rattle.asm_state.specs.declared.number.Number.{Number}
+use Rattle.asm_syntax.specs.declared.spec.FunctionKind.TheVariants.{Static}
+use Rattle.asm_syntax.specs.declared.term.Literal.TheVariants as literal
+use Rattle.asm_syntax.specs.Placed.{Name, Term, Constant, Named, no_terms, term_then, Skip, Assign, Call, Let, Const, Plain, Entry, Each, Entries, Item, Init, Enum, Universe, Function, Derived, Declared, Spec}
+use Rattle.asm_check.specs.FaultLists.{twice_faults, use_faults, init_faults, limit_faults, entry_faults}
+use Rattle.asm_check.specs.Faults.{IsLeastFault, IsWellFormed}
+use Rattle.asm_check.specs.Limits.{size_of}
+use Rattle.asm_check.specs.Names as names
+use Rattle.asm_check.specs.Names.{Meaning, declared, declarations, first_declarations, uses}
+use Rattle.asm_check.specs.Numbers.{elements_of, rules_of}
+use Rattle.asm_check.specs.Shapes.{texts_of}
+use Rattle.asm_check.specs.Ways.{called, used, height}
+use Rattle.asm_check.proofs.AllFaults.{least_is, none_is}
+
+-- ---- parts of trees
+
+abbrev name : ℕ → List ℕ → Name
+name at text = record { at = at; text = text }
+
+abbrev number : (n : ℕ) → n ≤ 1_000_000_000_000_000 → Number
+number n small = record { value = pos n; low = omega (arith, ints); high = omega (arith, ints, small) }
+
+abbrev zero' : Number
+zero' = number 0 (omega arith)
+
+abbrev one : Number
+one = number 1 (omega arith)
+
+abbrev nought : Term
+nought = Constant (literal.Number zero')
+
+abbrev no_value : Const
+no_value = Plain literal.Undef
+
+abbrev entry : ℕ → Number → Entry
+entry at n = record { at = at; arguments = Plain (literal.Number n) ∷ []; value = no_value }
+
+-- the name with one argument
+abbrev applied : Name → Term
+applied x = Named x (term_then nought no_terms)
+
+abbrev d' : List ℕ
+d' = codes "d"
+
+abbrev e' : List ℕ
+e' = codes "e"
+
+abbrev g' : List ℕ
+g' = codes "g"
+
+abbrev p' : List ℕ
+p' = codes "p"
+
+abbrev r' : List ℕ
+r' = codes "r"
+
+abbrev x' : List ℕ
+x' = codes "x"
+
+abbrev y' : List ℕ
+y' = codes "y"
+
+abbrev z' : List ℕ
+z' = codes "z"
+
+abbrev E' : List ℕ
+E' = codes "E"
+
+abbrev M' : List ℕ
+M' = codes "M"
+
+abbrev U' : List ℕ
+U' = codes "U"
+
+abbrev with_length : ℕ → List Item → Spec
+with_length length items = record { name = name 8 (codes "T"); items = items; length = length }
+
+-- behind `init M`
+abbrev text : ℕ → List Item → Spec
+text length items = with_length length (Init (name 15 M') ∷ items)
+
+-- `rule M = skip`, where `M` stands
+abbrev main : ℕ → Item
+main at = Declared (name at M') [] Skip
+
+-- ---- no fault
+
+-- rule M = skip
+abbrev skipping : Spec
+skipping = text 31 (main 22 ∷ [])
+
+no_fault_in_skipping : IsWellFormed skipping
+unfolding declared declarations first_declarations uses called used height twice_faults use_faults init_faults limit_faults entry_faults
+no_fault_in_skipping = none_is skipping refl
+
+-- rule M = r(0)
+-- rule r(p) = skip
+abbrev calling : Spec
+calling = text 48 (Declared (name 22 M') [] (Call (name 26 r') (term_then nought no_terms)) ∷ Declared (name 36 r') (name 38 p' ∷ []) Skip ∷ [])
+
+no_fault_in_calling : IsWellFormed calling
+unfolding declared declarations first_declarations uses called used height twice_faults use_faults init_faults limit_faults entry_faults
+no_fault_in_calling = none_is calling refl
+
+-- universe U = 0 .. 1
+-- function static g : U initially { (1) -> undef, (0) -> undef }
+-- rule M = skip
+abbrev tabled : Spec
+tabled = text 114 (Universe (name 26 U') zero' one ∷ Function (name 53 g') Static (name 57 U' ∷ []) None (Some (Entries (entry 71 one ∷ entry 85 zero' ∷ []))) ∷ main 105 ∷ [])
+
+no_fault_in_tabled : IsWellFormed tabled
+unfolding declared declarations first_declarations uses called used height twice_faults use_faults init_faults limit_faults entry_faults
+no_fault_in_tabled = none_is tabled refl
+
+-- ---- one fault of each number, or the least of several
+
+-- rule M = skip
+-- rule M(p) = skip
+abbrev declared_again : Spec
+declared_again = text 48 (main 22 ∷ Declared (name 36 M') (name 38 p' ∷ []) Skip ∷ [])
+
+fault_in_declared_again : IsLeastFault declared_again 36 8
+unfolding declared declarations first_declarations uses called used height twice_faults use_faults init_faults limit_faults entry_faults
+fault_in_declared_again = least_is declared_again 36 8 refl
+
+-- rule M = skip
+-- rule ANY = skip
+abbrev declared_from_the_start : Spec
+declared_from_the_start = text 47 (main 22 ∷ Declared (name 36 (codes "ANY")) [] Skip ∷ [])
+
+fault_in_declared_from_the_start : IsLeastFault declared_from_the_start 36 8
+unfolding declared declarations first_declarations uses called used height twice_faults use_faults init_faults limit_faults entry_faults
+fault_in_declared_from_the_start = least_is declared_from_the_start 36 8 refl
+
+-- rule M = skip
+-- derived d(p, p) = 0
+abbrev parameter_twice : Spec
+parameter_twice = text 51 (main 22 ∷ Derived (name 39 d') (name 41 p' ∷ name 44 p' ∷ []) nought ∷ [])
+
+fault_in_parameter_twice : IsLeastFault parameter_twice 44 8
+unfolding declared declarations first_declarations uses called used height twice_faults use_faults init_faults limit_faults entry_faults
+fault_in_parameter_twice = least_is parameter_twice 44 8 refl
+
+-- rule M = x := 0
+abbrev unknown_target : Spec
+unknown_target = text 33 (Declared (name 22 M') [] (Assign (name 26 x') no_terms nought) ∷ [])
+
+fault_in_unknown_target : IsLeastFault unknown_target 26 9
+unfolding declared declarations first_declarations uses called used height twice_faults use_faults init_faults limit_faults entry_faults
+fault_in_unknown_target = least_is unknown_target 26 9 refl
+
+-- enum E = { e }
+-- rule M = let y = e(0) in skip endlet
+abbrev element_with_argument : Spec
+element_with_argument = text 69 (Enum (name 22 E') (name 28 e' ∷ []) ∷ Declared (name 37 M') [] (Let (name 45 y') (applied (name 49 e')) Skip) ∷ [])
+
+fault_in_element_with_argument : IsLeastFault element_with_argument 49 10
+unfolding declared declarations first_declarations uses called used height twice_faults use_faults init_faults limit_faults entry_faults
+fault_in_element_with_argument = least_is element_with_argument 49 10 refl
+
+-- rule M = let y = 0 in let z = y(0) in skip endlet endlet
+abbrev bound_with_argument : Spec
+bound_with_argument = text 74 (Declared (name 22 M') [] (Let (name 30 y') nought (Let (name 43 z') (applied (name 47 y')) Skip)) ∷ [])
+
+fault_in_bound_with_argument : IsLeastFault bound_with_argument 47 10
+unfolding declared declarations first_declarations uses called used height twice_faults use_faults init_faults limit_faults entry_faults
+fault_in_bound_with_argument = least_is bound_with_argument 47 10 refl
+
+-- function static g initially 1
+-- rule M = g := 2
+abbrev static_target : Spec
+static_target = text 63 (Function (name 33 g') Static [] None (Some (Each (Plain (literal.Number one)))) ∷ Declared (name 52 M') [] (Assign (name 56 g') no_terms nought) ∷ [])
+
+fault_in_static_target : IsLeastFault static_target 56 11
+unfolding declared declarations first_declarations uses called used height twice_faults use_faults init_faults limit_faults entry_faults
+fault_in_static_target = least_is static_target 56 11 refl
+
+-- rule M = let y = 0 in y := 0 endlet
+abbrev bound_target : Spec
+bound_target = text 53 (Declared (name 22 M') [] (Let (name 30 y') nought (Assign (name 39 y') no_terms nought)) ∷ [])
+
+fault_in_bound_target : IsLeastFault bound_target 39 11
+unfolding declared declarations first_declarations uses called used height twice_faults use_faults init_faults limit_faults entry_faults
+fault_in_bound_target = least_is bound_target 39 11 refl
+
+-- rule M = r
+-- rule r = M
+abbrev circle_of_calls : Spec
+circle_of_calls = text 39 (Declared (name 22 M') [] (Call (name 26 r') no_terms) ∷ Declared (name 33 r') [] (Call (name 37 M') no_terms) ∷ [])
+
+fault_in_circle_of_calls : IsLeastFault circle_of_calls 22 12
+unfolding declared declarations first_declarations uses called used height twice_faults use_faults init_faults limit_faults entry_faults
+fault_in_circle_of_calls = least_is circle_of_calls 22 12 refl
+
+-- rule M = skip
+-- derived d = d
+abbrev circle_of_uses : Spec
+circle_of_uses = text 45 (main 22 ∷ Derived (name 39 d') [] (Named (name 43 d') no_terms) ∷ [])
+
+fault_in_circle_of_uses : IsLeastFault circle_of_uses 39 13
+unfolding declared declarations first_declarations uses called used height twice_faults use_faults init_faults limit_faults entry_faults
+fault_in_circle_of_uses = least_is circle_of_uses 39 13 refl
+
+-- without `init M`
+-- rule M = skip
+abbrev no_start : Spec
+no_start = with_length 24 (main 15 ∷ [])
+
+fault_in_no_start : IsLeastFault no_start 24 14
+unfolding declared declarations first_declarations uses called used height twice_faults use_faults init_faults limit_faults entry_faults
+fault_in_no_start = least_is no_start 24 14 refl
+
+-- init r
+-- rule M = skip
+-- rule r = skip
+abbrev two_starts : Spec
+two_starts = text 52 (Init (name 22 r') ∷ main 29 ∷ Declared (name 43 r') [] Skip ∷ [])
+
+fault_in_two_starts : IsLeastFault two_starts 22 14
+unfolding declared declarations first_declarations uses called used height twice_faults use_faults init_faults limit_faults entry_faults
+fault_in_two_starts = least_is two_starts 22 14 refl
+
+-- rule M(p) = skip
+abbrev start_with_parameter : Spec
+start_with_parameter = text 34 (Declared (name 22 M') (name 24 p' ∷ []) Skip ∷ [])
+
+fault_in_start_with_parameter : IsLeastFault start_with_parameter 15 14
+unfolding declared declarations first_declarations uses called used height twice_faults use_faults init_faults limit_faults entry_faults
+fault_in_start_with_parameter = least_is start_with_parameter 15 14 refl
+
+-- universe U = 0 .. 4096
+-- rule M = skip
+abbrev wide_universe : Spec
+wide_universe = text 54 (Universe (name 26 U') zero' (number 4096 (omega arith)) ∷ main 45 ∷ [])
+
+fault_in_wide_universe : IsLeastFault wide_universe 26 15
+unfolding declared declarations first_declarations uses called used height twice_faults use_faults init_faults limit_faults entry_faults
+fault_in_wide_universe = least_is wide_universe 26 15 refl
+
+-- universe U = 0 .. 0
+-- function static g : U initially { (0) -> undef, (0) -> undef }
+-- rule M = skip
+abbrev entry_twice : Spec
+entry_twice = text 114 (Universe (name 26 U') zero' zero' ∷ Function (name 53 g') Static (name 57 U' ∷ []) None (Some (Entries (entry 71 zero' ∷ entry 85 zero' ∷ []))) ∷ main 105 ∷ [])
+
+fault_in_entry_twice : IsLeastFault entry_twice 85 16
+unfolding declared declarations first_declarations uses called used height twice_faults use_faults init_faults limit_faults entry_faults
+fault_in_entry_twice = least_is entry_twice 85 16 refl
+
+-- universe U = 0 .. 0
+-- function static g : U initially { (1) -> undef }
+-- rule M = skip
+abbrev entry_outside : Spec
+entry_outside = text 100 (Universe (name 26 U') zero' zero' ∷ Function (name 53 g') Static (name 57 U' ∷ []) None (Some (Entries (entry 71 one ∷ []))) ∷ main 91 ∷ [])
+
+fault_in_entry_outside : IsLeastFault entry_outside 71 16
+unfolding declared declarations first_declarations uses called used height twice_faults use_faults init_faults limit_faults entry_faults
+fault_in_entry_outside = least_is entry_outside 71 16 refl
+
+-- ---- a later declaration counts for nothing else
+
+-- enum E = { d, e }
+-- enum U = { e, g }
+-- rule M = skip
+-- rule M(p) = skip
+abbrev repeating : Spec
+repeating = text 84 (Enum (name 22 E') (name 28 d' ∷ name 31 e' ∷ []) ∷ Enum (name 40 U') (name 46 e' ∷ name 49 g' ∷ []) ∷ main 58 ∷ Declared (name 72 M') (name 74 p' ∷ []) Skip ∷ [])
+
+the_first_counts : declared repeating M' ≡ Some (names.Procedure [] Skip)
+unfolding declared declarations
+the_first_counts = refl
+
+one_rule : texts_of (rules_of repeating) ≡ M' ∷ []
+unfolding declarations first_declarations
+one_rule = refl
+
+three_elements : texts_of (elements_of repeating) ≡ d' ∷ e' ∷ g' ∷ []
+unfolding declarations first_declarations
+three_elements = refl
+
+of_the_first_enumeration : declared repeating e' ≡ Some (names.Element 1)
+unfolding declared declarations
+of_the_first_enumeration = refl
+
+one_of_its_own : size_of repeating (names.Enumeration 2) ≡ 1
+unfolding declarations first_declarations
+one_of_its_own = refl

@@ -1,0 +1,48 @@
+-- The bounds that the constants are.
+use Rattle.std.proofs.Common.{◌<◌, ◌≤ℤ◌, pos, negsuc, refl, subst}
+use Rattle.asm_state.specs.BoundLaws.{IsWithinBounds, BoundLaws}
+use Rattle.asm_state.specs.Fits.{Fits}
+use Rattle.asm_state.specs.Signature.{Shape}
+
+bounds_from : (shape : Shape) → Fits shape → IsWithinBounds shape
+bounds_from shape fits = record {
+  universes = fits.few_universes;
+  values = fits.few_values;
+  functions = fits.few_functions;
+  domains = λ k f below. (fits.domains k f below).few;
+  known = λ k f below. (fits.domains k f below).known;
+  locations = fits.few_locations;
+  static_lists = fits.few_static_lists;
+  tables = fits.tables;
+}
+
+fits_from : (shape : Shape) → IsWithinBounds shape → Fits shape
+fits_from shape bounds = record {
+  few_universes = bounds.universes;
+  few_values = bounds.values;
+  few_functions = bounds.functions;
+  domains = λ k f below. record { few = bounds.domains k f below; known = bounds.known k f below };
+  few_locations = bounds.locations;
+  few_static_lists = bounds.static_lists;
+  tables = bounds.tables;
+}
+
+pub bound_laws : BoundLaws
+bound_laws = record {
+  largest = refl;
+  elements = refl;
+  universes = refl;
+  functions = refl;
+  domain = refl;
+  locations = refl;
+  static_lists = refl;
+  signatures = λ shape. (bounds_from shape, fits_from shape);
+  numbers = λ z. (
+    λ (n, same). (subst (λ y. negsuc 999_999_999_999_999 ≤ℤ y) same n.low, subst (λ y. y ≤ℤ pos 1_000_000_000_000_000) same n.high),
+    λ (low, high). (record { value = z; low = low; high = high }, refl),
+  );
+  indices = λ k. (
+    λ (e, same). subst (λ n. n < 262_144) same e.in_range,
+    λ below. (record { index = k; in_range = below }, refl),
+  );
+}
