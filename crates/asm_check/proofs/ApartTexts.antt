@@ -6,7 +6,7 @@ use Rattle.std.proofs.lemmas.Bool.{false≢true}
 use Rattle.std.proofs.lemmas.Bool.Decides.{nat_tests}
 use Rattle.std.proofs.lemmas.List.Elements.{All-contains, Contains-append_left, Contains-append_right}
 use Rattle.std.proofs.lemmas.List.Kept.{AllPairs-cons}
-use Rattle.asm_state.proofs.Rising.{All-from_contained, AllPairs-none, AllPairs-head, AllPairs-tail}
+use Rattle.asm_state.proofs.Lists.{All-from_contained, AllPairs-none, AllPairs-head, AllPairs-tail}
 use Rattle.asm_check.specs.Names.{Text, is_text, is_among}
 use Rattle.asm_check.specs.Shapes.{AreApart, texts_in, place_among}
 use Rattle.asm_check.proofs.Heights.{here, in_map}

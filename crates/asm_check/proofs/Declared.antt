@@ -9,6 +9,7 @@ use Rattle.asm_syntax.specs.declared.spec.FunctionKind.TheVariants as kind
 use Rattle.asm_check.specs.Names as names
 use Rattle.asm_syntax.specs.Placed.{Name, Item, Rule, Term, Spec}
 use Rattle.asm_check.specs.Names.{Text, Meaning, Procedure, Derived, Declaration, declares, Use, is_text, is_among, text_of, predeclared, predeclared_names, declarations_of, declarations_from, declarations, first_of_each, first_declarations, declared, uses_of, uses, uses_of_rule, uses_of_term}
+use Rattle.asm_check.specs.Laws.{TextsAreTold}
 use Rattle.asm_check.proofs.Heights.{here, there, none_in, head_or_tail}
 
 pub same_text : (x y : Text) → is_text x y ≡ true → x ≡ y
@@ -16,6 +17,9 @@ same_text x y e = (slice_eq-Decides unsigned_Decides x y true (sym e)).0 refl
 
 pub text_itself : (x : Text) → is_text x x ≡ true
 text_itself x = (slice_eq-Decides unsigned_Decides x x (is_text x x) refl).1 refl
+
+pub texts_are_told : TextsAreTold
+texts_are_told x y = (same_text x y, λ same. ap (is_text x) (sym same) ∙ text_itself x)
 
 -- the first declaration of a name in a list, with what stands before it
 pub record IsFirst (ds : List Declaration) (f : Text) (m : Meaning) : Type 0 where

@@ -1,16 +1,19 @@
--- In a well-formed specification each name that is used is known.
-use Rattle.std.proofs.Common.{◌≡◌, ◌≢◌, ℕ, Bool, true, false, nat_eq, List, [], ◌∷◌, Option, Some, None, refl, sym, subst, ◌∙◌}
-use Rattle.std.specs.Prelude.{Contains}
+-- In a well-formed specification each name stands for what its use asks for.
+use Rattle.std.proofs.Common.{◌≡◌, ◌≢◌, ℕ, Bool, true, false, nat_eq, List, [], ◌∷◌, ◌++◌, map, Option, Some, None, refl, sym, subst, ◌∙◌, inl, inr}
+use Rattle.std.specs.Prelude.{Contains, flat_map}
 use Rattle.std.specs.Cmp.{unsigned_Decides}
 use Rattle.std.proofs.lemmas.Bool.{false≢true}
-use Rattle.asm_syntax.specs.Placed.{Name, Rule, Spec}
+use Rattle.std.proofs.lemmas.List.Elements.{Contains-append_left, Contains-append_right}
+use Rattle.asm_syntax.specs.Placed as tree
+use Rattle.asm_syntax.specs.Placed.{Name, Term, Constant, Named, Chain, Not, Negative, Exists, Every, Terms, no_terms, term_then, Links, no_links, link_then, Rule, Skip, Assign, Call, Par, Seq, If, Let, Forall, Choose, Iterate, Rules, no_rules, rule_then, Branch, left_out, written, Const, Entry, Given, Item, Spec}
 use Rattle.asm_check.specs.Names as names
-use Rattle.asm_check.specs.Names.{Meaning, Procedure, Derived, Use, declared, uses, arguments_of, is_assignable, is_start}
+use Rattle.asm_check.specs.Names.{Text, Meaning, Procedure, Derived, Role, InTerm, AsTarget, AsCalled, AsUniverse, AsCodomain, AsElement, Use, use_of, plain_use, term_count, text_of, is_among, is_known, arguments_of, is_assignable, is_start, declared, uses, uses_of, uses_of_rule, uses_of_rules, uses_of_branch, uses_of_term, uses_of_terms, uses_of_links, uses_of_test, uses_of_const, uses_of_entry, uses_of_codomain, uses_of_table}
 use Rattle.asm_check.specs.Faults.{IsWellFormed, is_known_use, inits, unknown, arity, not_controlled, init, another, no_start, missing}
-use Rattle.asm_check.specs.Fit.{IsFit, HasStart}
+use Rattle.asm_check.specs.Fit.{IsUniverseName, IsCodomainName, IsFitConst, IsFitTable, IsFitFunction, IsFitTerm, AreFitTerms, AreFitLinks, IsFitTest, IsFitRule, AreFitRules, IsFitBranch, HasStart}
 use Rattle.asm_check.specs.Laws.{BodiesAreFit}
-use Rattle.asm_check.proofs.Heights.{here}
+use Rattle.asm_check.proofs.Heights.{here, there, none_in, head_or_tail}
 use Rattle.asm_check.proofs.Declared.{body_uses}
+use Rattle.asm_check.proofs.Suited.{IsSuited, IsGood, suited}
 
 not_false : (b : Bool) → ¬ (b ≡ false) → b ≡ true
 not_false true h = refl
@@ -20,16 +23,174 @@ same_number : (m n : ℕ) → ¬ (m ≢ n) → m ≡ n
 same_number m n h =
     (unsigned_Decides m n).0 (not_false (nat_eq m n) (λ e. h (λ same. false≢true (sym e ∙ (unsigned_Decides m n).1 same))))
 
-fit : (spec : Spec) → IsWellFormed spec → (u : Use) → Contains (uses spec) u → IsFit spec u
-fit spec good u c =
-    let known : is_known_use spec u ≡ true =
-    not_false (is_known_use spec u) (λ no'. good u.name.at 9 (unknown (record { use_of = u; stands = c; unknown = no'; place = refl }))) in
-    record {
-      known = known;
-      counted = λ n has. same_number u.count n (λ differs. good u.name.at 10 (arity (record { use_of = u; stands = c; count = n; has = has; differs = differs; place = refl })));
-      assignable = λ target. not_false (is_assignable u.is_bound (declared spec u.name.text))
-          (λ no'. good u.name.at 11 (not_controlled (record { use_of = u; stands = c; is_target = target; known = known; unassignable = no'; place = refl })));
-    }
+-- ---- uses without faults
+
+module _ (spec : Spec) where
+  abbrev Good : Use → Type 0
+  Good u = IsGood spec u.role u.name u.count u.is_bound
+
+  abbrev AreGood : List Use → Type 0
+  AreGood us = (u : Use) → Contains us u → Good u
+
+  good_use : IsWellFormed spec → AreGood (uses spec)
+  good_use good u c =
+      let known : is_known_use spec u ≡ true =
+      not_false (is_known_use spec u) (λ no'. good u.name.at 9 (unknown (record { use_of = u; stands = c; unknown = no'; place = refl }))) in
+      record {
+        known = known;
+        counted = λ n has. same_number u.count n (λ differs. good u.name.at 10 (arity (record { use_of = u; stands = c; count = n; has = has; differs = differs; place = refl })));
+        assignable = λ target. not_false (is_assignable u.is_bound (declared spec u.name.text))
+            (λ no'. good u.name.at 11 (not_controlled (record { use_of = u; stands = c; is_target = target; known = known; unassignable = no'; place = refl })));
+      }
+
+  front : (us vs : List Use) → AreGood (us ++ vs) → AreGood us
+  front us vs h u c = h u (Contains-append_left us vs u c)
+
+  back : (us vs : List Use) → AreGood (us ++ vs) → AreGood vs
+  back us vs h u c = h u (Contains-append_right us vs u c)
+
+  tail : (u : Use) (us : List Use) → AreGood (u ∷ us) → AreGood us
+  tail u us h v c = h v (there u v us c)
+
+  first : (role : Role) (x : Name) (n : ℕ) (bound : List Text) (us : List Use) → AreGood (use_of role x n bound ∷ us) → IsSuited spec role x n bound
+  first role x n bound us h = suited spec x n bound role (is_among bound x.text) refl (h (use_of role x n bound) (here (use_of role x n bound) us))
+
+  -- a name that has no arguments, and that no binder is looked at for
+  plain : (role : Role) (x : Name) (us : List Use) → AreGood (plain_use role x ∷ us) → IsSuited spec role x 0 []
+  plain role x us h = suited spec x 0 [] role false refl (h (plain_use role x) (here (plain_use role x) us))
+
+  -- ---- terms
+
+  mutual
+    fit_term : (t : Term) (bound : List Text) → AreGood (uses_of_term t bound) → IsFitTerm spec t bound
+    fit_term (Constant v) bound h = tt
+    fit_term (Named x ts) bound h = (first InTerm x (term_count ts) bound (uses_of_terms ts bound) h, fit_terms ts bound (tail _ (uses_of_terms ts bound) h))
+    fit_term (Chain t links) bound h =
+        (fit_term t bound (front (uses_of_term t bound) (uses_of_links links bound) h), fit_links links bound (back (uses_of_term t bound) (uses_of_links links bound) h))
+    fit_term (Not t) bound h = fit_term t bound h
+    fit_term (Negative t) bound h = fit_term t bound h
+    fit_term (Exists x over t) bound h =
+        (plain AsUniverse over (uses_of_term t (x.text ∷ bound)) h, fit_term t (x.text ∷ bound) (tail _ (uses_of_term t (x.text ∷ bound)) h))
+    fit_term (Every x over t) bound h =
+        (plain AsUniverse over (uses_of_term t (x.text ∷ bound)) h, fit_term t (x.text ∷ bound) (tail _ (uses_of_term t (x.text ∷ bound)) h))
+
+    fit_terms : (ts : Terms) (bound : List Text) → AreGood (uses_of_terms ts bound) → AreFitTerms spec ts bound
+    fit_terms no_terms bound h = tt
+    fit_terms (term_then t ts) bound h =
+        (fit_term t bound (front (uses_of_term t bound) (uses_of_terms ts bound) h), fit_terms ts bound (back (uses_of_term t bound) (uses_of_terms ts bound) h))
+
+    fit_links : (links : Links) (bound : List Text) → AreGood (uses_of_links links bound) → AreFitLinks spec links bound
+    fit_links no_links bound h = tt
+    fit_links (link_then o t links) bound h =
+        (fit_term t bound (front (uses_of_term t bound) (uses_of_links links bound) h), fit_links links bound (back (uses_of_term t bound) (uses_of_links links bound) h))
+
+  fit_test : (t : Option Term) (bound : List Text) → AreGood (uses_of_test t bound) → IsFitTest spec t bound
+  fit_test None bound h = tt
+  fit_test (Some t) bound h = fit_term t bound h
+
+  -- ---- rules
+
+  -- the parts of a rule with a universe, and perhaps a test
+  parts : (x over : Name) (t : Option Term) (P : Rule) (bound : List Text) → AreGood (plain_use AsUniverse over ∷ uses_of_test t (x.text ∷ bound) ++ uses_of_rule P (x.text ∷ bound))
+      → IsUniverseName spec over × IsFitTest spec t (x.text ∷ bound) × AreGood (uses_of_rule P (x.text ∷ bound))
+  parts x over t P bound h =
+      let test = uses_of_test t (x.text ∷ bound) in
+      let body = uses_of_rule P (x.text ∷ bound) in
+      let rest = tail (plain_use AsUniverse over) (test ++ body) h in
+      (plain AsUniverse over (test ++ body) h, fit_test t (x.text ∷ bound) (front test body rest), back test body rest)
+
+  mutual
+    fit_rule : (R : Rule) (bound : List Text) → AreGood (uses_of_rule R bound) → IsFitRule spec R bound
+    fit_rule Skip bound h = tt
+    fit_rule (Assign f ts t) bound h =
+        let rest = tail _ (uses_of_terms ts bound ++ uses_of_term t bound) h in (
+          first AsTarget f (term_count ts) bound (uses_of_terms ts bound ++ uses_of_term t bound) h,
+          fit_terms ts bound (front (uses_of_terms ts bound) (uses_of_term t bound) rest),
+          fit_term t bound (back (uses_of_terms ts bound) (uses_of_term t bound) rest),
+        )
+    fit_rule (Call r ts) bound h = (first AsCalled r (term_count ts) bound (uses_of_terms ts bound) h, fit_terms ts bound (tail _ (uses_of_terms ts bound) h))
+    fit_rule (Par Ps) bound h = fit_rules Ps bound h
+    fit_rule (Seq Ps) bound h = fit_rules Ps bound h
+    fit_rule (If t P Q) bound h =
+        let yes = front (uses_of_term t bound ++ uses_of_rule P bound) (uses_of_branch Q bound) h in (
+          fit_term t bound (front (uses_of_term t bound) (uses_of_rule P bound) yes),
+          fit_rule P bound (back (uses_of_term t bound) (uses_of_rule P bound) yes),
+          fit_branch Q bound (back (uses_of_term t bound ++ uses_of_rule P bound) (uses_of_branch Q bound) h),
+        )
+    fit_rule (Let x t P) bound h =
+        (fit_term t bound (front (uses_of_term t bound) (uses_of_rule P (x.text ∷ bound)) h), fit_rule P (x.text ∷ bound) (back (uses_of_term t bound) (uses_of_rule P (x.text ∷ bound)) h))
+    fit_rule (Forall x over t P) bound h = let it = parts x over t P bound h in (it.0, it.1, fit_rule P (x.text ∷ bound) it.2)
+    fit_rule (Choose x over t P Q) bound h =
+        let head = plain_use AsUniverse over ∷ uses_of_test t (x.text ∷ bound) ++ uses_of_rule P (x.text ∷ bound) in
+        let it = parts x over t P bound (front head (uses_of_branch Q bound) h) in
+        (it.0, it.1, fit_rule P (x.text ∷ bound) it.2, fit_branch Q bound (back head (uses_of_branch Q bound) h))
+    fit_rule (Iterate P) bound h = fit_rule P bound h
+
+    fit_rules : (Ps : Rules) (bound : List Text) → AreGood (uses_of_rules Ps bound) → AreFitRules spec Ps bound
+    fit_rules no_rules bound h = tt
+    fit_rules (rule_then P Ps) bound h =
+        (fit_rule P bound (front (uses_of_rule P bound) (uses_of_rules Ps bound) h), fit_rules Ps bound (back (uses_of_rule P bound) (uses_of_rules Ps bound) h))
+
+    fit_branch : (Q : Branch) (bound : List Text) → AreGood (uses_of_branch Q bound) → IsFitBranch spec Q bound
+    fit_branch left_out bound h = tt
+    fit_branch (written P) bound h = fit_rule P bound h
+
+  -- ---- declarations of functions
+
+  fit_const : (c : Const) → AreGood (uses_of_const c) → IsFitConst spec c
+  fit_const (tree.Plain v) h = tt
+  fit_const (tree.Element x) h = plain AsElement x [] h
+
+  fit_consts : (cs : List Const) → AreGood (flat_map uses_of_const cs) → (c : Const) → Contains cs c → IsFitConst spec c
+  fit_consts [] h c it = none_in c it
+  fit_consts (d ∷ cs) h c it =
+      elim (head_or_tail d c cs it) [
+        | inl same ↦ subst (IsFitConst spec) same (fit_const d (front (uses_of_const d) (flat_map uses_of_const cs) h))
+        | inr rest ↦ fit_consts cs (back (uses_of_const d) (flat_map uses_of_const cs) h) c rest
+      ]
+
+  fit_entries : (es : List Entry) → AreGood (flat_map uses_of_entry es) → (e : Entry) → Contains es e → ((c : Const) → Contains e.arguments c → IsFitConst spec c) × IsFitConst spec e.value
+  fit_entries [] h e it = none_in e it
+  fit_entries (d ∷ es) h e it =
+      elim (head_or_tail d e es it) [
+        | inl same ↦ subst (λ e. ((c : Const) → Contains e.arguments c → IsFitConst spec c) × IsFitConst spec e.value) same
+            (let own = front (uses_of_entry d) (flat_map uses_of_entry es) h in (
+              fit_consts d.arguments (front (flat_map uses_of_const d.arguments) (uses_of_const d.value) own),
+              fit_const d.value (back (flat_map uses_of_const d.arguments) (uses_of_const d.value) own),
+            ))
+        | inr rest ↦ fit_entries es (back (uses_of_entry d) (flat_map uses_of_entry es) h) e rest
+      ]
+
+  fit_table : (table : Option Given) → AreGood (uses_of_table table) → IsFitTable spec table
+  fit_table None h = tt
+  fit_table (Some (tree.Each c)) h = fit_const c h
+  fit_table (Some (tree.Entries entries)) h = fit_entries entries h
+
+  fit_domain : (us : List Name) → AreGood (map (plain_use AsUniverse) us) → (u : Name) → Contains us u → IsUniverseName spec u
+  fit_domain [] h u it = none_in u it
+  fit_domain (v ∷ us) h u it =
+      elim (head_or_tail v u us it) [
+        | inl same ↦ subst (IsUniverseName spec) same (plain AsUniverse v (map (plain_use AsUniverse) us) h)
+        | inr rest ↦ fit_domain us (tail (plain_use AsUniverse v) (map (plain_use AsUniverse) us) h) u rest
+      ]
+
+  fit_codomain : (codomain : Option Name) → AreGood (uses_of_codomain codomain) → (u : Name) → codomain ≡ Some u → IsCodomainName spec u
+  fit_codomain None h u is = cc
+  fit_codomain (Some v) h u is = let same : v ≡ u = cc in subst (IsCodomainName spec) same (plain AsCodomain v [] h)
+
+  fit_function : (domain : List Name) (codomain : Option Name) (table : Option Given) → AreGood (map (plain_use AsUniverse) domain ++ uses_of_codomain codomain ++ uses_of_table table)
+      → IsFitFunction spec domain codomain table
+  fit_function domain codomain table h =
+      let us = map (plain_use AsUniverse) domain in
+      let cod = uses_of_codomain codomain in
+      let front_two = front (us ++ cod) (uses_of_table table) h in
+      record {
+        domain_fits = fit_domain domain (front us cod front_two);
+        codomain_fits = fit_codomain codomain (back us cod front_two);
+        table_fits = fit_table table (back (us ++ cod) (uses_of_table table) h);
+      }
+
+-- ---- the starting rule
 
 starting : (m : Option Meaning) → is_start m ≡ true → (P : Rule) × (m ≡ Some (Procedure [] P))
 starting (Some (Procedure [] P)) e = (P, refl)
@@ -51,9 +212,22 @@ starts spec good (x ∷ []) e =
     (λ no'. good x.at 14 (init (no_start x (subst (λ xs. Contains xs x) (sym e) (here x [])) no' refl)))) in
     record { name = x; body = it.0; only = e; rule = it.1 }
 
+in_uses : (spec : Spec) (item : Item) → Contains spec.items item → (u : Use) → Contains (uses_of item) u → Contains (uses spec) u
+unfolding uses
+in_uses spec item it u c = among_all uses_of spec.items item u it c
+  where
+    among_all : {X Y : Type 0} (f : X → List Y) (xs : List X) (x : X) (y : Y) → Contains xs x → Contains (f x) y → Contains (flat_map f xs) y
+    among_all f [] x y it c = none_in x it
+    among_all f (z ∷ xs) x y it c =
+        elim (head_or_tail z x xs it) [
+          | inl same ↦ Contains-append_left (f z) (flat_map f xs) y (subst (λ w. Contains (f w) y) (sym same) c)
+          | inr rest ↦ Contains-append_right (f z) (flat_map f xs) y (among_all f xs x y rest c)
+        ]
+
 pub bodies_are_fit : BodiesAreFit
 bodies_are_fit spec good = record {
-  rules = λ f xs P is u c. fit spec good u (body_uses spec f (Procedure xs P) is u c);
-  derived = λ f xs t is u c. fit spec good u (body_uses spec f (Derived xs t) is u c);
+  rules = λ f xs P is. fit_rule spec P (map text_of xs) (λ u c. good_use spec good u (body_uses spec f (Procedure xs P) is u c));
+  derived = λ f xs t is. fit_term spec t (map text_of xs) (λ u c. good_use spec good u (body_uses spec f (Derived xs t) is u c));
+  functions = λ x kind domain codomain table it. fit_function spec domain codomain table (λ u c. good_use spec good u (in_uses spec (tree.Function x kind domain codomain table) it u c));
   start = starts spec good (inits spec) refl;
 }

@@ -39,7 +39,7 @@ like_next is_like k item items = filter-append (λ d. is_like d.meaning) (declar
 
 -- ---- names of universes and of elements
 
-element_texts_are : (k : ℕ) (xs : List Name) → texts_of (element_declarations k xs) ≡ map text_of xs
+pub element_texts_are : (k : ℕ) (xs : List Name) → texts_of (element_declarations k xs) ≡ map text_of xs
 element_texts_are k [] = refl
 element_texts_are k (x ∷ xs) = ap (λ ts. x.text ∷ ts) (element_texts_are k xs)
 

@@ -20,6 +20,7 @@ pub mod Fit
 pub mod Gathering
 pub mod Heights
 pub mod Inits
+pub mod Introduced
 pub mod ItemLists
 pub mod LeastOfAll
 pub mod LimitSteps
@@ -49,8 +50,10 @@ pub mod Sizes
 pub mod Sole
 pub mod Soonest
 pub mod SoonestWith
+pub mod SoundShapes
 pub mod StepFaults
 pub mod Stepping
+pub mod Suited
 pub mod TableSteps
 pub mod TableValues
 pub mod Totals

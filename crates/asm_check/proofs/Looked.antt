@@ -8,7 +8,7 @@ use Rattle.std.proofs.lemmas.List.Elements.{Contains-append_left, Contains-appen
 use Rattle.asm_state.specs.declared.value.Value.{Value}
 use Rattle.asm_state.specs.Signature.{domain_in}
 use Rattle.asm_state.specs.Tables.{argument_lists}
-use Rattle.asm_state.proofs.ListPositions.{length-rows}
+use Rattle.asm_state.proofs.Domains.{domain_laws}
 use Rattle.asm_syntax.specs.Placed.{Name, Item, Spec}
 use Rattle.asm_check.specs.Names as names
 use Rattle.asm_check.specs.Names.{Text, Declaration, Meaning, Range, Enumeration, AsUniverse, is_text, is_known, declared, first_declarations, plain_use, uses, uses_of}
@@ -114,5 +114,5 @@ universe_named spec u known =
 pub length-lists : (universes : List (List Value)) (numbers : List ℕ) → length (argument_lists (domain_in universes numbers)) ≡ product (map (λ n. length (slice_index_or universes n [])) numbers)
 length-lists universes [] = refl
 length-lists universes (n ∷ numbers) =
-    length-rows (argument_lists (domain_in universes numbers)) (slice_index_or universes n [])
+    domain_laws.count (slice_index_or universes n []) (domain_in universes numbers)
     ∙ ap (λ k. length (slice_index_or universes n []) * k) (length-lists universes numbers)

@@ -53,7 +53,7 @@ record LeadsTo (spec : Spec) (x : Text) (m : Meaning) : Type 0 where
 
 module _ (spec : Spec) (x : Text) where
   module _ (m : Meaning) (means : declared spec x ≡ Some m) where
-    place_like : (is_like : Meaning → Bool) → is_like m ≡ true → (n : ℕ) × (number_in (all_of is_like spec) x ≡ Some n) × (meaning_at (all_of is_like spec) n ≡ Some m)
+    pub place_like : (is_like : Meaning → Bool) → is_like m ≡ true → (n : ℕ) × (number_in (all_of is_like spec) x ≡ Some n) × (meaning_at (all_of is_like spec) n ≡ Some m)
     place_like is_like kind =
         let d = declared_by (find (λ d. is_text d.name.text x) (first_declarations spec)) m (first_stands spec x ∙ means) in
         let at = at_position (λ (d : Declaration). is_text d.name.text x) (all_of is_like spec) d.0

@@ -7,7 +7,7 @@ use Rattle.asm_state.specs.declared.value.Value.{Value}
 use Rattle.asm_state.specs.Fits.{IsDomainOf}
 use Rattle.asm_state.specs.Signature.{domain_in}
 use Rattle.asm_state.specs.Tables.{IsTableOf}
-use Rattle.asm_state.proofs.Rising.{All-from_contained}
+use Rattle.asm_state.proofs.Lists.{All-from_contained}
 use Rattle.asm_syntax.specs.declared.spec.FunctionKind.TheVariants as kind
 use Rattle.asm_syntax.specs.Placed as tree
 use Rattle.asm_syntax.specs.Placed.{Item, Spec}

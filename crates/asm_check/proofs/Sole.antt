@@ -5,7 +5,7 @@ use Rattle.std.proofs.lemmas.Bool.{false≢true}
 use Rattle.std.proofs.lemmas.List.{map-append}
 use Rattle.std.proofs.lemmas.List.Elements.{All-contains, filter-append}
 use Rattle.std.proofs.lemmas.List.Kept.{AllPairs-cons, AllPairs-filter}
-use Rattle.asm_state.proofs.Rising.{All-from_contained, AllPairs-none, AllPairs-head, AllPairs-tail, AllPairs-map}
+use Rattle.asm_state.proofs.Lists.{All-from_contained, AllPairs-none, AllPairs-head, AllPairs-tail, AllPairs-map}
 use Rattle.asm_syntax.specs.Placed.{Spec}
 use Rattle.asm_check.specs.Names.{Text, Declaration, Meaning, Predeclared, predeclared_names, declares, is_text, is_among, text_of, predeclared, declarations_from, declarations, first_of_each, first_declarations}
 use Rattle.asm_check.specs.Faults.{IsWellFormed, IsRepeated, parameters_of, twice}

@@ -9,6 +9,7 @@ use Rattle.std.proofs.lemmas.Int.{ints}
 use Rattle.std.proofs.lemmas.List.Elements.{All-map, Contains-append_left, Contains-append_right}
 use Rattle.std.proofs.lemmas.List.Folds.{list_any_at}
 use Rattle.std.proofs.lemmas.List.Kept.{AllPairs-cons}
+use Rattle.std.proofs.lemmas.Option.{get_or_from_slice_get}
 use Rattle.asm_state.specs.declared.element.Element.{Element as Member}
 use Rattle.asm_state.specs.declared.number.Number.{Number as WholeNumber}
 use Rattle.asm_state.specs.declared.value.Value.{Value}
@@ -18,11 +19,9 @@ use Rattle.asm_state.specs.Operation.{at_most, is_same, number_or_undef}
 use Rattle.asm_state.specs.Signature.{domain_in}
 use Rattle.asm_state.specs.Tables.{is_in, is_list, AreEntriesIn, IsTableOf}
 use Rattle.asm_state.specs.Universe.{element, elements, numbers, count_between, numbers_between}
-use Rattle.asm_state.proofs.Containing.{Contains-flat_map}
-use Rattle.asm_state.proofs.Numbers.{number_in_range}
-use Rattle.asm_state.proofs.Rising.{All-from_contained, AllPairs-none, AllPairs-map}
-use Rattle.asm_state.proofs.UniverseValues.{length-elements, length-numbers, at_elements, at_numbers, element_in_range, element_code}
-use Rattle.asm_state.proofs.Updates.{same_value, value_itself}
+use Rattle.asm_state.proofs.Domains.{universe_laws}
+use Rattle.asm_state.proofs.Lists.{All-from_contained, AllPairs-none, AllPairs-map, Contains-flat_map}
+use Rattle.asm_state.proofs.ValueLaws.{value_laws}
 use Rattle.asm_syntax.specs.declared.spec.FunctionKind.{FunctionKind}
 use Rattle.asm_syntax.specs.declared.term.Literal.{Literal}
 use Rattle.asm_syntax.specs.declared.term.Literal.TheVariants as literal
@@ -72,20 +71,20 @@ number_among first last n low high =
     let apart : last -ℤ first ≡ pos over.0 = omega (arith, ints, over.1) in
     let count : count_between first last ≡ over.0 + 1 = ap (λ b. cond b (unsigned_abs (last -ℤ first) + 1) 0) test ∙ ap (λ z. unsigned_abs z + 1) apart in
     let short : up.0 < count_between first last = omega (arith, ints, count, up.1, over.1, below) in
-    let long = length-numbers first (count_between first last) in
+    let long = universe_laws.number_count first (count_between first last) in
     let it : value.Number n ≡ slice_index_or (numbers first (count_between first last)) up.0 value.Undef =
-    number_in_range n.value n refl ∙ ap number_or_undef (sym up.1) ∙ sym (at_numbers first (count_between first last) up.0 value.Undef short) in
+    value_laws.number n.value n refl ∙ ap number_or_undef (sym up.1) ∙ sym (get_or_from_slice_get (numbers first (count_between first last)) up.0 (number_or_undef (first +ℤ pos up.0)) value.Undef (universe_laws.number_at first (count_between first last) up.0 short)) in
     list_any_at (is_same (value.Number n)) (numbers first (count_between first last)) up.0 value.Undef (omega (arith, short, long))
-    (subst (λ v. is_same (value.Number n) v ≡ true) it (value_itself (value.Number n)))
+    (subst (λ v. is_same (value.Number n) v ≡ true) it ((value_laws.same (value.Number n) (value.Number n)).1 refl))
 
 -- so does an element of a run of elements
 element_among : (first count n : ℕ) → first ≤ n → n < first + count → list_any (is_same (element n)) (elements first count) ≡ true
 element_among first count n low high =
-    let long = length-elements first count in
+    let long = universe_laws.element_count first count in
     let place : first + (n - first) ≡ n = omega (arith, low) in
-    let it : element n ≡ slice_index_or (elements first count) (n - first) value.Undef = ap element (sym place) ∙ sym (at_elements first count (n - first) value.Undef (omega (arith, low, high))) in
+    let it : element n ≡ slice_index_or (elements first count) (n - first) value.Undef = ap element (sym place) ∙ sym (get_or_from_slice_get (elements first count) (n - first) (element (first + (n - first))) value.Undef (universe_laws.element_at first count (n - first) (omega (arith, low, high)))) in
     list_any_at (is_same (element n)) (elements first count) (n - first) value.Undef (omega (arith, low, high, long))
-    (subst (λ v. is_same (element n) v ≡ true) it (value_itself (element n)))
+    (subst (λ v. is_same (element n) v ≡ true) it ((value_laws.same (element n) (element n)).1 refl))
 
 none_of : {X : Type 0} (p : X → Bool) (xs : List X) (x : X) → list_any p xs ≡ false → Contains xs x → p x ≡ false
 none_of p [] x none it = none_in x it
@@ -108,7 +107,7 @@ pairs_from R (x ∷ xs) each =
     (pairs_from R xs (λ before after w y parts it. each (x ∷ before) after w y (ap (λ zs. x ∷ zs) parts) (there x w before it)))
 
 same_member : (n : ℕ) → n < 262_144 → (e : Member) × (element n ≡ value.Element e)
-same_member n below = (record { index = n; in_range = below }, sym (element_in_range n (record { index = n; in_range = below }) refl))
+same_member n below = (record { index = n; in_range = below }, sym (value_laws.element_at n (record { index = n; in_range = below }) refl))
 
 truths : (b c : Bool) → b ≡ c → ((b && c) || (not b && not c)) ≡ true
 truths true true e = refl
@@ -227,8 +226,8 @@ module _ (spec : Spec) (good : IsWellFormed spec) where
   same_names x y known other e =
       let it = element_at spec good x.text known.0 known.1 in
       let that = element_at spec good y.text other.0 other.1 in
-      let low = element_code (number_of x) (number_small spec good (number_of x) it.declaration it.stands) in
-      let high = element_code (number_of y) (number_small spec good (number_of y) that.declaration that.stands) in
+      let low = value_laws.element_code (number_of x) (number_small spec good (number_of x) it.declaration it.stands) in
+      let high = value_laws.element_code (number_of y) (number_small spec good (number_of y) that.declaration that.stands) in
       let codes = ap code_of e in
       let number : number_of x ≡ number_of y = omega (arith, low, high, codes) in
       let at_one : Some it.declaration ≡ Some that.declaration = sym it.stands ∙ ap (slice_get (elements_of spec)) number ∙ that.stands in
@@ -251,7 +250,7 @@ module _ (spec : Spec) (good : IsWellFormed spec) where
       let first = left_of (is_same (const_value spec c) (const_value spec d)) (is_list (map (const_value spec) cs) (map (const_value spec) ds)) e in
       let rest = right_of (is_same (const_value spec c) (const_value spec d)) (is_list (map (const_value spec) cs) (map (const_value spec) ds)) e in
       both (same_const c d) (same_arguments cs ds)
-      (same_consts c d (known c (here c cs)) (others d (here d ds)) (same_value (const_value spec c) (const_value spec d) first))
+      (same_consts c d (known c (here c cs)) (others d (here d ds)) ((value_laws.same (const_value spec c) (const_value spec d)).0 first))
       (same_lists cs ds (λ a it. known a (there c a cs it)) (λ a it. others a (there d a ds it)) rest)
 
   -- ---- one table

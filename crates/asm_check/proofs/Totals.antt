@@ -8,7 +8,7 @@ use Rattle.std.proofs.lemmas.List.Sums.{sum_by-append, sum_by-cons}
 use Rattle.asm_state.specs.Fits.{static_lists}
 use Rattle.asm_state.specs.Signature.{domain_in, function_locations}
 use Rattle.asm_state.specs.Tables.{argument_lists}
-use Rattle.asm_state.proofs.LocationPlaces.{how_many}
+use Rattle.asm_state.proofs.NumberedLocations.{number_laws}
 use Rattle.asm_syntax.specs.declared.spec.FunctionKind.{FunctionKind}
 use Rattle.asm_syntax.specs.declared.spec.FunctionKind.TheVariants as kind
 use Rattle.asm_syntax.specs.Placed as tree
@@ -75,7 +75,7 @@ module _ (spec : Spec) (good : IsWellFormed spec) where
       let rest = count_locations (f + 1) (suc k) items (later item items counted) in
       let next = held_next k item items in
       let own : total is_controlled held (declarations_of k item) ≡ lists_of spec domain + 1 = omega arith in
-      let many = how_many f (domain_in (values_of spec good) (domain_by (texts_of (universes_of spec)) domain)) in
+      let many = number_laws.of_function f (domain_in (values_of spec good) (domain_by (texts_of (universes_of spec)) domain)) in
       let is = counted x kind.Controlled domain codomain table (here item items) in
       let split = length-append (function_locations (values_of spec good) (f, it)) (flat_map (function_locations (values_of spec good)) (enumerate_from (f + 1) (filter_map (function_given spec) items))) in
       split ∙ omega (arith, rest, next, own, many, is)

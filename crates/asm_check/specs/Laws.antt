@@ -1,16 +1,18 @@
 -- Laws of faults.
-use Rattle.std.specs.Prelude.{◌≡◌, ◌≢◌, ◌≤◌, ℕ, List, length, slice_get, Option, Some, Contains}
+use Rattle.std.specs.Prelude.{◌≡◌, ◌≢◌, ◌≤◌, ℕ, true, List, length, slice_get, Option, Some, Contains}
 use Rattle.asm_state.specs.declared.function.Function as state
 use Rattle.asm_state.specs.Fits.{Fits}
+use Rattle.asm_state.specs.Signature.{IsSound}
 use Rattle.asm_state.specs.Universe.{element}
 use Rattle.asm_syntax.specs.declared.spec.FunctionKind.{FunctionKind}
 use Rattle.asm_syntax.specs.Placed as tree
 use Rattle.asm_syntax.specs.Placed.{Name, Given, Spec}
-use Rattle.asm_check.specs.Names.{Text, Declaration, Meaning, declares, declared, function_of, Predeclared, Enumeration, Element}
+use Rattle.asm_check.specs.Names.{Text, Declaration, Meaning, declares, declared, function_of, is_text, Predeclared, Enumeration, Element}
 use Rattle.asm_check.specs.Sizes.{IsWithinLimits}
 use Rattle.asm_check.specs.Faults.{IsLeastFault, IsWellFormed}
 use Rattle.asm_check.specs.Ranks.{HasRanks}
 use Rattle.asm_check.specs.Fit.{IsReady}
+use Rattle.asm_check.specs.Introduced.{HasNamesApart, HasMeanings}
 use Rattle.asm_check.specs.Numbers.{universes_of, elements_of, functions_of, derived_of, rules_of, meaning_at, named}
 use Rattle.asm_check.specs.declared.checked.Named.{Named}
 use Rattle.asm_check.specs.declared.checked.Named.TheVariants as number
@@ -25,7 +27,15 @@ LeastIsOnly =
 abbrev pub RanksExist : Type 0
 RanksExist = (spec : Spec) → IsWellFormed spec → HasRanks spec
 
--- in a well-formed specification each name that is used is known
+-- in a well-formed specification no name is declared twice, and no item has a parameter twice
+abbrev pub NamesAreApart : Type 0
+NamesAreApart = (spec : Spec) → IsWellFormed spec → HasNamesApart spec
+
+-- in a well-formed specification each name is declared as its item says
+abbrev pub ItemsAreDeclared : Type 0
+ItemsAreDeclared = (spec : Spec) → IsWellFormed spec → HasMeanings spec
+
+-- in a well-formed specification each name stands for what its use asks for
 abbrev pub BodiesAreFit : Type 0
 BodiesAreFit = (spec : Spec) → IsWellFormed spec → IsReady spec
 
@@ -36,6 +46,10 @@ LimitsHold = (spec : Spec) → IsWellFormed spec → IsWithinLimits spec
 -- what a well-formed specification declares fits into a signature
 abbrev pub SignatureFits : Type 0
 SignatureFits = (spec : Spec) → IsWellFormed spec → Fits (shape_of spec)
+
+-- no universe of a well-formed specification has a value twice
+abbrev pub ShapeIsSound : Type 0
+ShapeIsSound = (spec : Spec) → IsWellFormed spec → IsSound (shape_of spec)
 
 -- a function of the signature is what this declaration declares
 pub record IsDeclaredBy (spec : Spec) (d : Declaration) (function : Option state.Function) : Type 0 where
@@ -74,6 +88,10 @@ meaning_numbered spec (number.Called r) = meaning_at (rules_of spec) r
 pub record HasNumber (spec : Spec) (x : Text) : Type 0 where
   pub of_number : (n : Named) → named spec x ≡ Some n → meaning_numbered spec n ≡ declared spec x
   pub of_meaning : (m : Meaning) → declared spec x ≡ Some m → m ≢ Predeclared → (n : Named) × (named spec x ≡ Some n)
+
+-- the test of two texts passes where they are the same, and nowhere else
+abbrev pub TextsAreTold : Type 0
+TextsAreTold = (x y : Text) → (is_text x y ≡ true → x ≡ y) × (x ≡ y → is_text x y ≡ true)
 
 -- numbers lead to what names are declared as
 abbrev pub NamesHaveNumbers : Type 0

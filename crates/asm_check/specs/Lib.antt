@@ -25,5 +25,6 @@ pub mod Shapes
 pub mod Listed
 pub mod Ranks
 pub mod Fit
+pub mod Introduced
 pub mod Sizes
 pub mod Laws

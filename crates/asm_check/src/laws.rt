@@ -1,5 +1,5 @@
 //! Laws of faults, and what a specification without faults has.
-ghost use Rattle.asm_check.specs.Laws.{LeastIsOnly, RanksExist, BodiesAreFit, LimitsHold, SignatureFits, SignatureNumbers, NamesHaveNumbers};
+ghost use Rattle.asm_check.specs.Laws.{LeastIsOnly, RanksExist, NamesAreApart, ItemsAreDeclared, BodiesAreFit, LimitsHold, SignatureFits, ShapeIsSound, SignatureNumbers, NamesHaveNumbers, TextsAreTold};
 
 /// A specification has at most one least fault.
 pub fn least_is_only()
@@ -11,7 +11,17 @@ pub fn ranks_exist()
     ensures { RanksExist }
 {}
 
-/// In a well-formed specification each name that is used is known, with as many arguments as it has.
+/// In a well-formed specification no name is declared twice, and no rule or derived function has a parameter twice.
+pub fn names_are_apart()
+    ensures { NamesAreApart }
+{}
+
+/// In a well-formed specification each name is declared as its item says.
+pub fn items_are_declared()
+    ensures { ItemsAreDeclared }
+{}
+
+/// In a well-formed specification each name stands for what its use asks for, with as many arguments as that has.
 pub fn bodies_are_fit()
     ensures { BodiesAreFit }
 {}
@@ -26,6 +36,11 @@ pub fn signature_fits()
     ensures { SignatureFits }
 {}
 
+/// No universe of a well-formed specification has a value twice.
+pub fn shape_is_sound()
+    ensures { ShapeIsSound }
+{}
+
 /// Universes, functions and elements have the numbers in the signature that they have among the declarations.
 pub fn signature_numbers()
     ensures { SignatureNumbers }
@@ -34,4 +49,9 @@ pub fn signature_numbers()
 /// The number of a name leads to what the name is declared as.
 pub fn names_have_numbers()
     ensures { NamesHaveNumbers }
+{}
+
+/// Two names are the same where the test of their texts passes, and nowhere else.
+pub fn texts_are_told()
+    ensures { TextsAreTold }
 {}

@@ -9,8 +9,8 @@ use Rattle.asm_state.specs.declared.value.Value.{Value}
 use Rattle.asm_state.specs.Value.{value_cmp, value_cmp-total}
 use Rattle.asm_state.specs.Universe.{IsUniverse}
 use Rattle.asm_state.specs.Tables.{Domain, argument_lists}
-use Rattle.asm_state.proofs.Containing.{Contains-from_map, lists_after}
-use Rattle.asm_state.proofs.Rising.{AllPairs-single, AllPairs-map, AllPairs-flat_map}
+use Rattle.asm_state.proofs.Containing.{lists_after}
+use Rattle.asm_state.proofs.Lists.{Contains-from_map, AllPairs-single, AllPairs-map, AllPairs-flat_map}
 
 abbrev pub ValuesRise : Value → Value → Type 0
 ValuesRise v w = value_cmp v w ≡ Less

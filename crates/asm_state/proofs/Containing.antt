@@ -1,62 +1,12 @@
--- What lists made from others contain, and that the argument lists of a domain are those that are in it.
-use Rattle.std.proofs.Common.{◌≡◌, zero, suc, true, false, ◌||◌, List, [], ◌∷◌, map, flat_map, Contains, IsTrue, ◌⊎◌, inl, inr, refl, sym, ap, subst, arith}
+-- The argument lists of a domain are those that are in it.
+use Rattle.std.proofs.Common.{◌≡◌, true, false, ◌||◌, List, [], ◌∷◌, map, Contains, IsTrue, inl, inr, refl, sym, ap, subst}
 use Rattle.std.specs.List.{list_any}
 use Rattle.std.proofs.lemmas.Bool.{false≢true, or_right, and_parts, and_from}
-use Rattle.std.proofs.lemmas.List.Elements.{Contains-append_left, Contains-append_right, Contains-append_cases}
 use Rattle.asm_state.specs.declared.value.Value.{Value}
 use Rattle.asm_state.specs.Operation.{is_same}
 use Rattle.asm_state.specs.Tables.{Domain, argument_lists, is_in}
+use Rattle.asm_state.proofs.Lists.{Contains-none, Contains-first, Contains-later, Contains-cons_cases, Contains-map, Contains-from_map, Contains-flat_map, Contains-from_flat_map}
 use Rattle.asm_state.proofs.Updates.{same_value, value_itself}
-
-module _ {X : Type 0} where
-  pub Contains-none : (y : X) → Contains [] y → ⊥
-  Contains-none y h = let below = h.1 in omega arith
-
-  pub Contains-first : (x : X) (xs : List X) → Contains (x ∷ xs) x
-  Contains-first x xs = (0, omega arith, refl)
-
-  pub Contains-later : (x : X) (xs : List X) (y : X) → Contains xs y → Contains (x ∷ xs) y
-  Contains-later x xs y h = let below = h.1 in (suc h.0, omega arith, h.2)
-
-  -- the first element, or one of the rest
-  pub Contains-cons_cases : (x : X) (xs : List X) (y : X) → Contains (x ∷ xs) y → (x ≡ y) ⊎ Contains xs y
-  Contains-cons_cases x xs y (zero, below, is) = inl is
-  Contains-cons_cases x xs y (suc k, below, is) = inr (k, omega arith, is)
-
-module _ {X Y : Type 0} where
-  pub Contains-map : (f : X → Y) (xs : List X) (x : X) → Contains xs x → Contains (map f xs) (f x)
-  Contains-map f [] x h = absurd (Contains-none x h)
-  Contains-map f (w ∷ xs) x h =
-      elim (Contains-cons_cases w xs x h) [
-        | inl is ↦ subst (λ x. Contains (map f (w ∷ xs)) (f x)) is (Contains-first (f w) (map f xs))
-        | inr later ↦ Contains-later (f w) (map f xs) (f x) (Contains-map f xs x later)
-      ]
-
-  -- an element of a `map` is that of some element
-  pub Contains-from_map : (f : X → Y) (xs : List X) (y : Y) → Contains (map f xs) y → (x : X) × Contains xs x × (f x ≡ y)
-  Contains-from_map f [] y h = absurd (Contains-none y h)
-  Contains-from_map f (w ∷ xs) y h =
-      elim (Contains-cons_cases (f w) (map f xs) y h) [
-        | inl is ↦ (w, Contains-first w xs, is)
-        | inr later ↦ let found = Contains-from_map f xs y later in (found.0, Contains-later w xs found.0 found.1, found.2)
-      ]
-
-  pub Contains-flat_map : (f : X → List Y) (xs : List X) (x : X) (y : Y) → Contains xs x → Contains (f x) y → Contains (flat_map f xs) y
-  Contains-flat_map f [] x y h inner = absurd (Contains-none x h)
-  Contains-flat_map f (w ∷ xs) x y h inner =
-      elim (Contains-cons_cases w xs x h) [
-        | inl is ↦ Contains-append_left (f w) (flat_map f xs) y (subst (λ x. Contains (f x) y) (sym is) inner)
-        | inr later ↦ Contains-append_right (f w) (flat_map f xs) y (Contains-flat_map f xs x y later inner)
-      ]
-
-  -- an element of a `flat_map` is in the piece of some element
-  pub Contains-from_flat_map : (f : X → List Y) (xs : List X) (y : Y) → Contains (flat_map f xs) y → (x : X) × Contains xs x × Contains (f x) y
-  Contains-from_flat_map f [] y h = absurd (Contains-none y h)
-  Contains-from_flat_map f (w ∷ xs) y h =
-      elim (Contains-append_cases (f w) (flat_map f xs) y h) [
-        | inl here ↦ (w, Contains-first w xs, here)
-        | inr later ↦ let found = Contains-from_flat_map f xs y later in (found.0, Contains-later w xs found.0 found.1, found.2)
-      ]
 
 -- a universe has a value where the test says so
 pub contains_same : (v : Value) (us : List Value) → list_any (is_same v) us ≡ true → Contains us v

@@ -11,7 +11,7 @@ use Rattle.asm_state.specs.Tables.{argument_lists}
 use Rattle.asm_state.proofs.GivenValues.{static_length, given_count}
 use Rattle.asm_state.proofs.LayoutsSoFar.{locations_before, given_before, locations_up, given_up, all_locations, all_given}
 use Rattle.asm_state.proofs.ListPositions.{few_lists}
-use Rattle.asm_state.proofs.LocationPlaces.{how_many}
+use Rattle.asm_state.proofs.NumberedLocations.{how_many}
 
 pub record CountsTo (shape : Shape) (f locations static_lists : ℕ) : Type 0 where
   pub locations_are : locations ≡ length (locations_before shape f)

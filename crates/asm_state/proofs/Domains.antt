@@ -11,12 +11,14 @@ use Rattle.asm_state.specs.declared.value.Value.{Value}
 use Rattle.asm_state.specs.declared.value.Value.TheVariants.{Undef}
 use Rattle.asm_state.specs.DomainLaws.{UniverseLaws, DomainLaws}
 use Rattle.asm_state.specs.Operation.{is_same}
+use Rattle.asm_state.specs.Tables.{argument_lists}
 use Rattle.asm_state.specs.Universe.{elements, numbers, IsUniverse}
 use Rattle.asm_state.specs.Value.{value_cmp, value_cmp-total}
 use Rattle.asm_state.proofs.ArgumentLists.{lists_apart}
 use Rattle.asm_state.proofs.Containing.{contains_in, in_contains, same_contained}
+use Rattle.asm_state.proofs.ListPositions.{length-rows}
 use Rattle.asm_state.proofs.Positions.{position_found, position_missed}
-use Rattle.asm_state.proofs.UniverseValues.{length-elements, length-numbers, at_elements, at_numbers}
+use Rattle.asm_state.proofs.UniverseValues.{length-elements, length-numbers, at_elements, at_numbers, elements_rise, numbers_rise}
 use Rattle.asm_state.proofs.Updates.{same_value, value_itself}
 
 value_at : (vs : List Value) (v : Value) (i : ℕ) → position (is_same v) vs ≡ Some i → slice_get vs i ≡ Some v
@@ -55,10 +57,17 @@ universe_laws = record {
   number_count = length-numbers;
   number_at = λ first count i h.
       slice_get-get_or (numbers first count) i Undef (subst (λ n. i < n) (sym (length-numbers first count)) h) ∙ ap Some (at_numbers first count i Undef h);
+  elements_rise = elements_rise;
+  numbers_rise = numbers_rise;
   value = value_at;
   position_of = position_is;
   without = λ vs v e has. false≢true (sym (position_missed v vs e) ∙ same_contained v vs has);
 }
 
 pub domain_laws : DomainLaws
-domain_laws = record { lists = λ domain vs. (in_contains domain vs, contains_in domain vs); rise = lists_apart }
+domain_laws = record {
+  count_of_none = refl;
+  count = λ vs domain. length-rows (argument_lists domain) vs;
+  lists = λ domain vs. (in_contains domain vs, contains_in domain vs);
+  rise = lists_apart;
+}

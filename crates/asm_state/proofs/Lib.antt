@@ -8,14 +8,15 @@ pub mod Summaries
 pub mod Algebra
 pub mod Faults
 pub mod Division
+pub mod Lists
 pub mod Containing
-pub mod Rising
 pub mod ArgumentLists
 pub mod LocationOrder
 pub mod NumberedLocations
 pub mod StatesByNumbers
 pub mod Positions
 pub mod UniverseValues
+pub mod ValueLaws
 pub mod Domains
 pub mod ListPositions
 pub mod TableValues

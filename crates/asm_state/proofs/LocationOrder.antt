@@ -18,8 +18,7 @@ use Rattle.asm_state.specs.Location.{Location, Proper, Stray, function_of, stray
 use Rattle.asm_state.specs.Universe.{IsUniverse}
 use Rattle.asm_state.specs.Tables.{Domain, argument_lists}
 use Rattle.asm_state.specs.Signature.{Shape, IsSound, domain_in, locations_by, function_locations, locations}
-use Rattle.asm_state.proofs.Containing.{Contains-none, Contains-cons_cases, Contains-from_map}
-use Rattle.asm_state.proofs.Rising.{AllPairs-none, AllPairs-single, AllPairs-append, AllPairs-map, AllPairs-flat_map}
+use Rattle.asm_state.proofs.Lists.{Contains-none, Contains-cons_cases, Contains-from_map, AllPairs-none, AllPairs-single, AllPairs-append, AllPairs-map, AllPairs-flat_map}
 use Rattle.asm_state.proofs.ArgumentLists.{ValuesRise, ListsRise, lists_apart}
 
 abbrev pub LocationsRise : Location → Location → Type 0

@@ -4,7 +4,7 @@ use Rattle.std.specs.Prelude.{slice_get}
 use Rattle.std.specs.List.{enumerate_from}
 use Rattle.std.proofs.Math.Seq.{get_or-append_seam}
 use Rattle.std.proofs.Math.ListN.{get_or-append}
-use Rattle.std.proofs.lemmas.List.{length-map, length-append, get_or-map}
+use Rattle.std.proofs.lemmas.List.{length-map, get_or-map}
 use Rattle.std.proofs.lemmas.List.Concat.{get_or-flat_map}
 use Rattle.std.proofs.lemmas.List.FromFn.{length-enumerate_from, get_or-enumerate_from}
 use Rattle.std.proofs.lemmas.List.Folds.{length-flat_map-take}
@@ -16,7 +16,7 @@ use Rattle.asm_state.specs.Location.{Location, Proper, Stray}
 use Rattle.asm_state.specs.Signature.{Shape, IsSound, domain_in, domain_by, domain_of, locations_by, function_locations, count_of, location_at, number_at}
 use Rattle.asm_state.specs.Tables.{Domain, argument_lists, is_in, location_in}
 use Rattle.asm_state.proofs.LayoutsSoFar.{locations_before, listed_in}
-use Rattle.asm_state.proofs.NumberedLocations.{number_laws}
+use Rattle.asm_state.proofs.NumberedLocations.{how_many, number_laws}
 
 -- ---- the locations of one controlled function
 
@@ -29,9 +29,6 @@ stray_listed : (f : ℕ) (domain : Domain) (d : Location) → get_or (locations_
 stray_listed f domain d =
     ap (λ n. get_or (locations_by Controlled f domain) n d) (sym (length-map (argument_lists domain) (Proper f)))
     ∙ get_or-append_seam (map (Proper f) (argument_lists domain)) (Stray f) [] d
-
-pub how_many : (f : ℕ) (domain : Domain) → length (locations_by Controlled f domain) ≡ length (argument_lists domain) + 1
-how_many f domain = length-append (map (Proper f) (argument_lists domain)) (Stray f ∷ []) ∙ ap (λ n. n + 1) (length-map (argument_lists domain) (Proper f))
 
 -- ---- among all
 

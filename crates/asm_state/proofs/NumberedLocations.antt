@@ -1,9 +1,10 @@
 -- The locations of a signature and their numbers.
-use Rattle.std.proofs.Common.{◌≡◌, ℕ, zero, suc, ◌+◌, ◌<◌, false, List, [], ◌∷◌, map, slice_get, Some, Contains, IsTrue, inl, inr, refl, sym, ap, subst, ◌∙◌, arith}
+use Rattle.std.proofs.Common.{◌≡◌, ℕ, zero, suc, ◌+◌, ◌<◌, false, List, [], ◌∷◌, map, length, slice_get, Some, Contains, IsTrue, inl, inr, refl, sym, ap, subst, ◌∙◌, arith}
 use Rattle.std.specs.List.{enumerate_from}
 use Rattle.std.specs.Ordering.{is_eq, ordering_reverse}
 use Rattle.std.specs.declared.cmp.Ordering.TheVariants.{Less}
 use Rattle.std.proofs.lemmas.Bool.{cases_lt, false≢true}
+use Rattle.std.proofs.lemmas.List.{length-map, length-append}
 use Rattle.std.proofs.lemmas.List.Elements.{Contains-get_or, Contains-append_left, Contains-append_right, Contains-append_cases}
 use Rattle.std.proofs.lemmas.List.Sums.{position_or_len_is, passes_at_first, fails_before_first}
 use Rattle.asm_state.specs.declared.function.Function.{Function}
@@ -15,7 +16,8 @@ use Rattle.asm_state.specs.Tables.{Domain, argument_lists, is_in}
 use Rattle.asm_state.specs.Signature.{Shape, IsSound, domain_in, domain_by, locations_by, function_locations, locations, count_of, location_at, is_location, number_at, IsLocationOf}
 use Rattle.asm_state.specs.SignatureLaws.{IsHeld, NumberLaws}
 use Rattle.asm_state.proofs.Updates.{same_location, location_itself}
-use Rattle.asm_state.proofs.Containing.{Contains-none, Contains-first, Contains-later, Contains-cons_cases, Contains-map, Contains-from_map, Contains-flat_map, Contains-from_flat_map, contains_in, in_contains}
+use Rattle.asm_state.proofs.Lists.{Contains-none, Contains-first, Contains-later, Contains-cons_cases, Contains-map, Contains-from_map, Contains-flat_map, Contains-from_flat_map}
+use Rattle.asm_state.proofs.Containing.{contains_in, in_contains}
 use Rattle.asm_state.proofs.LocationOrder.{LocationsRise, locations_rise}
 
 -- a function with its number, and the function at that place
@@ -126,8 +128,13 @@ in_range shape l h =
 pub location_below : (shape : Shape) (l : Location) → number_at shape l < count_of shape → location_at shape (number_at shape l) ≡ l
 location_below shape l inside = sym (same_location l (location_at shape (number_at shape l)) (passes_at_first (is_location l) (locations shape) (Stray 0) inside))
 
+-- how many locations a controlled function has
+pub how_many : (f : ℕ) (domain : Domain) → length (locations_by Controlled f domain) ≡ length (argument_lists domain) + 1
+how_many f domain = length-append (map (Proper f) (argument_lists domain)) (Stray f ∷ []) ∙ ap (λ n. n + 1) (length-map (argument_lists domain) (Proper f))
+
 pub number_laws : NumberLaws
 number_laws = record {
+  of_function = how_many;
   is_held = is_held;
   has_held = has_held;
   rise = rise;
@@ -135,4 +142,5 @@ number_laws = record {
   number = number;
   in_range = in_range;
   location = λ shape l h. location_below shape l (in_range shape l h);
+  below = location_below;
 }

@@ -20,7 +20,8 @@ use Rattle.asm_state.specs.Signature.{Shape, HasKind, domain_in, domain_by, doma
 use Rattle.asm_state.specs.Tables.{is_in, location_in}
 use Rattle.asm_state.specs.Updates.{is_proper}
 use Rattle.asm_state.proofs.LayoutsSoFar.{listed_in}
-use Rattle.asm_state.proofs.LocationPlaces.{Holds, start_of, lists_of, how_many, proper_place, stray_place, IsNumberOf, proper_number, stray_number}
+use Rattle.asm_state.proofs.NumberedLocations.{how_many}
+use Rattle.asm_state.proofs.LocationPlaces.{Holds, start_of, lists_of, proper_place, stray_place, IsNumberOf, proper_number, stray_number}
 
 -- a place in a list of pieces is one in some piece
 record Piece {X A : Type 0} (g : X → List A) (xs : List X) (n : ℕ) (e : X) : Type 0 where

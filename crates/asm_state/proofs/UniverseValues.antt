@@ -1,6 +1,6 @@
 -- A universe is a run of codes: each value has the code after that of the one before it.
-use Rattle.std.proofs.Common.{◌≡◌, ℕ, zero, suc, ◌+◌, ◌-◌, ◌<◌, ◌≤◌, ℤ, pos, negsuc, ◌+ℤ◌, ◌≤ℤ◌, Bool, true, false, List, length, slice_index_or, slice_get, Some, None, to_z, of_z, w64, refl, sym, ap, subst, ◌∙◌, arith}
-use Rattle.std.specs.Prelude.{nat_lt}
+use Rattle.std.proofs.Common.{◌≡◌, ℕ, zero, suc, ◌+◌, ◌-◌, ◌<◌, ◌≤◌, ℤ, pos, negsuc, ◌+ℤ◌, ◌≤ℤ◌, ◌-ℤ◌, Bool, true, false, cond, List, length, slice_index_or, slice_get, Some, None, to_z, of_z, w64, refl, sym, ap, subst, ◌∙◌, arith}
+use Rattle.std.specs.Prelude.{nat_lt, int_le, unsigned_abs}
 use Rattle.std.specs.Cmp.{nat_cmp_is}
 use Rattle.std.specs.List.{position, position_or_len}
 use Rattle.std.specs.declared.cmp.Ordering.TheVariants.{Less}
@@ -17,8 +17,8 @@ use Rattle.asm_state.specs.declared.value.Value.{Value}
 use Rattle.asm_state.specs.declared.value.Value.TheVariants.{Undef, Number, Element}
 use Rattle.asm_state.specs.Codes.{number_code, code_of}
 use Rattle.asm_state.specs.Kinds.{same_element}
-use Rattle.asm_state.specs.Operation.{is_same, number_or_undef}
-use Rattle.asm_state.specs.Universe.{element_by_test, element, elements, numbers, IsUniverse}
+use Rattle.asm_state.specs.Operation.{at_most, is_same, number_or_undef}
+use Rattle.asm_state.specs.Universe.{element_by_test, element, elements, numbers, count_between, numbers_between, IsUniverse}
 use Rattle.asm_state.specs.UniverseView.{values_from, first_code, IsWithin}
 use Rattle.asm_state.proofs.Codes.{codes_rise, codes_apart}
 use Rattle.asm_state.proofs.Numbers.{number_in_range}
@@ -91,22 +91,30 @@ code_bounds (negsuc n) h = omega (arith, ints)
 pub record AreInTurn (start : ℕ) (vs : List Value) : Type 0 where
   pub code_at : (i : ℕ) (d : Value) → i < length vs → code_of (slice_index_or vs i d) ≡ start + i
 
--- those of a universe have them in turn from the first one's code
+-- those of elements in the range have them in turn from the first one's code
+elements_in_turn : (first count : ℕ) → first + count ≤ 262_144 → AreInTurn (2_000_000_000_000_005 + first) (elements first count)
+elements_in_turn first count room = record { code_at = each }
+  where
+    each : (i : ℕ) (d : Value) → i < length (elements first count) → code_of (slice_index_or (elements first count) i d) ≡ 2_000_000_000_000_005 + first + i
+    each i d here =
+        let below : i < count = omega (arith, length-elements first count) in
+        ap code_of (at_elements first count i d below) ∙ element_code (first + i) (omega (arith, room)) ∙ omega arith
+
+-- and those of numbers in the range
+numbers_in_turn : (first : ℤ) (count : ℕ) → negsuc 999_999_999_999_999 ≤ℤ first → number_code first + count ≤ 2_000_000_000_000_005 → AreInTurn (number_code first) (numbers first count)
+numbers_in_turn first count low room = record { code_at = each }
+  where
+    each : (i : ℕ) (d : Value) → i < length (numbers first count) → code_of (slice_index_or (numbers first count) i d) ≡ number_code first + i
+    each i d here =
+        let below : i < count = omega (arith, length-numbers first count) in
+        let further = code_further first (first +ℤ pos i) i low refl in
+        let high = code_bounds (first +ℤ pos i) (omega (arith, room)) in
+        ap code_of (at_numbers first count i d below) ∙ number_code_is (first +ℤ pos i) (omega (arith, ints, low)) high ∙ further
+
+-- those of a universe
 pub values_in_turn : (first : First) (count : ℕ) → IsWithin first count → AreInTurn (first_code first) (values_from first count)
-values_in_turn (first.Element k) count within = record { code_at = each }
-  where
-    each : (i : ℕ) (d : Value) → i < length (elements k count) → code_of (slice_index_or (elements k count) i d) ≡ 2_000_000_000_000_005 + k + i
-    each i d here =
-        let below : i < count = omega (arith, length-elements k count) in
-        ap code_of (at_elements k count i d below) ∙ element_code (k + i) (omega (arith, within.in_range)) ∙ omega arith
-values_in_turn (first.Number z) count within = record { code_at = each }
-  where
-    each : (i : ℕ) (d : Value) → i < length (numbers z count) → code_of (slice_index_or (numbers z count) i d) ≡ number_code z + i
-    each i d here =
-        let below : i < count = omega (arith, length-numbers z count) in
-        let further = code_further z (z +ℤ pos i) i within.is_first.0 refl in
-        let high = code_bounds (z +ℤ pos i) (omega (arith, within.in_range)) in
-        ap code_of (at_numbers z count i d below) ∙ number_code_is (z +ℤ pos i) (omega (arith, ints, within.is_first.0)) high ∙ further
+values_in_turn (first.Element k) count within = elements_in_turn k count (omega (arith, within.in_range))
+values_in_turn (first.Number z) count within = numbers_in_turn z count within.is_first.0 within.in_range
 
 -- such values rise
 pub in_turn_rise : (start : ℕ) (vs : List Value) → AreInTurn start vs → IsUniverse vs
@@ -114,6 +122,32 @@ in_turn_rise start vs turn i j d before within =
     let low = turn.code_at i d (omega arith) in
     let high = turn.code_at j d within in
     codes_rise (slice_index_or vs i d) (slice_index_or vs j d) ∙ sym (nat_cmp_is (code_of (slice_index_or vs i d)) (code_of (slice_index_or vs j d)) Less (omega arith))
+
+pub elements_rise : (first count : ℕ) → first + count ≤ 262_144 → IsUniverse (elements first count)
+elements_rise first count room = in_turn_rise (2_000_000_000_000_005 + first) (elements first count) (elements_in_turn first count room)
+
+-- the codes of the numbers between two stay among those of numbers
+last_code : (x y : ℤ) → negsuc 999_999_999_999_999 ≤ℤ x → x ≤ℤ y → y ≤ℤ pos 1_000_000_000_000_000 → number_code x + unsigned_abs (y -ℤ x) ≤ 2_000_000_000_000_004
+last_code (pos a) (pos b) low between high = omega (arith, ints)
+last_code (pos a) (negsuc b) low between high = absurd (omega (arith, ints))
+last_code (negsuc a) (pos b) low between high = omega (arith, ints)
+last_code (negsuc a) (negsuc b) low between high = omega (arith, ints)
+
+some_code : (x : ℤ) → x ≤ℤ pos 1_000_000_000_000_000 → number_code x ≤ 2_000_000_000_000_004
+some_code (pos a) top = omega (arith, ints)
+some_code (negsuc a) top = omega (arith, ints)
+
+codes_fit : (first last : WholeNumber) → number_code first.value + count_between first.value last.value ≤ 2_000_000_000_000_005
+codes_fit first last = by_test (int_le first.value last.value) refl
+  where
+    by_test : (b : Bool) → int_le first.value last.value ≡ b → number_code first.value + cond b (unsigned_abs (last.value -ℤ first.value) + 1) 0 ≤ 2_000_000_000_000_005
+    by_test true e = let most = last_code first.value last.value first.low (at_most e) last.high in omega (arith, most)
+    by_test false e = let most = some_code first.value first.high in omega (arith, most)
+
+pub numbers_rise : (first last : WholeNumber) → IsUniverse (numbers_between first.value last.value)
+numbers_rise first last =
+    in_turn_rise (number_code first.value) (numbers_between first.value last.value)
+    (numbers_in_turn first.value (count_between first.value last.value) first.low (codes_fit first last))
 
 -- no value stands at a place of another code
 other_place : (start : ℕ) (vs : List Value) → AreInTurn start vs → (v : Value) (i : ℕ) → i < length vs → (start + i ≡ code_of v → ⊥) → is_same v (slice_index_or vs i Undef) ≡ false

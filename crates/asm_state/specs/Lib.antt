@@ -12,6 +12,7 @@ pub mod Signature
 pub mod Fits
 pub mod Layout
 pub mod Places
+pub mod ValueLaws
 pub mod DomainLaws
 pub mod SignatureLaws
 pub mod OperationLaws

@@ -1,13 +1,13 @@
 -- Laws of the numbers of locations, and of the states that lists of contents are.
-use Rattle.std.specs.Prelude.{◌≡◌, ℕ, ◌<◌, List, map, length, slice_index_or, slice_set, IsTrue}
+use Rattle.std.specs.Prelude.{◌≡◌, ℕ, ◌+◌, ◌<◌, List, map, length, slice_index_or, slice_set, IsTrue}
 use Rattle.std.specs.declared.cmp.Ordering.TheVariants.{Less}
 use Rattle.asm_state.specs.declared.function.Kind.TheVariants.{Controlled}
 use Rattle.asm_state.specs.declared.value.Value.{Value}
 use Rattle.asm_state.specs.declared.value.Value.TheVariants.{Undef}
 use Rattle.asm_state.specs.Location.{Location, Proper, Stray, location_cmp, changed}
-use Rattle.asm_state.specs.Tables.{is_in}
+use Rattle.asm_state.specs.Tables.{Domain, argument_lists, is_in}
 use Rattle.asm_state.specs.Updates.{is_proper}
-use Rattle.asm_state.specs.Signature.{Shape, IsSound, HasKind, domain_of, locations, count_of, location_at, number_at, IsLocationOf, state_of, initial_state}
+use Rattle.asm_state.specs.Signature.{Shape, IsSound, HasKind, domain_of, locations_by, locations, count_of, location_at, number_at, IsLocationOf, state_of, initial_state}
 
 -- the locations of a signature: those of its controlled functions, with arguments from the domain or alone
 abbrev pub IsHeld : Shape → Location → Type 0
@@ -18,6 +18,8 @@ pub record NumberLaws : Type 0 where
   -- the signature has just these locations
   pub is_held : (shape : Shape) (l : Location) → IsLocationOf shape l → IsHeld shape l
   pub has_held : (shape : Shape) (l : Location) → IsHeld shape l → IsLocationOf shape l
+  -- a controlled function has one for each argument list of its domain, and the stray one
+  pub of_function : (f : ℕ) (domain : Domain) → length (locations_by Controlled f domain) ≡ length (argument_lists domain) + 1
   -- locations rise with their numbers
   pub rise : (shape : Shape) (n m : ℕ) → IsSound shape → n < m → m < count_of shape → location_cmp (location_at shape n) (location_at shape m) ≡ Less
   -- each number below the count is that of one location, and each location of the signature has one
@@ -25,6 +27,8 @@ pub record NumberLaws : Type 0 where
   pub number : (shape : Shape) (n : ℕ) → IsSound shape → n < count_of shape → number_at shape (location_at shape n) ≡ n
   pub in_range : (shape : Shape) (l : Location) → IsLocationOf shape l → number_at shape l < count_of shape
   pub location : (shape : Shape) (l : Location) → IsLocationOf shape l → location_at shape (number_at shape l) ≡ l
+  -- what has a number below the count is the location with it
+  pub below : (shape : Shape) (l : Location) → number_at shape l < count_of shape → location_at shape (number_at shape l) ≡ l
 
 pub record StateLaws : Type 0 where
   -- a proper location has the content by its number, and what isn't a proper location of the signature has none

@@ -5,14 +5,24 @@ ghost use Rattle.asm_state.specs.declared.value.Value.{Value};
 ghost use Rattle.asm_state.specs.Codes.{code_of};
 ghost use Rattle.asm_state.specs.Value.{value_cmp};
 ghost use Rattle.asm_state.specs.OperationLaws.{DivisionLaw};
+ghost use Rattle.asm_state.specs.ValueLaws.{ValueLaws};
 ghost use Rattle.asm_state.specs.DomainLaws.{UniverseLaws, DomainLaws};
 ghost use Rattle.asm_state.specs.SignatureLaws.{NumberLaws, StateLaws};
 ghost use Rattle.asm_state.specs.UpdateLaws.{MemberLaws, TestLaws, SummaryLaws, FireLaws, UnionLaws, MergeLaws, FaultLaws};
 
-/// Codes rise with values, and no two values have one code.
+/// Codes rise with values.
 pub fn codes_rise()
-    ensures rise { (a b : Value) → value_cmp a b ≡ nat_cmp (code_of a) (code_of b) }
-    ensures apart { (a b : Value) → code_of a ≡ code_of b → a ≡ b }
+    ensures { (a b : Value) → value_cmp a b ≡ nat_cmp (code_of a) (code_of b) }
+{}
+
+/// No two values have one code.
+pub fn codes_apart()
+    ensures { (a b : Value) → code_of a ≡ code_of b → a ≡ b }
+{}
+
+/// The test of equality tests just that, and a number and an element are the values that they give.
+pub fn value_laws()
+    ensures { ValueLaws }
 {}
 
 /// A number is its quotient by another, taken that many times, and its remainder, which is never negative.

@@ -3,6 +3,7 @@ pub mod Faults
 pub mod Firing
 pub mod Found
 pub mod Orders
+pub mod SomeSet
 pub mod Standing
 pub mod StandingLaws
 pub mod Widened

@@ -197,3 +197,18 @@ empty_entries shape s U sound stands empty n =
     (λ (below : n < count_of shape). stands.has_ranges n below ∙ ap (λ V. range_at V (location_at shape n)) empty ∙ none_range (location_at shape n))
     (λ (above : count_of shape ≤ n). found-above s.count s.ranges n sound.in_range (omega (arith, stands.has_count)))
     (cases_lt n (count_of shape))
+
+-- at each location the entry of its number is the range in the set
+pub entry_at_location : (shape : Shape) (s : Entries) (U : UpdateSet) (l : Location) → AreEntries s.count s.ranges → Stands shape s U → entry s (number_at shape l) ≡ range_at U l
+entry_at_location shape s U l sound stands =
+    elim (cases_lt (number_at shape l) (count_of shape)) [
+      | inl below ↦ stands.has_ranges (number_at shape l) below ∙ ap (range_at U) (number_laws.below shape l below)
+      | inr past ↦ found-above s.count s.ranges (number_at shape l) sound.in_range (omega (arith, stands.has_count, past)) ∙ sym (unnumbered past)
+    ]
+  where
+    unnumbered : count_of shape ≤ number_at shape l → range_at U l ≡ None
+    unnumbered past =
+        elim (range_cases shape s U l stands) [
+          | inl absent ↦ absent
+          | inr here ↦ let below = number_laws.in_range shape l here.0 in absurd (omega arith)
+        ]

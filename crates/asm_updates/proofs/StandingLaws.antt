@@ -8,7 +8,8 @@ use Rattle.asm_state.proofs.Summaries.{summary_laws}
 use Rattle.asm_updates.specs.Entries.{Entries, entry}
 use Rattle.asm_updates.specs.Stands.{Stands}
 use Rattle.asm_updates.specs.StandingLaws.{StandingLaws}
-use Rattle.asm_updates.proofs.Standing.{stands_for_none, stands_for_union, stands_for_merge}
+use Rattle.asm_updates.proofs.SomeSet.{some_set}
+use Rattle.asm_updates.proofs.Standing.{stands_for_none, stands_for_union, stands_for_merge, entry_at_location}
 use Rattle.asm_updates.proofs.Faults.{consistent}
 
 alike : (shape : Shape) (s t : Entries) (U : UpdateSet) → t.count ≡ s.count → ((n : ℕ) → entry t n ≡ entry s n) → Stands shape s U → Stands shape t U
@@ -32,6 +33,8 @@ firing shape s U A n stands h =
 
 pub standing_laws : StandingLaws
 standing_laws = record {
+  some = some_set;
+  at_location = entry_at_location;
   alike = alike;
   of_none = stands_for_none;
   of_union = stands_for_union;

@@ -1,13 +1,17 @@
 -- Laws of the sets that summaries stand for.
 use Rattle.std.specs.Prelude.{◌≡◌, ◌↔◌, ℕ, ◌<◌, None}
-use Rattle.asm_state.specs.Location.{State}
-use Rattle.asm_state.specs.Signature.{Shape, IsSound, count_of, location_at}
+use Rattle.asm_state.specs.Location.{Location, State}
+use Rattle.asm_state.specs.Signature.{Shape, IsSound, count_of, location_at, number_at}
 use Rattle.asm_state.specs.UpdateLaws.{IsSettled}
-use Rattle.asm_state.specs.Updates.{UpdateSet, IsConsistent, none, together, merge, widen, later_range, overwritten, fire}
-use Rattle.asm_updates.specs.Entries.{Entries, entry}
+use Rattle.asm_state.specs.Updates.{UpdateSet, IsConsistent, none, together, merge, widen, later_range, range_at, overwritten, fire}
+use Rattle.asm_updates.specs.Entries.{Entries, entry, AreEntries}
 use Rattle.asm_updates.specs.Stands.{Stands}
 
 pub record StandingLaws : Type 0 where
+  -- each summary of a signature stands for some set
+  pub some : (shape : Shape) (s : Entries) → IsSound shape → s.count ≡ count_of shape → AreEntries s.count s.ranges → (U : UpdateSet) × Stands shape s U
+  -- a summary has the range of each location in the set, by its number, and no entry for what is no location of the signature
+  pub at_location : (shape : Shape) (s : Entries) (U : UpdateSet) (l : Location) → AreEntries s.count s.ranges → Stands shape s U → entry s (number_at shape l) ≡ range_at U l
   -- a summary with the same entries stands for the same sets
   pub alike : (shape : Shape) (s t : Entries) (U : UpdateSet) → t.count ≡ s.count → ((n : ℕ) → entry t n ≡ entry s n) → Stands shape s U → Stands shape t U
   -- one without entries stands for the empty set

@@ -1,0 +1,5 @@
+use Rattle.asm_check.proofs.Declared.{texts_are_told}
+use Rattle.asm_check.proofs.laws.texts_are_told.Goals as goal
+
+pub returns : goal.returns
+returns c = texts_are_told

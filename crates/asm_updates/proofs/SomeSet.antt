@@ -1,0 +1,34 @@
+-- Each summary of a signature stands for some set: the one that has the bounds of each entry at its location.
+use Rattle.std.proofs.Common.{◌≡◌, ℕ, eqb, cond, [], ◌∷◌, Some, refl, sym, ap}
+use Rattle.asm_state.specs.Location.{Location}
+use Rattle.asm_state.specs.Signature.{Shape, IsSound, count_of, location_at}
+use Rattle.asm_state.specs.Updates.{UpdateSet, none, one, together, widen}
+use Rattle.asm_state.specs.declared.value.Value.{Value}
+use Rattle.asm_updates.specs.Entries.{Entries, NamedRanges, found, range, AreEntries}
+use Rattle.asm_updates.specs.Stands.{Stands}
+use Rattle.asm_updates.proofs.Found.{AreEntries-head, AreEntries-tail, found-after}
+use Rattle.asm_updates.proofs.Standing.{stands_for_none, stands_with, bounds_range, bounds_alone}
+
+abbrev of_entries : ℕ → NamedRanges → Entries
+of_entries count es = record { count = count; ranges = es }
+
+-- the first entry widens what the others have at its location, which is nothing
+first_widens : (count : ℕ) (e : ℕ × (Value × Value)) (es : NamedRanges) → AreEntries count (e ∷ es) → (k : ℕ)
+    → found (e ∷ es) k ≡ cond (eqb k e.0) (widen (found es e.0) (Some (range e.1))) (found es k)
+first_widens count e es are k = ap (λ r. cond (eqb k e.0) (widen r (Some (range e.1))) (found es k)) (sym (found-after e es are.unique))
+
+set_of : (shape : Shape) (count : ℕ) (es : NamedRanges) → IsSound shape → count ≡ count_of shape → AreEntries count es → (U : UpdateSet) × Stands shape (of_entries count es) U
+set_of shape count [] sound is are = (none, stands_for_none shape (of_entries count []) sound is (λ n. refl))
+set_of shape count (e ∷ es) sound is are =
+    let rest = set_of shape count es sound is (AreEntries-tail count e es are) in
+    let own = AreEntries-head count e es are in
+    let l : Location = location_at shape e.0 in
+    let bounds : UpdateSet = together (one l e.1.0) (one l e.1.1) in (
+      together rest.0 bounds,
+      stands_with shape (of_entries count es) (of_entries count (e ∷ es)) rest.0 bounds e.0 (range e.1) own.in_range refl (first_widens count e es are) rest.1
+          (bounds_range l e.1.0 e.1.1 own.ordered)
+          (bounds_alone l e.1.0 e.1.1),
+    )
+
+pub some_set : (shape : Shape) (s : Entries) → IsSound shape → s.count ≡ count_of shape → AreEntries s.count s.ranges → (U : UpdateSet) × Stands shape s U
+some_set shape s sound is are = set_of shape s.count s.ranges sound is are
