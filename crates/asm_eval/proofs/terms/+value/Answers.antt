@@ -17,7 +17,7 @@ use Rattle.asm_eval.proofs.Measures.{body_weight}
 use Rattle.asm_eval.proofs.NumberedValues.{element_below, function_below, numbered_derived, universe_undef, called_undef}
 use Rattle.asm_eval.proofs.OneOperand.{not_falls, negative_falls, constant_value, not_value, negative_value}
 use Rattle.asm_eval.proofs.Quantified.{passes, exists_of_none, every_of_none, exists_at, fails_at, exists_past, every_past, none_more, all_more}
-use Rattle.asm_eval.proofs.value.+value.Goals as goal
+use Rattle.asm_eval.proofs.terms.+value.Goals as goal
 
 pub every-returns-in_default : goal.every-returns-in_default
 every-returns-in_default t c =
