@@ -17,14 +17,14 @@ use Rattle.asm_reader.proofs.Fronts.{two_fronts}
 -- ---- one line more
 
 module _ (before : List (List ℕ)) (bytes : List ℕ) where
-  script_push : script_in (before ++ bytes ∷ []) ≡ script_in before ++ said (is_skipped bytes) (line_of bytes)
+  pub script_push : script_in (before ++ bytes ∷ []) ≡ script_in before ++ said (is_skipped bytes) (line_of bytes)
   script_push = by before
     where
       by : (lines : List (List ℕ)) → script_in (lines ++ bytes ∷ []) ≡ script_in lines ++ said (is_skipped bytes) (line_of bytes)
       by [] = append-nil _
       by (l ∷ lines) = ap (λ more. said (is_skipped l) (line_of l) ++ more) (by lines) ∙ sym (append_assoc (said (is_skipped l) (line_of l)) (script_in lines) (said (is_skipped bytes) (line_of bytes)))
 
-  faultless_push : AreFaultless before → is_bad bytes || is_repeated before bytes ≡ false → AreFaultless (before ++ bytes ∷ [])
+  pub faultless_push : AreFaultless before → is_bad bytes || is_repeated before bytes ≡ false → AreFaultless (before ++ bytes ∷ [])
   faultless_push faultless fine front back line e = elim (two_fronts before front bytes line [] back e) [
     | inl p ↦ rw (← p.0, ← p.1) fine
     | inr (inl p) ↦ absurd (omega (arith, ap length e, ap length p.1, length-append before (bytes ∷ []), length-append front (line ∷ back), length-append before (bytes ∷ p.0)))

@@ -32,3 +32,6 @@ pub mod LineLookups
 pub mod Places
 pub mod Fields
 pub mod FirstFaults
+pub mod EachText
+pub mod EachScript
+pub mod Examples

@@ -1,6 +1,7 @@
 //! Constants and tables, from their tokens.
 
-ghost use Rattle.std.specs.Prelude.{◌≡◌};
+ghost use Rattle.std.specs.Prelude.{◌≡◌, ◌≢◌, IfErr};
+ghost use Rattle.asm_syntax.specs.declared.refused.Refused.TheVariants.{Memory};
 ghost use Rattle.asm_syntax.specs.Views.{const_of, entry_of, given_of};
 ghost use Rattle.asm_reader.specs.Reading as reading;
 ghost use Rattle.asm_reader.specs.Steps.{Reads, each_of, itself};
@@ -15,10 +16,11 @@ use asm_syntax::term::Literal;
 use asm_syntax::{Kind, Refused, Symbol};
 use std::alloc::Global;
 
-/// A whole number.
+/// A whole number. It takes no memory.
 #[tactic(auto, unfolding(crate::specs::Reading::int_at))]
 pub fn int(tokens: &mut Cursor<'_>) -> Result<Number, Refused<ReadError>>
-    ensures { Reads itself (reading.int_at tokens.old.rest.now) result tokens.new.rest.now }
+    ensures read { Reads itself (reading.int_at tokens.old.rest.now) result tokens.new.rest.now }
+    ensures memory { IfErr result (λ e. e ≢ Memory) }
 {
     if tokens.sees(Kind::Symbol(Symbol::Minus)) {
         tokens.expect(Kind::Symbol(Symbol::Minus))?;

@@ -1,6 +1,7 @@
-//! A cursor over tokens, with the steps that every production is made of.
+//! A cursor over tokens, with the steps that every production is made of. None of them takes memory.
 
-ghost use Rattle.std.specs.Prelude.{◌≡◌, ◌<◌, [], ◌∷◌, OnOk};
+ghost use Rattle.std.specs.Prelude.{◌≡◌, ◌≢◌, ◌<◌, [], ◌∷◌, OnOk, IfErr};
+ghost use Rattle.asm_syntax.specs.declared.refused.Refused.TheVariants.{Memory};
 ghost use Rattle.asm_reader.specs.Kinds as kinds;
 ghost use Rattle.asm_reader.specs.Parts.{signed};
 ghost use Rattle.asm_reader.specs.Steps as steps;
@@ -111,7 +112,8 @@ impl<'a> Cursor<'a> {
 
     /// Takes the next token, which has to be a number.
     pub fn number(&mut self, is_negative: bool) -> Result<Number, Refused<ReadError>>
-        ensures { Reads itself (steps.number_at is_negative self.old.rest.now) result self.new.rest.now }
+        ensures read { Reads itself (steps.number_at is_negative self.old.rest.now) result self.new.rest.now }
+        ensures memory { IfErr result (λ e. e ≢ Memory) }
     {
         match self.rest {
             [] => Err(Refused::Named(ReadError::UnexpectedEnd)),
@@ -131,7 +133,8 @@ impl<'a> Cursor<'a> {
 
     /// Takes the next token, which has to be one of the table.
     pub fn choice<A: Copy>(&mut self, table: &[(Kind, A)]) -> Result<A, Refused<ReadError>>
-        ensures { Reads itself (steps.choice_at table.now self.old.rest.now) result self.new.rest.now }
+        ensures read { Reads itself (steps.choice_at table.now self.old.rest.now) result self.new.rest.now }
+        ensures memory { IfErr result (λ e. e ≢ Memory) }
     {
         match self.rest {
             [] => Err(Refused::Named(ReadError::UnexpectedEnd)),
@@ -147,7 +150,8 @@ impl<'a> Cursor<'a> {
 
     /// Takes the next token, which has to be of this kind.
     pub fn expect(&mut self, kind: Kind) -> Result<Token, Refused<ReadError>>
-        ensures { Reads itself (steps.expect kind self.old.rest.now) result self.new.rest.now }
+        ensures read { Reads itself (steps.expect kind self.old.rest.now) result self.new.rest.now }
+        ensures memory { IfErr result (λ e. e ≢ Memory) }
     {
         match self.rest {
             [] => Err(Refused::Named(ReadError::UnexpectedEnd)),
@@ -165,6 +169,7 @@ impl<'a> Cursor<'a> {
     pub fn enter(&mut self, kind: Kind, levels: usize) -> Result<Token, Refused<ReadError>>
         ensures read { Reads itself (steps.enter levels kind self.old.rest.now) result self.new.rest.now }
         ensures left { OnOk result (0 < levels) }
+        ensures memory { IfErr result (λ e. e ≢ Memory) }
     {
         match self.rest {
             [] => Err(Refused::Named(ReadError::UnexpectedEnd)),

@@ -1,8 +1,12 @@
 //! Declarations and whole specifications, from their tokens.
 
-ghost use Rattle.std.specs.Prelude.{◌≡◌, option_map};
+ghost use Rattle.std.specs.Prelude.{◌≡◌, ◌≢◌, [], ◌∷◌, false, option_map, IfErr};
+ghost use Rattle.asm_syntax.specs.declared.refused.Refused.TheVariants.{Memory};
+ghost use Rattle.asm_syntax.specs.declared.token.Kind.TheVariants as kinds;
+ghost use Rattle.asm_syntax.specs.declared.token.Word.TheVariants as words;
 ghost use Rattle.asm_syntax.specs.Views.{given_of, item_of, name_of, spec_of};
 ghost use Rattle.asm_reader.specs.Grammar as grammar;
+ghost use Rattle.asm_reader.specs.Kinds.{begins};
 ghost use Rattle.asm_reader.specs.Reading as reading;
 ghost use Rattle.asm_reader.specs.Seen.{type_of};
 ghost use Rattle.asm_reader.specs.Steps.{Reads, each_of, repeated_of};
@@ -320,7 +324,9 @@ pub fn specification(
     tokens: &mut Cursor<'_>,
     levels: usize,
 ) -> Result<Spec, Refused<ReadError>>
-    ensures { Reads spec_of (reading.specification_at text.now levels tokens.old.rest.now) result tokens.new.rest.now }
+    ensures read { Reads spec_of (reading.specification_at text.now levels tokens.old.rest.now) result tokens.new.rest.now }
+    // Memory is asked for behind the first word, and nowhere before.
+    ensures memory { begins (kinds.Word words.CoreAsm ∷ []) tokens.old.rest.now ≡ false → IfErr result (λ e. e ≢ Memory) }
 {
     tokens.expect(Kind::Word(Word::CoreAsm))?;
     let name = name(alloc, text, tokens)?;

@@ -1,6 +1,6 @@
 //! Laws of the definitions of specifications, scripts and refusals.
 
-ghost use Rattle.std.specs.Prelude.{◌≡◌, ℕ, List};
+ghost use Rattle.std.specs.Prelude.{◌≡◌, ◌⊎◌, ℕ, List};
 ghost use Rattle.asm_syntax.specs.declared.token.Token.{Token};
 ghost use Rattle.asm_syntax.specs.Placed as placed;
 ghost use Rattle.asm_reader.specs.declared.error.ReadError.{ReadError};
@@ -11,7 +11,7 @@ ghost use Rattle.asm_reader.specs.ScriptLines.{Script};
 ghost use Rattle.asm_reader.specs.ScriptText.{IsScript, IsScriptRefusal};
 ghost use Rattle.asm_reader.specs.declared.script_error.ScriptError.{ScriptError};
 
-use asm_syntax::{no_tokens_beside_a_fault, one_fault, one_list_of_tokens};
+use asm_syntax::{no_tokens_beside_a_fault, one_fault, one_list_of_tokens, tokens_or_a_fault};
 
 /// Tokens spell one tree at most, at any depth.
 pub fn one_tree_of_tokens()
@@ -23,6 +23,13 @@ pub fn one_tree()
     ensures { (text : List ℕ) (s t : placed.Spec) → IsSpecification text s → IsSpecification text t → s ≡ t }
 {
     one_list_of_tokens();
+}
+
+/// Each text has a specification or a refusal.
+pub fn tree_or_a_refusal()
+    ensures { (text : List ℕ) → ((s : placed.Spec) × IsSpecification text s) ⊎ ((e : ReadError) × IsRefusal text e) }
+{
+    tokens_or_a_fault();
 }
 
 /// A text that spells a specification has no refusal.
@@ -45,6 +52,11 @@ pub fn one_refusal()
 /// A text spells one script at most.
 pub fn one_script()
     ensures { (text : List ℕ) (s t : Script) → IsScript text s → IsScript text t → s ≡ t }
+{}
+
+/// Each text has a script or a refusal as one.
+pub fn script_or_a_refusal()
+    ensures { (text : List ℕ) → ((s : Script) × IsScript text s) ⊎ ((e : ScriptError) × IsScriptRefusal text e) }
 {}
 
 /// A text that spells a script has no refusal as one.

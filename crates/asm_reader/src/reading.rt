@@ -1,9 +1,12 @@
 //! Whole texts as specifications.
 
-ghost use Rattle.std.specs.Prelude.{◌≡◌, ℕ, List, IfOk, IfErr};
-ghost use Rattle.asm_syntax.specs.declared.refused.Refused.TheVariants.{Memory};
+ghost use Rattle.std.specs.Prelude.{◌≡◌, ◌≢◌, ◌<◌, ℕ, List, [], length, Err, IfOk, IfErr};
+ghost use Rattle.asm_syntax.specs.declared.error.LexError.TheVariants.{TooLong};
+ghost use Rattle.asm_syntax.specs.declared.refused.Refused.TheVariants.{Memory, Named};
+ghost use Rattle.asm_syntax.specs.Lexing.{HasFirstToken};
 ghost use Rattle.asm_syntax.specs.Placed as placed;
 ghost use Rattle.asm_syntax.specs.Views.{spec_of};
+ghost use Rattle.asm_reader.specs.declared.error.ReadError.TheVariants.{Lex};
 ghost use Rattle.asm_reader.specs.Specification.{AreSpelling, IsSpecification};
 ghost use Rattle.asm_reader.specs.Refusals.{ExplainsTokens, Explains};
 
@@ -22,6 +25,7 @@ fn read_tokens(alloc: Global, text: &[u8], tokens: &[Token]) -> Result<Spec, Ref
     ensures found { IfOk result (λ s. AreSpelling text.now tokens.now (spec_of s)) }
     ensures refused { IfErr result (ExplainsTokens text.now tokens.now) }
     ensures accepted { (s : placed.Spec) → AreSpelling text.now tokens.now s → IfErr result (λ e. e ≡ Memory) }
+    ensures memory { tokens.now ≡ [] → IfErr result (λ e. e ≢ Memory) }
 {
     let mut cursor = Cursor { rest: tokens };
     let read = items::specification(alloc, text, &mut cursor, MAX_NESTING)?;
@@ -35,6 +39,9 @@ fn read_tokens(alloc: Global, text: &[u8], tokens: &[Token]) -> Result<Spec, Ref
 pub fn read(alloc: Global, text: &[u8]) -> Result<Spec, Refused<ReadError>>
     ensures found { IfOk result (λ s. IsSpecification text.now (spec_of s)) }
     ensures refused { IfErr result (Explains text.now) }
+    ensures too_long { 1_048_576 < length text.now → result ≡ Err (Named (Lex TooLong)) }
+    // Memory is asked for where a first token stands, and nowhere before.
+    ensures memory { IfErr result (λ e. e ≡ Memory → HasFirstToken text.now) }
     // A text that spells a specification is refused only where memory runs out.
     ensures accepted { (s : placed.Spec) → IsSpecification text.now s → IfErr result (λ e. e ≡ Memory) }
 {

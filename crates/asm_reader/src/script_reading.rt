@@ -1,7 +1,8 @@
 //! Whole texts as scripts.
-ghost use Rattle.std.specs.Prelude.{◌≡◌, map, IfOk, IfErr};
+ghost use Rattle.std.specs.Prelude.{◌≡◌, ◌<◌, length, map, Err, IfOk, IfErr};
 ghost use Rattle.std.specs.Str.Lines.{strip_carriage_return};
-ghost use Rattle.asm_syntax.specs.declared.refused.Refused.TheVariants.{Memory};
+ghost use Rattle.asm_syntax.specs.declared.refused.Refused.TheVariants.{Memory, Named};
+ghost use Rattle.asm_reader.specs.declared.script_error.ScriptError.TheVariants.{TooLong};
 ghost use Rattle.asm_reader.specs.ScriptLines as lines;
 ghost use Rattle.asm_reader.specs.ScriptText.{AreFaultless, IsScript, script_in};
 ghost use Rattle.asm_reader.specs.ScriptRefusals.{ExplainsScript, ExplainsLines};
@@ -41,6 +42,7 @@ fn read_lines(alloc: Global, lines: &[&[u8]]) -> Result<Script, Refused<ScriptEr
 pub fn read_script(alloc: Global, text: &[u8]) -> Result<Script, Refused<ScriptError>>
     ensures found { IfOk result (λ s. IsScript text.now s) }
     ensures refused { IfErr result (ExplainsScript text.now) }
+    ensures too_long { 1_048_576 < length text.now → result ≡ Err (Named TooLong) }
     // A text that spells a script is refused only where memory runs out.
     ensures accepted { (s : lines.Script) → IsScript text.now s → IfErr result (λ e. e ≡ Memory) }
 {

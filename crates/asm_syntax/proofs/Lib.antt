@@ -13,3 +13,5 @@ pub mod OneKind
 pub mod Stops
 pub mod OneAnswer
 pub mod TokenPlaces
+pub mod EachText
+pub mod Examples

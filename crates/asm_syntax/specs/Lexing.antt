@@ -1,11 +1,17 @@
 -- What a refusal says.
-use Rattle.std.specs.Prelude.{ℕ, List}
+--     Explains              what is wrong with a text, where the refusal names it
+--     HasFirstToken         behind blanks and comments the text has a token, and no fault before it
+use Rattle.std.specs.Prelude.{ℕ, ◌≤◌, List, [], ◌∷◌, length}
 use Rattle.asm_syntax.specs.declared.error.LexError.{LexError}
 use Rattle.asm_syntax.specs.declared.refused.Refused.{Refused}
 use Rattle.asm_syntax.specs.declared.refused.Refused.TheVariants.{Memory, Named}
-use Rattle.asm_syntax.specs.Tokens.{IsFault}
+use Rattle.asm_syntax.specs.declared.token.Token.{Token}
+use Rattle.asm_syntax.specs.Tokens.{max_length, Begins, IsFault}
 
 -- what is wrong with the text, where the refusal names it
 abbrev pub Explains : List ℕ → Refused LexError → Type 0
 Explains text Memory = Unit {0}
 Explains text (Named e) = IsFault text e
+
+abbrev pub HasFirstToken : List ℕ → Type 0
+HasFirstToken text = (length text ≤ max_length) × (t : Token) × (end : ℕ) × (behind : List ℕ) × Begins 0 text (t ∷ []) end behind

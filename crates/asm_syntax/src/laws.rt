@@ -1,6 +1,6 @@
 //! Laws of the definitions of tokens and faults.
 
-ghost use Rattle.std.specs.Prelude.{◌≡◌, ℕ, List, ◌++◌, All, length};
+ghost use Rattle.std.specs.Prelude.{◌≡◌, ◌⊎◌, ℕ, List, ◌++◌, All, length};
 ghost use Rattle.asm_syntax.specs.declared.error.LexError.{LexError};
 ghost use Rattle.asm_syntax.specs.declared.token.Kind.{Kind};
 ghost use Rattle.asm_syntax.specs.declared.token.Token.{Token};
@@ -16,6 +16,11 @@ pub fn one_piece()
 /// Bytes spell one kind of token at most.
 pub fn one_kind()
     ensures { (text : List ℕ) (k l : Kind) → Spells text k → Spells text l → k ≡ l }
+{}
+
+/// Each text has tokens or a fault.
+pub fn tokens_or_a_fault()
+    ensures { (text : List ℕ) → ((ts : List Token) × AreTokens text ts) ⊎ ((e : LexError) × IsFault text e) }
 {}
 
 /// A text has one list of tokens at most.

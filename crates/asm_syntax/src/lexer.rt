@@ -1,10 +1,11 @@
 //! The tokens of a whole text.
 
-ghost use Rattle.std.specs.Prelude.{◌≡◌, List, IfOk, IfErr};
-ghost use Rattle.asm_syntax.specs.declared.refused.Refused.TheVariants.{Memory};
+ghost use Rattle.std.specs.Prelude.{◌≡◌, ◌<◌, List, length, Err, IfOk, IfErr};
+ghost use Rattle.asm_syntax.specs.declared.error.LexError.TheVariants.{TooLong};
+ghost use Rattle.asm_syntax.specs.declared.refused.Refused.TheVariants.{Memory, Named};
 ghost use Rattle.asm_syntax.specs.declared.token.Token.{Token};
 ghost use Rattle.asm_syntax.specs.Tokens.{AreTokens};
-ghost use Rattle.asm_syntax.specs.Lexing.{Explains};
+ghost use Rattle.asm_syntax.specs.Lexing.{Explains, HasFirstToken};
 
 use crate::error::LexError;
 use crate::front::{Front, front_of};
@@ -19,6 +20,9 @@ const MAX_LENGTH: usize = 1_048_576;
 pub fn tokens(alloc: Global, text: &[u8]) -> Result<Vec<Token>, Refused<LexError>>
     ensures found { IfOk result (λ tokens. AreTokens text.now tokens.items) }
     ensures refused { IfErr result (Explains text.now) }
+    ensures too_long { 1_048_576 < length text.now → result ≡ Err (Named TooLong) }
+    // Memory is asked for where a first token stands, and nowhere before.
+    ensures memory { IfErr result (λ e. e ≡ Memory → HasFirstToken text.now) }
     // A text that has tokens is refused only where memory runs out.
     ensures accepted { (ts : List Token) → AreTokens text.now ts → IfErr result (λ e. e ≡ Memory) }
 {

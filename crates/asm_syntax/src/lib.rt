@@ -19,7 +19,7 @@ mod words;
 pub use error::LexError;
 pub use laws::{
     no_tokens_beside_a_fault, numbers_in_range, one_fault, one_kind, one_list_of_tokens, one_piece,
-    tokens_in_order,
+    tokens_in_order, tokens_or_a_fault,
 };
 pub use lexer::tokens;
 pub use refused::Refused;

@@ -9,17 +9,17 @@ use Rattle.asm_reader.proofs.contents.several_constants.Goals as goal
 
 pub loop-alloc-smaller : goal.loop-alloc-smaller
 loop-alloc-smaller c = past_consumes (Symbol Comma) (constant_at c.args.text.now) (constant_consumes c.args.text.now) c.loop-alloc.tokens.rest.now c.constant-in-loop-alloc.new.tokens.rest.now (const_of c.in_ok-next.next)
-    (past_is (Symbol Comma) (constant_at c.args.text.now) c.loop-alloc.tokens.rest.now c.expect.new.self.rest.now c.constant-in-loop-alloc.new.tokens.rest.now c.in_ok-expect.field-0 (const_of c.in_ok-next.next) c.in_ok-expect.ensures c.in_ok-next.ensures)
+    (past_is (Symbol Comma) (constant_at c.args.text.now) c.loop-alloc.tokens.rest.now c.expect.new.self.rest.now c.constant-in-loop-alloc.new.tokens.rest.now c.in_ok-expect.field-0 (const_of c.in_ok-next.next) c.in_ok-expect.ensures.read c.in_ok-next.ensures)
 
 pub loop-alloc-preserved : goal.loop-alloc-preserved
 loop-alloc-preserved c = next_read const_of (Symbol Comma) (constant_at c.args.text.now) (constant_consumes c.args.text.now) c.loop-alloc.all.items c.push-in-loop-alloc.new.self.items c.loop-alloc.tokens.rest.now c.expect.new.self.rest.now c.constant-in-loop-alloc.new.tokens.rest.now c.in_ok-expect.field-0 c.in_ok-next.next
-    (so_far const_of (Symbol Comma) (constant_at c.args.text.now) c.push.new.self.items c.constant.new.tokens.rest.now) c.in_ok-push-2.ensures.items c.loop-alloc-test.ensures c.in_ok-expect.ensures c.in_ok-next.ensures c.loop-alloc.invariant
+    (so_far const_of (Symbol Comma) (constant_at c.args.text.now) c.push.new.self.items c.constant.new.tokens.rest.now) c.in_ok-push-2.ensures.items c.loop-alloc-test.ensures c.in_ok-expect.ensures.read c.in_ok-next.ensures c.loop-alloc.invariant
 
 pub returns-in_err-next : goal.returns-in_err-next
 returns-in_err-next c =
     let p = err_from_is_err_and c.from_residual-in_err-next.result c.from_residual-in_err-next.ensures.1 in
     rw (p.1, p.2) (λ reason is. next_fails const_of (Symbol Comma) (constant_at c.args.text.now) c.new-all.result.items c.push.new.self.items c.loop-alloc.all.items c.args.tokens.now.rest.now c.constant.new.tokens.rest.now c.loop-alloc.tokens.rest.now c.expect.new.self.rest.now c.in_ok-first.first c.in_ok-expect.field-0 reason
-    c.new-all.ensures.items c.in_ok-push.ensures.items c.in_ok-first.ensures c.loop-alloc-test.ensures c.in_ok-expect.ensures (c.in_err-next.ensures reason is) c.loop-alloc.invariant)
+    c.new-all.ensures.items c.in_ok-push.ensures.items c.in_ok-first.ensures c.loop-alloc-test.ensures c.in_ok-expect.ensures.read (c.in_err-next.ensures reason is) c.loop-alloc.invariant)
 
 pub returns : goal.returns
 returns c = all_read const_of (Symbol Comma) (constant_at c.args.text.now) c.new-all.result.items c.push.new.self.items c.loop-alloc.all.items c.args.tokens.now.rest.now c.constant.new.tokens.rest.now c.loop-alloc.tokens.rest.now c.in_ok-first.first

@@ -46,77 +46,77 @@ pub par-returns-in_err-expect : goal.par-returns-in_err-expect
 unfolding par_at
 par-returns-in_err-expect t c =
     let p = err_from_is_err_and c.from_residual-in_err-expect.result c.from_residual-in_err-expect.ensures.1 in
-    rw (p.1, p.2) (λ reason is. rw (below_less (rule_at c.args.text.now) c.args.levels c.in_ok-enter.ensures.left, c.in_ok-enter.ensures.read, c.in_ok-all.ensures, c.in_err-expect.ensures reason is) (refl {a = Err reason}))
+    rw (p.1, p.2) (λ reason is. rw (below_less (rule_at c.args.text.now) c.args.levels c.in_ok-enter.ensures.left, c.in_ok-enter.ensures.read, c.in_ok-all.ensures, c.in_err-expect.ensures.read reason is) (refl {a = Err reason}))
 
 pub par-returns : goal.par-returns
 unfolding par_at
-par-returns t c = rw (below_less (rule_at c.args.text.now) c.args.levels c.in_ok-enter.ensures.left, c.in_ok-enter.ensures.read, c.in_ok-all.ensures, c.in_ok-expect.ensures) (rw (rule_of-Par c.in_ok-all.all) refl)
+par-returns t c = rw (below_less (rule_at c.args.text.now) c.args.levels c.in_ok-enter.ensures.left, c.in_ok-enter.ensures.read, c.in_ok-all.ensures, c.in_ok-expect.ensures.read) (rw (rule_of-Par c.in_ok-all.all) refl)
 
 pub seq-returns-in_err-expect : goal.seq-returns-in_err-expect
 unfolding seq_at
 seq-returns-in_err-expect t c =
     let p = err_from_is_err_and c.from_residual-in_err-expect.result c.from_residual-in_err-expect.ensures.1 in
-    rw (p.1, p.2) (λ reason is. rw (below_less (rule_at c.args.text.now) c.args.levels c.in_ok-enter.ensures.left, c.in_ok-enter.ensures.read, c.in_ok-all.ensures, c.in_err-expect.ensures reason is) (refl {a = Err reason}))
+    rw (p.1, p.2) (λ reason is. rw (below_less (rule_at c.args.text.now) c.args.levels c.in_ok-enter.ensures.left, c.in_ok-enter.ensures.read, c.in_ok-all.ensures, c.in_err-expect.ensures.read reason is) (refl {a = Err reason}))
 
 pub seq-returns : goal.seq-returns
 unfolding seq_at
-seq-returns t c = rw (below_less (rule_at c.args.text.now) c.args.levels c.in_ok-enter.ensures.left, c.in_ok-enter.ensures.read, c.in_ok-all.ensures, c.in_ok-expect.ensures) (rw (rule_of-Seq c.in_ok-all.all) refl)
+seq-returns t c = rw (below_less (rule_at c.args.text.now) c.args.levels c.in_ok-enter.ensures.left, c.in_ok-enter.ensures.read, c.in_ok-all.ensures, c.in_ok-expect.ensures.read) (rw (rule_of-Seq c.in_ok-all.all) refl)
 
 pub conditional-returns-in_err-expect : goal.conditional-returns-in_err-expect
 unfolding if_at
 conditional-returns-in_err-expect t c =
     let p = err_from_is_err_and c.from_residual-in_err-expect.result c.from_residual-in_err-expect.ensures.1 in
-    rw (p.1, p.2) (λ reason is. rw (below_less (term_at c.args.text.now) c.args.levels c.in_ok-enter.ensures.left, c.in_ok-enter.ensures.read, c.in_ok-test.ensures, c.in_err-expect.ensures reason is) (refl {a = Err reason}))
+    rw (p.1, p.2) (λ reason is. rw (below_less (term_at c.args.text.now) c.args.levels c.in_ok-enter.ensures.left, c.in_ok-enter.ensures.read, c.in_ok-test.ensures, c.in_err-expect.ensures.read reason is) (refl {a = Err reason}))
 
 pub conditional-returns-in_err-yes : goal.conditional-returns-in_err-yes
 unfolding if_at
 conditional-returns-in_err-yes t c =
     let p = err_from_is_err_and c.from_residual-in_err-yes.result c.from_residual-in_err-yes.ensures.1 in
-    rw (p.1, p.2) (λ reason is. rw (below_less (term_at c.args.text.now) c.args.levels c.in_ok-enter.ensures.left, below_less (rule_at c.args.text.now) c.args.levels c.in_ok-enter.ensures.left, c.in_ok-enter.ensures.read, c.in_ok-test.ensures, c.in_ok-expect.ensures, c.in_err-yes.ensures reason is) (refl {a = Err reason}))
+    rw (p.1, p.2) (λ reason is. rw (below_less (term_at c.args.text.now) c.args.levels c.in_ok-enter.ensures.left, below_less (rule_at c.args.text.now) c.args.levels c.in_ok-enter.ensures.left, c.in_ok-enter.ensures.read, c.in_ok-test.ensures, c.in_ok-expect.ensures.read, c.in_err-yes.ensures reason is) (refl {a = Err reason}))
 
 pub conditional-returns-in_err-no : goal.conditional-returns-in_err-no
 unfolding if_at
 conditional-returns-in_err-no t c =
     let p = err_from_is_err_and c.from_residual-in_err-no.result c.from_residual-in_err-no.ensures.1 in
-    rw (p.1, p.2) (λ reason is. rw (below_less (term_at c.args.text.now) c.args.levels c.in_ok-enter.ensures.left, below_less (rule_at c.args.text.now) c.args.levels c.in_ok-enter.ensures.left, c.in_ok-enter.ensures.read, c.in_ok-test.ensures, c.in_ok-expect.ensures, c.in_ok-yes.ensures, c.in_err-no.ensures reason is) (refl {a = Err reason}))
+    rw (p.1, p.2) (λ reason is. rw (below_less (term_at c.args.text.now) c.args.levels c.in_ok-enter.ensures.left, below_less (rule_at c.args.text.now) c.args.levels c.in_ok-enter.ensures.left, c.in_ok-enter.ensures.read, c.in_ok-test.ensures, c.in_ok-expect.ensures.read, c.in_ok-yes.ensures, c.in_err-no.ensures reason is) (refl {a = Err reason}))
 
 pub conditional-returns-in_err-expect-2 : goal.conditional-returns-in_err-expect-2
 unfolding if_at
 conditional-returns-in_err-expect-2 t c =
     let p = err_from_is_err_and c.from_residual-in_err-expect-2.result c.from_residual-in_err-expect-2.ensures.1 in
-    rw (p.1, p.2) (λ reason is. rw (below_less (term_at c.args.text.now) c.args.levels c.in_ok-enter.ensures.left, below_less (rule_at c.args.text.now) c.args.levels c.in_ok-enter.ensures.left, c.in_ok-enter.ensures.read, c.in_ok-test.ensures, c.in_ok-expect.ensures, c.in_ok-yes.ensures, c.in_ok-no.ensures, c.in_err-expect-2.ensures reason is) (refl {a = Err reason}))
+    rw (p.1, p.2) (λ reason is. rw (below_less (term_at c.args.text.now) c.args.levels c.in_ok-enter.ensures.left, below_less (rule_at c.args.text.now) c.args.levels c.in_ok-enter.ensures.left, c.in_ok-enter.ensures.read, c.in_ok-test.ensures, c.in_ok-expect.ensures.read, c.in_ok-yes.ensures, c.in_ok-no.ensures, c.in_err-expect-2.ensures.read reason is) (refl {a = Err reason}))
 
 pub conditional-returns : goal.conditional-returns
 unfolding if_at
-conditional-returns t c = rw (below_less (term_at c.args.text.now) c.args.levels c.in_ok-enter.ensures.left, below_less (rule_at c.args.text.now) c.args.levels c.in_ok-enter.ensures.left, c.in_ok-enter.ensures.read, c.in_ok-test.ensures, c.in_ok-expect.ensures, c.in_ok-yes.ensures, c.in_ok-no.ensures, c.in_ok-expect-2.ensures) (rw (if_is c.in_ok-test.test c.in_ok-yes-2.yes c.in_ok-no.no, c.in_ok-yes-2.ensures.ok) refl)
+conditional-returns t c = rw (below_less (term_at c.args.text.now) c.args.levels c.in_ok-enter.ensures.left, below_less (rule_at c.args.text.now) c.args.levels c.in_ok-enter.ensures.left, c.in_ok-enter.ensures.read, c.in_ok-test.ensures, c.in_ok-expect.ensures.read, c.in_ok-yes.ensures, c.in_ok-no.ensures, c.in_ok-expect-2.ensures.read) (rw (if_is c.in_ok-test.test c.in_ok-yes-2.yes c.in_ok-no.no, c.in_ok-yes-2.ensures.ok) refl)
 
 pub let_rule-returns-in_err-value : goal.let_rule-returns-in_err-value
 unfolding let_at
 let_rule-returns-in_err-value t c =
     let p = err_from_is_err_and c.from_residual-in_err-value.result c.from_residual-in_err-value.ensures.1 in
-    rw (p.1, p.2) (λ reason is. rw (below_less (term_at c.args.text.now) c.args.levels c.in_ok-enter.ensures.left, c.in_ok-enter.ensures.read, c.in_ok-name.ensures, c.in_ok-expect.ensures, c.in_err-value.ensures reason is) (refl {a = Err reason}))
+    rw (p.1, p.2) (λ reason is. rw (below_less (term_at c.args.text.now) c.args.levels c.in_ok-enter.ensures.left, c.in_ok-enter.ensures.read, c.in_ok-name.ensures, c.in_ok-expect.ensures.read, c.in_err-value.ensures reason is) (refl {a = Err reason}))
 
 pub let_rule-returns-in_err-expect-2 : goal.let_rule-returns-in_err-expect-2
 unfolding let_at
 let_rule-returns-in_err-expect-2 t c =
     let p = err_from_is_err_and c.from_residual-in_err-expect-2.result c.from_residual-in_err-expect-2.ensures.1 in
-    rw (p.1, p.2) (λ reason is. rw (below_less (term_at c.args.text.now) c.args.levels c.in_ok-enter.ensures.left, c.in_ok-enter.ensures.read, c.in_ok-name.ensures, c.in_ok-expect.ensures, c.in_ok-value.ensures, c.in_err-expect-2.ensures reason is) (refl {a = Err reason}))
+    rw (p.1, p.2) (λ reason is. rw (below_less (term_at c.args.text.now) c.args.levels c.in_ok-enter.ensures.left, c.in_ok-enter.ensures.read, c.in_ok-name.ensures, c.in_ok-expect.ensures.read, c.in_ok-value.ensures, c.in_err-expect-2.ensures.read reason is) (refl {a = Err reason}))
 
 pub let_rule-returns-in_err-body : goal.let_rule-returns-in_err-body
 unfolding let_at
 let_rule-returns-in_err-body t c =
     let p = err_from_is_err_and c.from_residual-in_err-body.result c.from_residual-in_err-body.ensures.1 in
-    rw (p.1, p.2) (λ reason is. rw (below_less (term_at c.args.text.now) c.args.levels c.in_ok-enter.ensures.left, below_less (rule_at c.args.text.now) c.args.levels c.in_ok-enter.ensures.left, c.in_ok-enter.ensures.read, c.in_ok-name.ensures, c.in_ok-expect.ensures, c.in_ok-value.ensures, c.in_ok-expect-2.ensures, c.in_err-body.ensures reason is) (refl {a = Err reason}))
+    rw (p.1, p.2) (λ reason is. rw (below_less (term_at c.args.text.now) c.args.levels c.in_ok-enter.ensures.left, below_less (rule_at c.args.text.now) c.args.levels c.in_ok-enter.ensures.left, c.in_ok-enter.ensures.read, c.in_ok-name.ensures, c.in_ok-expect.ensures.read, c.in_ok-value.ensures, c.in_ok-expect-2.ensures.read, c.in_err-body.ensures reason is) (refl {a = Err reason}))
 
 pub let_rule-returns-in_err-expect-3 : goal.let_rule-returns-in_err-expect-3
 unfolding let_at
 let_rule-returns-in_err-expect-3 t c =
     let p = err_from_is_err_and c.from_residual-in_err-expect-3.result c.from_residual-in_err-expect-3.ensures.1 in
-    rw (p.1, p.2) (λ reason is. rw (below_less (term_at c.args.text.now) c.args.levels c.in_ok-enter.ensures.left, below_less (rule_at c.args.text.now) c.args.levels c.in_ok-enter.ensures.left, c.in_ok-enter.ensures.read, c.in_ok-name.ensures, c.in_ok-expect.ensures, c.in_ok-value.ensures, c.in_ok-expect-2.ensures, c.in_ok-body.ensures, c.in_err-expect-3.ensures reason is) (refl {a = Err reason}))
+    rw (p.1, p.2) (λ reason is. rw (below_less (term_at c.args.text.now) c.args.levels c.in_ok-enter.ensures.left, below_less (rule_at c.args.text.now) c.args.levels c.in_ok-enter.ensures.left, c.in_ok-enter.ensures.read, c.in_ok-name.ensures, c.in_ok-expect.ensures.read, c.in_ok-value.ensures, c.in_ok-expect-2.ensures.read, c.in_ok-body.ensures, c.in_err-expect-3.ensures.read reason is) (refl {a = Err reason}))
 
 pub let_rule-returns : goal.let_rule-returns
 unfolding let_at
-let_rule-returns t c = rw (below_less (term_at c.args.text.now) c.args.levels c.in_ok-enter.ensures.left, below_less (rule_at c.args.text.now) c.args.levels c.in_ok-enter.ensures.left, c.in_ok-enter.ensures.read, c.in_ok-name.ensures, c.in_ok-expect.ensures, c.in_ok-value.ensures, c.in_ok-expect-2.ensures, c.in_ok-body.ensures, c.in_ok-expect-3.ensures) (rw (rule_of-Let c.in_ok-name.name c.in_ok-value.value c.in_ok-body-2.body, c.in_ok-body-2.ensures.ok) refl)
+let_rule-returns t c = rw (below_less (term_at c.args.text.now) c.args.levels c.in_ok-enter.ensures.left, below_less (rule_at c.args.text.now) c.args.levels c.in_ok-enter.ensures.left, c.in_ok-enter.ensures.read, c.in_ok-name.ensures, c.in_ok-expect.ensures.read, c.in_ok-value.ensures, c.in_ok-expect-2.ensures.read, c.in_ok-body.ensures, c.in_ok-expect-3.ensures.read) (rw (rule_of-Let c.in_ok-name.name c.in_ok-value.value c.in_ok-body-2.body, c.in_ok-body-2.ensures.ok) refl)
 
 pub forall-returns-in_err-test : goal.forall-returns-in_err-test
 unfolding forall_at
@@ -128,23 +128,23 @@ pub forall-returns-in_err-expect : goal.forall-returns-in_err-expect
 unfolding forall_at
 forall-returns-in_err-expect t c =
     let p = err_from_is_err_and c.from_residual-in_err-expect.result c.from_residual-in_err-expect.ensures.1 in
-    rw (p.1, p.2) (λ reason is. rw (below_less (term_at c.args.text.now) c.args.levels c.in_ok-enter.ensures.left, c.in_ok-enter.ensures.read, c.in_ok-name.ensures, c.in_ok-test.ensures, c.in_err-expect.ensures reason is) (refl {a = Err reason}))
+    rw (p.1, p.2) (λ reason is. rw (below_less (term_at c.args.text.now) c.args.levels c.in_ok-enter.ensures.left, c.in_ok-enter.ensures.read, c.in_ok-name.ensures, c.in_ok-test.ensures, c.in_err-expect.ensures.read reason is) (refl {a = Err reason}))
 
 pub forall-returns-in_err-body : goal.forall-returns-in_err-body
 unfolding forall_at
 forall-returns-in_err-body t c =
     let p = err_from_is_err_and c.from_residual-in_err-body.result c.from_residual-in_err-body.ensures.1 in
-    rw (p.1, p.2) (λ reason is. rw (below_less (term_at c.args.text.now) c.args.levels c.in_ok-enter.ensures.left, below_less (rule_at c.args.text.now) c.args.levels c.in_ok-enter.ensures.left, c.in_ok-enter.ensures.read, c.in_ok-name.ensures, c.in_ok-test.ensures, c.in_ok-expect.ensures, c.in_err-body.ensures reason is) (refl {a = Err reason}))
+    rw (p.1, p.2) (λ reason is. rw (below_less (term_at c.args.text.now) c.args.levels c.in_ok-enter.ensures.left, below_less (rule_at c.args.text.now) c.args.levels c.in_ok-enter.ensures.left, c.in_ok-enter.ensures.read, c.in_ok-name.ensures, c.in_ok-test.ensures, c.in_ok-expect.ensures.read, c.in_err-body.ensures reason is) (refl {a = Err reason}))
 
 pub forall-returns-in_err-expect-2 : goal.forall-returns-in_err-expect-2
 unfolding forall_at
 forall-returns-in_err-expect-2 t c =
     let p = err_from_is_err_and c.from_residual-in_err-expect-2.result c.from_residual-in_err-expect-2.ensures.1 in
-    rw (p.1, p.2) (λ reason is. rw (below_less (term_at c.args.text.now) c.args.levels c.in_ok-enter.ensures.left, below_less (rule_at c.args.text.now) c.args.levels c.in_ok-enter.ensures.left, c.in_ok-enter.ensures.read, c.in_ok-name.ensures, c.in_ok-test.ensures, c.in_ok-expect.ensures, c.in_ok-body.ensures, c.in_err-expect-2.ensures reason is) (refl {a = Err reason}))
+    rw (p.1, p.2) (λ reason is. rw (below_less (term_at c.args.text.now) c.args.levels c.in_ok-enter.ensures.left, below_less (rule_at c.args.text.now) c.args.levels c.in_ok-enter.ensures.left, c.in_ok-enter.ensures.read, c.in_ok-name.ensures, c.in_ok-test.ensures, c.in_ok-expect.ensures.read, c.in_ok-body.ensures, c.in_err-expect-2.ensures.read reason is) (refl {a = Err reason}))
 
 pub forall-returns : goal.forall-returns
 unfolding forall_at
-forall-returns t c = rw (below_less (term_at c.args.text.now) c.args.levels c.in_ok-enter.ensures.left, below_less (rule_at c.args.text.now) c.args.levels c.in_ok-enter.ensures.left, c.in_ok-enter.ensures.read, c.in_ok-name.ensures, c.in_ok-test.ensures, c.in_ok-expect.ensures, c.in_ok-body.ensures, c.in_ok-expect-2.ensures) (rw (rule_of-Forall c.in_ok-name.name c.in_ok-name.over c.in_ok-test.test c.in_ok-body-2.body, c.in_ok-body-2.ensures.ok) refl)
+forall-returns t c = rw (below_less (term_at c.args.text.now) c.args.levels c.in_ok-enter.ensures.left, below_less (rule_at c.args.text.now) c.args.levels c.in_ok-enter.ensures.left, c.in_ok-enter.ensures.read, c.in_ok-name.ensures, c.in_ok-test.ensures, c.in_ok-expect.ensures.read, c.in_ok-body.ensures, c.in_ok-expect-2.ensures.read) (rw (rule_of-Forall c.in_ok-name.name c.in_ok-name.over c.in_ok-test.test c.in_ok-body-2.body, c.in_ok-body-2.ensures.ok) refl)
 
 pub choose-returns-in_err-test : goal.choose-returns-in_err-test
 unfolding choose_at
@@ -156,36 +156,36 @@ pub choose-returns-in_err-expect : goal.choose-returns-in_err-expect
 unfolding choose_at
 choose-returns-in_err-expect t c =
     let p = err_from_is_err_and c.from_residual-in_err-expect.result c.from_residual-in_err-expect.ensures.1 in
-    rw (p.1, p.2) (λ reason is. rw (below_less (term_at c.args.text.now) c.args.levels c.in_ok-enter.ensures.left, c.in_ok-enter.ensures.read, c.in_ok-name.ensures, c.in_ok-test.ensures, c.in_err-expect.ensures reason is) (refl {a = Err reason}))
+    rw (p.1, p.2) (λ reason is. rw (below_less (term_at c.args.text.now) c.args.levels c.in_ok-enter.ensures.left, c.in_ok-enter.ensures.read, c.in_ok-name.ensures, c.in_ok-test.ensures, c.in_err-expect.ensures.read reason is) (refl {a = Err reason}))
 
 pub choose-returns-in_err-body : goal.choose-returns-in_err-body
 unfolding choose_at
 choose-returns-in_err-body t c =
     let p = err_from_is_err_and c.from_residual-in_err-body.result c.from_residual-in_err-body.ensures.1 in
-    rw (p.1, p.2) (λ reason is. rw (below_less (term_at c.args.text.now) c.args.levels c.in_ok-enter.ensures.left, below_less (rule_at c.args.text.now) c.args.levels c.in_ok-enter.ensures.left, c.in_ok-enter.ensures.read, c.in_ok-name.ensures, c.in_ok-test.ensures, c.in_ok-expect.ensures, c.in_err-body.ensures reason is) (refl {a = Err reason}))
+    rw (p.1, p.2) (λ reason is. rw (below_less (term_at c.args.text.now) c.args.levels c.in_ok-enter.ensures.left, below_less (rule_at c.args.text.now) c.args.levels c.in_ok-enter.ensures.left, c.in_ok-enter.ensures.read, c.in_ok-name.ensures, c.in_ok-test.ensures, c.in_ok-expect.ensures.read, c.in_err-body.ensures reason is) (refl {a = Err reason}))
 
 pub choose-returns-in_err-none : goal.choose-returns-in_err-none
 unfolding choose_at
 choose-returns-in_err-none t c =
     let p = err_from_is_err_and c.from_residual-in_err-none.result c.from_residual-in_err-none.ensures.1 in
-    rw (p.1, p.2) (λ reason is. rw (below_less (term_at c.args.text.now) c.args.levels c.in_ok-enter.ensures.left, below_less (rule_at c.args.text.now) c.args.levels c.in_ok-enter.ensures.left, c.in_ok-enter.ensures.read, c.in_ok-name.ensures, c.in_ok-test.ensures, c.in_ok-expect.ensures, c.in_ok-body.ensures, c.in_err-none.ensures reason is) (refl {a = Err reason}))
+    rw (p.1, p.2) (λ reason is. rw (below_less (term_at c.args.text.now) c.args.levels c.in_ok-enter.ensures.left, below_less (rule_at c.args.text.now) c.args.levels c.in_ok-enter.ensures.left, c.in_ok-enter.ensures.read, c.in_ok-name.ensures, c.in_ok-test.ensures, c.in_ok-expect.ensures.read, c.in_ok-body.ensures, c.in_err-none.ensures reason is) (refl {a = Err reason}))
 
 pub choose-returns-in_err-expect-2 : goal.choose-returns-in_err-expect-2
 unfolding choose_at
 choose-returns-in_err-expect-2 t c =
     let p = err_from_is_err_and c.from_residual-in_err-expect-2.result c.from_residual-in_err-expect-2.ensures.1 in
-    rw (p.1, p.2) (λ reason is. rw (below_less (term_at c.args.text.now) c.args.levels c.in_ok-enter.ensures.left, below_less (rule_at c.args.text.now) c.args.levels c.in_ok-enter.ensures.left, c.in_ok-enter.ensures.read, c.in_ok-name.ensures, c.in_ok-test.ensures, c.in_ok-expect.ensures, c.in_ok-body.ensures, c.in_ok-none.ensures, c.in_err-expect-2.ensures reason is) (refl {a = Err reason}))
+    rw (p.1, p.2) (λ reason is. rw (below_less (term_at c.args.text.now) c.args.levels c.in_ok-enter.ensures.left, below_less (rule_at c.args.text.now) c.args.levels c.in_ok-enter.ensures.left, c.in_ok-enter.ensures.read, c.in_ok-name.ensures, c.in_ok-test.ensures, c.in_ok-expect.ensures.read, c.in_ok-body.ensures, c.in_ok-none.ensures, c.in_err-expect-2.ensures.read reason is) (refl {a = Err reason}))
 
 pub choose-returns : goal.choose-returns
 unfolding choose_at
-choose-returns t c = rw (below_less (term_at c.args.text.now) c.args.levels c.in_ok-enter.ensures.left, below_less (rule_at c.args.text.now) c.args.levels c.in_ok-enter.ensures.left, c.in_ok-enter.ensures.read, c.in_ok-name.ensures, c.in_ok-test.ensures, c.in_ok-expect.ensures, c.in_ok-body.ensures, c.in_ok-none.ensures, c.in_ok-expect-2.ensures) (rw (choose_is c.in_ok-name.name c.in_ok-name.over c.in_ok-test.test c.in_ok-body-2.body c.in_ok-none.none, c.in_ok-body-2.ensures.ok) refl)
+choose-returns t c = rw (below_less (term_at c.args.text.now) c.args.levels c.in_ok-enter.ensures.left, below_less (rule_at c.args.text.now) c.args.levels c.in_ok-enter.ensures.left, c.in_ok-enter.ensures.read, c.in_ok-name.ensures, c.in_ok-test.ensures, c.in_ok-expect.ensures.read, c.in_ok-body.ensures, c.in_ok-none.ensures, c.in_ok-expect-2.ensures.read) (rw (choose_is c.in_ok-name.name c.in_ok-name.over c.in_ok-test.test c.in_ok-body-2.body c.in_ok-none.none, c.in_ok-body-2.ensures.ok) refl)
 
 pub iterate-returns-in_err-expect : goal.iterate-returns-in_err-expect
 unfolding iterate_at
 iterate-returns-in_err-expect t c =
     let p = err_from_is_err_and c.from_residual-in_err-expect.result c.from_residual-in_err-expect.ensures.1 in
-    rw (p.1, p.2) (λ reason is. rw (below_less (rule_at c.args.text.now) c.args.levels c.in_ok-enter.ensures.left, c.in_ok-enter.ensures.read, c.in_ok-body.ensures, c.in_err-expect.ensures reason is) (refl {a = Err reason}))
+    rw (p.1, p.2) (λ reason is. rw (below_less (rule_at c.args.text.now) c.args.levels c.in_ok-enter.ensures.left, c.in_ok-enter.ensures.read, c.in_ok-body.ensures, c.in_err-expect.ensures.read reason is) (refl {a = Err reason}))
 
 pub iterate-returns : goal.iterate-returns
 unfolding iterate_at
-iterate-returns t c = rw (below_less (rule_at c.args.text.now) c.args.levels c.in_ok-enter.ensures.left, c.in_ok-enter.ensures.read, c.in_ok-body.ensures, c.in_ok-expect.ensures) (rw (rule_of-Iterate c.in_ok-body-2.body, c.in_ok-body-2.ensures.ok) refl)
+iterate-returns t c = rw (below_less (rule_at c.args.text.now) c.args.levels c.in_ok-enter.ensures.left, c.in_ok-enter.ensures.read, c.in_ok-body.ensures, c.in_ok-expect.ensures.read) (rw (rule_of-Iterate c.in_ok-body-2.body, c.in_ok-body-2.ensures.ok) refl)

@@ -33,27 +33,27 @@ pub arguments-returns-in_err-expect : goal.arguments-returns-in_err-expect
 unfolding arguments_at
 arguments-returns-in_err-expect t c =
     let p = err_from_is_err_and c.from_residual-in_err-expect.result c.from_residual-in_err-expect.ensures.1 in
-    rw (p.1, p.2) (λ reason is. rw (below_less (term_at c.args.text.now) c.args.levels c.in_ok-enter.ensures.left, c.in_ok-enter.ensures.read, c.in_ok-all.ensures, c.in_err-expect.ensures reason is) refl)
+    rw (p.1, p.2) (λ reason is. rw (below_less (term_at c.args.text.now) c.args.levels c.in_ok-enter.ensures.left, c.in_ok-enter.ensures.read, c.in_ok-all.ensures, c.in_err-expect.ensures.read reason is) refl)
 
 pub arguments-returns : goal.arguments-returns
 unfolding arguments_at
-arguments-returns t c = rw (below_less (term_at c.args.text.now) c.args.levels c.in_ok-enter.ensures.left, c.in_ok-enter.ensures.read, c.in_ok-all.ensures, c.in_ok-expect.ensures) refl
+arguments-returns t c = rw (below_less (term_at c.args.text.now) c.args.levels c.in_ok-enter.ensures.left, c.in_ok-enter.ensures.read, c.in_ok-all.ensures, c.in_ok-expect.ensures.read) refl
 
 pub terms-loop-alloc-smaller : goal.terms-loop-alloc-smaller
 terms-loop-alloc-smaller t c = past_consumes (Symbol Comma) (term_at c.args.text.now c.args.levels) (term_consumes c.args.text.now c.args.levels) c.loop-alloc.tokens.rest.now c.term-in-loop-alloc.new.tokens.rest.now (term_of c.in_ok-next.next)
-    (past_is (Symbol Comma) (term_at c.args.text.now c.args.levels) c.loop-alloc.tokens.rest.now c.expect.new.self.rest.now c.term-in-loop-alloc.new.tokens.rest.now c.in_ok-expect.field-0 (term_of c.in_ok-next.next) c.in_ok-expect.ensures c.in_ok-next.ensures)
+    (past_is (Symbol Comma) (term_at c.args.text.now c.args.levels) c.loop-alloc.tokens.rest.now c.expect.new.self.rest.now c.term-in-loop-alloc.new.tokens.rest.now c.in_ok-expect.field-0 (term_of c.in_ok-next.next) c.in_ok-expect.ensures.read c.in_ok-next.ensures)
 
 pub terms-loop-alloc-preserved : goal.terms-loop-alloc-preserved
 terms-loop-alloc-preserved t c = next_read term_of (Symbol Comma) (term_at c.args.text.now c.args.levels) (term_consumes c.args.text.now c.args.levels) c.loop-alloc.all.items c.push-in-loop-alloc.new.self.items
     c.loop-alloc.tokens.rest.now c.expect.new.self.rest.now c.term-in-loop-alloc.new.tokens.rest.now c.in_ok-expect.field-0 c.in_ok-next.next (so_far term_of (Symbol Comma) (term_at c.args.text.now c.args.levels) c.push.new.self.items c.term.new.tokens.rest.now)
-    c.in_ok-push-2.ensures.items c.loop-alloc-test.ensures c.in_ok-expect.ensures c.in_ok-next.ensures c.loop-alloc.invariant
+    c.in_ok-push-2.ensures.items c.loop-alloc-test.ensures c.in_ok-expect.ensures.read c.in_ok-next.ensures c.loop-alloc.invariant
 
 pub terms-returns-in_err-next : goal.terms-returns-in_err-next
 terms-returns-in_err-next t c =
     let p = err_from_is_err_and c.from_residual-in_err-next.result c.from_residual-in_err-next.ensures.1 in
     rw (p.1, p.2) (λ reason is. next_fails term_of (Symbol Comma) (term_at c.args.text.now c.args.levels) c.in_ok-all.all.items c.push.new.self.items c.loop-alloc.all.items
     c.args.tokens.now.rest.now c.term.new.tokens.rest.now c.loop-alloc.tokens.rest.now c.expect.new.self.rest.now c.in_ok-first.first c.in_ok-expect.field-0 reason
-    c.in_ok-all.ensures.items c.in_ok-push.ensures.items c.in_ok-first.ensures c.loop-alloc-test.ensures c.in_ok-expect.ensures (c.in_err-next.ensures reason is) c.loop-alloc.invariant)
+    c.in_ok-all.ensures.items c.in_ok-push.ensures.items c.in_ok-first.ensures c.loop-alloc-test.ensures c.in_ok-expect.ensures.read (c.in_err-next.ensures reason is) c.loop-alloc.invariant)
 
 pub terms-returns : goal.terms-returns
 terms-returns t c = all_read term_of (Symbol Comma) (term_at c.args.text.now c.args.levels) c.in_ok-all.all.items c.push.new.self.items c.loop-alloc.all.items c.args.tokens.now.rest.now c.term.new.tokens.rest.now c.loop-alloc.tokens.rest.now c.in_ok-first.first
@@ -61,7 +61,7 @@ terms-returns t c = all_read term_of (Symbol Comma) (term_at c.args.text.now c.a
 
 pub longer_chain-loop-of-smaller : goal.longer_chain-loop-of-smaller
 longer_chain-loop-of-smaller t c =
-    let read : choice_at (table_of c.args.of) c.loop-of.tokens.rest.now ≡ Ok (c.in_ok-operator.operator, c.choice.new.self.rest.now) = ap (λ (w : List (Kind × Op)). choice_at w c.loop-of.tokens.rest.now) (sym c.operators-in-loop-of.ensures) ∙ c.in_ok-operator.ensures in
+    let read : choice_at (table_of c.args.of) c.loop-of.tokens.rest.now ≡ Ok (c.in_ok-operator.operator, c.choice.new.self.rest.now) = ap (λ (w : List (Kind × Op)). choice_at w c.loop-of.tokens.rest.now) (sym c.operators-in-loop-of.ensures) ∙ c.in_ok-operator.ensures.read in
     links_consume c.args.text.now c.args.levels c.args.of c.loop-of.tokens.rest.now c.operand.new.tokens.rest.now (link_of (c.in_ok-operator.operator, c.in_ok-next.next))
     (link_is (table_of c.args.of) (operand_at c.args.text.now c.args.levels (below (term_at c.args.text.now) c.args.levels) c.args.of) c.loop-of.tokens.rest.now c.choice.new.self.rest.now c.operand.new.tokens.rest.now
     c.in_ok-operator.operator (term_of c.in_ok-next.next) read c.in_ok-next.ensures)
@@ -69,7 +69,7 @@ longer_chain-loop-of-smaller t c =
 pub longer_chain-loop-of-preserved : goal.longer_chain-loop-of-preserved
 longer_chain-loop-of-preserved t c =
     let test : true ≡ begins (keys c.operators.result.now) c.loop-of.tokens.rest.now = c.loop-of-test.ensures in
-    let read : choice_at (table_of c.args.of) c.loop-of.tokens.rest.now ≡ Ok (c.in_ok-operator.operator, c.choice.new.self.rest.now) = ap (λ (w : List (Kind × Op)). choice_at w c.loop-of.tokens.rest.now) (sym c.operators-in-loop-of.ensures) ∙ c.in_ok-operator.ensures in
+    let read : choice_at (table_of c.args.of) c.loop-of.tokens.rest.now ≡ Ok (c.in_ok-operator.operator, c.choice.new.self.rest.now) = ap (λ (w : List (Kind × Op)). choice_at w c.loop-of.tokens.rest.now) (sym c.operators-in-loop-of.ensures) ∙ c.in_ok-operator.ensures.read in
     let one = link_is (table_of c.args.of) (operand_at c.args.text.now c.args.levels (below (term_at c.args.text.now) c.args.levels) c.args.of) c.loop-of.tokens.rest.now c.choice.new.self.rest.now c.operand.new.tokens.rest.now
     c.in_ok-operator.operator (term_of c.in_ok-next.next) read c.in_ok-next.ensures in (
       c.loop-of.invariant.0,
@@ -83,7 +83,7 @@ pub longer_chain-returns-in_err-next : goal.longer_chain-returns-in_err-next
 longer_chain-returns-in_err-next t c =
     let p = err_from_is_err_and c.from_residual-in_err-next.result c.from_residual-in_err-next.ensures.1 in
     let test : true ≡ begins (keys c.operators.result.now) c.loop-of.tokens.rest.now = c.loop-of-test.ensures in
-    let read : choice_at (table_of c.args.of) c.loop-of.tokens.rest.now ≡ Ok (c.in_ok-operator.operator, c.choice.new.self.rest.now) = ap (λ (w : List (Kind × Op)). choice_at w c.loop-of.tokens.rest.now) (sym c.operators-in-loop-of.ensures) ∙ c.in_ok-operator.ensures in
+    let read : choice_at (table_of c.args.of) c.loop-of.tokens.rest.now ≡ Ok (c.in_ok-operator.operator, c.choice.new.self.rest.now) = ap (λ (w : List (Kind × Op)). choice_at w c.loop-of.tokens.rest.now) (sym c.operators-in-loop-of.ensures) ∙ c.in_ok-operator.ensures.read in
     rw (p.1, p.2) (λ reason is.
     let one = link_fails (table_of c.args.of) (operand_at c.args.text.now c.args.levels (below (term_at c.args.text.now) c.args.levels) c.args.of) c.loop-of.tokens.rest.now c.choice.new.self.rest.now c.in_ok-operator.operator reason read (c.in_err-next.ensures reason is) in
     let total = sym (nothing_before link_of (keys (table_of c.args.of)) (link_at c.args.text.now c.args.levels (below (term_at c.args.text.now) c.args.levels) c.args.of) c.in_ok-rest.rest.items

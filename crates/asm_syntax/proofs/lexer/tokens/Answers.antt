@@ -1,6 +1,6 @@
 use Rattle.std.proofs.Common.{◌∙◌, arith, false-eqb}
 use Rattle.asm_syntax.specs.declared.error.LexError.TheVariants as fault
-use Rattle.asm_syntax.proofs.Steps.{start_of, filler_to, token_to, bad_number, open_comment, bad_byte}
+use Rattle.asm_syntax.proofs.Steps.{start_of, filler_to, token_to, bad_number, open_comment, bad_byte, asks_behind_token}
 use Rattle.asm_syntax.proofs.OneAnswer.{fault_accepts_nothing}
 use Rattle.asm_syntax.proofs.lexer.tokens.Goals as goal
 use Rattle.asm_syntax.proofs.lexer.tokens.Goals.{in-Filler, in-Token+in_ok-push-in-Token}
@@ -26,3 +26,6 @@ returns-in-OpenComment-clause-accepted c = fault_accepts_nothing _ c.args.text.n
 
 pub returns-in-BadByte-clause-accepted : goal.returns-in-BadByte-clause-accepted
 returns-in-BadByte-clause-accepted c = fault_accepts_nothing _ c.args.text.now (fault.BadByte c.loop-rest.at) (bad_byte c.args.text.now _ _ c.loop-rest.rest.now c.loop-rest.invariant c.if-text-gt-MAX_LENGTH.false (omega (arith, false-eqb _ 0 c.loop-rest-test.ensures)) c.in-BadByte.ensures)
+
+pub returns-in_err-push-in-Token-clause-memory : goal.returns-in_err-push-in-Token-clause-memory
+returns-in_err-push-in-Token-clause-memory c = asks_behind_token c.from_residual.result c.args.text.now _ _ c.loop-rest.rest.now _ _ c.if-text-gt-MAX_LENGTH.false c.loop-rest.invariant (omega (arith, false-eqb _ 0 c.loop-rest-test.ensures)) c.in-Token.ensures
