@@ -1,7 +1,7 @@
 use Rattle.std.proofs.Common.{[], Some, refl, sym, arith, ap, ◌∙◌, map, take, ◌≡◌, length, subst, IfOk}
 use Rattle.std.proofs.lemmas.Grind.{common_steps}
 use Rattle.std.proofs.lemmas.List.{length-set, take_all}
-use Rattle.asm_state.proofs.UniverseValues.{element_in_range}
+use Rattle.asm_state.proofs.ValueLaws.{value_laws}
 use Rattle.asm_syntax.specs.Unplaced as plain
 use Rattle.asm_syntax.specs.Views.{term_of, terms_of, spec_of}
 use Rattle.asm_check.specs.declared.checked.Named.TheVariants as number
@@ -231,7 +231,7 @@ pub value_of-returns-in-Some-Element : goal.value_of-returns-in-Some-Element
 value_of-returns-in-Some-Element t c =
     let a = c.args in
     let field : c.in-Some-Element.field-0 ≡ number.Element c.in-Some-Element.e = rw c.in-Some-Element.is at c.in-Some-Element.field-0-is in
-    element_in_range c.in-Some-Element.e _ refl
+    value_laws.element_at c.in-Some-Element.e _ refl
     ∙ ap (λ it. declared_value (program a.scene.now.checked.now) (shown a.scene.now.view.now) (numbered (spec_of a.scene.now.checked.now.spec) it) a.values.now) (sym (c.in-Some-Element.is ∙ ap Some field))
 
 pub value_of-returns-in-Some-Universe : goal.value_of-returns-in-Some-Universe
