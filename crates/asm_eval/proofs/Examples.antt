@@ -1,4 +1,4 @@
--- Examples of the values of terms, of what rules yield and of runs, each worked out by hand from the definition in words.
+-- Examples of the values of terms, of what rules yield and of runs, each worked out by hand.
 use Rattle.std.proofs.Common.{◌≡◌, ◌≢◌, ℕ, true, false, cond, not, ◌||◌, List, [], ◌∷◌, ℤ, pos, Some, None, codes, refl, sym, ap, subst, ◌∙◌}
 use Rattle.std.specs.Prelude.{nat_eq}
 use Rattle.asm_state.specs.declared.value.Value.{Value}
@@ -40,7 +40,8 @@ greater s t = Chain s (link_then Greater t no_links)
 abbrev two_rules : Rule → Rule → Rules
 two_rules P Q = rule_then P (rule_then Q no_rules)
 
--- a universe of three numbers, controlled functions f over it, x and y, a static g over it, a derived function, and two rules
+-- a universe of three numbers, controlled functions f over it, x and y, a static g over it, a
+-- derived function, and two rules
 abbrev sample : Program
 sample =
     (codes "Idx", Universe three)
@@ -50,9 +51,12 @@ sample =
     ∷ (codes "g", Static (three ∷ []) (Entries ((number (pos 0) ∷ [], number (pos 7)) ∷ (number (pos 1) ∷ [], number (pos 3)) ∷ [])))
     ∷ (codes "twice", Derived (codes "n" ∷ []) (Chain (name (codes "n")) (link_then Multiply (constant (pos 2)) no_links)))
     ∷ (codes "fill", Procedure (codes "p" ∷ []) (Forall (codes "i") (codes "Idx") None (Assign (codes "f") (of_one (name (codes "i"))) (name (codes "p")))))
-    ∷ (codes "next", Procedure (codes "p" ∷ []) (Seq (two_rules
-        (Assign (codes "x") no_terms (Chain (name (codes "p")) (link_then Add (constant (pos 1)) no_links)))
-        (Assign (codes "y") no_terms (name (codes "p"))))))
+    ∷ (
+      codes "next",
+      Procedure (codes "p" ∷ []) (Seq (two_rules
+          (Assign (codes "x") no_terms (Chain (name (codes "p")) (link_then Add (constant (pos 1)) no_links)))
+          (Assign (codes "y") no_terms (name (codes "p"))))),
+    )
     ∷ []
 
 -- x is 1 and y is 2

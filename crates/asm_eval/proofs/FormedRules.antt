@@ -1,7 +1,8 @@
 -- How a summary and a count of instances come to hold what a rule of the code does.
 --     forms_nothing, forms_both, forms_counted     of nothing, of two parts, and with one more instance;  forms_same     of an equal outcome
 --     stopped_with                                 where forming stops, for what is exhausted together
---     follows_same, follows_nothing, follows_both, follows_counted, follows_stopped     the same of what a call promises, and of an error that is handed on
+--     follows_same, follows_nothing, follows_both, follows_counted      the same of what a call promises
+--     follows_stopped                              of an error that is handed on
 --     left_to_form, part_is_less                   how far the code has still to go down;  that a part is further down
 --     rule_does, branch_does, rules_do, each_does  what rules of the code do: one, a branch, some beside each other, one for each element
 --     candidates_of                                the elements for which a condition of the code holds

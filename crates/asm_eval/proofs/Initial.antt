@@ -1,6 +1,8 @@
 -- What stands at the locations of a controlled function in the initial state.
 use Rattle.std.proofs.Common.{◌≡◌, ◌≢◌, ℕ, zero, suc, true, false, cond, List, [], ◌∷◌, ◌++◌, map, Option, Some, None, refl, sym, ap, ◌∙◌, arith}
 use Rattle.std.specs.Prelude.{slice_get, slice_index_or, unwrap_or, All, IsTrue}
+use Rattle.std.specs.Bool.{Decides}
+use Rattle.std.specs.Cmp.Lexicographic.{pointwise_decides}
 use Rattle.std.specs.List.{filter, filter_map}
 use Rattle.asm_state.specs.declared.function.Function as state
 use Rattle.asm_state.specs.declared.function.Kind.TheVariants as held
@@ -8,8 +10,9 @@ use Rattle.asm_state.specs.declared.value.Value.{Value}
 use Rattle.asm_state.specs.declared.value.Value.TheVariants.{Undef}
 use Rattle.asm_state.specs.Location.{Proper}
 use Rattle.asm_state.specs.Signature.{domain_by, domain_of, initial_value}
+use Rattle.asm_state.specs.Operation.{is_same}
 use Rattle.asm_state.specs.Tables.{Domain, is_in, is_list, entry_of, table_value, value_in}
-use Rattle.asm_state.proofs.TableValues.{list_test, other_list}
+use Rattle.asm_state.proofs.ValueLaws.{value_laws}
 use Rattle.asm_syntax.specs.declared.spec.FunctionKind.TheVariants as kind
 use Rattle.asm_syntax.specs.Placed.{Name, Const, Entry, Given, Each, Entries, Item, Uses, Init, Enum, Universe, Function, Derived, Declared, Spec}
 use Rattle.asm_check.specs.Shapes.{const_value, entry_by, function_given, shape_of, table_by, texts_of}
@@ -33,6 +36,17 @@ given_at spec (Derived y ys t ∷ items) f item e = given_at spec items f item e
 given_at spec (Declared y ys P ∷ items) f item e = given_at spec items f item e
 
 -- ---- tables
+
+-- the test of argument lists tells them apart
+list_test : (us vs : List Value) → Decides (is_list us vs) (us ≡ vs)
+list_test us vs = pointwise_decides {E = is_same} (λ v w. value_laws.same v w) us vs
+
+other_list : (us vs : List Value) → us ≢ vs → is_list us vs ≡ false
+other_list us vs apart =
+    elim (is_list us vs) as (λ b. is_list us vs ≡ b → b ≡ false) [
+      | true ↦ λ e. absurd (apart ((list_test us vs).0 e))
+      | false ↦ λ e. refl
+    ] refl
 
 module _ (spec : Spec) where
   abbrev entry_values : Entry → List Value × Value

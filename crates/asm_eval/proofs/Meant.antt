@@ -9,7 +9,7 @@ use Rattle.asm_state.specs.declared.function.Kind.TheVariants as kind
 use Rattle.asm_state.specs.Signature.{Shape}
 use Rattle.asm_syntax.specs.Placed.{Spec}
 use Rattle.asm_syntax.specs.Tree.{Name}
-use Rattle.asm_check.proofs.Declared.{same_text}
+use Rattle.asm_check.proofs.Declared.{texts_are_told}
 use Rattle.asm_check.proofs.SignatureNumbers.{signature_numbers}
 use Rattle.asm_check.specs.Faults.{IsWellFormed}
 use Rattle.asm_check.specs.NumberTables.{IsInRange}
@@ -41,7 +41,7 @@ found spec x (d ∷ ds) h = by (found spec x ds) (is_text d.name.text x) refl
 
     by : ((find (λ d. is_text d.name.text x) ds ≡ None → meant spec x ≡ None) → look_up (filter_map (paired spec) ds) x ≡ meant spec x)
         → (b : Bool) → is_text d.name.text x ≡ b → look_up (filter_map (paired spec) (d ∷ ds)) x ≡ meant spec x
-    by rest true e = here (meant spec d.name.text) (ap (meant spec) (same_text d.name.text x e)) e (λ is. rest (λ none. sym is))
+    by rest true e = here (meant spec d.name.text) (ap (meant spec) ((texts_are_told d.name.text x).0 e)) e (λ is. rest (λ none. sym is))
     by rest false e = behind (meant spec d.name.text) e (rest (λ none. h (ap (λ b. cond b (Some d) (find (λ d. is_text d.name.text x) ds)) e ∙ none)))
 
 undeclared : (spec : Spec) (x : Name) → find (λ d. is_text d.name.text x) (declarations spec) ≡ None → meant spec x ≡ None

@@ -1,10 +1,12 @@
 -- What an evaluation of the code stands for.
---     setting at                         its setting;  shape_at, state_at     the shape of its state, and the state
---     outcome_at at e p R                what R yields in its state, under an environment of the code and at the place p
---     outcome_upon                       the same in the state in which a set has been fired
---     parts_at, in_order_at              what rules of the code yield, beside each other and one after the other
---     meant R                            the rule that a rule of the code stands for;  meant_term, meant_terms, meant_branch     the same of its parts
---     Fits at made                       the set that is being formed has the locations of the state
+--     setting at                 its setting
+--     shape_at, state_at         the shape of its state, and the state
+--     outcome_at at e p R        what R yields in its state, under an environment of the code, at p
+--     outcome_upon               the same in the state in which a set has been fired
+--     parts_at, in_order_at      what rules of the code yield, beside and after each other
+--     meant R                    the rule that a rule of the code stands for
+--     meant_term, meant_terms, meant_branch      the same of its parts
+--     Fits at made               the set that is being formed has the locations of the state
 use Rattle.std.specs.Prelude.{◌≡◌, List, map, Option}
 use Rattle.std.proofs.Common.{Box, Global}
 use Rattle.asm_state.specs.Location.{State}

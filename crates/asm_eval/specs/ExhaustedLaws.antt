@@ -1,7 +1,8 @@
--- Where parts beside each other are exhausted: at the place of one of them, and no place of theirs is less.
+-- Where parts beside each other are exhausted: at the place of one of them, and none is less.
 --     IsUpTo p q         p isn't greater than q
 --     IsFrom q r         where r is exhausted, its place isn't less than q
---     ExhaustedLaws      of any results;  and of parts and elements in order, whose places begin with their numbers
+--     ExhaustedLaws      of any results, and of parts and elements, whose places begin with their
+--                        numbers
 use Rattle.std.specs.Prelude.{◌≡◌, ℕ, suc, Bool, false, List, All}
 use Rattle.std.specs.List.{Any}
 use Rattle.std.specs.Cmp.Lexicographic.{slice_cmp}

@@ -5,7 +5,9 @@
 --     IsFormed    an outcome of the code is one of the definitions
 --     IsStoppedAt what is said of an outcome whose forming stopped at a place
 --     GoesOn      a part of a sequence gives a set, which is joined to those of the parts before it
---     Follows     what a call promises that forms an outcome, whether it ends, is exhausted or wants memory;  FollowsUpon     the same of a part of a sequence
+--     Follows     what a call promises that forms an outcome, whether it ends, is exhausted or wants
+--                 memory
+--     FollowsUpon the same of a part of a sequence
 use Rattle.std.specs.Prelude.{◌≡◌, ℕ, ◌+◌, min, Result, OnOk, IfErr}
 use Rattle.asm_state.specs.Signature.{Shape, count_of}
 use Rattle.asm_state.specs.Updates.{UpdateSet, IsConsistent, together, merge}
@@ -65,7 +67,8 @@ pub record Follows {T : Type 0} (shape : Shape) (o : does.Outcome) (old new : Fo
   pub formed : OnOk result (Forms shape o old.set new.set old.instances new.instances)
   pub exhausted : IfErr result (IsStoppedAt o new.place.items)
 
--- what a call promises that forms a part of a sequence, whose outcome depends on the set of the parts before it
+-- what a call promises that forms a part of a sequence, whose outcome depends on the set of the
+-- parts before it
 pub record FollowsUpon {T : Type 0} (shape : Shape) (o : UpdateSet → does.Outcome) (so_far joined : Entries) (old new : Forming) (result : Result T Stopped) : Type 0 where
   pub count : new.set.count ≡ old.set.count
   pub so_far_count : OnOk result (joined.count ≡ so_far.count)

@@ -1,4 +1,4 @@
--- What stands at the locations of a controlled function in the initial state, by what is behind its `initially`.
+-- What stands at the locations of a controlled function in the initial state, by its table.
 --     function_items spec      the controlled and static functions of the text, in its order
 --     values_of spec e         the values of an entry's arguments
 use Rattle.std.specs.Prelude.{◌≡◌, ◌≢◌, ℕ, Bool, true, false, List, ◌∷◌, ◌++◌, map, filter, slice_get, Option, Some, None, All, IsTrue}

@@ -1,5 +1,6 @@
 -- What terms of the code are worth in a scene: a specification, and a state of it.
---     scene_value s e t        the value of a term of the code;  scene_named s e x ts     of a name with arguments
+--     scene_value s e t         the value of a term of the code
+--     scene_named s e x ts      the value of a name with arguments
 use Rattle.std.specs.Prelude.{List}
 use Rattle.asm_state.specs.declared.value.Value.{Value}
 use Rattle.asm_syntax.specs.Tree.{Name}

@@ -1,5 +1,6 @@
 -- What a meaning depends on besides the state, the environment, the place and the rule.
---     Setting                     the program, the limit of turns, and the choices of a step: a script, and the step's number
+--     Setting                     the program, the limit of turns, and the choices of a step:
+--                                 a script, and the step's number
 --     outcome setting A e p R     what R yields in the state A, under e and at the place p
 use Rattle.std.specs.Prelude.{ℕ}
 use Rattle.asm_state.specs.Location.{State}

@@ -10,7 +10,7 @@ ghost use Rattle.asm_eval.specs.Value as spec;
 use crate::env::Env;
 use crate::evaluation::Evaluation;
 use crate::held::{is_true, universe_of};
-use crate::value::value;
+use crate::terms::value;
 use asm_reader::Picks;
 use asm_state::universe::Universe;
 use asm_state::value::Value;

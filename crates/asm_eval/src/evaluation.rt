@@ -15,7 +15,7 @@ pub struct Choices<'a, P: Picks> {
     pub step: u64,
 }
 
-/// What terms are valued against: a specification, and the state that a view shows.
+/// What terms are valued against: a specification, and a state of it, which a view shows.
 #[derive(Clone, Copy)]
 pub struct Scene<'a, 'v> {
     pub checked: &'a Checked,
@@ -23,7 +23,7 @@ pub struct Scene<'a, 'v> {
     pub ghost shaped: { view.now.signature.now ≡ shape_of (spec_of checked.now.spec) },
 }
 
-/// What rules are evaluated against: a specification, the state that a view shows, the choices of a step, and the limit of turns.
+/// What rules are evaluated against: a scene, the choices of a step, and the limit of turns.
 #[derive(Drop)]
 pub struct Evaluation<'a, 'v, P: Picks> {
     pub scene: Scene<'a, 'v>,

@@ -17,7 +17,7 @@ use crate::held::{is_true, universe_of};
 use crate::outcome::Forming;
 use crate::stopped::Stopped;
 use crate::target::{location_number, target};
-use crate::value::value;
+use crate::terms::value;
 use crate::view::View;
 use asm_check::Named;
 use asm_reader::Picks;

@@ -41,13 +41,14 @@ pub fn program_declares()
     ensures { ProgramDeclares }
 {}
 
-/// A function without `initially` begins with nothing, one with a constant with that constant everywhere, and one with entries with
-/// their values.
+/// A function without `initially` begins with nothing, one with a constant with that constant
+/// everywhere, and one with entries with their values.
 pub fn initial_laws()
     ensures { InitialLaws }
 {}
 
-/// Parts beside each other are exhausted where one of them is, at the least of their places, which is that of the first of them.
+/// Parts beside each other are exhausted where one of them is, at the least of their places, which
+/// is that of the first of them.
 pub fn exhausted_laws()
     ensures { ExhaustedLaws }
 {}
@@ -82,8 +83,8 @@ pub fn free_runs()
     ensures { FreeRuns }
 {}
 
-/// A specification without faults has all that the law of choice asks of a program and of its rules, and all that the value of a term
-/// by cases asks of its derived functions.
+/// A specification without faults has all that the law of choice asks of a program and of its
+/// rules, and all that the value of a term by cases asks of its derived functions.
 pub fn specifications_are_ranked()
     ensures { SpecificationsAreRanked }
 {}

@@ -13,6 +13,7 @@ pub mod outcome;
 pub mod place;
 pub mod stopped;
 mod target;
+mod terms;
 pub mod value;
 pub mod view;
 pub mod whole;

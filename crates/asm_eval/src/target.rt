@@ -12,7 +12,7 @@ ghost use Rattle.asm_eval.specs.Yields.{assigned};
 
 use crate::env::Env;
 use crate::evaluation::Scene;
-use crate::value::{FEW, value};
+use crate::terms::{FEW, value};
 use asm_check::Named;
 use asm_state::function::Kind;
 use asm_state::value::Value;

@@ -1,5 +1,6 @@
 pub mod Appending
 mod Exclusion
+mod FirstTokens
 pub mod MainRule
 pub mod FormedSet
 pub mod Places
@@ -9,8 +10,8 @@ pub mod Ranges
 mod Reached
 pub mod Running
 pub mod ProperLocations
+mod RunOrRefusal
 pub mod SortedLines
-pub mod SoundShapes
 pub mod Stepping
 mod Traces
 pub mod Whole

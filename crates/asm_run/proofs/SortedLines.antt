@@ -5,7 +5,7 @@ use Rattle.std.specs.Map.{keys_of}
 use Rattle.std.proofs.lemmas.Bool.{cases_eq}
 use Rattle.std.proofs.lemmas.Bool.Decides.{nat_tests}
 use Rattle.std.proofs.lemmas.List.Elements.{All-head, All-tail}
-use Rattle.asm_state.proofs.Rising.{AllPairs-head, AllPairs-tail}
+use Rattle.asm_state.proofs.Lists.{AllPairs-head, AllPairs-tail}
 use Rattle.asm_state.specs.declared.value.Value.{Value}
 use Rattle.asm_state.specs.Updates.{Range}
 use Rattle.asm_updates.specs.Entries.{NamedRanges, found, range}

@@ -14,6 +14,7 @@ use Rattle.asm_check.specs.Faults.{IsWellFormed}
 use Rattle.asm_check.specs.Numbers.{functions_of}
 use Rattle.asm_check.specs.Shapes.{shape_of}
 use Rattle.asm_check.proofs.SignatureNumbers.{signature_numbers}
+use Rattle.asm_check.proofs.SoundShapes.{shape_is_sound}
 use Rattle.asm_updates.specs.Entries.{Entries, range, AreEntries}
 use Rattle.asm_updates.specs.Stands.{Stands}
 use Rattle.asm_updates.specs.Faults.{fault_of}
@@ -24,7 +25,6 @@ use Rattle.asm_run.specs.Trace.{line_end, set_text, state_text, step_text}
 use Rattle.asm_run.specs.Written.{names_in, locations_in, step_line, entries_text, contents_text}
 use Rattle.asm_run.specs.Step.{IsFaultBelow}
 use Rattle.asm_run.proofs.ProperLocations.{function_inside, clash_inside, entries_are_set, contents_are_state}
-use Rattle.asm_run.proofs.SoundShapes.{shape_is_sound}
 
 -- a set that is formed from nothing
 pub stands_alone : (shape : Shape) (summary : Entries) (U : UpdateSet) → Stands shape summary (together none U) → Stands shape summary U

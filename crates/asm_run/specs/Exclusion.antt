@@ -2,12 +2,14 @@
 --     IsNamed e                 the refusal is of the text, of the script or of the limits
 --     OneNamedRefusal           a text has one of these with its script and limits, at most
 --     NoRunBesideARefusal       a text, a script and limits that have a run have none of these
-use Rattle.std.specs.Prelude.{◌≡◌, ℕ, true, List, Option}
+--     RunOrRefusal              each text, script and limits have a run, with its trace, or one of these
+use Rattle.std.specs.Prelude.{◌≡◌, ◌⊎◌, ℕ, true, List, [], Option, Some}
 use Rattle.asm_syntax.specs.Placed.{Spec}
 use Rattle.asm_reader.specs.ScriptLines.{Script}
 use Rattle.asm_reader.specs.ScriptText.{IsScript}
 use Rattle.asm_run.specs.Limits.{are_in_range}
-use Rattle.asm_run.specs.Headline.{IsAccepted, Explains}
+use Rattle.asm_run.specs.Headline.{IsAccepted, IsDone, Explains}
+use Rattle.asm_run.specs.declared.end.End.{End}
 use Rattle.asm_run.specs.declared.error.RunError.{RunError}
 use Rattle.asm_run.specs.declared.error.RunError.TheVariants as error
 
@@ -29,3 +31,9 @@ NoRunBesideARefusal =
     (text script_text : List ℕ) (steps turns workers cut rounds : ℕ) (old new : Option (List ℕ)) (s : Spec) (script : Script) (e : RunError) → IsAccepted text s
     → IsScript script_text script
     → are_in_range steps turns workers cut rounds ≡ true → IsNamed e → ¬ Explains text script_text steps turns workers cut rounds old new e
+
+abbrev pub RunOrRefusal : Type 0
+RunOrRefusal =
+    (text script_text : List ℕ) (steps turns workers cut rounds : ℕ)
+    → ((answer : End) × (trace : List ℕ) × IsDone text script_text steps turns workers cut rounds (Some []) (Some trace) answer)
+    ⊎ ((e : RunError) × IsNamed e × Explains text script_text steps turns workers cut rounds (Some []) (Some []) e)

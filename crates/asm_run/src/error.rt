@@ -7,7 +7,7 @@ use crate::sink::SinkFault;
 pub use asm_check::{CheckError, FaultKind};
 pub use asm_reader::{ReadError, ScriptError};
 use asm_syntax::Refused;
-use std::alloc::{AllocError, AllocFailed};
+use std::alloc::AllocError;
 use thiserror::Error;
 
 /// A refusal. The first that applies is answered, in the order `Read`, `Check`, `Script`, `Limits`, and then `Memory` and `Write`;
@@ -38,14 +38,6 @@ impl From<AllocError> for RunError {
     ghost from_gives = { λ _ e. e ≡ Memory };
 
     fn from(_e: AllocError) -> RunError {
-        RunError::Memory
-    }
-}
-
-impl<T: Drop> From<AllocFailed<T>> for RunError {
-    ghost from_gives = { λ _ e. e ≡ Memory };
-
-    fn from(_e: AllocFailed<T>) -> RunError {
         RunError::Memory
     }
 }

@@ -1,11 +1,12 @@
 //! Laws of traces and of refusals.
 ghost use Rattle.asm_run.specs.Traces.{OneTrace, SomeTrace};
 ghost use Rattle.asm_run.specs.Ends.{AnswersTell};
-ghost use Rattle.asm_run.specs.Exclusion.{OneNamedRefusal, NoRunBesideARefusal};
+ghost use Rattle.asm_run.specs.Exclusion.{OneNamedRefusal, NoRunBesideARefusal, RunOrRefusal};
 
-use asm_check::laws::least_is_only;
+use asm_check::laws::{least_exists, least_is_only};
 use asm_reader::{
-    no_script_beside_a_refusal, no_tree_beside_a_refusal, one_refusal, one_script_refusal, one_tree,
+    no_script_beside_a_refusal, no_tree_beside_a_refusal, one_refusal, one_script_refusal,
+    one_tree, script_or_a_refusal, tree_or_a_refusal,
 };
 
 /// A run has one trace at most.
@@ -37,6 +38,15 @@ pub fn no_run_beside_a_refusal()
     one_tree();
     no_tree_beside_a_refusal();
     no_script_beside_a_refusal();
+}
+
+/// Each text, script and limits have a run, with its trace, or such a refusal.
+pub fn run_or_refusal()
+    ensures { RunOrRefusal }
+{
+    tree_or_a_refusal();
+    least_exists();
+    script_or_a_refusal();
 }
 
 /// The answer of a run says whether it makes all its steps, ends before, or is one of a text that is refused.

@@ -1,7 +1,10 @@
 //! The run of a specification, from the bytes of its text to the bytes of its trace.
-ghost use Rattle.std.specs.Prelude.{◌≡◌, ◌↔◌, false, IsTrue, IfOk, IfErr, Err};
+ghost use Rattle.std.specs.Prelude.{◌≡◌, ◌↔◌, ◌<◌, false, length, IsTrue, IfOk, IfErr, Err};
+ghost use Rattle.asm_syntax.specs.declared.error.LexError.TheVariants.{TooLong};
+ghost use Rattle.asm_syntax.specs.Lexing.{HasFirstToken};
+ghost use Rattle.asm_reader.specs.declared.error.ReadError.TheVariants.{Lex};
 ghost use Rattle.asm_run.specs.Headline.{IsDone, Explains};
-ghost use Rattle.asm_run.specs.declared.error.RunError.TheVariants.{Write};
+ghost use Rattle.asm_run.specs.declared.error.RunError.TheVariants.{Read, Memory, Write};
 
 use crate::end::End;
 use crate::error::RunError;
@@ -31,6 +34,10 @@ pub fn run<R: Threads, S: Sink>(
     // What a refusal says of the text, of the script, of the limits, and of what was written. Those of texts and limits exclude one another,
     // and a run (`laws`).
     ensures refused { IfErr result (Explains spec.now script.now limits.now.steps limits.now.turns limits.now.workers limits.now.cut limits.now.rounds (S.bytes out.old) (S.bytes out.new)) }
+    // A text that is too long is refused as that, whatever memory there is.
+    ensures too_long { 1_048_576 < length spec.now → result ≡ Err (Read (Lex TooLong)) }
+    // Memory is asked for where the text has a first token, and nowhere before.
+    ensures memory { IfErr result (λ e. e ≡ Memory → HasFirstToken spec.now) }
     // The sink failed just where that is the answer.
     ensures failed { IsTrue (S.has_failed out.new) ↔ (result ≡ Err Write) }
 {

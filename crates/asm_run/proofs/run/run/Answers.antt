@@ -4,6 +4,7 @@ use Rattle.asm_syntax.specs.Placed.{Spec}
 use Rattle.asm_syntax.specs.Views.{spec_of}
 use Rattle.asm_run.specs.Headline.{IsAccepted}
 use Rattle.asm_run.specs.Limits.{are_in_range}
+use Rattle.asm_run.proofs.FirstTokens.{first_token, memory_read, memory_later}
 use Rattle.asm_run.proofs.MainRule.{main_is}
 use Rattle.asm_run.proofs.Whole.{refused_text, refused_tree, refused_script, whole}
 use Rattle.asm_run.proofs.run.run.Goals as goal
@@ -71,3 +72,21 @@ returns-clause-failed g c =
     let in_range : are_in_range limits.steps limits.turns limits.workers limits.cut limits.rounds ≡ true = rw (← c.are_in_range.ensures) c.if-not-are_in_range.false in
     (whole c.args.spec.now c.args.script.now limits.steps limits.turns limits.workers limits.cut limits.rounds (g.S.Sink.bytes c.args.out.now) (g.S.Sink.bytes c.run_steps.new.out) (g.S.Sink.has_failed c.run_steps.new.out) tree accepted
     c.in_ok-script.script c.in_ok-script.ensures.found in_range c.run_steps.result c.run_steps.ensures).fails_just_so
+
+pub returns-in_err-tree-clause-memory : goal.returns-in_err-tree-clause-memory
+returns-in_err-tree-clause-memory g c =
+    let p = err_from_is_err_and c.from_residual.result c.from_residual.ensures.1 in
+    rw (p.1, p.2) (memory_read c.args.spec.now c.in_err-tree.field-0.0 c.in_err-tree.ensures.memory)
+
+pub returns-in_err-checked-clause-memory : goal.returns-in_err-checked-clause-memory
+returns-in_err-checked-clause-memory g c =
+    let p = err_from_is_err_and c.from_residual-in_err-checked.result c.from_residual-in_err-checked.ensures.1 in
+    rw (p.1, p.2) (λ e. first_token c.args.spec.now (spec_of c.in_ok-tree.tree) c.in_ok-tree.ensures.found)
+
+pub returns-in_err-script-clause-memory : goal.returns-in_err-script-clause-memory
+returns-in_err-script-clause-memory g c =
+    let p = err_from_is_err_and c.from_residual-in_err-script.result c.from_residual-in_err-script.ensures.1 in
+    rw (p.1, p.2) (λ e. first_token c.args.spec.now (spec_of c.in_ok-tree.tree) c.in_ok-tree.ensures.found)
+
+pub returns-clause-memory : goal.returns-clause-memory
+returns-clause-memory g c = memory_later c.args.spec.now (spec_of c.in_ok-tree.tree) c.in_ok-tree.ensures.found c.run_steps.result

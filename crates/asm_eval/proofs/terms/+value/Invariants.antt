@@ -12,7 +12,7 @@ use Rattle.asm_eval.specs.Value.{is_true, value}
 use Rattle.asm_eval.specs.Valued.{program, shown, term_value}
 use Rattle.asm_eval.specs.Weights.{weight}
 use Rattle.asm_eval.proofs.Measures.{term_weight, named_weight, body_weight, link_of}
-use Rattle.asm_eval.proofs.value.+value.Given as goal
+use Rattle.asm_eval.proofs.terms.+value.Given as goal
 
 abbrev pub decreases-value : goal.decreases-value
 decreases-value l = 4 * term_weight (program l.scene.now.checked.now) (environment l.env.now) l.term.now + 3

@@ -1,7 +1,7 @@
 use Rattle.std.proofs.Common.{[], Some, refl, sym, arith, ap, ◌∙◌, map, take, ◌≡◌, length, subst, IfOk}
 use Rattle.std.proofs.lemmas.Grind.{common_steps}
 use Rattle.std.proofs.lemmas.List.{length-set, take_all}
-use Rattle.asm_state.proofs.UniverseValues.{element_in_range}
+use Rattle.asm_state.proofs.ValueLaws.{value_laws}
 use Rattle.asm_syntax.specs.Unplaced as plain
 use Rattle.asm_syntax.specs.Views.{term_of, terms_of, spec_of}
 use Rattle.asm_check.specs.declared.checked.Named.TheVariants as number
@@ -17,7 +17,7 @@ use Rattle.asm_eval.proofs.Measures.{body_weight}
 use Rattle.asm_eval.proofs.NumberedValues.{element_below, function_below, numbered_derived, universe_undef, called_undef}
 use Rattle.asm_eval.proofs.OneOperand.{not_falls, negative_falls, constant_value, not_value, negative_value}
 use Rattle.asm_eval.proofs.Quantified.{passes, exists_of_none, every_of_none, exists_at, fails_at, exists_past, every_past, none_more, all_more}
-use Rattle.asm_eval.proofs.value.+value.Goals as goal
+use Rattle.asm_eval.proofs.terms.+value.Goals as goal
 
 pub every-returns-in_default : goal.every-returns-in_default
 every-returns-in_default t c =
@@ -231,7 +231,7 @@ pub value_of-returns-in-Some-Element : goal.value_of-returns-in-Some-Element
 value_of-returns-in-Some-Element t c =
     let a = c.args in
     let field : c.in-Some-Element.field-0 ≡ number.Element c.in-Some-Element.e = rw c.in-Some-Element.is at c.in-Some-Element.field-0-is in
-    element_in_range c.in-Some-Element.e _ refl
+    value_laws.element_at c.in-Some-Element.e _ refl
     ∙ ap (λ it. declared_value (program a.scene.now.checked.now) (shown a.scene.now.view.now) (numbered (spec_of a.scene.now.checked.now.spec) it) a.values.now) (sym (c.in-Some-Element.is ∙ ap Some field))
 
 pub value_of-returns-in-Some-Universe : goal.value_of-returns-in-Some-Universe
