@@ -1,5 +1,5 @@
 -- Examples of the values of terms, of what rules yield and of runs, each worked out by hand.
-use Rattle.std.proofs.Common.{◌≡◌, ◌≢◌, ℕ, true, false, cond, not, ◌||◌, List, [], ◌∷◌, ℤ, pos, Some, None, codes, refl, sym, ap, subst, ◌∙◌}
+use Rattle.std.proofs.Common.{◌≡◌, ℕ, true, false, cond, not, ◌||◌, List, [], ◌∷◌, ℤ, pos, Some, None, codes, refl, sym, ap, subst, ◌∙◌}
 use Rattle.std.specs.Prelude.{nat_eq}
 use Rattle.asm_state.specs.declared.value.Value.{Value}
 use Rattle.asm_state.specs.declared.value.Value.TheVariants.{Undef, Truth}
@@ -11,11 +11,11 @@ use Rattle.asm_state.specs.Updates.{UpdateSet, Has, IsConsistent, is_consistent,
 use Rattle.asm_state.proofs.Members.{member_laws}
 use Rattle.asm_state.proofs.Summaries.{fire_laws}
 use Rattle.asm_state.proofs.Updates.{test_laws}
-use Rattle.asm_syntax.specs.Tree.{Name, Term, Constant, Named, Chain, Exists, Every, Terms, no_terms, term_then, Links, no_links, link_then, Rule, Skip, Assign, Call, Par, Seq, If, Let, Forall, Choose, Iterate, Rules, no_rules, rule_then}
+use Rattle.asm_syntax.specs.Tree.{Name, Term, Constant, Named, Chain, Exists, Every, Terms, no_terms, term_then, no_links, link_then, Rule, Skip, Assign, Call, Par, Seq, If, Let, Forall, Choose, Iterate, Rules, no_rules, rule_then}
 use Rattle.asm_reader.specs.ScriptLines.{Script}
 use Rattle.asm_eval.specs.Program.{Program, Universe, Controlled, Static, Derived, Procedure, nothing_bound, with_value}
 use Rattle.asm_eval.specs.Value.{value, values, reading, reading_within, readings_of}
-use Rattle.asm_eval.specs.Yields.{Place, Result, Gives, Exhausted, beside}
+use Rattle.asm_eval.specs.Yields.{Place, Gives, Exhausted, beside}
 use Rattle.asm_eval.specs.Does.{Outcome, nothing, following, meaning, does_within, does}
 use Rattle.asm_eval.specs.Run.{AtLimit, run}
 

@@ -2,7 +2,7 @@
 use Rattle.std.proofs.Common.{◌≡◌, ℕ, zero, suc, ◌<◌, List, [], ◌∷◌, length, slice_index_or, All, refl, sym, ap, subst, ◌∙◌, arith, ◌⊎◌, inl, inr}
 use Rattle.std.specs.List.{Any}
 use Rattle.asm_eval.specs.Yields.{Place, first_place, Result, Gives, Exhausted, beside, all_beside}
-use Rattle.asm_eval.specs.ExhaustedLaws.{IsUpTo, IsFrom, ExhaustedLaws}
+use Rattle.asm_eval.specs.ExhaustedLaws.{IsFrom, ExhaustedLaws}
 use Rattle.asm_eval.proofs.Beside.{first_is, up_to_itself, chain}
 use Rattle.asm_eval.proofs.ExhaustedPlaces.{first_part_first, first_element_first}
 

@@ -1,11 +1,9 @@
 -- What stands at the locations of a controlled function in the initial state.
 use Rattle.std.proofs.Common.{◌≡◌, ◌≢◌, ℕ, zero, suc, true, false, cond, List, [], ◌∷◌, ◌++◌, map, Option, Some, None, refl, sym, ap, ◌∙◌, arith}
-use Rattle.std.specs.Prelude.{slice_get, slice_index_or, unwrap_or, All, IsTrue}
+use Rattle.std.specs.Prelude.{slice_get, unwrap_or, All, IsTrue}
 use Rattle.std.specs.Bool.{Decides}
 use Rattle.std.specs.Cmp.Lexicographic.{pointwise_decides}
 use Rattle.std.specs.List.{filter, filter_map}
-use Rattle.asm_state.specs.declared.function.Function as state
-use Rattle.asm_state.specs.declared.function.Kind.TheVariants as held
 use Rattle.asm_state.specs.declared.value.Value.{Value}
 use Rattle.asm_state.specs.declared.value.Value.TheVariants.{Undef}
 use Rattle.asm_state.specs.Location.{Proper}
@@ -14,11 +12,11 @@ use Rattle.asm_state.specs.Operation.{is_same}
 use Rattle.asm_state.specs.Tables.{Domain, is_in, is_list, entry_of, table_value, value_in}
 use Rattle.asm_state.proofs.ValueLaws.{value_laws}
 use Rattle.asm_syntax.specs.declared.spec.FunctionKind.TheVariants as kind
-use Rattle.asm_syntax.specs.Placed.{Name, Const, Entry, Given, Each, Entries, Item, Uses, Init, Enum, Universe, Function, Derived, Declared, Spec}
+use Rattle.asm_syntax.specs.Placed.{Name, Entry, Given, Each, Entries, Item, Uses, Init, Enum, Universe, Function, Derived, Declared, Spec}
 use Rattle.asm_check.specs.Shapes.{const_value, entry_by, function_given, shape_of, table_by, texts_of}
 use Rattle.asm_check.specs.Numbers.{elements_of}
 use Rattle.asm_eval.specs.Declarations.{specification_of}
-use Rattle.asm_eval.specs.InitialLaws.{is_function, function_items, values_of, InitialContents, InitialLaws}
+use Rattle.asm_eval.specs.InitialLaws.{is_function, function_items, values_of, InitialLaws}
 
 -- a function of the text has its number among the functions of the signature
 given_at : (spec : Spec) (items : List Item) (f : ℕ) (item : Item) → slice_get (filter is_function items) f ≡ Some item

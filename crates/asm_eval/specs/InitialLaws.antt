@@ -4,7 +4,7 @@
 use Rattle.std.specs.Prelude.{◌≡◌, ◌≢◌, ℕ, Bool, true, false, List, ◌∷◌, ◌++◌, map, filter, slice_get, Option, Some, None, All, IsTrue}
 use Rattle.asm_state.specs.declared.value.Value.{Value}
 use Rattle.asm_state.specs.declared.value.Value.TheVariants.{Undef}
-use Rattle.asm_state.specs.Location.{State, Proper}
+use Rattle.asm_state.specs.Location.{Proper}
 use Rattle.asm_state.specs.Signature.{domain_of}
 use Rattle.asm_state.specs.Tables.{is_in}
 use Rattle.asm_syntax.specs.declared.spec.FunctionKind.TheVariants as kind
