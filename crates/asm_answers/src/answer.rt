@@ -10,7 +10,7 @@ use std::alloc::{AllocError, Global};
 
 type Answer = Result<String, AllocError>;
 
-/// The answer that is expected, with the place of the mark for the word `mark`.
+/// The answer that is expected, with the offset of the mark for the word `mark`.
 pub fn wanted(alloc: Global, answer: &str, mark: Option<usize>) -> Answer {
     match (answer.strip_suffix("mark"), mark) {
         (Some(front), Some(at)) => format!(in alloc; "{front}{at}"),

@@ -33,7 +33,7 @@ impl<'a> Expected<'a> {
         Some((before, Expected::Refusal(refusal)))
     }
 
-    /// What is expected, with the place of the mark; none if a repetition doesn't fit.
+    /// What is expected, with the offset of the mark; none if a repetition doesn't fit.
     fn wanted(self, alloc: Global, mark: Option<usize>) -> Result<Option<String>, AllocError> {
         match self {
             Expected::Trace(trace) => {

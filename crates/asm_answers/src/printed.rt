@@ -1,4 +1,4 @@
-//! Trees as lines of text, where each name has its place, as in `x@12`.
+//! Trees as lines of text, where each name has its offset, as in `x@12`.
 use asm_state::operation::Op;
 use asm_syntax::name::Name;
 use asm_syntax::rule::Rule;
@@ -237,7 +237,7 @@ fn push_const(out: &mut String, constant: &Const) -> Pushed {
     }
 }
 
-/// An entry, with its place in front.
+/// An entry, with its offset in front.
 fn push_entry(out: &mut String, entry: &Entry) -> Pushed {
     let at = entry.at;
     write!(out, " @{at}(")?;

@@ -1,5 +1,5 @@
 //! Answers to scripts, as tables write them: a refusal as `script 1 line 2`, or questions that an accepted script is asked, each
-//! with the number that it answers, as `asked 1 - 5, 2 0.3 1`: a step, a place in it and the number there.
+//! with the number that it answers, as `asked 1 - 5, 2 0.3 1`: a step, a path in it and the number there.
 use crate::refusal;
 use asm_reader::{Picks, Script, read_script};
 use asm_syntax::Refused;
@@ -20,7 +20,7 @@ pub fn found(alloc: Global, wanted: &str, text: &[u8]) -> Answer {
     }
 }
 
-/// The questions, each with the answer of the script in place of the one that is wanted.
+/// The questions, each with the answer of the script instead of the one that is wanted.
 fn answered(alloc: Global, script: &Script, questions: &str) -> Answer {
     let mut answers = String::from_str(alloc, "asked")?;
     let mut is_first = true;
@@ -36,27 +36,27 @@ fn answered(alloc: Global, script: &Script, questions: &str) -> Answer {
     Ok(answers)
 }
 
-/// The number that the script answers at a step and a place, as `2 0.3`.
+/// The number that the script answers at a step and a path, as `2 0.3`.
 fn picked(alloc: Global, script: &Script, spot: &str) -> Result<Option<u64>, AllocError> {
-    let Some((step, place)) = spot.split_once(' ') else {
+    let Some((step, path)) = spot.split_once(' ') else {
         return Ok(None);
     };
     let Ok(step) = step.parse::<u64>() else {
         return Ok(None);
     };
-    let Some(place) = numbers(alloc, place)? else {
+    let Some(path) = numbers(alloc, path)? else {
         return Ok(None);
     };
-    Ok(Some(script.pick(step, place.as_slice())))
+    Ok(Some(script.pick(step, path.as_slice())))
 }
 
-/// The numbers of a place, as `0.3`; `-` has none.
-fn numbers(alloc: Global, place: &str) -> Result<Option<Vec<u64>>, AllocError> {
+/// The numbers of a path, as `0.3`; `-` has none.
+fn numbers(alloc: Global, path: &str) -> Result<Option<Vec<u64>>, AllocError> {
     let mut numbers = Vec::new(alloc);
-    if place == "-" {
+    if path == "-" {
         return Ok(Some(numbers));
     }
-    for number in place.split('.') {
+    for number in path.split('.') {
         let Ok(number) = number.parse::<u64>() else {
             return Ok(None);
         };

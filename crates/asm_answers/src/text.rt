@@ -1,12 +1,12 @@
 //! Texts as tables write them.
 //!
-//! `@^` marks a place and is no part of the text. What stands between `@N{` and `@}` comes N times, and in it `@#` is the
+//! `@^` marks an offset and is no part of the text. What stands between `@N{` and `@}` comes N times, and in it `@#` is the
 //! number of the time, from 0. Repetitions nest, and `@#` belongs to the innermost one. `@x0D` is the byte with this number in
 //! base 16, of two digits.
 use std::alloc::{AllocError, Global};
 use std::mem;
 
-/// A text, and the place of its mark, if it has one.
+/// A text, and the offset of its mark, if it has one.
 #[derive(Drop)]
 pub struct Marked {
     pub text: Vec<u8>,

@@ -6,7 +6,7 @@ use Rattle.std.specs.Prelude.{Contains, filter}
 use Rattle.std.proofs.lemmas.Bool.{false≢true, and_parts, and_from, not-true, not_from_false, false_from_ne_true}
 use Rattle.std.proofs.lemmas.Bool.Decides.{nat_tests}
 use Rattle.std.proofs.lemmas.List.Elements.{Contains-append_left, Contains-append_right, Contains-append_cases}
-use Rattle.asm_syntax.specs.Placed.{Spec}
+use Rattle.asm_syntax.specs.SourceTree.{Spec}
 use Rattle.asm_check.specs.Faults.{IsFault, IsLeastFault, IsWellFormed, IsCyclic}
 use Rattle.asm_check.specs.Laws.{LeastExists}
 use Rattle.asm_check.specs.Names.{Text, Meaning, Declaration, first_declarations, declared}
@@ -72,12 +72,12 @@ module _ (spec : Spec) (next : Text → List Text)
       let it = from_map (λ (d : Declaration). (d.name.at, number)) (filter (λ d. leads next names d.name.text d.name.text) (first_declarations spec)) (at, n) c in
       let member = from_filter (λ d. leads next names d.name.text d.name.text) (first_declarations spec) it.0 it.1 in (
         sym (ap (λ f. f.1) it.2),
-        record { member = it.0; stands = member.0; back = leads_sound next names it.0.name.text it.0.name.text member.1; place = ap (λ f. f.0) it.2 },
+        record { member = it.0; stands = member.0; back = leads_sound next names it.0.name.text it.0.name.text member.1; offset = ap (λ f. f.0) it.2 },
       )
 
   pub cyclic_complete : (number at : ℕ) → IsCyclic spec next at → IsListed (cyclic number) at number
   cyclic_complete number at it =
-      subst (λ a. IsListed (cyclic number) a number) it.place
+      subst (λ a. IsListed (cyclic number) a number) it.offset
       (in_map (λ (d : Declaration). (d.name.at, number)) (filter (λ d. leads next names d.name.text d.name.text) (first_declarations spec)) it.member
       (in_filter (λ d. leads next names d.name.text d.name.text) (first_declarations spec) it.member (leads_complete next names all_begin it.back) it.stands))
 
@@ -103,9 +103,9 @@ module _ (spec : Spec) (next : Text → List Text)
       )
 
   pub high_complete : (d : Declaration) (at : ℕ) → Contains (first_declarations spec) d → IsOnWay next 17 d.name.text → ¬ (ReachesCycle next d.name.text) → d.name.at ≡ at → IsListed high_faults at 15
-  high_complete d at stands long none place =
+  high_complete d at stands long none offset =
       let f = d.name.text in
-      subst (λ a. IsListed high_faults a 15) place
+      subst (λ a. IsListed high_faults a 15) offset
       (in_map (λ (d : Declaration). (d.name.at, 15)) (filter (λ d. is_high d.name.text) (first_declarations spec)) d
       (in_filter (λ d. is_high d.name.text) (first_declarations spec) d
       (and_from (nat_le 17 (height next 17 f)) (not (reaches next names all_begin f)) (long_is next 17 f long)
@@ -169,10 +169,10 @@ module _ (spec : Spec) where
   steps_complete : (at n : ℕ) → IsStepFault spec at n → IsListed step_faults at n
   steps_complete at n (steps.cyclic_rule it) = a_cycle at 12 (Contains-append_left rule_cycles derived_cycles (at, 12) (cyclic_complete spec (called spec) (rules_begun spec) 12 at it))
   steps_complete at n (steps.cyclic_derived it) = a_cycle at 13 (Contains-append_right rule_cycles derived_cycles (at, 13) (cyclic_complete spec (used spec) (derived_begun spec) 13 at it))
-  steps_complete at n (steps.too_high d stands (steps.rule_rank long none) place) =
-      a_rank at 15 (Contains-append_left rule_ranks derived_ranks (at, 15) (high_complete spec (called spec) (rules_begun spec) d at stands long none place))
-  steps_complete at n (steps.too_high d stands (steps.derived_rank long none) place) =
-      a_rank at 15 (Contains-append_right rule_ranks derived_ranks (at, 15) (high_complete spec (used spec) (derived_begun spec) d at stands long none place))
+  steps_complete at n (steps.too_high d stands (steps.rule_rank long none) offset) =
+      a_rank at 15 (Contains-append_left rule_ranks derived_ranks (at, 15) (high_complete spec (called spec) (rules_begun spec) d at stands long none offset))
+  steps_complete at n (steps.too_high d stands (steps.derived_rank long none) offset) =
+      a_rank at 15 (Contains-append_right rule_ranks derived_ranks (at, 15) (high_complete spec (used spec) (derived_begun spec) d at stands long none offset))
 
   all_complete : (at n : ℕ) → IsFault spec at n → IsListed all_faults at n
   all_complete at n it =

@@ -1,7 +1,7 @@
 -- The table of names has each name once.
 use Rattle.std.proofs.Common.{◌≡◌, ℕ, suc, zero, ◌<◌, Bool, true, false, cond, ◌||◌, List, [], ◌∷◌, length, map, slice_get, Some, refl, sym, ap, subst, ◌∙◌, arith, true≢false}
 use Rattle.std.specs.Prelude.{find, option_map}
-use Rattle.asm_syntax.specs.Placed.{Spec}
+use Rattle.asm_syntax.specs.SourceTree.{Spec}
 use Rattle.asm_check.specs.Names.{Text, Declaration, is_text, is_among, declarations, first_of_each, first_declarations, declared}
 use Rattle.asm_check.specs.Tables.{Entry, meaning_of, declaration_of, IsTableOf, text_of_entry, text_at}
 use Rattle.asm_check.proofs.Firsts.{first_stands}

@@ -8,7 +8,7 @@ use Rattle.std.proofs.lemmas.List.Elements.{All-contains, Contains-append_left, 
 use Rattle.std.proofs.lemmas.List.Kept.{AllPairs-cons}
 use Rattle.asm_state.proofs.Lists.{All-from_contained, AllPairs-none, AllPairs-head, AllPairs-tail}
 use Rattle.asm_check.specs.Names.{Text, is_text, is_among}
-use Rattle.asm_check.specs.Shapes.{AreApart, texts_in, place_among}
+use Rattle.asm_check.specs.Shapes.{AreApart, texts_in, index_among}
 use Rattle.asm_check.proofs.Heights.{here, in_map}
 use Rattle.asm_check.proofs.Declared.{same_text, text_itself}
 
@@ -24,7 +24,7 @@ text_turned x y =
     other true f e = absurd (false≢true (sym e ∙ subst (λ z. is_text z y ≡ true) (same_text y x f) (text_itself y)))
     other false f e = refl
 
--- a name that stands in no other place of the list isn't among those before it
+-- a name that stands in no other index of the list isn't among those before it
 pub none_before : (texts : List Text) (x : Text) (rest : List Text) → AreApart (texts ++ x ∷ rest) → is_among texts x ≡ false
 none_before [] x rest apart = refl
 none_before (y ∷ texts) x rest apart =
@@ -37,7 +37,7 @@ pub found_in : (x : Text) (keys : List (Bor Text)) → list_any (λ k. is_text x
 found_in x [] = refl
 found_in x (k ∷ keys) = ap (λ b. b || list_any (λ k. is_text x k.now) keys) (text_turned x k.now) ∙ ap (λ b. is_text k.now x || b) (found_in x keys)
 
-stands_at : (x : Text) (keys : List (Bor Text)) → position_or_len (λ k. is_text x k.now) keys ≡ place_among (texts_in keys) x
+stands_at : (x : Text) (keys : List (Bor Text)) → position_or_len (λ k. is_text x k.now) keys ≡ index_among (texts_in keys) x
 stands_at x [] = refl
 stands_at x (k ∷ keys) =
     ap (λ b. cond (not b) (1 + position_or_len (λ k. is_text x k.now) keys) 0) (text_turned x k.now)
@@ -56,14 +56,14 @@ found_or_end p xs =
     ] refl
 
 -- what the code finds is where the name stands
-pub place_found : (x : Text) (keys : List (Bor Text)) → unwrap_or (position (λ k. is_text x k.now) keys) (length keys) ≡ place_among (texts_in keys) x
-place_found x keys = found_or_end (λ k. is_text x k.now) keys ∙ stands_at x keys
+pub index_found : (x : Text) (keys : List (Bor Text)) → unwrap_or (position (λ k. is_text x k.now) keys) (length keys) ≡ index_among (texts_in keys) x
+index_found x keys = found_or_end (λ k. is_text x k.now) keys ∙ stands_at x keys
 
--- the rest of a list from a place on
+-- the rest of a list from an index on
 pub next_of : {X : Type 0} (xs : List X) (i : ℕ) (x : X) → i < length xs → x ≡ get_or xs i x → drop i xs ≡ x ∷ drop (suc i) xs
 next_of xs i x h is = drop-cons xs i x h ∙ ap (λ y. y ∷ drop (suc i) xs) (sym is)
 
--- what the items from a place on have is what the next one has, and the rest
+-- what the items from an index on have is what the next one has, and the rest
 pub with_next : {X Y A : Type 0} (f : Y → List A) (g : X → Y) (before all : List A) (items seen : List X) (i : ℕ) (x : X) → seen ≡ items → i < length seen → x ≡ get_or seen i x
     → before ++ flat_map f (map g (drop i items)) ≡ all → before ++ (f (g x) ++ flat_map f (map g (drop (suc i) items))) ≡ all
 with_next f g before all items seen i x same h is so_far =
@@ -82,7 +82,7 @@ first_apart (x ∷ texts) rest apart =
     (All-from_contained (λ y. is_text x y ≡ false) texts (λ y it. All-contains (λ y. is_text x y ≡ false) (texts ++ rest) y (AllPairs-head (λ x y. is_text x y ≡ false) x (texts ++ rest) apart) (Contains-append_left texts rest y it)))
     (first_apart texts rest (AllPairs-tail (λ x y. is_text x y ≡ false) x (texts ++ rest) apart))
 
--- the item at a place is among the items
+-- the item at an index is among the items
 pub item_among : {X Y : Type 0} (g : X → Y) (items seen : List X) (i : ℕ) (x : X) → seen ≡ items → i < length seen → x ≡ get_or seen i x → Contains (map g items) (g x)
 item_among g items seen i x same h is = in_map g items x (subst (λ xs. Contains xs x) same (i, h, sym is))
 

@@ -5,7 +5,7 @@ use Rattle.std.specs.List.{list_all, list_any}
 use Rattle.std.proofs.Math.Numerals.{add-one}
 use Rattle.std.proofs.lemmas.Grind.{flat_map-append}
 use Rattle.std.proofs.lemmas.List.{map-append, take_more}
-use Rattle.asm_syntax.specs.Placed.{Entry, Item, Name, Spec}
+use Rattle.asm_syntax.specs.SourceTree.{Entry, Item, Name, Spec}
 use Rattle.asm_check.specs.EntryArguments.{fits_in}
 use Rattle.asm_check.specs.FaultLists.{bad_entries, is_bad_entry}
 use Rattle.asm_check.specs.Faults.{fits_domain, is_known_use, same_arguments, table_of}

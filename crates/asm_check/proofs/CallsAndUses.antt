@@ -2,7 +2,7 @@
 use Rattle.std.proofs.Common.{◌≡◌, Bool, true, false, cond, List, [], ◌∷◌, ◌++◌, map, Option, Some, None, refl, sym, ap, subst, ◌∙◌, inl, inr, append-nil}
 use Rattle.std.specs.Prelude.{Contains, filter}
 use Rattle.std.proofs.lemmas.Bool.{false≢true}
-use Rattle.asm_syntax.specs.Placed.{Name, Rule, Term, Spec}
+use Rattle.asm_syntax.specs.SourceTree.{Name, Rule, Term, Spec}
 use Rattle.asm_check.specs.Names as names
 use Rattle.asm_check.specs.Names.{Text, Meaning, Procedure, Derived, Use, declared}
 use Rattle.asm_check.specs.Onward.{onward}

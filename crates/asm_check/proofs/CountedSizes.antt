@@ -6,7 +6,7 @@ use Rattle.std.proofs.lemmas.Bool.{leb-true, true≢false, or_right}
 use Rattle.std.proofs.lemmas.Option.{slice_get-map}
 use Rattle.std.proofs.lemmas.List.{drop_all, append-nil, append_assoc}
 use Rattle.std.proofs.lemmas.List.Elements.{All-nil, All-cons}
-use Rattle.asm_syntax.specs.Placed.{Name, Spec}
+use Rattle.asm_syntax.specs.SourceTree.{Name, Spec}
 use Rattle.asm_check.specs.declared.meaning.Declared.{Declared}
 use Rattle.asm_check.specs.Names.{Text, Declaration, Meaning, declares, is_text, is_among, declarations, first_of_each, first_declarations, declared}
 use Rattle.asm_check.specs.Limits.{is_universe, size_of, counted_size}

@@ -8,7 +8,7 @@ use Rattle.asm_check.specs.declared.meaning.Declared.{Declared}
 use Rattle.asm_check.specs.Errors.{number_of}
 use Rattle.std.proofs.Common.{map}
 use Rattle.std.specs.Global.{Vec}
-use Rattle.asm_syntax.specs.Placed.{Spec}
+use Rattle.asm_syntax.specs.SourceTree.{Spec}
 use Rattle.asm_check.specs.Graph.{IsGraph, next_of, step_lists}
 use Rattle.asm_check.specs.Onward.{onward}
 use Rattle.asm_check.specs.Soonest.{IsSoonestWith, IsCovered, noted}

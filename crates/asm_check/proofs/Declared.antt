@@ -4,10 +4,10 @@ use Rattle.std.specs.Prelude.{Contains, find, option_map, flat_map}
 use Rattle.std.specs.Cmp.{unsigned_Decides}
 use Rattle.std.proofs.lemmas.List.Elements.{Contains-append_left, Contains-append_right, Contains-append_cases}
 use Rattle.std.proofs.lemmas.Slice.Eq.{slice_eq-Decides}
-use Rattle.asm_syntax.specs.Placed as tree
+use Rattle.asm_syntax.specs.SourceTree as source
 use Rattle.asm_syntax.specs.declared.spec.FunctionKind.TheVariants as kind
 use Rattle.asm_check.specs.Names as names
-use Rattle.asm_syntax.specs.Placed.{Name, Item, Rule, Term, Spec}
+use Rattle.asm_syntax.specs.SourceTree.{Name, Item, Rule, Term, Spec}
 use Rattle.asm_check.specs.Names.{Text, Meaning, Procedure, Derived, Declaration, declares, Use, is_text, is_among, text_of, predeclared, predeclared_names, declarations_of, declarations_from, declarations, first_of_each, first_declarations, declared, uses_of, uses, uses_of_rule, uses_of_term}
 use Rattle.asm_check.specs.Laws.{TextsAreTold}
 use Rattle.asm_check.proofs.Heights.{here, there, none_in, head_or_tail}
@@ -95,18 +95,18 @@ no_uses us k (x ∷ xs) d c =
     ]
 
 of_item : (k : ℕ) (item : Item) (d : Declaration) → Contains (declarations_of k item) d → AreUses (uses_of item) d
-of_item k (tree.Uses x) d c = none_in d c
-of_item k (tree.Init x) d c = none_in d c
-of_item k (tree.Enum x xs) d c =
+of_item k (source.Uses x) d c = none_in d c
+of_item k (source.Init x) d c = none_in d c
+of_item k (source.Enum x xs) d c =
     elim (head_or_tail (declares x (names.Enumeration k)) d _ c) [
       | inl e ↦ subst (AreUses []) e (λ u bad. none_in u bad)
       | inr rest ↦ no_uses [] k xs d rest
     ]
-of_item k (tree.Universe x first last) d c = only x (names.Range first.value last.value) [] (λ u bad. none_in u bad) d c
-of_item k (tree.Function x kind.Controlled domain codomain table) d c = only x (names.Controlled domain) _ (λ u bad. none_in u bad) d c
-of_item k (tree.Function x kind.Static domain codomain table) d c = only x (names.Static domain) _ (λ u bad. none_in u bad) d c
-of_item k (tree.Derived x xs t) d c = only x (Derived xs t) _ (λ u it. it) d c
-of_item k (tree.Declared x xs P) d c = only x (Procedure xs P) _ (λ u it. it) d c
+of_item k (source.Universe x first last) d c = only x (names.Range first.value last.value) [] (λ u bad. none_in u bad) d c
+of_item k (source.Function x kind.Controlled domain codomain table) d c = only x (names.Controlled domain) _ (λ u bad. none_in u bad) d c
+of_item k (source.Function x kind.Static domain codomain table) d c = only x (names.Static domain) _ (λ u bad. none_in u bad) d c
+of_item k (source.Derived x xs t) d c = only x (Derived xs t) _ (λ u it. it) d c
+of_item k (source.Declared x xs P) d c = only x (Procedure xs P) _ (λ u it. it) d c
 
 of_items : (k : ℕ) (items : List Item) (d : Declaration) → Contains (declarations_from k items) d → AreUses (flat_map uses_of items) d
 of_items k [] d c u it = none_in d c

@@ -13,15 +13,15 @@ use Rattle.asm_state.specs.Signature.{domain_in}
 use Rattle.asm_state.specs.Tables.{argument_lists}
 use Rattle.asm_syntax.specs.declared.spec.FunctionKind.{FunctionKind}
 use Rattle.asm_syntax.specs.declared.spec.FunctionKind.TheVariants as kind
-use Rattle.asm_syntax.specs.Placed as tree
-use Rattle.asm_syntax.specs.Placed.{Name, Given, Item, Spec}
+use Rattle.asm_syntax.specs.SourceTree as source
+use Rattle.asm_syntax.specs.SourceTree.{Name, Given, Item, Spec}
 use Rattle.asm_check.specs.Names.{Declaration, AsUniverse, declares, function_of, declarations_of, declarations_from, first_declarations, plain_use, uses_of, uses_of_codomain, uses_of_table}
 use Rattle.asm_check.specs.Faults.{IsWellFormed}
 use Rattle.asm_check.specs.Limits.{is_universe, size_of, domain_of, allowed_universes, counted_size, lists_of, product}
 use Rattle.asm_check.specs.Numbers.{universes_of, elements_of}
-use Rattle.asm_check.specs.Shapes.{kind_given, table_by, place_among, texts_of, domain_by, universe_values, function_given}
+use Rattle.asm_check.specs.Shapes.{kind_given, table_by, index_among, texts_of, domain_by, universe_values, function_given}
 use Rattle.asm_check.proofs.Heights.{here, there, none_in, head_or_tail, in_map}
-use Rattle.asm_check.proofs.Looked.{is_named, place_is, at_place, place_inside, all_known, universe_named, length-lists}
+use Rattle.asm_check.proofs.Looked.{is_named, index_is, at_index, index_inside, all_known, universe_named, length-lists}
 use Rattle.asm_check.proofs.Sized.{few_universes, stands_first}
 use Rattle.asm_check.proofs.Sizes.{limits_hold}
 use Rattle.asm_check.proofs.Sole.{all_like}
@@ -38,10 +38,10 @@ all_functions spec P (item ∷ items) each = go (function_given spec item) refl 
     go (Some f) e rest = All-cons P f (filter_map (function_given spec) items) (each item f (here item items) e) rest
 
 function_stands : (k : ℕ) (items : List Item) (x : Name) (how : FunctionKind) (domain : List Name) (codomain : Option Name) (table : Option Given)
-    → Contains items (tree.Function x how domain codomain table) → Contains (declarations_from k items) (declares x (function_of how domain))
-function_stands k [] x how domain codomain table it = none_in (tree.Function x how domain codomain table) it
+    → Contains items (source.Function x how domain codomain table) → Contains (declarations_from k items) (declares x (function_of how domain))
+function_stands k [] x how domain codomain table it = none_in (source.Function x how domain codomain table) it
 function_stands k (head ∷ items) x how domain codomain table it =
-    elim (head_or_tail head (tree.Function x how domain codomain table) items it) [
+    elim (head_or_tail head (source.Function x how domain codomain table) items it) [
       | inl e ↦ Contains-append_left (declarations_of k head) (declarations_from (suc k) items) (declares x (function_of how domain))
           (subst (λ i. Contains (declarations_of k i) (declares x (function_of how domain))) (sym e) (here (declares x (function_of how domain)) []))
       | inr rest ↦ Contains-append_right (declarations_of k head) (declarations_from (suc k) items) (declares x (function_of how domain)) (function_stands (suc k) items x how domain codomain table rest)
@@ -71,11 +71,11 @@ filter_within p (y ∷ xs) x it =
 
 module _ (spec : Spec) (good : IsWellFormed spec) where
   pub function_declared : (x : Name) (how : FunctionKind) (domain : List Name) (codomain : Option Name) (table : Option Given)
-      → Contains spec.items (tree.Function x how domain codomain table) → Contains (first_declarations spec) (declares x (function_of how domain))
+      → Contains spec.items (source.Function x how domain codomain table) → Contains (first_declarations spec) (declares x (function_of how domain))
   function_declared x how domain codomain table it = stands_first spec good (declares x (function_of how domain)) (function_stands 0 spec.items x how domain codomain table it)
 
   pub short_domain : (x : Name) (how : FunctionKind) (domain : List Name) (codomain : Option Name) (table : Option Given)
-      → Contains spec.items (tree.Function x how domain codomain table) → length domain ≤ 4
+      → Contains spec.items (source.Function x how domain codomain table) → length domain ≤ 4
   short_domain x how domain codomain table it =
       let short = (limits_hold spec good).domains (declares x (function_of how domain)) (function_declared x how domain codomain table it) in
       let same = ap length (domain_kept how domain) in
@@ -84,30 +84,30 @@ module _ (spec : Spec) (good : IsWellFormed spec) where
   abbrev pub values_of : List (List Value)
   values_of = map (λ d. universe_values spec d.meaning) (universes_of spec)
 
-  numbers_known : (domain : List Name) → ((u : Name) → Contains domain u → place_among (texts_of (universes_of spec)) u.text < length values_of) → All (λ n. n < length values_of) (domain_by (texts_of (universes_of spec)) domain)
+  numbers_known : (domain : List Name) → ((u : Name) → Contains domain u → index_among (texts_of (universes_of spec)) u.text < length values_of) → All (λ n. n < length values_of) (domain_by (texts_of (universes_of spec)) domain)
   numbers_known [] each = All-nil (λ n. n < length values_of)
   numbers_known (u ∷ domain) each =
-      All-cons (λ n. n < length values_of) (place_among (texts_of (universes_of spec)) u.text) (domain_by (texts_of (universes_of spec)) domain) (each u (here u domain))
+      All-cons (λ n. n < length values_of) (index_among (texts_of (universes_of spec)) u.text) (domain_by (texts_of (universes_of spec)) domain) (each u (here u domain))
       (numbers_known domain (λ v it. each v (there u v domain it)))
 
-  place_known : (item : Item) (u : Name) → Contains spec.items item → Contains (uses_of item) (plain_use AsUniverse u) → place_among (texts_of (universes_of spec)) u.text < length values_of
-  place_known item u it own =
+  index_known : (item : Item) (u : Name) → Contains spec.items item → Contains (uses_of item) (plain_use AsUniverse u) → index_among (texts_of (universes_of spec)) u.text < length values_of
+  index_known item u it own =
       let named = universe_named spec u (all_known spec good item (plain_use AsUniverse u) it own) in
-      let inside = place_inside (is_named u.text) (universes_of spec) named.declaration named.found in
-      let same = place_is (universes_of spec) u.text in
+      let inside = index_inside (is_named u.text) (universes_of spec) named.declaration named.found in
+      let same = index_is (universes_of spec) u.text in
       let long = length-map (universes_of spec) (λ d. universe_values spec d.meaning) in
       omega (arith, inside, same, long)
 
-  used_by : (x : Name) (how : FunctionKind) (domain : List Name) (codomain : Option Name) (table : Option Given) (u : Name) → Contains domain u → Contains (uses_of (tree.Function x how domain codomain table)) (plain_use AsUniverse u)
+  used_by : (x : Name) (how : FunctionKind) (domain : List Name) (codomain : Option Name) (table : Option Given) (u : Name) → Contains domain u → Contains (uses_of (source.Function x how domain codomain table)) (plain_use AsUniverse u)
   used_by x how domain codomain table u it =
       Contains-append_left (map (plain_use AsUniverse) domain ++ uses_of_codomain codomain) (uses_of_table table) (plain_use AsUniverse u)
       (Contains-append_left (map (plain_use AsUniverse) domain) (uses_of_codomain codomain) (plain_use AsUniverse u) (in_map (plain_use AsUniverse) domain u it))
 
   pub domain_fits : (x : Name) (how : FunctionKind) (domain : List Name) (codomain : Option Name) (table : Option Given)
-      → Contains spec.items (tree.Function x how domain codomain table) → IsDomainOf values_of (domain_by (texts_of (universes_of spec)) domain)
+      → Contains spec.items (source.Function x how domain codomain table) → IsDomainOf values_of (domain_by (texts_of (universes_of spec)) domain)
   domain_fits x how domain codomain table it = record {
-    few = let short = short_domain x how domain codomain table it in let long = length-map domain (λ (u : Name). place_among (texts_of (universes_of spec)) u.text) in omega (arith, short, long);
-    known = numbers_known domain (λ u among. place_known (tree.Function x how domain codomain table) u it (used_by x how domain codomain table u among));
+    few = let short = short_domain x how domain codomain table it in let long = length-map domain (λ (u : Name). index_among (texts_of (universes_of spec)) u.text) in omega (arith, short, long);
+    known = numbers_known domain (λ u among. index_known (source.Function x how domain codomain table) u it (used_by x how domain codomain table u among));
   }
 
   -- no universe passes a limit
@@ -123,10 +123,10 @@ module _ (spec : Spec) (good : IsWellFormed spec) where
   size_or_none None = refl
   size_or_none (Some d) = length_values spec d.meaning
 
-  size_at : (u : Name) → length (slice_index_or values_of (place_among (texts_of (universes_of spec)) u.text) []) ≡ counted_size spec u
+  size_at : (u : Name) → length (slice_index_or values_of (index_among (texts_of (universes_of spec)) u.text) []) ≡ counted_size spec u
   size_at u =
-      ap (λ n. length (slice_index_or values_of n [])) (place_is (universes_of spec) u.text)
-      ∙ ap length (at_place (is_named u.text) (λ d. universe_values spec d.meaning) (universes_of spec) [])
+      ap (λ n. length (slice_index_or values_of n [])) (index_is (universes_of spec) u.text)
+      ∙ ap length (at_index (is_named u.text) (λ d. universe_values spec d.meaning) (universes_of spec) [])
       ∙ size_or_none (find (is_named u.text) (universes_of spec))
       ∙ ap (λ ds. option_map_or (λ (d : Declaration). size_of spec d.meaning) (find (is_named u.text) ds) 0) (sym all_allowed)
 
@@ -146,17 +146,17 @@ abbrev pub given_by : (spec : Spec) → FunctionKind → List Name → Option Gi
 given_by spec how domain table = record { kind = kind_given how; domain = domain_by (texts_of (universes_of spec)) domain; table = table_by (texts_of (elements_of spec)) table }
 
 of_item : (spec : Spec) (P : state.Function → Type 0) (items : List Item)
-    → ((x : Name) (how : FunctionKind) (domain : List Name) (codomain : Option Name) (table : Option Given) → Contains items (tree.Function x how domain codomain table) → P (given_by spec how domain table))
+    → ((x : Name) (how : FunctionKind) (domain : List Name) (codomain : Option Name) (table : Option Given) → Contains items (source.Function x how domain codomain table) → P (given_by spec how domain table))
     → (item : Item) (f : state.Function) → Contains items item → function_given spec item ≡ Some f → P f
-of_item spec P items each (tree.Function x how domain codomain table) f it is = let same : given_by spec how domain table ≡ f = cc in subst P same (each x how domain codomain table it)
-of_item spec P items each (tree.Uses x) f it is = cc
-of_item spec P items each (tree.Init x) f it is = cc
-of_item spec P items each (tree.Enum x xs) f it is = cc
-of_item spec P items each (tree.Universe x first last) f it is = cc
-of_item spec P items each (tree.Derived x xs t) f it is = cc
-of_item spec P items each (tree.Declared x xs P') f it is = cc
+of_item spec P items each (source.Function x how domain codomain table) f it is = let same : given_by spec how domain table ≡ f = cc in subst P same (each x how domain codomain table it)
+of_item spec P items each (source.Uses x) f it is = cc
+of_item spec P items each (source.Init x) f it is = cc
+of_item spec P items each (source.Enum x xs) f it is = cc
+of_item spec P items each (source.Universe x first last) f it is = cc
+of_item spec P items each (source.Derived x xs t) f it is = cc
+of_item spec P items each (source.Declared x xs P') f it is = cc
 
 pub each_function : (spec : Spec) (P : state.Function → Type 0)
-    → ((x : Name) (how : FunctionKind) (domain : List Name) (codomain : Option Name) (table : Option Given) → Contains spec.items (tree.Function x how domain codomain table) → P (given_by spec how domain table))
+    → ((x : Name) (how : FunctionKind) (domain : List Name) (codomain : Option Name) (table : Option Given) → Contains spec.items (source.Function x how domain codomain table) → P (given_by spec how domain table))
     → All P (filter_map (function_given spec) spec.items)
 each_function spec P each = all_functions spec P spec.items (of_item spec P spec.items each)

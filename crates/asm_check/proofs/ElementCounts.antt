@@ -4,8 +4,8 @@ use Rattle.std.specs.Prelude.{nat_eq, count_by}
 use Rattle.std.proofs.lemmas.Bool.{cases_eq, cases_lt, eq-eqb, ne_eqb}
 use Rattle.std.proofs.lemmas.List.{take_all, get_or-set_same, get_or-set_other, length-set, length-take-le, get_or_past}
 use Rattle.std.proofs.lemmas.List.Sums.{sum_by_push, sum_by-append, sum_by-cons, count_by-le-length}
-use Rattle.asm_syntax.specs.Placed as tree
-use Rattle.asm_syntax.specs.Placed.{Name, Item, Spec}
+use Rattle.asm_syntax.specs.SourceTree as source
+use Rattle.asm_syntax.specs.SourceTree.{Name, Item, Spec}
 use Rattle.asm_syntax.specs.declared.spec.FunctionKind.TheVariants as kind
 use Rattle.asm_check.specs.declared.meaning.Declared.{Declared}
 use Rattle.asm_check.specs.declared.meaning.Meaning as code
@@ -42,15 +42,15 @@ none_of_others k j (x ∷ xs) h =
     ∙ ap (λ n. 0 + n) (none_of_others k j xs h)
 
 none_in_item : (k j : ℕ) (item : Item) → k ≢ j → elements_in k (declarations_of j item) ≡ 0
-none_in_item k j (tree.Uses x) h = refl
-none_in_item k j (tree.Init x) h = refl
-none_in_item k j (tree.Enum x xs) h =
+none_in_item k j (source.Uses x) h = refl
+none_in_item k j (source.Init x) h = refl
+none_in_item k j (source.Enum x xs) h =
     one_more k (declares x (Enumeration j)) (map (λ y. declares y (Element j)) xs) ∙ ap (λ n. 0 + n) (none_of_others k j xs h)
-none_in_item k j (tree.Universe x first last) h = refl
-none_in_item k j (tree.Function x kind.Controlled domain codomain table) h = refl
-none_in_item k j (tree.Function x kind.Static domain codomain table) h = refl
-none_in_item k j (tree.Derived x xs t) h = refl
-none_in_item k j (tree.Declared x xs P) h = refl
+none_in_item k j (source.Universe x first last) h = refl
+none_in_item k j (source.Function x kind.Controlled domain codomain table) h = refl
+none_in_item k j (source.Function x kind.Static domain codomain table) h = refl
+none_in_item k j (source.Derived x xs t) h = refl
+none_in_item k j (source.Declared x xs P) h = refl
 
 none_in_items : (k j : ℕ) (items : List Item) → j + length items ≤ k → elements_in k (declarations_from j items) ≡ 0
 none_in_items k j [] h = refl

@@ -5,16 +5,16 @@ use Rattle.std.specs.List.{position_or_len}
 use Rattle.std.proofs.lemmas.List.{length-append}
 use Rattle.std.proofs.lemmas.Option.{slice_get_within}
 use Rattle.asm_syntax.specs.declared.spec.FunctionKind.TheVariants as kind
-use Rattle.asm_syntax.specs.Placed as tree
-use Rattle.asm_syntax.specs.Placed.{Name, Item, Spec}
+use Rattle.asm_syntax.specs.SourceTree as source
+use Rattle.asm_syntax.specs.SourceTree.{Name, Item, Spec}
 use Rattle.asm_check.specs.Names.{Text, Declaration, Element, declares, declarations_of, declarations_from, first_declarations, declared, is_text}
 use Rattle.asm_check.specs.Faults.{IsWellFormed}
 use Rattle.asm_check.specs.Limits.{is_element_of}
 use Rattle.asm_check.specs.Listed.{elements_of_item, elements_in}
 use Rattle.asm_check.specs.Numbers.{is_element, elements_of}
-use Rattle.asm_check.specs.Shapes.{is_element_before, place_among, texts_of}
+use Rattle.asm_check.specs.Shapes.{is_element_before, index_among, texts_of}
 use Rattle.asm_check.proofs.ItemLists.{element_declarations, like, like_next, count_like, AreNumbered}
-use Rattle.asm_check.proofs.Looked.{is_named, place_is, find_kept, first_named}
+use Rattle.asm_check.proofs.Looked.{is_named, index_is, find_kept, first_named}
 use Rattle.asm_check.proofs.Sized.{all_numbered, few_elements}
 use Rattle.asm_check.proofs.Sole.{all_like}
 
@@ -37,7 +37,7 @@ found_passes p (y ∷ xs) x found =
     ] refl found
 
 abbrev element_names : Item → List Name
-element_names (tree.Enum x xs) = xs
+element_names (source.Enum x xs) = xs
 element_names item = []
 
 elements_kept : (k : ℕ) (xs : List Name) → like is_element (element_declarations k xs) ≡ element_declarations k xs
@@ -45,23 +45,23 @@ elements_kept k [] = refl
 elements_kept k (x ∷ xs) = ap (λ ds. declares x (Element k) ∷ ds) (elements_kept k xs)
 
 own_elements : (k : ℕ) (item : Item) → like is_element (declarations_of k item) ≡ element_declarations k (element_names item)
-own_elements k (tree.Uses x) = refl
-own_elements k (tree.Init x) = refl
-own_elements k (tree.Enum x xs) = elements_kept k xs
-own_elements k (tree.Universe x first last) = refl
-own_elements k (tree.Function x kind.Controlled domain codomain table) = refl
-own_elements k (tree.Function x kind.Static domain codomain table) = refl
-own_elements k (tree.Derived x xs t) = refl
-own_elements k (tree.Declared x xs P) = refl
+own_elements k (source.Uses x) = refl
+own_elements k (source.Init x) = refl
+own_elements k (source.Enum x xs) = elements_kept k xs
+own_elements k (source.Universe x first last) = refl
+own_elements k (source.Function x kind.Controlled domain codomain table) = refl
+own_elements k (source.Function x kind.Static domain codomain table) = refl
+own_elements k (source.Derived x xs t) = refl
+own_elements k (source.Declared x xs P) = refl
 
 own_count : (item : Item) → length (element_names item) ≡ elements_of_item item
-own_count (tree.Uses x) = refl
-own_count (tree.Init x) = refl
-own_count (tree.Enum x xs) = refl
-own_count (tree.Universe x first last) = refl
-own_count (tree.Function x how domain codomain table) = refl
-own_count (tree.Derived x xs t) = refl
-own_count (tree.Declared x xs P) = refl
+own_count (source.Uses x) = refl
+own_count (source.Init x) = refl
+own_count (source.Enum x xs) = refl
+own_count (source.Universe x first last) = refl
+own_count (source.Function x how domain codomain table) = refl
+own_count (source.Derived x xs t) = refl
+own_count (source.Declared x xs P) = refl
 
 elements_next : (k : ℕ) (item : Item) (items : List Item)
     → like is_element (declarations_from k (item ∷ items)) ≡ element_declarations k (element_names item) ++ like is_element (declarations_from (suc k) items)
@@ -145,13 +145,13 @@ module _ (spec : Spec) (good : IsWellFormed spec) where
     pub name : is_text declaration.name.text x ≡ true
     pub meaning : declaration.meaning ≡ Element k
 
-  pub element_at : (x : Text) (k : ℕ) → declared spec x ≡ Some (Element k) → IsElementAt x k (place_among (texts_of (elements_of spec)) x)
+  pub element_at : (x : Text) (k : ℕ) → declared spec x ≡ Some (Element k) → IsElementAt x k (index_among (texts_of (elements_of spec)) x)
   element_at x k known =
       let it = first_named spec x (Element k) known in
       let found : find (is_named x) (elements_of spec) ≡ Some it.0 = find_kept (is_named x) (λ d. is_element d.meaning) (first_declarations spec) it.0 it.1 (ap is_element it.2) in
       record {
         declaration = it.0;
-        stands = ap (slice_get (elements_of spec)) (place_is (elements_of spec) x) ∙ stands_at (is_named x) (elements_of spec) it.0 found;
+        stands = ap (slice_get (elements_of spec)) (index_is (elements_of spec) x) ∙ stands_at (is_named x) (elements_of spec) it.0 found;
         name = found_passes (is_named x) (elements_of spec) it.0 found;
         meaning = it.2;
       }

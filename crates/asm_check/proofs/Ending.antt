@@ -1,7 +1,7 @@
 -- What the whole search has found is the least of all faults.
 use Rattle.std.proofs.Common.{◌≡◌, ◌⊎◌, ℕ, List, ◌++◌, Option, None, sym, ap, subst, ◌∙◌, inl, inr}
 use Rattle.std.proofs.lemmas.List.Elements.{Contains-append_left, Contains-append_right, Contains-append_cases}
-use Rattle.asm_syntax.specs.Placed.{Spec}
+use Rattle.asm_syntax.specs.SourceTree.{Spec}
 use Rattle.asm_check.specs.Faults.{IsFault, twice, unknown, arity, not_controlled, cyclic_rule, cyclic_derived, init, too_many, table_entry}
 use Rattle.asm_check.specs.FaultLists.{twice_faults, use_faults, init_faults, limit_faults, entry_faults}
 use Rattle.asm_check.specs.Soonest.{IsSoonest, IsSoonestWith, noted}

@@ -7,8 +7,8 @@ use Rattle.std.specs.List.{list_any}
 use Rattle.std.specs.Cmp.Lexicographic.{pointwise}
 use Rattle.std.proofs.lemmas.List.Folds.{list_any-append}
 use Rattle.asm_syntax.specs.declared.term.Literal.TheVariants as literal
-use Rattle.asm_syntax.specs.Placed as tree
-use Rattle.asm_syntax.specs.Placed.{Const, Entry, Name, Spec}
+use Rattle.asm_syntax.specs.SourceTree as source
+use Rattle.asm_syntax.specs.SourceTree.{Const, Entry, Name, Spec}
 use Rattle.asm_check.specs.contracts.tables.ArgumentPartialEq.TheImpl as argument
 use Rattle.asm_check.specs.declared.tables.Argument.{Argument}
 use Rattle.asm_check.specs.declared.tables.Argument.TheVariants as code
@@ -64,12 +64,12 @@ equal_arguments (x ∷ xs) [] = refl
 equal_arguments (x ∷ xs) (y ∷ ys) = ap (λ b. b && pointwise equal xs ys) (equal_argument x y) ∙ ap (λ b. same_key (key_of x) (key_of y) && b) (equal_arguments xs ys)
 
 same_as_const : (c d : Const) → same_key (key c) (key d) ≡ same_const c d
-same_as_const (tree.Plain literal.Undef) (tree.Plain v) = elim v as (λ v. same_key Nothing (key (tree.Plain v)) ≡ same_literal literal.Undef v) [ literal.Undef ↦ refl | _ ↦ refl ]
-same_as_const (tree.Plain (literal.Truth b)) (tree.Plain v) = elim v as (λ v. same_key (Either b) (key (tree.Plain v)) ≡ same_literal (literal.Truth b) v) [ literal.Truth c ↦ refl | _ ↦ refl ]
-same_as_const (tree.Plain (literal.Number m)) (tree.Plain v) = elim v as (λ v. same_key (Whole m.value) (key (tree.Plain v)) ≡ same_literal (literal.Number m) v) [ literal.Number n ↦ refl | _ ↦ refl ]
-same_as_const (tree.Plain v) (tree.Element y) = elim v as (λ v. same_key (key (tree.Plain v)) (Word y.text) ≡ false) [ literal.Undef ↦ refl | _ ↦ refl ]
-same_as_const (tree.Element x) (tree.Plain v) = elim v as (λ v. same_key (Word x.text) (key (tree.Plain v)) ≡ false) [ literal.Undef ↦ refl | _ ↦ refl ]
-same_as_const (tree.Element x) (tree.Element y) = refl
+same_as_const (source.Plain literal.Undef) (source.Plain v) = elim v as (λ v. same_key Nothing (key (source.Plain v)) ≡ same_literal literal.Undef v) [ literal.Undef ↦ refl | _ ↦ refl ]
+same_as_const (source.Plain (literal.Truth b)) (source.Plain v) = elim v as (λ v. same_key (Either b) (key (source.Plain v)) ≡ same_literal (literal.Truth b) v) [ literal.Truth c ↦ refl | _ ↦ refl ]
+same_as_const (source.Plain (literal.Number m)) (source.Plain v) = elim v as (λ v. same_key (Whole m.value) (key (source.Plain v)) ≡ same_literal (literal.Number m) v) [ literal.Number n ↦ refl | _ ↦ refl ]
+same_as_const (source.Plain v) (source.Element y) = elim v as (λ v. same_key (key (source.Plain v)) (Word y.text) ≡ false) [ literal.Undef ↦ refl | _ ↦ refl ]
+same_as_const (source.Element x) (source.Plain v) = elim v as (λ v. same_key (Word x.text) (key (source.Plain v)) ≡ false) [ literal.Undef ↦ refl | _ ↦ refl ]
+same_as_const (source.Element x) (source.Element y) = refl
 
 same_as_consts : (cs ds : List Const) → same_keys (map key cs) (map key ds) ≡ same_arguments cs ds
 same_as_consts [] [] = refl

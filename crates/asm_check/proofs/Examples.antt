@@ -1,5 +1,5 @@
 -- Examples of faults of small specifications. Above each one stands its text, behind the line
--- `CoreASM T` and, where nothing else is said, `init M`. Each line ends with a line feed, and places
+-- `CoreASM T` and, where nothing else is said, `init M`. Each line ends with a line feed, and indices
 -- are counted from 0.
 use Rattle.std.proofs.Common.{◌≡◌, ℕ, ◌≤◌, pos, List, [], ◌∷◌, None, Some, refl, arith}
 use Rattle.std.specs.Prelude.{codes}
@@ -7,7 +7,7 @@ use Rattle.std.proofs.lemmas.Int.{ints}
 use Rattle.asm_state.specs.declared.number.Number.{Number}
 use Rattle.asm_syntax.specs.declared.spec.FunctionKind.TheVariants.{Static}
 use Rattle.asm_syntax.specs.declared.term.Literal.TheVariants as literal
-use Rattle.asm_syntax.specs.Placed.{Name, Term, Constant, Named, no_terms, term_then, Skip, Assign, Call, Let, Const, Plain, Entry, Each, Entries, Item, Init, Enum, Universe, Function, Derived, Declared, Spec}
+use Rattle.asm_syntax.specs.SourceTree.{Name, Term, Constant, Named, no_terms, term_then, Skip, Assign, Call, Let, Const, Plain, Entry, Each, Entries, Item, Init, Enum, Universe, Function, Derived, Declared, Spec}
 use Rattle.asm_check.specs.FaultLists.{twice_faults, use_faults, init_faults, limit_faults, entry_faults}
 use Rattle.asm_check.specs.Faults.{IsLeastFault, IsWellFormed}
 use Rattle.asm_check.specs.Limits.{size_of}

@@ -9,7 +9,7 @@ use Rattle.std.specs.Prelude.{Contains, flat_map}
 use Rattle.std.specs.List.{list_all}
 use Rattle.std.proofs.lemmas.Bool.{false≢true, not-true, not_from_false, eqb-false, ne_eqb, ltb-true, lt-ltb, and_parts, and_from, or_cases, or_left, or_right}
 use Rattle.std.proofs.lemmas.List.Elements.{Contains-append_left, Contains-append_right, Contains-append_cases}
-use Rattle.asm_syntax.specs.Placed.{Name, Entry, Spec}
+use Rattle.asm_syntax.specs.SourceTree.{Name, Entry, Spec}
 use Rattle.asm_check.specs.Names as names
 use Rattle.asm_check.specs.Names.{Text, Declaration, Meaning, Role, InTerm, AsTarget, AsCalled, Use, declarations, first_declarations, declared, uses, is_among, text_of, is_known, arguments_of, is_assignable, is_start, uses_of_entry}
 use Rattle.asm_check.specs.Limits as limits
@@ -22,13 +22,13 @@ use Rattle.asm_check.proofs.Heights.{here, there, none_in, head_or_tail, in_map,
 use Rattle.asm_check.proofs.Firsts.{covered, turn}
 use Rattle.asm_check.proofs.Listed.{IsListed, the_only, from_map, in_flat_map, from_flat_map, in_then, in_else, walk_sound, walk_complete}
 
-at_sound : (number : ℕ) (places : List ℕ) (at n : ℕ) → IsListed (at_with number places) at n → Contains places at × (number ≡ n)
-at_sound number places at n c =
-    let it = from_map (λ (a : ℕ). (a, number)) places (at, n) c in
-    (subst (Contains places) (ap (λ f. f.0) it.2) it.1, ap (λ f. f.1) it.2)
+at_sound : (number : ℕ) (offsets : List ℕ) (at n : ℕ) → IsListed (at_with number offsets) at n → Contains offsets at × (number ≡ n)
+at_sound number offsets at n c =
+    let it = from_map (λ (a : ℕ). (a, number)) offsets (at, n) c in
+    (subst (Contains offsets) (ap (λ f. f.0) it.2) it.1, ap (λ f. f.1) it.2)
 
-at_complete : (number : ℕ) (places : List ℕ) (at : ℕ) → Contains places at → Contains (at_with number places) (at, number)
-at_complete number places at c = in_map (λ (a : ℕ). (a, number)) places at c
+at_complete : (number : ℕ) (offsets : List ℕ) (at : ℕ) → Contains offsets at → Contains (at_with number offsets) (at, number)
+at_complete number offsets at c = in_map (λ (a : ℕ). (a, number)) offsets at c
 
 -- ---- 8
 
@@ -39,7 +39,7 @@ record IsSeen (seen : List Text) (xs : List Name) (at : ℕ) : Type 0 where
   after : List Name
   parts : xs ≡ before ++ name ∷ after
   is_before : (is_among seen name.text || is_among (map text_of before) name.text) ≡ true
-  place : name.at ≡ at
+  offset : name.at ≡ at
 
 -- with the names behind it
 seen_later : (seen : List Text) (x : Name) (xs : List Name) (at : ℕ) (seen' : List Text)
@@ -50,7 +50,7 @@ seen_later seen x xs at seen' same it = record {
   after = it.after;
   parts = ap (λ ys. x ∷ ys) it.parts;
   is_before = same it.name.text (is_among (map text_of it.before) it.name.text) ∙ it.is_before;
-  place = it.place;
+  offset = it.offset;
 }
 
 repeats_sound : (seen : List Text) (xs : List Name) (at : ℕ) → Contains (repeats seen xs) at → IsSeen seen xs at
@@ -59,7 +59,7 @@ repeats_sound seen (x ∷ xs) at c =
     elim (is_among seen x.text) as (λ b. is_among seen x.text ≡ b → Contains (cond b (x.at ∷ repeats seen xs) (repeats (x.text ∷ seen) xs)) at → IsSeen seen (x ∷ xs) at) [
       | true ↦ λ e it.
           elim (head_or_tail x.at at (repeats seen xs) it) [
-            | inl same ↦ record { before = []; name = x; after = xs; parts = refl; is_before = or_left (is_among seen x.text) false e; place = same }
+            | inl same ↦ record { before = []; name = x; after = xs; parts = refl; is_before = or_left (is_among seen x.text) false e; offset = same }
             | inr rest ↦ seen_later seen x xs at seen (λ y b. sym (covered seen x.text y b e)) (repeats_sound seen xs at rest)
           ]
       | false ↦ λ e rest.
@@ -84,12 +84,12 @@ repeats_complete seen (x ∷ before) name after h =
 repeated : (xs : List Name) (at : ℕ) → Contains (repeats [] xs) at → IsRepeated xs at
 repeated xs at c =
     let it = repeats_sound [] xs at c in
-    record { before = it.before; name = it.name; after = it.after; parts = it.parts; is_before = it.is_before; place = it.place }
+    record { before = it.before; name = it.name; after = it.after; parts = it.parts; is_before = it.is_before; offset = it.offset }
 
 found_again : (xs : List Name) (at : ℕ) → IsRepeated xs at → Contains (repeats [] xs) at
 found_again xs at it =
     subst (λ ys. Contains (repeats [] ys) at) (sym it.parts)
-    (subst (Contains (repeats [] (it.before ++ it.name ∷ it.after))) it.place (repeats_complete [] it.before it.name it.after it.is_before))
+    (subst (Contains (repeats [] (it.before ++ it.name ∷ it.after))) it.offset (repeats_complete [] it.before it.name it.after it.is_before))
 
 module _ (spec : Spec) where
   abbrev declared_names : List Name
@@ -184,7 +184,7 @@ module _ (spec : Spec) (u : Use) where
             is_target = target_from u.role parts.0;
             known = known;
             unassignable = not-true (is_assignable u.is_bound (declared spec u.name.text)) parts.1;
-            place = refl;
+            offset = refl;
           }))
       third false e known c = none_in (at, n) c
 
@@ -192,14 +192,14 @@ module _ (spec : Spec) (u : Use) where
       second true e known c =
           let it = miscounted count_of u.count e in
           subst (λ f. IsFault spec f.0 f.1) (the_only (u.name.at, 10) (at, n) c)
-          (arity (record { use_of = u; stands = stands; count = it.0; has = it.1; differs = it.2; place = refl }))
+          (arity (record { use_of = u; stands = stands; count = it.0; has = it.1; differs = it.2; offset = refl }))
       second false e known c = third is_wrong_target refl known c
 
       first : (b : Bool) → is_known_use spec u ≡ b → IsListed (cond b as_known ((u.name.at, 9) ∷ [])) at n → IsFault spec at n
       first true e c = second (miscounts count_of u.count) refl e c
       first false e c =
           subst (λ f. IsFault spec f.0 f.1) (the_only (u.name.at, 9) (at, n) c)
-          (unknown (record { use_of = u; stands = stands; unknown = e; place = refl }))
+          (unknown (record { use_of = u; stands = stands; unknown = e; offset = refl }))
 
   use_unknown : is_known_use spec u ≡ false → IsListed (faults_of_use spec u) u.name.at 9
   use_unknown e = in_else (is_known_use spec u) as_known ((u.name.at, 9) ∷ []) (u.name.at, 9) e (here (u.name.at, 9) [])
@@ -228,17 +228,17 @@ module _ (spec : Spec) where
 
   of_a_use : (u : Use) → Contains (uses spec) u → (at n : ℕ) → u.name.at ≡ at → IsListed (faults_of_use spec u) u.name.at n → IsListed (use_faults spec) at n
   unfolding use_faults
-  of_a_use u stands at n place c =
-      in_flat_map (faults_of_use spec) (uses spec) u (at, n) stands (subst (λ (a : ℕ). IsListed (faults_of_use spec u) a n) place c)
+  of_a_use u stands at n offset c =
+      in_flat_map (faults_of_use spec) (uses spec) u (at, n) stands (subst (λ (a : ℕ). IsListed (faults_of_use spec u) a n) offset c)
 
   pub unknown_complete : (at : ℕ) → IsUnknown spec at → IsListed (use_faults spec) at 9
-  unknown_complete at it = of_a_use it.use_of it.stands at 9 it.place (use_unknown spec it.use_of it.unknown)
+  unknown_complete at it = of_a_use it.use_of it.stands at 9 it.offset (use_unknown spec it.use_of it.unknown)
 
   pub arity_complete : (at : ℕ) → IsMiscounted spec at → IsListed (use_faults spec) at 10
-  arity_complete at it = of_a_use it.use_of it.stands at 10 it.place (use_miscounted spec it.use_of it.count it.has it.differs)
+  arity_complete at it = of_a_use it.use_of it.stands at 10 it.offset (use_miscounted spec it.use_of it.count it.has it.differs)
 
   pub assign_complete : (at : ℕ) → IsUnassignable spec at → IsListed (use_faults spec) at 11
-  assign_complete at it = of_a_use it.use_of it.stands at 11 it.place (use_unassignable spec it.use_of it.is_target it.known it.unassignable)
+  assign_complete at it = of_a_use it.use_of it.stands at 11 it.offset (use_unassignable spec it.use_of it.is_target it.known it.unassignable)
 
 -- ---- 14
 
@@ -295,12 +295,12 @@ module _ (spec : Spec) where
 
   pub inits_complete : (at : ℕ) → IsBadInit spec at → IsListed (init_faults spec) at 14
   unfolding init_faults
-  inits_complete at (another x more y e c place) =
+  inits_complete at (another x more y e c offset) =
       subst (λ xs. IsListed (faults_of_inits spec xs) at 14) (sym e)
-      (subst (λ (a : ℕ). IsListed (faults_of_inits spec (x ∷ more)) a 14) place (among_more x more y c))
-  inits_complete at (no_start x c h place) = subst (λ (a : ℕ). IsListed (faults_of_inits spec (inits spec)) a 14) place (no_start_listed (inits spec) x c h)
-  inits_complete at (missing e place) =
-      subst (λ xs. IsListed (faults_of_inits spec xs) at 14) (sym e) (subst (λ (a : ℕ). IsListed ((spec.length, 14) ∷ []) a 14) place (here (spec.length, 14) []))
+      (subst (λ (a : ℕ). IsListed (faults_of_inits spec (x ∷ more)) a 14) offset (among_more x more y c))
+  inits_complete at (no_start x c h offset) = subst (λ (a : ℕ). IsListed (faults_of_inits spec (inits spec)) a 14) offset (no_start_listed (inits spec) x c h)
+  inits_complete at (missing e offset) =
+      subst (λ xs. IsListed (faults_of_inits spec xs) at 14) (sym e) (subst (λ (a : ℕ). IsListed ((spec.length, 14) ∷ []) a 14) offset (here (spec.length, 14) []))
 
 -- ---- 15
 
@@ -365,7 +365,7 @@ module _ (spec : Spec) where
         after = it.1.after;
         parts = it.1.parts;
         passes = limit_sound it.1.before it.1.it it.1.holds;
-        place = it.1.is_at;
+        offset = it.1.is_at;
       }))
 
   pub limits_complete : (at : ℕ) → IsOverLimit spec at → IsListed (limit_faults spec) at 15 ⊎ IsStepFault spec at 15
@@ -374,12 +374,12 @@ module _ (spec : Spec) where
       elim (limit_complete it.before it.passing it.passes) [
         | inl holds ↦
             inl (subst (λ ds. IsListed (limit_faults_from spec [] ds) at 15) (sym it.parts)
-            (subst (λ a. IsListed (limit_faults_from spec [] (it.before ++ it.passing ∷ it.after)) a 15) it.place
+            (subst (λ a. IsListed (limit_faults_from spec [] (it.before ++ it.passing ∷ it.after)) a 15) it.offset
             (walk_complete (passes_limit spec) (λ d. d.name.at) 15 (limit_faults_from spec) (λ before. refl) (λ before d ds. refl) [] it.before it.passing it.after holds)))
         | inr high ↦
             let stands : Contains (it.before ++ it.passing ∷ it.after) it.passing =
             Contains-append_right it.before (it.passing ∷ it.after) it.passing (here it.passing it.after) in
-            inr (steps.too_high it.passing (subst (λ ds. Contains ds it.passing) (sym it.parts) stands) high it.place)
+            inr (steps.too_high it.passing (subst (λ ds. Contains ds it.passing) (sym it.parts) stands) high it.offset)
       ]
 
 -- ---- 16
@@ -408,7 +408,7 @@ module _ (spec : Spec) where
         parts = it.1.parts;
         known = parts.0;
         wrong = parts.1;
-        place = it.1.is_at;
+        offset = it.1.is_at;
       }))
 
   pub entries_complete : (at : ℕ) → IsBadEntry spec at → IsListed (entry_faults spec) at 16
@@ -417,7 +417,7 @@ module _ (spec : Spec) where
       let holds : is_bad_entry spec it.domain it.before it.entry ≡ true = and_from (list_all (is_known_use spec) (uses_of_entry it.entry)) _ it.known it.wrong in
       in_flat_map faults_of_table given_tables (it.domain, it.entries) (at, 16) it.stands
       (subst (λ es. IsListed (bad_entries spec it.domain [] es) at 16) (sym it.parts)
-      (subst (λ a. IsListed (bad_entries spec it.domain [] (it.before ++ it.entry ∷ it.after)) a 16) it.place
+      (subst (λ a. IsListed (bad_entries spec it.domain [] (it.before ++ it.entry ∷ it.after)) a 16) it.offset
       (walk_complete (is_bad_entry spec it.domain) (λ e. e.at) 16 (bad_entries spec it.domain) (λ before. refl) (λ before e es. refl) [] it.before it.entry it.after holds)))
 
 -- ---- 12, 13, and 15 by ranks
@@ -425,9 +425,9 @@ module _ (spec : Spec) where
 pub steps_sound : (spec : Spec) (at n : ℕ) → IsStepFault spec at n → IsFault spec at n
 steps_sound spec at n (steps.cyclic_rule it) = cyclic_rule it
 steps_sound spec at n (steps.cyclic_derived it) = cyclic_derived it
-steps_sound spec at n (steps.too_high d stands high place) =
+steps_sound spec at n (steps.too_high d stands high offset) =
     let it = split (first_declarations spec) d stands in
-    too_many (record { before = it.0; passing = d; after = it.1; parts = it.2; passes = high_passes it.0 high; place = place })
+    too_many (record { before = it.0; passing = d; after = it.1; parts = it.2; passes = high_passes it.0 high; offset = offset })
   where
     high_passes : (before : List Declaration) → steps.IsTooHigh spec d → PassesLimit spec before d
     high_passes before (steps.rule_rank way none) = limits.rule_rank way none

@@ -1,7 +1,7 @@
 -- What a table of the first declarations answers, and how it grows.
 use Rattle.std.proofs.Common.{◌≡◌, Bool, true, false, cond, ◌||◌, List, [], ◌∷◌, ◌++◌, map, Some, refl, sym, ap, subst, ◌∙◌}
 use Rattle.std.specs.Prelude.{find, option_map}
-use Rattle.asm_syntax.specs.Placed.{Spec}
+use Rattle.asm_syntax.specs.SourceTree.{Spec}
 use Rattle.asm_check.specs.Names.{Text}
 use Rattle.asm_check.specs.Names.{Declaration, is_text, is_among, declarations, first_of_each, first_declarations, declared}
 use Rattle.asm_check.proofs.Declared.{same_text}

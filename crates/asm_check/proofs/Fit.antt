@@ -4,8 +4,8 @@ use Rattle.std.specs.Prelude.{Contains, flat_map}
 use Rattle.std.specs.Cmp.{unsigned_Decides}
 use Rattle.std.proofs.lemmas.Bool.{false≢true}
 use Rattle.std.proofs.lemmas.List.Elements.{Contains-append_left, Contains-append_right}
-use Rattle.asm_syntax.specs.Placed as tree
-use Rattle.asm_syntax.specs.Placed.{Name, Term, Constant, Named, Chain, Not, Negative, Exists, Every, Terms, no_terms, term_then, Links, no_links, link_then, Rule, Skip, Assign, Call, Par, Seq, If, Let, Forall, Choose, Iterate, Rules, no_rules, rule_then, Branch, left_out, written, Const, Entry, Given, Item, Spec}
+use Rattle.asm_syntax.specs.SourceTree as source
+use Rattle.asm_syntax.specs.SourceTree.{Name, Term, Constant, Named, Chain, Not, Negative, Exists, Every, Terms, no_terms, term_then, Links, no_links, link_then, Rule, Skip, Assign, Call, Par, Seq, If, Let, Forall, Choose, Iterate, Rules, no_rules, rule_then, Branch, left_out, written, Const, Entry, Given, Item, Spec}
 use Rattle.asm_check.specs.Names as names
 use Rattle.asm_check.specs.Names.{Text, Meaning, Procedure, Derived, Role, InTerm, AsTarget, AsCalled, AsUniverse, AsCodomain, AsElement, Use, use_of, plain_use, term_count, text_of, is_among, is_known, arguments_of, is_assignable, is_start, declared, uses, uses_of, uses_of_rule, uses_of_rules, uses_of_branch, uses_of_term, uses_of_terms, uses_of_links, uses_of_test, uses_of_const, uses_of_entry, uses_of_codomain, uses_of_table}
 use Rattle.asm_check.specs.Faults.{IsWellFormed, is_known_use, inits, unknown, arity, not_controlled, init, another, no_start, missing}
@@ -35,12 +35,12 @@ module _ (spec : Spec) where
   good_use : IsWellFormed spec → AreGood (uses spec)
   good_use good u c =
       let known : is_known_use spec u ≡ true =
-      not_false (is_known_use spec u) (λ no'. good u.name.at 9 (unknown (record { use_of = u; stands = c; unknown = no'; place = refl }))) in
+      not_false (is_known_use spec u) (λ no'. good u.name.at 9 (unknown (record { use_of = u; stands = c; unknown = no'; offset = refl }))) in
       record {
         known = known;
-        counted = λ n has. same_number u.count n (λ differs. good u.name.at 10 (arity (record { use_of = u; stands = c; count = n; has = has; differs = differs; place = refl })));
+        counted = λ n has. same_number u.count n (λ differs. good u.name.at 10 (arity (record { use_of = u; stands = c; count = n; has = has; differs = differs; offset = refl })));
         assignable = λ target. not_false (is_assignable u.is_bound (declared spec u.name.text))
-            (λ no'. good u.name.at 11 (not_controlled (record { use_of = u; stands = c; is_target = target; known = known; unassignable = no'; place = refl })));
+            (λ no'. good u.name.at 11 (not_controlled (record { use_of = u; stands = c; is_target = target; known = known; unassignable = no'; offset = refl })));
       }
 
   front : (us vs : List Use) → AreGood (us ++ vs) → AreGood us
@@ -138,8 +138,8 @@ module _ (spec : Spec) where
   -- ---- declarations of functions
 
   fit_const : (c : Const) → AreGood (uses_of_const c) → IsFitConst spec c
-  fit_const (tree.Plain v) h = tt
-  fit_const (tree.Element x) h = plain AsElement x [] h
+  fit_const (source.Plain v) h = tt
+  fit_const (source.Element x) h = plain AsElement x [] h
 
   fit_consts : (cs : List Const) → AreGood (flat_map uses_of_const cs) → (c : Const) → Contains cs c → IsFitConst spec c
   fit_consts [] h c it = none_in c it
@@ -163,8 +163,8 @@ module _ (spec : Spec) where
 
   fit_table : (table : Option Given) → AreGood (uses_of_table table) → IsFitTable spec table
   fit_table None h = tt
-  fit_table (Some (tree.Each c)) h = fit_const c h
-  fit_table (Some (tree.Entries entries)) h = fit_entries entries h
+  fit_table (Some (source.Each c)) h = fit_const c h
+  fit_table (Some (source.Entries entries)) h = fit_entries entries h
 
   fit_domain : (us : List Name) → AreGood (map (plain_use AsUniverse) us) → (u : Name) → Contains us u → IsUniverseName spec u
   fit_domain [] h u it = none_in u it
@@ -228,6 +228,6 @@ pub bodies_are_fit : BodiesAreFit
 bodies_are_fit spec good = record {
   rules = λ f xs P is. fit_rule spec P (map text_of xs) (λ u c. good_use spec good u (body_uses spec f (Procedure xs P) is u c));
   derived = λ f xs t is. fit_term spec t (map text_of xs) (λ u c. good_use spec good u (body_uses spec f (Derived xs t) is u c));
-  functions = λ x kind domain codomain table it. fit_function spec domain codomain table (λ u c. good_use spec good u (in_uses spec (tree.Function x kind domain codomain table) it u c));
+  functions = λ x kind domain codomain table it. fit_function spec domain codomain table (λ u c. good_use spec good u (in_uses spec (source.Function x kind domain codomain table) it u c));
   start = starts spec good (inits spec) refl;
 }

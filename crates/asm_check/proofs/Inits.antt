@@ -4,7 +4,7 @@ use Rattle.std.specs.Prelude.{filter_map}
 use Rattle.std.specs.List.{cons_option}
 use Rattle.std.proofs.lemmas.List.{map-append, take_more}
 use Rattle.std.proofs.lemmas.List.Elements.{filter_map-append}
-use Rattle.asm_syntax.specs.Placed.{Name, Item, Spec}
+use Rattle.asm_syntax.specs.SourceTree.{Name, Item, Spec}
 use Rattle.asm_check.specs.Names.{Meaning, is_start, declared}
 use Rattle.asm_check.specs.Faults.{init_of, inits}
 use Rattle.asm_check.specs.FaultLists.{at_with, unfit_starts, faults_of_inits, init_faults}

@@ -7,8 +7,8 @@ use Rattle.std.proofs.lemmas.List.Elements.{All-contains, All-map, Contains-appe
 use Rattle.std.proofs.lemmas.List.Kept.{AllPairs-cons}
 use Rattle.asm_state.proofs.Lists.{All-from_contained, AllPairs-none, AllPairs-head, AllPairs-tail, AllPairs-map}
 use Rattle.asm_syntax.specs.declared.spec.FunctionKind.TheVariants as kind
-use Rattle.asm_syntax.specs.Placed as tree
-use Rattle.asm_syntax.specs.Placed.{Name, Term, Rule, Given, Item, Spec}
+use Rattle.asm_syntax.specs.SourceTree as source
+use Rattle.asm_syntax.specs.SourceTree.{Name, Term, Rule, Given, Item, Spec}
 use Rattle.asm_check.specs.Faults.{IsWellFormed, parameters_of, twice}
 use Rattle.asm_check.specs.Introduced.{introduced, all_names, AreDifferent}
 use Rattle.asm_check.specs.Laws.{NamesAreApart, ItemsAreDeclared}
@@ -27,13 +27,13 @@ told x y e same = false≢true (sym e ∙ subst (λ z. is_text x z ≡ true) sam
 -- ---- names
 
 own_texts : (k : ℕ) (item : Item) → texts_of (declarations_of k item) ≡ map text_of (introduced item)
-own_texts k (tree.Uses x) = refl
-own_texts k (tree.Init x) = refl
-own_texts k (tree.Enum x xs) = ap (λ ts. x.text ∷ ts) (element_texts_are k xs)
-own_texts k (tree.Universe x first last) = refl
-own_texts k (tree.Function x how domain codomain table) = refl
-own_texts k (tree.Derived x xs t) = refl
-own_texts k (tree.Declared x xs P) = refl
+own_texts k (source.Uses x) = refl
+own_texts k (source.Init x) = refl
+own_texts k (source.Enum x xs) = ap (λ ts. x.text ∷ ts) (element_texts_are k xs)
+own_texts k (source.Universe x first last) = refl
+own_texts k (source.Function x how domain codomain table) = refl
+own_texts k (source.Derived x xs t) = refl
+own_texts k (source.Declared x xs P) = refl
 
 texts_from : (k : ℕ) (items : List Item) → texts_of (declarations_from k items) ≡ map text_of (flat_map introduced items)
 texts_from k [] = refl
@@ -72,7 +72,7 @@ parameters_different spec good item it = different_from (parameters_of item) onc
           | true ↦ λ e. absurd (good x.at 8 (twice (
             parameters_of item,
             there (map (λ d. d.name) (declarations spec)) (parameters_of item) (map parameters_of spec.items) (in_map parameters_of spec.items item it),
-            record { before = before; name = x; after = after; parts = parts; is_before = e; place = refl },
+            record { before = before; name = x; after = after; parts = parts; is_before = e; offset = refl },
           )))
           | false ↦ λ e. refl
         ] refl
@@ -80,8 +80,8 @@ parameters_different spec good item it = different_from (parameters_of item) onc
 pub names_are_apart : NamesAreApart
 names_are_apart spec good = record {
   names = names_different spec good;
-  parameters_of_rules = λ x xs P it. parameters_different spec good (tree.Declared x xs P) it;
-  parameters_of_derived = λ x xs t it. parameters_different spec good (tree.Derived x xs t) it;
+  parameters_of_rules = λ x xs P it. parameters_different spec good (source.Declared x xs P) it;
+  parameters_of_derived = λ x xs t it. parameters_different spec good (source.Derived x xs t) it;
 }
 
 -- ---- meanings
@@ -125,16 +125,16 @@ module _ (spec : Spec) (good : IsWellFormed spec) where
       let at = get_of spec.items item it in
       declared_at at.0 item x m at.1 (subst (λ ds. Contains ds (declares x m)) (sym (alone at.0)) (here (declares x m) []))
 
-  element_declared : (k : ℕ) (x y : Name) (xs : List Name) → Contains xs y → Contains (declarations_of k (tree.Enum x xs)) (declares y (names.Element k))
+  element_declared : (k : ℕ) (x y : Name) (xs : List Name) → Contains xs y → Contains (declarations_of k (source.Enum x xs)) (declares y (names.Element k))
   element_declared k x y xs it = there (declares x (names.Enumeration k)) (declares y (names.Element k)) (element_declarations k xs) (in_map (λ z. declares z (names.Element k)) xs y it)
 
 pub items_are_declared : ItemsAreDeclared
 items_are_declared spec good = record {
-  enumerations = λ k x xs at. declared_at spec good k (tree.Enum x xs) x (names.Enumeration k) at (here (declares x (names.Enumeration k)) (element_declarations k xs));
-  elements = λ k x xs at y it. declared_at spec good k (tree.Enum x xs) y (names.Element k) at (element_declared spec good k x y xs it);
-  ranges = λ x first last. declared_alone spec good (tree.Universe x first last) x (names.Range first.value last.value) (λ k. refl);
-  controlled = λ x domain codomain table. declared_alone spec good (tree.Function x kind.Controlled domain codomain table) x (names.Controlled domain) (λ k. refl);
-  static = λ x domain codomain table. declared_alone spec good (tree.Function x kind.Static domain codomain table) x (names.Static domain) (λ k. refl);
-  derived = λ x xs t. declared_alone spec good (tree.Derived x xs t) x (names.Derived xs t) (λ k. refl);
-  rules = λ x xs P. declared_alone spec good (tree.Declared x xs P) x (names.Procedure xs P) (λ k. refl);
+  enumerations = λ k x xs at. declared_at spec good k (source.Enum x xs) x (names.Enumeration k) at (here (declares x (names.Enumeration k)) (element_declarations k xs));
+  elements = λ k x xs at y it. declared_at spec good k (source.Enum x xs) y (names.Element k) at (element_declared spec good k x y xs it);
+  ranges = λ x first last. declared_alone spec good (source.Universe x first last) x (names.Range first.value last.value) (λ k. refl);
+  controlled = λ x domain codomain table. declared_alone spec good (source.Function x kind.Controlled domain codomain table) x (names.Controlled domain) (λ k. refl);
+  static = λ x domain codomain table. declared_alone spec good (source.Function x kind.Static domain codomain table) x (names.Static domain) (λ k. refl);
+  derived = λ x xs t. declared_alone spec good (source.Derived x xs t) x (names.Derived xs t) (λ k. refl);
+  rules = λ x xs P. declared_alone spec good (source.Declared x xs P) x (names.Procedure xs P) (λ k. refl);
 }

@@ -8,8 +8,8 @@ use Rattle.std.proofs.lemmas.List.Sums.{sum_by-append, sum_by-cons}
 use Rattle.asm_state.specs.declared.value.Value.{Value}
 use Rattle.asm_state.specs.Universe.{elements}
 use Rattle.asm_syntax.specs.declared.spec.FunctionKind.TheVariants as kind
-use Rattle.asm_syntax.specs.Placed as tree
-use Rattle.asm_syntax.specs.Placed.{Name, Item, Spec}
+use Rattle.asm_syntax.specs.SourceTree as source
+use Rattle.asm_syntax.specs.SourceTree.{Name, Item, Spec}
 use Rattle.asm_check.specs.Names.{Text, Declaration, Meaning, Enumeration, Element, declares, declarations_of, declarations_from, predeclared, first_declarations, text_of}
 use Rattle.asm_check.specs.Limits.{is_universe, is_element_of}
 use Rattle.asm_check.specs.Numbers.{is_element}
@@ -44,24 +44,24 @@ element_texts_are k [] = refl
 element_texts_are k (x ∷ xs) = ap (λ ts. x.text ∷ ts) (element_texts_are k xs)
 
 universe_text_is : (k : ℕ) (item : Item) → texts_of (like is_universe (declarations_of k item)) ≡ universe_text item
-universe_text_is k (tree.Uses x) = refl
-universe_text_is k (tree.Init x) = refl
-universe_text_is k (tree.Enum x xs) = ap (λ ds. texts_of (declares x (Enumeration k) ∷ ds)) (elements_dropped is_universe k xs refl)
-universe_text_is k (tree.Universe x first last) = refl
-universe_text_is k (tree.Function x kind.Controlled domain codomain table) = refl
-universe_text_is k (tree.Function x kind.Static domain codomain table) = refl
-universe_text_is k (tree.Derived x xs t) = refl
-universe_text_is k (tree.Declared x xs P) = refl
+universe_text_is k (source.Uses x) = refl
+universe_text_is k (source.Init x) = refl
+universe_text_is k (source.Enum x xs) = ap (λ ds. texts_of (declares x (Enumeration k) ∷ ds)) (elements_dropped is_universe k xs refl)
+universe_text_is k (source.Universe x first last) = refl
+universe_text_is k (source.Function x kind.Controlled domain codomain table) = refl
+universe_text_is k (source.Function x kind.Static domain codomain table) = refl
+universe_text_is k (source.Derived x xs t) = refl
+universe_text_is k (source.Declared x xs P) = refl
 
 element_text_is : (k : ℕ) (item : Item) → texts_of (like is_element (declarations_of k item)) ≡ element_text item
-element_text_is k (tree.Uses x) = refl
-element_text_is k (tree.Init x) = refl
-element_text_is k (tree.Enum x xs) = ap texts_of (elements_kept is_element k xs refl) ∙ element_texts_are k xs
-element_text_is k (tree.Universe x first last) = refl
-element_text_is k (tree.Function x kind.Controlled domain codomain table) = refl
-element_text_is k (tree.Function x kind.Static domain codomain table) = refl
-element_text_is k (tree.Derived x xs t) = refl
-element_text_is k (tree.Declared x xs P) = refl
+element_text_is k (source.Uses x) = refl
+element_text_is k (source.Init x) = refl
+element_text_is k (source.Enum x xs) = ap texts_of (elements_kept is_element k xs refl) ∙ element_texts_are k xs
+element_text_is k (source.Universe x first last) = refl
+element_text_is k (source.Function x kind.Controlled domain codomain table) = refl
+element_text_is k (source.Function x kind.Static domain codomain table) = refl
+element_text_is k (source.Derived x xs t) = refl
+element_text_is k (source.Declared x xs P) = refl
 
 texts_next : (is_like : Meaning → Bool) (k : ℕ) (item : Item) (items : List Item) (own rest : List Text)
     → texts_of (like is_like (declarations_of k item)) ≡ own → texts_of (like is_like (declarations_from (suc k) items)) ≡ rest
@@ -96,7 +96,7 @@ count_elements is_like k (x ∷ xs) =
     ∙ elim (is_like (Element k)) as (λ b. cond b 1 0 + cond b (length xs) 0 ≡ cond b (length (x ∷ xs)) 0) [ true ↦ omega arith | false ↦ refl ]
 
 count_enumeration : (is_like : Meaning → Bool) (k : ℕ) (x : Name) (xs : List Name) → is_like (Enumeration k) ≡ false
-    → count_like is_like (declarations_of k (tree.Enum x xs)) ≡ cond (is_like (Element k)) (length xs) 0
+    → count_like is_like (declarations_of k (source.Enum x xs)) ≡ cond (is_like (Element k)) (length xs) 0
 count_enumeration is_like k x xs out =
     sum_by-cons (λ (d : Declaration). cond (is_like d.meaning) 1 0) (declares x (Enumeration k)) (element_declarations k xs)
     ∙ ap (λ b. cond b 1 0 + count_like is_like (element_declarations k xs)) out
@@ -104,24 +104,24 @@ count_enumeration is_like k x xs out =
     ∙ count_elements is_like k xs
 
 count_before_of : (j k : ℕ) (item : Item) → count_like (is_element_before j) (declarations_of k item) ≡ cond (nat_lt k j) (elements_of_item item) 0
-count_before_of j k (tree.Uses x) = zero_either (nat_lt k j)
-count_before_of j k (tree.Init x) = zero_either (nat_lt k j)
-count_before_of j k (tree.Enum x xs) = count_enumeration (is_element_before j) k x xs refl
-count_before_of j k (tree.Universe x first last) = zero_either (nat_lt k j)
-count_before_of j k (tree.Function x kind.Controlled domain codomain table) = zero_either (nat_lt k j)
-count_before_of j k (tree.Function x kind.Static domain codomain table) = zero_either (nat_lt k j)
-count_before_of j k (tree.Derived x xs t) = zero_either (nat_lt k j)
-count_before_of j k (tree.Declared x xs P) = zero_either (nat_lt k j)
+count_before_of j k (source.Uses x) = zero_either (nat_lt k j)
+count_before_of j k (source.Init x) = zero_either (nat_lt k j)
+count_before_of j k (source.Enum x xs) = count_enumeration (is_element_before j) k x xs refl
+count_before_of j k (source.Universe x first last) = zero_either (nat_lt k j)
+count_before_of j k (source.Function x kind.Controlled domain codomain table) = zero_either (nat_lt k j)
+count_before_of j k (source.Function x kind.Static domain codomain table) = zero_either (nat_lt k j)
+count_before_of j k (source.Derived x xs t) = zero_either (nat_lt k j)
+count_before_of j k (source.Declared x xs P) = zero_either (nat_lt k j)
 
 count_own_of : (j k : ℕ) (item : Item) → count_like (is_element_of j) (declarations_of k item) ≡ cond (nat_eq j k) (elements_of_item item) 0
-count_own_of j k (tree.Uses x) = zero_either (nat_eq j k)
-count_own_of j k (tree.Init x) = zero_either (nat_eq j k)
-count_own_of j k (tree.Enum x xs) = count_enumeration (is_element_of j) k x xs refl
-count_own_of j k (tree.Universe x first last) = zero_either (nat_eq j k)
-count_own_of j k (tree.Function x kind.Controlled domain codomain table) = zero_either (nat_eq j k)
-count_own_of j k (tree.Function x kind.Static domain codomain table) = zero_either (nat_eq j k)
-count_own_of j k (tree.Derived x xs t) = zero_either (nat_eq j k)
-count_own_of j k (tree.Declared x xs P) = zero_either (nat_eq j k)
+count_own_of j k (source.Uses x) = zero_either (nat_eq j k)
+count_own_of j k (source.Init x) = zero_either (nat_eq j k)
+count_own_of j k (source.Enum x xs) = count_enumeration (is_element_of j) k x xs refl
+count_own_of j k (source.Universe x first last) = zero_either (nat_eq j k)
+count_own_of j k (source.Function x kind.Controlled domain codomain table) = zero_either (nat_eq j k)
+count_own_of j k (source.Function x kind.Static domain codomain table) = zero_either (nat_eq j k)
+count_own_of j k (source.Derived x xs t) = zero_either (nat_eq j k)
+count_own_of j k (source.Declared x xs P) = zero_either (nat_eq j k)
 
 count_more : (is_like : Meaning → Bool) (cs ds : List Declaration) → count_like is_like (cs ++ ds) ≡ count_like is_like cs + count_like is_like ds
 count_more is_like cs ds = sum_by-append (λ (d : Declaration). cond (is_like d.meaning) 1 0) cs ds
@@ -194,17 +194,17 @@ module _ (spec : Spec) where
 
   own_values : (k first : ℕ) (item : Item) → count_like (is_element_before k) (first_declarations spec) ≡ first → count_like (is_element_of k) (first_declarations spec) ≡ elements_of_item item
       → map values (like is_universe (declarations_of k item)) ≡ universe_of_item first item
-  own_values k first (tree.Uses x) before own = refl
-  own_values k first (tree.Init x) before own = refl
-  own_values k first (tree.Enum x xs) before own =
+  own_values k first (source.Uses x) before own = refl
+  own_values k first (source.Init x) before own = refl
+  own_values k first (source.Enum x xs) before own =
       ap (λ ds. map values (declares x (Enumeration k) ∷ ds)) (elements_dropped is_universe k xs refl)
       ∙ ap (λ n. elements n (count_like (is_element_of k) (first_declarations spec)) ∷ []) before
       ∙ ap (λ n. elements first n ∷ []) own
-  own_values k first (tree.Universe x low high) before own = refl
-  own_values k first (tree.Function x kind.Controlled domain codomain table) before own = refl
-  own_values k first (tree.Function x kind.Static domain codomain table) before own = refl
-  own_values k first (tree.Derived x xs t) before own = refl
-  own_values k first (tree.Declared x xs P) before own = refl
+  own_values k first (source.Universe x low high) before own = refl
+  own_values k first (source.Function x kind.Controlled domain codomain table) before own = refl
+  own_values k first (source.Function x kind.Static domain codomain table) before own = refl
+  own_values k first (source.Derived x xs t) before own = refl
+  own_values k first (source.Declared x xs P) before own = refl
 
   pub universe_lists_are : (k first : ℕ) (items : List Item) → AreNumbered (first_declarations spec) k first items
       → map values (like is_universe (declarations_from k items)) ≡ universe_lists first items

@@ -4,7 +4,7 @@ pub mod ApartTexts
 pub mod ArgumentCounts
 pub mod BadEntries
 pub mod Beyond
-pub mod BodyPlaces
+pub mod BodyIndices
 pub mod CallsAndUses
 pub mod Collecting
 pub mod CountedSizes
@@ -36,7 +36,7 @@ pub mod NamesNumbered
 pub mod Noted
 pub mod Numbered
 pub mod OneLeast
-pub mod PlacesWhere
+pub mod IndicesWhere
 pub mod Ranks
 pub mod Reaching
 pub mod Readers

@@ -1,7 +1,7 @@
 -- The faults of limits, one declaration after another.
 use Rattle.std.proofs.Common.{◌≡◌, ℕ, ◌+◌, ◌≤◌, Bool, List, [], ◌∷◌, ◌++◌, cond, length, take, drop, Option, sym, ap, ◌∙◌}
 use Rattle.std.proofs.lemmas.List.{drop_all}
-use Rattle.asm_syntax.specs.Placed.{Spec}
+use Rattle.asm_syntax.specs.SourceTree.{Spec}
 use Rattle.asm_check.specs.declared.meaning.Declared.{Declared}
 use Rattle.asm_check.specs.FaultLists.{limit_faults, limit_faults_from, passes_limit}
 use Rattle.asm_check.specs.Names.{Declaration, declares, first_declarations}

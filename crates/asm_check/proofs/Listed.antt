@@ -43,42 +43,42 @@ pub in_else : {X : Type 0} (b : Bool) (xs ys : List X) (x : X) → b ≡ false �
 in_else b xs ys x e c = subst (λ zs. Contains zs x) (sym (cond-false b xs ys e)) c
 
 -- An element that passes the test behind those that stand before it.
-pub record IsMet {X : Type 0} (test : List X → X → Bool) (place : X → ℕ) (xs : List X) (at : ℕ) : Type 0 where
+pub record IsMet {X : Type 0} (test : List X → X → Bool) (offset : X → ℕ) (xs : List X) (at : ℕ) : Type 0 where
   pub before : List X
   pub it : X
   pub after : List X
   pub parts : xs ≡ before ++ it ∷ after
   pub holds : test before it ≡ true
-  pub is_at : place it ≡ at
+  pub is_at : offset it ≡ at
 
--- The walk lists the places of such elements. `refl` shows its two clauses.
-module _ {X : Type 0} (test : List X → X → Bool) (place : X → ℕ) (number : ℕ) (walk : List X → List X → List (ℕ × ℕ))
+-- The walk lists the offsets of such elements. `refl` shows its two clauses.
+module _ {X : Type 0} (test : List X → X → Bool) (offset : X → ℕ) (number : ℕ) (walk : List X → List X → List (ℕ × ℕ))
     (ends : (before : List X) → walk before [] ≡ [])
     (goes_on : (before : List X) (x : X) (xs : List X)
-    → walk before (x ∷ xs) ≡ cond (test before x) ((place x, number) ∷ []) [] ++ walk (before ++ x ∷ []) xs) where
-  pub walk_sound : (done xs : List X) (at n : ℕ) → IsListed (walk done xs) at n → (n ≡ number) × IsMet test place (done ++ xs) at
+    → walk before (x ∷ xs) ≡ cond (test before x) ((offset x, number) ∷ []) [] ++ walk (before ++ x ∷ []) xs) where
+  pub walk_sound : (done xs : List X) (at n : ℕ) → IsListed (walk done xs) at n → (n ≡ number) × IsMet test offset (done ++ xs) at
   walk_sound done [] at n c = none_in (at, n) (subst (λ fs. IsListed fs at n) (ends done) c)
   walk_sound done (x ∷ xs) at n c =
-      elim (Contains-append_cases (cond (test done x) ((place x, number) ∷ []) []) (walk (done ++ x ∷ []) xs) (at, n)
+      elim (Contains-append_cases (cond (test done x) ((offset x, number) ∷ []) []) (walk (done ++ x ∷ []) xs) (at, n)
       (subst (λ fs. IsListed fs at n) (goes_on done x xs) c)) [
         | inl own ↦ this (test done x) refl own
         | inr rest ↦
             let it = walk_sound (done ++ x ∷ []) xs at n rest in
-            (it.0, subst (λ ys. IsMet test place ys at) (append_assoc done (x ∷ []) xs) it.1)
+            (it.0, subst (λ ys. IsMet test offset ys at) (append_assoc done (x ∷ []) xs) it.1)
       ]
     where
-      this : (b : Bool) → test done x ≡ b → IsListed (cond b ((place x, number) ∷ []) []) at n → (n ≡ number) × IsMet test place (done ++ x ∷ xs) at
+      this : (b : Bool) → test done x ≡ b → IsListed (cond b ((offset x, number) ∷ []) []) at n → (n ≡ number) × IsMet test offset (done ++ x ∷ xs) at
       this true e own =
-          let same = the_only (place x, number) (at, n) own in
+          let same = the_only (offset x, number) (at, n) own in
           (ap (λ f. f.1) (sym same), record { before = done; it = x; after = xs; parts = refl; holds = e; is_at = ap (λ f. f.0) same })
       this false e own = none_in (at, n) own
 
-  pub walk_complete : (done middle : List X) (x : X) (after : List X) → test (done ++ middle) x ≡ true → IsListed (walk done (middle ++ x ∷ after)) (place x) number
+  pub walk_complete : (done middle : List X) (x : X) (after : List X) → test (done ++ middle) x ≡ true → IsListed (walk done (middle ++ x ∷ after)) (offset x) number
   walk_complete done [] x after holds =
-      subst (λ fs. IsListed fs (place x) number) (sym (goes_on done x after))
-      (Contains-append_left (cond (test done x) ((place x, number) ∷ []) []) (walk (done ++ x ∷ []) after) (place x, number)
-      (in_then (test done x) ((place x, number) ∷ []) [] (place x, number) (subst (λ ys. test ys x ≡ true) (append-nil done) holds) (here (place x, number) [])))
+      subst (λ fs. IsListed fs (offset x) number) (sym (goes_on done x after))
+      (Contains-append_left (cond (test done x) ((offset x, number) ∷ []) []) (walk (done ++ x ∷ []) after) (offset x, number)
+      (in_then (test done x) ((offset x, number) ∷ []) [] (offset x, number) (subst (λ ys. test ys x ≡ true) (append-nil done) holds) (here (offset x, number) [])))
   walk_complete done (y ∷ middle) x after holds =
-      subst (λ fs. IsListed fs (place x) number) (sym (goes_on done y (middle ++ x ∷ after)))
-      (Contains-append_right (cond (test done y) ((place y, number) ∷ []) []) (walk (done ++ y ∷ []) (middle ++ x ∷ after)) (place x, number)
+      subst (λ fs. IsListed fs (offset x) number) (sym (goes_on done y (middle ++ x ∷ after)))
+      (Contains-append_right (cond (test done y) ((offset y, number) ∷ []) []) (walk (done ++ y ∷ []) (middle ++ x ∷ after)) (offset x, number)
       (walk_complete (done ++ y ∷ []) middle x after (subst (λ ys. test ys x ≡ true) (sym (append_assoc done (y ∷ []) middle)) holds)))

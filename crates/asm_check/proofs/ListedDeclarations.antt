@@ -5,8 +5,8 @@ use Rattle.std.proofs.lemmas.List.{length-append, length-map}
 use Rattle.std.proofs.lemmas.Option.{slice_get_within}
 use Rattle.asm_state.specs.Universe.{element, elements}
 use Rattle.asm_syntax.specs.declared.spec.FunctionKind.TheVariants as kind
-use Rattle.asm_syntax.specs.Placed as tree
-use Rattle.asm_syntax.specs.Placed.{Name, Item, Spec}
+use Rattle.asm_syntax.specs.SourceTree as source
+use Rattle.asm_syntax.specs.SourceTree.{Name, Item, Spec}
 use Rattle.asm_check.specs.Names.{Declaration, Element, declares, declarations_of, declarations_from}
 use Rattle.asm_check.specs.Limits.{is_element_of}
 use Rattle.asm_check.specs.Numbers.{is_element, is_table}
@@ -29,14 +29,14 @@ kept_enumeration k [] = refl
 kept_enumeration k (x ∷ xs) = ap (λ ds. declares x (Element k) ∷ ds) (kept_enumeration k xs)
 
 length_own : (k : ℕ) (item : Item) → length (like is_element (declarations_of k item)) ≡ elements_of_item item
-length_own k (tree.Uses x) = refl
-length_own k (tree.Init x) = refl
-length_own k (tree.Enum x xs) = ap length (kept_enumeration k xs) ∙ length-map xs (λ y. declares y (Element k))
-length_own k (tree.Universe x first last) = refl
-length_own k (tree.Function x kind.Controlled domain codomain table) = refl
-length_own k (tree.Function x kind.Static domain codomain table) = refl
-length_own k (tree.Derived x xs t) = refl
-length_own k (tree.Declared x xs P) = refl
+length_own k (source.Uses x) = refl
+length_own k (source.Init x) = refl
+length_own k (source.Enum x xs) = ap length (kept_enumeration k xs) ∙ length-map xs (λ y. declares y (Element k))
+length_own k (source.Universe x first last) = refl
+length_own k (source.Function x kind.Controlled domain codomain table) = refl
+length_own k (source.Function x kind.Static domain codomain table) = refl
+length_own k (source.Derived x xs t) = refl
+length_own k (source.Declared x xs P) = refl
 
 -- the items have so many elements
 pub length_elements : (k : ℕ) (items : List Item) → length (like is_element (declarations_from k items)) ≡ elements_in items
@@ -54,14 +54,14 @@ meaning_in_enumeration k (x ∷ xs) zero d e = let same : declares x (Element k)
 meaning_in_enumeration k (x ∷ xs) (suc n) d e = meaning_in_enumeration k xs n d e
 
 own_meaning : (k : ℕ) (item : Item) (n : ℕ) (d : Declaration) → slice_get (like is_element (declarations_of k item)) n ≡ Some d → d.meaning ≡ Element k
-own_meaning k (tree.Uses x) n d e = cc
-own_meaning k (tree.Init x) n d e = cc
-own_meaning k (tree.Enum x xs) n d e = meaning_in_enumeration k xs n d (ap (λ ds. slice_get ds n) (sym (kept_enumeration k xs)) ∙ e)
-own_meaning k (tree.Universe x first last) n d e = cc
-own_meaning k (tree.Function x kind.Controlled domain codomain table) n d e = cc
-own_meaning k (tree.Function x kind.Static domain codomain table) n d e = cc
-own_meaning k (tree.Derived x xs t) n d e = cc
-own_meaning k (tree.Declared x xs P) n d e = cc
+own_meaning k (source.Uses x) n d e = cc
+own_meaning k (source.Init x) n d e = cc
+own_meaning k (source.Enum x xs) n d e = meaning_in_enumeration k xs n d (ap (λ ds. slice_get ds n) (sym (kept_enumeration k xs)) ∙ e)
+own_meaning k (source.Universe x first last) n d e = cc
+own_meaning k (source.Function x kind.Controlled domain codomain table) n d e = cc
+own_meaning k (source.Function x kind.Static domain codomain table) n d e = cc
+own_meaning k (source.Derived x xs t) n d e = cc
+own_meaning k (source.Declared x xs P) n d e = cc
 
 -- so many elements in a row have each one of them
 pub in_row : (first count n : ℕ) → n < count → Contains (elements first count) (element (first + n))
@@ -72,17 +72,17 @@ in_row first (suc count) (suc n) h =
     subst (λ k. Contains (elements first (suc count)) (element k)) same (there (element first) (element (first + 1 + n)) (elements (first + 1) count) (in_row (first + 1) count n (omega (arith, h))))
 
 -- the n-th element of the items is the one so many numbers behind the first, and stands in the row of its own enumeration
-pub element_placed : (all : List Declaration) (k first : ℕ) (items : List Item) → AreNumbered all k first items → (n j : ℕ) (d : Declaration) → slice_get (like is_element (declarations_from k items)) n ≡ Some d → d.meaning ≡ Element j
+pub element_indexed : (all : List Declaration) (k first : ℕ) (items : List Item) → AreNumbered all k first items → (n j : ℕ) (d : Declaration) → slice_get (like is_element (declarations_from k items)) n ≡ Some d → d.meaning ≡ Element j
     → Contains (elements (count_like (is_element_before j) all) (count_like (is_element_of j) all)) (element (first + n))
-element_placed all k first [] numbered n j d e is = cc
-element_placed all k first (item ∷ items) numbered n j d e is =
+element_indexed all k first [] numbered n j d e is = cc
+element_indexed all k first (item ∷ items) numbered n j d e is =
     elim (in_either (like is_element (declarations_of k item)) (like is_element (declarations_from (suc k) items)) n d (ap (λ ds. slice_get ds n) (sym (like_next is_element k item items)) ∙ e)) [
       | inl own ↦ here_own own
       | inr rest ↦
           let long = length_own k item in
           let same : first + elements_of_item item + rest.0 ≡ first + n = omega (arith, long, rest.1) in
           subst (λ m. Contains (elements (count_like (is_element_before j) all) (count_like (is_element_of j) all)) (element m)) same
-          (element_placed all (suc k) (first + elements_of_item item) items numbered.2 rest.0 j d rest.2 is)
+          (element_indexed all (suc k) (first + elements_of_item item) items numbered.2 rest.0 j d rest.2 is)
     ]
   where
     here_own : slice_get (like is_element (declarations_of k item)) n ≡ Some d → Contains (elements (count_like (is_element_before j) all) (count_like (is_element_of j) all)) (element (first + n))
@@ -98,20 +98,20 @@ element_placed all k first (item ∷ items) numbered n j d e is =
 
 -- ---- functions
 
-no_tables : (k : ℕ) (x : Name) (xs : List Name) (items : List Item) → like is_table (declarations_from k (tree.Enum x xs ∷ items)) ≡ like is_table (declarations_from (suc k) items)
-no_tables k x xs items = like_next is_table k (tree.Enum x xs) items ∙ ap (λ ds. ds ++ like is_table (declarations_from (suc k) items)) (elements_dropped is_table k xs refl)
+no_tables : (k : ℕ) (x : Name) (xs : List Name) (items : List Item) → like is_table (declarations_from k (source.Enum x xs ∷ items)) ≡ like is_table (declarations_from (suc k) items)
+no_tables k x xs items = like_next is_table k (source.Enum x xs) items ∙ ap (λ ds. ds ++ like is_table (declarations_from (suc k) items)) (elements_dropped is_table k xs refl)
 
 -- as many functions as declarations of functions
 pub length_functions : (spec : Spec) (k : ℕ) (items : List Item) → length (filter_map (function_given spec) items) ≡ length (like is_table (declarations_from k items))
 length_functions spec k [] = refl
-length_functions spec k (tree.Uses x ∷ items) = length_functions spec (suc k) items
-length_functions spec k (tree.Init x ∷ items) = length_functions spec (suc k) items
-length_functions spec k (tree.Enum x xs ∷ items) = length_functions spec (suc k) items ∙ ap length (sym (no_tables k x xs items))
-length_functions spec k (tree.Universe x first last ∷ items) = length_functions spec (suc k) items
-length_functions spec k (tree.Function x kind.Controlled domain codomain table ∷ items) = let rest = length_functions spec (suc k) items in omega (arith, rest)
-length_functions spec k (tree.Function x kind.Static domain codomain table ∷ items) = let rest = length_functions spec (suc k) items in omega (arith, rest)
-length_functions spec k (tree.Derived x xs t ∷ items) = length_functions spec (suc k) items
-length_functions spec k (tree.Declared x xs P ∷ items) = length_functions spec (suc k) items
+length_functions spec k (source.Uses x ∷ items) = length_functions spec (suc k) items
+length_functions spec k (source.Init x ∷ items) = length_functions spec (suc k) items
+length_functions spec k (source.Enum x xs ∷ items) = length_functions spec (suc k) items ∙ ap length (sym (no_tables k x xs items))
+length_functions spec k (source.Universe x first last ∷ items) = length_functions spec (suc k) items
+length_functions spec k (source.Function x kind.Controlled domain codomain table ∷ items) = let rest = length_functions spec (suc k) items in omega (arith, rest)
+length_functions spec k (source.Function x kind.Static domain codomain table ∷ items) = let rest = length_functions spec (suc k) items in omega (arith, rest)
+length_functions spec k (source.Derived x xs t ∷ items) = length_functions spec (suc k) items
+length_functions spec k (source.Declared x xs P ∷ items) = length_functions spec (suc k) items
 
 module _ (spec : Spec) where
   abbrev AreOfSpec : List Item → Type 0
@@ -121,36 +121,36 @@ module _ (spec : Spec) where
   later item items all other it = all other (there item other items it)
 
   -- the function of each declaration of one
-  pub function_placed : (k : ℕ) (items : List Item) → AreOfSpec items → (f : ℕ) (d : Declaration) → slice_get (like is_table (declarations_from k items)) f ≡ Some d
+  pub function_indexed : (k : ℕ) (items : List Item) → AreOfSpec items → (f : ℕ) (d : Declaration) → slice_get (like is_table (declarations_from k items)) f ≡ Some d
       → IsDeclaredBy spec d (slice_get (filter_map (function_given spec) items) f)
-  function_placed k [] all f d e = cc
-  function_placed k (tree.Uses x ∷ items) all f d e = function_placed (suc k) items (later (tree.Uses x) items all) f d e
-  function_placed k (tree.Init x ∷ items) all f d e = function_placed (suc k) items (later (tree.Init x) items all) f d e
-  function_placed k (tree.Enum x xs ∷ items) all f d e = function_placed (suc k) items (later (tree.Enum x xs) items all) f d (ap (λ ds. slice_get ds f) (sym (no_tables k x xs items)) ∙ e)
-  function_placed k (tree.Universe x first last ∷ items) all f d e = function_placed (suc k) items (later (tree.Universe x first last) items all) f d e
-  function_placed k (tree.Function x kind.Controlled domain codomain table ∷ items) all zero d e = record {
+  function_indexed k [] all f d e = cc
+  function_indexed k (source.Uses x ∷ items) all f d e = function_indexed (suc k) items (later (source.Uses x) items all) f d e
+  function_indexed k (source.Init x ∷ items) all f d e = function_indexed (suc k) items (later (source.Init x) items all) f d e
+  function_indexed k (source.Enum x xs ∷ items) all f d e = function_indexed (suc k) items (later (source.Enum x xs) items all) f d (ap (λ ds. slice_get ds f) (sym (no_tables k x xs items)) ∙ e)
+  function_indexed k (source.Universe x first last ∷ items) all f d e = function_indexed (suc k) items (later (source.Universe x first last) items all) f d e
+  function_indexed k (source.Function x kind.Controlled domain codomain table ∷ items) all zero d e = record {
     name = x;
     kind = kind.Controlled;
     domain = domain;
     codomain = codomain;
     table = table;
-    stands = all (tree.Function x kind.Controlled domain codomain table) (here (tree.Function x kind.Controlled domain codomain table) items);
+    stands = all (source.Function x kind.Controlled domain codomain table) (here (source.Function x kind.Controlled domain codomain table) items);
     declared_so = cc;
     given_so = refl;
   }
-  function_placed k (tree.Function x kind.Controlled domain codomain table ∷ items) all (suc f) d e =
-      function_placed (suc k) items (later (tree.Function x kind.Controlled domain codomain table) items all) f d e
-  function_placed k (tree.Function x kind.Static domain codomain table ∷ items) all zero d e = record {
+  function_indexed k (source.Function x kind.Controlled domain codomain table ∷ items) all (suc f) d e =
+      function_indexed (suc k) items (later (source.Function x kind.Controlled domain codomain table) items all) f d e
+  function_indexed k (source.Function x kind.Static domain codomain table ∷ items) all zero d e = record {
     name = x;
     kind = kind.Static;
     domain = domain;
     codomain = codomain;
     table = table;
-    stands = all (tree.Function x kind.Static domain codomain table) (here (tree.Function x kind.Static domain codomain table) items);
+    stands = all (source.Function x kind.Static domain codomain table) (here (source.Function x kind.Static domain codomain table) items);
     declared_so = cc;
     given_so = refl;
   }
-  function_placed k (tree.Function x kind.Static domain codomain table ∷ items) all (suc f) d e =
-      function_placed (suc k) items (later (tree.Function x kind.Static domain codomain table) items all) f d e
-  function_placed k (tree.Derived x xs t ∷ items) all f d e = function_placed (suc k) items (later (tree.Derived x xs t) items all) f d e
-  function_placed k (tree.Declared x xs P ∷ items) all f d e = function_placed (suc k) items (later (tree.Declared x xs P) items all) f d e
+  function_indexed k (source.Function x kind.Static domain codomain table ∷ items) all (suc f) d e =
+      function_indexed (suc k) items (later (source.Function x kind.Static domain codomain table) items all) f d e
+  function_indexed k (source.Derived x xs t ∷ items) all f d e = function_indexed (suc k) items (later (source.Derived x xs t) items all) f d e
+  function_indexed k (source.Declared x xs P ∷ items) all f d e = function_indexed (suc k) items (later (source.Declared x xs P) items all) f d e

@@ -9,38 +9,38 @@ use Rattle.asm_state.specs.declared.value.Value.{Value}
 use Rattle.asm_state.specs.Signature.{domain_in}
 use Rattle.asm_state.specs.Tables.{argument_lists}
 use Rattle.asm_state.proofs.Domains.{domain_laws}
-use Rattle.asm_syntax.specs.Placed.{Name, Item, Spec}
+use Rattle.asm_syntax.specs.SourceTree.{Name, Item, Spec}
 use Rattle.asm_check.specs.Names as names
 use Rattle.asm_check.specs.Names.{Text, Declaration, Meaning, Range, Enumeration, AsUniverse, is_text, is_known, declared, first_declarations, plain_use, uses, uses_of}
 use Rattle.asm_check.specs.Faults.{IsWellFormed, is_known_use, unknown}
 use Rattle.asm_check.specs.Limits.{is_universe, product}
 use Rattle.asm_check.specs.Numbers.{universes_of}
-use Rattle.asm_check.specs.Shapes.{place_among, texts_of}
+use Rattle.asm_check.specs.Shapes.{index_among, texts_of}
 use Rattle.asm_check.proofs.Firsts.{first_stands}
 use Rattle.asm_check.proofs.Heights.{none_in, head_or_tail}
 
 abbrev pub is_named : Text → Declaration → Bool
 is_named x d = is_text d.name.text x
 
-pub place_is : (ds : List Declaration) (x : Text) → place_among (texts_of ds) x ≡ position_or_len (is_named x) ds
-place_is [] x = refl
-place_is (d ∷ ds) x = ap (λ n. cond (not (is_text d.name.text x)) (1 + n) 0) (place_is ds x)
+pub index_is : (ds : List Declaration) (x : Text) → index_among (texts_of ds) x ≡ position_or_len (is_named x) ds
+index_is [] x = refl
+index_is (d ∷ ds) x = ap (λ n. cond (not (is_text d.name.text x)) (1 + n) 0) (index_is ds x)
 
--- what stands at the place of the first that passes
-pub at_place : {X Y : Type 0} (p : X → Bool) (g : X → Y) (xs : List X) (e : Y) → slice_index_or (map g xs) (position_or_len p xs) e ≡ option_map_or g (find p xs) e
-at_place p g [] e = refl
-at_place p g (x ∷ xs) e =
+-- what stands at the index of the first that passes
+pub at_index : {X Y : Type 0} (p : X → Bool) (g : X → Y) (xs : List X) (e : Y) → slice_index_or (map g xs) (position_or_len p xs) e ≡ option_map_or g (find p xs) e
+at_index p g [] e = refl
+at_index p g (x ∷ xs) e =
     elim (p x) as (λ b. slice_index_or (map g (x ∷ xs)) (cond (not b) (1 + position_or_len p xs) 0) e ≡ option_map_or g (cond b (Some x) (find p xs)) e) [
       | true ↦ refl
-      | false ↦ let up : 1 + position_or_len p xs ≡ suc (position_or_len p xs) = omega arith in ap (λ n. slice_index_or (map g (x ∷ xs)) n e) up ∙ at_place p g xs e
+      | false ↦ let up : 1 + position_or_len p xs ≡ suc (position_or_len p xs) = omega arith in ap (λ n. slice_index_or (map g (x ∷ xs)) n e) up ∙ at_index p g xs e
     ]
 
-pub place_inside : {X : Type 0} (p : X → Bool) (xs : List X) (x : X) → find p xs ≡ Some x → position_or_len p xs < length xs
-place_inside p [] x found = cc
-place_inside p (y ∷ xs) x found =
+pub index_inside : {X : Type 0} (p : X → Bool) (xs : List X) (x : X) → find p xs ≡ Some x → position_or_len p xs < length xs
+index_inside p [] x found = cc
+index_inside p (y ∷ xs) x found =
     elim (p y) as (λ b. cond b (Some y) (find p xs) ≡ Some x → cond (not b) (1 + position_or_len p xs) 0 < length (y ∷ xs)) [
       | true ↦ λ e. omega arith
-      | false ↦ λ e. let rest = place_inside p xs x e in omega (arith, rest)
+      | false ↦ λ e. let rest = index_inside p xs x e in omega (arith, rest)
     ] found
 
 pub find_kept : {X : Type 0} (p q : X → Bool) (xs : List X) (x : X) → find p xs ≡ Some x → q x ≡ true → find p (filter q xs) ≡ Some x
@@ -90,7 +90,7 @@ unfolding uses
 all_known spec good item u it own =
     elim (is_known_use spec u) as (λ b. is_known_use spec u ≡ b → b ≡ true) [
       | true ↦ λ e. refl
-      | false ↦ λ e. absurd (good u.name.at 9 (unknown (record { use_of = u; stands = used_somewhere spec.items item u it own; unknown = e; place = refl })))
+      | false ↦ λ e. absurd (good u.name.at 9 (unknown (record { use_of = u; stands = used_somewhere spec.items item u it own; unknown = e; index = refl })))
     ] refl
 
 -- the universe of a name that is known as one

@@ -8,7 +8,7 @@ use Rattle.std.specs.Cmp.Lexicographic.{pointwise}
 use Rattle.std.specs.List.{position_or_len}
 use Rattle.std.specs.Map.{keys_of, lookup}
 use Rattle.std.proofs.lemmas.Slice.Eq.{slice_eq-Decides}
-use Rattle.asm_syntax.specs.Placed.{Spec}
+use Rattle.asm_syntax.specs.SourceTree.{Spec}
 use Rattle.asm_check.specs.declared.meaning.Declared.{Declared}
 use Rattle.asm_check.specs.Names as names
 use Rattle.asm_check.specs.Names.{Text, Declaration, is_text, is_among, first_declarations, declared}
@@ -58,28 +58,28 @@ got_declared spec entries x key got table e found =
 
 -- ---- positions
 
-abbrev place : Text → List Entry → ℕ
-place x entries = position_or_len (is_key x) (keys_of entries)
+abbrev index : Text → List Entry → ℕ
+index x entries = position_or_len (is_key x) (keys_of entries)
 
-at_place : (entries : List Entry) (x : Text) → place x entries < length (keys_of entries) → text_at entries (place x entries) ≡ x
-at_place [] x h = absurd (omega (arith, h))
-at_place (e ∷ es) x h = by_test (is_key x e.0) refl h (at_place es x)
+at_index : (entries : List Entry) (x : Text) → index x entries < length (keys_of entries) → text_at entries (index x entries) ≡ x
+at_index [] x h = absurd (omega (arith, h))
+at_index (e ∷ es) x h = by_test (is_key x e.0) refl h (at_index es x)
   where
-    by_test : (b : Bool) → is_key x e.0 ≡ b → cond (not b) (1 + place x es) 0 < suc (length (keys_of es)) → (place x es < length (keys_of es) → text_at es (place x es) ≡ x)
-        → text_at (e ∷ es) (cond (not b) (1 + place x es) 0) ≡ x
+    by_test : (b : Bool) → is_key x e.0 ≡ b → cond (not b) (1 + index x es) 0 < suc (length (keys_of es)) → (index x es < length (keys_of es) → text_at es (index x es) ≡ x)
+        → text_at (e ∷ es) (cond (not b) (1 + index x es) 0) ≡ x
     by_test true is below rest = same_text e.0.now x (sym (text_turned x e.0.now) ∙ is)
     by_test false other below rest =
-        let next : 1 + place x es ≡ suc (place x es) = omega arith in
+        let next : 1 + index x es ≡ suc (index x es) = omega arith in
         ap (text_at (e ∷ es)) next ∙ rest (omega (arith, below))
 
 -- the name at the position that is found
 pub named_at : (entries : List Entry) (x key : Text) (r : Option ℕ) → key ≡ x → r ≡ position (is_key key) (keys_of entries) → IfSome r (λ i. text_at entries i ≡ x)
 named_at entries x key r e found =
     subst (λ y. IfSome r (λ i. text_at entries i ≡ y)) e
-    (subst (λ o. IfSome o (λ i. text_at entries i ≡ key)) (sym found) (by_test (nat_lt (place key entries) (length (keys_of entries))) refl))
+    (subst (λ o. IfSome o (λ i. text_at entries i ≡ key)) (sym found) (by_test (nat_lt (index key entries) (length (keys_of entries))) refl))
   where
-    by_test : (b : Bool) → nat_lt (place key entries) (length (keys_of entries)) ≡ b → IfSome (cond b (Some (place key entries)) None) (λ i. text_at entries i ≡ key)
-    by_test true below = at_place entries key (grind (arith, below))
+    by_test : (b : Bool) → nat_lt (index key entries) (length (keys_of entries)) ≡ b → IfSome (cond b (Some (index key entries)) None) (λ i. text_at entries i ≡ key)
+    by_test true below = at_index entries key (grind (arith, below))
     by_test false above = tt
 
 -- a name that has no position isn't declared

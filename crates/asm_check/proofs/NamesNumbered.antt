@@ -5,7 +5,7 @@ use Rattle.std.specs.List.{position_or_len}
 use Rattle.std.proofs.lemmas.Bool.Decides.{nat_tests}
 use Rattle.std.proofs.lemmas.List.Folds.{find_at}
 use Rattle.std.proofs.lemmas.Option.{slice_get_within}
-use Rattle.asm_syntax.specs.Placed.{Spec}
+use Rattle.asm_syntax.specs.SourceTree.{Spec}
 use Rattle.asm_check.specs.declared.checked.Named.{Named}
 use Rattle.asm_check.specs.declared.checked.Named.TheVariants as number
 use Rattle.asm_check.specs.Laws.{meaning_numbered, NamesHaveNumbers}
@@ -53,8 +53,8 @@ record LeadsTo (spec : Spec) (x : Text) (m : Meaning) : Type 0 where
 
 module _ (spec : Spec) (x : Text) where
   module _ (m : Meaning) (means : declared spec x ≡ Some m) where
-    pub place_like : (is_like : Meaning → Bool) → is_like m ≡ true → (n : ℕ) × (number_in (all_of is_like spec) x ≡ Some n) × (meaning_at (all_of is_like spec) n ≡ Some m)
-    place_like is_like kind =
+    pub index_like : (is_like : Meaning → Bool) → is_like m ≡ true → (n : ℕ) × (number_in (all_of is_like spec) x ≡ Some n) × (meaning_at (all_of is_like spec) n ≡ Some m)
+    index_like is_like kind =
         let d = declared_by (find (λ d. is_text d.name.text x) (first_declarations spec)) m (first_stands spec x ∙ means) in
         let at = at_position (λ (d : Declaration). is_text d.name.text x) (all_of is_like spec) d.0
         (first_kept (λ (d : Declaration). is_text d.name.text x) (λ (d : Declaration). is_like d.meaning) (first_declarations spec) d.0 d.1 (ap is_like d.2 ∙ kind)) in
@@ -63,7 +63,7 @@ module _ (spec : Spec) (x : Text) where
     leads_by : (is_like : Meaning → Bool) (make : ℕ → Named) → is_like m ≡ true → named_as spec x (Some m) ≡ option_map make (number_in (all_of is_like spec) x)
         → ((n : ℕ) → meaning_numbered spec (make n) ≡ meaning_at (all_of is_like spec) n) → LeadsTo spec x m
     leads_by is_like make kind is leads =
-        let at = place_like is_like kind in
+        let at = index_like is_like kind in
         record { n = make at.0; is = is ∙ ap (option_map make) at.1; leads = leads at.0 ∙ at.2 }
 
   -- each declared name but those of codomains has a number, which leads to its meaning

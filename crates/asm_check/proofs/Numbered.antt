@@ -9,23 +9,23 @@ use Rattle.std.proofs.lemmas.Bool.Decides.{nat_tests}
 use Rattle.std.proofs.lemmas.List.Elements.{filter-append}
 use Rattle.std.proofs.lemmas.Option.{slice_get-map}
 use Rattle.indexmap.specs.IndexMap.{insert_entry}
-use Rattle.asm_syntax.specs.Placed.{Spec}
+use Rattle.asm_syntax.specs.SourceTree.{Spec}
 use Rattle.asm_check.specs.declared.checked.Named.{Named}
 use Rattle.asm_check.specs.declared.checked.Named.TheVariants as number
-use Rattle.asm_check.specs.declared.numbering.Places.{Places}
+use Rattle.asm_check.specs.declared.numbering.Indices.{Indices}
 use Rattle.asm_check.specs.declared.numbering.Numbering.{Numbering}
 use Rattle.asm_check.specs.Limits.{is_universe, is_rule}
 use Rattle.asm_check.specs.Names as names
 use Rattle.asm_check.specs.Names.{Text, Declaration, Meaning, is_text, is_among, first_declarations, declared}
 use Rattle.asm_check.specs.Numbers.{is_element, is_table, is_derived, number_in, named_as, named}
-use Rattle.asm_check.specs.NumberTables.{placed_if, IsPlaced, next_number, ArePlacesOf, number_after, numbers_from, like, IsNumberingOf, places_like}
+use Rattle.asm_check.specs.NumberTables.{appended_if, IsIndexed, next_number, AreIndicesOf, number_after, numbers_from, like, IsNumberingOf, indices_like}
 use Rattle.asm_check.specs.Shapes.{texts_of}
 use Rattle.asm_check.proofs.Firsts.{first_stands, grown}
 use Rattle.asm_check.proofs.Lookups.{text_turned}
 use Rattle.asm_check.specs.Tables.{Entry, declaration_of, IsTableOf}
 use Rattle.asm_check.proofs.Apart.{AreApart, table_apart}
 use Rattle.asm_check.proofs.Declared.{same_text, text_itself}
-use Rattle.asm_check.proofs.PlacesWhere.{where_one, where_length}
+use Rattle.asm_check.proofs.IndicesWhere.{where_one, where_length}
 
 -- ---- one more declaration
 
@@ -33,13 +33,13 @@ abbrev is_kind : (Meaning → Bool) → Declaration → Bool
 is_kind is_like d = is_like d.meaning
 
 module _ (ds : List Declaration) (d : Declaration) (n : ℕ) (whole : n ≡ length ds) (m : Meaning) (means : d.meaning ≡ m) where
-  one_kind : (is_like : Meaning → Bool) (old new : List ℕ) → old ≡ places_like is_like ds → new ≡ placed_if (is_like m) old n → new ≡ places_like is_like (ds ++ d ∷ [])
+  one_kind : (is_like : Meaning → Bool) (old new : List ℕ) → old ≡ indices_like is_like ds → new ≡ appended_if (is_like m) old n → new ≡ indices_like is_like (ds ++ d ∷ [])
   one_kind is_like old new before grown =
-      grown ∙ ap (λ ns. placed_if (is_like m) ns n) before ∙ ap (λ k. placed_if (is_like k) (places_like is_like ds) n) (sym means)
+      grown ∙ ap (λ ns. appended_if (is_like m) ns n) before ∙ ap (λ k. appended_if (is_like k) (indices_like is_like ds) n) (sym means)
       ∙ sym (where_one (is_kind is_like) ds d n whole)
 
-  pub places_grow : (old new : Places) → ArePlacesOf ds old → IsPlaced old n m new → ArePlacesOf (ds ++ d ∷ []) new
-  places_grow old new are grown = record {
+  pub indices_grow : (old new : Indices) → AreIndicesOf ds old → IsIndexed old n m new → AreIndicesOf (ds ++ d ∷ []) new
+  indices_grow old new are grown = record {
     universes = one_kind is_universe old.universes.items new.universes.items are.universes grown.universes;
     elements = one_kind is_element old.elements.items new.elements.items are.elements grown.elements;
     functions = one_kind is_table old.functions.items new.functions.items are.functions grown.functions;
@@ -47,19 +47,19 @@ module _ (ds : List Declaration) (d : Declaration) (n : ℕ) (whole : n ≡ leng
     rules = one_kind is_rule old.rules.items new.rules.items are.rules grown.rules;
   }
 
-module _ (ds : List Declaration) (places : Places) (are : ArePlacesOf ds places) where
-  how_many : (is_like : Meaning → Bool) (ns : List ℕ) → ns ≡ places_like is_like ds → length ns ≡ length (like is_like ds)
+module _ (ds : List Declaration) (indices : Indices) (are : AreIndicesOf ds indices) where
+  how_many : (is_like : Meaning → Bool) (ns : List ℕ) → ns ≡ indices_like is_like ds → length ns ≡ length (like is_like ds)
   how_many is_like ns e = ap length e ∙ where_length (is_kind is_like) ds
 
-  pub number_is : (m : Meaning) → next_number places m ≡ number_after ds m
+  pub number_is : (m : Meaning) → next_number indices m ≡ number_after ds m
   number_is names.Predeclared = refl
-  number_is (names.Range first last) = ap (λ n. Some (number.Universe n)) (how_many is_universe places.universes.items are.universes)
-  number_is (names.Enumeration k) = ap (λ n. Some (number.Universe n)) (how_many is_universe places.universes.items are.universes)
-  number_is (names.Element k) = ap (λ n. Some (number.Element n)) (how_many is_element places.elements.items are.elements)
-  number_is (names.Controlled domain) = ap (λ n. Some (number.Function n)) (how_many is_table places.functions.items are.functions)
-  number_is (names.Static domain) = ap (λ n. Some (number.Function n)) (how_many is_table places.functions.items are.functions)
-  number_is (names.Derived xs t) = ap (λ n. Some (number.Derived n)) (how_many is_derived places.derived.items are.derived)
-  number_is (names.Procedure xs P) = ap (λ n. Some (number.Called n)) (how_many is_rule places.rules.items are.rules)
+  number_is (names.Range first last) = ap (λ n. Some (number.Universe n)) (how_many is_universe indices.universes.items are.universes)
+  number_is (names.Enumeration k) = ap (λ n. Some (number.Universe n)) (how_many is_universe indices.universes.items are.universes)
+  number_is (names.Element k) = ap (λ n. Some (number.Element n)) (how_many is_element indices.elements.items are.elements)
+  number_is (names.Controlled domain) = ap (λ n. Some (number.Function n)) (how_many is_table indices.functions.items are.functions)
+  number_is (names.Static domain) = ap (λ n. Some (number.Function n)) (how_many is_table indices.functions.items are.functions)
+  number_is (names.Derived xs t) = ap (λ n. Some (number.Derived n)) (how_many is_derived indices.derived.items are.derived)
+  number_is (names.Procedure xs P) = ap (λ n. Some (number.Called n)) (how_many is_rule indices.rules.items are.rules)
 
 numbers_one : (before ds : List Declaration) (d : Declaration) → numbers_from before (ds ++ d ∷ []) ≡ numbers_from before ds ++ (d.name.text, number_after (before ++ ds) d.meaning) ∷ []
 numbers_one before [] d = ap (λ cs. (d.name.text, number_after cs d.meaning) ∷ []) (sym (append-nil before))
@@ -105,21 +105,21 @@ inserted (e ∷ es) key n absent = by_key (pointwise nat_eq key e.0) absent (ins
     by_key true there rest = cc
     by_key false absent rest = ap (λ xs. e ∷ xs) (rest absent)
 
--- one more name, and its place
-pub numbering_grows : (ds : List Declaration) (d : Declaration) (m : Meaning) (old new : Numbering) (places : Places) (key : Text) (n : ℕ) (number : Option Named)
+-- one more name, and its index
+pub numbering_grows : (ds : List Declaration) (d : Declaration) (m : Meaning) (old new : Numbering) (indices : Indices) (key : Text) (n : ℕ) (number : Option Named)
     → d.name.text ≡ key → d.meaning ≡ m → is_among (texts_of ds) key ≡ false → n ≡ length old.names.entries
-    → number ≡ next_number old.places m → IsPlaced old.places n m places
-    → new.names.entries ≡ insert_entry (pointwise nat_eq) old.names.entries key number → new.places ≡ places
+    → number ≡ next_number old.indices m → IsIndexed old.indices n m indices
+    → new.names.entries ≡ insert_entry (pointwise nat_eq) old.names.entries key number → new.indices ≡ indices
     → IsNumberingOf ds old → IsNumberingOf (ds ++ d ∷ []) new
-numbering_grows ds d m old new places key n number text means fresh count is placed put same it = record {
+numbering_grows ds d m old new indices key n number text means fresh count is indexed put same it = record {
   names =
       put
       ∙ inserted old.names.entries key number (not_kept ds old.names.entries key it.names fresh)
       ∙ ap (λ es. es ++ (key, number) ∷ []) it.names
       ∙ ap (λ t. numbers_from [] ds ++ (t, number) ∷ []) (sym text)
-      ∙ ap (λ o. numbers_from [] ds ++ (d.name.text, o) ∷ []) (is ∙ number_is ds old.places it.places m ∙ ap (number_after ds) (sym means))
+      ∙ ap (λ o. numbers_from [] ds ++ (d.name.text, o) ∷ []) (is ∙ number_is ds old.indices it.indices m ∙ ap (number_after ds) (sym means))
       ∙ sym (numbers_one [] ds d);
-  places = subst (ArePlacesOf (ds ++ d ∷ [])) (sym same) (places_grow ds d n (count ∙ kept_length ds old.names.entries it.names) m means old.places places it.places placed);
+  indices = subst (AreIndicesOf (ds ++ d ∷ [])) (sym same) (indices_grow ds d n (count ∙ kept_length ds old.names.entries it.names) m means old.indices indices it.indices indexed);
 }
 
 -- ---- the table's entries, one after another

@@ -3,7 +3,7 @@ use Rattle.std.proofs.Common.{◌≡◌, ◌≢◌, ℕ, ◌<◌, Bool, true, fa
 use Rattle.std.specs.Prelude.{Contains, filter}
 use Rattle.std.proofs.lemmas.Bool.{false≢true}
 use Rattle.std.proofs.lemmas.List.Elements.{Contains-append_left, Contains-append_right}
-use Rattle.asm_syntax.specs.Placed.{Name, Term, Constant, Named, Chain, Not, Negative, Exists, Every, Terms, no_terms, term_then, Links, no_links, link_then, Rule, Skip, Assign, Call, Par, Seq, If, Let, Forall, Choose, Iterate, Rules, no_rules, rule_then, Branch, left_out, written, Spec}
+use Rattle.asm_syntax.specs.SourceTree.{Name, Term, Constant, Named, Chain, Not, Negative, Exists, Every, Terms, no_terms, term_then, Links, no_links, link_then, Rule, Skip, Assign, Call, Par, Seq, If, Let, Forall, Choose, Iterate, Rules, no_rules, rule_then, Branch, left_out, written, Spec}
 use Rattle.asm_check.specs.Names as names
 use Rattle.asm_check.specs.Names.{Text, Meaning, Procedure, Derived, Role, InTerm, AsCalled, Use, use_of, term_count, is_known, is_among, text_of, declared, uses, uses_of_rule, uses_of_rules, uses_of_branch, uses_of_term, uses_of_terms, uses_of_links, uses_of_test}
 use Rattle.asm_check.specs.Ways.{called, used, is_call, is_use, calls_in, uses_in, LeadsTo, at_once, by_way_of, ReachesCycle, IsOnWay, height}
@@ -148,7 +148,7 @@ module _ (spec : Spec) (next : Text → List Text)
         member = first.it;
         stands = subst (λ ds. Contains ds first.it) (sym first.parts) (Contains-append_right first.before (first.it ∷ first.after) first.it (here first.it first.after));
         back = subst (λ x. LeadsTo next x x) (sym first.name) back;
-        place = refl;
+        offset = refl;
       })
 
   reaches_none : (f : Text) → ¬ (ReachesCycle next f)
@@ -174,13 +174,13 @@ rules_ranked : (spec : Spec) → IsWellFormed spec → AreRanks (called spec) (h
 rules_ranked spec good =
     heights_are_ranks (called spec)
     (no_long_way spec (called spec) (rules_begun spec) (λ at bad. good at 12 (cyclic_rule bad))
-    (λ before after d parts way short. good d.name.at 15 (too_many (record { before = before; passing = d; after = after; parts = parts; passes = rule_rank way short; place = refl }))))
+    (λ before after d parts way short. good d.name.at 15 (too_many (record { before = before; passing = d; after = after; parts = parts; passes = rule_rank way short; offset = refl }))))
 
 derived_ranked : (spec : Spec) → IsWellFormed spec → AreRanks (used spec) (height (used spec) 17)
 derived_ranked spec good =
     heights_are_ranks (used spec)
     (no_long_way spec (used spec) (derived_begun spec) (λ at bad. good at 13 (cyclic_derived bad))
-    (λ before after d parts way short. good d.name.at 15 (too_many (record { before = before; passing = d; after = after; parts = parts; passes = derived_rank way short; place = refl }))))
+    (λ before after d parts way short. good d.name.at 15 (too_many (record { before = before; passing = d; after = after; parts = parts; passes = derived_rank way short; offset = refl }))))
 
 -- ---- each call is a step
 
@@ -217,7 +217,7 @@ unfolding ranks.rule_rank ranks.derived_rank
 ranks_exist spec good = record { rules = rules; rules_low = (rules_ranked spec good).0; derived = derived; derived_low = (derived_ranked spec good).0 }
   where
     known : (u : Use) → Contains (uses spec) u → is_known_use spec u ≢ false
-    known u c no' = good u.name.at 9 (unknown (record { use_of = u; stands = c; unknown = no'; place = refl }))
+    known u c no' = good u.name.at 9 (unknown (record { use_of = u; stands = c; unknown = no'; offset = refl }))
 
     callable : (f : Text) (xs : List Name) (P : Rule) → declared spec f ≡ Some (Procedure xs P) → (u : Use) → Contains (uses_of_rule P (map text_of xs)) u → u.role ≡ AsCalled
         → IsCallable spec (height (called spec) 17) (height (called spec) 17 f) u.name.text

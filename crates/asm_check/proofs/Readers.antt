@@ -14,8 +14,8 @@ use Rattle.asm_syntax.specs.declared.spec.Spec as code
 use Rattle.asm_syntax.specs.declared.spec.Item as item
 use Rattle.asm_syntax.specs.declared.spec.Item.TheVariants as variant
 use Rattle.asm_syntax.specs.Views.{spec_of, item_of, name_of}
-use Rattle.asm_syntax.specs.Placed as tree
-use Rattle.asm_syntax.specs.Placed.{Name, Item, Spec}
+use Rattle.asm_syntax.specs.SourceTree as source
+use Rattle.asm_syntax.specs.SourceTree.{Name, Item, Spec}
 use Rattle.asm_check.specs.declared.checked.Named.{Named}
 use Rattle.asm_check.specs.declared.checked.Named.TheVariants as number
 use Rattle.asm_check.specs.declared.numbering.Numbering.{Numbering}
@@ -24,14 +24,14 @@ use Rattle.asm_check.specs.Limits.{is_rule}
 use Rattle.asm_check.specs.Names as names
 use Rattle.asm_check.specs.Names.{Text, Declaration, Meaning, is_text, first_declarations, declared}
 use Rattle.asm_check.specs.Numbers.{is_element, is_table, universes_of, elements_of, functions_of, derived_of, rules_of, number_in, named_as, named, name_at, meaning_at}
-use Rattle.asm_check.specs.NumberTables.{AreBodiesOf, is_rule_item, is_derived_item, IsNumberingOf, IsInRange, IsMain, like, places_like, numbers_from, text_kept_at}
+use Rattle.asm_check.specs.NumberTables.{AreBodiesOf, is_rule_item, is_derived_item, IsNumberingOf, IsInRange, IsMain, like, indices_like, numbers_from, text_kept_at}
 use Rattle.asm_check.specs.Shapes.{texts_of}
 use Rattle.asm_check.specs.declared.bodies.Bodies.{Bodies}
-use Rattle.asm_check.proofs.BodyPlaces.{body_meaning, IsBody, rules_counted, derived_counted, rule_at, derived_at}
+use Rattle.asm_check.proofs.BodyIndices.{body_meaning, IsBody, rules_counted, derived_counted, rule_at, derived_at}
 use Rattle.asm_check.proofs.Firsts.{first_stands}
 use Rattle.asm_check.proofs.Fit.{bodies_are_fit}
 use Rattle.asm_check.proofs.Numbered.{kept_length, found_named}
-use Rattle.asm_check.proofs.PlacesWhere.{nth, where_length}
+use Rattle.asm_check.proofs.IndicesWhere.{nth, where_length}
 
 -- ---- numbers are in range
 
@@ -67,38 +67,38 @@ module _ (spec : Spec) (n : Numbering) (it : IsNumberingOf (first_declarations s
   abbrev all : List Declaration
   all = first_declarations spec
 
-  text_at_place : (k : ℕ) → text_kept_at n k ≡ option_map (λ (d : Declaration). d.name.text) (slice_get all k)
-  text_at_place k =
+  text_at_index : (k : ℕ) → text_kept_at n k ≡ option_map (λ (d : Declaration). d.name.text) (slice_get all k)
+  text_at_index k =
       sym (slice_get-map (λ (e : Text × Option Named). e.0) n.names.entries k)
       ∙ ap (λ ts. slice_get ts k) (ap (map (λ (e : Text × Option Named). e.0)) it.names ∙ numbered_texts [] all)
       ∙ slice_get-map (λ (d : Declaration). d.name.text) all k
 
-  -- the place of a number, and the name there
+  -- the index of a number, and the name there
   pub record HasName (ns : List ℕ) (ds : List Declaration) (i : ℕ) : Type 0 where
     pub number : i < length ns
-    pub place : get_or ns i 0 < length n.names.entries
+    pub index : get_or ns i 0 < length n.names.entries
     pub name : text_kept_at n (get_or ns i 0) ≡ name_at ds i
 
-  has_name : (is_like : Meaning → Bool) (ns : List ℕ) → ns ≡ places_like is_like all → (i : ℕ) → i < length (like is_like all) → HasName ns (like is_like all) i
+  has_name : (is_like : Meaning → Bool) (ns : List ℕ) → ns ≡ indices_like is_like all → (i : ℕ) → i < length (like is_like all) → HasName ns (like is_like all) i
   has_name is_like ns are i h =
       let low : i < length ns = subst (λ m. i < m) (sym (ap length are ∙ where_length (λ (d : Declaration). is_like d.meaning) all)) h in
-      let at : slice_get (places_like is_like all) i ≡ Some (get_or ns i 0) = ap (λ ms. slice_get ms i) (sym are) ∙ slice_get-get_or ns i 0 low in
+      let at : slice_get (indices_like is_like all) i ≡ Some (get_or ns i 0) = ap (λ ms. slice_get ms i) (sym are) ∙ slice_get-get_or ns i 0 low in
       let found = nth (λ (d : Declaration). is_like d.meaning) all i (get_or ns i 0) at in
-      let inside = slice_get_within all (get_or ns i 0) found.it found.place in
+      let inside = slice_get_within all (get_or ns i 0) found.it found.index in
       record {
         number = low;
-        place = subst (λ m. get_or ns i 0 < m) (sym (kept_length all n.names.entries it.names)) inside;
-        name = text_at_place (get_or ns i 0) ∙ ap (option_map (λ (d : Declaration). d.name.text)) (found.place ∙ sym found.kept);
+        index = subst (λ m. get_or ns i 0 < m) (sym (kept_length all n.names.entries it.names)) inside;
+        name = text_at_index (get_or ns i 0) ∙ ap (option_map (λ (d : Declaration). d.name.text)) (found.index ∙ sym found.kept);
       }
 
-  pub function_has_name : (f : ℕ) → f < length (functions_of spec) → HasName n.places.functions.items (functions_of spec) f
-  function_has_name = has_name is_table n.places.functions.items it.places.functions
+  pub function_has_name : (f : ℕ) → f < length (functions_of spec) → HasName n.indices.functions.items (functions_of spec) f
+  function_has_name = has_name is_table n.indices.functions.items it.indices.functions
 
-  pub element_has_name : (e : ℕ) → e < length (elements_of spec) → HasName n.places.elements.items (elements_of spec) e
-  element_has_name = has_name is_element n.places.elements.items it.places.elements
+  pub element_has_name : (e : ℕ) → e < length (elements_of spec) → HasName n.indices.elements.items (elements_of spec) e
+  element_has_name = has_name is_element n.indices.elements.items it.indices.elements
 
-  pub elements_counted : length n.places.elements.items ≡ length (elements_of spec)
-  elements_counted = ap length it.places.elements ∙ where_length (λ (d : Declaration). is_element d.meaning) all
+  pub elements_counted : length n.indices.elements.items ≡ length (elements_of spec)
+  elements_counted = ap length it.indices.elements ∙ where_length (λ (d : Declaration). is_element d.meaning) all
 
 -- ---- the starting rule
 
@@ -164,10 +164,10 @@ one_start spec good = let start = (bodies_are_fit spec good).start in (start.nam
 abbrev pub inits_in : List Item → List Name
 inits_in items = filter_map init_of items
 
-first_init : (items : List Item) (k : ℕ) (x : Name) → slice_get items k ≡ Some (tree.Init x) → inits_in (take k items) ≡ [] → (more : List Name) × (inits_in items ≡ x ∷ more)
+first_init : (items : List Item) (k : ℕ) (x : Name) → slice_get items k ≡ Some (source.Init x) → inits_in (take k items) ≡ [] → (more : List Name) × (inits_in items ≡ x ∷ more)
 first_init [] k x at none = cc
 first_init (item ∷ items) zero x at none =
-    let same : item ≡ tree.Init x = cc in
+    let same : item ≡ source.Init x = cc in
     (inits_in items, ap (λ it. inits_in (it ∷ items)) same)
 first_init (item ∷ items) (suc k) x at none = by_item (init_of item) none (first_init items k x at)
   where
@@ -180,7 +180,7 @@ module _ (spec : code.Spec) (good : IsWellFormed (spec_of spec)) (its : List ite
   pub one_init : (k : ℕ) (it : item.Item) (x : code_name.Name) → k < length its → it ≡ get_or its k it → it ≡ variant.Init x
       → inits_in (map item_of (take k its)) ≡ [] → inits (spec_of spec) ≡ name_of x ∷ []
   one_init k it x low at is none =
-      let here : slice_get (map item_of its) k ≡ Some (tree.Init (name_of x)) =
+      let here : slice_get (map item_of its) k ≡ Some (source.Init (name_of x)) =
       slice_get-map item_of its k
       ∙ ap (option_map item_of) (slice_get-get_or its k it low ∙ ap Some (sym at))
       ∙ ap (λ y. Some (item_of y)) is in
@@ -219,12 +219,12 @@ no_init_more its k it within at other none =
 
 module _ (spec : code.Spec) (p : Item → Bool) (ds : List Declaration) (r k : ℕ) (body : IsBody (spec_of spec) p ds r k) where
   pub body_inside : k < length spec.items.items
-  body_inside = let low = slice_get_within (map item_of spec.items.items) k body.it body.place in omega (arith, low, length-map spec.items.items item_of)
+  body_inside = let low = slice_get_within (map item_of spec.items.items) k body.it body.index in omega (arith, low, length-map spec.items.items item_of)
 
   same_item : (it : item.Item) → it ≡ get_or spec.items.items k it → body.it ≡ item_of it
   same_item it at =
       let found : Some body.it ≡ Some (item_of it) =
-      sym body.place ∙ slice_get-map item_of spec.items.items k ∙ ap (option_map item_of) (slice_get-get_or spec.items.items k it body_inside ∙ ap Some (sym at)) in
+      sym body.index ∙ slice_get-map item_of spec.items.items k ∙ ap (option_map item_of) (slice_get-get_or spec.items.items k it body_inside ∙ ap Some (sym at)) in
       cc
 
   pub body_means : (it : item.Item) → it ≡ get_or spec.items.items k it → (it' : item.Item) → it ≡ it' → meaning_at ds r ≡ Some (body_meaning (item_of it'))

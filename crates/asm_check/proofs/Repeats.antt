@@ -1,6 +1,6 @@
 -- Names that stand in a list once more.
 use Rattle.std.proofs.Common.{◌≡◌, ℕ, Bool, true, false, cond, ◌||◌, List, [], ◌∷◌, ◌++◌, map, refl, sym, ap, subst, ◌∙◌}
-use Rattle.asm_syntax.specs.Placed.{Name}
+use Rattle.asm_syntax.specs.SourceTree.{Name}
 use Rattle.asm_check.specs.Names.{Text, is_text, is_among, text_of}
 use Rattle.asm_check.specs.FaultLists.{repeats, at_with}
 use Rattle.asm_check.proofs.Declared.{same_text}

@@ -6,7 +6,7 @@ use Rattle.std.specs.List.{list_any}
 use Rattle.std.proofs.lemmas.Grind.{flat_map-append}
 use Rattle.std.proofs.lemmas.List.{map-append, take_more}
 use Rattle.indexmap.specs.IndexSet.{insert_key}
-use Rattle.asm_syntax.specs.Placed.{Name, Item}
+use Rattle.asm_syntax.specs.SourceTree.{Name, Item}
 use Rattle.asm_check.specs.Names.{Text, is_text, is_among, text_of}
 use Rattle.asm_check.specs.Faults.{parameters_of}
 use Rattle.asm_check.specs.FaultLists.{repeats, at_with}

@@ -9,8 +9,8 @@ use Rattle.asm_state.specs.Signature.{domain_in}
 use Rattle.asm_state.specs.Tables.{IsTableOf}
 use Rattle.asm_state.proofs.Lists.{All-from_contained}
 use Rattle.asm_syntax.specs.declared.spec.FunctionKind.TheVariants as kind
-use Rattle.asm_syntax.specs.Placed as tree
-use Rattle.asm_syntax.specs.Placed.{Item, Spec}
+use Rattle.asm_syntax.specs.SourceTree as source
+use Rattle.asm_syntax.specs.SourceTree.{Item, Spec}
 use Rattle.asm_check.specs.Names.{Declaration, declarations_of, declarations_from, first_declarations}
 use Rattle.asm_check.specs.Faults.{IsWellFormed}
 use Rattle.asm_check.specs.Limits.{is_universe, is_function}
@@ -50,14 +50,14 @@ module _ (spec : Spec) (good : IsWellFormed spec) where
 
   fewer_functions : (k : ℕ) (items : List Item) → length (filter_map (function_given spec) items) ≤ length (like is_function (declarations_from k items))
   fewer_functions k [] = omega arith
-  fewer_functions k (tree.Uses x ∷ items) = fewer_functions (suc k) items
-  fewer_functions k (tree.Init x ∷ items) = fewer_functions (suc k) items
-  fewer_functions k (tree.Enum x xs ∷ items) = let next = functions_next k (tree.Enum x xs) items in let rest = fewer_functions (suc k) items in omega (arith, next, rest)
-  fewer_functions k (tree.Universe x first last ∷ items) = fewer_functions (suc k) items
-  fewer_functions k (tree.Function x kind.Controlled domain codomain table ∷ items) = let rest = fewer_functions (suc k) items in omega (arith, rest)
-  fewer_functions k (tree.Function x kind.Static domain codomain table ∷ items) = let rest = fewer_functions (suc k) items in omega (arith, rest)
-  fewer_functions k (tree.Derived x xs t ∷ items) = let rest = fewer_functions (suc k) items in omega (arith, rest)
-  fewer_functions k (tree.Declared x xs P ∷ items) = fewer_functions (suc k) items
+  fewer_functions k (source.Uses x ∷ items) = fewer_functions (suc k) items
+  fewer_functions k (source.Init x ∷ items) = fewer_functions (suc k) items
+  fewer_functions k (source.Enum x xs ∷ items) = let next = functions_next k (source.Enum x xs) items in let rest = fewer_functions (suc k) items in omega (arith, next, rest)
+  fewer_functions k (source.Universe x first last ∷ items) = fewer_functions (suc k) items
+  fewer_functions k (source.Function x kind.Controlled domain codomain table ∷ items) = let rest = fewer_functions (suc k) items in omega (arith, rest)
+  fewer_functions k (source.Function x kind.Static domain codomain table ∷ items) = let rest = fewer_functions (suc k) items in omega (arith, rest)
+  fewer_functions k (source.Derived x xs t ∷ items) = let rest = fewer_functions (suc k) items in omega (arith, rest)
+  fewer_functions k (source.Declared x xs P ∷ items) = fewer_functions (suc k) items
 
   functions_few : length (filter_map (function_given spec) spec.items) ≤ 256
   functions_few =

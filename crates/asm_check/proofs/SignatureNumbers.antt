@@ -4,14 +4,14 @@ use Rattle.std.specs.Prelude.{Contains, slice_get, option_map}
 use Rattle.std.proofs.lemmas.List.{length-map}
 use Rattle.std.proofs.lemmas.Option.{slice_get-map}
 use Rattle.asm_state.specs.Universe.{element}
-use Rattle.asm_syntax.specs.Placed.{Spec}
+use Rattle.asm_syntax.specs.SourceTree.{Spec}
 use Rattle.asm_check.specs.Names.{Declaration, Enumeration, Element, declarations_from, first_declarations}
 use Rattle.asm_check.specs.Faults.{IsWellFormed}
 use Rattle.asm_check.specs.Numbers.{is_element, is_table, universes_of, elements_of, functions_of}
 use Rattle.asm_check.specs.Shapes.{universe_values, shape_of}
 use Rattle.asm_check.specs.Laws.{SignatureNumbers}
 use Rattle.asm_check.proofs.ItemLists.{like}
-use Rattle.asm_check.proofs.ListedDeclarations.{length_elements, element_placed, length_functions, function_placed}
+use Rattle.asm_check.proofs.ListedDeclarations.{length_elements, element_indexed, length_functions, function_indexed}
 use Rattle.asm_check.proofs.Sized.{all_numbered, few_elements}
 use Rattle.asm_check.proofs.Sole.{all_like}
 
@@ -26,7 +26,7 @@ module _ (spec : Spec) (good : IsWellFormed spec) where
   element_stands n k d e is =
       let same : 0 + n ≡ n = omega arith in
       subst (λ m. Contains (universe_values spec (Enumeration k)) (element m)) same
-      (element_placed (first_declarations spec) 0 0 spec.items (all_numbered spec good) n k d (ap (λ ds. slice_get ds n) (sym elements_all) ∙ e) is)
+      (element_indexed (first_declarations spec) 0 0 spec.items (all_numbered spec good) n k d (ap (λ ds. slice_get ds n) (sym elements_all) ∙ e) is)
 
   elements_few : length (elements_of spec) ≤ 262_144
   elements_few =
@@ -40,7 +40,7 @@ signature_numbers spec good = record {
   count_of_universes = length-map (universes_of spec) (λ d. universe_values spec d.meaning);
   universes = λ n d e. slice_get-map (λ (d : Declaration). universe_values spec d.meaning) (universes_of spec) n ∙ ap (option_map (λ (d : Declaration). universe_values spec d.meaning)) e;
   count_of_functions = length_functions spec 0 spec.items ∙ ap length (sym (functions_all spec good));
-  functions = λ f d e. function_placed spec 0 spec.items (λ item it. it) f d (ap (λ ds. slice_get ds f) (sym (functions_all spec good)) ∙ e);
+  functions = λ f d e. function_indexed spec 0 spec.items (λ item it. it) f d (ap (λ ds. slice_get ds f) (sym (functions_all spec good)) ∙ e);
   elements = element_stands spec good;
   few_elements = elements_few spec good;
 }

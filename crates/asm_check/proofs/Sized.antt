@@ -5,8 +5,8 @@ use Rattle.std.proofs.lemmas.List.{length-append}
 use Rattle.std.proofs.lemmas.List.Elements.{Contains-append_left, Contains-append_right}
 use Rattle.std.proofs.lemmas.List.Sums.{sum_by-cons}
 use Rattle.asm_state.specs.Universe.{count_between}
-use Rattle.asm_syntax.specs.Placed as tree
-use Rattle.asm_syntax.specs.Placed.{Item, Spec}
+use Rattle.asm_syntax.specs.SourceTree as source
+use Rattle.asm_syntax.specs.SourceTree.{Item, Spec}
 use Rattle.asm_check.specs.Names.{Declaration, Meaning, Enumeration, Range, declares, declarations_of, declarations_from, predeclared, first_declarations}
 use Rattle.asm_check.specs.Faults.{IsWellFormed}
 use Rattle.asm_check.specs.Limits.{is_universe, size_of}
@@ -27,19 +27,19 @@ total_ones is_like (d ∷ ds) =
     ]
 
 abbrev pub IsSmallItem : Item → Type 0
-IsSmallItem (tree.Enum x xs) = length xs ≤ 4096
-IsSmallItem (tree.Universe x first last) = count_between first.value last.value ≤ 4096
+IsSmallItem (source.Enum x xs) = length xs ≤ 4096
+IsSmallItem (source.Universe x first last) = count_between first.value last.value ≤ 4096
 IsSmallItem item = Unit {0}
 
 module _ (spec : Spec) (good : IsWellFormed spec) where
   own_small : (k : ℕ) (item : Item) → size_of spec (Enumeration k) ≡ elements_of_item item → ((d : Declaration) → Contains (declarations_of k item) d → size_of spec d.meaning ≤ 4096) → IsSmallItem item
-  own_small k (tree.Enum x xs) is small = let h = small (declares x (Enumeration k)) (here (declares x (Enumeration k)) (element_declarations k xs)) in omega (arith, is, h)
-  own_small k (tree.Universe x first last) is small = small (declares x (Range first.value last.value)) (here (declares x (Range first.value last.value)) [])
-  own_small k (tree.Uses x) is small = tt
-  own_small k (tree.Init x) is small = tt
-  own_small k (tree.Function x how domain codomain table) is small = tt
-  own_small k (tree.Derived x xs t) is small = tt
-  own_small k (tree.Declared x xs P) is small = tt
+  own_small k (source.Enum x xs) is small = let h = small (declares x (Enumeration k)) (here (declares x (Enumeration k)) (element_declarations k xs)) in omega (arith, is, h)
+  own_small k (source.Universe x first last) is small = small (declares x (Range first.value last.value)) (here (declares x (Range first.value last.value)) [])
+  own_small k (source.Uses x) is small = tt
+  own_small k (source.Init x) is small = tt
+  own_small k (source.Function x how domain codomain table) is small = tt
+  own_small k (source.Derived x xs t) is small = tt
+  own_small k (source.Declared x xs P) is small = tt
 
   small_from : (k first : ℕ) (items : List Item) → AreNumbered (first_declarations spec) k first items → ((d : Declaration) → Contains (declarations_from k items) d → size_of spec d.meaning ≤ 4096)
       → (item : Item) → Contains items item → IsSmallItem item
@@ -63,15 +63,15 @@ module _ (spec : Spec) (good : IsWellFormed spec) where
   universes_next k item items = ap length (like_next is_universe k item items) ∙ length-append (like is_universe (declarations_of k item)) (like is_universe (declarations_from (suc k) items))
 
   own_few : (k : ℕ) (item : Item) → IsSmallItem item → elements_of_item item ≤ 4096 * length (like is_universe (declarations_of k item))
-  own_few k (tree.Enum x xs) small =
-      let own : length (like is_universe (declarations_of k (tree.Enum x xs))) ≡ 1 = ap (λ ds. length (declares x (Enumeration k) ∷ ds)) (elements_dropped is_universe k xs refl) in
+  own_few k (source.Enum x xs) small =
+      let own : length (like is_universe (declarations_of k (source.Enum x xs))) ≡ 1 = ap (λ ds. length (declares x (Enumeration k) ∷ ds)) (elements_dropped is_universe k xs refl) in
       omega (arith, own, small)
-  own_few k (tree.Universe x first last) small = omega arith
-  own_few k (tree.Uses x) small = omega arith
-  own_few k (tree.Init x) small = omega arith
-  own_few k (tree.Function x how domain codomain table) small = omega arith
-  own_few k (tree.Derived x xs t) small = omega arith
-  own_few k (tree.Declared x xs P) small = omega arith
+  own_few k (source.Universe x first last) small = omega arith
+  own_few k (source.Uses x) small = omega arith
+  own_few k (source.Init x) small = omega arith
+  own_few k (source.Function x how domain codomain table) small = omega arith
+  own_few k (source.Derived x xs t) small = omega arith
+  own_few k (source.Declared x xs P) small = omega arith
 
   few_from : (k : ℕ) (items : List Item) → ((item : Item) → Contains items item → IsSmallItem item) → elements_in items ≤ 4096 * length (like is_universe (declarations_from k items))
   few_from k [] small = omega arith

@@ -4,7 +4,7 @@ use Rattle.std.specs.Prelude.{Contains, filter, sum_by}
 use Rattle.std.proofs.lemmas.Bool.{cases_lt}
 use Rattle.std.proofs.lemmas.List.{map-append}
 use Rattle.std.proofs.lemmas.List.Elements.{filter-append}
-use Rattle.asm_syntax.specs.Placed.{Spec}
+use Rattle.asm_syntax.specs.SourceTree.{Spec}
 use Rattle.asm_check.specs.Names.{Declaration, Meaning, first_declarations}
 use Rattle.asm_check.specs.Limits.{is_universe, is_function, is_controlled, is_static, is_rule, size_of, domain_of, lists_of, Passes, PassesLimit, universes, elements, functions, domain, locations, static_lists, rules}
 use Rattle.asm_check.specs.Faults.{too_many}
@@ -49,7 +49,7 @@ limits_hold spec good = record {
     ds = first_declarations spec
 
     never : (before after : List Declaration) (d : Declaration) → first_declarations spec ≡ before ++ d ∷ after → ¬ (PassesLimit spec before d)
-    never before after d parts passes = good d.name.at 15 (too_many (record { before = before; passing = d; after = after; parts = parts; passes = passes; place = refl }))
+    never before after d parts passes = good d.name.at 15 (too_many (record { before = before; passing = d; after = after; parts = parts; passes = passes; offset = refl }))
 
     small : (d : Declaration) → Contains (first_declarations spec) d → (n most : ℕ) → (most < n → (before : List Declaration) → PassesLimit spec before d) → n ≤ most
     small d c n most passes =

@@ -6,7 +6,7 @@ use Rattle.std.proofs.lemmas.List.{map-append}
 use Rattle.std.proofs.lemmas.List.Elements.{All-contains, filter-append}
 use Rattle.std.proofs.lemmas.List.Kept.{AllPairs-cons, AllPairs-filter}
 use Rattle.asm_state.proofs.Lists.{All-from_contained, AllPairs-none, AllPairs-head, AllPairs-tail, AllPairs-map}
-use Rattle.asm_syntax.specs.Placed.{Spec}
+use Rattle.asm_syntax.specs.SourceTree.{Spec}
 use Rattle.asm_check.specs.Names.{Text, Declaration, Meaning, Predeclared, predeclared_names, declares, is_text, is_among, text_of, predeclared, declarations_from, declarations, first_of_each, first_declarations}
 use Rattle.asm_check.specs.Faults.{IsWellFormed, IsRepeated, parameters_of, twice}
 use Rattle.asm_check.specs.Shapes.{AreApart, texts_of}
@@ -50,7 +50,7 @@ none_twice spec good before after d parts =
       after = map (λ c. c.name) after;
       parts = ap (map (λ c. c.name)) parts ∙ map-append (λ c. c.name) before (d ∷ after);
       is_before = ap (λ xs. is_among xs d.name.text) (same_texts before) ∙ e;
-      place = refl;
+      offset = refl;
     }
 
 pub apart : (spec : Spec) → IsWellFormed spec → AllPairs IsOther (declarations spec)

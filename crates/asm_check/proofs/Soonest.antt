@@ -1,7 +1,7 @@
 -- The least faults of two sets give the least of both.
 use Rattle.std.proofs.Common.{◌≡◌, ◌⊎◌, ℕ, true, false, cond, Option, Some, None, refl, inl, inr, arith}
 use Rattle.std.proofs.lemmas.Bool.{cases_lt}
-use Rattle.asm_syntax.specs.Placed.{Spec}
+use Rattle.asm_syntax.specs.SourceTree.{Spec}
 use Rattle.asm_check.specs.Faults.{IsUpTo, IsFault, IsLeastFault, IsWellFormed}
 use Rattle.asm_check.specs.Soonest.{IsSoonest, is_up_to, sooner}
 

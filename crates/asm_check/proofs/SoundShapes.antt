@@ -4,8 +4,8 @@ use Rattle.std.proofs.lemmas.List.Elements.{All-nil, All-cons, All-append}
 use Rattle.asm_state.specs.declared.value.Value.{Value}
 use Rattle.asm_state.specs.Universe.{elements, numbers_between, IsUniverse}
 use Rattle.asm_state.proofs.Domains.{universe_laws}
-use Rattle.asm_syntax.specs.Placed as tree
-use Rattle.asm_syntax.specs.Placed.{Item, Spec}
+use Rattle.asm_syntax.specs.SourceTree as source
+use Rattle.asm_syntax.specs.SourceTree.{Item, Spec}
 use Rattle.asm_check.specs.Laws.{ShapeIsSound}
 use Rattle.asm_check.specs.Limits.{is_universe}
 use Rattle.asm_check.specs.Listed.{elements_of_item, elements_in, universe_of_item, universe_lists}
@@ -16,14 +16,14 @@ use Rattle.asm_check.proofs.Sized.{all_numbered, few_elements}
 use Rattle.asm_check.proofs.Sole.{all_like}
 
 own_universes : (n : ℕ) (item : Item) → n + elements_of_item item ≤ 262_144 → All IsUniverse (universe_of_item n item)
-own_universes n (tree.Uses x) room = All-nil IsUniverse
-own_universes n (tree.Init x) room = All-nil IsUniverse
-own_universes n (tree.Enum x xs) room = All-cons IsUniverse (elements n (length xs)) [] (universe_laws.elements_rise n (length xs) room) (All-nil IsUniverse)
-own_universes n (tree.Universe x low high) room =
+own_universes n (source.Uses x) room = All-nil IsUniverse
+own_universes n (source.Init x) room = All-nil IsUniverse
+own_universes n (source.Enum x xs) room = All-cons IsUniverse (elements n (length xs)) [] (universe_laws.elements_rise n (length xs) room) (All-nil IsUniverse)
+own_universes n (source.Universe x low high) room =
     All-cons IsUniverse (numbers_between low.value high.value) [] (universe_laws.numbers_rise low high) (All-nil IsUniverse)
-own_universes n (tree.Function x how domain codomain table) room = All-nil IsUniverse
-own_universes n (tree.Derived x xs t) room = All-nil IsUniverse
-own_universes n (tree.Declared x xs P) room = All-nil IsUniverse
+own_universes n (source.Function x how domain codomain table) room = All-nil IsUniverse
+own_universes n (source.Derived x xs t) room = All-nil IsUniverse
+own_universes n (source.Declared x xs P) room = All-nil IsUniverse
 
 universes_from : (n : ℕ) (items : List Item) → n + elements_in items ≤ 262_144 → All IsUniverse (universe_lists n items)
 universes_from n [] room = All-nil IsUniverse

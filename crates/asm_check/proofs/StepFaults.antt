@@ -4,7 +4,7 @@ use Rattle.std.specs.Prelude.{Contains, All}
 use Rattle.std.proofs.lemmas.Bool.{false≢true}
 use Rattle.std.proofs.lemmas.List.Elements.{Contains-get_or, Contains-append_cases, All-contains}
 use Rattle.std.proofs.lemmas.Option.{slice_get_within, get_or_from_slice_get}
-use Rattle.asm_syntax.specs.Placed.{Spec}
+use Rattle.asm_syntax.specs.SourceTree.{Spec}
 use Rattle.asm_check.specs.declared.meaning.Meaning.{Meaning}
 use Rattle.asm_check.specs.declared.meaning.Meaning.TheVariants as code
 use Rattle.asm_check.specs.Faults.{IsCyclic}
@@ -166,30 +166,30 @@ module _ (spec : Spec) (entries : List Entry) (lists : List (List ℕ)) (are : A
     derived_at e n is r = subst IsDerived (sym (known n e is)) r
 
     cycle_fault : (n : ℕ) (e : Entry) (at number : ℕ) → slice_get entries n ≡ Some e → IsCycleAt lists n e.1.at e.1.meaning at number → IsStepFault spec at number
-    cycle_fault n e at number is (way, place, kind) =
+    cycle_fault n e at number is (way, offset, kind) =
         let back : LeadsTo (onward spec) e.0.now e.0.now = subst (λ f. LeadsTo (onward spec) f f) (text_is n e is) (at_leads n (inside n e is) way) in
         elim (kind_of_number e.1.meaning number kind) [
           | inl (r, twelve) ↦
               subst (IsStepFault spec at) twelve (cyclic_rule (record {
                 member = declaration_of e;
                 stands = stands n e is;
-                place = place;
+                offset = offset;
                 back = part_leads_back spec (called spec) (λ f. IsRule (declared spec f)) (all_calls spec) (λ f g i c. callee spec f g c) e.0.now (rule_at e n is r) back;
               }))
           | inr (r, thirteen) ↦
               subst (IsStepFault spec at) thirteen (cyclic_derived (record {
                 member = declaration_of e;
                 stands = stands n e is;
-                place = place;
+                offset = offset;
                 back = part_leads_back spec (used spec) (λ f. IsDerived (declared spec f)) (all_uses spec) (λ f g i c. usee spec f g c) e.0.now (derived_at e n is r) back;
               }))
         ]
 
     high_fault : (n : ℕ) (e : Entry) (at number : ℕ) → slice_get entries n ≡ Some e → IsHighAt lists n e.1.at at number → IsStepFault spec at number
-    high_fault n e at number is (way, short, place, fifteen) =
+    high_fault n e at number is (way, short, offset, fifteen) =
         let long : IsOnWay (onward spec) 17 e.0.now = subst (IsOnWay (onward spec) 17) (text_is n e is) (at_way 17 n (inside n e is) way) in
         let none : ¬ (ReachesCycle (onward spec) e.0.now) = λ r. short (at_reaches_back n (inside n e is) (subst (ReachesCycle (onward spec)) (sym (text_is n e is)) r)) in
-        subst (IsStepFault spec at) fifteen (too_high (declaration_of e) (stands n e is) (too_high_by long none) place)
+        subst (IsStepFault spec at) fifteen (too_high (declaration_of e) (stands n e is) (too_high_by long none) offset)
       where
         too_high_by : IsOnWay (onward spec) 17 e.0.now → ¬ (ReachesCycle (onward spec) e.0.now) → IsTooHigh spec (declaration_of e)
         too_high_by (g, c, w) none =
@@ -232,7 +232,7 @@ module _ (spec : Spec) (entries : List Entry) (lists : List (List ℕ)) (are : A
             it.2.0,
             inl (
               at_leads_back it.0 (inside it.0 e it.2.0) (leads (text_at entries it.0) back),
-              ap (λ d. d.name.at) it.2.1 ∙ bad.place,
+              ap (λ d. d.name.at) it.2.1 ∙ bad.offset,
               kind (text_at entries it.0) e.1.meaning back (member_test it.0 e it.2.0),
             ),
           ),
@@ -260,7 +260,7 @@ module _ (spec : Spec) (entries : List Entry) (lists : List (List ℕ)) (are : A
 
     high_at : (d : Declaration) → Contains (first_declarations spec) d → IsOnWay (onward spec) 17 d.name.text → ¬ (ReachesCycle (onward spec) d.name.text)
         → (at : ℕ) → d.name.at ≡ at → IsFaultBelow lists entries (length entries) at 15
-    high_at d c long none at place =
+    high_at d c long none at offset =
         let it = at_entry d d.name.text c refl in
         let e = it.1 in (
           it.0,
@@ -271,7 +271,7 @@ module _ (spec : Spec) (entries : List Entry) (lists : List (List ℕ)) (are : A
             inr (
               at_way_back 17 it.0 (inside it.0 e it.2.0) (subst (IsOnWay (onward spec) 17) (sym it.2.2) long),
               (λ bad. none (subst (ReachesCycle (onward spec)) it.2.2 (at_reaches it.0 (inside it.0 e it.2.0) bad))),
-              ap (λ d. d.name.at) it.2.1 ∙ place,
+              ap (λ d. d.name.at) it.2.1 ∙ offset,
               refl,
             ),
           ),
@@ -292,4 +292,4 @@ module _ (spec : Spec) (entries : List Entry) (lists : List (List ℕ)) (are : A
     pub complete : (at number : ℕ) → IsStepFault spec at number → IsFaultBelow lists entries (length entries) at number
     complete at number (cyclic_rule bad) = cycle_at (called spec) 12 rule_leads rule_kind at bad
     complete at number (cyclic_derived bad) = cycle_at (used spec) 13 derived_leads derived_kind at bad
-    complete at number (too_high d c high place) = let it = high_of d high in high_at d c it.0 it.1 at place
+    complete at number (too_high d c high offset) = let it = high_of d high in high_at d c it.0 it.1 at offset

@@ -3,7 +3,7 @@ use Rattle.std.proofs.Common.{◌≡◌, ℕ, zero, suc, ◌+◌, ◌<◌, Bool,
 use Rattle.std.specs.Prelude.{All, filter, slice_get}
 use Rattle.std.proofs.lemmas.List.{append_assoc, map-append, get_or-map, length-append}
 use Rattle.std.proofs.lemmas.List.Elements.{All-append, All-cons, All-nil}
-use Rattle.asm_syntax.specs.Placed.{Spec}
+use Rattle.asm_syntax.specs.SourceTree.{Spec}
 use Rattle.asm_check.specs.Graph.{next_of}
 use Rattle.asm_check.specs.Names.{Text, Meaning, Role, InTerm, AsTarget, AsCalled, AsUniverse, AsCodomain, AsElement, Use, declared}
 use Rattle.asm_check.specs.Onward.{onward}

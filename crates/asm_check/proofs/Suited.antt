@@ -4,7 +4,7 @@
 use Rattle.std.proofs.Common.{◌≡◌, ℕ, Bool, true, false, ◌||◌, List, [], ◌∷◌, length, Option, Some, None, refl, sym, ap, subst, ◌∙◌, inl, inr}
 use Rattle.std.specs.Prelude.{Contains, option_map}
 use Rattle.std.proofs.lemmas.Bool.{false≢true}
-use Rattle.asm_syntax.specs.Placed.{Name, Spec}
+use Rattle.asm_syntax.specs.SourceTree.{Name, Spec}
 use Rattle.asm_check.specs.Fit.{IsUniverseName, IsElementName, IsCodomainName, IsFitName, IsFitUse, IsFitTarget, IsFitCall, element, controlled, static, derived}
 use Rattle.asm_check.specs.Limits.{is_universe, is_rule}
 use Rattle.asm_check.specs.Names as names
@@ -14,7 +14,7 @@ use Rattle.asm_check.specs.declared.checked.Named.{Named}
 use Rattle.asm_check.specs.declared.checked.Named.TheVariants as number
 use Rattle.asm_check.proofs.Declared.{same_text, text_itself}
 use Rattle.asm_check.proofs.Heights.{here, there, none_in, head_or_tail}
-use Rattle.asm_check.proofs.NamesNumbered.{place_like}
+use Rattle.asm_check.proofs.NamesNumbered.{index_like}
 use Rattle.asm_check.proofs.Sole.{left_false, right_false}
 
 module _ (spec : Spec) (x : Name) where
@@ -28,7 +28,7 @@ module _ (spec : Spec) (x : Name) where
       → named_as spec x.text (Some m) ≡ option_map make (number_in (all_of is_like spec) x.text) → IsNumbered is_like make m
   unfolding named
   numbered is_like make m means kind is =
-      let at = place_like spec x.text m means is_like kind in
+      let at = index_like spec x.text m means is_like kind in
       record { n = at.0; stands = ap (named_as spec x.text) means ∙ is ∙ ap (option_map make) at.1; means = at.2 }
 
   module _ (n : ℕ) where

@@ -3,7 +3,7 @@ use Rattle.std.proofs.Common.{◌≡◌, ℕ, ◌+◌, ◌<◌, List, [], ◌∷
 use Rattle.std.specs.Prelude.{slice_get, option_map}
 use Rattle.std.proofs.lemmas.List.{length-map, get_or-map, take_more, drop_more}
 use Rattle.std.proofs.lemmas.Option.{slice_get_within, get_or_from_slice_get}
-use Rattle.asm_syntax.specs.Placed.{Name}
+use Rattle.asm_syntax.specs.SourceTree.{Name}
 use Rattle.asm_check.specs.declared.meaning.Declared.{Declared}
 use Rattle.asm_check.specs.Names.{Declaration, declares}
 use Rattle.asm_check.specs.Tables.{Entry, declaration_of, meaning_of}

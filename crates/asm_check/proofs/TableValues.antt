@@ -25,21 +25,21 @@ use Rattle.asm_state.proofs.ValueLaws.{value_laws}
 use Rattle.asm_syntax.specs.declared.spec.FunctionKind.{FunctionKind}
 use Rattle.asm_syntax.specs.declared.term.Literal.{Literal}
 use Rattle.asm_syntax.specs.declared.term.Literal.TheVariants as literal
-use Rattle.asm_syntax.specs.Placed as tree
-use Rattle.asm_syntax.specs.Placed.{Name, Const, Entry, Given, Spec}
-use Rattle.asm_syntax.specs.Unplaced.{literal_value}
+use Rattle.asm_syntax.specs.SourceTree as source
+use Rattle.asm_syntax.specs.SourceTree.{Name, Const, Entry, Given, Spec}
+use Rattle.asm_syntax.specs.PlainTree.{literal_value}
 use Rattle.asm_check.specs.Names as names
 use Rattle.asm_check.specs.Names.{Declaration, Meaning, Range, Enumeration, Element, AsElement, is_text, is_known, declared, first_declarations, plain_use, uses_of, uses_of_const, uses_of_entry, uses_of_codomain}
 use Rattle.asm_check.specs.Faults.{IsWellFormed, is_known_use, same_literal, same_const, same_arguments, is_element_in, is_in_universe, fits_domain, table_of, table_entry}
 use Rattle.asm_check.specs.Limits.{is_universe, is_element_of, size_of}
 use Rattle.asm_check.specs.Numbers.{universes_of, elements_of}
-use Rattle.asm_check.specs.Shapes.{place_among, texts_of, domain_by, universe_values, const_value, entry_by, is_element_before, table_by}
+use Rattle.asm_check.specs.Shapes.{index_among, texts_of, domain_by, universe_values, const_value, entry_by, is_element_before, table_by}
 use Rattle.asm_check.proofs.Declared.{same_text, text_itself}
 use Rattle.asm_check.proofs.Domains.{values_of}
 use Rattle.asm_check.proofs.ElementNumbers.{number_in, number_small, element_at}
 use Rattle.asm_check.proofs.Heights.{here, there, none_in, head_or_tail, split}
 use Rattle.asm_check.proofs.ItemLists.{count_like}
-use Rattle.asm_check.proofs.Looked.{is_named, place_is, at_place, find_kept, first_named, all_known}
+use Rattle.asm_check.proofs.Looked.{is_named, index_is, at_index, find_kept, first_named, all_known}
 use Rattle.asm_check.proofs.Sole.{left_false, right_false}
 
 both : (a b : Bool) → a ≡ true → b ≡ true → (a && b) ≡ true
@@ -81,8 +81,8 @@ number_among first last n low high =
 element_among : (first count n : ℕ) → first ≤ n → n < first + count → list_any (is_same (element n)) (elements first count) ≡ true
 element_among first count n low high =
     let long = universe_laws.element_count first count in
-    let place : first + (n - first) ≡ n = omega (arith, low) in
-    let it : element n ≡ slice_index_or (elements first count) (n - first) value.Undef = ap element (sym place) ∙ sym (get_or_from_slice_get (elements first count) (n - first) (element (first + (n - first))) value.Undef (universe_laws.element_at first count (n - first) (omega (arith, low, high)))) in
+    let index : first + (n - first) ≡ n = omega (arith, low) in
+    let it : element n ≡ slice_index_or (elements first count) (n - first) value.Undef = ap element (sym index) ∙ sym (get_or_from_slice_get (elements first count) (n - first) (element (first + (n - first))) value.Undef (universe_laws.element_at first count (n - first) (omega (arith, low, high)))) in
     list_any_at (is_same (element n)) (elements first count) (n - first) value.Undef (omega (arith, low, high, long))
     (subst (λ v. is_same (element n) v ≡ true) it ((value_laws.same (element n) (element n)).1 refl))
 
@@ -159,25 +159,25 @@ of_element k (names.Procedure xs P) e = absurd (false≢true e)
 
 module _ (spec : Spec) (good : IsWellFormed spec) where
   abbrev number_of : Name → ℕ
-  number_of x = place_among (texts_of (elements_of spec)) x.text
+  number_of x = index_among (texts_of (elements_of spec)) x.text
 
   element_inside : (k : ℕ) (x : Name) (o : Option Meaning) → declared spec x.text ≡ o → is_element_in spec k o ≡ true → list_any (is_same (element (number_of x))) (universe_values spec (Enumeration k)) ≡ true
   element_inside k x None is inside = absurd (false≢true inside)
   element_inside k x (Some m) is inside =
       let known = is ∙ ap Some (of_element k m inside) in
       let it = element_at spec good x.text k known in
-      let place = number_in spec good (number_of x) k it.declaration it.stands it.meaning in
-      element_among (count_like (is_element_before k) (first_declarations spec)) (size_of spec (Enumeration k)) (number_of x) place.behind place.below
+      let index = number_in spec good (number_of x) k it.declaration it.stands it.meaning in
+      element_among (count_like (is_element_before k) (first_declarations spec)) (size_of spec (Enumeration k)) (number_of x) index.behind index.below
 
   -- a constant of a universe stands among its values
   const_inside : (m : Meaning) (c : Const) → is_in_universe spec (Some m) c ≡ true → (is_universe m ≡ true) × (list_any (is_same (const_value spec c)) (universe_values spec m) ≡ true)
-  const_inside (Range first last) (tree.Plain (literal.Number n)) inside =
+  const_inside (Range first last) (source.Plain (literal.Number n)) inside =
       (refl, number_among first last n (left_of (int_le first n.value) (int_le n.value last) inside) (right_of (int_le first n.value) (int_le n.value last) inside))
-  const_inside (Range first last) (tree.Plain literal.Undef) inside = absurd (false≢true inside)
-  const_inside (Range first last) (tree.Plain (literal.Truth b)) inside = absurd (false≢true inside)
-  const_inside (Range first last) (tree.Element x) inside = absurd (false≢true inside)
-  const_inside (Enumeration k) (tree.Element x) inside = (refl, element_inside k x (declared spec x.text) refl inside)
-  const_inside (Enumeration k) (tree.Plain v) inside = absurd (false≢true inside)
+  const_inside (Range first last) (source.Plain literal.Undef) inside = absurd (false≢true inside)
+  const_inside (Range first last) (source.Plain (literal.Truth b)) inside = absurd (false≢true inside)
+  const_inside (Range first last) (source.Element x) inside = absurd (false≢true inside)
+  const_inside (Enumeration k) (source.Element x) inside = (refl, element_inside k x (declared spec x.text) refl inside)
+  const_inside (Enumeration k) (source.Plain v) inside = absurd (false≢true inside)
   const_inside names.Predeclared c inside = absurd (false≢true inside)
   const_inside (Element k) c inside = absurd (false≢true inside)
   const_inside (names.Controlled domain) c inside = absurd (false≢true inside)
@@ -186,14 +186,14 @@ module _ (spec : Spec) (good : IsWellFormed spec) where
   const_inside (names.Procedure xs P) c inside = absurd (false≢true inside)
 
   abbrev values_at : Name → List Value
-  values_at u = slice_index_or (values_of spec good) (place_among (texts_of (universes_of spec)) u.text) []
+  values_at u = slice_index_or (values_of spec good) (index_among (texts_of (universes_of spec)) u.text) []
 
   values_are : (u : Name) (m : Meaning) → declared spec u.text ≡ Some m → is_universe m ≡ true → values_at u ≡ universe_values spec m
   values_are u m known is =
       let it = first_named spec u.text m known in
       let found : find (is_named u.text) (universes_of spec) ≡ Some it.0 = find_kept (is_named u.text) (λ d. is_universe d.meaning) (first_declarations spec) it.0 it.1 (ap is_universe it.2 ∙ is) in
-      ap (λ n. slice_index_or (values_of spec good) n []) (place_is (universes_of spec) u.text)
-      ∙ at_place (is_named u.text) (λ d. universe_values spec d.meaning) (universes_of spec) []
+      ap (λ n. slice_index_or (values_of spec good) n []) (index_is (universes_of spec) u.text)
+      ∙ at_index (is_named u.text) (λ d. universe_values spec d.meaning) (universes_of spec) []
       ∙ ap (λ o. option_map_or (λ (d : Declaration). universe_values spec d.meaning) o []) found
       ∙ ap (universe_values spec) it.2
 
@@ -216,13 +216,13 @@ module _ (spec : Spec) (good : IsWellFormed spec) where
   -- ---- values that tell constants apart
 
   abbrev IsKnownConst : Const → Type 0
-  IsKnownConst (tree.Plain v) = Unit {0}
-  IsKnownConst (tree.Element x) = (k : ℕ) × (declared spec x.text ≡ Some (Element k))
+  IsKnownConst (source.Plain v) = Unit {0}
+  IsKnownConst (source.Element x) = (k : ℕ) × (declared spec x.text ≡ Some (Element k))
 
-  member : (x : Name) → IsKnownConst (tree.Element x) → (e : Member) × (element (number_of x) ≡ value.Element e)
+  member : (x : Name) → IsKnownConst (source.Element x) → (e : Member) × (element (number_of x) ≡ value.Element e)
   member x known = let it = element_at spec good x.text known.0 known.1 in same_member (number_of x) (number_small spec good (number_of x) it.declaration it.stands)
 
-  same_names : (x y : Name) → IsKnownConst (tree.Element x) → IsKnownConst (tree.Element y) → element (number_of x) ≡ element (number_of y) → is_text x.text y.text ≡ true
+  same_names : (x y : Name) → IsKnownConst (source.Element x) → IsKnownConst (source.Element y) → element (number_of x) ≡ element (number_of y) → is_text x.text y.text ≡ true
   same_names x y known other e =
       let it = element_at spec good x.text known.0 known.1 in
       let that = element_at spec good y.text other.0 other.1 in
@@ -236,10 +236,10 @@ module _ (spec : Spec) (good : IsWellFormed spec) where
       subst (λ t. is_text x.text t ≡ true) text (text_itself x.text)
 
   same_consts : (c d : Const) → IsKnownConst c → IsKnownConst d → const_value spec c ≡ const_value spec d → same_const c d ≡ true
-  same_consts (tree.Plain v) (tree.Plain w) known other e = same_literals v w e
-  same_consts (tree.Plain v) (tree.Element y) known other e = let it = member y other in absurd (no_literal it.0 v (e ∙ it.1))
-  same_consts (tree.Element x) (tree.Plain w) known other e = let it = member x known in absurd (no_literal it.0 w (sym e ∙ it.1))
-  same_consts (tree.Element x) (tree.Element y) known other e = same_names x y known other e
+  same_consts (source.Plain v) (source.Plain w) known other e = same_literals v w e
+  same_consts (source.Plain v) (source.Element y) known other e = let it = member y other in absurd (no_literal it.0 v (e ∙ it.1))
+  same_consts (source.Element x) (source.Plain w) known other e = let it = member x known in absurd (no_literal it.0 w (sym e ∙ it.1))
+  same_consts (source.Element x) (source.Element y) known other e = same_names x y known other e
 
   same_lists : (cs ds : List Const) → ((c : Const) → Contains cs c → IsKnownConst c) → ((d : Const) → Contains ds d → IsKnownConst d)
       → is_list (map (const_value spec) cs) (map (const_value spec) ds) ≡ true → same_arguments cs ds ≡ true
@@ -256,19 +256,19 @@ module _ (spec : Spec) (good : IsWellFormed spec) where
   -- ---- one table
 
   module _ (x : Name) (how : FunctionKind) (domain : List Name) (codomain : Option Name) (entries : List Entry)
-      (it : Contains spec.items (tree.Function x how domain codomain (Some (tree.Entries entries)))) where
+      (it : Contains spec.items (source.Function x how domain codomain (Some (source.Entries entries)))) where
     entry_known : (e : Entry) (u : names.Use) → Contains entries e → Contains (uses_of_entry e) u → is_known_use spec u ≡ true
     entry_known e u stands own =
-        all_known spec good (tree.Function x how domain codomain (Some (tree.Entries entries))) u it
+        all_known spec good (source.Function x how domain codomain (Some (source.Entries entries))) u it
         (Contains-append_right (map (plain_use names.AsUniverse) domain ++ uses_of_codomain codomain) (flat_map uses_of_entry entries) u (Contains-flat_map uses_of_entry entries e u stands own))
 
     const_known : (e : Entry) → Contains entries e → (c : Const) → Contains e.arguments c → IsKnownConst c
-    const_known e stands (tree.Plain v) among = tt
-    const_known e stands (tree.Element y) among =
+    const_known e stands (source.Plain v) among = tt
+    const_known e stands (source.Element y) among =
         known_element (declared spec y.text)
         (entry_known e (plain_use AsElement y) stands
         (Contains-append_left (flat_map uses_of_const e.arguments) (uses_of_const e.value) (plain_use AsElement y)
-        (Contains-flat_map uses_of_const e.arguments (tree.Element y) (plain_use AsElement y) among (here (plain_use AsElement y) []))))
+        (Contains-flat_map uses_of_const e.arguments (source.Element y) (plain_use AsElement y) among (here (plain_use AsElement y) []))))
 
     no_wrong : (before after : List Entry) (e : Entry) → entries ≡ before ++ e ∷ after
         → (not (fits_domain spec domain e.arguments) || list_any (λ b. same_arguments b.arguments e.arguments) before) ≡ false
@@ -278,14 +278,14 @@ module _ (spec : Spec) (good : IsWellFormed spec) where
           | true ↦ λ wrong. absurd (good e.at 16 (table_entry (record {
             domain = domain;
             entries = entries;
-            stands = Contains-flat_map table_of spec.items (tree.Function x how domain codomain (Some (tree.Entries entries))) (domain, entries) it (here (domain, entries) []);
+            stands = Contains-flat_map table_of spec.items (source.Function x how domain codomain (Some (source.Entries entries))) (domain, entries) it (here (domain, entries) []);
             before = before;
             entry = e;
             after = after;
             parts = parts;
             known = all_pass (is_known_use spec) (uses_of_entry e) (λ u own. entry_known e u (subst (λ es. Contains es e) (sym parts) (Contains-append_right before (e ∷ after) e (here e after))) own);
             wrong = wrong;
-            place = refl;
+            index = refl;
           })))
           | false ↦ λ _. refl
         ] refl
@@ -323,7 +323,7 @@ module _ (spec : Spec) (good : IsWellFormed spec) where
     }
 
   pub table_fits : (x : Name) (how : FunctionKind) (domain : List Name) (codomain : Option Name) (table : Option Given)
-      → Contains spec.items (tree.Function x how domain codomain table) → IsTableOf (domain_in (values_of spec good) (domain_by (texts_of (universes_of spec)) domain)) (table_by (texts_of (elements_of spec)) table)
+      → Contains spec.items (source.Function x how domain codomain table) → IsTableOf (domain_in (values_of spec good) (domain_by (texts_of (universes_of spec)) domain)) (table_by (texts_of (elements_of spec)) table)
   table_fits x how domain codomain None it = tt
-  table_fits x how domain codomain (Some (tree.Each c)) it = tt
-  table_fits x how domain codomain (Some (tree.Entries entries)) it = entries_fit x how domain codomain entries it
+  table_fits x how domain codomain (Some (source.Each c)) it = tt
+  table_fits x how domain codomain (Some (source.Entries entries)) it = entries_fit x how domain codomain entries it

@@ -11,8 +11,8 @@ use Rattle.asm_state.specs.Tables.{argument_lists}
 use Rattle.asm_state.proofs.NumberedLocations.{number_laws}
 use Rattle.asm_syntax.specs.declared.spec.FunctionKind.{FunctionKind}
 use Rattle.asm_syntax.specs.declared.spec.FunctionKind.TheVariants as kind
-use Rattle.asm_syntax.specs.Placed as tree
-use Rattle.asm_syntax.specs.Placed.{Name, Given, Item, Spec}
+use Rattle.asm_syntax.specs.SourceTree as source
+use Rattle.asm_syntax.specs.SourceTree.{Name, Given, Item, Spec}
 use Rattle.asm_check.specs.Names.{Declaration, Meaning, Element, declarations_of, declarations_from, first_declarations}
 use Rattle.asm_check.specs.Faults.{IsWellFormed}
 use Rattle.asm_check.specs.Limits.{is_controlled, is_static, domain_of, lists_of}
@@ -44,11 +44,11 @@ module _ (spec : Spec) (good : IsWellFormed spec) where
   lists m = lists_of spec (domain_of m)
 
   abbrev AreCounted : List Item → Type 0
-  AreCounted items = (x : Name) (how : FunctionKind) (domain : List Name) (codomain : Option Name) (table : Option Given) → Contains items (tree.Function x how domain codomain table)
+  AreCounted items = (x : Name) (how : FunctionKind) (domain : List Name) (codomain : Option Name) (table : Option Given) → Contains items (source.Function x how domain codomain table)
       → length (argument_lists (domain_in (values_of spec good) (domain_by (texts_of (universes_of spec)) domain))) ≡ lists_of spec domain
 
   later : (item : Item) (items : List Item) → AreCounted (item ∷ items) → AreCounted items
-  later item items counted x how domain codomain table it = counted x how domain codomain table (there item (tree.Function x how domain codomain table) items it)
+  later item items counted x how domain codomain table it = counted x how domain codomain table (there item (source.Function x how domain codomain table) items it)
 
   held_next : (k : ℕ) (item : Item) (items : List Item) → total is_controlled held (declarations_from k (item ∷ items)) ≡ total is_controlled held (declarations_of k item) + total is_controlled held (declarations_from (suc k) items)
   held_next k item items = total_more is_controlled held (declarations_of k item) (declarations_from (suc k) items)
@@ -61,16 +61,16 @@ module _ (spec : Spec) (good : IsWellFormed spec) where
 
   pub count_locations : (f k : ℕ) (items : List Item) → AreCounted items → locations_from f items ≡ total is_controlled held (declarations_from k items)
   count_locations f k [] counted = refl
-  count_locations f k (tree.Uses x ∷ items) counted = count_locations f (suc k) items (later (tree.Uses x) items counted)
-  count_locations f k (tree.Init x ∷ items) counted = count_locations f (suc k) items (later (tree.Init x) items counted)
-  count_locations f k (tree.Enum x xs ∷ items) counted =
-      let rest = count_locations f (suc k) items (later (tree.Enum x xs) items counted) in
-      let next = held_next k (tree.Enum x xs) items in
-      let none : total is_controlled held (declarations_of k (tree.Enum x xs)) ≡ 0 = total_elements is_controlled held k xs refl in
+  count_locations f k (source.Uses x ∷ items) counted = count_locations f (suc k) items (later (source.Uses x) items counted)
+  count_locations f k (source.Init x ∷ items) counted = count_locations f (suc k) items (later (source.Init x) items counted)
+  count_locations f k (source.Enum x xs ∷ items) counted =
+      let rest = count_locations f (suc k) items (later (source.Enum x xs) items counted) in
+      let next = held_next k (source.Enum x xs) items in
+      let none : total is_controlled held (declarations_of k (source.Enum x xs)) ≡ 0 = total_elements is_controlled held k xs refl in
       omega (arith, rest, next, none)
-  count_locations f k (tree.Universe x first last ∷ items) counted = count_locations f (suc k) items (later (tree.Universe x first last) items counted)
-  count_locations f k (tree.Function x kind.Controlled domain codomain table ∷ items) counted =
-      let item : Item = tree.Function x kind.Controlled domain codomain table in
+  count_locations f k (source.Universe x first last ∷ items) counted = count_locations f (suc k) items (later (source.Universe x first last) items counted)
+  count_locations f k (source.Function x kind.Controlled domain codomain table ∷ items) counted =
+      let item : Item = source.Function x kind.Controlled domain codomain table in
       let it = given_by spec kind.Controlled domain table in
       let rest = count_locations (f + 1) (suc k) items (later item items counted) in
       let next = held_next k item items in
@@ -79,37 +79,37 @@ module _ (spec : Spec) (good : IsWellFormed spec) where
       let is = counted x kind.Controlled domain codomain table (here item items) in
       let split = length-append (function_locations (values_of spec good) (f, it)) (flat_map (function_locations (values_of spec good)) (enumerate_from (f + 1) (filter_map (function_given spec) items))) in
       split ∙ omega (arith, rest, next, own, many, is)
-  count_locations f k (tree.Function x kind.Static domain codomain table ∷ items) counted = count_locations (f + 1) (suc k) items (later (tree.Function x kind.Static domain codomain table) items counted)
-  count_locations f k (tree.Derived x xs t ∷ items) counted = count_locations f (suc k) items (later (tree.Derived x xs t) items counted)
-  count_locations f k (tree.Declared x xs P ∷ items) counted = count_locations f (suc k) items (later (tree.Declared x xs P) items counted)
+  count_locations f k (source.Function x kind.Static domain codomain table ∷ items) counted = count_locations (f + 1) (suc k) items (later (source.Function x kind.Static domain codomain table) items counted)
+  count_locations f k (source.Derived x xs t ∷ items) counted = count_locations f (suc k) items (later (source.Derived x xs t) items counted)
+  count_locations f k (source.Declared x xs P ∷ items) counted = count_locations f (suc k) items (later (source.Declared x xs P) items counted)
 
   abbrev statics_in : List Item → ℕ
   statics_in items = sum_by (static_lists (values_of spec good)) (filter_map (function_given spec) items)
 
   pub count_statics : (k : ℕ) (items : List Item) → AreCounted items → statics_in items ≡ total is_static lists (declarations_from k items)
   count_statics k [] counted = refl
-  count_statics k (tree.Uses x ∷ items) counted = count_statics (suc k) items (later (tree.Uses x) items counted)
-  count_statics k (tree.Init x ∷ items) counted = count_statics (suc k) items (later (tree.Init x) items counted)
-  count_statics k (tree.Enum x xs ∷ items) counted =
-      let rest = count_statics (suc k) items (later (tree.Enum x xs) items counted) in
-      let next = static_next k (tree.Enum x xs) items in
-      let none : total is_static lists (declarations_of k (tree.Enum x xs)) ≡ 0 = total_elements is_static lists k xs refl in
+  count_statics k (source.Uses x ∷ items) counted = count_statics (suc k) items (later (source.Uses x) items counted)
+  count_statics k (source.Init x ∷ items) counted = count_statics (suc k) items (later (source.Init x) items counted)
+  count_statics k (source.Enum x xs ∷ items) counted =
+      let rest = count_statics (suc k) items (later (source.Enum x xs) items counted) in
+      let next = static_next k (source.Enum x xs) items in
+      let none : total is_static lists (declarations_of k (source.Enum x xs)) ≡ 0 = total_elements is_static lists k xs refl in
       omega (arith, rest, next, none)
-  count_statics k (tree.Universe x first last ∷ items) counted = count_statics (suc k) items (later (tree.Universe x first last) items counted)
-  count_statics k (tree.Function x kind.Controlled domain codomain table ∷ items) counted =
-      let rest = count_statics (suc k) items (later (tree.Function x kind.Controlled domain codomain table) items counted) in
+  count_statics k (source.Universe x first last ∷ items) counted = count_statics (suc k) items (later (source.Universe x first last) items counted)
+  count_statics k (source.Function x kind.Controlled domain codomain table ∷ items) counted =
+      let rest = count_statics (suc k) items (later (source.Function x kind.Controlled domain codomain table) items counted) in
       let split = sum_by-cons (static_lists (values_of spec good)) (given_by spec kind.Controlled domain table) (filter_map (function_given spec) items) in
       omega (arith, rest, split)
-  count_statics k (tree.Function x kind.Static domain codomain table ∷ items) counted =
-      let item : Item = tree.Function x kind.Static domain codomain table in
+  count_statics k (source.Function x kind.Static domain codomain table ∷ items) counted =
+      let item : Item = source.Function x kind.Static domain codomain table in
       let rest = count_statics (suc k) items (later item items counted) in
       let next = static_next k item items in
       let own : total is_static lists (declarations_of k item) ≡ lists_of spec domain = omega arith in
       let is = counted x kind.Static domain codomain table (here item items) in
       let split = sum_by-cons (static_lists (values_of spec good)) (given_by spec kind.Static domain table) (filter_map (function_given spec) items) in
       split ∙ omega (arith, rest, next, own, is)
-  count_statics k (tree.Derived x xs t ∷ items) counted = count_statics (suc k) items (later (tree.Derived x xs t) items counted)
-  count_statics k (tree.Declared x xs P ∷ items) counted = count_statics (suc k) items (later (tree.Declared x xs P) items counted)
+  count_statics k (source.Derived x xs t ∷ items) counted = count_statics (suc k) items (later (source.Derived x xs t) items counted)
+  count_statics k (source.Declared x xs P ∷ items) counted = count_statics (suc k) items (later (source.Declared x xs P) items counted)
 
   all_counted : AreCounted spec.items
   all_counted x how domain codomain table it = lists_are spec good domain (short_domain spec good x how domain codomain table it)

@@ -4,7 +4,7 @@ use Rattle.std.specs.Prelude.{flat_map, not, ◌&&◌}
 use Rattle.std.proofs.lemmas.List.{at_drop_more}
 use Rattle.std.proofs.lemmas.List.Folds.{flat_map-map}
 use Rattle.std.proofs.lemmas.Grind.{flat_map-append}
-use Rattle.asm_syntax.specs.Placed.{Spec}
+use Rattle.asm_syntax.specs.SourceTree.{Spec}
 use Rattle.asm_syntax.specs.Views.{item_of}
 use Rattle.asm_syntax.specs.declared.spec.Item.{Item}
 use Rattle.asm_check.specs.Names.{Meaning, Use, uses_of, uses, declared, is_known, arguments_of, is_assignable}

@@ -2,7 +2,7 @@
 use Rattle.std.proofs.Common.{◌≡◌, length, refl}
 use Rattle.asm_state.specs.Universe.{count_between}
 use Rattle.asm_state.proofs.Domains.{universe_laws}
-use Rattle.asm_syntax.specs.Placed.{Spec}
+use Rattle.asm_syntax.specs.SourceTree.{Spec}
 use Rattle.asm_check.specs.Names as names
 use Rattle.asm_check.specs.Names.{Meaning, Range, Enumeration}
 use Rattle.asm_check.specs.Limits.{size_of}

@@ -5,7 +5,7 @@
 --     Binds, Unbinds         a binder opens, and the last one closes
 use Rattle.std.specs.Prelude.{◌≡◌, List, [], ◌∷◌, ◌++◌, map, reverse, Option, Some, None}
 use Rattle.std.proofs.Common.{Box, Global}
-use Rattle.asm_syntax.specs.Placed as placed
+use Rattle.asm_syntax.specs.SourceTree as source
 use Rattle.asm_syntax.specs.Views.{rule_of}
 use Rattle.asm_syntax.specs.declared.rule.Rule.{Rule}
 use Rattle.asm_check.specs.Names as names
@@ -40,6 +40,6 @@ pub record Unbinds (c d : Collector) : Type 0 where
   pub binders : (xs : List Text) (x : Text) → binders_of c ≡ xs ++ x ∷ [] → binders_of d ≡ xs
   pub parameters : parameters_of d ≡ parameters_of c
 
-abbrev pub branch_view : Option (Box Rule Global) → placed.Branch
-branch_view None = placed.left_out
-branch_view (Some P) = placed.written (rule_of P.value)
+abbrev pub branch_view : Option (Box Rule Global) → source.Branch
+branch_view None = source.left_out
+branch_view (Some P) = source.written (rule_of P.value)

@@ -4,7 +4,7 @@
 --     counted_from size left ds       the sizes that are counted, by positions in the table, of which so many more universes are allowed
 --     AreTotals spec before totals    what the declarations so far add together
 use Rattle.std.specs.Prelude.{◌≡◌, ◌<◌, ◌+◌, ◌-◌, ◌^◌, ℕ, zero, suc, cond, nat_le, min, List, [], ◌∷◌, length, slice_index}
-use Rattle.asm_syntax.specs.Placed.{Name, Spec}
+use Rattle.asm_syntax.specs.SourceTree.{Name, Spec}
 use Rattle.asm_check.specs.declared.limits.Totals.{Totals}
 use Rattle.asm_check.specs.declared.meaning.Declared.{Declared}
 use Rattle.asm_check.specs.Names.{Declaration, Meaning, Range, Enumeration}

@@ -1,13 +1,13 @@
 -- Arguments of entries, as the code looks at them.
 --     fits_in          as fits_domain, of what the universes are declared as
---     Key              an argument without the place of its name
+--     Key              an argument without the offset of its name
 --     HasSeen          the arguments that are kept are those of these entries
 use Rattle.std.specs.Prelude.{◌≡◌, ℤ, int_le, ◌&&◌, ◌||◌, not, Bool, true, false, List, [], ◌∷◌, map, Option}
 use Rattle.std.specs.List.{list_any}
 use Rattle.std.proofs.Common.{Vec, Global}
 use Rattle.asm_syntax.specs.declared.term.Literal.TheVariants as literal
-use Rattle.asm_syntax.specs.Placed as tree
-use Rattle.asm_syntax.specs.Placed.{Const, Entry, Spec}
+use Rattle.asm_syntax.specs.SourceTree as source
+use Rattle.asm_syntax.specs.SourceTree.{Const, Entry, Spec}
 use Rattle.asm_check.specs.declared.tables.Argument.{Argument}
 use Rattle.asm_check.specs.declared.tables.Argument.TheVariants as code
 use Rattle.asm_check.specs.Names.{Text, Meaning, is_text}
@@ -33,10 +33,10 @@ key_of (code.Number n) = Whole n
 key_of (code.Element x) = Word x.now
 
 abbrev pub key : Const → Key
-key (tree.Plain literal.Undef) = Nothing
-key (tree.Plain (literal.Truth b)) = Either b
-key (tree.Plain (literal.Number n)) = Whole n.value
-key (tree.Element x) = Word x.text
+key (source.Plain literal.Undef) = Nothing
+key (source.Plain (literal.Truth b)) = Either b
+key (source.Plain (literal.Number n)) = Whole n.value
+key (source.Element x) = Word x.text
 
 abbrev pub same_key : Key → Key → Bool
 same_key Nothing Nothing = true

@@ -1,9 +1,9 @@
--- The numbers of faults, and the pair of place and number that an answer stands for.
+-- The numbers of faults, and the pair of offset and number that an answer stands for.
 use Rattle.std.specs.Prelude.{ℕ, Option, Some, None}
 use Rattle.asm_check.specs.declared.error.FaultKind.{FaultKind}
 use Rattle.asm_check.specs.declared.error.FaultKind.TheVariants.{Twice, Unknown, Arity, NotControlled, CyclicRule, CyclicDerived, Init, TooMany, TableEntry}
 use Rattle.asm_check.specs.declared.error.CheckError.{CheckError}
-use Rattle.asm_syntax.specs.Placed.{Spec}
+use Rattle.asm_syntax.specs.SourceTree.{Spec}
 use Rattle.asm_syntax.specs.declared.refused.Refused.{Refused}
 use Rattle.asm_syntax.specs.declared.refused.Refused.TheVariants.{Memory, Named}
 use Rattle.asm_check.specs.Faults.{IsLeastFault}

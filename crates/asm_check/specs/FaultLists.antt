@@ -2,20 +2,20 @@
 --     twice_faults    8;  use_faults    9, 10, 11;  init_faults    14;  limit_faults    15, but for ranks;  entry_faults    16
 use Rattle.std.specs.Prelude.{ℕ, ◌+◌, Bool, true, false, not, cond, ◌&&◌, ◌||◌, nat_eq, nat_lt, List, [], ◌∷◌, ◌++◌, map, flat_map, filter, length, sum_by, Option, Some, None}
 use Rattle.std.specs.List.{list_any, list_all}
-use Rattle.asm_syntax.specs.Placed.{Name, Entry, Spec}
+use Rattle.asm_syntax.specs.SourceTree.{Name, Entry, Spec}
 use Rattle.asm_check.specs.Names.{Text, Declaration, Meaning, Role, AsTarget, Use, declarations, first_declarations, declared, uses, is_among, arguments_of, is_assignable, is_start, uses_of_entry}
 use Rattle.asm_check.specs.Limits.{is_universe, is_function, is_controlled, is_static, is_rule, size_of, domain_of, lists_of, max_universes, max_elements, max_functions, max_domain, max_locations, max_static_lists, max_rules}
 use Rattle.asm_check.specs.Faults.{parameters_of, is_known_use, inits, table_of, fits_domain, same_arguments}
 
 -- ---- 8
 
--- the places of names that stand in the list before
+-- the offsets of names that stand in the list before
 abbrev pub repeats : (before : List Text) → List Name → List ℕ
 repeats before [] = []
 repeats before (x ∷ xs) = cond (is_among before x.text) (x.at ∷ repeats before xs) (repeats (x.text ∷ before) xs)
 
 abbrev pub at_with : ℕ → List ℕ → List (ℕ × ℕ)
-at_with number places = map (λ at. (at, number)) places
+at_with number offsets = map (λ at. (at, number)) offsets
 
 unfoldable pub twice_faults : Spec → List (ℕ × ℕ)
 twice_faults spec = at_with 8 (repeats [] (map (λ d. d.name) (declarations spec))) ++ at_with 8 (flat_map (λ item. repeats [] (parameters_of item)) spec.items)

@@ -1,31 +1,31 @@
--- The faults of a specification: pairs of a place and a number.
+-- The faults of a specification: pairs of an offset and a number.
 --     IsFault spec at number          one rule for each number
---     IsLeastFault spec at number     the fault with the least place, and there the least number
+--     IsLeastFault spec at number     the fault with the least offset, and there the least number
 --     IsWellFormed spec               no fault
 use Rattle.std.specs.Prelude.{◌≡◌, ◌≢◌, ◌<◌, ◌≤◌, ◌⊎◌, ℕ, int_le, Bool, true, false, not, ◌&&◌, ◌||◌, List, [], ◌∷◌, ◌++◌, map, filter_map, flat_map, Contains, Option, Some, None}
 use Rattle.std.specs.List.{list_any, list_all}
-use Rattle.asm_syntax.specs.Placed as tree
+use Rattle.asm_syntax.specs.SourceTree as source
 use Rattle.asm_syntax.specs.declared.term.Literal.{Literal}
 use Rattle.asm_syntax.specs.declared.term.Literal.TheVariants.{Undef, Truth, Number}
-use Rattle.asm_syntax.specs.Placed.{Name, Const, Plain, Entry, Given, Entries, Item, Spec}
+use Rattle.asm_syntax.specs.SourceTree.{Name, Const, Plain, Entry, Given, Entries, Item, Spec}
 use Rattle.asm_check.specs.Names.{Text, Declaration, Meaning, Range, Enumeration, Use, AsTarget, declarations, first_declarations, declared, uses, is_text, is_among, text_of, is_known, arguments_of, is_assignable, is_start, uses_of_entry}
 use Rattle.asm_check.specs.Ways.{called, used, LeadsTo}
 use Rattle.asm_check.specs.Limits.{PassesLimit, is_element_of}
 
 -- ---- 8: names declared twice
 
--- at this place a name of the list stands that stands in it before
+-- at this offset a name of the list stands that stands in it before
 pub record IsRepeated (xs : List Name) (at : ℕ) : Type 0 where
   pub before : List Name
   pub name : Name
   pub after : List Name
   pub parts : xs ≡ before ++ name ∷ after
   pub is_before : is_among (map text_of before) name.text ≡ true
-  pub place : name.at ≡ at
+  pub offset : name.at ≡ at
 
 abbrev pub parameters_of : Item → List Name
-parameters_of (tree.Derived x parameters t) = parameters
-parameters_of (tree.Declared x parameters P) = parameters
+parameters_of (source.Derived x parameters t) = parameters
+parameters_of (source.Declared x parameters P) = parameters
 parameters_of item = []
 
 abbrev pub name_lists : Spec → List (List Name)
@@ -43,7 +43,7 @@ pub record IsUnknown (spec : Spec) (at : ℕ) : Type 0 where
   pub use_of : Use
   pub stands : Contains (uses spec) use_of
   pub unknown : is_known_use spec use_of ≡ false
-  pub place : use_of.name.at ≡ at
+  pub offset : use_of.name.at ≡ at
 
 pub record IsMiscounted (spec : Spec) (at : ℕ) : Type 0 where
   pub use_of : Use
@@ -51,7 +51,7 @@ pub record IsMiscounted (spec : Spec) (at : ℕ) : Type 0 where
   pub count : ℕ
   pub has : arguments_of use_of.role use_of.is_bound (declared spec use_of.name.text) ≡ Some count
   pub differs : use_of.count ≢ count
-  pub place : use_of.name.at ≡ at
+  pub offset : use_of.name.at ≡ at
 
 pub record IsUnassignable (spec : Spec) (at : ℕ) : Type 0 where
   pub use_of : Use
@@ -59,7 +59,7 @@ pub record IsUnassignable (spec : Spec) (at : ℕ) : Type 0 where
   pub is_target : use_of.role ≡ AsTarget
   pub known : is_known_use spec use_of ≡ true
   pub unassignable : is_assignable use_of.is_bound (declared spec use_of.name.text) ≡ false
-  pub place : use_of.name.at ≡ at
+  pub offset : use_of.name.at ≡ at
 
 -- ---- 12, 13: cycles
 
@@ -67,12 +67,12 @@ pub record IsCyclic (spec : Spec) (next : Text → List Text) (at : ℕ) : Type 
   pub member : Declaration
   pub stands : Contains (first_declarations spec) member
   pub back : LeadsTo next member.name.text member.name.text
-  pub place : member.name.at ≡ at
+  pub offset : member.name.at ≡ at
 
 -- ---- 14: the starting rule
 
 abbrev pub init_of : Item → Option Name
-init_of (tree.Init x) = Some x
+init_of (source.Init x) = Some x
 init_of item = None
 
 abbrev pub inits : Spec → List Name
@@ -91,7 +91,7 @@ pub record IsOverLimit (spec : Spec) (at : ℕ) : Type 0 where
   pub after : List Declaration
   pub parts : first_declarations spec ≡ before ++ passing ∷ after
   pub passes : PassesLimit spec before passing
-  pub place : passing.name.at ≡ at
+  pub offset : passing.name.at ≡ at
 
 -- ---- 16: entries of tables
 
@@ -104,7 +104,7 @@ same_literal v w = false
 -- elements of different names are different
 abbrev pub same_const : Const → Const → Bool
 same_const (Plain v) (Plain w) = same_literal v w
-same_const (tree.Element x) (tree.Element y) = is_text x.text y.text
+same_const (source.Element x) (source.Element y) = is_text x.text y.text
 same_const c d = false
 
 abbrev pub same_arguments : List Const → List Const → Bool
@@ -119,7 +119,7 @@ module _ (spec : Spec) where
 
   abbrev pub is_in_universe : Option Meaning → Const → Bool
   is_in_universe (Some (Range first last)) (Plain (Number n)) = int_le first n.value && int_le n.value last
-  is_in_universe (Some (Enumeration k)) (tree.Element x) = is_element_in k (declared spec x.text)
+  is_in_universe (Some (Enumeration k)) (source.Element x) = is_element_in k (declared spec x.text)
   is_in_universe m c = false
 
   -- as many arguments as universes, each in its own
@@ -129,7 +129,7 @@ module _ (spec : Spec) where
   fits_domain us cs = false
 
 abbrev pub table_of : Item → List (List Name × List Entry)
-table_of (tree.Function x how domain codomain (Some (Entries entries))) = (domain, entries) ∷ []
+table_of (source.Function x how domain codomain (Some (Entries entries))) = (domain, entries) ∷ []
 table_of item = []
 
 pub record IsBadEntry (spec : Spec) (at : ℕ) : Type 0 where
@@ -142,7 +142,7 @@ pub record IsBadEntry (spec : Spec) (at : ℕ) : Type 0 where
   pub parts : entries ≡ before ++ entry ∷ after
   pub known : list_all (is_known_use spec) (uses_of_entry entry) ≡ true
   pub wrong : (not (fits_domain spec domain entry.arguments) || list_any (λ e. same_arguments e.arguments entry.arguments) before) ≡ true
-  pub place : entry.at ≡ at
+  pub offset : entry.at ≡ at
 
 -- ---- all faults
 

@@ -5,8 +5,8 @@
 --     IsReady spec                                       all of it
 use Rattle.std.specs.Prelude.{◌≡◌, ◌⊎◌, ℕ, List, [], ◌∷◌, map, length, Contains, Option, Some, None}
 use Rattle.asm_syntax.specs.declared.spec.FunctionKind.{FunctionKind}
-use Rattle.asm_syntax.specs.Placed as tree
-use Rattle.asm_syntax.specs.Placed.{Name, Term, Constant, Named, Chain, Not, Negative, Exists, Every, Terms, no_terms, term_then, Links, no_links, link_then, Rule, Skip, Assign, Call, Par, Seq, If, Let, Forall, Choose, Iterate, Rules, no_rules, rule_then, Branch, left_out, written, Const, Given, Spec}
+use Rattle.asm_syntax.specs.SourceTree as source
+use Rattle.asm_syntax.specs.SourceTree.{Name, Term, Constant, Named, Chain, Not, Negative, Exists, Every, Terms, no_terms, term_then, Links, no_links, link_then, Rule, Skip, Assign, Call, Par, Seq, If, Let, Forall, Choose, Iterate, Rules, no_rules, rule_then, Branch, left_out, written, Const, Given, Spec}
 use Rattle.asm_check.specs.Names.{Text, Predeclared, Controlled, Static, Procedure, Derived, declared, term_count, text_of}
 use Rattle.asm_check.specs.Numbers.{functions_of, derived_of, rules_of, meaning_at, named}
 use Rattle.asm_check.specs.declared.checked.Named as checked
@@ -105,13 +105,13 @@ module _ (spec : Spec) where
   -- ---- declarations of functions
 
   abbrev pub IsFitConst : Const → Type 0
-  IsFitConst (tree.Plain v) = Unit {0}
-  IsFitConst (tree.Element x) = IsElementName x
+  IsFitConst (source.Plain v) = Unit {0}
+  IsFitConst (source.Element x) = IsElementName x
 
   abbrev pub IsFitTable : Option Given → Type 0
   IsFitTable None = Unit {0}
-  IsFitTable (Some (tree.Each c)) = IsFitConst c
-  IsFitTable (Some (tree.Entries entries)) = (e : tree.Entry) → Contains entries e → ((c : Const) → Contains e.arguments c → IsFitConst c) × IsFitConst e.value
+  IsFitTable (Some (source.Each c)) = IsFitConst c
+  IsFitTable (Some (source.Entries entries)) = (e : source.Entry) → Contains entries e → ((c : Const) → Contains e.arguments c → IsFitConst c) × IsFitConst e.value
 
   pub record IsFitFunction (domain : List Name) (codomain : Option Name) (table : Option Given) : Type 0 where
     pub domain_fits : (u : Name) → Contains domain u → IsUniverseName u
@@ -130,5 +130,5 @@ module _ (spec : Spec) where
     pub rules : (f : Text) (xs : List Name) (P : Rule) → declared spec f ≡ Some (Procedure xs P) → IsFitRule P (map text_of xs)
     pub derived : (f : Text) (xs : List Name) (t : Term) → declared spec f ≡ Some (Derived xs t) → IsFitTerm t (map text_of xs)
     pub functions : (x : Name) (kind : FunctionKind) (domain : List Name) (codomain : Option Name) (table : Option Given)
-        → Contains spec.items (tree.Function x kind domain codomain table) → IsFitFunction domain codomain table
+        → Contains spec.items (source.Function x kind domain codomain table) → IsFitFunction domain codomain table
     pub start : HasStart

@@ -5,7 +5,7 @@ use Rattle.std.specs.Prelude.{◌≡◌, ℕ, List, [], ◌++◌, map, flat_map,
 use Rattle.std.specs.Borrow.{Bor}
 use Rattle.std.specs.Cmp.Lexicographic.{pointwise}
 use Rattle.std.specs.List.{list_any}
-use Rattle.asm_syntax.specs.Placed.{Name, Item}
+use Rattle.asm_syntax.specs.SourceTree.{Name, Item}
 use Rattle.asm_check.specs.Names.{Text, Declaration, Predeclared, declares, first_of_each, is_among, text_of}
 use Rattle.asm_check.specs.Faults.{parameters_of}
 use Rattle.asm_check.specs.FaultLists.{repeats, at_with}
@@ -22,7 +22,7 @@ pub record IsGathered (first : Option (ℕ × ℕ)) (ds : List Declaration) (ent
 pub record Gathers (more : List Declaration) (entries : List Entry) (found : Option (ℕ × ℕ)) (entries' : List Entry) (found' : Option (ℕ × ℕ)) : Type 0 where
   pub after : (first : Option (ℕ × ℕ)) (ds : List Declaration) → IsGathered first ds entries found → IsGathered first (ds ++ more) entries' found'
 
--- a name without a place
+-- a name without an offset
 abbrev pub predeclares : Text → Declaration
 predeclares x = declares (record { at = 0; text = x }) Predeclared
 

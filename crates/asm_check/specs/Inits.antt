@@ -2,7 +2,7 @@
 --     start_faults spec xs    the faults of the names behind `init`, but for there being none
 --     is_any xs               whether one is named
 use Rattle.std.specs.Prelude.{ℕ, Bool, true, false, List, [], ◌∷◌}
-use Rattle.asm_syntax.specs.Placed.{Name, Spec}
+use Rattle.asm_syntax.specs.SourceTree.{Name, Spec}
 use Rattle.asm_check.specs.FaultLists.{faults_of_inits}
 
 abbrev pub start_faults : Spec → List Name → List (ℕ × ℕ)

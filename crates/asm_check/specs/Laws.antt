@@ -5,8 +5,8 @@ use Rattle.asm_state.specs.Fits.{Fits}
 use Rattle.asm_state.specs.Signature.{IsSound}
 use Rattle.asm_state.specs.Universe.{element}
 use Rattle.asm_syntax.specs.declared.spec.FunctionKind.{FunctionKind}
-use Rattle.asm_syntax.specs.Placed as tree
-use Rattle.asm_syntax.specs.Placed.{Name, Given, Spec}
+use Rattle.asm_syntax.specs.SourceTree as source
+use Rattle.asm_syntax.specs.SourceTree.{Name, Given, Spec}
 use Rattle.asm_check.specs.Names.{Text, Declaration, Meaning, declares, declared, function_of, is_text, Predeclared, Enumeration, Element}
 use Rattle.asm_check.specs.Sizes.{IsWithinLimits}
 use Rattle.asm_check.specs.Faults.{IsLeastFault, IsWellFormed}
@@ -62,9 +62,9 @@ pub record IsDeclaredBy (spec : Spec) (d : Declaration) (function : Option state
   pub domain : List Name
   pub codomain : Option Name
   pub table : Option Given
-  pub stands : Contains spec.items (tree.Function name kind domain codomain table)
+  pub stands : Contains spec.items (source.Function name kind domain codomain table)
   pub declared_so : d ≡ declares name (function_of kind domain)
-  pub given_so : function ≡ function_given spec (tree.Function name kind domain codomain table)
+  pub given_so : function ≡ function_given spec (source.Function name kind domain codomain table)
 
 -- Universes and functions have the numbers in the signature that they have among the declarations, and each element is the
 -- value that has its number.

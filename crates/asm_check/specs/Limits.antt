@@ -1,7 +1,7 @@
 -- The limits of what a specification declares.
 use Rattle.std.specs.Prelude.{◌≡◌, ◌<◌, ℕ, suc, ◌+◌, ◌*◌, ℤ, ◌-ℤ◌, nat_abs, int_le, nat_eq, nat_le, Bool, true, false, cond, List, [], ◌∷◌, ◌++◌, map, length, take, filter, find, count_by, sum_by}
 use Rattle.std.specs.Option.{option_map_or}
-use Rattle.asm_syntax.specs.Placed.{Name, Spec}
+use Rattle.asm_syntax.specs.SourceTree.{Name, Spec}
 use Rattle.asm_check.specs.Names.{Declaration, Meaning, Range, Enumeration, Element, Controlled, Static, Derived, Procedure, first_declarations, is_text}
 use Rattle.asm_check.specs.Ways.{called, used, ReachesCycle, IsOnWay}
 

@@ -5,12 +5,12 @@
 use Rattle.std.specs.Prelude.{ℕ, ◌+◌, List, [], ◌∷◌, ◌++◌, map, flat_map, length}
 use Rattle.asm_state.specs.declared.value.Value.{Value}
 use Rattle.asm_state.specs.Universe.{elements, numbers_between}
-use Rattle.asm_syntax.specs.Placed as tree
-use Rattle.asm_syntax.specs.Placed.{Item}
+use Rattle.asm_syntax.specs.SourceTree as source
+use Rattle.asm_syntax.specs.SourceTree.{Item}
 use Rattle.asm_check.specs.Names.{Text, text_of}
 
 abbrev pub elements_of_item : Item → ℕ
-elements_of_item (tree.Enum x xs) = length xs
+elements_of_item (source.Enum x xs) = length xs
 elements_of_item item = 0
 
 abbrev pub elements_in : List Item → ℕ
@@ -18,8 +18,8 @@ elements_in [] = 0
 elements_in (item ∷ items) = elements_of_item item + elements_in items
 
 abbrev pub universe_of_item : ℕ → Item → List (List Value)
-universe_of_item first (tree.Enum x xs) = elements first (length xs) ∷ []
-universe_of_item first (tree.Universe x low high) = numbers_between low.value high.value ∷ []
+universe_of_item first (source.Enum x xs) = elements first (length xs) ∷ []
+universe_of_item first (source.Universe x low high) = numbers_between low.value high.value ∷ []
 universe_of_item first item = []
 
 abbrev pub universe_lists : (first : ℕ) → List Item → List (List Value)
@@ -27,15 +27,15 @@ universe_lists first [] = []
 universe_lists first (item ∷ items) = universe_of_item first item ++ universe_lists (first + elements_of_item item) items
 
 abbrev pub universe_text : Item → List Text
-universe_text (tree.Enum x xs) = x.text ∷ []
-universe_text (tree.Universe x low high) = x.text ∷ []
+universe_text (source.Enum x xs) = x.text ∷ []
+universe_text (source.Universe x low high) = x.text ∷ []
 universe_text item = []
 
 abbrev pub universe_texts : List Item → List Text
 universe_texts items = flat_map universe_text items
 
 abbrev pub element_text : Item → List Text
-element_text (tree.Enum x xs) = map text_of xs
+element_text (source.Enum x xs) = map text_of xs
 element_text item = []
 
 abbrev pub element_texts : List Item → List Text

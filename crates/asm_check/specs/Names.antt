@@ -7,8 +7,8 @@ use Rattle.std.specs.List.{list_any}
 use Rattle.std.specs.Cmp.Lexicographic.{pointwise}
 use Rattle.asm_syntax.specs.declared.spec.FunctionKind.{FunctionKind}
 use Rattle.asm_syntax.specs.declared.spec.FunctionKind.TheVariants as kind
-use Rattle.asm_syntax.specs.Placed as tree
-use Rattle.asm_syntax.specs.Placed.{Name, Term, Constant, Named, Chain, Not, Negative, Exists, Every, Terms, no_terms, term_then, Links, no_links, link_then, Rule, Skip, Assign, Call, Par, Seq, If, Let, Forall, Choose, Iterate, Rules, no_rules, rule_then, Branch, left_out, written, Const, Entry, Given, Item, Spec}
+use Rattle.asm_syntax.specs.SourceTree as source
+use Rattle.asm_syntax.specs.SourceTree.{Name, Term, Constant, Named, Chain, Not, Negative, Exists, Every, Terms, no_terms, term_then, Links, no_links, link_then, Rule, Skip, Assign, Call, Par, Seq, If, Let, Forall, Choose, Iterate, Rules, no_rules, rule_then, Branch, left_out, written, Const, Entry, Given, Item, Spec}
 
 abbrev pub Text : Type 0
 Text = List ℕ
@@ -47,13 +47,13 @@ function_of kind.Controlled domain = Controlled domain
 function_of kind.Static domain = Static domain
 
 abbrev pub declarations_of : ℕ → Item → List Declaration
-declarations_of k (tree.Uses x) = []
-declarations_of k (tree.Init x) = []
-declarations_of k (tree.Enum x elements) = declares x (Enumeration k) ∷ map (λ y. declares y (Element k)) elements
-declarations_of k (tree.Universe x first last) = declares x (Range first.value last.value) ∷ []
-declarations_of k (tree.Function x how domain codomain table) = declares x (function_of how domain) ∷ []
-declarations_of k (tree.Derived x parameters t) = declares x (Derived parameters t) ∷ []
-declarations_of k (tree.Declared x parameters P) = declares x (Procedure parameters P) ∷ []
+declarations_of k (source.Uses x) = []
+declarations_of k (source.Init x) = []
+declarations_of k (source.Enum x elements) = declares x (Enumeration k) ∷ map (λ y. declares y (Element k)) elements
+declarations_of k (source.Universe x first last) = declares x (Range first.value last.value) ∷ []
+declarations_of k (source.Function x how domain codomain table) = declares x (function_of how domain) ∷ []
+declarations_of k (source.Derived x parameters t) = declares x (Derived parameters t) ∷ []
+declarations_of k (source.Declared x parameters P) = declares x (Procedure parameters P) ∷ []
 
 abbrev pub declarations_from : ℕ → List Item → List Declaration
 declarations_from k [] = []
@@ -62,7 +62,7 @@ declarations_from k (item ∷ items) = declarations_of k item ++ declarations_fr
 abbrev pub predeclared_names : List Text
 predeclared_names = codes "NUMBER" ∷ codes "BOOLEAN" ∷ codes "ANY" ∷ []
 
--- they have no place of their own
+-- they have no offset of their own
 abbrev pub predeclared : List Declaration
 predeclared = map (λ x. declares (record { at = 0; text = x }) Predeclared) predeclared_names
 
@@ -153,29 +153,29 @@ abbrev mutual
   uses_of_branch (written P) bound = uses_of_rule P bound
 
 abbrev pub uses_of_const : Const → List Use
-uses_of_const (tree.Plain v) = []
-uses_of_const (tree.Element x) = plain_use AsElement x ∷ []
+uses_of_const (source.Plain v) = []
+uses_of_const (source.Element x) = plain_use AsElement x ∷ []
 
 abbrev pub uses_of_entry : Entry → List Use
 uses_of_entry entry = flat_map uses_of_const entry.arguments ++ uses_of_const entry.value
 
 abbrev pub uses_of_table : Option Given → List Use
 uses_of_table None = []
-uses_of_table (Some (tree.Each c)) = uses_of_const c
-uses_of_table (Some (tree.Entries entries)) = flat_map uses_of_entry entries
+uses_of_table (Some (source.Each c)) = uses_of_const c
+uses_of_table (Some (source.Entries entries)) = flat_map uses_of_entry entries
 
 abbrev pub uses_of_codomain : Option Name → List Use
 uses_of_codomain None = []
 uses_of_codomain (Some x) = plain_use AsCodomain x ∷ []
 
 abbrev pub uses_of : Item → List Use
-uses_of (tree.Uses x) = []
-uses_of (tree.Init x) = []
-uses_of (tree.Enum x elements) = []
-uses_of (tree.Universe x first last) = []
-uses_of (tree.Function x how domain codomain table) = map (plain_use AsUniverse) domain ++ uses_of_codomain codomain ++ uses_of_table table
-uses_of (tree.Derived x parameters t) = uses_of_term t (map text_of parameters)
-uses_of (tree.Declared x parameters P) = uses_of_rule P (map text_of parameters)
+uses_of (source.Uses x) = []
+uses_of (source.Init x) = []
+uses_of (source.Enum x elements) = []
+uses_of (source.Universe x first last) = []
+uses_of (source.Function x how domain codomain table) = map (plain_use AsUniverse) domain ++ uses_of_codomain codomain ++ uses_of_table table
+uses_of (source.Derived x parameters t) = uses_of_term t (map text_of parameters)
+uses_of (source.Declared x parameters P) = uses_of_rule P (map text_of parameters)
 
 unfoldable pub uses : Spec → List Use
 uses spec = flat_map uses_of spec.items

@@ -1,61 +1,61 @@
 -- The tables of numbers, as the code keeps them.
---     places_where p i xs         the positions at which the test passes, where the list begins at position i
+--     indices_where p i xs         the positions at which the test passes, where the list begins at position i
 --     number_after ds m           what a declaration behind these stands for
 --     IsNumberingOf ds n          the code's numbering of these declarations
 --     AreBodiesOf items b         where the rules and the derived functions stand among the items
 --     IsMain spec n               n is the number of the rule that the specification starts with
 use Rattle.std.specs.Prelude.{◌≡◌, ◌<◌, ℕ, suc, Bool, true, false, cond, List, [], ◌∷◌, ◌++◌, filter, length, slice_get, Option, Some, None, option_map}
-use Rattle.asm_syntax.specs.Placed as tree
-use Rattle.asm_syntax.specs.Placed.{Name, Item, Spec}
+use Rattle.asm_syntax.specs.SourceTree as source
+use Rattle.asm_syntax.specs.SourceTree.{Name, Item, Spec}
 use Rattle.asm_check.specs.Names as names
 use Rattle.asm_check.specs.Names.{Text, Declaration, Meaning, is_text, first_declarations}
 use Rattle.asm_check.specs.Limits.{is_universe, is_rule}
 use Rattle.asm_check.specs.Numbers.{is_element, is_table, is_derived, universes_of, elements_of, functions_of, derived_of, rules_of, named}
 use Rattle.asm_check.specs.declared.checked.Named.{Named}
 use Rattle.asm_check.specs.declared.checked.Named.TheVariants as number
-use Rattle.asm_check.specs.declared.numbering.Places.{Places}
+use Rattle.asm_check.specs.declared.numbering.Indices.{Indices}
 use Rattle.asm_check.specs.declared.numbering.Numbering.{Numbering}
 use Rattle.asm_check.specs.declared.bodies.Bodies.{Bodies}
 use Rattle.asm_check.specs.Faults.{inits}
 
-abbrev pub places_where : {X : Type 0} → (X → Bool) → ℕ → List X → List ℕ
-places_where p i [] = []
-places_where p i (x ∷ xs) = cond (p x) (i ∷ places_where p (suc i) xs) (places_where p (suc i) xs)
+abbrev pub indices_where : {X : Type 0} → (X → Bool) → ℕ → List X → List ℕ
+indices_where p i [] = []
+indices_where p i (x ∷ xs) = cond (p x) (i ∷ indices_where p (suc i) xs) (indices_where p (suc i) xs)
 
 -- ---- names
 
 -- one more at the end, if it is of this kind
-abbrev pub placed_if : Bool → List ℕ → ℕ → List ℕ
-placed_if true places i = places ++ i ∷ []
-placed_if false places i = places
+abbrev pub appended_if : Bool → List ℕ → ℕ → List ℕ
+appended_if true indices i = indices ++ i ∷ []
+appended_if false indices i = indices
 
--- the places after a declaration
-pub record IsPlaced (old : Places) (i : ℕ) (m : Meaning) (new : Places) : Type 0 where
-  pub universes : new.universes.items ≡ placed_if (is_universe m) old.universes.items i
-  pub elements : new.elements.items ≡ placed_if (is_element m) old.elements.items i
-  pub functions : new.functions.items ≡ placed_if (is_table m) old.functions.items i
-  pub derived : new.derived.items ≡ placed_if (is_derived m) old.derived.items i
-  pub rules : new.rules.items ≡ placed_if (is_rule m) old.rules.items i
+-- the indices after a declaration
+pub record IsIndexed (old : Indices) (i : ℕ) (m : Meaning) (new : Indices) : Type 0 where
+  pub universes : new.universes.items ≡ appended_if (is_universe m) old.universes.items i
+  pub elements : new.elements.items ≡ appended_if (is_element m) old.elements.items i
+  pub functions : new.functions.items ≡ appended_if (is_table m) old.functions.items i
+  pub derived : new.derived.items ≡ appended_if (is_derived m) old.derived.items i
+  pub rules : new.rules.items ≡ appended_if (is_rule m) old.rules.items i
 
-abbrev pub next_number : Places → Meaning → Option Named
-next_number places names.Predeclared = None
-next_number places (names.Range first last) = Some (number.Universe (length places.universes.items))
-next_number places (names.Enumeration k) = Some (number.Universe (length places.universes.items))
-next_number places (names.Element k) = Some (number.Element (length places.elements.items))
-next_number places (names.Controlled domain) = Some (number.Function (length places.functions.items))
-next_number places (names.Static domain) = Some (number.Function (length places.functions.items))
-next_number places (names.Derived xs t) = Some (number.Derived (length places.derived.items))
-next_number places (names.Procedure xs P) = Some (number.Called (length places.rules.items))
+abbrev pub next_number : Indices → Meaning → Option Named
+next_number indices names.Predeclared = None
+next_number indices (names.Range first last) = Some (number.Universe (length indices.universes.items))
+next_number indices (names.Enumeration k) = Some (number.Universe (length indices.universes.items))
+next_number indices (names.Element k) = Some (number.Element (length indices.elements.items))
+next_number indices (names.Controlled domain) = Some (number.Function (length indices.functions.items))
+next_number indices (names.Static domain) = Some (number.Function (length indices.functions.items))
+next_number indices (names.Derived xs t) = Some (number.Derived (length indices.derived.items))
+next_number indices (names.Procedure xs P) = Some (number.Called (length indices.rules.items))
 
-abbrev pub places_like : (Meaning → Bool) → List Declaration → List ℕ
-places_like is_like ds = places_where (λ (d : Declaration). is_like d.meaning) 0 ds
+abbrev pub indices_like : (Meaning → Bool) → List Declaration → List ℕ
+indices_like is_like ds = indices_where (λ (d : Declaration). is_like d.meaning) 0 ds
 
-pub record ArePlacesOf (ds : List Declaration) (places : Places) : Type 0 where
-  pub universes : places.universes.items ≡ places_like is_universe ds
-  pub elements : places.elements.items ≡ places_like is_element ds
-  pub functions : places.functions.items ≡ places_like is_table ds
-  pub derived : places.derived.items ≡ places_like is_derived ds
-  pub rules : places.rules.items ≡ places_like is_rule ds
+pub record AreIndicesOf (ds : List Declaration) (indices : Indices) : Type 0 where
+  pub universes : indices.universes.items ≡ indices_like is_universe ds
+  pub elements : indices.elements.items ≡ indices_like is_element ds
+  pub functions : indices.functions.items ≡ indices_like is_table ds
+  pub derived : indices.derived.items ≡ indices_like is_derived ds
+  pub rules : indices.rules.items ≡ indices_like is_rule ds
 
 -- what a declaration behind these stands for
 abbrev pub like : (Meaning → Bool) → List Declaration → List Declaration
@@ -77,9 +77,9 @@ numbers_from before (d ∷ ds) = (d.name.text, number_after before d.meaning) �
 
 pub record IsNumberingOf (ds : List Declaration) (n : Numbering) : Type 0 where
   pub names : n.names.entries ≡ numbers_from [] ds
-  pub places : ArePlacesOf ds n.places
+  pub indices : AreIndicesOf ds n.indices
 
--- the name at a place
+-- the name at an index
 abbrev pub text_kept_at : Numbering → ℕ → Option Text
 text_kept_at n k = option_map (λ (e : Text × Option Named). e.0) (slice_get n.names.entries k)
 
@@ -97,16 +97,16 @@ IsInRange spec (Some (number.Called n)) = n < length (rules_of spec)
 -- ---- bodies
 
 abbrev pub is_rule_item : Item → Bool
-is_rule_item (tree.Declared x xs P) = true
+is_rule_item (source.Declared x xs P) = true
 is_rule_item item = false
 
 abbrev pub is_derived_item : Item → Bool
-is_derived_item (tree.Derived x xs t) = true
+is_derived_item (source.Derived x xs t) = true
 is_derived_item item = false
 
 pub record AreBodies (items : List Item) (rules derived : List ℕ) : Type 0 where
-  pub rules_are : rules ≡ places_where is_rule_item 0 items
-  pub derived_are : derived ≡ places_where is_derived_item 0 items
+  pub rules_are : rules ≡ indices_where is_rule_item 0 items
+  pub derived_are : derived ≡ indices_where is_derived_item 0 items
 
 abbrev pub AreBodiesOf : List Item → Bodies → Type 0
 AreBodiesOf items bodies = AreBodies items bodies.rules.items bodies.derived.items

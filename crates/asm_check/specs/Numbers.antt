@@ -2,7 +2,7 @@
 --     universes_of, elements_of, functions_of, derived_of, rules_of     the declarations of a kind that count, in the order of the text
 --     named spec x                                                      what the name x stands for outside of binders
 use Rattle.std.specs.Prelude.{ℕ, Bool, true, false, List, filter, position, slice_get, Option, Some, None, option_map}
-use Rattle.asm_syntax.specs.Placed.{Spec}
+use Rattle.asm_syntax.specs.SourceTree.{Spec}
 use Rattle.asm_check.specs.Names.{Text, Declaration, Meaning, Predeclared, Range, Enumeration, Element, Controlled, Static, Derived, Procedure, first_declarations, declared, is_text}
 use Rattle.asm_check.specs.Limits.{is_universe, is_rule}
 use Rattle.asm_check.specs.declared.checked.Named.{Named}

@@ -1,6 +1,6 @@
 -- Calls of rules and uses of derived functions together: a rule leads to rules alone, and a derived function to derived functions.
 use Rattle.std.specs.Prelude.{List, ◌++◌}
-use Rattle.asm_syntax.specs.Placed.{Spec}
+use Rattle.asm_syntax.specs.SourceTree.{Spec}
 use Rattle.asm_check.specs.Names.{Text}
 use Rattle.asm_check.specs.Ways.{called, used}
 

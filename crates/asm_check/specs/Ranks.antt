@@ -3,7 +3,7 @@
 --     UsesBelow spec rank n t bound       each derived function that t uses has a rank below n
 --     HasRanks spec                       the heights of calls and uses are such ranks, and within the limit
 use Rattle.std.specs.Prelude.{◌≡◌, ℕ, suc, ◌<◌, ◌≤◌, false, List, ◌∷◌, map, Some}
-use Rattle.asm_syntax.specs.Placed.{Name, Term, Constant, Named, Chain, Not, Negative, Exists, Every, Terms, no_terms, term_then, Links, no_links, link_then, Rule, Skip, Assign, Call, Par, Seq, If, Let, Forall, Choose, Iterate, Rules, no_rules, rule_then, Branch, left_out, written, Spec}
+use Rattle.asm_syntax.specs.SourceTree.{Name, Term, Constant, Named, Chain, Not, Negative, Exists, Every, Terms, no_terms, term_then, Links, no_links, link_then, Rule, Skip, Assign, Call, Par, Seq, If, Let, Forall, Choose, Iterate, Rules, no_rules, rule_then, Branch, left_out, written, Spec}
 use Rattle.asm_check.specs.Names.{Text, Procedure, Derived, declared, is_among, text_of}
 use Rattle.asm_check.specs.Ways.{called, used, height}
 use Rattle.asm_check.specs.Limits.{max_rank}

@@ -16,9 +16,9 @@ use Rattle.asm_state.specs.Signature.{Shape}
 use Rattle.asm_state.specs.Universe.{element, elements, numbers_between}
 use Rattle.asm_syntax.specs.declared.spec.FunctionKind.{FunctionKind}
 use Rattle.asm_syntax.specs.declared.spec.FunctionKind.TheVariants as kind
-use Rattle.asm_syntax.specs.Placed as tree
-use Rattle.asm_syntax.specs.Placed.{Name, Const, Entry, Given, Item, Spec}
-use Rattle.asm_syntax.specs.Unplaced.{literal_value}
+use Rattle.asm_syntax.specs.SourceTree as source
+use Rattle.asm_syntax.specs.SourceTree.{Name, Const, Entry, Given, Item, Spec}
+use Rattle.asm_syntax.specs.PlainTree.{literal_value}
 use Rattle.asm_check.specs.Names.{Text, Declaration, Meaning, Range, Enumeration, Element, first_declarations, is_text}
 use Rattle.asm_check.specs.Limits.{size_of}
 use Rattle.asm_check.specs.Numbers.{universes_of, elements_of}
@@ -33,13 +33,13 @@ universe_values spec (Range first last) = numbers_between first last
 universe_values spec (Enumeration k) = elements (count_by (λ d. is_element_before k d.meaning) (first_declarations spec)) (size_of spec (Enumeration k))
 universe_values spec m = []
 
-abbrev pub place_among : List Text → Text → ℕ
-place_among texts x = position_or_len (λ y. is_text y x) texts
+abbrev pub index_among : List Text → Text → ℕ
+index_among texts x = position_or_len (λ y. is_text y x) texts
 
 -- elements by their names, in the order of the text
 abbrev pub const_by : (elements : List Text) → Const → Value
-const_by elements (tree.Plain l) = literal_value l
-const_by elements (tree.Element x) = element (place_among elements x.text)
+const_by elements (source.Plain l) = literal_value l
+const_by elements (source.Element x) = element (index_among elements x.text)
 
 abbrev pub entry_by : (elements : List Text) → Entry → List Value × Value
 entry_by elements e = (map (const_by elements) e.arguments, const_by elements e.value)
@@ -47,18 +47,18 @@ entry_by elements e = (map (const_by elements) e.arguments, const_by elements e.
 -- without a table all is undef
 abbrev pub table_by : (elements : List Text) → Option Given → state_table.Table
 table_by elements None = given.Same Undef
-table_by elements (Some (tree.Each c)) = given.Same (const_by elements c)
-table_by elements (Some (tree.Entries entries)) = given.Entries (map (entry_by elements) entries)
+table_by elements (Some (source.Each c)) = given.Same (const_by elements c)
+table_by elements (Some (source.Entries entries)) = given.Entries (map (entry_by elements) entries)
 
 abbrev pub kind_given : FunctionKind → state_kind.Kind
 kind_given kind.Controlled = held.Controlled
 kind_given kind.Static = held.Static
 
 abbrev pub domain_by : (universes : List Text) → List Name → List ℕ
-domain_by universes domain = map (λ (u : Name). place_among universes u.text) domain
+domain_by universes domain = map (λ (u : Name). index_among universes u.text) domain
 
 abbrev pub function_by : (universes elements : List Text) → Item → Option state.Function
-function_by universes elements (tree.Function x how domain codomain table) =
+function_by universes elements (source.Function x how domain codomain table) =
     Some (record { kind = kind_given how; domain = domain_by universes domain; table = table_by elements table })
 function_by universes elements item = None
 

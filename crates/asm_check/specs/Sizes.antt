@@ -1,6 +1,6 @@
 -- What is in bounds in a well-formed specification.
 use Rattle.std.specs.Prelude.{ℕ, ◌+◌, ◌≤◌, Bool, List, map, length, filter, sum_by, Contains}
-use Rattle.asm_syntax.specs.Placed.{Spec}
+use Rattle.asm_syntax.specs.SourceTree.{Spec}
 use Rattle.asm_check.specs.Names.{Declaration, Meaning, first_declarations}
 use Rattle.asm_check.specs.Limits.{is_universe, is_function, is_controlled, is_static, is_rule, size_of, domain_of, lists_of, max_universes, max_elements, max_functions, max_domain, max_locations, max_static_lists, max_rules}
 

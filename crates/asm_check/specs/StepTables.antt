@@ -1,6 +1,6 @@
 -- Steps between positions of the table of names, and the faults at one position.
 use Rattle.std.specs.Prelude.{◌≡◌, ◌⊎◌, ◌<◌, ℕ, suc, List, map, length, slice_get, Option, Some, None}
-use Rattle.asm_syntax.specs.Placed.{Spec}
+use Rattle.asm_syntax.specs.SourceTree.{Spec}
 use Rattle.asm_check.specs.declared.meaning.Meaning.{Meaning}
 use Rattle.asm_check.specs.declared.meaning.Meaning.TheVariants as code
 use Rattle.asm_check.specs.declared.meaning.Declared.{Declared}
@@ -23,11 +23,11 @@ cycle_number (code.Derived xs t) = Some 13
 cycle_number m = None
 
 module _ (lists : List (List ℕ)) (n : ℕ) where
-  abbrev pub IsCycleAt : (place : ℕ) → Meaning → (at number : ℕ) → Type 0
-  IsCycleAt place m at number = LeadsTo (next_of lists) n n × (place ≡ at) × (cycle_number m ≡ Some number)
+  abbrev pub IsCycleAt : (offset : ℕ) → Meaning → (at number : ℕ) → Type 0
+  IsCycleAt offset m at number = LeadsTo (next_of lists) n n × (offset ≡ at) × (cycle_number m ≡ Some number)
 
-  abbrev pub IsHighAt : (place : ℕ) → (at number : ℕ) → Type 0
-  IsHighAt place at number = IsOnWay (next_of lists) (suc max_rank) n × (¬ (ReachesCycle (next_of lists) n)) × (place ≡ at) × (15 ≡ number)
+  abbrev pub IsHighAt : (offset : ℕ) → (at number : ℕ) → Type 0
+  IsHighAt offset at number = IsOnWay (next_of lists) (suc max_rank) n × (¬ (ReachesCycle (next_of lists) n)) × (offset ≡ at) × (15 ≡ number)
 
   abbrev pub IsFaultOf : Declared → (at number : ℕ) → Type 0
   IsFaultOf d at number = IsCycleAt d.at d.meaning at number ⊎ IsHighAt d.at at number

@@ -2,7 +2,7 @@
 --     stepping_to spec in_rule us     the names whose uses are steps, where the uses stand in a rule or else in a derived function
 --     onward_from spec m              the names to which the steps of what is declared so lead
 use Rattle.std.specs.Prelude.{Bool, cond, List, ◌++◌, map, filter, Option}
-use Rattle.asm_syntax.specs.Placed.{Spec}
+use Rattle.asm_syntax.specs.SourceTree.{Spec}
 use Rattle.asm_check.specs.Names.{Text, Meaning, Use, declared}
 use Rattle.asm_check.specs.Ways.{is_call, is_use, calls_in, uses_in}
 

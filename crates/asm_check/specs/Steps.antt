@@ -1,6 +1,6 @@
 -- The faults of steps: cycles, and ranks above the limit.
 use Rattle.std.specs.Prelude.{◌≡◌, ℕ, suc, Contains}
-use Rattle.asm_syntax.specs.Placed.{Spec}
+use Rattle.asm_syntax.specs.SourceTree.{Spec}
 use Rattle.asm_check.specs.Names.{Declaration, first_declarations}
 use Rattle.asm_check.specs.Ways.{called, used, ReachesCycle, IsOnWay}
 use Rattle.asm_check.specs.Limits.{max_rank}

@@ -5,7 +5,7 @@
 --     IsOnWay next n f               there is a way of n steps from f on
 --     height next n f                the length of the longest way from f on, up to n
 use Rattle.std.specs.Prelude.{◌≡◌, ◌⊎◌, ℕ, zero, suc, max, Bool, true, false, List, [], ◌∷◌, map, filter, Contains, Option, Some}
-use Rattle.asm_syntax.specs.Placed.{Spec}
+use Rattle.asm_syntax.specs.SourceTree.{Spec}
 use Rattle.asm_check.specs.Names.{Text, Meaning, Derived, Procedure, Role, InTerm, AsCalled, Use, uses_of_term, uses_of_rule, declared, text_of}
 
 -- a call of a rule

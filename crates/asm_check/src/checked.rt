@@ -1,6 +1,6 @@
 //! Specifications that are well formed.
 ghost use Rattle.std.specs.Prelude.{◌≡◌, ◌<◌, Some, ℕ, map, length, IfOk, [], ◌∷◌};
-ghost use Rattle.asm_syntax.specs.Placed as placed;
+ghost use Rattle.asm_syntax.specs.SourceTree as source;
 ghost use Rattle.asm_syntax.specs.Views.{spec_of, name_of, term_of, rule_of};
 ghost use Rattle.asm_check.specs.Faults.{IsWellFormed, inits};
 ghost use Rattle.asm_check.specs.Names as names;
@@ -43,7 +43,7 @@ pub struct Checked {
     pub ghost well_formed: { IsWellFormed (spec_of spec) },
     ghost shaped: { signature ≡ shape_of (spec_of spec) },
     ghost numbered: { IsNumberingOf (first_declarations (spec_of spec)) numbering },
-    ghost placed: { AreBodiesOf (spec_of spec).items bodies },
+    ghost indexed: { AreBodiesOf (spec_of spec).items bodies },
     ghost starts: { IsMain (spec_of spec) main },
 }
 
@@ -115,8 +115,8 @@ impl Checked {
     /// The number of the rule that is named after `init`.
     pub fn main(&self) -> usize
         ensures in_range { result < length (rules_of (spec_of self.now.spec)) }
-        ensures main { (x : placed.Name) → inits (spec_of self.now.spec) ≡ x ∷ [] → named (spec_of self.now.spec) x.text ≡ Some (Called result) }
-        ensures one { (x : placed.Name) × (inits (spec_of self.now.spec) ≡ x ∷ []) }
+        ensures main { (x : source.Name) → inits (spec_of self.now.spec) ≡ x ∷ [] → named (spec_of self.now.spec) x.text ≡ Some (Called result) }
+        ensures one { (x : source.Name) × (inits (spec_of self.now.spec) ≡ x ∷ []) }
     {
         self.main
     }

@@ -24,7 +24,7 @@ use asm_syntax::Refused;
 use asm_syntax::spec::Spec;
 use std::alloc::{AllocError, Global};
 
-/// The specification as one that is well formed, or the fault that stands first in it. Of several at one place it is the
+/// The specification as one that is well formed, or the fault that stands first in it. Of several at one offset it is the
 /// one with the least number. The specification is given up where it is refused.
 pub fn check(alloc: Global, spec: Spec) -> Result<Checked, Refused<CheckError>>
     ensures accepted { IfOk result (λ c. c.spec ≡ spec) }
@@ -52,7 +52,7 @@ fn numbered(alloc: Global, spec: &Spec) -> Result<Numbering, Refused<CheckError>
     }
 }
 
-/// The least of all faults: the one with the least place, and there with the least number. Those of names that are declared
+/// The least of all faults: the one with the least offset, and there with the least number. Those of names that are declared
 /// twice are noted before.
 fn least_fault(
     alloc: Global,

@@ -1,7 +1,7 @@
 //! A walk through terms and rules that collects the uses of names.
 ghost use Rattle.std.specs.Prelude.{◌≡◌, [], ◌∷◌, ◌++◌, map, flat_map, option_map, IfOk, OnOk};
 ghost use Rattle.std.specs.List.{list_any};
-ghost use Rattle.asm_syntax.specs.Placed as placed;
+ghost use Rattle.asm_syntax.specs.SourceTree as source;
 ghost use Rattle.asm_syntax.specs.Views.{name_of, const_of, entry_of, given_of, term_of, terms_of, links_of, test_of, rule_of, rules_of};
 ghost use Rattle.asm_check.specs.Names as names;
 ghost use Rattle.asm_check.specs.UseViews.{role_of};
@@ -195,7 +195,7 @@ impl<'a> Collector<'a> {
         arguments: &'a Vec<Term>,
         value: &'a Term,
     ) -> Result<(), AllocError>
-        ensures { OnOk result (Adds self.old self.new (names.uses_of_rule (placed.Assign (name_of name.now) (terms_of (map term_of arguments.now.items)) (term_of value.now)) (bound_of self.old))) }
+        ensures { OnOk result (Adds self.old self.new (names.uses_of_rule (source.Assign (name_of name.now) (terms_of (map term_of arguments.now.items)) (term_of value.now)) (bound_of self.old))) }
     {
         self.add(Role::AsTarget, name, arguments.len())?;
         self.terms(arguments)?;
@@ -204,7 +204,7 @@ impl<'a> Collector<'a> {
 
     /// Adds the uses in a call.
     fn call(&mut self, name: &'a Name, arguments: &'a Vec<Term>) -> Result<(), AllocError>
-        ensures { OnOk result (Adds self.old self.new (names.uses_of_rule (placed.Call (name_of name.now) (terms_of (map term_of arguments.now.items))) (bound_of self.old))) }
+        ensures { OnOk result (Adds self.old self.new (names.uses_of_rule (source.Call (name_of name.now) (terms_of (map term_of arguments.now.items))) (bound_of self.old))) }
     {
         self.add(Role::AsCalled, name, arguments.len())?;
         self.terms(arguments)
@@ -274,7 +274,7 @@ impl<'a> Collector<'a> {
     /// Adds the uses in a rule with a local name for a value.
     #[cycle(rule_uses)]
     fn local(&mut self, name: &'a Name, body: &'a Rule, value: &'a Term) -> Result<(), AllocError>
-        ensures { OnOk result (Adds self.old self.new (names.uses_of_rule (placed.Let (name_of name.now) (term_of value.now) (rule_of body.now)) (bound_of self.old))) }
+        ensures { OnOk result (Adds self.old self.new (names.uses_of_rule (source.Let (name_of name.now) (term_of value.now) (rule_of body.now)) (bound_of self.old))) }
     {
         self.term(value)?;
         self.bind(name)?;
@@ -292,7 +292,7 @@ impl<'a> Collector<'a> {
         test: &'a Option<Term>,
         body: &'a Rule,
     ) -> Result<(), AllocError>
-        ensures { OnOk result (Adds self.old self.new (names.uses_of_rule (placed.Forall (name_of name.now) (name_of over.now) (test_of test.now) (rule_of body.now)) (bound_of self.old))) }
+        ensures { OnOk result (Adds self.old self.new (names.uses_of_rule (source.Forall (name_of name.now) (name_of over.now) (test_of test.now) (rule_of body.now)) (bound_of self.old))) }
     {
         self.add_plain(Role::AsUniverse, over)?;
         self.bind(name)?;

@@ -25,7 +25,7 @@ pub enum FaultKind {
     TableEntry,
 }
 
-/// The fault that stands first in a specification, and where: the place of a name, or of an entry's `(`, or the length
+/// The fault that stands first in a specification, and where: the offset of a name, or of an entry's `(`, or the length
 /// of the text where it has no `init`.
 #[derive(Clone, Copy, Debug, PartialEq, Eq)]
 pub struct CheckError {

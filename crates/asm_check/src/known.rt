@@ -1,6 +1,6 @@
 //! Uses of unknown names, with wrong numbers of arguments, or as targets that can't be assigned.
 ghost use Rattle.std.specs.Prelude.{◌≡◌, OnOk, map, flat_map};
-ghost use Rattle.asm_syntax.specs.Placed as placed;
+ghost use Rattle.asm_syntax.specs.SourceTree as source;
 ghost use Rattle.asm_syntax.specs.Views.{spec_of};
 ghost use Rattle.asm_check.specs.Errors.{found_of};
 ghost use Rattle.asm_check.specs.FaultLists.{use_faults, faults_of_use, miscounts};
@@ -36,7 +36,7 @@ pub(crate) fn note_uses(
 
 /// Notes the faults of these uses.
 fn note_each(names: &Names, uses: &[Use], least: &mut Least)
-    ensures { (spec : placed.Spec) → IsTableOf spec names.now.entries →
+    ensures { (spec : source.Spec) → IsTableOf spec names.now.entries →
         found_of least.new.found ≡ noted (found_of least.old.found) (flat_map (faults_of_use spec) (map use_of uses.now)) }
 {
     for used in uses {
@@ -46,7 +46,7 @@ fn note_each(names: &Names, uses: &[Use], least: &mut Least)
 
 /// Notes the fault of a use, if it has one.
 pub(crate) fn note_use(names: &Names, used: Use, least: &mut Least)
-    ensures { (spec : placed.Spec) → IsTableOf spec names.now.entries →
+    ensures { (spec : source.Spec) → IsTableOf spec names.now.entries →
         found_of least.new.found ≡ noted (found_of least.old.found) (faults_of_use spec (use_of used.entry)) }
 {
     let meaning = meaning(names, &used.name.text);

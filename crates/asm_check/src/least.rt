@@ -5,7 +5,7 @@ ghost use Rattle.asm_check.specs.Soonest.{noted, is_before};
 
 use crate::error::{CheckError, FaultKind};
 
-/// The least fault that was met so far: the least place, and there the least number.
+/// The least fault that was met so far: the least offset, and there the least number.
 #[derive(Clone, Copy, Debug)]
 pub(crate) struct Least {
     pub found: Option<CheckError>,
@@ -32,7 +32,7 @@ impl Least {
         }
     }
 
-    /// Whether a fault of this kind and at this place would change what is found.
+    /// Whether a fault of this kind and at this offset would change what is found.
     pub(crate) fn is_sooner(&self, kind: FaultKind, at: usize) -> bool
         ensures exact { result ≡ is_before (at, number_of kind) (found_of self.now.found) }
         ensures kept { result ≡ false → noted (found_of self.now.found) ((at, number_of kind) ∷ []) ≡ found_of self.now.found }

@@ -9,7 +9,7 @@ use std::alloc::{AllocError, Global};
 /// A guess for each key. A right one spares the look-up in the table, and a wrong one is seen, as the name there is another.
 #[derive(Drop)]
 pub(crate) struct Likely {
-    places: Vec<usize>,
+    indices: Vec<usize>,
     mask: u64,
 }
 
@@ -17,7 +17,7 @@ impl Likely {
     /// No guess at all.
     pub(crate) fn new(alloc: Global) -> Likely {
         Likely {
-            places: Vec::new(alloc),
+            indices: Vec::new(alloc),
             mask: 0,
         }
     }
@@ -29,24 +29,24 @@ impl Likely {
     ) -> Result<Likely, AllocError> {
         let mask = mask_for(names.len());
         let mut likely = Likely {
-            places: vec![in alloc; 0; mask as usize + 1]?,
+            indices: vec![in alloc; 0; mask as usize + 1]?,
             mask,
         };
-        for place in 0..names.len() {
-            let Some((name, _)) = names.get_index(place) else {
+        for index in 0..names.len() {
+            let Some((name, _)) = names.get_index(index) else {
                 break;
             };
             let slot = likely.slot(name);
-            if slot < likely.places.len() {
-                likely.places[slot] = place;
+            if slot < likely.indices.len() {
+                likely.indices[slot] = index;
             }
         }
         Ok(likely)
     }
 
     /// Where the name probably stands if it is one of these, or else anywhere.
-    pub(crate) fn place(&self, name: &Text) -> Option<usize> {
-        self.places.get(self.slot(name)).copied()
+    pub(crate) fn index(&self, name: &Text) -> Option<usize> {
+        self.indices.get(self.slot(name)).copied()
     }
 
     fn slot(&self, name: &Text) -> usize {

@@ -1,6 +1,6 @@
 //! Limits on what is declared.
 ghost use Rattle.std.specs.Prelude.{◌≡◌, ◌<◌, ◌≤◌, ℕ, IfOk, OnOk, Some, map, List, [], ◌∷◌, ◌++◌, length, option_map, slice_get, All};
-ghost use Rattle.asm_syntax.specs.Placed as placed;
+ghost use Rattle.asm_syntax.specs.SourceTree as source;
 ghost use Rattle.asm_syntax.specs.Views.{name_of, spec_of};
 ghost use Rattle.asm_check.specs.Counted.{AreCountedSizes, AreElementCounts, AreTotals, counted_from, value_of_entry, size_with};
 ghost use Rattle.asm_check.specs.Errors.{found_of};
@@ -150,7 +150,7 @@ pub(crate) fn counted_sizes(
 fn counted_size(names: &Names, name: &Text, sizes: &[usize]) -> usize
     requires { All (λ n. n ≤ 4096) sizes.now }
     ensures small { result ≤ 4096 }
-    ensures size { (spec : placed.Spec) (at : ℕ) → IsTableOf spec names.now.entries → AreCountedSizes spec names.now.entries sizes.now
+    ensures size { (spec : source.Spec) (at : ℕ) → IsTableOf spec names.now.entries → AreCountedSizes spec names.now.entries sizes.now
         → result ≡ counted_size spec (record { at = at; text = name.now }) }
 {
     match position(names, name) {
@@ -162,7 +162,7 @@ fn counted_size(names: &Names, name: &Text, sizes: &[usize]) -> usize
 /// How many argument lists a domain has: none where it or one of its universes passes a limit.
 pub(crate) fn lists(domain: &[Name], names: &Names, sizes: &[usize]) -> usize
     requires { All (λ n. n ≤ 4096) sizes.now }
-    ensures { (spec : placed.Spec) → IsTableOf spec names.now.entries → AreCountedSizes spec names.now.entries sizes.now
+    ensures { (spec : source.Spec) → IsTableOf spec names.now.entries → AreCountedSizes spec names.now.entries sizes.now
         → result ≡ lists_of spec (map name_of domain.now) }
 {
     if domain.len() > DOMAIN {
@@ -197,7 +197,7 @@ struct Totals {
 
 impl Totals {
     fn new() -> Totals
-        ensures { (spec : placed.Spec) → AreTotals spec [] result }
+        ensures { (spec : source.Spec) → AreTotals spec [] result }
     {
         Totals {
             universes: 0,
@@ -211,7 +211,7 @@ impl Totals {
     /// Adds a declaration, with the size of its universe and the number of its argument lists. Answers whether it passes
     /// a limit.
     fn add(&mut self, meaning: &Meaning, size: usize, lists: usize) -> bool
-        ensures { (spec : placed.Spec) (before : List Declaration) (x : placed.Name) → AreTotals spec before self.old
+        ensures { (spec : source.Spec) (before : List Declaration) (x : source.Name) → AreTotals spec before self.old
             → size ≡ size_of spec (meaning_of meaning.now) → lists ≡ lists_of spec (domain_of (meaning_of meaning.now))
             → AreTotals spec (before ++ declares x (meaning_of meaning.now) ∷ []) self.new
             × (result ≡ passes_limit spec before (declares x (meaning_of meaning.now))) }

@@ -17,7 +17,7 @@ pub(crate) enum Meaning<'a> {
     Procedure(&'a [Name], &'a Rule),
 }
 
-/// A declaration that counts, with the place of its name.
+/// A declaration that counts, with the offset of its name.
 #[derive(Clone, Copy)]
 pub(crate) struct Declared<'a> {
     pub at: usize,

@@ -9,7 +9,7 @@ ghost use Rattle.asm_check.specs.Tables.{IsTableOf, meaning_of, text_at, declara
 ghost use Rattle.asm_check.specs.Gathering.{Gathers, predeclares, parameter_faults};
 ghost use Rattle.asm_check.specs.Names as meanings;
 ghost use Rattle.asm_check.specs.Names.{declared, declares, predeclared, declarations_of, declarations_from, Element};
-ghost use Rattle.asm_syntax.specs.Placed as placed;
+ghost use Rattle.asm_syntax.specs.SourceTree as source;
 
 use crate::error::FaultKind;
 use crate::least::Least;
@@ -38,7 +38,7 @@ pub(crate) fn first_names<'a>(
     Ok(names)
 }
 
-/// The names that are declared before any text. They have no place of their own.
+/// The names that are declared before any text. They have no offset of their own.
 fn predeclare_all(names: &mut Names, least: &mut Least) -> Result<(), AllocError>
     ensures { OnOk result (Gathers predeclared names.old.entries (found_of least.old.found) names.new.entries (found_of least.new.found)) }
 {
@@ -204,7 +204,7 @@ fn note_repeats(alloc: Global, names: &[Name], least: &mut Least) -> Result<(), 
 
 /// What a name is declared as.
 pub(crate) fn meaning<'a>(names: &Names<'a>, name: &Text) -> Option<Meaning<'a>>
-    ensures { (spec : placed.Spec) → IsTableOf spec names.now.entries → option_map meaning_of result ≡ declared spec name.now }
+    ensures { (spec : source.Spec) → IsTableOf spec names.now.entries → option_map meaning_of result ≡ declared spec name.now }
 {
     let declared = names.get(name.as_bytes())?;
     Some(declared.meaning)
@@ -214,7 +214,7 @@ pub(crate) fn meaning<'a>(names: &Names<'a>, name: &Text) -> Option<Meaning<'a>>
 pub(crate) fn position(names: &Names, name: &Text) -> Option<usize>
     ensures found { IfSome result (λ i. i < length names.now.entries) }
     ensures name { IfSome result (λ i. text_at names.now.entries i ≡ name.now) }
-    ensures missing { (spec : placed.Spec) → IsTableOf spec names.now.entries → IfNone result (declared spec name.now ≡ None) }
+    ensures missing { (spec : source.Spec) → IsTableOf spec names.now.entries → IfNone result (declared spec name.now ≡ None) }
 {
     names.get_index_of(name.as_bytes())
 }

@@ -4,10 +4,10 @@ ghost use Rattle.std.specs.Option.{option_flatten};
 ghost use Rattle.std.specs.Cmp.Lexicographic.{pointwise};
 ghost use Rattle.std.specs.Map.{lookup};
 ghost use Rattle.std.specs.Prelude.{nat_eq};
-ghost use Rattle.asm_syntax.specs.Placed as placed;
+ghost use Rattle.asm_syntax.specs.SourceTree as source;
 ghost use Rattle.asm_check.specs.Names as declarations;
 ghost use Rattle.asm_check.specs.Names.{is_among, first_declarations};
-ghost use Rattle.asm_check.specs.NumberTables.{IsPlaced, next_number, IsNumberingOf, text_kept_at};
+ghost use Rattle.asm_check.specs.NumberTables.{IsIndexed, next_number, IsNumberingOf, text_kept_at};
 ghost use Rattle.asm_check.specs.Shapes.{texts_of};
 ghost use Rattle.asm_check.specs.Tables.{meaning_of, declaration_of, IsTableOf};
 
@@ -25,13 +25,13 @@ pub(crate) struct Numbering {
     /// All names in the order of their first declarations. A predeclared name has no number.
     names: IndexMap<Text, Option<Named>>,
     likely: Likely,
-    places: Places,
+    indices: Indices,
 }
 
 impl Numbering {
     /// The numbering of what a specification declares first, by the table of its names.
     pub(crate) fn of(alloc: Global, names: &Names) -> Result<Numbering, AllocError>
-        ensures { IfOk result (λ n. (spec : placed.Spec) → IsTableOf spec names.now.entries → IsNumberingOf (first_declarations spec) n) }
+        ensures { IfOk result (λ n. (spec : source.Spec) → IsTableOf spec names.now.entries → IsNumberingOf (first_declarations spec) n) }
     {
         let mut numbering = Numbering::new(alloc);
         for i in 0..names.len() {
@@ -48,7 +48,7 @@ impl Numbering {
         Numbering {
             names: IndexMap::new(alloc),
             likely: Likely::new(alloc),
-            places: Places::new(alloc),
+            indices: Indices::new(alloc),
         }
     }
 
@@ -57,7 +57,7 @@ impl Numbering {
         ensures { OnOk result ((ds : List declarations.Declaration) (d : declarations.Declaration) → d.name.text ≡ name.now → d.meaning ≡ meaning_of meaning.entry
             → is_among (texts_of ds) name.now ≡ false → IsNumberingOf ds self.old → IsNumberingOf (ds ++ d ∷ []) self.new) }
     {
-        let number = self.places.add(meaning, self.names.len())?;
+        let number = self.indices.add(meaning, self.names.len())?;
         self.names.insert(Text::new(alloc, name)?, number)?;
         Ok(())
     }
@@ -78,7 +78,7 @@ impl Numbering {
     fn found_at_once(&self, name: &Text) -> Option<Option<Named>>
         ensures { IfSome result (λ number. lookup (pointwise nat_eq name.now) self.now.names.entries ≡ Some number) }
     {
-        let (text, number) = self.names.get_index(self.likely.place(name)?)?;
+        let (text, number) = self.names.get_index(self.likely.index(name)?)?;
         if text.is(name) { Some(*number) } else { None }
     }
 
@@ -92,39 +92,39 @@ impl Numbering {
 
     /// The name of the function with this number.
     pub(crate) fn function_name(&self, f: usize) -> &[u8]
-        requires number { f < length self.now.places.functions.items }
-        requires place { slice_index self.now.places.functions.items f < length self.now.names.entries }
-        ensures { text_kept_at self.now (slice_index self.now.places.functions.items f) ≡ Some result.now }
+        requires number { f < length self.now.indices.functions.items }
+        requires index { slice_index self.now.indices.functions.items f < length self.now.names.entries }
+        ensures { text_kept_at self.now (slice_index self.now.indices.functions.items f) ≡ Some result.now }
     {
-        self.name_at(self.places.functions[f])
+        self.name_at(self.indices.functions[f])
     }
 
     /// How many elements there are.
     pub(crate) fn elements(&self) -> usize
-        ensures { result ≡ length self.now.places.elements.items }
+        ensures { result ≡ length self.now.indices.elements.items }
     {
-        self.places.elements.len()
+        self.indices.elements.len()
     }
 
     /// The name of the element with this number.
     pub(crate) fn element_name(&self, e: usize) -> &[u8]
-        requires number { e < length self.now.places.elements.items }
-        requires place { slice_index self.now.places.elements.items e < length self.now.names.entries }
-        ensures { text_kept_at self.now (slice_index self.now.places.elements.items e) ≡ Some result.now }
+        requires number { e < length self.now.indices.elements.items }
+        requires index { slice_index self.now.indices.elements.items e < length self.now.names.entries }
+        ensures { text_kept_at self.now (slice_index self.now.indices.elements.items e) ≡ Some result.now }
     {
-        self.name_at(self.places.elements[e])
+        self.name_at(self.indices.elements[e])
     }
 
-    fn name_at(&self, place: usize) -> &[u8]
-        requires { place < length self.now.names.entries }
-        ensures { text_kept_at self.now place ≡ Some result.now }
+    fn name_at(&self, index: usize) -> &[u8]
+        requires { index < length self.now.names.entries }
+        ensures { text_kept_at self.now index ≡ Some result.now }
     {
-        let (name, _) = self.names.get_index(place).unwrap();
+        let (name, _) = self.names.get_index(index).unwrap();
         name.as_bytes()
     }
 }
 
-/// The declaration at a place, with its name.
+/// The declaration at an index, with its name.
 fn entry_at<'a>(names: &Names<'a>, i: usize) -> (&'a [u8], Declared<'a>)
     requires { i < length names.now.entries }
     ensures { option_map declaration_of (slice_get names.now.entries i) ≡ Some (declaration_of result) }
@@ -135,7 +135,7 @@ fn entry_at<'a>(names: &Names<'a>, i: usize) -> (&'a [u8], Declared<'a>)
 
 /// By number, where a declaration stands among all of them.
 #[derive(Drop)]
-pub(crate) struct Places {
+pub(crate) struct Indices {
     universes: Vec<usize>,
     elements: Vec<usize>,
     functions: Vec<usize>,
@@ -143,15 +143,15 @@ pub(crate) struct Places {
     rules: Vec<usize>,
 }
 
-impl Places {
-    fn new(alloc: Global) -> Places
+impl Indices {
+    fn new(alloc: Global) -> Indices
         ensures universes { result.universes.items ≡ [] }
         ensures elements { result.elements.items ≡ [] }
         ensures functions { result.functions.items ≡ [] }
         ensures derived { result.derived.items ≡ [] }
         ensures rules { result.rules.items ≡ [] }
     {
-        Places {
+        Indices {
             universes: Vec::new(alloc),
             elements: Vec::new(alloc),
             functions: Vec::new(alloc),
@@ -160,30 +160,30 @@ impl Places {
         }
     }
 
-    /// One more declaration, which stands at this place. The answer is its number.
-    fn add(&mut self, meaning: Meaning, place: usize) -> Result<Option<Named>, AllocError>
+    /// One more declaration, which stands at this index. The answer is its number.
+    fn add(&mut self, meaning: Meaning, index: usize) -> Result<Option<Named>, AllocError>
         ensures number { IfOk result (λ r. r ≡ next_number self.old (meaning_of meaning.entry)) }
-        ensures placed { OnOk result (IsPlaced self.old place (meaning_of meaning.entry) self.new) }
+        ensures indexed { OnOk result (IsIndexed self.old index (meaning_of meaning.entry) self.new) }
     {
         match meaning {
             Meaning::Predeclared => Ok(None),
-            Meaning::Range { .. } => Ok(Some(Named::Universe(push(&mut self.universes, place)?))),
-            Meaning::Enumeration(_) => Ok(Some(Named::Universe(push(&mut self.universes, place)?))),
-            Meaning::Element(_) => Ok(Some(Named::Element(push(&mut self.elements, place)?))),
-            Meaning::Controlled(_) => Ok(Some(Named::Function(push(&mut self.functions, place)?))),
-            Meaning::Static(_) => Ok(Some(Named::Function(push(&mut self.functions, place)?))),
-            Meaning::Derived(_, _) => Ok(Some(Named::Derived(push(&mut self.derived, place)?))),
-            Meaning::Procedure(_, _) => Ok(Some(Named::Called(push(&mut self.rules, place)?))),
+            Meaning::Range { .. } => Ok(Some(Named::Universe(push(&mut self.universes, index)?))),
+            Meaning::Enumeration(_) => Ok(Some(Named::Universe(push(&mut self.universes, index)?))),
+            Meaning::Element(_) => Ok(Some(Named::Element(push(&mut self.elements, index)?))),
+            Meaning::Controlled(_) => Ok(Some(Named::Function(push(&mut self.functions, index)?))),
+            Meaning::Static(_) => Ok(Some(Named::Function(push(&mut self.functions, index)?))),
+            Meaning::Derived(_, _) => Ok(Some(Named::Derived(push(&mut self.derived, index)?))),
+            Meaning::Procedure(_, _) => Ok(Some(Named::Called(push(&mut self.rules, index)?))),
         }
     }
 }
 
-/// Puts a place behind the others, and answers its number.
-fn push(places: &mut Vec<usize>, place: usize) -> Result<usize, AllocError>
-    ensures number { IfOk result (λ n. n ≡ length places.old.items) }
-    ensures items { OnOk result (places.new.items ≡ places.old.items ++ place ∷ []) }
+/// Puts an index behind the others, and answers its number.
+fn push(indices: &mut Vec<usize>, index: usize) -> Result<usize, AllocError>
+    ensures number { IfOk result (λ n. n ≡ length indices.old.items) }
+    ensures items { OnOk result (indices.new.items ≡ indices.old.items ++ index ∷ []) }
 {
-    let number = places.len();
-    places.push(place)?;
+    let number = indices.len();
+    indices.push(index)?;
     Ok(number)
 }

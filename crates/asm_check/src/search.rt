@@ -105,11 +105,11 @@ impl Search {
     }
 }
 
-/// The node to which one of a node's steps leads, by the step's place among them.
-fn step_at(steps: &[Vec<usize>], node: usize, place: usize) -> Option<usize>
+/// The node to which one of a node's steps leads, by the step's index among them.
+fn step_at(steps: &[Vec<usize>], node: usize, index: usize) -> Option<usize>
     requires { node < length steps.now }
-    ensures step { result ≡ slice_get (next_of (step_lists steps.now) node) place }
-    ensures fits { IfSome result (λ next. place + 1 < 2 ^ 64) }
+    ensures step { result ≡ slice_get (next_of (step_lists steps.now) node) index }
+    ensures fits { IfSome result (λ next. index + 1 < 2 ^ 64) }
 {
-    steps[node].get(place).copied()
+    steps[node].get(index).copied()
 }

@@ -2,11 +2,11 @@
 ghost use Rattle.std.specs.Prelude.{◌≡◌, ◌++◌, [], ◌∷◌, false, map, option_map, IfOk, OnOk};
 ghost use Rattle.asm_state.specs.Universe as numbered;
 ghost use Rattle.asm_syntax.specs.Views.{spec_of, item_of, name_of, const_of, entry_of, given_of};
-ghost use Rattle.asm_syntax.specs.Unplaced.{literal_value};
+ghost use Rattle.asm_syntax.specs.PlainTree.{literal_value};
 ghost use Rattle.asm_check.specs.Faults.{IsWellFormed};
 ghost use Rattle.asm_check.specs.Names.{text_of, is_among};
 ghost use Rattle.asm_check.specs.Numbers.{universes_of, elements_of};
-ghost use Rattle.asm_check.specs.Shapes.{shape_of, texts_of, texts_in, AreApart, place_among, const_by, entry_by, table_by, kind_given, domain_by, function_by};
+ghost use Rattle.asm_check.specs.Shapes.{shape_of, texts_of, texts_in, AreApart, index_among, const_by, entry_by, table_by, kind_given, domain_by, function_by};
 
 use asm_state::arguments::Arguments;
 use asm_state::domain::Domain;
@@ -148,8 +148,8 @@ fn add<'a>(names: &mut Ordered<'a>, name: &'a Name) -> Result<(), AllocError>
 }
 
 /// Where a name stands among others, which is behind them all where it isn't there.
-fn place(names: &Ordered, name: &Name) -> usize
-    ensures { result ≡ place_among (texts_in names.now.keys) name.now.text }
+fn index(names: &Ordered, name: &Name) -> usize
+    ensures { result ≡ index_among (texts_in names.now.keys) name.now.text }
 {
     names
         .get_index_of(name.text.as_bytes())
@@ -170,7 +170,7 @@ fn domain_of(alloc: Global, domain: &[Name], universes: &Ordered) -> Result<Doma
 {
     let mut numbers = Vec::with_capacity(alloc, domain.len())?;
     for name in domain {
-        numbers.push(place(universes, name))?;
+        numbers.push(index(universes, name))?;
     }
     Ok(Domain::new(numbers))
 }
@@ -215,7 +215,7 @@ fn value_of(constant: &Const, elements: &Ordered) -> Value
 {
     match constant {
         Const::Plain(literal) => plain_value(*literal),
-        Const::Element(name) => element(place(elements, name)),
+        Const::Element(name) => element(index(elements, name)),
     }
 }
 

@@ -1,7 +1,7 @@
 //! The starting rule.
 ghost use Rattle.std.specs.Prelude.{◌≡◌, ◌||◌, cond, not, map, filter_map, option_map, [], ◌∷◌};
 ghost use Rattle.std.specs.Option.{option_copied};
-ghost use Rattle.asm_syntax.specs.Placed as placed;
+ghost use Rattle.asm_syntax.specs.SourceTree as source;
 ghost use Rattle.asm_syntax.specs.Views.{spec_of, item_of, name_of};
 ghost use Rattle.asm_check.specs.Errors.{found_of};
 ghost use Rattle.asm_check.specs.Faults.{init_of};
@@ -32,7 +32,7 @@ pub(crate) fn note_inits(spec: &Spec, names: &Names, least: &mut Least)
 /// Notes starting rules that there can't be, and says whether one is named.
 fn note_starts(items: &[Item], names: &Names, least: &mut Least) -> bool
     ensures named { result ≡ is_any (filter_map init_of (map item_of items.now)) }
-    ensures least { (spec : placed.Spec) → IsTableOf spec names.now.entries → found_of least.new.found ≡ noted (found_of least.old.found) (start_faults spec (filter_map init_of (map item_of items.now))) }
+    ensures least { (spec : source.Spec) → IsTableOf spec names.now.entries → found_of least.new.found ≡ noted (found_of least.old.found) (start_faults spec (filter_map init_of (map item_of items.now))) }
 {
     let mut is_named = false;
     for item in items {
@@ -56,7 +56,7 @@ fn start(item: &Item) -> Option<&Name>
 
 /// Only the first `init` counts, and what it names must be a rule without parameters.
 fn note_start(name: &Name, is_named: bool, names: &Names, least: &mut Least)
-    ensures { (spec : placed.Spec) → IsTableOf spec names.now.entries → found_of least.new.found ≡ noted (found_of least.old.found) (cond (is_named || not (meanings.is_start (declared spec name.now.text))) ((name.now.at, 14) ∷ []) []) }
+    ensures { (spec : source.Spec) → IsTableOf spec names.now.entries → found_of least.new.found ≡ noted (found_of least.old.found) (cond (is_named || not (meanings.is_start (declared spec name.now.text))) ((name.now.at, 14) ∷ []) []) }
 {
     if is_named || !is_start(meaning(names, &name.text)) {
         least.note(FaultKind::Init, name.at);

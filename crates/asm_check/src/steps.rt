@@ -1,6 +1,6 @@
 //! Calls of rules and uses of derived functions, as steps between declarations.
 ghost use Rattle.std.specs.Prelude.{◌≡◌, ◌<◌, ℕ, All, IfOk, Some, map, length};
-ghost use Rattle.asm_syntax.specs.Placed as placed;
+ghost use Rattle.asm_syntax.specs.SourceTree as source;
 ghost use Rattle.asm_syntax.specs.Views.{spec_of};
 ghost use Rattle.asm_check.specs.Graph.{IsGraph, next_of, step_lists};
 ghost use Rattle.asm_check.specs.Onward.{onward};
@@ -39,7 +39,7 @@ pub(crate) fn steps_of(
 /// The positions to which the steps from a declaration lead.
 fn steps_from(alloc: Global, names: &Names, meaning: Meaning) -> Result<Vec<usize>, AllocError>
     ensures within { IfOk result (λ steps. All (λ n. n < length names.now.entries) steps.items) }
-    ensures steps { IfOk result (λ steps. (spec : placed.Spec) → IsTableOf spec names.now.entries →
+    ensures steps { IfOk result (λ steps. (spec : source.Spec) → IsTableOf spec names.now.entries →
         map (text_at names.now.entries) steps.items ≡ onward_from spec (Some (meaning_of meaning.entry))) }
 {
     match meaning {
@@ -63,7 +63,7 @@ fn positions(
     in_rule: bool,
 ) -> Result<Vec<usize>, AllocError>
     ensures within { IfOk result (λ steps. All (λ n. n < length names.now.entries) steps.items) }
-    ensures steps { IfOk result (λ steps. (spec : placed.Spec) → IsTableOf spec names.now.entries →
+    ensures steps { IfOk result (λ steps. (spec : source.Spec) → IsTableOf spec names.now.entries →
         map (text_at names.now.entries) steps.items ≡ stepping_to spec in_rule (map use_of uses.now)) }
 {
     let mut positions = Vec::new(alloc);

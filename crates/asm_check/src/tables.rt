@@ -1,7 +1,7 @@
 //! Entries of tables.
 ghost use Rattle.std.specs.Prelude.{◌≡◌, ◌&&◌, ◌||◌, not, List, [], ◌∷◌, ◌++◌, flat_map, map, option_map, IfOk, OnOk};
 ghost use Rattle.std.specs.List.{list_all, list_any};
-ghost use Rattle.asm_syntax.specs.Placed as placed;
+ghost use Rattle.asm_syntax.specs.SourceTree as source;
 ghost use Rattle.asm_syntax.specs.Views.{spec_of, item_of, name_of, const_of, entry_of};
 ghost use Rattle.asm_check.specs.EntryArguments.{HasSeen, fits_in, key, key_of};
 ghost use Rattle.asm_check.specs.Errors.{found_of};
@@ -38,7 +38,7 @@ pub(crate) fn note_entries(
 }
 
 fn note_item(alloc: Global, names: &Names, item: &Item, least: &mut Least) -> Result<(), AllocError>
-    ensures { (spec : placed.Spec) → IsTableOf spec names.now.entries → OnOk result (found_of least.new.found
+    ensures { (spec : source.Spec) → IsTableOf spec names.now.entries → OnOk result (found_of least.new.found
         ≡ noted (found_of least.old.found) (flat_map (λ t. bad_entries spec t.0 [] t.1) (table_of (item_of item.now)))) }
 {
     match item {
@@ -59,7 +59,7 @@ fn note_table(
     entries: &[Entry],
     least: &mut Least,
 ) -> Result<(), AllocError>
-    ensures { (spec : placed.Spec) → IsTableOf spec names.now.entries → OnOk result (found_of least.new.found
+    ensures { (spec : source.Spec) → IsTableOf spec names.now.entries → OnOk result (found_of least.new.found
         ≡ noted (found_of least.old.found) (bad_entries spec (map name_of domain.now) [] (map entry_of entries.now))) }
 {
     // Looked up once for the table, since their names can be long and the entries many.
@@ -76,7 +76,7 @@ fn note_table(
 
 /// Whether all names in an entry are known, but it isn't in the domain, or its arguments stand in an entry before.
 fn is_bad(names: &Names, universes: &[Option<Meaning>], entry: &Entry, is_repeated: bool) -> bool
-    ensures { (spec : placed.Spec) → IsTableOf spec names.now.entries → result ≡ (list_all (is_known_use spec) (uses_of_entry (entry_of entry.now))
+    ensures { (spec : source.Spec) → IsTableOf spec names.now.entries → result ≡ (list_all (is_known_use spec) (uses_of_entry (entry_of entry.now))
         && (not (fits_in spec (map (option_map meaning_of) universes.now) (map const_of entry.now.arguments.items)) || is_repeated)) }
 {
     let is_good = !is_repeated && fits(names, universes, &entry.arguments);
@@ -89,9 +89,9 @@ fn put_arguments<'a>(
     seen: &mut IndexSet<Vec<Argument<'a>>>,
     entry: &'a Entry,
 ) -> Result<bool, AllocError>
-    ensures repeated { (before : List placed.Entry) → HasSeen before seen.old.keys → IfOk result (λ is_repeated. is_repeated
+    ensures repeated { (before : List source.Entry) → HasSeen before seen.old.keys → IfOk result (λ is_repeated. is_repeated
         ≡ list_any (λ e. same_arguments e.arguments (map const_of entry.now.arguments.items)) before) }
-    ensures seen { (before : List placed.Entry) → HasSeen before seen.old.keys → OnOk result (HasSeen (before ++ entry_of entry.now ∷ []) seen.new.keys) }
+    ensures seen { (before : List source.Entry) → HasSeen before seen.old.keys → OnOk result (HasSeen (before ++ entry_of entry.now ∷ []) seen.new.keys) }
 {
     let arguments = arguments_of(alloc, &entry.arguments)?;
     let is_new = seen.insert(arguments)?;
@@ -104,7 +104,7 @@ fn universes_of<'a>(
     names: &Names<'a>,
     domain: &[Name],
 ) -> Result<Vec<Option<Meaning<'a>>>, AllocError>
-    ensures { (spec : placed.Spec) → IsTableOf spec names.now.entries → IfOk result (λ universes. map (option_map meaning_of) universes.items
+    ensures { (spec : source.Spec) → IsTableOf spec names.now.entries → IfOk result (λ universes. map (option_map meaning_of) universes.items
         ≡ map (λ u. declared spec u.text) (map name_of domain.now)) }
 {
     let mut universes = Vec::with_capacity(alloc, domain.len())?;
@@ -116,7 +116,7 @@ fn universes_of<'a>(
 
 /// Whether each name in an entry is an element's.
 fn is_known(names: &Names, entry: &Entry) -> bool
-    ensures { (spec : placed.Spec) → IsTableOf spec names.now.entries → result ≡ list_all (is_known_use spec) (uses_of_entry (entry_of entry.now)) }
+    ensures { (spec : source.Spec) → IsTableOf spec names.now.entries → result ≡ list_all (is_known_use spec) (uses_of_entry (entry_of entry.now)) }
 {
     for argument in &entry.arguments {
         if !is_known_constant(names, argument) {
@@ -127,7 +127,7 @@ fn is_known(names: &Names, entry: &Entry) -> bool
 }
 
 fn is_known_constant(names: &Names, constant: &Const) -> bool
-    ensures { (spec : placed.Spec) → IsTableOf spec names.now.entries → result ≡ list_all (is_known_use spec) (uses_of_const (const_of constant.now)) }
+    ensures { (spec : source.Spec) → IsTableOf spec names.now.entries → result ≡ list_all (is_known_use spec) (uses_of_const (const_of constant.now)) }
 {
     match constant {
         Const::Plain(_) => true,
@@ -137,7 +137,7 @@ fn is_known_constant(names: &Names, constant: &Const) -> bool
 
 /// Whether there are as many arguments as universes, each in its own.
 fn fits(names: &Names, universes: &[Option<Meaning>], arguments: &[Const]) -> bool
-    ensures { (spec : placed.Spec) → IsTableOf spec names.now.entries → result ≡ fits_in spec (map (option_map meaning_of) universes.now) (map const_of arguments.now) }
+    ensures { (spec : source.Spec) → IsTableOf spec names.now.entries → result ≡ fits_in spec (map (option_map meaning_of) universes.now) (map const_of arguments.now) }
 {
     if universes.len() != arguments.len() {
         return false;
@@ -151,7 +151,7 @@ fn fits(names: &Names, universes: &[Option<Meaning>], arguments: &[Const]) -> bo
 }
 
 fn is_in_universe(names: &Names, universe: Option<Meaning>, constant: &Const) -> bool
-    ensures { (spec : placed.Spec) → IsTableOf spec names.now.entries → result ≡ is_inside spec (option_map meaning_of universe.entry) (const_of constant.now) }
+    ensures { (spec : source.Spec) → IsTableOf spec names.now.entries → result ≡ is_inside spec (option_map meaning_of universe.entry) (const_of constant.now) }
 {
     match constant {
         Const::Plain(Literal::Number(n)) => match universe {

@@ -5,7 +5,7 @@ use Rattle.std.proofs.lemmas.List.{take_all, take_more_set, map_more}
 use Rattle.asm_state.specs.declared.value.Value.{Value}
 use Rattle.asm_state.specs.Location.{State}
 use Rattle.asm_syntax.specs.Tree.{Name, Terms, Named}
-use Rattle.asm_syntax.specs.Unplaced.{plain_terms}
+use Rattle.asm_syntax.specs.PlainTree.{plain_terms}
 use Rattle.asm_syntax.specs.Views.{term_of, terms_of, spec_of}
 use Rattle.asm_syntax.specs.declared.term.Term.{Term}
 use Rattle.asm_check.specs.Numbers.{named}
@@ -55,7 +55,7 @@ all_valued f ts vs i above below are =
     let same : length ts ≡ i = omega arith in
     ap (λ n. take n vs) same ∙ are ∙ ap (map f) (take_all i ts above)
 
--- one more value in its place
+-- one more value behind the others
 pub one_more_value : {X Y : Type 0} (f : X → Y) (xs : List X) (ys : List Y) (i : ℕ) (x : X) (y : Y) → i < length xs → i < length ys → x ≡ slice_index_or xs i x → y ≡ f x
     → take i ys ≡ map f (take i xs) → take (i + 1) (slice_set ys i y) ≡ map f (take (i + 1) xs)
 one_more_value f xs ys i x y within room is e are =

@@ -12,12 +12,12 @@ use Rattle.asm_state.specs.Location.{State}
 use Rattle.asm_state.specs.Updates.{UpdateSet, none, together}
 use Rattle.asm_state.proofs.Algebra.{union_laws}
 use Rattle.asm_eval.specs.Program.{Environment}
-use Rattle.asm_eval.specs.Yields.{Place, at, first_place, Result, Gives, Exhausted, beside}
+use Rattle.asm_eval.specs.Yields.{Path, at, first_path, Result, Gives, Exhausted, beside}
 use Rattle.asm_eval.specs.Does.{Outcome, Meaning, nothing, both, counted, parts, each}
 use Rattle.asm_eval.specs.ExhaustedLaws.{IsUpTo}
 use Rattle.asm_eval.specs.Splits.{BesideLaws, SplitLaws}
 
--- ---- the order of places
+-- ---- the order of paths
 
 not_greater : (r : Ordering) → is_lt r ≡ true → is_gt r ≡ false
 not_greater Less e = refl
@@ -34,58 +34,58 @@ equal_from Less e f = absurd (false≢true (sym f))
 equal_from Equal e f = refl
 equal_from Greater e f = absurd (false≢true (sym e))
 
-pub up_to_itself : (p : Place) → IsUpTo p p
+pub up_to_itself : (p : Path) → IsUpTo p p
 up_to_itself p = ap is_gt (tied_itself nat_list_cmp_total p)
 
-up_to_both : (p q : Place) → IsUpTo p q → IsUpTo q p → p ≡ q
+up_to_both : (p q : Path) → IsUpTo p q → IsUpTo q p → p ≡ q
 up_to_both p q h k =
     slice_cmp-IsAntisymmetric nat_cmp-IsAntisymmetric p q
     (equal_from (slice_cmp nat_cmp p q) h (ap is_gt (sym (nat_list_cmp_total.antisymm q p)) ∙ k))
 
--- the first of two places is one of them, and isn't after either
-pub record IsFirst (p q r : Place) : Type 0 where
+-- the first of two paths is one of them, and isn't after either
+pub record IsFirst (p q r : Path) : Type 0 where
   pub is_one : (r ≡ p) ⊎ (r ≡ q)
   pub first : IsUpTo r p
   pub second : IsUpTo r q
 
-pub first_is : (p q : Place) → IsFirst p q (first_place p q)
+pub first_is : (p q : Path) → IsFirst p q (first_path p q)
 first_is p q =
     elim (is_lt (slice_cmp nat_cmp q p)) as (λ b. is_lt (slice_cmp nat_cmp q p) ≡ b → IsFirst p q (cond b q p)) [
       | true ↦ λ e. record { is_one = inr refl; first = not_greater (slice_cmp nat_cmp q p) e; second = up_to_itself q }
       | false ↦ λ e. record { is_one = inl refl; first = up_to_itself p; second = ap is_gt (nat_list_cmp_total.antisymm p q) ∙ turned (slice_cmp nat_cmp q p) ∙ e }
     ] refl
 
-pub chain : (p q r : Place) → IsUpTo p q → IsUpTo q r → IsUpTo p r
+pub chain : (p q r : Path) → IsUpTo p q → IsUpTo q r → IsUpTo p r
 chain p q r = upto nat_list_cmp_total p q r
 
 -- what isn't after either isn't after the first
-up_to_first : (s p q : Place) → IsUpTo s p → IsUpTo s q → IsUpTo s (first_place p q)
+up_to_first : (s p q : Path) → IsUpTo s p → IsUpTo s q → IsUpTo s (first_path p q)
 up_to_first s p q h k = elim (first_is p q).is_one [ inl e ↦ subst (IsUpTo s) (sym e) h | inr e ↦ subst (IsUpTo s) (sym e) k ]
 
-first_swap : (p q : Place) → first_place p q ≡ first_place q p
+first_swap : (p q : Path) → first_path p q ≡ first_path q p
 first_swap p q = up_to_both _ _ (up_to_first _ q p (first_is p q).second (first_is p q).first) (up_to_first _ p q (first_is q p).second (first_is q p).first)
 
-first_group : (p q r : Place) → first_place (first_place p q) r ≡ first_place p (first_place q r)
+first_group : (p q r : Path) → first_path (first_path p q) r ≡ first_path p (first_path q r)
 first_group p q r = up_to_both x y
-    (up_to_first x p (first_place q r) (chain x (first_place p q) p left.first inner.first) (up_to_first x q r (chain x (first_place p q) q left.first inner.second) left.second))
-    (up_to_first y (first_place p q) r (up_to_first y p q right.first (chain y (first_place q r) q right.second last.first)) (chain y (first_place q r) r right.second last.second))
+    (up_to_first x p (first_path q r) (chain x (first_path p q) p left.first inner.first) (up_to_first x q r (chain x (first_path p q) q left.first inner.second) left.second))
+    (up_to_first y (first_path p q) r (up_to_first y p q right.first (chain y (first_path q r) q right.second last.first)) (chain y (first_path q r) r right.second last.second))
   where
-    x : Place
-    x = first_place (first_place p q) r
+    x : Path
+    x = first_path (first_path p q) r
 
-    y : Place
-    y = first_place p (first_place q r)
+    y : Path
+    y = first_path p (first_path q r)
 
-    left : IsFirst (first_place p q) r (first_place (first_place p q) r)
-    left = first_is (first_place p q) r
+    left : IsFirst (first_path p q) r (first_path (first_path p q) r)
+    left = first_is (first_path p q) r
 
-    inner : IsFirst p q (first_place p q)
+    inner : IsFirst p q (first_path p q)
     inner = first_is p q
 
-    right : IsFirst p (first_place q r) (first_place p (first_place q r))
-    right = first_is p (first_place q r)
+    right : IsFirst p (first_path q r) (first_path p (first_path q r))
+    right = first_is p (first_path q r)
 
-    last : IsFirst q r (first_place q r)
+    last : IsFirst q r (first_path q r)
     last = first_is q r
 
 -- ---- results and outcomes
@@ -133,7 +133,7 @@ beside_laws = record { first_unit = first_unit; last_unit = λ o. swap o nothing
 one_on : (n k : ℕ) → n + suc k ≡ suc n + k
 one_on n k = omega arith
 
-split_parts : (ms ns : List Meaning) (k : ℕ) (A : State) (e : Environment) (p : Place) → parts (ms ++ ns) k A e p ≡ both (parts ms k A e p) (parts ns (length ms + k) A e p)
+split_parts : (ms ns : List Meaning) (k : ℕ) (A : State) (e : Environment) (p : Path) → parts (ms ++ ns) k A e p ≡ both (parts ms k A e p) (parts ns (length ms + k) A e p)
 split_parts [] ns k A e p = ap (λ j. parts ns j A e p) (zero_on k) ∙ sym (first_unit _)
   where
     zero_on : (k : ℕ) → k ≡ 0 + k

@@ -5,14 +5,14 @@ use Rattle.std.specs.List.{position, position_or_len}
 use Rattle.asm_state.specs.declared.value.Value.{Value}
 use Rattle.asm_state.specs.declared.value.Value.TheVariants.{Undef}
 use Rattle.asm_syntax.specs.Views.{term_of, terms_of}
-use Rattle.asm_syntax.specs.Unplaced.{plain_term, plain_terms}
+use Rattle.asm_syntax.specs.PlainTree.{plain_term, plain_terms}
 use Rattle.asm_syntax.specs.declared.name.Name as syntax
 use Rattle.asm_syntax.specs.declared.term.Term.{Term}
 use Rattle.asm_syntax.specs.Tree.{Name}
 use Rattle.asm_eval.specs.Program.{Environment, bind_values, bind_terms, Binding, ToValue, ToTerm, bound_to, is_name}
 use Rattle.asm_eval.specs.Environments.{text_of, beside}
 
--- the place in a list that has one member more in front
+-- the index in a list that has one member more in front
 position_cons : {X : Type 0} (test : X → Bool) (y : X) (ys : List X) → position test (y ∷ ys) ≡ cond (test y) (Some 0) (option_map suc (position test ys))
 position_cons test y ys = by (test y)
   where
@@ -25,25 +25,25 @@ abbrev is_of : Name → syntax.Name → Bool
 is_of x y = is_name (text_of y) x
 
 abbrev pub value_at : List Value → Option ℕ → Option Binding
-value_at vs place = option_map (λ i. ToValue (slice_index_or vs i Undef)) place
+value_at vs index = option_map (λ i. ToValue (slice_index_or vs i Undef)) index
 
 abbrev pub term_at : List Term → Environment → Option ℕ → Option Binding
-term_at ts caller place = option_map (λ (t : Term). ToTerm (plain_term (term_of t)) caller) (beside place ts)
+term_at ts caller index = option_map (λ (t : Term). ToTerm (plain_term (term_of t)) caller) (beside index ts)
 
 -- the values behind the first one
-value_later : (v : Value) (vs : List Value) (place : Option ℕ) → value_at vs place ≡ value_at (v ∷ vs) (option_map suc place)
+value_later : (v : Value) (vs : List Value) (index : Option ℕ) → value_at vs index ≡ value_at (v ∷ vs) (option_map suc index)
 value_later v vs None = refl
 value_later v vs (Some i) = refl
 
-none_later : (place : Option ℕ) → value_at [] place ≡ value_at [] (option_map suc place)
+none_later : (index : Option ℕ) → value_at [] index ≡ value_at [] (option_map suc index)
 none_later None = refl
 none_later (Some i) = refl
 
-term_later : (t : Term) (ts : List Term) (caller : Environment) (place : Option ℕ) → term_at ts caller place ≡ term_at (t ∷ ts) caller (option_map suc place)
+term_later : (t : Term) (ts : List Term) (caller : Environment) (index : Option ℕ) → term_at ts caller index ≡ term_at (t ∷ ts) caller (option_map suc index)
 term_later t ts caller None = refl
 term_later t ts caller (Some i) = refl
 
-no_term : (caller : Environment) (place : Option ℕ) → None ≡ term_at [] caller place
+no_term : (caller : Environment) (index : Option ℕ) → None ≡ term_at [] caller index
 no_term caller None = refl
 no_term caller (Some i) = refl
 

@@ -16,9 +16,9 @@ use Rattle.asm_state.specs.Signature.{Shape}
 use Rattle.asm_syntax.specs.declared.name.Name as syntax
 use Rattle.asm_syntax.specs.declared.rule.Rule.{Rule}
 use Rattle.asm_syntax.specs.declared.term.Term.{Term}
-use Rattle.asm_syntax.specs.Placed.{Spec}
+use Rattle.asm_syntax.specs.SourceTree.{Spec}
 use Rattle.asm_syntax.specs.Tree as tree
-use Rattle.asm_syntax.specs.Unplaced.{plain_rule}
+use Rattle.asm_syntax.specs.PlainTree.{plain_rule}
 use Rattle.asm_syntax.specs.Views.{name_of, rule_of, spec_of}
 use Rattle.asm_check.specs.Names as names
 use Rattle.asm_check.specs.Names.{Meaning, Declaration, first_declarations}
@@ -38,7 +38,7 @@ use Rattle.asm_eval.specs.Evaluated.{state_at, meant, meant_terms}
 use Rattle.asm_eval.specs.Program.{Program, Declared, Universe, Procedure, Environment, declared, bind_terms}
 use Rattle.asm_eval.specs.Valued.{program}
 use Rattle.asm_eval.specs.Weights.{called_size, rule_size, rule_sizes, rule_size_within, rule_weight}
-use Rattle.asm_eval.specs.Yields.{Place, at}
+use Rattle.asm_eval.specs.Yields.{Path, at}
 use Rattle.asm_eval.proofs.FormedRules.{rules_in, rules_in_all, in_body, plain_does, rule_does, cases}
 use Rattle.asm_eval.proofs.Meant.{program_declares}
 use Rattle.asm_eval.proofs.NumberedValues.{numbered_rule}
@@ -98,7 +98,7 @@ abbrev pub rule_number : Option Named → Option ℕ
 rule_number (Some (number.Called r)) = Some r
 rule_number it = None
 
-module _ (program : Program) (turns : ℕ) (chosen : Place → ℕ) (body : tree.Rule → Does) (ts : tree.Terms) (A : State) (e : Environment) (p : Place) where
+module _ (program : Program) (turns : ℕ) (chosen : Path → ℕ) (body : tree.Rule → Does) (ts : tree.Terms) (A : State) (e : Environment) (p : Path) where
   abbrev calls : Option Declared → Outcome
   calls it = called program turns chosen body it ts A e p
 
@@ -134,13 +134,13 @@ module _ (program : Program) (turns : ℕ) (chosen : Place → ℕ) (body : tree
 -- ---- what calls do
 
 -- the body of the rule that is called is run one nesting further down
-call_does : (program : Program) (turns : ℕ) (script : Script) (step : ℕ) (A : State) (e : Environment) (p : Place) (f : tree.Name) (ts : tree.Terms)
+call_does : (program : Program) (turns : ℕ) (script : Script) (step : ℕ) (A : State) (e : Environment) (p : Path) (f : tree.Name) (ts : tree.Terms)
     → does program turns script step A e p (tree.Call f ts)
     ≡ called program turns (pick script step) (does_within program turns (pick script step) 16) (declared program f) ts A e p
 unfolding does does_within meaning
 call_does program turns script step A e p f ts = refl
 
-module _ {P : Type 0} {picks : Ghosts P} (on : Evaluation P picks) (e : Environment) (p : Place) (f : tree.Name) (ts : List Term) where
+module _ {P : Type 0} {picks : Ghosts P} (on : Evaluation P picks) (e : Environment) (p : Path) (f : tree.Name) (ts : List Term) where
   abbrev terms : tree.Terms
   terms = meant_terms ts
 

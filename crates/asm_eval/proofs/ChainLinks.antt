@@ -3,7 +3,7 @@ use Rattle.std.proofs.Common.{◌≡◌, ℕ, zero, suc, ◌<◌, List, [], ◌�
 use Rattle.asm_state.specs.declared.operation.Op.{Op}
 use Rattle.asm_state.specs.declared.value.Value.{Value}
 use Rattle.asm_syntax.specs.Tree as tree
-use Rattle.asm_syntax.specs.Unplaced.{plain_term, plain_links}
+use Rattle.asm_syntax.specs.PlainTree.{plain_term, plain_links}
 use Rattle.asm_syntax.specs.Views.{term_of, links_of}
 use Rattle.asm_syntax.specs.declared.term.Term.{Term}
 use Rattle.asm_syntax.specs.declared.term.Term.TheVariants as term

@@ -15,7 +15,7 @@ use Rattle.asm_syntax.specs.Tree.{Name, Term, Constant, Named, Chain, Exists, Ev
 use Rattle.asm_reader.specs.ScriptLines.{Script}
 use Rattle.asm_eval.specs.Program.{Program, Universe, Controlled, Static, Derived, Procedure, nothing_bound, with_value}
 use Rattle.asm_eval.specs.Value.{value, values, reading, reading_within, readings_of}
-use Rattle.asm_eval.specs.Yields.{Place, Gives, Exhausted, beside}
+use Rattle.asm_eval.specs.Yields.{Path, Gives, Exhausted, beside}
 use Rattle.asm_eval.specs.Does.{Outcome, nothing, following, meaning, does_within, does}
 use Rattle.asm_eval.specs.Run.{AtLimit, run}
 
@@ -73,7 +73,7 @@ at_y = Proper 2 []
 abbrev valued : Term → Value
 valued t = value sample start nothing_bound t
 
-abbrev done : Script → Place → Rule → Outcome
+abbrev done : Script → Path → Rule → Outcome
 done script p R = does sample 1 script 1 start nothing_bound p R
 
 abbrev giving : UpdateSet → ℕ → Outcome
@@ -142,8 +142,8 @@ for_each_element = refl
 
 -- ---- choices: candidate 4 of three is the one with number 1
 
-abbrev one_line : Place → Script
-one_line p = record { step = 1; place = p; choice = 4 } ∷ []
+abbrev one_line : Path → Script
+one_line p = record { step = 1; path = p; choice = 4 } ∷ []
 
 abbrev some_number : Rule
 some_number = Choose (codes "k") (codes "Idx") None (Assign (codes "x") no_terms (name (codes "k"))) Skip
@@ -215,15 +215,15 @@ has_one =
 abbrev repeated : Rule
 repeated = Iterate (Assign (codes "x") no_terms (name (codes "x")))
 
-exhausted_at_its_place : (p : Place) → (done [] p repeated).result ≡ Exhausted p
+exhausted_at_its_path : (p : Path) → (done [] p repeated).result ≡ Exhausted p
 unfolding does does_within meaning value values reading reading_within readings_of number_or_undef
-exhausted_at_its_place p =
+exhausted_at_its_path p =
     let U : UpdateSet = one at_x (number (pos 1)) in
     (λ i. (cond (has_one i || not (passes 1 [] (number (pos 1)) i)) (giving U 0) (following U 0 (record { result = Exhausted p; instances = 0 }))).result)
 
--- the least of two places: lists are compared from their first numbers on
-the_least_place : beside (Exhausted (2 ∷ [])) (Exhausted (0 ∷ 7 ∷ [])) ≡ Exhausted (0 ∷ 7 ∷ [])
-the_least_place = refl
+-- the least of two paths: lists are compared from their first numbers on
+the_least_path : beside (Exhausted (2 ∷ [])) (Exhausted (0 ∷ 7 ∷ [])) ≡ Exhausted (0 ∷ 7 ∷ [])
+the_least_path = refl
 
 before_the_longer : beside (Exhausted (1 ∷ 0 ∷ [])) (Exhausted (1 ∷ [])) ≡ Exhausted (1 ∷ [])
 before_the_longer = refl

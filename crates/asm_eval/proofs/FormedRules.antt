@@ -25,7 +25,7 @@ use Rattle.asm_syntax.specs.declared.term.Term.{Term}
 use Rattle.asm_syntax.specs.declared.rule.Rule.{Rule}
 use Rattle.asm_syntax.specs.declared.rule.Rule.TheVariants as rule
 use Rattle.asm_syntax.specs.Tree as tree
-use Rattle.asm_syntax.specs.Unplaced.{plain_rule, plain_rules}
+use Rattle.asm_syntax.specs.PlainTree.{plain_rule, plain_rules}
 use Rattle.asm_syntax.specs.Views.{rule_of, rules_of, spec_of}
 use Rattle.asm_syntax.specs.ViewCases.{rule_of-Skip, rule_of-Par, rule_of-Seq}
 use Rattle.asm_check.specs.Ranks.{rule_rank}
@@ -47,10 +47,10 @@ use Rattle.asm_eval.specs.Taken.{taken}
 use Rattle.asm_eval.specs.Value.{is_true, values, candidates, universe}
 use Rattle.asm_eval.specs.Valued.{program, shown, term_value, condition, holds_at}
 use Rattle.asm_eval.specs.Weights.{called_size, rule_size_within}
-use Rattle.asm_eval.specs.Yields.{Place, Gives, Exhausted, at, assigned, beside}
+use Rattle.asm_eval.specs.Yields.{Path, Gives, Exhausted, at, assigned, beside}
 use Rattle.asm_eval.proofs.Beside.{right_unit}
 use Rattle.asm_eval.proofs.Cases.{scripted_by_cases}
-use Rattle.asm_eval.proofs.ExhaustedPlaces.{first_part_first, first_element_first}
+use Rattle.asm_eval.proofs.ExhaustedPaths.{first_part_first, first_element_first}
 use Rattle.asm_eval.proofs.Ranked.{rules_ranked}
 
 -- ---- what is added
@@ -97,8 +97,8 @@ module _ (shape : Shape) where
 
 -- ---- where it stopped
 
--- what is exhausted together is exhausted at the same place
-pub stopped_with : (o q : Outcome) (p : Place) (stop : Stopped) → ((at : Place) → o.result ≡ Exhausted at → q.result ≡ Exhausted at) → IsStoppedAt o p stop → IsStoppedAt q p stop
+-- what is exhausted together is exhausted at the same path
+pub stopped_with : (o q : Outcome) (p : Path) (stop : Stopped) → ((at : Path) → o.result ≡ Exhausted at → q.result ≡ Exhausted at) → IsStoppedAt o p stop → IsStoppedAt q p stop
 stopped_with o q p stopped.Memory ends is = tt
 stopped_with o q p stopped.Exhausted ends is = ends p is
 
@@ -113,7 +113,7 @@ module _ {T : Type 0} (shape : Shape) where
   pub follows_nothing : (x : T) (o : Outcome) (made : Forming) → nothing ≡ o → Follows shape o made made (Ok x)
   follows_nothing x o made e = record {
     count = refl;
-    place = refl;
+    path = refl;
     formed = forms_same shape nothing o made.set made.set made.instances made.instances e (forms_nothing shape made.set made.instances (omega (arith, made.in_range)));
     exhausted = tt;
   }
@@ -123,48 +123,48 @@ module _ {T : Type 0} (shape : Shape) where
       → Follows shape o old mid (Ok x) → Follows shape q mid new r → Follows shape (both o q) old new r
   follows_both x (Ok y) o q old mid new first then = record {
     count = then.count ∙ first.count;
-    place = then.place ∙ first.place;
+    path = then.path ∙ first.path;
     formed = forms_both shape o q old.set mid.set new.set old.instances mid.instances new.instances first.formed then.formed;
     exhausted = tt;
   }
   follows_both x (Err stop) o q old mid new first then = record {
     count = then.count ∙ first.count;
-    place = tt;
+    path = tt;
     formed = tt;
-    exhausted = stopped_with q (both o q) new.place.items stop
+    exhausted = stopped_with q (both o q) new.path.items stop
         (λ p ends. ap (λ it. beside it q.result) first.formed.gives ∙ ap (beside (Gives first.formed.set)) ends) then.exhausted;
   }
 
   -- with one more instance, counted first
-  pub follows_counted : (r : Result T Stopped) (o : Outcome) (old mid new : Forming) → mid.set ≡ old.set → mid.place.items ≡ old.place.items
+  pub follows_counted : (r : Result T Stopped) (o : Outcome) (old mid new : Forming) → mid.set ≡ old.set → mid.path.items ≡ old.path.items
       → mid.instances ≡ min (old.instances + 1) greatest_count → Follows shape o mid new r → Follows shape (counted o) old new r
   follows_counted (Ok x) o old mid new same stays is then = record {
     count = then.count ∙ ap (λ (s : Entries). s.count) same;
-    place = then.place ∙ stays;
+    path = then.path ∙ stays;
     formed = subst (λ s. Forms shape (counted o) s new.set old.instances new.instances) same
         (forms_counted shape o mid.set new.set old.instances mid.instances new.instances is then.formed);
     exhausted = tt;
   }
   follows_counted (Err stop) o old mid new same stays is then = record {
     count = then.count ∙ ap (λ (s : Entries). s.count) same;
-    place = tt;
+    path = tt;
     formed = tt;
-    exhausted = stopped_with o (counted o) new.place.items stop (λ p ends. ends) then.exhausted;
+    exhausted = stopped_with o (counted o) new.path.items stop (λ p ends. ends) then.exhausted;
   }
 
   -- where an error is handed on
   pub follows_stopped : {S : Type 0} (given : Result S Stopped) (returned : Result T Stopped) (stop : Stopped) (o q : Outcome) (old mid new : Forming) → mid.set.count ≡ old.set.count
-      → given ≡ Err stop → IsErrAnd returned (λ again. again ≡ stop) → ((p : Place) → o.result ≡ Exhausted p → q.result ≡ Exhausted p)
+      → given ≡ Err stop → IsErrAnd returned (λ again. again ≡ stop) → ((p : Path) → o.result ≡ Exhausted p → q.result ≡ Exhausted p)
       → Follows shape o mid new given → Follows shape q old new returned
   follows_stopped given (Ok x) stop o q old mid new same was again too first = absurd again
   follows_stopped given (Err other) stop o q old mid new same was again too first = record {
     count = first.count ∙ same;
-    place = tt;
+    path = tt;
     formed = tt;
-    exhausted = subst (IsStoppedAt q new.place.items) (sym again) (stopped_with o q new.place.items stop too (IfErr-at_err (IsStoppedAt o new.place.items) was first.exhausted));
+    exhausted = subst (IsStoppedAt q new.path.items) (sym again) (stopped_with o q new.path.items stop too (IfErr-at_err (IsStoppedAt o new.path.items) was first.exhausted));
   }
 
--- ---- how far the code has still to go down: how many rules a rule is made of, with those that it calls in their places
+-- ---- how far the code has still to go down: how many rules a rule is made of, with the rules that it calls written out
 
 module _ (of_called : tree.Name → ℕ) where
   abbrev mutual
@@ -219,40 +219,40 @@ candidates_of checked view e x u c = candidates (program checked) (shown view) e
 
 -- rules one after the other, from number k on, and turns from number t on, of which so many are left: in whatever state
 module _ (s : Setting) where
-  abbrev pub rules_do_in_order : Environment → Place → ℕ → List Rule → State → Outcome
+  abbrev pub rules_do_in_order : Environment → Path → ℕ → List Rule → State → Outcome
   rules_do_in_order e p k rs A = in_order (all_run s.program s.turns s.script s.step (meant_rules rs)) k A e p
 
-  abbrev pub turns_do : Environment → Place → (left : ℕ) → (t : ℕ) → Rule → State → Outcome
+  abbrev pub turns_do : Environment → Path → (left : ℕ) → (t : ℕ) → Rule → State → Outcome
   turns_do e p left t R A = turns_of (runs s.program s.turns s.script s.step (meant R)) left t A e p
 
 module _ {P : Type 0} {picks : Ghosts P} (on : Evaluation P picks) where
-  abbrev pub plain_does : Environment → Place → tree.Rule → Outcome
+  abbrev pub plain_does : Environment → Path → tree.Rule → Outcome
   plain_does = outcome (setting on) (state_at on)
 
-  abbrev pub rule_does : Environment → Place → Rule → Outcome
+  abbrev pub rule_does : Environment → Path → Rule → Outcome
   rule_does e p R = plain_does e p (meant R)
 
-  abbrev pub branch_does : Environment → Place → Option (Box Rule Global) → Outcome
+  abbrev pub branch_does : Environment → Path → Option (Box Rule Global) → Outcome
   branch_does e p Q = plain_does e p (meant_branch Q)
 
   -- rules beside each other, from number k on
-  abbrev pub rules_do : Environment → Place → ℕ → List Rule → Outcome
+  abbrev pub rules_do : Environment → Path → ℕ → List Rule → Outcome
   rules_do e p k rs = parts (all_run (program on.scene.checked.now) on.turns (picks.script on.choices.now.script.now) on.choices.now.step (meant_rules rs)) k (state_at on) e p
 
   -- a rule for each element for which a condition holds, from number k on
-  abbrev pub each_does : Environment → Place → tree.Name → Option Term → Rule → ℕ → List Value → Outcome
+  abbrev pub each_does : Environment → Path → tree.Name → Option Term → Rule → ℕ → List Value → Outcome
   each_does e p x c R k vs = each (λ v n. rule_does (with_value x v e) (at p n) R) (λ v. holds_at on.scene.checked.now on.scene.view.now (with_value x v e) c) k vs
 
-  abbrev assign_does : Environment → Place → syntax.Name → List Term → Term → Outcome
+  abbrev assign_does : Environment → Path → syntax.Name → List Term → Term → Outcome
   assign_does e p x ts t = plain_does e p (tree.Assign x.text (meant_terms ts) (meant_term t))
 
-  abbrev forall_does : Environment → Place → tree.Name → tree.Name → Option Term → Rule → Outcome
+  abbrev forall_does : Environment → Path → tree.Name → tree.Name → Option Term → Rule → Outcome
   forall_does e p x u c R = plain_does e p (tree.Forall x u (condition c) (meant R))
 
-  abbrev if_does : Environment → Place → Term → Rule → Option (Box Rule Global) → Outcome
+  abbrev if_does : Environment → Path → Term → Rule → Option (Box Rule Global) → Outcome
   if_does e p c R Q = plain_does e p (tree.If (meant_term c) (meant R) (meant_branch Q))
 
-  abbrev choose_does : Environment → Place → tree.Name → tree.Name → Option Term → Rule → Option (Box Rule Global) → Outcome
+  abbrev choose_does : Environment → Path → tree.Name → tree.Name → Option Term → Rule → Option (Box Rule Global) → Outcome
   choose_does e p x u c R Q = plain_does e p (tree.Choose x u (condition c) (meant R) (meant_branch Q))
 
   pub cases : ScriptedCases (program on.scene.checked.now) on.turns (picks.script on.choices.now.script.now) on.choices.now.step (rule_rank (spec_of on.scene.checked.now.spec))
@@ -264,7 +264,7 @@ module _ {P : Type 0} {picks : Ghosts P} (on : Evaluation P picks) where
     values_are [] = refl
     values_are (t ∷ ts) = ap (λ vs. term_value on.scene.checked.now on.scene.view.now e t ∷ vs) (values_are ts)
 
-    module _ (p : Place) where
+    module _ (p : Path) where
       abbrev assigned_set : syntax.Name → List Term → Term → UpdateSet
       assigned_set x ts t = assigned (declared (program on.scene.checked.now) x.text) (values (program on.scene.checked.now) (state_at on) e (meant_terms ts)) (term_value on.scene.checked.now on.scene.view.now e t)
 
@@ -354,7 +354,7 @@ module _ {P : Type 0} {picks : Ghosts P} (on : Evaluation P picks) where
           ∙ sym (at_drop_more (rules_do e p i) rs i r low)
 
       -- an exhausted rule comes before those behind it
-      pub exhausted_rule_does : (rs : List Rule) (i : ℕ) (r : Rule) (q : Place) → i < length rs → r ≡ slice_index_or rs i r
+      pub exhausted_rule_does : (rs : List Rule) (i : ℕ) (r : Rule) (q : Path) → i < length rs → r ≡ slice_index_or rs i r
           → (rule_does e (at p i) r).result ≡ Exhausted q → (rules_do e p i (drop i rs)).result ≡ Exhausted q
       exhausted_rule_does rs i r q low is ends =
           sym (ap (λ o. o.result) (next_rule_does rs i r low is))
@@ -386,7 +386,7 @@ module _ {P : Type 0} {picks : Ghosts P} (on : Evaluation P picks) where
       element_does x c R vs i v there test = element_next x c R vs i v true there test
 
       -- one whose rule is exhausted
-      pub exhausted_element_does : (x : tree.Name) (c : Option Term) (R : Rule) (vs : List Value) (i : ℕ) (v : Value) (q : Place) → slice_get vs i ≡ Some v
+      pub exhausted_element_does : (x : tree.Name) (c : Option Term) (R : Rule) (vs : List Value) (i : ℕ) (v : Value) (q : Path) → slice_get vs i ≡ Some v
           → true ≡ holds_at on.scene.checked.now on.scene.view.now (with_value x v e) c
           → (rule_does (with_value x v e) (at p i) R).result ≡ Exhausted q → (each_does e p x c R i (drop i vs)).result ≡ Exhausted q
       exhausted_element_does x c R vs i v q there test ends =

@@ -11,7 +11,7 @@ use Rattle.asm_state.proofs.Updates.{test_laws}
 use Rattle.asm_syntax.specs.Tree.{Name, Term, Rule, Skip, Assign, Call, Par, Seq, If, Let, Forall, Choose, Iterate, Rules, no_rules, rule_then}
 use Rattle.asm_eval.specs.Program.{Program, Procedure, declared, Environment, with_value, bind_terms}
 use Rattle.asm_eval.specs.Value.{value, holds, candidates, universe, nesting}
-use Rattle.asm_eval.specs.Yields.{Place, at, Result, Gives, Exhausted, beside, all_beside, Yields, YieldsParts, YieldsInOrder, YieldsEach, YieldsTurns, skip, assign, call, par, seq, if_true, if_false, bind, forall, choose, if_none, iterate, no_part, part_then, end, faulty, exhausted, go_on, no_element, left_out, element_then, turn_limit, last_turn, exhausted_turn, turn_then}
+use Rattle.asm_eval.specs.Yields.{Path, at, Result, Gives, Exhausted, beside, all_beside, Yields, YieldsParts, YieldsInOrder, YieldsEach, YieldsTurns, skip, assign, call, par, seq, if_true, if_false, bind, forall, choose, if_none, iterate, no_part, part_then, end, faulty, exhausted, go_on, no_element, left_out, element_then, turn_limit, last_turn, exhausted_turn, turn_then}
 use Rattle.asm_reader.specs.ScriptLines.{pick}
 use Rattle.asm_eval.specs.Does.{does, Outcome, Meaning, meaning, meanings, parts, in_order, part_and, turn_and, each, one_of, turns_of, called, does_within}
 use Rattle.asm_eval.specs.Law.{ScriptedIsFree}
@@ -48,7 +48,7 @@ by_test P false x y f g = g refl
 
 module _ (program : Program) (turns : ℕ) where
   -- one part of a sequence
-  part_step : {A : State} {e : Environment} {p : Place} {k : ℕ} {P : Rule} {Ps : Rules} (r : Result) (n : ℕ) (rest : UpdateSet → Outcome)
+  part_step : {A : State} {e : Environment} {p : Path} {k : ℕ} {P : Rule} {Ps : Rules} (r : Result) (n : ℕ) (rest : UpdateSet → Outcome)
       → Yields program turns A e (at p k) P r
       → ((U : UpdateSet) → YieldsInOrder program turns (fire A U) e p (suc k) Ps (rest U).result)
       → YieldsInOrder program turns A e p k (rule_then P Ps) (part_and r n rest).result
@@ -59,7 +59,7 @@ module _ (program : Program) (turns : ℕ) where
       (λ h. faulty y (not_from_Decides (is_consistent U) (test_laws.consistency U) h))
 
   -- one turn of an iteration
-  turn_step : {A : State} {e : Environment} {p : Place} {t left : ℕ} {P : Rule} (r : Result) (n : ℕ) (rest : UpdateSet → Outcome)
+  turn_step : {A : State} {e : Environment} {p : Path} {t left : ℕ} {P : Rule} (r : Result) (n : ℕ) (rest : UpdateSet → Outcome)
       → Yields program turns A e (at p t) P r
       → ((U : UpdateSet) → YieldsTurns program turns (fire A U) e p (suc t) left P (rest U).result)
       → YieldsTurns program turns A e p t (suc left) P (turn_and r n rest).result
@@ -69,14 +69,14 @@ module _ (program : Program) (turns : ℕ) where
       (λ h. last_turn y (ends U h))
       (λ h. turn_then y (goes_on U h).0 (goes_on U h).1 (ys U))
 
-  turns_yield : {e : Environment} {p : Place} {P : Rule} (m : Meaning)
+  turns_yield : {e : Environment} {p : Path} {P : Rule} (m : Meaning)
       → ((A : State) (t : ℕ) → Yields program turns A e (at p t) P (m A e (at p t)).result)
       → (left t : ℕ) (A : State) → YieldsTurns program turns A e p t left P (turns_of m left t A e p).result
   turns_yield m ys zero t A = turn_limit
   turns_yield m ys (suc left) t A = turn_step _ _ _ (ys A t) (λ U. turns_yield m ys left (suc t) (fire A U))
 
   -- the elements yield results that come to the outcome
-  module _ (A : State) (e : Environment) (p : Place) (x : Name) (c : Option Term) (P : Rule) (m : Value → ℕ → Outcome)
+  module _ (A : State) (e : Environment) (p : Path) (x : Name) (c : Option Term) (P : Rule) (m : Value → ℕ → Outcome)
       (ys : (v : Value) (k : ℕ) → Yields program turns A (with_value x v e) (at p k) P (m v k).result) where
     each_yield : (k : ℕ) (vs : List Value)
         → (rs : List Result) × YieldsEach program turns A e p x c P k vs rs
@@ -89,7 +89,7 @@ module _ (program : Program) (turns : ℕ) where
         (λ h. (rest.0, left_out h rest.1, rest.2))
 
   -- the candidate that is taken
-  choice_yields : (A : State) (e : Environment) (p : Place) (x u : Name) (c : Option Term) (P Q : Rule) (n : ℕ) (m : Value → Outcome) (other : Outcome)
+  choice_yields : (A : State) (e : Environment) (p : Path) (x u : Name) (c : Option Term) (P Q : Rule) (n : ℕ) (m : Value → Outcome) (other : Outcome)
       → ((v : Value) → Yields program turns A (with_value x v e) (at p 0) P (m v).result) → Yields program turns A e (at p 1) Q other.result
       → (cs : List Value) → candidates program A e x u c ≡ cs → Yields program turns A e p (Choose x u c P Q) (one_of n cs m other).result
   choice_yields A e p x u c P Q n m other ys y [] is = if_none is y
@@ -97,16 +97,16 @@ module _ (program : Program) (turns : ℕ) where
       let k : ℕ = n % length (v ∷ vs) in
       choose k (ap (λ cs. slice_get cs k) is ∙ slice_get-get_or (v ∷ vs) k v (mod_below n (length (v ∷ vs)) (omega arith))) (ys (slice_index_or (v ∷ vs) k v))
 
-  module _ (rank : Name → ℕ) (chosen : Place → ℕ) (body : Rule → Meaning) (n : ℕ)
+  module _ (rank : Name → ℕ) (chosen : Path → ℕ) (body : Rule → Meaning) (n : ℕ)
       (bodies : (f : Name) (xs : List Name) (P : Rule) → declared program f ≡ Some (Procedure xs P) → rank f < n
-      → (A : State) (e : Environment) (p : Place) → Yields program turns A e p P (body P A e p).result) where
+      → (A : State) (e : Environment) (p : Path) → Yields program turns A e p P (body P A e p).result) where
     abbrev means : Rule → Meaning
     means = meaning program turns chosen body
 
     mutual
       unfolding meaning
 
-      yields : (R : Rule) → CallsBelow program rank n R → (A : State) (e : Environment) (p : Place) → Yields program turns A e p R (means R A e p).result
+      yields : (R : Rule) → CallsBelow program rank n R → (A : State) (e : Environment) (p : Path) → Yields program turns A e p R (means R A e p).result
       yields Skip c A e p = skip
       yields (Assign f ts t) c A e p = assign
       yields (Call f ts) c A e p =
@@ -129,7 +129,7 @@ module _ (program : Program) (turns : ℕ) where
           (λ v. yields P c.0 A (with_value x v e) (at p 0)) (yields Q c.1 A e (at p 1)) (candidates program A e x u t) refl
       yields (Iterate P) c A e p = iterate (turns_yield (means P) (λ A t. yields P c A e (at p t)) turns 0 A)
 
-      part_results : (Ps : Rules) → EachCallsBelow program rank n Ps → (A : State) (e : Environment) (p : Place) (k : ℕ)
+      part_results : (Ps : Rules) → EachCallsBelow program rank n Ps → (A : State) (e : Environment) (p : Path) (k : ℕ)
           → (rs : List Result) × YieldsParts program turns A e p k Ps rs × (all_beside rs ≡ (parts (meanings program turns chosen body Ps) k A e p).result)
       part_results no_rules c A e p k = ([], no_part, refl)
       part_results (rule_then P Ps) c A e p k =
@@ -137,14 +137,14 @@ module _ (program : Program) (turns : ℕ) where
           let r : Result = (means P A e (at p k)).result in
           (r ∷ rest.0, part_then (yields P c.0 A e (at p k)) rest.1, ap (beside r) rest.2)
 
-      in_order_yields : (Ps : Rules) → EachCallsBelow program rank n Ps → (A : State) (e : Environment) (p : Place) (k : ℕ)
+      in_order_yields : (Ps : Rules) → EachCallsBelow program rank n Ps → (A : State) (e : Environment) (p : Path) (k : ℕ)
           → YieldsInOrder program turns A e p k Ps (in_order (meanings program turns chosen body Ps) k A e p).result
       in_order_yields no_rules c A e p k = end
       in_order_yields (rule_then P Ps) c A e p k =
           part_step _ _ _ (yields P c.0 A e (at p k)) (λ U. in_order_yields Ps c.1 (fire A U) e p (suc k))
 
-  module _ (rank : Name → ℕ) (ranked : IsRanked program rank) (chosen : Place → ℕ) where
-    pub yields_within : (n : ℕ) (R : Rule) → CallsBelow program rank n R → (A : State) (e : Environment) (p : Place)
+  module _ (rank : Name → ℕ) (ranked : IsRanked program rank) (chosen : Path → ℕ) where
+    pub yields_within : (n : ℕ) (R : Rule) → CallsBelow program rank n R → (A : State) (e : Environment) (p : Path)
         → Yields program turns A e p R (does_within program turns chosen n R A e p).result
     unfolding does_within
     yields_within zero R c A e p =

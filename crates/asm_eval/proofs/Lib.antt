@@ -26,9 +26,9 @@ pub mod Candidates
 pub mod FormedRules
 pub mod CalledRules
 pub mod Sequences
-pub mod NestedPlaces
+pub mod NestedPaths
 pub mod OrderedRules
-pub mod ExhaustedPlaces
+pub mod ExhaustedPaths
 pub mod ExhaustedLaws
 pub mod Initial
 pub mod Examples

@@ -7,7 +7,7 @@ use Rattle.asm_state.specs.declared.function.Function as state
 use Rattle.asm_state.specs.declared.function.Kind.{Kind}
 use Rattle.asm_state.specs.declared.function.Kind.TheVariants as kind
 use Rattle.asm_state.specs.Signature.{Shape}
-use Rattle.asm_syntax.specs.Placed.{Spec}
+use Rattle.asm_syntax.specs.SourceTree.{Spec}
 use Rattle.asm_syntax.specs.Tree.{Name}
 use Rattle.asm_check.proofs.Declared.{texts_are_told}
 use Rattle.asm_check.proofs.SignatureNumbers.{signature_numbers}

@@ -4,9 +4,9 @@
 use Rattle.std.proofs.Common.{ℕ, ◌+◌, ◌*◌, List, map, Option, Some}
 use Rattle.asm_state.specs.declared.operation.Op.{Op}
 use Rattle.asm_state.specs.declared.value.Value.{Value}
-use Rattle.asm_syntax.specs.Placed as placed
+use Rattle.asm_syntax.specs.SourceTree as source
 use Rattle.asm_syntax.specs.Views.{term_of, terms_of}
-use Rattle.asm_syntax.specs.Unplaced.{plain_term, plain_terms}
+use Rattle.asm_syntax.specs.PlainTree.{plain_term, plain_terms}
 use Rattle.asm_syntax.specs.Tree.{Name, Named}
 use Rattle.asm_syntax.specs.declared.term.Term.{Term}
 use Rattle.asm_eval.specs.Program.{Program, Declared, Derived, Environment, bind_values}
@@ -23,5 +23,5 @@ body_weight program (Some (Derived xs t)) vs = 4 * weight program (bind_values x
 body_weight program it vs = 0
 
 -- a link of the code's chains
-abbrev pub link_of : Op × Term → Op × placed.Term
+abbrev pub link_of : Op × Term → Op × source.Term
 link_of l = (l.0, term_of l.1)

@@ -7,8 +7,8 @@ use Rattle.asm_state.specs.declared.value.Value.{Value}
 use Rattle.asm_state.specs.declared.value.Value.TheVariants.{Undef}
 use Rattle.asm_state.specs.Location.{State}
 use Rattle.asm_state.specs.Signature.{Shape}
-use Rattle.asm_syntax.specs.Placed.{Spec}
-use Rattle.asm_syntax.specs.Unplaced.{plain_term, plain_rule}
+use Rattle.asm_syntax.specs.SourceTree.{Spec}
+use Rattle.asm_syntax.specs.PlainTree.{plain_term, plain_rule}
 use Rattle.asm_syntax.specs.Views.{term_of, name_of, rule_of}
 use Rattle.asm_syntax.specs.declared.name.Name.{Name}
 use Rattle.asm_syntax.specs.declared.rule.Rule.{Rule}
@@ -43,7 +43,7 @@ function_below spec shape it f good shaped below is =
     let held : length shape.functions ≡ length (shape_of spec).functions = ap (λ s. length s.functions) shaped in
     omega (arith, same, held, own)
 
--- the texts of placed names are those of the names
+-- the texts of names in the source tree are those of the names
 texts : (xs : List Name) → map names.text_of (map name_of xs) ≡ map text_of xs
 texts [] = refl
 texts (x ∷ xs) = ap (λ ys. x.text ∷ ys) (texts xs)

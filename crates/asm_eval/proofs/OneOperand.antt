@@ -4,7 +4,7 @@ use Rattle.asm_state.specs.Operation.{op}
 use Rattle.asm_state.specs.declared.operation.Op.TheVariants.{Not, Negate}
 use Rattle.asm_state.specs.declared.value.Value.{Value}
 use Rattle.asm_state.specs.declared.value.Value.TheVariants.{Undef}
-use Rattle.asm_syntax.specs.Unplaced.{literal_value, plain_term}
+use Rattle.asm_syntax.specs.PlainTree.{literal_value, plain_term}
 use Rattle.asm_syntax.specs.Views.{term_of}
 use Rattle.asm_syntax.specs.declared.term.Literal.{Literal}
 use Rattle.asm_syntax.specs.declared.term.Term.{Term}

@@ -17,12 +17,12 @@ use Rattle.asm_eval.specs.Evaluated.{meant}
 use Rattle.asm_eval.specs.Setting.{Setting, outcome}
 use Rattle.asm_eval.specs.Formed.{Adds, Forms, GoesOn, IsStoppedAt}
 use Rattle.asm_eval.specs.Program.{Environment}
-use Rattle.asm_eval.specs.Yields.{Place, Exhausted, at}
+use Rattle.asm_eval.specs.Yields.{Path, Exhausted, at}
 use Rattle.asm_eval.specs.declared.stopped.Stopped.{Stopped}
 use Rattle.asm_eval.proofs.FormedRules.{rules_do_in_order, turns_do}
 use Rattle.asm_eval.proofs.Sequences.{IsUnderway, goes_on, ends, ends_with, ends_at, good_part, faulty_part, exhausted_part, good_turn, last_turn, exhausted_turn, stopped_on}
 
-module _ (s : Setting) (e : Environment) (p : Place) where
+module _ (s : Setting) (e : Environment) (p : Path) where
   abbrev pub parts_left : List Rule → ℕ → State → Outcome
   parts_left rs i = rules_do_in_order s e p i (drop i rs)
 
@@ -30,7 +30,7 @@ module _ (s : Setting) (e : Environment) (p : Place) where
   turns_left limit r t = turns_do s e p (limit - t) t r
 
   -- the part or the turn with this number
-  abbrev pub numbered : Place → ℕ → Rule → State → Outcome
+  abbrev pub numbered : Path → ℕ → Rule → State → Outcome
   numbered q k r A = outcome s A e (at q k) (meant r)
 
   abbrev part_then : Outcome → (UpdateSet → Outcome) → Outcome
@@ -45,7 +45,7 @@ module _ (s : Setting) (e : Environment) (p : Place) where
   none_left : (n k : ℕ) → n ≤ k → n - k ≡ zero
   none_left n k h = omega arith
 
-  next_part : (q : Place) (rs : List Rule) (i : ℕ) (r : Rule) (A : State) → q ≡ p → i < length rs → r ≡ slice_index_or rs i r
+  next_part : (q : Path) (rs : List Rule) (i : ℕ) (r : Rule) (A : State) → q ≡ p → i < length rs → r ≡ slice_index_or rs i r
       → parts_left rs i A ≡ part_then (numbered q i r A) (λ U. parts_left rs (i + 1) (fire A U))
   next_part q rs i r A same low is =
       at_drop_more (λ (some : List Rule). rules_do_in_order s e p i some A) rs i r low
@@ -56,7 +56,7 @@ module _ (s : Setting) (e : Environment) (p : Place) where
   no_part : (rs : List Rule) (i : ℕ) (A : State) → length rs ≤ i → parts_left rs i A ≡ rules_do_in_order s e p i [] A
   no_part rs i A past = at_drop_all (λ (some : List Rule). rules_do_in_order s e p i some A) rs i past
 
-  next_turn : (q : Place) (limit t n : ℕ) (r : Rule) (A : State) → q ≡ p → t < limit → n ≡ t
+  next_turn : (q : Path) (limit t n : ℕ) (r : Rule) (A : State) → q ≡ p → t < limit → n ≡ t
       → turns_left limit r t A ≡ turn_then (numbered q n r A) (λ U. turns_left limit r (t + 1) (fire A U))
   next_turn q limit t n r A same low is =
       ap (λ m. turns_do s e p m t r A) (one_left limit t low)
@@ -71,7 +71,7 @@ module _ (s : Setting) (e : Environment) (p : Place) where
     -- ---- parts
 
     module _ (rs : List Rule) (i : ℕ) (under : IsUnderway shape A total (parts_left rs i) so_far before now) where
-      module _ (q : Place) (r : Rule) (same : q ≡ p) (low : i < length rs) (is : r ≡ slice_index_or rs i r) where
+      module _ (q : Path) (r : Rule) (same : q ≡ p) (low : i < length rs) (is : r ≡ slice_index_or rs i r) where
         abbrev part : Outcome
         part = numbered q i r (fire A under.set)
 
@@ -91,10 +91,10 @@ module _ (s : Setting) (e : Environment) (p : Place) where
             ends_with shape A total (parts_left rs i) so_far before now under was old new n returned kept part joined set after on counted
             (then_part ∙ faulty_part part on.set (λ U. parts_left rs (i + 1) (fire (fire A under.set) U)) on.gives faulty) put
 
-        pub part_stops : {S T : Type 0} (place : Place) (given : Returned S Stopped) (returned : Returned T Stopped) (stop : Stopped)
-            → given ≡ Err stop → IsErrAnd returned (λ again. again ≡ stop) → IfErr given (IsStoppedAt part place) → IfErr returned (IsStoppedAt total place)
-        part_stops place given returned stop was again =
-            stopped_on part total place given returned stop was again
+        pub part_stops : {S T : Type 0} (path : Path) (given : Returned S Stopped) (returned : Returned T Stopped) (stop : Stopped)
+            → given ≡ Err stop → IsErrAnd returned (λ again. again ≡ stop) → IfErr given (IsStoppedAt part path) → IfErr returned (IsStoppedAt total path)
+        part_stops path given returned stop was again =
+            stopped_on part total path given returned stop was again
             (λ there at. ends_at shape A total (parts_left rs i) so_far before now under there
             (ap (λ (o : Outcome). o.result) then_part ∙ exhausted_part part (λ U. parts_left rs (i + 1) (fire (fire A under.set) U)) there at))
 
@@ -106,7 +106,7 @@ module _ (s : Setting) (e : Environment) (p : Place) where
     -- ---- turns
 
     module _ (limit : ℕ) (r : Rule) (t : ℕ) (under : IsUnderway shape A total (turns_left limit r t) so_far before now) where
-      module _ (q : Place) (number : ℕ) (same : q ≡ p) (low : t < limit) (is : number ≡ t) where
+      module _ (q : Path) (number : ℕ) (same : q ≡ p) (low : t < limit) (is : number ≡ t) where
         abbrev turn : Outcome
         turn = numbered q number r (fire A under.set)
 
@@ -126,10 +126,10 @@ module _ (s : Setting) (e : Environment) (p : Place) where
             ends_with shape A total (turns_left limit r t) so_far before now under was old new n returned kept turn joined set after on counted
             (then_turn ∙ last_turn turn on.set (λ U. turns_left limit r (t + 1) (fire (fire A under.set) U)) on.gives last) put
 
-        pub turn_stops : {S T : Type 0} (place : Place) (given : Returned S Stopped) (returned : Returned T Stopped) (stop : Stopped)
-            → given ≡ Err stop → IsErrAnd returned (λ again. again ≡ stop) → IfErr given (IsStoppedAt turn place) → IfErr returned (IsStoppedAt total place)
-        turn_stops place given returned stop was again =
-            stopped_on turn total place given returned stop was again
+        pub turn_stops : {S T : Type 0} (path : Path) (given : Returned S Stopped) (returned : Returned T Stopped) (stop : Stopped)
+            → given ≡ Err stop → IsErrAnd returned (λ again. again ≡ stop) → IfErr given (IsStoppedAt turn path) → IfErr returned (IsStoppedAt total path)
+        turn_stops path given returned stop was again =
+            stopped_on turn total path given returned stop was again
             (λ there at. ends_at shape A total (turns_left limit r t) so_far before now under there
             (ap (λ (o : Outcome). o.result) then_turn ∙ exhausted_turn turn (λ U. turns_left limit r (t + 1) (fire (fire A under.set) U)) there at))
 

@@ -2,7 +2,7 @@
 use Rattle.std.proofs.Common.{◌≡◌, ◌∙◌, ap, map, Box, Vec, Global}
 use Rattle.asm_state.specs.declared.operation.Op.{Op}
 use Rattle.asm_syntax.specs.Tree as tree
-use Rattle.asm_syntax.specs.Unplaced.{literal_value, plain_term, plain_terms, plain_links}
+use Rattle.asm_syntax.specs.PlainTree.{literal_value, plain_term, plain_terms, plain_links}
 use Rattle.asm_syntax.specs.ViewCases.{term_of-Constant, term_of-Named, term_of-Chain, term_of-Not, term_of-Negative, term_of-Exists, term_of-Every}
 use Rattle.asm_syntax.specs.Views.{term_of, terms_of, links_of}
 use Rattle.asm_syntax.specs.declared.name.Name.{Name}

@@ -7,15 +7,15 @@ use Rattle.asm_state.specs.declared.function.Kind.TheVariants as kind
 use Rattle.asm_state.specs.declared.value.Value.{Value}
 use Rattle.asm_state.specs.Signature.{Shape}
 use Rattle.asm_state.specs.Universe.{element}
-use Rattle.asm_syntax.specs.Placed as placed
-use Rattle.asm_syntax.specs.Placed.{Spec}
+use Rattle.asm_syntax.specs.SourceTree as source
+use Rattle.asm_syntax.specs.SourceTree.{Spec}
 use Rattle.asm_syntax.specs.Tree.{Name, Term, Rule}
-use Rattle.asm_syntax.specs.Unplaced.{plain_term, plain_terms, plain_links, plain_rule, plain_rules, plain_branch}
+use Rattle.asm_syntax.specs.PlainTree.{plain_term, plain_terms, plain_links, plain_rule, plain_rules, plain_branch}
 use Rattle.asm_check.specs.Faults.{IsWellFormed}
 use Rattle.asm_check.specs.Names as names
 use Rattle.asm_check.specs.Names.{Meaning, text_of}
 use Rattle.asm_check.specs.Numbers.{rules_of, number_in, named_as, named}
-use Rattle.asm_check.specs.Ranks as placed_ranks
+use Rattle.asm_check.specs.Ranks as source_ranks
 use Rattle.asm_check.specs.Ranks.{derived_rank, rule_rank}
 use Rattle.asm_check.specs.Shapes.{shape_of}
 use Rattle.asm_check.specs.declared.checked.Named.{Named}
@@ -63,10 +63,10 @@ module _ (it : Declared) (body : has_body it ≡ true) where
       let found = body_number spec (named spec x) (sym (program_declares spec x) ∙ e) in
       subst (λ m. body_of m ≡ Some it) ((law spec x).of_number found.0 found.1) found.2
 
--- a derived function's declaration, whose names and body have their places
+-- a derived function's declaration, whose names and body have their paths
 record IsDerived (xs : List Name) (t : Term) (m : Option Meaning) : Type 0 where
-  parameters : List placed.Name
-  body : placed.Term
+  parameters : List source.Name
+  body : source.Term
   is_declared : m ≡ Some (names.Derived parameters body)
   same_parameters : map text_of parameters ≡ xs
   same_body : plain_term body ≡ t
@@ -87,8 +87,8 @@ derived_of_program xs t law spec x e = derived_body xs t (names.declared spec x)
 
 -- likewise a rule's
 record IsProcedure (xs : List Name) (P : Rule) (m : Option Meaning) : Type 0 where
-  parameters : List placed.Name
-  body : placed.Rule
+  parameters : List source.Name
+  body : source.Rule
   is_declared : m ≡ Some (names.Procedure parameters body)
   same_body : plain_rule body ≡ P
 
@@ -111,12 +111,12 @@ called_number : (spec : Spec) (o : Option ℕ) (n : Named) → option_map number
 called_number spec None n e = cc
 called_number spec (Some r) n e = let same : number.Called r ≡ n = cc in subst (λ n. numbered spec (Some n) ≡ body_of (meaning_numbered spec n)) same refl
 
-called_as : (spec : Spec) (x : Name) (ys : List placed.Name) (Q : placed.Rule) (n : Named) → names.declared spec x ≡ Some (names.Procedure ys Q) → named spec x ≡ Some n
+called_as : (spec : Spec) (x : Name) (ys : List source.Name) (Q : source.Rule) (n : Named) → names.declared spec x ≡ Some (names.Procedure ys Q) → named spec x ≡ Some n
     → numbered spec (Some n) ≡ body_of (meaning_numbered spec n)
 unfolding named
 called_as spec x ys Q n is e = called_number spec (number_in (rules_of spec) x) n (ap (named_as spec x) (sym is) ∙ e)
 
-program_calls : NamesHaveNumbers → (spec : Spec) (x : Name) (ys : List placed.Name) (Q : placed.Rule) → names.declared spec x ≡ Some (names.Procedure ys Q)
+program_calls : NamesHaveNumbers → (spec : Spec) (x : Name) (ys : List source.Name) (Q : source.Rule) → names.declared spec x ≡ Some (names.Procedure ys Q)
     → declared (program_of spec) x ≡ Some (Procedure (map text_of ys) (plain_rule Q))
 program_calls law spec x ys Q is =
     let found = (law spec x).of_meaning (names.Procedure ys Q) is (λ bad. cc) in
@@ -125,31 +125,31 @@ program_calls law spec x ys Q is =
     ∙ called_as spec x ys Q found.0 is found.1
     ∙ ap body_of ((law spec x).of_number found.0 found.1 ∙ is)
 
--- ---- uses in a term without its places
+-- ---- uses in a term without its paths
 
 module _ (law : NamesHaveNumbers) (spec : Spec) (rank : Name → ℕ) (n : ℕ) where
-  usable : (bound : List Name) (x : Name) → placed_ranks.IsUsable spec rank n bound x → (free : names.is_among bound x ≡ false) → (xs : List Name) (t : Term) → declared (program_of spec) x ≡ Some (Derived xs t) → rank x < n
+  usable : (bound : List Name) (x : Name) → source_ranks.IsUsable spec rank n bound x → (free : names.is_among bound x ≡ false) → (xs : List Name) (t : Term) → declared (program_of spec) x ≡ Some (Derived xs t) → rank x < n
   usable bound x h free xs t e =
       let d = derived_of_program xs t law spec x e in
       h free d.parameters d.body d.is_declared
 
   mutual
-    plain_uses : (t : placed.Term) (bound : List Name) → placed_ranks.UsesBelow spec rank n t bound → UsesBelow (program_of spec) rank n (plain_term t) bound
-    plain_uses (placed.Constant v) bound h = tt
-    plain_uses (placed.Named x ts) bound h = (usable bound x.text h.0, each_plain ts bound h.1)
-    plain_uses (placed.Chain t links) bound h = (plain_uses t bound h.0, links_plain links bound h.1)
-    plain_uses (placed.Not t) bound h = plain_uses t bound h
-    plain_uses (placed.Negative t) bound h = plain_uses t bound h
-    plain_uses (placed.Exists x over t) bound h = plain_uses t (x.text ∷ bound) h
-    plain_uses (placed.Every x over t) bound h = plain_uses t (x.text ∷ bound) h
+    plain_uses : (t : source.Term) (bound : List Name) → source_ranks.UsesBelow spec rank n t bound → UsesBelow (program_of spec) rank n (plain_term t) bound
+    plain_uses (source.Constant v) bound h = tt
+    plain_uses (source.Named x ts) bound h = (usable bound x.text h.0, each_plain ts bound h.1)
+    plain_uses (source.Chain t links) bound h = (plain_uses t bound h.0, links_plain links bound h.1)
+    plain_uses (source.Not t) bound h = plain_uses t bound h
+    plain_uses (source.Negative t) bound h = plain_uses t bound h
+    plain_uses (source.Exists x over t) bound h = plain_uses t (x.text ∷ bound) h
+    plain_uses (source.Every x over t) bound h = plain_uses t (x.text ∷ bound) h
 
-    each_plain : (ts : placed.Terms) (bound : List Name) → placed_ranks.EachUsesBelow spec rank n ts bound → EachUsesBelow (program_of spec) rank n (plain_terms ts) bound
-    each_plain placed.no_terms bound h = tt
-    each_plain (placed.term_then t ts) bound h = (plain_uses t bound h.0, each_plain ts bound h.1)
+    each_plain : (ts : source.Terms) (bound : List Name) → source_ranks.EachUsesBelow spec rank n ts bound → EachUsesBelow (program_of spec) rank n (plain_terms ts) bound
+    each_plain source.no_terms bound h = tt
+    each_plain (source.term_then t ts) bound h = (plain_uses t bound h.0, each_plain ts bound h.1)
 
-    links_plain : (links : placed.Links) (bound : List Name) → placed_ranks.LinksUseBelow spec rank n links bound → LinksUseBelow (program_of spec) rank n (plain_links links) bound
-    links_plain placed.no_links bound h = tt
-    links_plain (placed.link_then o t links) bound h = (plain_uses t bound h.0, links_plain links bound h.1)
+    links_plain : (links : source.Links) (bound : List Name) → source_ranks.LinksUseBelow spec rank n links bound → LinksUseBelow (program_of spec) rank n (plain_links links) bound
+    links_plain source.no_links bound h = tt
+    links_plain (source.link_then o t links) bound h = (plain_uses t bound h.0, links_plain links bound h.1)
 
 ranked_by : NamesHaveNumbers → (spec : Spec) → IsWellFormed spec → AreDerivedRanked (program_of spec) (derived_rank spec)
 ranked_by law spec good x xs t e =
@@ -165,10 +165,10 @@ ranked spec good = ranked_by names_have_numbers spec good
 pub rank_low : (spec : Spec) (x : Name) → IsWellFormed spec → derived_rank spec x < nesting
 rank_low spec x good = let low = (ranks_exist spec good).derived_low x in omega (arith, low)
 
--- ---- calls in a rule without its places
+-- ---- calls in a rule without its paths
 
 module _ (law : NamesHaveNumbers) (spec : Spec) (rank : Name → ℕ) (n : ℕ) where
-  callable : (f : Name) → placed_ranks.IsCallable spec rank n f → IsCallable (program_of spec) rank n f
+  callable : (f : Name) → source_ranks.IsCallable spec rank n f → IsCallable (program_of spec) rank n f
   callable f c = record {
     parameters = map text_of c.parameters;
     body = plain_rule c.body;
@@ -177,25 +177,25 @@ module _ (law : NamesHaveNumbers) (spec : Spec) (rank : Name → ℕ) (n : ℕ) 
   }
 
   mutual
-    plain_calls : (R : placed.Rule) → placed_ranks.CallsBelow spec rank n R → CallsBelow (program_of spec) rank n (plain_rule R)
-    plain_calls placed.Skip c = tt
-    plain_calls (placed.Assign f ts t) c = tt
-    plain_calls (placed.Call f ts) c = callable f.text c
-    plain_calls (placed.Par Ps) c = each_called Ps c
-    plain_calls (placed.Seq Ps) c = each_called Ps c
-    plain_calls (placed.If t P Q) c = (plain_calls P c.0, branch_called Q c.1)
-    plain_calls (placed.Let x t P) c = plain_calls P c
-    plain_calls (placed.Forall x u t P) c = plain_calls P c
-    plain_calls (placed.Choose x u t P Q) c = (plain_calls P c.0, branch_called Q c.1)
-    plain_calls (placed.Iterate P) c = plain_calls P c
+    plain_calls : (R : source.Rule) → source_ranks.CallsBelow spec rank n R → CallsBelow (program_of spec) rank n (plain_rule R)
+    plain_calls source.Skip c = tt
+    plain_calls (source.Assign f ts t) c = tt
+    plain_calls (source.Call f ts) c = callable f.text c
+    plain_calls (source.Par Ps) c = each_called Ps c
+    plain_calls (source.Seq Ps) c = each_called Ps c
+    plain_calls (source.If t P Q) c = (plain_calls P c.0, branch_called Q c.1)
+    plain_calls (source.Let x t P) c = plain_calls P c
+    plain_calls (source.Forall x u t P) c = plain_calls P c
+    plain_calls (source.Choose x u t P Q) c = (plain_calls P c.0, branch_called Q c.1)
+    plain_calls (source.Iterate P) c = plain_calls P c
 
-    each_called : (Ps : placed.Rules) → placed_ranks.EachCallsBelow spec rank n Ps → EachCallsBelow (program_of spec) rank n (plain_rules Ps)
-    each_called placed.no_rules c = tt
-    each_called (placed.rule_then P Ps) c = (plain_calls P c.0, each_called Ps c.1)
+    each_called : (Ps : source.Rules) → source_ranks.EachCallsBelow spec rank n Ps → EachCallsBelow (program_of spec) rank n (plain_rules Ps)
+    each_called source.no_rules c = tt
+    each_called (source.rule_then P Ps) c = (plain_calls P c.0, each_called Ps c.1)
 
-    branch_called : (Q : placed.Branch) → placed_ranks.BranchCallsBelow spec rank n Q → CallsBelow (program_of spec) rank n (plain_branch Q)
-    branch_called placed.left_out c = tt
-    branch_called (placed.written P) c = plain_calls P c
+    branch_called : (Q : source.Branch) → source_ranks.BranchCallsBelow spec rank n Q → CallsBelow (program_of spec) rank n (plain_branch Q)
+    branch_called source.left_out c = tt
+    branch_called (source.written P) c = plain_calls P c
 
 rules_ranked_by : NamesHaveNumbers → (spec : Spec) → IsWellFormed spec → IsRanked (program_of spec) (rule_rank spec)
 rules_ranked_by law spec good f xs P e =

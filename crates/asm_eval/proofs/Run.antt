@@ -10,7 +10,7 @@ use Rattle.asm_state.proofs.Updates.{test_laws}
 use Rattle.asm_syntax.specs.Tree.{Name, Rule}
 use Rattle.asm_eval.specs.Program.{Program, nothing_bound}
 use Rattle.asm_eval.specs.Value.{nesting}
-use Rattle.asm_eval.specs.Yields.{Place, Result, Gives, Exhausted, Yields}
+use Rattle.asm_eval.specs.Yields.{Path, Result, Gives, Exhausted, Yields}
 use Rattle.asm_reader.specs.ScriptLines.{Line, Script, pick}
 use Rattle.asm_eval.specs.Does.{does, does_within}
 use Rattle.asm_eval.specs.Scripts.{unrepeated}
@@ -90,23 +90,23 @@ itself : (k : ℕ) → nat_eq k k ≡ true
 itself k = grind (arith, nat_tests)
 
 -- before the lines of later steps, the lines of a step are what the step picks
-pick_here : (i : ℕ) (s rest : Script) (q : Place) → pick rest i q ≡ 0 → pick (of_step i s ++ rest) i q ≡ pick s i q
+pick_here : (i : ℕ) (s rest : Script) (q : Path) → pick rest i q ≡ 0 → pick (of_step i s ++ rest) i q ≡ pick s i q
 pick_here i [] rest q none = none
 pick_here i (line ∷ s) rest q none =
-    elim (nat_eq line.step i) as (λ b. nat_eq line.step i ≡ b → pick (cond b (line ∷ of_step i s) (of_step i s) ++ rest) i q ≡ cond (b && pointwise nat_eq line.place q) line.choice (pick s i q)) [
+    elim (nat_eq line.step i) as (λ b. nat_eq line.step i ≡ b → pick (cond b (line ∷ of_step i s) (of_step i s) ++ rest) i q ≡ cond (b && pointwise nat_eq line.path q) line.choice (pick s i q)) [
       | true ↦ λ e.
-          ap (λ b. cond (b && pointwise nat_eq line.place q) line.choice (pick (of_step i s ++ rest) i q)) e
-          ∙ ap (cond (pointwise nat_eq line.place q) line.choice) (pick_here i s rest q none)
+          ap (λ b. cond (b && pointwise nat_eq line.path q) line.choice (pick (of_step i s ++ rest) i q)) e
+          ∙ ap (cond (pointwise nat_eq line.path q) line.choice) (pick_here i s rest q none)
       | false ↦ λ e. pick_here i s rest q none
     ] refl
 
 -- and other steps pick from the rest
-pick_elsewhere : (i j : ℕ) (s rest : Script) (q : Place) → i ≢ j → pick (of_step i s ++ rest) j q ≡ pick rest j q
+pick_elsewhere : (i j : ℕ) (s rest : Script) (q : Path) → i ≢ j → pick (of_step i s ++ rest) j q ≡ pick rest j q
 pick_elsewhere i j [] rest q apart = refl
 pick_elsewhere i j (line ∷ s) rest q apart =
     elim (nat_eq line.step i) as (λ b. nat_eq line.step i ≡ b → pick (cond b (line ∷ of_step i s) (of_step i s) ++ rest) j q ≡ pick rest j q) [
       | true ↦ λ e.
-          ap (λ b. cond (b && pointwise nat_eq line.place q) line.choice (pick (of_step i s ++ rest) j q)) (other line.step e)
+          ap (λ b. cond (b && pointwise nat_eq line.path q) line.choice (pick (of_step i s ++ rest) j q)) (other line.step e)
           ∙ pick_elsewhere i j s rest q apart
       | false ↦ λ e. pick_elsewhere i j s rest q apart
     ] refl
@@ -116,12 +116,12 @@ pick_elsewhere i j (line ∷ s) rest q apart =
 
 module _ (program : Program) (turns : ℕ) (main : Rule) where
   -- scripts that pick alike in a step do alike in it
-  does_alike : (s t : Script) (i : ℕ) (A : State) → ((q : Place) → pick s i q ≡ pick t i q)
+  does_alike : (s t : Script) (i : ℕ) (A : State) → ((q : Path) → pick s i q ≡ pick t i q)
       → (does program turns s i A nothing_bound [] main).result ≡ (does program turns t i A nothing_bound [] main).result
   unfolding does
   does_alike s t i A alike = λ k. (does_within program turns (λ q. alike q k) nesting main A nothing_bound []).result
 
-  runs_alike : (s t : Script) (n i : ℕ) (A : State) → ((j : ℕ) (q : Place) → i ≤ j → pick s j q ≡ pick t j q) → course_from program turns main s n i A ≡ course_from program turns main t n i A
+  runs_alike : (s t : Script) (n i : ℕ) (A : State) → ((j : ℕ) (q : Path) → i ≤ j → pick s j q ≡ pick t j q) → course_from program turns main s n i A ≡ course_from program turns main t n i A
   runs_alike s t zero i A alike = refl
   runs_alike s t (suc n) i A alike = λ k.
       course_and (does_alike s t i A (λ q. alike i q (omega arith)) k) i A
@@ -129,7 +129,7 @@ module _ (program : Program) (turns : ℕ) (main : Rule) where
 
   record Scripted (n i : ℕ) (A : State) (free : Course) : Type 0 where
     script : Script
-    begins : (j : ℕ) (q : Place) → j < i → pick script j q ≡ 0
+    begins : (j : ℕ) (q : Path) → j < i → pick script j q ≡ 0
     is : course_from program turns main script n i A ≡ free
 
   -- a step with its script, and nothing after it

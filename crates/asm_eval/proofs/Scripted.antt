@@ -13,7 +13,7 @@ use Rattle.asm_state.proofs.Updates.{test_laws}
 use Rattle.asm_syntax.specs.Tree.{Name, Term, Rule, Rules}
 use Rattle.asm_eval.specs.Program.{Program, Procedure, declared, Environment, with_value, bind_terms}
 use Rattle.asm_eval.specs.Value.{holds, candidates, nesting}
-use Rattle.asm_eval.specs.Yields.{Place, at, Result, Gives, Exhausted, beside, all_beside, after, Yields, YieldsParts, YieldsInOrder, YieldsEach, YieldsTurns, skip, assign, call, par, seq, if_true, if_false, bind, forall, choose, if_none, iterate, no_part, part_then, end, faulty, exhausted, go_on, no_element, left_out, element_then, turn_limit, last_turn, exhausted_turn, turn_then}
+use Rattle.asm_eval.specs.Yields.{Path, at, Result, Gives, Exhausted, beside, all_beside, after, Yields, YieldsParts, YieldsInOrder, YieldsEach, YieldsTurns, skip, assign, call, par, seq, if_true, if_false, bind, forall, choose, if_none, iterate, no_part, part_then, end, faulty, exhausted, go_on, no_element, left_out, element_then, turn_limit, last_turn, exhausted_turn, turn_then}
 use Rattle.asm_reader.specs.ScriptLines.{Script, pick}
 use Rattle.asm_eval.specs.Does.{does, Outcome, Meaning, meaning, meanings, parts, in_order, part_and, turn_and, each, one_of, turns_of, called, nothing, does_within}
 use Rattle.asm_eval.specs.Ranks.{CallsBelow, EachCallsBelow, IsRanked, lower}
@@ -39,7 +39,7 @@ part_faulty r n rest U e h =
     ap (λ s. (part_and s n rest).result) e
     ∙ at_false (is_consistent U) _ _ (not_true (is_consistent U) (test_laws.consistency U) h)
 
-part_exhausted : (r : Result) (n : ℕ) (rest : UpdateSet → Outcome) (q : Place) → r ≡ Exhausted q → (part_and r n rest).result ≡ Exhausted q
+part_exhausted : (r : Result) (n : ℕ) (rest : UpdateSet → Outcome) (q : Path) → r ≡ Exhausted q → (part_and r n rest).result ≡ Exhausted q
 part_exhausted r n rest q e = ap (λ s. (part_and s n rest).result) e
 
 part_goes_on : (r : Result) (n : ℕ) (rest : UpdateSet → Outcome) (U : UpdateSet) (s : Result) → r ≡ Gives U → IsConsistent U → (rest U).result ≡ s
@@ -62,7 +62,7 @@ turn_last r n rest U e h =
     ap (λ s. (turn_and s n rest).result) e
     ∙ at_true (is_none U || not (is_consistent U)) _ _ (turn_ends U h)
 
-turn_exhausted : (r : Result) (n : ℕ) (rest : UpdateSet → Outcome) (q : Place) → r ≡ Exhausted q → (turn_and r n rest).result ≡ Exhausted q
+turn_exhausted : (r : Result) (n : ℕ) (rest : UpdateSet → Outcome) (q : Path) → r ≡ Exhausted q → (turn_and r n rest).result ≡ Exhausted q
 turn_exhausted r n rest q e = ap (λ s. (turn_and s n rest).result) e
 
 turn_goes_on : (r : Result) (n : ℕ) (rest : UpdateSet → Outcome) (U : UpdateSet) (s : Result) → r ≡ Gives U → U ≢ none → IsConsistent U → (rest U).result ≡ s
@@ -89,19 +89,19 @@ one_of_taken (w ∷ ws) n k v m other e is =
 one_of_none : (cs : List Value) (n : ℕ) (m : Value → Outcome) (other : Outcome) → cs ≡ [] → one_of n cs m other ≡ other
 one_of_none cs n m other e = ap (λ cs. one_of n cs m other) e
 
-module _ (program : Program) (turns : ℕ) (rank : Name → ℕ) (body : (Place → ℕ) → Rule → Meaning) (n : ℕ)
+module _ (program : Program) (turns : ℕ) (rank : Name → ℕ) (body : (Path → ℕ) → Rule → Meaning) (n : ℕ)
     (bodies : (f : Name) (xs : List Name) (P : Rule) → declared program f ≡ Some (Procedure xs P) → rank f < n
-    → (A : State) (e : Environment) (p : Place) (r : Result) → Yields program turns A e p P r → Scripts (λ chosen. (body chosen P A e p).result) p r) where
-  abbrev means : (Place → ℕ) → Rule → Meaning
+    → (A : State) (e : Environment) (p : Path) (r : Result) → Yields program turns A e p P r → Scripts (λ chosen. (body chosen P A e p).result) p r) where
+  abbrev means : (Path → ℕ) → Rule → Meaning
   means chosen = meaning program turns chosen (body chosen)
 
-  abbrev all_mean : (Place → ℕ) → Rules → List Meaning
+  abbrev all_mean : (Path → ℕ) → Rules → List Meaning
   all_mean chosen = meanings program turns chosen (body chosen)
 
   mutual
     unfolding meaning
 
-    scripted : {A : State} {e : Environment} {p : Place} {R : Rule} {r : Result} → Yields program turns A e p R r → CallsBelow program rank n R
+    scripted : {A : State} {e : Environment} {p : Path} {R : Rule} {r : Result} → Yields program turns A e p R r → CallsBelow program rank n R
         → Scripts (λ chosen. (means chosen R A e p).result) p r
     scripted (skip {p = p}) c = whole (unscripted 0 _ p _ (λ _. refl))
     scripted (assign {p = p}) c = whole (unscripted 0 _ p _ (λ _. refl))
@@ -120,13 +120,13 @@ module _ (program : Program) (turns : ℕ) (rank : Name → ℕ) (body : (Place 
         whole (single _ r (scripted y c.1) (λ chosen gives. ap (λ (o : Outcome). o.result) (one_of_none (candidates program A e x u t) (chosen p) _ _ none) ∙ gives))
     scripted (iterate y) c = whole (scripted_turns y c)
 
-    scripted_parts : {A : State} {e : Environment} {p : Place} {k : ℕ} {Ps : Rules} {rs : List Result} → YieldsParts program turns A e p k Ps rs → EachCallsBelow program rank n Ps
+    scripted_parts : {A : State} {e : Environment} {p : Path} {k : ℕ} {Ps : Rules} {rs : List Result} → YieldsParts program turns A e p k Ps rs → EachCallsBelow program rank n Ps
         → ScriptsFrom k (λ chosen. (parts (all_mean chosen Ps) k A e p).result) p (all_beside rs)
     scripted_parts (no_part {p = p} {k = k}) c = unscripted k _ p _ (λ _. refl)
     scripted_parts (part_then {r = r} {rs = rs} y ys) c =
         join _ _ (scripted y c.0) (scripted_parts ys c.1) (λ chosen is rest i. beside (is i) (rest i))
 
-    scripted_in_order : {A : State} {e : Environment} {p : Place} {k : ℕ} {Ps : Rules} {r : Result} → YieldsInOrder program turns A e p k Ps r → EachCallsBelow program rank n Ps
+    scripted_in_order : {A : State} {e : Environment} {p : Path} {k : ℕ} {Ps : Rules} {r : Result} → YieldsInOrder program turns A e p k Ps r → EachCallsBelow program rank n Ps
         → ScriptsFrom k (λ chosen. (in_order (all_mean chosen Ps) k A e p).result) p r
     scripted_in_order (end {p = p} {k = k}) c = unscripted k _ p _ (λ _. refl)
     scripted_in_order (faulty {U = U} y h) c = single _ _ (scripted y c.0) (λ chosen is. part_faulty _ _ _ U is h)
@@ -134,7 +134,7 @@ module _ (program : Program) (turns : ℕ) (rank : Name → ℕ) (body : (Place 
     scripted_in_order (go_on {U = U} {r = r} y h ys) c =
         join _ _ (scripted y c.0) (scripted_in_order ys c.1) (λ chosen is rest. part_goes_on _ _ _ U r is h rest)
 
-    scripted_each : {A : State} {e : Environment} {p : Place} {x : Name} {t : Option Term} {P : Rule} {k : ℕ} {vs : List Value} {rs : List Result}
+    scripted_each : {A : State} {e : Environment} {p : Path} {x : Name} {t : Option Term} {P : Rule} {k : ℕ} {vs : List Value} {rs : List Result}
         → YieldsEach program turns A e p x t P k vs rs → CallsBelow program rank n P
         → ScriptsFrom k (λ chosen. (each (λ v k. means chosen P A (with_value x v e) (at p k)) (λ v. holds program A (with_value x v e) t) k vs).result) p (all_beside rs)
     scripted_each (no_element {p = p} {k = k}) c = unscripted k _ p _ (λ _. refl)
@@ -142,7 +142,7 @@ module _ (program : Program) (turns : ℕ) (rank : Name → ℕ) (body : (Place 
     scripted_each (element_then h y ys) c =
         join _ _ (scripted y c) (scripted_each ys c) (λ chosen is rest. at_true _ _ _ h ∙ (λ i. beside (is i) (rest i)))
 
-    scripted_turns : {A : State} {e : Environment} {p : Place} {t left : ℕ} {P : Rule} {r : Result} → YieldsTurns program turns A e p t left P r → CallsBelow program rank n P
+    scripted_turns : {A : State} {e : Environment} {p : Path} {t left : ℕ} {P : Rule} {r : Result} → YieldsTurns program turns A e p t left P r → CallsBelow program rank n P
         → ScriptsFrom t (λ chosen. (turns_of (means chosen P) left t A e p).result) p r
     scripted_turns (turn_limit {p = p} {t = t}) c = unscripted t _ p _ (λ _. refl)
     scripted_turns (last_turn {U = U} y h) c = single _ _ (scripted y c) (λ chosen is. turn_last _ _ _ U is h)
@@ -151,7 +151,7 @@ module _ (program : Program) (turns : ℕ) (rank : Name → ℕ) (body : (Place 
         join _ _ (scripted y c) (scripted_turns ys c) (λ chosen is rest. turn_goes_on _ _ _ U r is some h rest)
 
 module _ (program : Program) (turns : ℕ) (rank : Name → ℕ) (ranked : IsRanked program rank) where
-  pub scripted_within : (n : ℕ) (R : Rule) → CallsBelow program rank n R → (A : State) (e : Environment) (p : Place) (r : Result)
+  pub scripted_within : (n : ℕ) (R : Rule) → CallsBelow program rank n R → (A : State) (e : Environment) (p : Path) (r : Result)
       → Yields program turns A e p R r → Scripts (λ chosen. (does_within program turns chosen n R A e p).result) p r
   unfolding does_within
   scripted_within zero R c A e p r y =
@@ -161,22 +161,22 @@ module _ (program : Program) (turns : ℕ) (rank : Name → ℕ) (ranked : IsRan
       (λ f xs P d below A e p r y. scripted_within n P (lower program rank (rank f) n (omega arith) P (ranked f xs P d)) A e p r y) y c
 
 -- the lines of some choices under p in a step
-lines : ℕ → Place → Choices → Script
+lines : ℕ → Path → Choices → Script
 lines step p [] = []
-lines step p (c ∷ cs) = record { step = step; place = p ++ c.place; choice = c.choice } ∷ lines step p cs
+lines step p (c ∷ cs) = record { step = step; path = p ++ c.path; choice = c.choice } ∷ lines step p cs
 
-same_front : (p q s : Place) → pointwise nat_eq (p ++ q) (p ++ s) ≡ pointwise nat_eq q s
+same_front : (p q s : Path) → pointwise nat_eq (p ++ q) (p ++ s) ≡ pointwise nat_eq q s
 same_front [] q s = refl
 same_front (k ∷ p) q s = ap (λ b. b && pointwise nat_eq (p ++ q) (p ++ s)) (itself k) ∙ same_front p q s
 
-pick-lines : (step : ℕ) (p : Place) (cs : Choices) (q : Place) → pick (lines step p cs) step (p ++ q) ≡ choice_at cs q
+pick-lines : (step : ℕ) (p : Path) (cs : Choices) (q : Path) → pick (lines step p cs) step (p ++ q) ≡ choice_at cs q
 unfolding lines
 pick-lines step p [] q = refl
 pick-lines step p (c ∷ cs) q =
-    ap (λ b. cond b c.choice (pick (lines step p cs) step (p ++ q))) (ap (λ b. b && pointwise nat_eq (p ++ c.place) (p ++ q)) (itself step) ∙ same_front p c.place q)
-    ∙ ap (cond (pointwise nat_eq c.place q) c.choice) (pick-lines step p cs q)
+    ap (λ b. cond b c.choice (pick (lines step p cs) step (p ++ q))) (ap (λ b. b && pointwise nat_eq (p ++ c.path) (p ++ q)) (itself step) ∙ same_front p c.path q)
+    ∙ ap (cond (pointwise nat_eq c.path q) c.choice) (pick-lines step p cs q)
 
-pub has_script : (program : Program) (rank : Name → ℕ) (turns step : ℕ) (A : State) (e : Environment) (p : Place) (R : Rule) (r : Result)
+pub has_script : (program : Program) (rank : Name → ℕ) (turns step : ℕ) (A : State) (e : Environment) (p : Path) (R : Rule) (r : Result)
     → IsRanked program rank → CallsBelow program rank nesting R → Yields program turns A e p R r
     → (script : Script) × ((does program turns script step A e p R).result ≡ r)
 unfolding does

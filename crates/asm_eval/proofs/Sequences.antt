@@ -1,7 +1,7 @@
 -- Sequences: the sets of the parts so far, joined by turbo merges, and what is left.
 --     IsUnderway          what stays true from part to part, or from turn to turn
 --     begins, goes_on     at the beginning, and after a part whose set is consistent
---     ends, ends_with     nothing is left, or a set that ends the sequence;  ends_at     the place where what is left is exhausted
+--     ends, ends_with     nothing is left, or a set that ends the sequence;  ends_at     the path where what is left is exhausted
 --     goes_upon           a part that is formed upon the sets so far goes on with them
 --     no_fault_found, fault_found     whether a set is consistent, by the code's search for a fault
 --     stopped_on, stopped_for_memory  an error that is handed on, one that says nothing
@@ -25,7 +25,7 @@ use Rattle.asm_updates.specs.Stands.{Stands}
 use Rattle.asm_updates.specs.declared.fault.Fault.{Fault as NumberedFault}
 use Rattle.asm_eval.specs.Does.{Outcome, nothing, following, part_and, turn_and}
 use Rattle.asm_eval.specs.Formed.{Adds, Forms, GoesOn, IsStoppedAt, greatest_count}
-use Rattle.asm_eval.specs.Yields.{Place, Result, Gives, Exhausted, after}
+use Rattle.asm_eval.specs.Yields.{Path, Result, Gives, Exhausted, after}
 use Rattle.asm_eval.specs.declared.stopped.Stopped.{Stopped}
 use Rattle.asm_eval.specs.declared.stopped.Stopped.TheVariants as stopped
 
@@ -105,24 +105,24 @@ module _ (o : Outcome) (V : UpdateSet) (rest : UpdateSet → Outcome) (gives : o
       is_last (inl is) = ap (λ b. b || not (is_consistent V)) ((test_laws.emptiness V).1 is)
       is_last (inr faulty) = ap (λ b. is_none V || not b) (false_by (is_consistent V) (test_laws.consistency V) faulty) ∙ or_true (is_none V)
 
-pub exhausted_part : (o : Outcome) (rest : UpdateSet → Outcome) (q : Place) → o.result ≡ Exhausted q → (part_and o.result o.instances rest).result ≡ Exhausted q
+pub exhausted_part : (o : Outcome) (rest : UpdateSet → Outcome) (q : Path) → o.result ≡ Exhausted q → (part_and o.result o.instances rest).result ≡ Exhausted q
 exhausted_part o rest q is = ap (λ r. (part_and r o.instances rest).result) is
 
-pub exhausted_turn : (o : Outcome) (rest : UpdateSet → Outcome) (q : Place) → o.result ≡ Exhausted q → (turn_and o.result o.instances rest).result ≡ Exhausted q
+pub exhausted_turn : (o : Outcome) (rest : UpdateSet → Outcome) (q : Path) → o.result ≡ Exhausted q → (turn_and o.result o.instances rest).result ≡ Exhausted q
 exhausted_turn o rest q is = ap (λ r. (turn_and r o.instances rest).result) is
 
-stopped_too : (o q : Outcome) (p : Place) → ((s : Place) → o.result ≡ Exhausted s → q.result ≡ Exhausted s) → (stop : Stopped) → IsStoppedAt o p stop → IsStoppedAt q p stop
+stopped_too : (o q : Outcome) (p : Path) → ((s : Path) → o.result ≡ Exhausted s → q.result ≡ Exhausted s) → (stop : Stopped) → IsStoppedAt o p stop → IsStoppedAt q p stop
 stopped_too o q p too stopped.Memory at = tt
 stopped_too o q p too stopped.Exhausted at = too p at
 
 -- an error is handed on
-pub stopped_on : {S T : Type 0} (o q : Outcome) (p : Place) (given : Returned S Stopped) (returned : Returned T Stopped) (stop : Stopped) → given ≡ Err stop → IsErrAnd returned (λ again. again ≡ stop)
-    → ((s : Place) → o.result ≡ Exhausted s → q.result ≡ Exhausted s) → IfErr given (IsStoppedAt o p) → IfErr returned (IsStoppedAt q p)
+pub stopped_on : {S T : Type 0} (o q : Outcome) (p : Path) (given : Returned S Stopped) (returned : Returned T Stopped) (stop : Stopped) → given ≡ Err stop → IsErrAnd returned (λ again. again ≡ stop)
+    → ((s : Path) → o.result ≡ Exhausted s → q.result ≡ Exhausted s) → IfErr given (IsStoppedAt o p) → IfErr returned (IsStoppedAt q p)
 stopped_on o q p given (Ok x) stop was again too at = tt
 stopped_on o q p given (Err other) stop was again too at = subst (IsStoppedAt q p) (sym again) (stopped_too o q p too stop (IfErr-at_err (IsStoppedAt o p) was at))
 
 -- memory ran out, which says nothing of the outcome
-pub stopped_for_memory : {T : Type 0} (o : Outcome) (p : Place) (returned : Returned T Stopped) → IfErr returned (λ stop. stop ≡ stopped.Memory) → IfErr returned (IsStoppedAt o p)
+pub stopped_for_memory : {T : Type 0} (o : Outcome) (p : Path) (returned : Returned T Stopped) → IfErr returned (λ stop. stop ≡ stopped.Memory) → IfErr returned (IsStoppedAt o p)
 stopped_for_memory o p (Ok x) is = tt
 stopped_for_memory o p (Err stop) is = subst (IsStoppedAt o p) (sym is) tt
 
@@ -209,5 +209,5 @@ module _ (shape : Shape) where
           still : (k m n a g : ℕ) → k ≡ m → m ≡ min (n + a) g → k ≡ min (m + 0) g
           still k m n a g is e = omega arith
 
-    pub ends_at : (q : Place) → (left (fire A under.set)).result ≡ Exhausted q → total.result ≡ Exhausted q
+    pub ends_at : (q : Path) → (left (fire A under.set)).result ≡ Exhausted q → total.result ≡ Exhausted q
     ends_at q is = ap (λ (o : Outcome). o.result) under.whole ∙ ap (after under.set) is

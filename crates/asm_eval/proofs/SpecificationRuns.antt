@@ -1,7 +1,7 @@
 -- The law of choice for specifications without faults.
 use Rattle.std.proofs.Common.{◌≡◌, List, [], ◌∷◌, Option, None, Some, refl, arith}
-use Rattle.asm_syntax.specs.Placed as placed
-use Rattle.asm_syntax.specs.Placed.{Spec}
+use Rattle.asm_syntax.specs.SourceTree as source
+use Rattle.asm_syntax.specs.SourceTree.{Spec}
 use Rattle.asm_syntax.specs.Tree.{Name, Rule}
 use Rattle.asm_check.specs.Faults.{IsWellFormed, inits}
 use Rattle.asm_check.specs.Ranks.{derived_rank, rule_rank}
@@ -31,7 +31,7 @@ module _ (spec : Spec) (good : IsWellFormed spec) where
   body_of f (Some (Derived xs t)) d = tt
   body_of f (Some (Procedure xs P)) d = body f xs P d
 
-  main : (names : List placed.Name) → Below (main_rule spec names)
+  main : (names : List source.Name) → Below (main_rule spec names)
   main [] = tt
   main (x ∷ more) = body_of x.text (declared (program_of spec) x.text) refl
 

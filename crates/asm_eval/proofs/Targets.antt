@@ -6,7 +6,7 @@ use Rattle.asm_state.specs.declared.function.Function as state
 use Rattle.asm_state.specs.declared.function.Kind.TheVariants as kind
 use Rattle.asm_state.specs.Signature.{Shape, functions_of, domain_by, domain_of}
 use Rattle.asm_state.specs.Updates.{none}
-use Rattle.asm_syntax.specs.Placed.{Spec}
+use Rattle.asm_syntax.specs.SourceTree.{Spec}
 use Rattle.asm_syntax.specs.Tree.{Name}
 use Rattle.asm_check.proofs.SignatureNumbers.{signature_numbers}
 use Rattle.asm_check.specs.Faults.{IsWellFormed}

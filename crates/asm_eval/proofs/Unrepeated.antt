@@ -1,4 +1,4 @@
--- A script without the later lines of each step and place picks as the script does.
+-- A script without the later lines of each step and path picks as the script does.
 use Rattle.std.proofs.Common.{◌≡◌, ℕ, Bool, true, false, not, cond, ◌&&◌, List, [], ◌∷◌, refl, sym, ap, ◌∙◌}
 use Rattle.std.specs.Bool.{Decides, nat_eq}
 use Rattle.std.specs.List.{filter, AllByRecursion, IsDistinct}
@@ -6,7 +6,7 @@ use Rattle.std.specs.Cmp.Lexicographic.{pointwise}
 use Rattle.std.proofs.lemmas.Bool.Decides.{Decides-eqb}
 use Rattle.std.proofs.lemmas.Map.Keys.{IsDistinct-cons, IsDistinct-head, IsDistinct-tail}
 use Rattle.std.proofs.lemmas.Slice.Eq.{slice_eq-Decides}
-use Rattle.asm_eval.specs.Yields.{Place}
+use Rattle.asm_eval.specs.Yields.{Path}
 use Rattle.asm_reader.specs.ScriptLines.{Line, Script, is_line_of, pick}
 use Rattle.asm_eval.specs.Does.{does, does_within}
 use Rattle.asm_eval.specs.Value.{nesting}
@@ -47,25 +47,25 @@ distinct (line ∷ lines) =
 
 -- ---- the picks
 
-one_place : (p q : Place) → Decides (pointwise nat_eq p q) (p ≡ q)
-one_place p q = slice_eq-Decides Decides-eqb p q (pointwise nat_eq p q) refl
+one_path : (p q : Path) → Decides (pointwise nat_eq p q) (p ≡ q)
+one_path p q = slice_eq-Decides Decides-eqb p q (pointwise nat_eq p q) refl
 
 both_true : (a b : Bool) → (a && b) ≡ true → (a ≡ true) × (b ≡ true)
 both_true true b e = (refl, e)
 both_true false b e = cc
 
-key_is : (step : ℕ) (p : Place) (line : Line) → is_line_of step p line ≡ true → (line.step ≡ step) × (line.place ≡ p)
+key_is : (step : ℕ) (p : Path) (line : Line) → is_line_of step p line ≡ true → (line.step ≡ step) × (line.path ≡ p)
 key_is step p line e =
     let both = both_true _ _ e in
-    ((Decides-eqb line.step step).0 both.0, (one_place line.place p).0 both.1)
+    ((Decides-eqb line.step step).0 both.0, (one_path line.path p).0 both.1)
 
 -- a line whose key is that of a line elsewhere is elsewhere too
-elsewhere : (line other : Line) (step : ℕ) (p : Place) → is_line_of step p line ≡ false → have_one_key line other ≡ true → is_line_of step p other ≡ false
+elsewhere : (line other : Line) (step : ℕ) (p : Path) → is_line_of step p line ≡ false → have_one_key line other ≡ true → is_line_of step p other ≡ false
 elsewhere line other step p apart one =
-    let same = key_is line.step line.place other one in
+    let same = key_is line.step line.path other one in
     (λ i. nat_eq (same.0 i) step && pointwise nat_eq (same.1 i) p) ∙ apart
 
-pick_filtered : (line : Line) (lines : Script) (step : ℕ) (p : Place) → is_line_of step p line ≡ false
+pick_filtered : (line : Line) (lines : Script) (step : ℕ) (p : Path) → is_line_of step p line ≡ false
     → pick (filter (λ other. not (have_one_key line other)) lines) step p ≡ pick lines step p
 pick_filtered line [] step p apart = refl
 pick_filtered line (other ∷ lines) step p apart =
@@ -78,7 +78,7 @@ pick_filtered line (other ∷ lines) step p apart =
       | false ↦ λ e. ap (cond (is_line_of step p other) other.choice) (pick_filtered line lines step p apart)
     ] refl
 
-picks : (script : Script) (step : ℕ) (p : Place) → pick (unrepeated script) step p ≡ pick script step p
+picks : (script : Script) (step : ℕ) (p : Path) → pick (unrepeated script) step p ≡ pick script step p
 picks [] step p = refl
 picks (line ∷ lines) step p =
     elim (is_line_of step p line) as (λ b. is_line_of step p line ≡ b

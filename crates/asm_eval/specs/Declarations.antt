@@ -8,9 +8,9 @@ use Rattle.asm_state.specs.declared.function.Kind.{Kind}
 use Rattle.asm_state.specs.declared.function.Kind.TheVariants as kind
 use Rattle.asm_state.specs.Signature.{Shape, domain_in, initial_state}
 use Rattle.asm_state.specs.Universe.{element}
-use Rattle.asm_syntax.specs.Placed as placed
+use Rattle.asm_syntax.specs.SourceTree as source
 use Rattle.asm_syntax.specs.Tree.{Name, Rule, Skip}
-use Rattle.asm_syntax.specs.Unplaced.{plain_term, plain_rule}
+use Rattle.asm_syntax.specs.PlainTree.{plain_term, plain_rule}
 use Rattle.asm_check.specs.Faults.{inits}
 use Rattle.asm_check.specs.Names as names
 use Rattle.asm_check.specs.Names.{Meaning, Declaration, declarations, text_of}
@@ -37,7 +37,7 @@ body_of (Some (names.Procedure xs P)) = Some (Procedure (map text_of xs) (plain_
 body_of m = None
 
 -- what a number stands for
-abbrev pub numbered : placed.Spec → Option Named → Option Declared
+abbrev pub numbered : source.Spec → Option Named → Option Declared
 numbered spec None = None
 numbered spec (Some (number.Universe n)) = option_map Universe (slice_get (shape_of spec).universes n)
 numbered spec (Some (number.Element n)) = Some (Enumerated (element n))
@@ -45,7 +45,7 @@ numbered spec (Some (number.Function f)) = function_at (shape_of spec) f (slice_
 numbered spec (Some (number.Derived d)) = body_of (meaning_at (derived_of spec) d)
 numbered spec (Some (number.Called r)) = body_of (meaning_at (rules_of spec) r)
 
-abbrev pub meant : placed.Spec → Name → Option Declared
+abbrev pub meant : source.Spec → Name → Option Declared
 meant spec x = numbered spec (named spec x)
 
 -- the number of a universe
@@ -53,24 +53,24 @@ abbrev pub universe_number : Option Named → Option ℕ
 universe_number (Some (number.Universe n)) = Some n
 universe_number it = None
 
-abbrev pub paired : placed.Spec → Declaration → Option (Name × Declared)
+abbrev pub paired : source.Spec → Declaration → Option (Name × Declared)
 paired spec d = option_map (λ it. (d.name.text, it)) (meant spec d.name.text)
 
-unfoldable pub program_of : placed.Spec → Program
+unfoldable pub program_of : source.Spec → Program
 program_of spec = filter_map (paired spec) (declarations spec)
 
 -- a name is declared as what its number stands for
 abbrev pub ProgramDeclares : Type 0
-ProgramDeclares = (spec : placed.Spec) (x : Name) → declared (program_of spec) x ≡ meant spec x
+ProgramDeclares = (spec : source.Spec) (x : Name) → declared (program_of spec) x ≡ meant spec x
 
 abbrev pub rule_body : Option Declared → Rule
 rule_body (Some (Procedure xs P)) = P
 rule_body it = Skip
 
 -- the body of the rule that the first `init` names
-abbrev pub main_rule : placed.Spec → List placed.Name → Rule
+abbrev pub main_rule : source.Spec → List source.Name → Rule
 main_rule spec [] = Skip
 main_rule spec (x ∷ more) = rule_body (declared (program_of spec) x.text)
 
-abbrev pub specification_of : placed.Spec → Specification
+abbrev pub specification_of : source.Spec → Specification
 specification_of spec = record { program = program_of spec; initial = initial_state (shape_of spec); main = main_rule spec (inits spec) }

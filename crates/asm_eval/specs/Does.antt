@@ -1,7 +1,7 @@
 -- What a rule yields under a script.
 --     Outcome               what a rule yields, with the number of instances
 --     does program turns script step A e p R      the outcome of R, where a choose with n candidates takes the one whose number is
---                                                 the script's at its place, modulo n
+--                                                 the script's at its path, modulo n
 use Rattle.std.specs.Prelude.{ℕ, zero, suc, ◌+◌, ◌%◌, Bool, cond, not, ◌||◌, List, [], ◌∷◌, Option, Some, slice_index_or, length}
 use Rattle.asm_state.specs.declared.value.Value.{Value}
 use Rattle.asm_state.specs.Location.{State}
@@ -10,7 +10,7 @@ use Rattle.asm_syntax.specs.Tree.{Terms, Rule, Skip, Assign, Call, Par, Seq, If,
 use Rattle.asm_reader.specs.ScriptLines.{Script, pick}
 use Rattle.asm_eval.specs.Program.{Program, Declared, Procedure, declared, Environment, with_value, bind_terms}
 use Rattle.asm_eval.specs.Value.{value, values, holds, candidates, universe, nesting}
-use Rattle.asm_eval.specs.Yields.{Place, at, Result, Gives, Exhausted, beside, after, assigned}
+use Rattle.asm_eval.specs.Yields.{Path, at, Result, Gives, Exhausted, beside, after, assigned}
 
 pub record Outcome : Type 0 where
   pub result : Result
@@ -42,9 +42,9 @@ abbrev pub turn_and : Result → ℕ → (UpdateSet → Outcome) → Outcome
 turn_and (Exhausted q) n rest = outcome (Exhausted q) n
 turn_and (Gives U) n rest = cond (is_none U || not (is_consistent U)) (outcome (Gives U) n) (following U n (rest U))
 
--- what a rule does in a state, under an environment and at a place
+-- what a rule does in a state, under an environment and at a path
 abbrev pub Meaning : Type 0
-Meaning = State → Environment → Place → Outcome
+Meaning = State → Environment → Path → Outcome
 
 -- parts beside each other, from number k on
 abbrev pub parts : List Meaning → ℕ → Meaning
@@ -75,7 +75,7 @@ turns_of m (suc left) t A e p =
     let o : Outcome = m A e (at p t) in
     turn_and o.result o.instances (λ U. turns_of m left (suc t) (fire A U) e p)
 
-module _ (program : Program) (turns : ℕ) (chosen : Place → ℕ) (body : Rule → Meaning) where
+module _ (program : Program) (turns : ℕ) (chosen : Path → ℕ) (body : Rule → Meaning) where
   abbrev pub called : Option Declared → Terms → Meaning
   called (Some (Procedure xs P)) ts A e p = body P A (bind_terms xs ts e) (at p 0)
   called _ ts A e p = nothing
@@ -100,9 +100,9 @@ module _ (program : Program) (turns : ℕ) (chosen : Place → ℕ) (body : Rule
     meanings (rule_then P Ps) = meaning P ∷ meanings Ps
 
 -- where calls are nested deeper than n they do nothing
-unfoldable pub does_within : Program → ℕ → (Place → ℕ) → ℕ → Rule → Meaning
+unfoldable pub does_within : Program → ℕ → (Path → ℕ) → ℕ → Rule → Meaning
 does_within program turns chosen zero = meaning program turns chosen (λ P A e p. nothing)
 does_within program turns chosen (suc n) = meaning program turns chosen (does_within program turns chosen n)
 
-unfoldable pub does : Program → (turns : ℕ) → Script → (step : ℕ) → State → Environment → Place → Rule → Outcome
+unfoldable pub does : Program → (turns : ℕ) → Script → (step : ℕ) → State → Environment → Path → Rule → Outcome
 does program turns script step A e p R = does_within program turns (pick script step) nesting R A e p

@@ -3,7 +3,7 @@
 --     binding found      what a look-up answered
 use Rattle.std.specs.Prelude.{List, ℕ, map, Option, Some, None, slice_get}
 use Rattle.asm_syntax.specs.Views.{term_of, terms_of}
-use Rattle.asm_syntax.specs.Unplaced.{plain_term, plain_terms}
+use Rattle.asm_syntax.specs.PlainTree.{plain_term, plain_terms}
 use Rattle.asm_syntax.specs.declared.name.Name as syntax
 use Rattle.asm_syntax.specs.Tree.{Name}
 use Rattle.asm_eval.specs.Program.{Environment, nothing_bound, with_value, bind_values, bind_terms, Binding, ToValue, ToTerm}
@@ -26,7 +26,7 @@ binding found.Unbound = None
 binding (found.Known v) = Some (ToValue v)
 binding (found.ByName t caller) = Some (ToTerm (plain_term (term_of t.now)) (environment caller.now))
 
--- the member of a list at a place, if there is a place
+-- the member of a list at an index, if there is an index
 abbrev pub beside : {X : Type 0} → Option ℕ → List X → Option X
 beside None xs = None
 beside (Some i) xs = slice_get xs i

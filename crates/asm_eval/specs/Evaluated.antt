@@ -13,7 +13,7 @@ use Rattle.asm_state.specs.Location.{State}
 use Rattle.asm_state.specs.Signature.{Shape, count_of}
 use Rattle.asm_state.specs.Updates.{UpdateSet, fire}
 use Rattle.asm_syntax.specs.Tree as tree
-use Rattle.asm_syntax.specs.Unplaced.{plain_term, plain_terms, plain_rule, plain_rules, plain_branch}
+use Rattle.asm_syntax.specs.PlainTree.{plain_term, plain_terms, plain_rule, plain_rules, plain_branch}
 use Rattle.asm_syntax.specs.Views.{term_of, terms_of, rule_of, rules_of}
 use Rattle.asm_syntax.specs.declared.rule.Rule.{Rule}
 use Rattle.asm_syntax.specs.declared.term.Term.{Term}
@@ -23,7 +23,7 @@ use Rattle.asm_eval.specs.Does.{Outcome, parts, in_order}
 use Rattle.asm_eval.specs.Environments.{environment}
 use Rattle.asm_eval.specs.Setting.{Setting, outcome}
 use Rattle.asm_eval.specs.Valued.{program, shown, branch}
-use Rattle.asm_eval.specs.Yields.{Place}
+use Rattle.asm_eval.specs.Yields.{Path}
 use Rattle.asm_eval.specs.declared.env.Env.{Env}
 use Rattle.asm_eval.specs.declared.evaluation.Evaluation.{Evaluation}
 use Rattle.asm_eval.specs.declared.outcome.Forming.{Forming}
@@ -57,14 +57,14 @@ module _ {P : Type 0} {picks : Ghosts P} (at : Evaluation P picks) where
   abbrev pub Fits : Forming → Type 0
   Fits made = made.set.count ≡ count_of shape_at
 
-  abbrev pub outcome_at : Env → Place → tree.Rule → Outcome
+  abbrev pub outcome_at : Env → Path → tree.Rule → Outcome
   outcome_at e p R = outcome setting state_at (environment e) p R
 
-  abbrev pub outcome_upon : UpdateSet → Env → Place → tree.Rule → Outcome
+  abbrev pub outcome_upon : UpdateSet → Env → Path → tree.Rule → Outcome
   outcome_upon U e p R = outcome setting (fire state_at U) (environment e) p R
 
-  abbrev pub parts_at : Env → Place → List Rule → Outcome
+  abbrev pub parts_at : Env → Path → List Rule → Outcome
   parts_at e p Rs = parts (all_run setting.program setting.turns setting.script setting.step (meant_rules Rs)) 0 state_at (environment e) p
 
-  abbrev pub in_order_at : Env → Place → List Rule → Outcome
+  abbrev pub in_order_at : Env → Path → List Rule → Outcome
   in_order_at e p Rs = in_order (all_run setting.program setting.turns setting.script setting.step (meant_rules Rs)) 0 state_at (environment e) p

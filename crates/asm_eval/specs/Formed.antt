@@ -3,7 +3,7 @@
 --     Forms       an outcome that gives a set: its set is added, and its instances are counted
 --     IsSet       a summary and a number are the set and the instances of an outcome that gives a set
 --     IsFormed    an outcome of the code is one of the definitions
---     IsStoppedAt what is said of an outcome whose forming stopped at a place
+--     IsStoppedAt what is said of an outcome whose forming stopped at a path
 --     GoesOn      a part of a sequence gives a set, which is joined to those of the parts before it
 --     Follows     what a call promises that forms an outcome, whether it ends, is exhausted or wants
 --                 memory
@@ -13,7 +13,7 @@ use Rattle.asm_state.specs.Signature.{Shape, count_of}
 use Rattle.asm_state.specs.Updates.{UpdateSet, IsConsistent, together, merge}
 use Rattle.asm_updates.specs.Entries.{Entries}
 use Rattle.asm_updates.specs.Stands.{Stands}
-use Rattle.asm_eval.specs.Yields.{Place, Gives, Exhausted}
+use Rattle.asm_eval.specs.Yields.{Path, Gives, Exhausted}
 use Rattle.asm_eval.specs.Does as does
 use Rattle.asm_eval.specs.declared.outcome.Forming.{Forming}
 use Rattle.asm_eval.specs.declared.outcome.Outcome.{Outcome}
@@ -48,7 +48,7 @@ IsFormed shape o (Set summary instances) = IsSet shape o summary instances
 IsFormed shape o (ExhaustedAt p) = o.result ≡ Exhausted p
 
 -- want of memory says nothing of the outcome
-abbrev pub IsStoppedAt : does.Outcome → Place → Stopped → Type 0
+abbrev pub IsStoppedAt : does.Outcome → Path → Stopped → Type 0
 IsStoppedAt o p stopped.Memory = Unit {0}
 IsStoppedAt o p stopped.Exhausted = o.result ≡ Exhausted p
 
@@ -63,15 +63,15 @@ pub record GoesOn (shape : Shape) (o : does.Outcome) (U : UpdateSet) (so_far par
 -- what a call promises that forms an outcome
 pub record Follows {T : Type 0} (shape : Shape) (o : does.Outcome) (old new : Forming) (result : Result T Stopped) : Type 0 where
   pub count : new.set.count ≡ old.set.count
-  pub place : OnOk result (new.place.items ≡ old.place.items)
+  pub path : OnOk result (new.path.items ≡ old.path.items)
   pub formed : OnOk result (Forms shape o old.set new.set old.instances new.instances)
-  pub exhausted : IfErr result (IsStoppedAt o new.place.items)
+  pub exhausted : IfErr result (IsStoppedAt o new.path.items)
 
 -- what a call promises that forms a part of a sequence, whose outcome depends on the set of the
 -- parts before it
 pub record FollowsUpon {T : Type 0} (shape : Shape) (o : UpdateSet → does.Outcome) (so_far joined : Entries) (old new : Forming) (result : Result T Stopped) : Type 0 where
   pub count : new.set.count ≡ old.set.count
   pub so_far_count : OnOk result (joined.count ≡ so_far.count)
-  pub place : OnOk result (new.place.items ≡ old.place.items)
+  pub path : OnOk result (new.path.items ≡ old.path.items)
   pub formed : (U : UpdateSet) → Stands shape so_far U → IsConsistent U → OnOk result (GoesOn shape (o U) U joined new.set old.instances new.instances)
-  pub exhausted : (U : UpdateSet) → Stands shape so_far U → IsConsistent U → IfErr result (IsStoppedAt (o U) new.place.items)
+  pub exhausted : (U : UpdateSet) → Stands shape so_far U → IsConsistent U → IfErr result (IsStoppedAt (o U) new.path.items)

@@ -10,7 +10,7 @@ use Rattle.asm_state.specs.Updates.{UpdateSet, IsConsistent, is_consistent, fire
 use Rattle.asm_syntax.specs.Tree.{Name, Rule}
 use Rattle.asm_eval.specs.Program.{Program, nothing_bound}
 use Rattle.asm_eval.specs.Value.{nesting}
-use Rattle.asm_eval.specs.Yields.{Place, Result, Gives, Exhausted, Yields}
+use Rattle.asm_eval.specs.Yields.{Path, Result, Gives, Exhausted, Yields}
 use Rattle.asm_reader.specs.ScriptLines.{Script}
 use Rattle.asm_eval.specs.Does.{Outcome, does}
 use Rattle.asm_eval.specs.Scripts.{IsUnrepeated}
@@ -18,7 +18,7 @@ use Rattle.asm_eval.specs.Ranks.{CallsBelow, IsRanked}
 
 pub data End : Type 0 where
   AtLimit : End
-  AtExhausted : (step : ℕ) → Place → End
+  AtExhausted : (step : ℕ) → Path → End
   AtFault : (step : ℕ) → UpdateSet → End
 
 -- a step whose set was fired, with its instances
@@ -44,7 +44,7 @@ fired U n rest = record { steps = record { set = U; instances = n } ∷ rest.ste
 module _ (program : Program) (turns : ℕ) (main : Rule) where
   pub data IsRunFrom : ℕ → ℕ → State → List UpdateSet → End → State → Type 0 where
     at_limit : {i : ℕ} {A : State} → IsRunFrom zero i A [] AtLimit A
-    at_exhausted : {n i : ℕ} {A : State} {q : Place}
+    at_exhausted : {n i : ℕ} {A : State} {q : Path}
         → Yields program turns A nothing_bound [] main (Exhausted q) → IsRunFrom (suc n) i A [] (AtExhausted i q) A
     at_fault : {n i : ℕ} {A : State} {U : UpdateSet}
         → Yields program turns A nothing_bound [] main (Gives U) → ¬ (IsConsistent U) → IsRunFrom (suc n) i A [] (AtFault i U) A

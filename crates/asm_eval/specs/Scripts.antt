@@ -1,18 +1,18 @@
--- A script is a finite map: of several lines with one step and place only the first counts.
---     unrepeated script      the script without the later lines of each step and place
+-- A script is a finite map: of several lines with one step and path only the first counts.
+--     unrepeated script      the script without the later lines of each step and path
 --     UnrepeatedScript       it picks as the script does, so each rule does the same under it
 use Rattle.std.specs.Prelude.{◌≡◌, ℕ, Bool, not, [], ◌∷◌}
 use Rattle.std.specs.List.{filter, IsDistinct}
 use Rattle.asm_state.specs.Location.{State}
 use Rattle.asm_syntax.specs.Tree.{Rule}
 use Rattle.asm_eval.specs.Program.{Program, Environment}
-use Rattle.asm_eval.specs.Yields.{Place}
+use Rattle.asm_eval.specs.Yields.{Path}
 use Rattle.asm_reader.specs.ScriptLines.{Line, Script, is_line_of, pick}
 use Rattle.asm_eval.specs.Does.{does}
 
--- two lines have one step and place
+-- two lines have one step and path
 abbrev pub have_one_key : Line → Line → Bool
-have_one_key line other = is_line_of line.step line.place other
+have_one_key line other = is_line_of line.step line.path other
 
 abbrev pub IsUnrepeated : Script → Type 0
 IsUnrepeated script = IsDistinct have_one_key script
@@ -23,8 +23,8 @@ unrepeated (line ∷ lines) = line ∷ filter (λ other. not (have_one_key line 
 
 pub record UnrepeatedLaws (script : Script) : Type 0 where
   pub is_unrepeated : IsUnrepeated (unrepeated script)
-  pub picks : (step : ℕ) (p : Place) → pick (unrepeated script) step p ≡ pick script step p
-  pub does_alike : (program : Program) (turns step : ℕ) (A : State) (e : Environment) (p : Place) (R : Rule)
+  pub picks : (step : ℕ) (p : Path) → pick (unrepeated script) step p ≡ pick script step p
+  pub does_alike : (program : Program) (turns step : ℕ) (A : State) (e : Environment) (p : Path) (R : Rule)
       → does program turns (unrepeated script) step A e p R ≡ does program turns script step A e p R
 
 abbrev pub UnrepeatedScript : Type 0

@@ -13,7 +13,7 @@ use Rattle.asm_updates.specs.Entries.{Entries, entry}
 use Rattle.asm_eval.specs.declared.below.Below.{Below}
 use Rattle.asm_eval.specs.declared.below.Below.TheVariants as below
 
--- a stray location has no content to take the place of
+-- a stray location has no content that a set could replace
 unfoldable pub seen : Shape → State → (over : Entries) → State
 seen shape A over l = cond (is_proper l) (overwritten (entry over (number_at shape l)) (A l)) (A l)
 

@@ -1,13 +1,13 @@
--- What a meaning depends on besides the state, the environment, the place and the rule.
+-- What a meaning depends on besides the state, the environment, the path and the rule.
 --     Setting                     the program, the limit of turns, and the choices of a step:
 --                                 a script, and the step's number
---     outcome setting A e p R     what R yields in the state A, under e and at the place p
+--     outcome setting A e p R     what R yields in the state A, under e and at the path p
 use Rattle.std.specs.Prelude.{ℕ}
 use Rattle.asm_state.specs.Location.{State}
 use Rattle.asm_syntax.specs.Tree.{Rule}
 use Rattle.asm_reader.specs.ScriptLines.{Script}
 use Rattle.asm_eval.specs.Program.{Program, Environment}
-use Rattle.asm_eval.specs.Yields.{Place}
+use Rattle.asm_eval.specs.Yields.{Path}
 use Rattle.asm_eval.specs.Does.{Outcome, does}
 
 pub record Setting : Type 0 where
@@ -16,5 +16,5 @@ pub record Setting : Type 0 where
   pub script : Script
   pub step : ℕ
 
-abbrev pub outcome : Setting → State → Environment → Place → Rule → Outcome
+abbrev pub outcome : Setting → State → Environment → Path → Rule → Outcome
 outcome s A e p R = does s.program s.turns s.script s.step A e p R

@@ -3,7 +3,7 @@ use Rattle.std.specs.Prelude.{◌≡◌, ◌+◌, ◌++◌, ℕ, Bool, List, len
 use Rattle.asm_state.specs.declared.value.Value.{Value}
 use Rattle.asm_state.specs.Location.{State}
 use Rattle.asm_eval.specs.Program.{Environment}
-use Rattle.asm_eval.specs.Yields.{Place}
+use Rattle.asm_eval.specs.Yields.{Path}
 use Rattle.asm_eval.specs.Does.{Outcome, Meaning, nothing, both, parts, each}
 
 pub record BesideLaws : Type 0 where
@@ -14,7 +14,7 @@ pub record BesideLaws : Type 0 where
 
 pub record SplitLaws : Type 0 where
   -- a list of parts, cut in two
-  pub of_parts : (ms ns : List Meaning) (k : ℕ) (A : State) (e : Environment) (p : Place)
+  pub of_parts : (ms ns : List Meaning) (k : ℕ) (A : State) (e : Environment) (p : Path)
       → parts (ms ++ ns) k A e p ≡ both (parts ms k A e p) (parts ns (length ms + k) A e p)
   -- an interval of the elements, cut in two: each element keeps its position
   pub of_elements : (m : Value → ℕ → Outcome) (test : Value → Bool) (vs ws : List Value) (k : ℕ)

@@ -10,9 +10,9 @@ use Rattle.asm_state.specs.declared.value.Value.{Value}
 use Rattle.asm_state.specs.declared.value.Value.TheVariants.{Undef}
 use Rattle.asm_state.specs.Location.{State}
 use Rattle.asm_state.specs.Tables.{location_in, value_in}
-use Rattle.asm_syntax.specs.Placed as placed
+use Rattle.asm_syntax.specs.SourceTree as source
 use Rattle.asm_syntax.specs.Views.{term_of, terms_of, test_of, rule_of, spec_of}
-use Rattle.asm_syntax.specs.Unplaced.{plain_term, plain_terms}
+use Rattle.asm_syntax.specs.PlainTree.{plain_term, plain_terms}
 use Rattle.asm_syntax.specs.Tree as tree
 use Rattle.asm_syntax.specs.Tree.{Name, Named}
 use Rattle.asm_syntax.specs.declared.rule.Rule.{Rule}
@@ -38,9 +38,9 @@ module _ (checked : Checked) (view : View) (e : Environment) where
   abbrev pub named_value : Name → List Term → Value
   named_value x ts = value (program checked) (shown view) e (Named x (plain_terms (terms_of (map term_of ts))))
 
-abbrev pub branch : Option (Box Rule Global) → placed.Branch
-branch None = placed.left_out
-branch (Some P) = placed.written (rule_of P.value)
+abbrev pub branch : Option (Box Rule Global) → source.Branch
+branch None = source.left_out
+branch (Some P) = source.written (rule_of P.value)
 
 abbrev pub condition : Option Term → Option tree.Term
 condition test = option_map plain_term (test_of test)

@@ -1,4 +1,4 @@
--- Numbers that fall on the way of an evaluation: the size of a term or rule, with the bodies that it uses in their places.
+-- Numbers that fall on the way of an evaluation: the size of a term or rule, with the bodies that it uses written out.
 --     weight program e t      of a term under an environment: it falls at each subterm, at the term that a name is bound to, and at the
 --                             body of a derived function
 --     rule_weight program R   of a rule: it falls at each part, and at the body of a rule that is called

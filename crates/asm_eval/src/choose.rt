@@ -30,16 +30,16 @@ enum Walk {
 /// Whether the condition holds, or there is none.
 pub(crate) fn holds<'e, P: Picks>(
     alloc: Global,
-    at: &Evaluation<'_, '_, P>,
+    evaluation: &Evaluation<'_, '_, P>,
     env: &'e Env<'e>,
     test: &'e Option<Term>,
 ) -> Result<bool, AllocError>
-    ensures { IfOk result (λ b. b ≡ holds_at at.now.scene.checked.now at.now.scene.view.now (environment env.now) test.now) }
+    ensures { IfOk result (λ b. b ≡ holds_at evaluation.now.scene.checked.now evaluation.now.scene.view.now (environment env.now) test.now) }
 {
     match test {
         None => Ok(true),
         Some(test) => {
-            let tested = value(alloc, &at.scene, env, test)?;
+            let tested = value(alloc, &evaluation.scene, env, test)?;
             Ok(is_true(tested))
         }
     }
@@ -60,14 +60,14 @@ fn element_at(universe: &Universe, number: u64) -> Walk
 /// Walks to the candidate with this number, from 0.
 fn find_candidate<'e, P: Picks>(
     alloc: Global,
-    at: &Evaluation<'_, '_, P>,
+    evaluation: &Evaluation<'_, '_, P>,
     env: &'e Env<'e>,
     name: &'e Name,
     universe: &Universe,
     test: &'e Option<Term>,
     number: u64,
 ) -> Result<Walk, AllocError>
-    ensures { IfOk result (λ w. w ≡ walk_to number (filter (λ v. holds_at at.now.scene.checked.now at.now.scene.view.now (with_value name.now.text v (environment env.now)) test.now) universe.now)) }
+    ensures { IfOk result (λ w. w ≡ walk_to number (filter (λ v. holds_at evaluation.now.scene.checked.now evaluation.now.scene.view.now (with_value name.now.text v (environment env.now)) test.now) universe.now)) }
 {
     if test.is_none() {
         return Ok(element_at(universe, number));
@@ -79,7 +79,7 @@ fn find_candidate<'e, P: Picks>(
             value: universe.element(i),
             outer: env,
         };
-        if holds(alloc, at, &bound, test)? {
+        if holds(alloc, evaluation, &bound, test)? {
             if met == number {
                 return Ok(Walk::Met(universe.element(i)));
             }
@@ -89,36 +89,39 @@ fn find_candidate<'e, P: Picks>(
     Ok(Walk::Passed(met))
 }
 
-/// The candidate that is taken at this place. Where there are candidates the script is asked once, else never.
+/// The candidate that is taken at this path. Where there are candidates the script is asked once, else never.
 ///
 /// Without a condition, every element of the universe is a candidate, and none is looked at but the one that is taken.
 pub(crate) fn chosen<'e, P: Picks>(
     alloc: Global,
-    at: &Evaluation<'_, '_, P>,
+    evaluation: &Evaluation<'_, '_, P>,
     env: &'e Env<'e>,
     name: &'e Name,
     over: &Name,
     test: &'e Option<Term>,
-    place: &[u64],
+    path: &[u64],
 ) -> Result<Option<Value>, AllocError>
-    ensures { let candidates = spec.candidates (program at.now.scene.checked.now) (shown at.now.scene.view.now) (environment env.now) name.now.text over.now.text (condition test.now) in
-        IfOk result (λ v. v ≡ taken (pick (P.script at.now.choices.now.script.now) at.now.choices.now.step place.now) candidates) }
+    ensures { let candidates = spec.candidates (program evaluation.now.scene.checked.now) (shown evaluation.now.scene.view.now) (environment env.now) name.now.text over.now.text (condition test.now) in
+        IfOk result (λ v. v ≡ taken (pick (P.script evaluation.now.choices.now.script.now) evaluation.now.choices.now.step path.now) candidates) }
 {
-    let Some(universe) = universe_of(at.scene.checked, over) else {
+    let Some(universe) = universe_of(evaluation.scene.checked, over) else {
         return Ok(None);
     };
-    let Walk::Met(first) = find_candidate(alloc, at, env, name, universe, test, 0)? else {
+    let Walk::Met(first) = find_candidate(alloc, evaluation, env, name, universe, test, 0)? else {
         return Ok(None);
     };
-    let number = at.choices.script.pick(at.choices.step, place);
+    let number = evaluation
+        .choices
+        .script
+        .pick(evaluation.choices.step, path);
     if number == 0 {
         return Ok(Some(first));
     }
-    match find_candidate(alloc, at, env, name, universe, test, number)? {
+    match find_candidate(alloc, evaluation, env, name, universe, test, number)? {
         Walk::Met(value) => Ok(Some(value)),
         Walk::Passed(count) => match find_candidate(
             alloc,
-            at,
+            evaluation,
             env,
             name,
             universe,

@@ -30,7 +30,7 @@ pub(crate) fn find<'a>(env: &'a Env<'a>, name: &Name) -> Binding<'a>
     }
     match *rest {
         Env::Empty | Env::One { .. } => Binding::Unbound,
-        Env::Values { names, values } => match place_of(names, name) {
+        Env::Values { names, values } => match index_of(names, name) {
             None => Binding::Unbound,
             Some(i) => Binding::Known(value_at(values, i)),
         },
@@ -45,8 +45,8 @@ pub(crate) fn find<'a>(env: &'a Env<'a>, name: &Name) -> Binding<'a>
     }
 }
 
-/// The place of the first of these names that has the text.
-fn place_of(names: &[Name], name: &Name) -> Option<usize>
+/// The index of the first of these names that has the text.
+fn index_of(names: &[Name], name: &Name) -> Option<usize>
     ensures { result ≡ position (λ x. is_name (text_of x) name.now.text) names.now }
 {
     names.iter().position(|x| x.text.is(&name.text))
@@ -54,13 +54,13 @@ fn place_of(names: &[Name], name: &Name) -> Option<usize>
 
 /// The term in the place of the name, if both are there.
 fn term_of<'a>(names: &[Name], terms: &'a [Term], name: &Name) -> Option<&'a Term>
-    ensures { let place = position (λ x. is_name (text_of x) name.now.text) names.now in
-        option_map (λ t. t.now) result ≡ beside place terms.now }
+    ensures { let index = position (λ x. is_name (text_of x) name.now.text) names.now in
+        option_map (λ t. t.now) result ≡ beside index terms.now }
 {
-    terms.get(place_of(names, name)?)
+    terms.get(index_of(names, name)?)
 }
 
-/// The value in a place, which is `Undef` behind the last one.
+/// The value in an index, which is `Undef` behind the last one.
 fn value_at(values: &[Value], i: usize) -> Value
     ensures { result ≡ slice_index_or values.now i Undef }
 {

@@ -28,19 +28,19 @@ use asm_updates::summary::Summary;
 use std::alloc::Global;
 use std::mem;
 
-/// Forms what the rule yields at the place where the evaluation stands: its updates come to those formed before, and its instances are
-/// counted. Where it is exhausted, it stands at the place of the `iterate` that made its last turn. Where it stopped, the set may have
+/// Forms what the rule yields at the path where the evaluation stands: its updates come to those formed before, and its instances are
+/// counted. Where it is exhausted, it stands at the path of the `iterate` that made its last turn. Where it stopped, the set may have
 /// some of the updates.
 #[cycle(form)]
 pub fn form<'e, P: Picks>(
     alloc: Global,
-    at: &Evaluation<'_, '_, P>,
+    evaluation: &Evaluation<'_, '_, P>,
     env: &'e Env<'e>,
     rule: &'e Rule,
     made: &mut Forming,
 ) -> Result<(), Stopped>
-    requires { Fits at.now made.old }
-    ensures { Follows (shape_at at.now) (outcome_at at.now env.now made.old.place.items (meant rule.now)) made.old made.new result }
+    requires { Fits evaluation.now made.old }
+    ensures { Follows (shape_at evaluation.now) (outcome_at evaluation.now env.now made.old.path.items (meant rule.now)) made.old made.new result }
 {
     match rule {
         Rule::Skip => Ok(()),
@@ -48,33 +48,43 @@ pub fn form<'e, P: Picks>(
             name,
             arguments,
             value,
-        } => assign(alloc, at, env, name, arguments.as_slice(), value, made),
-        Rule::Par(rules) => form_all(alloc, at, env, rules.as_slice(), made),
-        Rule::If { test, yes, no } => form_if(alloc, at, env, test, yes, no, made),
-        Rule::Let { name, value, body } => form_let(alloc, at, env, name, value, body, made),
+        } => assign(
+            alloc,
+            evaluation,
+            env,
+            name,
+            arguments.as_slice(),
+            value,
+            made,
+        ),
+        Rule::Par(rules) => form_all(alloc, evaluation, env, rules.as_slice(), made),
+        Rule::If { test, yes, no } => form_if(alloc, evaluation, env, test, yes, no, made),
+        Rule::Let { name, value, body } => form_let(
+            alloc, evaluation, env, name, value, body, made,
+        ),
         Rule::Forall {
             name,
             over,
             test,
             body,
-        } => form_each(alloc, at, env, name, over, test, body, made),
+        } => form_each(alloc, evaluation, env, name, over, test, body, made),
         Rule::Choose {
             name,
             over,
             test,
             body,
             none,
-        } => form_choose(alloc, at, env, name, over, test, body, none, made),
+        } => form_choose(alloc, evaluation, env, name, over, test, body, none, made),
         Rule::Call { name, arguments } => form_call(
             alloc,
-            at,
+            evaluation,
             env,
             name,
             arguments.as_slice(),
             made,
         ),
-        Rule::Seq(rules) => form_in_order(alloc, at, env, rules.as_slice(), made),
-        Rule::Iterate(body) => form_turns(alloc, at, env, body, made),
+        Rule::Seq(rules) => form_in_order(alloc, evaluation, env, rules.as_slice(), made),
+        Rule::Iterate(body) => form_turns(alloc, evaluation, env, body, made),
     }
 }
 
@@ -82,18 +92,18 @@ pub fn form<'e, P: Picks>(
 #[cycle(form)]
 fn form_part<'e, P: Picks>(
     alloc: Global,
-    at: &Evaluation<'_, '_, P>,
+    evaluation: &Evaluation<'_, '_, P>,
     env: &'e Env<'e>,
     rule: &'e Rule,
     number: u64,
     made: &mut Forming,
 ) -> Result<(), Stopped>
-    requires { Fits at.now made.old }
-    ensures { Follows (shape_at at.now) (outcome_at at.now env.now (yields.at made.old.place.items number) (meant rule.now)) made.old made.new result }
+    requires { Fits evaluation.now made.old }
+    ensures { Follows (shape_at evaluation.now) (outcome_at evaluation.now env.now (yields.at made.old.path.items number) (meant rule.now)) made.old made.new result }
 {
-    made.place.push(number)?;
-    form(alloc, at, env, rule, made)?;
-    made.place.pop();
+    made.path.push(number)?;
+    form(alloc, evaluation, env, rule, made)?;
+    made.path.pop();
     Ok(())
 }
 
@@ -101,16 +111,16 @@ fn form_part<'e, P: Picks>(
 #[cycle(form)]
 fn form_other<'e, P: Picks>(
     alloc: Global,
-    at: &Evaluation<'_, '_, P>,
+    evaluation: &Evaluation<'_, '_, P>,
     env: &'e Env<'e>,
     rule: &'e Option<Box<Rule>>,
     made: &mut Forming,
 ) -> Result<(), Stopped>
-    requires { Fits at.now made.old }
-    ensures { Follows (shape_at at.now) (outcome_at at.now env.now (yields.at made.old.place.items 1) (meant_branch rule.now)) made.old made.new result }
+    requires { Fits evaluation.now made.old }
+    ensures { Follows (shape_at evaluation.now) (outcome_at evaluation.now env.now (yields.at made.old.path.items 1) (meant_branch rule.now)) made.old made.new result }
 {
     match rule {
-        Some(rule) => form_part(alloc, at, env, rule, 1, made),
+        Some(rule) => form_part(alloc, evaluation, env, rule, 1, made),
         None => Ok(()),
     }
 }
@@ -119,22 +129,22 @@ fn form_other<'e, P: Picks>(
 #[cycle(form)]
 fn form_if<'e, P: Picks>(
     alloc: Global,
-    at: &Evaluation<'_, '_, P>,
+    evaluation: &Evaluation<'_, '_, P>,
     env: &'e Env<'e>,
     test: &'e Term,
     yes: &'e Rule,
     no: &'e Option<Box<Rule>>,
     made: &mut Forming,
 ) -> Result<(), Stopped>
-    requires { Fits at.now made.old }
+    requires { Fits evaluation.now made.old }
     ensures { let R = tree.If (meant_term test.now) (meant yes.now) (meant_branch no.now) in
-        Follows (shape_at at.now) (outcome_at at.now env.now made.old.place.items R) made.old made.new result }
+        Follows (shape_at evaluation.now) (outcome_at evaluation.now env.now made.old.path.items R) made.old made.new result }
 {
-    let tested = value(alloc, &at.scene, env, test)?;
+    let tested = value(alloc, &evaluation.scene, env, test)?;
     if is_true(tested) {
-        form_part(alloc, at, env, yes, 0, made)
+        form_part(alloc, evaluation, env, yes, 0, made)
     } else {
-        form_other(alloc, at, env, no, made)
+        form_other(alloc, evaluation, env, no, made)
     }
 }
 
@@ -142,49 +152,49 @@ fn form_if<'e, P: Picks>(
 #[cycle(form)]
 fn form_let<'e, P: Picks>(
     alloc: Global,
-    at: &Evaluation<'_, '_, P>,
+    evaluation: &Evaluation<'_, '_, P>,
     env: &'e Env<'e>,
     name: &'e Name,
     term: &'e Term,
     body: &'e Rule,
     made: &mut Forming,
 ) -> Result<(), Stopped>
-    requires { Fits at.now made.old }
+    requires { Fits evaluation.now made.old }
     ensures { let R = tree.Let name.now.text (meant_term term.now) (meant body.now) in
-        Follows (shape_at at.now) (outcome_at at.now env.now made.old.place.items R) made.old made.new result }
+        Follows (shape_at evaluation.now) (outcome_at evaluation.now env.now made.old.path.items R) made.old made.new result }
 {
-    let value = value(alloc, &at.scene, env, term)?;
+    let value = value(alloc, &evaluation.scene, env, term)?;
     let bound = Env::One {
         name,
         value,
         outer: env,
     };
-    form_part(alloc, at, &bound, body, 0, made)
+    form_part(alloc, evaluation, &bound, body, 0, made)
 }
 
 /// Forms the parts that stand beside each other.
 #[cycle(form)]
 fn form_all<'e, P: Picks>(
     alloc: Global,
-    at: &Evaluation<'_, '_, P>,
+    evaluation: &Evaluation<'_, '_, P>,
     env: &'e Env<'e>,
     rules: &'e [Rule],
     made: &mut Forming,
 ) -> Result<(), Stopped>
-    requires { Fits at.now made.old }
-    ensures { Follows (shape_at at.now) (parts_at at.now env.now made.old.place.items rules.now) made.old made.new result }
+    requires { Fits evaluation.now made.old }
+    ensures { Follows (shape_at evaluation.now) (parts_at evaluation.now env.now made.old.path.items rules.now) made.old made.new result }
 {
     for i in 0..rules.len() {
-        form_part(alloc, at, env, &rules[i], i as u64, made)?;
+        form_part(alloc, evaluation, env, &rules[i], i as u64, made)?;
     }
     Ok(())
 }
 
-/// Forms the body for each element for which the condition holds. An element's number is its place in the universe.
+/// Forms the body for each element for which the condition holds. An element's number is its path in the universe.
 #[cycle(form)]
 fn form_each<'e, P: Picks>(
     alloc: Global,
-    at: &Evaluation<'_, '_, P>,
+    evaluation: &Evaluation<'_, '_, P>,
     env: &'e Env<'e>,
     name: &'e Name,
     over: &Name,
@@ -192,11 +202,11 @@ fn form_each<'e, P: Picks>(
     body: &'e Rule,
     made: &mut Forming,
 ) -> Result<(), Stopped>
-    requires { Fits at.now made.old }
+    requires { Fits evaluation.now made.old }
     ensures { let R = tree.Forall name.now.text over.now.text (condition test.now) (meant body.now) in
-        Follows (shape_at at.now) (outcome_at at.now env.now made.old.place.items R) made.old made.new result }
+        Follows (shape_at evaluation.now) (outcome_at evaluation.now env.now made.old.path.items R) made.old made.new result }
 {
-    let Some(universe) = universe_of(at.scene.checked, over) else {
+    let Some(universe) = universe_of(evaluation.scene.checked, over) else {
         return Ok(());
     };
     for i in 0..universe.size() {
@@ -205,9 +215,9 @@ fn form_each<'e, P: Picks>(
             value: universe.element(i),
             outer: env,
         };
-        if holds(alloc, at, &bound, test)? {
+        if holds(alloc, evaluation, &bound, test)? {
             made.instances = made.instances.saturating_add(1);
-            form_part(alloc, at, &bound, body, i as u64, made)?;
+            form_part(alloc, evaluation, &bound, body, i as u64, made)?;
         }
     }
     Ok(())
@@ -217,7 +227,7 @@ fn form_each<'e, P: Picks>(
 #[cycle(form)]
 fn form_choose<'e, P: Picks>(
     alloc: Global,
-    at: &Evaluation<'_, '_, P>,
+    evaluation: &Evaluation<'_, '_, P>,
     env: &'e Env<'e>,
     name: &'e Name,
     over: &Name,
@@ -226,20 +236,28 @@ fn form_choose<'e, P: Picks>(
     none: &'e Option<Box<Rule>>,
     made: &mut Forming,
 ) -> Result<(), Stopped>
-    requires { Fits at.now made.old }
+    requires { Fits evaluation.now made.old }
     ensures { let R = tree.Choose name.now.text over.now.text (condition test.now) (meant body.now) (meant_branch none.now) in
-        Follows (shape_at at.now) (outcome_at at.now env.now made.old.place.items R) made.old made.new result }
+        Follows (shape_at evaluation.now) (outcome_at evaluation.now env.now made.old.path.items R) made.old made.new result }
 {
-    match chosen(alloc, at, env, name, over, test, made.place.as_slice())? {
+    match chosen(
+        alloc,
+        evaluation,
+        env,
+        name,
+        over,
+        test,
+        made.path.as_slice(),
+    )? {
         Some(value) => {
             let bound = Env::One {
                 name,
                 value,
                 outer: env,
             };
-            form_part(alloc, at, &bound, body, 0, made)
+            form_part(alloc, evaluation, &bound, body, 0, made)
         }
-        None => form_other(alloc, at, env, none, made),
+        None => form_other(alloc, evaluation, env, none, made),
     }
 }
 
@@ -247,25 +265,25 @@ fn form_choose<'e, P: Picks>(
 #[cycle(form)]
 fn form_call<'e, P: Picks>(
     alloc: Global,
-    at: &Evaluation<'_, '_, P>,
+    evaluation: &Evaluation<'_, '_, P>,
     env: &'e Env<'e>,
     name: &Name,
     arguments: &'e [Term],
     made: &mut Forming,
 ) -> Result<(), Stopped>
-    requires { Fits at.now made.old }
+    requires { Fits evaluation.now made.old }
     ensures { let R = tree.Call name.now.text (meant_terms arguments.now) in
-        Follows (shape_at at.now) (outcome_at at.now env.now made.old.place.items R) made.old made.new result }
+        Follows (shape_at evaluation.now) (outcome_at evaluation.now env.now made.old.path.items R) made.old made.new result }
 {
-    match at.scene.checked.named(&name.text) {
+    match evaluation.scene.checked.named(&name.text) {
         Some(Named::Called(r)) => {
-            let (names, body) = at.scene.checked.rule(r);
+            let (names, body) = evaluation.scene.checked.rule(r);
             let bound = Env::Terms {
                 names,
                 terms: &*arguments,
                 caller: &*env,
             };
-            form_part(alloc, at, &bound, body, 0, made)
+            form_part(alloc, evaluation, &bound, body, 0, made)
         }
         _ => Ok(()),
     }
@@ -275,20 +293,29 @@ fn form_call<'e, P: Picks>(
 #[cycle(form)]
 fn form_in_order<'e, P: Picks>(
     alloc: Global,
-    at: &Evaluation<'_, '_, P>,
+    evaluation: &Evaluation<'_, '_, P>,
     env: &'e Env<'e>,
     rules: &'e [Rule],
     made: &mut Forming,
 ) -> Result<(), Stopped>
-    requires { Fits at.now made.old }
-    ensures { Follows (shape_at at.now) (in_order_at at.now env.now made.old.place.items rules.now) made.old made.new result }
+    requires { Fits evaluation.now made.old }
+    ensures { Follows (shape_at evaluation.now) (in_order_at evaluation.now env.now made.old.path.items rules.now) made.old made.new result }
 {
-    let nothing = Summary::new(alloc, at.scene.view.signature.count());
+    let signature = evaluation.scene.view.signature;
+    let nothing = Summary::new(alloc, signature.count());
     let before = mem::replace(&mut made.set, nothing);
-    let mut so_far = Summary::new(alloc, at.scene.view.signature.count());
+    let mut so_far = Summary::new(alloc, signature.count());
     for i in 0..rules.len() {
-        form_next(alloc, at, env, &rules[i], i as u64, &mut so_far, made)?;
-        if made.set.first_fault(at.scene.view.signature).is_some() {
+        form_next(
+            alloc,
+            evaluation,
+            env,
+            &rules[i],
+            i as u64,
+            &mut so_far,
+            made,
+        )?;
+        if made.set.first_fault(signature).is_some() {
             return put_back(before, &so_far, made);
         }
     }
@@ -299,21 +326,30 @@ fn form_in_order<'e, P: Picks>(
 #[cycle(form)]
 fn form_turns<'e, P: Picks>(
     alloc: Global,
-    at: &Evaluation<'_, '_, P>,
+    evaluation: &Evaluation<'_, '_, P>,
     env: &'e Env<'e>,
     body: &'e Rule,
     made: &mut Forming,
 ) -> Result<(), Stopped>
-    requires { Fits at.now made.old }
+    requires { Fits evaluation.now made.old }
     ensures { let R = tree.Iterate (meant body.now) in
-        Follows (shape_at at.now) (outcome_at at.now env.now made.old.place.items R) made.old made.new result }
+        Follows (shape_at evaluation.now) (outcome_at evaluation.now env.now made.old.path.items R) made.old made.new result }
 {
-    let nothing = Summary::new(alloc, at.scene.view.signature.count());
+    let signature = evaluation.scene.view.signature;
+    let nothing = Summary::new(alloc, signature.count());
     let before = mem::replace(&mut made.set, nothing);
-    let mut so_far = Summary::new(alloc, at.scene.view.signature.count());
+    let mut so_far = Summary::new(alloc, signature.count());
     for turn in 0..at.turns {
-        form_next(alloc, at, env, body, u64::from(turn), &mut so_far, made)?;
-        if made.set.is_empty() || made.set.first_fault(at.scene.view.signature).is_some() {
+        form_next(
+            alloc,
+            evaluation,
+            env,
+            body,
+            u64::from(turn),
+            &mut so_far,
+            made,
+        )?;
+        if made.set.is_empty() || made.set.first_fault(signature).is_some() {
             return put_back(before, &so_far, made);
         }
     }
@@ -325,27 +361,27 @@ fn form_turns<'e, P: Picks>(
 #[cycle(form)]
 fn form_next<'e, P: Picks>(
     alloc: Global,
-    at: &Evaluation<'_, '_, P>,
+    evaluation: &Evaluation<'_, '_, P>,
     env: &'e Env<'e>,
     rule: &'e Rule,
     number: u64,
     so_far: &mut Summary,
     made: &mut Forming,
 ) -> Result<(), Stopped>
-    requires fits { Fits at.now made.old }
-    requires so_far { so_far.old.count ≡ count_of (shape_at at.now) }
-    ensures { FollowsUpon (shape_at at.now) (λ U. outcome_upon at.now U env.now (yields.at made.old.place.items number) (meant rule.now)) so_far.old so_far.new made.old made.new result }
+    requires fits { Fits evaluation.now made.old }
+    requires so_far { so_far.old.count ≡ count_of (shape_at evaluation.now) }
+    ensures { FollowsUpon (shape_at evaluation.now) (λ U. outcome_upon evaluation.now U env.now (yields.at made.old.path.items number) (meant rule.now)) so_far.old so_far.new made.old made.new result }
 {
     made.set.clear();
-    let nothing = Summary::new(alloc, at.scene.view.signature.count());
-    let view = View::upon(at.scene.view, mem::replace(so_far, nothing));
+    let nothing = Summary::new(alloc, evaluation.scene.view.signature.count());
+    let view = View::upon(evaluation.scene.view, mem::replace(so_far, nothing));
     let inner = Evaluation {
         scene: Scene {
-            checked: at.scene.checked,
+            checked: evaluation.scene.checked,
             view: &view,
         },
-        choices: at.choices,
-        turns: at.turns,
+        choices: evaluation.choices,
+        turns: evaluation.turns,
     };
     form_part(alloc, &inner, env, rule, number, made)?;
     *so_far = view.over;
@@ -357,7 +393,7 @@ fn form_next<'e, P: Picks>(
 fn put_back(before: Summary, so_far: &Summary, made: &mut Forming) -> Result<(), Stopped>
     requires { so_far.now.count ≡ before.count }
     ensures count { made.new.set.count ≡ before.count }
-    ensures place { made.new.place.items ≡ made.old.place.items }
+    ensures path { made.new.path.items ≡ made.old.path.items }
     ensures instances { made.new.instances ≡ made.old.instances }
     ensures adds { (shape : Shape) (V : UpdateSet) → Stands shape so_far.now V → OnOk result (Adds shape V before made.new.set) }
     ensures stopped { IfErr result (λ stop. stop ≡ Memory) }
@@ -370,22 +406,22 @@ fn put_back(before: Summary, so_far: &Summary, made: &mut Forming) -> Result<(),
 /// Adds the update of an assignment. A name that isn't a controlled function gives none.
 fn assign<'e, P: Picks>(
     alloc: Global,
-    at: &Evaluation<'_, '_, P>,
+    evaluation: &Evaluation<'_, '_, P>,
     env: &'e Env<'e>,
     name: &Name,
     arguments: &'e [Term],
     new: &'e Term,
     made: &mut Forming,
 ) -> Result<(), Stopped>
-    requires { Fits at.now made.old }
+    requires { Fits evaluation.now made.old }
     ensures { let R = tree.Assign name.now.text (meant_terms arguments.now) (meant_term new.now) in
-        Follows (shape_at at.now) (outcome_at at.now env.now made.old.place.items R) made.old made.new result }
+        Follows (shape_at evaluation.now) (outcome_at evaluation.now env.now made.old.path.items R) made.old made.new result }
 {
-    let Some(f) = target(&at.scene, name) else {
+    let Some(f) = target(&evaluation.scene, name) else {
         return Ok(());
     };
-    let new = value(alloc, &at.scene, env, new)?;
-    let n = location_number(alloc, &at.scene, env, f, arguments)?;
+    let new = value(alloc, &evaluation.scene, env, new)?;
+    let n = location_number(alloc, &evaluation.scene, env, f, arguments)?;
     made.set.add(n, new, new)?;
     Ok(())
 }

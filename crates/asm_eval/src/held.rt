@@ -1,7 +1,7 @@
 //! Values that need no environment: of literals, functions and universes.
 ghost use Rattle.std.specs.Prelude.{◌≡◌, ◌<◌, List, [], IfSome, IfNone, slice_get};
 ghost use Rattle.asm_state.specs.Signature.{functions_of};
-ghost use Rattle.asm_syntax.specs.Unplaced as plain;
+ghost use Rattle.asm_syntax.specs.PlainTree as plain;
 ghost use Rattle.asm_syntax.specs.Views.{spec_of};
 ghost use Rattle.asm_eval.specs.Declarations as declared;
 ghost use Rattle.asm_eval.specs.Declarations.{function_at};

@@ -16,7 +16,7 @@ pub fn scripted_is_free()
     ensures { ScriptedIsFree }
 {}
 
-/// A script chooses as one without repeated lines does, which has the first line of each step and place.
+/// A script chooses as one without repeated lines does, which has the first line of each step and path.
 pub fn unrepeated_script()
     ensures { UnrepeatedScript }
 {}
@@ -47,7 +47,7 @@ pub fn initial_laws()
     ensures { InitialLaws }
 {}
 
-/// Parts beside each other are exhausted where one of them is, at the least of their places, which
+/// Parts beside each other are exhausted where one of them is, at the least of their paths, which
 /// is that of the first of them.
 pub fn exhausted_laws()
     ensures { ExhaustedLaws }

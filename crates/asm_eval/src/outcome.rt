@@ -1,7 +1,7 @@
 //! What comes of evaluating a rule.
 ghost use Rattle.std.specs.Prelude.{◌<◌, ◌^◌};
 
-use crate::place::Place;
+use crate::path::Path;
 use asm_updates::summary::Summary;
 
 /// What a rule yields.
@@ -9,8 +9,8 @@ use asm_updates::summary::Summary;
 pub enum Outcome {
     /// An update set, with the number of elements for which the condition of a `forall` held, cut off where it doesn't fit.
     Set { set: Summary, instances: u64 },
-    /// No set: the `iterate` at this place has made its last turn.
-    Exhausted(Place),
+    /// No set: the `iterate` at this path has made its last turn.
+    Exhausted(Path),
 }
 
 /// What has been formed of a step's set so far, and where the evaluation stands.
@@ -19,7 +19,7 @@ pub struct Forming {
     pub set: Summary,
     /// Cut off where the number doesn't fit.
     pub instances: u64,
-    /// The place of the rule that is evaluated: its numbers come and go here, so that no place is built anew.
-    pub place: Vec<u64>,
+    /// The path of the rule that is evaluated: its numbers come and go here, so that no path is built anew.
+    pub path: Vec<u64>,
     pub ghost in_range: { instances < 2 ^ 64 },
 }

@@ -1,6 +1,6 @@
 //! The values of terms in a scene.
 ghost use Rattle.std.specs.Prelude.{◌≡◌, ◌≤◌, None, IfOk, length};
-ghost use Rattle.asm_syntax.specs.Unplaced as plain;
+ghost use Rattle.asm_syntax.specs.PlainTree as plain;
 ghost use Rattle.asm_syntax.specs.Tree as tree;
 ghost use Rattle.asm_syntax.specs.Views.{spec_of, term_of};
 ghost use Rattle.asm_check.specs.NumberTables.{IsInRange};

@@ -1,6 +1,6 @@
 //! The outcome of a rule.
 ghost use Rattle.std.specs.Prelude.{◌≡◌, IfOk};
-ghost use Rattle.asm_syntax.specs.Unplaced as plain;
+ghost use Rattle.asm_syntax.specs.PlainTree as plain;
 ghost use Rattle.asm_syntax.specs.Views.{spec_of, rule_of};
 ghost use Rattle.asm_check.specs.Shapes.{shape_of};
 ghost use Rattle.asm_eval.specs.Does.{does};
@@ -12,7 +12,7 @@ use crate::env::Env;
 use crate::evaluation::{Choices, Evaluation, Scene};
 use crate::form::form;
 use crate::outcome::{Forming, Outcome};
-use crate::place::Place;
+use crate::path::Path;
 use crate::stopped::Stopped;
 use crate::view::View;
 use asm_check::Checked;
@@ -21,7 +21,7 @@ use asm_syntax::rule::Rule;
 use asm_updates::summary::Summary;
 use std::alloc::{AllocError, Global};
 
-/// What the rule yields at this place, in the state that the view shows, under the environment and these choices, all of it on this
+/// What the rule yields at this path, in the state that the view shows, under the environment and these choices, all of it on this
 /// thread.
 pub fn whole<'a, 'e, P: Picks>(
     alloc: Global,
@@ -30,29 +30,29 @@ pub fn whole<'a, 'e, P: Picks>(
     env: &'e Env<'e>,
     rule: &'e Rule,
     choices: &'a Choices<'a, P>,
-    place: &[u64],
+    path: &[u64],
     turns: u32,
 ) -> Result<Outcome, AllocError>
     requires { view.now.signature.now ≡ shape_of (spec_of checked.now.spec) }
-    ensures { let o = does (program checked.now) turns (P.script choices.now.script.now) choices.now.step (shown view.now) (environment env.now) place.now (plain.plain_rule (rule_of rule.now)) in
+    ensures { let o = does (program checked.now) turns (P.script choices.now.script.now) choices.now.step (shown view.now) (environment env.now) path.now (plain.plain_rule (rule_of rule.now)) in
         IfOk result (IsFormed view.now.signature.now o) }
 {
     let mut made = Forming {
         set: Summary::new(alloc, view.signature.count()),
         instances: 0,
-        place: place.to_vec(alloc)?,
+        path: path.to_vec(alloc)?,
     };
-    let at = Evaluation {
+    let evaluation = Evaluation {
         scene: Scene { checked, view },
         choices,
         turns,
     };
-    match form(alloc, &at, env, rule, &mut made) {
+    match form(alloc, &evaluation, env, rule, &mut made) {
         Ok(()) => Ok(Outcome::Set {
             set: made.set,
             instances: made.instances,
         }),
-        Err(Stopped::Exhausted) => Ok(Outcome::Exhausted(Place::new(made.place))),
+        Err(Stopped::Exhausted) => Ok(Outcome::Exhausted(Path::new(made.path))),
         Err(Stopped::Memory) => Err(AllocError),
     }
 }

@@ -5,7 +5,7 @@ use Rattle.asm_syntax.specs.declared.token.Kind.TheVariants.{Symbol, Word}
 use Rattle.asm_syntax.specs.declared.token.Symbol.TheVariants.{Assign, Equal}
 use Rattle.asm_syntax.specs.declared.token.Word.{Word as Keyword}
 use Rattle.asm_syntax.specs.declared.token.Word.TheVariants.{Par, EndPar, Seq, EndSeq, If, Then, Else, EndIf, Let, In, EndLet, Forall, With, Do, EndForall, Choose, IfNone, EndChoose, Iterate, EndIterate}
-use Rattle.asm_syntax.specs.Placed as placed
+use Rattle.asm_syntax.specs.SourceTree as source
 use Rattle.asm_syntax.specs.Views.{rules_of}
 use Rattle.asm_reader.specs.Kinds.{is_one_of}
 use Rattle.asm_reader.specs.Levels.{openers, closers}
@@ -59,71 +59,71 @@ condition_more = Word With ∷ term_more
 
 -- ---- what stands between the words, and what the rules begin with
 
-module _ (text : List ℕ) (X : Part placed.Term) (S : Part placed.Rule) where
+module _ (text : List ℕ) (X : Part source.Term) (S : Part source.Rule) where
   -- a rule behind a word
-  abbrev pub behind : Keyword → Part placed.Rule
+  abbrev pub behind : Keyword → Part source.Rule
   behind w = past (Word w) S
 
-  abbrev pub condition : Part (Option placed.Term)
+  abbrev pub condition : Part (Option source.Term)
   condition = optional (past (Word With) X)
 
-  abbrev pub if_body : Part (placed.Term × (placed.Rule × Option placed.Rule))
+  abbrev pub if_body : Part (source.Term × (source.Rule × Option source.Rule))
   if_body = X then behind Then then optional (behind Else)
 
-  abbrev pub let_body : Part (placed.Name × (placed.Term × placed.Rule))
+  abbrev pub let_body : Part (source.Name × (source.Term × source.Rule))
   let_body = name text then past (Symbol Equal) X then behind In
 
-  abbrev pub forall_body : Part ((placed.Name × placed.Name) × (Option placed.Term × placed.Rule))
+  abbrev pub forall_body : Part ((source.Name × source.Name) × (Option source.Term × source.Rule))
   forall_body = binding text then condition then behind Do
 
-  abbrev pub choose_body : Part ((placed.Name × placed.Name) × (Option placed.Term × (placed.Rule × Option placed.Rule)))
+  abbrev pub choose_body : Part ((source.Name × source.Name) × (Option source.Term × (source.Rule × Option source.Rule)))
   choose_body = binding text then condition then behind Do then optional (behind IfNone)
 
-  begins_frame : {A : Type 0} (k close : Keyword) (B : Part A) (f : A → placed.Rule) → Begins (Word k ∷ []) (between (Word k) (Word close) B makes f)
+  begins_frame : {A : Type 0} (k close : Keyword) (B : Part A) (f : A → source.Rule) → Begins (Word k ∷ []) (between (Word k) (Word close) B makes f)
   begins_frame k close B f = begins_makes (Word k ∷ []) (between (Word k) (Word close) B) f (begins_between (Word k) (Word close) B)
 
   begins_par : Begins (Word Par ∷ []) (par_rule text X S)
   unfolding par_rule
-  begins_par = begins_frame Par EndPar (several S) (λ r. placed.Par (rules_of r))
+  begins_par = begins_frame Par EndPar (several S) (λ r. source.Par (rules_of r))
 
   begins_seq : Begins (Word Seq ∷ []) (seq_rule text X S)
   unfolding seq_rule
-  begins_seq = begins_frame Seq EndSeq (several S) (λ r. placed.Seq (rules_of r))
+  begins_seq = begins_frame Seq EndSeq (several S) (λ r. source.Seq (rules_of r))
 
   begins_if : Begins (Word If ∷ []) (if_rule text X S)
   unfolding if_rule
-  begins_if = begins_frame If EndIf if_body (λ r. placed.If r.0 r.1.0 (branch r.1.1))
+  begins_if = begins_frame If EndIf if_body (λ r. source.If r.0 r.1.0 (branch r.1.1))
 
   begins_let : Begins (Word Let ∷ []) (let_rule text X S)
   unfolding let_rule
-  begins_let = begins_frame Let EndLet let_body (λ r. placed.Let r.0 r.1.0 r.1.1)
+  begins_let = begins_frame Let EndLet let_body (λ r. source.Let r.0 r.1.0 r.1.1)
 
   begins_forall : Begins (Word Forall ∷ []) (forall_rule text X S)
   unfolding forall_rule
-  begins_forall = begins_frame Forall EndForall forall_body (λ r. placed.Forall r.0.0 r.0.1 r.1.0 r.1.1)
+  begins_forall = begins_frame Forall EndForall forall_body (λ r. source.Forall r.0.0 r.0.1 r.1.0 r.1.1)
 
   begins_choose : Begins (Word Choose ∷ []) (choose_rule text X S)
   unfolding choose_rule
-  begins_choose = begins_frame Choose EndChoose choose_body (λ r. placed.Choose r.0.0 r.0.1 r.1.0 r.1.1.0 (branch r.1.1.1))
+  begins_choose = begins_frame Choose EndChoose choose_body (λ r. source.Choose r.0.0 r.0.1 r.1.0 r.1.1.0 (branch r.1.1.1))
 
   begins_iterate : Begins (Word Iterate ∷ []) (iterate_rule text X S)
   unfolding iterate_rule
-  begins_iterate = begins_frame Iterate EndIterate S placed.Iterate
+  begins_iterate = begins_frame Iterate EndIterate S source.Iterate
 
   -- the rules from one of them on
-  abbrev from_choose : Part placed.Rule
+  abbrev from_choose : Part source.Rule
   from_choose = choose_rule text X S or iterate_rule text X S
 
-  abbrev from_forall : Part placed.Rule
+  abbrev from_forall : Part source.Rule
   from_forall = forall_rule text X S or from_choose
 
-  abbrev from_let : Part placed.Rule
+  abbrev from_let : Part source.Rule
   from_let = let_rule text X S or from_forall
 
-  abbrev from_if : Part placed.Rule
+  abbrev from_if : Part source.Rule
   from_if = if_rule text X S or from_let
 
-  abbrev from_seq : Part placed.Rule
+  abbrev from_seq : Part source.Rule
   from_seq = seq_rule text X S or from_if
 
   begins_from_choose : Begins choose_first from_choose
@@ -152,14 +152,14 @@ abbrev IsFrame : Keyword → Keyword → Type 0
 IsFrame k close = (is_one_of openers (Word k) ≡ true) × (is_one_of openers (Word close) ≡ false) × (is_one_of closers (Word close) ≡ true)
 
 module _ (n : ℕ) {A : Type 0} (k close : Keyword) (frame : IsFrame k close) (more : List Kind) (differ : apart (Word close ∷ []) more ≡ true) (B C : Part A) (some : HasText B) (f : Reader A)
-    (exact : (m : ℕ) → n ≡ suc m → IsExact (depth m false) (depth m false) more B C f) (make : A → placed.Rule) where
+    (exact : (m : ℕ) → n ≡ suc m → IsExact (depth m false) (depth m false) more B C f) (make : A → source.Rule) where
   exact_frame : IsExact (depth n false) (depth n false) [] (between (Word k) (Word close) B makes make) (between (Word k) (Word close) C makes make) (mapped make (between_of n (Word k) (Word close) f))
   exact_frame = exact_makes (depth n false) (depth n false) [] (between (Word k) (Word close) B) (between (Word k) (Word close) C) make (between_of n (Word k) (Word close) f)
       (exact_between n false false (Word k) (Word close) (alike_word k) (alike_word close) (λ t e. rw e frame.0) (λ m t e d. rw (e, d, frame.0) refl) (λ m t e d. rw (e, d, frame.1, frame.2) refl) more differ B C some f exact)
 
 -- `term` and `rule` read P and Q, and what they refuse is no N and no M.
-module _ (text : List ℕ) (n : ℕ) (term : Reader placed.Term) (P N : Part placed.Term) (some : HasText P) (exact : (m : ℕ) → n ≡ suc m → IsExact (depth m false) (depth m false) term_more P N term)
-    (rule : Reader placed.Rule) (Q M : Part placed.Rule) (has : HasText Q) (starts : Begins rule_first Q) (first : Begins rule_first M)
+module _ (text : List ℕ) (n : ℕ) (term : Reader source.Term) (P N : Part source.Term) (some : HasText P) (exact : (m : ℕ) → n ≡ suc m → IsExact (depth m false) (depth m false) term_more P N term)
+    (rule : Reader source.Rule) (Q M : Part source.Rule) (has : HasText Q) (starts : Begins rule_first Q) (first : Begins rule_first M)
     (exact_rule : (m : ℕ) → n ≡ suc m → IsExact (depth m false) (depth m false) rule_more Q M rule) where
   exact_several : (m : ℕ) → n ≡ suc m → IsExact (depth m false) (depth m false) several_more (several Q) (several M) (several_of rule_starts rule)
   exact_several m e = exact_makes (depth m false) (depth m false) several_more (Q then repeated Q) (M then repeated M) (λ r. r.0 ∷ r.1) (pair_of rule (repeated_of rule_starts rule))
@@ -171,15 +171,15 @@ module _ (text : List ℕ) (n : ℕ) (term : Reader placed.Term) (P N : Part pla
 
   exact_par : IsExact (depth n false) (depth n false) [] (par_rule text P Q) (par_rule text N M) (par_at text n term rule)
   unfolding par_rule par_at
-  exact_par = exact_frame n Par EndPar (refl, refl, refl) several_more refl (several Q) (several M) has_several (several_of rule_starts rule) exact_several (λ r. placed.Par (rules_of r))
+  exact_par = exact_frame n Par EndPar (refl, refl, refl) several_more refl (several Q) (several M) has_several (several_of rule_starts rule) exact_several (λ r. source.Par (rules_of r))
 
   exact_seq : IsExact (depth n false) (depth n false) [] (seq_rule text P Q) (seq_rule text N M) (seq_at text n term rule)
   unfolding seq_rule seq_at
-  exact_seq = exact_frame n Seq EndSeq (refl, refl, refl) several_more refl (several Q) (several M) has_several (several_of rule_starts rule) exact_several (λ r. placed.Seq (rules_of r))
+  exact_seq = exact_frame n Seq EndSeq (refl, refl, refl) several_more refl (several Q) (several M) has_several (several_of rule_starts rule) exact_several (λ r. source.Seq (rules_of r))
 
   exact_iterate : IsExact (depth n false) (depth n false) [] (iterate_rule text P Q) (iterate_rule text N M) (iterate_at text n term rule)
   unfolding iterate_rule iterate_at
-  exact_iterate = exact_frame n Iterate EndIterate (refl, refl, refl) rule_more refl Q M has rule exact_rule placed.Iterate
+  exact_iterate = exact_frame n Iterate EndIterate (refl, refl, refl) rule_more refl Q M has rule exact_rule source.Iterate
 
   -- ---- a rule behind a word, and one more behind another that may be left out
 
@@ -210,7 +210,7 @@ module _ (text : List ℕ) (n : ℕ) (term : Reader placed.Term) (P N : Part pla
   exact_if : IsExact (depth n false) (depth n false) [] (if_rule text P Q) (if_rule text N M) (if_at text n term rule)
   unfolding if_rule if_at else_at
   exact_if = exact_frame n If EndIf (refl, refl, refl) (two_more Else) refl (if_body text P Q) (if_body text N M) (has_then P (past (Word Then) Q then optional (past (Word Else) Q)) some (has_two Then Else))
-      (pair_of term (pair_of (past_of (Word Then) rule) (option_of (Word Else ∷ []) (past_of (Word Else) rule)))) exact_if_body (λ r. placed.If r.0 r.1.0 (branch r.1.1))
+      (pair_of term (pair_of (past_of (Word Then) rule) (option_of (Word Else ∷ []) (past_of (Word Else) rule)))) exact_if_body (λ r. source.If r.0 r.1.0 (branch r.1.1))
 
   exact_let_body : (m : ℕ) → n ≡ suc m → IsExact (depth m false) (depth m false) rule_more (let_body text P Q) (let_body text N M) (pair_of (name_at text) (pair_of (past_of (Symbol Equal) term) (past_of (Word In) rule)))
   exact_let_body m e = exact_pair (depth m false) (depth m false) (depth m false) [] rule_more (name text) (name text) (past (Symbol Equal) P then past (Word In) Q) (past (Symbol Equal) N then past (Word In) M)
@@ -224,7 +224,7 @@ module _ (text : List ℕ) (n : ℕ) (term : Reader placed.Term) (P N : Part pla
   unfolding let_rule let_at
   exact_let = exact_frame n Let EndLet (refl, refl, refl) rule_more refl (let_body text P Q) (let_body text N M)
       (has_then (name text) (past (Symbol Equal) P then past (Word In) Q) (has_name text) (has_then (past (Symbol Equal) P) (past (Word In) Q) (has_past (Symbol Equal) P some) (has_past (Word In) Q has)))
-      (pair_of (name_at text) (pair_of (past_of (Symbol Equal) term) (past_of (Word In) rule))) exact_let_body (λ r. placed.Let r.0 r.1.0 r.1.1)
+      (pair_of (name_at text) (pair_of (past_of (Symbol Equal) term) (past_of (Word In) rule))) exact_let_body (λ r. source.Let r.0 r.1.0 r.1.1)
 
   -- ---- a binding and a condition, and what stands behind `do`
 
@@ -247,7 +247,7 @@ module _ (text : List ℕ) (n : ℕ) (term : Reader placed.Term) (P N : Part pla
   unfolding forall_rule forall_at
   exact_forall = exact_frame n Forall EndForall (refl, refl, refl) rule_more refl (forall_body text P Q) (forall_body text N M) (has_bound rule_more (past (Word Do) Q) (past (Word Do) M) (has_past (Word Do) Q has) (past_of (Word Do) rule))
       (pair_of (binding_at text) (pair_of (condition_at term) (past_of (Word Do) rule)))
-      (λ m e. exact_bound rule_more (past (Word Do) Q) (past (Word Do) M) (has_past (Word Do) Q has) (past_of (Word Do) rule) (begins_past (Word Do) M) m e (exact_behind Do (refl, refl, refl) m e)) (λ r. placed.Forall r.0.0 r.0.1 r.1.0 r.1.1)
+      (λ m e. exact_bound rule_more (past (Word Do) Q) (past (Word Do) M) (has_past (Word Do) Q has) (past_of (Word Do) rule) (begins_past (Word Do) M) m e (exact_behind Do (refl, refl, refl) m e)) (λ r. source.Forall r.0.0 r.0.1 r.1.0 r.1.1)
 
   exact_choose : IsExact (depth n false) (depth n false) [] (choose_rule text P Q) (choose_rule text N M) (choose_at text n term rule)
   unfolding choose_rule choose_at if_none_at
@@ -255,14 +255,14 @@ module _ (text : List ℕ) (n : ℕ) (term : Reader placed.Term) (P N : Part pla
       (has_bound (two_more IfNone) (past (Word Do) Q then optional (past (Word IfNone) Q)) (past (Word Do) M then optional (past (Word IfNone) M)) (has_two Do IfNone) done_at)
       (pair_of (binding_at text) (pair_of (condition_at term) done_at))
       (λ m e. exact_bound (two_more IfNone) (past (Word Do) Q then optional (past (Word IfNone) Q)) (past (Word Do) M then optional (past (Word IfNone) M)) (has_two Do IfNone) done_at (begins_two Do IfNone) m e
-      (exact_two Do IfNone (refl, refl, refl) (refl, refl, refl) refl refl m e)) (λ r. placed.Choose r.0.0 r.0.1 r.1.0 r.1.1.0 (branch r.1.1.1))
+      (exact_two Do IfNone (refl, refl, refl) (refl, refl, refl) refl refl m e)) (λ r. source.Choose r.0.0 r.0.1 r.1.0 r.1.1.0 (branch r.1.1.1))
     where
-      done_at : Reader (placed.Rule × Option placed.Rule)
+      done_at : Reader (source.Rule × Option source.Rule)
       done_at = pair_of (past_of (Word Do) rule) (option_of (Word IfNone ∷ []) (past_of (Word IfNone) rule))
 
   -- ---- one rule or another
 
-  exact_both : (ks js : List Kind) (B C D E : Part placed.Rule) → Begins ks C → Begins js E → apart js ks ≡ true → (f h : Reader placed.Rule) → IsExact (depth n false) (depth n false) [] B C f → IsExact (depth n false) (depth n false) [] D E h
+  exact_both : (ks js : List Kind) (B C D E : Part source.Rule) → Begins ks C → Begins js E → apart js ks ≡ true → (f h : Reader source.Rule) → IsExact (depth n false) (depth n false) [] B C f → IsExact (depth n false) (depth n false) [] D E h
       → IsExact (depth n false) (depth n false) [] (B or D) (C or E) (either_of ks f h)
   exact_both ks js B C D E b d differ f h i j = exact_or (depth n false) (depth n false) [] [] [] ks js B D C E b d differ refl refl f h i j
 
@@ -275,17 +275,17 @@ module _ (text : List ℕ) (n : ℕ) (term : Reader placed.Term) (P N : Part pla
       (exact_both (Word Forall ∷ []) choose_first (forall_rule text P Q) (forall_rule text N M) (from_choose text P Q) (from_choose text N M) (begins_forall text N M) (begins_from_choose text N M) refl (forall_at text n term rule) choose_on exact_forall
       (exact_both (Word Choose ∷ []) (Word Iterate ∷ []) (choose_rule text P Q) (choose_rule text N M) (iterate_rule text P Q) (iterate_rule text N M) (begins_choose text N M) (begins_iterate text N M) refl (choose_at text n term rule) (iterate_at text n term rule) exact_choose exact_iterate)))))
     where
-      choose_on : Reader placed.Rule
+      choose_on : Reader source.Rule
       choose_on = either_of (Word Choose ∷ []) (choose_at text n term rule) (iterate_at text n term rule)
 
-      forall_on : Reader placed.Rule
+      forall_on : Reader source.Rule
       forall_on = either_of (Word Forall ∷ []) (forall_at text n term rule) choose_on
 
-      let_on : Reader placed.Rule
+      let_on : Reader source.Rule
       let_on = either_of (Word Let ∷ []) (let_at text n term rule) forall_on
 
-      if_on : Reader placed.Rule
+      if_on : Reader source.Rule
       if_on = either_of (Word If ∷ []) (if_at text n term rule) let_on
 
-      seq_on : Reader placed.Rule
+      seq_on : Reader source.Rule
       seq_on = either_of (Word Seq ∷ []) (seq_at text n term rule) if_on

@@ -2,7 +2,7 @@
 use Rattle.std.proofs.Common.{◌≡◌, ℕ, Bool, true, false, List, [], refl}
 use Rattle.asm_state.specs.declared.operation.Op.{Op}
 use Rattle.asm_syntax.specs.declared.token.Kind.{Kind}
-use Rattle.asm_syntax.specs.Placed as placed
+use Rattle.asm_syntax.specs.SourceTree as source
 use Rattle.asm_reader.specs.Kinds.{keys}
 use Rattle.asm_reader.specs.Parts.{Part, ◌then◌, repeated, choice}
 use Rattle.asm_reader.specs.Steps.{Reader, pair_of, repeated_of, choice_at}
@@ -16,17 +16,17 @@ use Rattle.asm_reader.proofs.Choices.{PlainRows, exact_choice, begins_choice}
 use Rattle.asm_reader.proofs.Wider.{Includes, same_part, wider_then, wider_repeated, wider_makes}
 
 -- an operator, and what it takes
-abbrev pub link : List (Kind × Op) → Part placed.Term → Part (Op × placed.Term)
+abbrev pub link : List (Kind × Op) → Part source.Term → Part (Op × source.Term)
 link table X = choice table then X
 
-abbrev pub link_of : List (Kind × Op) → Reader placed.Term → Reader (Op × placed.Term)
+abbrev pub link_of : List (Kind × Op) → Reader source.Term → Reader (Op × source.Term)
 link_of table f = pair_of (choice_at table) f
 
 module _ (n : ℕ) (table : List (Kind × Op)) (has : HasText (choice table)) (rows : PlainRows table) where
-  pub begins_link : (X : Part placed.Term) → Begins (keys table) (link table X)
+  pub begins_link : (X : Part source.Term) → Begins (keys table) (link table X)
   begins_link X = begins_then (keys table) (choice table) X (begins_choice n false table has rows)
 
-  module _ (less : List Kind) (P N : Part placed.Term) (some : HasText P) (f : Reader placed.Term) (exact : (q : Bool) → IsExact (depth n q) (depth n false) less P N f) where
+  module _ (less : List Kind) (P N : Part source.Term) (some : HasText P) (f : Reader source.Term) (exact : (q : Bool) → IsExact (depth n q) (depth n false) less P N f) where
     pub exact_link : IsExact (depth n false) (depth n false) less (link table P) (link table N) (link_of table f)
     exact_link = exact_pair (depth n false) (depth n false) (depth n false) [] less (choice table) (choice table) P N (ends_none less N) some (choice_at table) f (exact_choice n false table has rows) (exact false)
 
@@ -40,15 +40,15 @@ module _ (n : ℕ) (table : List (Kind × Op)) (has : HasText (choice table)) (r
         ([], [], refl) f (repeated_of (keys table) (link_of table f)) (exact q)
         (exact_repeated (depth n false) less more (keys table) (link table P) (link table N) (begins_link P) (begins_link N) in_more in_table differ (link_of table f) exact_link))
 
-pub begins_chain : (table : List (Kind × Op)) (ks : List Kind) (X : Part placed.Term) → Begins ks X → Begins ks (chain table X)
+pub begins_chain : (table : List (Kind × Op)) (ks : List Kind) (X : Part source.Term) → Begins ks X → Begins ks (chain table X)
 begins_chain table ks X b = begins_makes ks (X then repeated (link table X)) chain_of (begins_then ks X (repeated (link table X)) b)
 
-pub has_chain : (table : List (Kind × Op)) (X : Part placed.Term) → HasText X → HasText (chain table X)
+pub has_chain : (table : List (Kind × Op)) (X : Part source.Term) → HasText X → HasText (chain table X)
 has_chain table X some = has_makes (X then repeated (link table X)) chain_of (has_then X (repeated (link table X)) some ([], [], refl))
 
-pub wider_link : (table : List (Kind × Op)) (X Y : Part placed.Term) → Includes X Y → Includes (link table X) (link table Y)
+pub wider_link : (table : List (Kind × Op)) (X Y : Part source.Term) → Includes X Y → Includes (link table X) (link table Y)
 wider_link table X Y h = wider_then (choice table) (choice table) X Y (same_part (choice table)) h
 
-pub wider_chain : (table : List (Kind × Op)) (X Y : Part placed.Term) → Includes X Y → Includes (chain table X) (chain table Y)
+pub wider_chain : (table : List (Kind × Op)) (X Y : Part source.Term) → Includes X Y → Includes (chain table X) (chain table Y)
 wider_chain table X Y h = wider_makes (X then repeated (link table X)) (Y then repeated (link table Y)) chain_of
     (wider_then X Y (repeated (link table X)) (repeated (link table Y)) h (wider_repeated (link table X) (link table Y) (wider_link table X Y h)))

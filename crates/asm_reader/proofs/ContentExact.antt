@@ -7,7 +7,7 @@ use Rattle.asm_syntax.specs.declared.token.Symbol.TheVariants.{Open, Close, Open
 use Rattle.asm_syntax.specs.declared.token.Word.TheVariants.{Initially, True, False, Undef}
 use Rattle.asm_syntax.specs.declared.token.Token.{Token}
 use Rattle.asm_syntax.specs.declared.term.Literal.TheVariants as literal
-use Rattle.asm_syntax.specs.Placed as placed
+use Rattle.asm_syntax.specs.SourceTree as source
 use Rattle.asm_reader.specs.Kinds.{keys}
 use Rattle.asm_reader.specs.Levels.{opens, after_token}
 use Rattle.asm_reader.specs.Parts.{Part, ◌then◌, ◌or◌, optional, ◌makes◌, number, negative_number, choice, past, separated, enclosed, between}
@@ -61,15 +61,15 @@ exact_int n q = exact_or (depth n q) (depth n false) [] [] [] (Symbol Minus ∷ 
 
 -- ---- constants
 
-abbrev a_number : WholeNumber → placed.Const
-a_number n = placed.Plain (literal.Number n)
+abbrev a_number : WholeNumber → source.Const
+a_number n = source.Plain (literal.Number n)
 
 -- "true" | "false" | "undef"
-abbrev of_table : Part placed.Const
-of_table = choice constants makes placed.Plain
+abbrev of_table : Part source.Const
+of_table = choice constants makes source.Plain
 
 begins_of_table : Begins (keys constants) of_table
-begins_of_table = begins_makes (keys constants) (choice constants) placed.Plain (begins_choice 0 false constants has_constant constants_plain)
+begins_of_table = begins_makes (keys constants) (choice constants) source.Plain (begins_choice 0 false constants has_constant constants_plain)
 
 -- ---- behind a token that opens a level, for an entry and for parameters
 
@@ -84,11 +84,11 @@ left : (n m : ℕ) (t : Token) → t.kind ≡ Symbol Close → n ≡ suc m → a
 left n m t k e = rw (k, e) refl
 
 module _ (text : List ℕ) where
-  abbrev element : Part placed.Const
-  element = name text makes placed.Element
+  abbrev element : Part source.Const
+  element = name text makes source.Element
 
   begins_element : Begins (Name ∷ []) element
-  begins_element = begins_makes (Name ∷ []) (name text) placed.Element (begins_name text)
+  begins_element = begins_makes (Name ∷ []) (name text) source.Element (begins_name text)
 
   begins_word : Begins word_first (of_table or element)
   begins_word = begins_or (keys constants) (Name ∷ []) word_first of_table element begins_of_table begins_element refl refl
@@ -104,16 +104,16 @@ module _ (text : List ℕ) where
   pub exact_constant : (n : ℕ) (q : Bool) → IsExact (depth n q) (depth n false) [] (g.constant text) (g.constant text) (r.constant_at text)
   unfolding g.constant r.constant_at
   exact_constant n q = exact_or (depth n q) (depth n false) [] [] [] number_first word_first (g.int makes a_number) (of_table or element) (g.int makes a_number) (of_table or element) (begins_makes number_first g.int a_number begins_int) begins_word refl refl refl
-      (mapped a_number r.int_at) (either_of (keys constants) (mapped placed.Plain (choice_at constants)) (mapped placed.Element (name_at text)))
+      (mapped a_number r.int_at) (either_of (keys constants) (mapped source.Plain (choice_at constants)) (mapped source.Element (name_at text)))
       (exact_makes (depth n q) (depth n false) [] g.int g.int a_number r.int_at (exact_int n q))
       (exact_or (depth n q) (depth n false) [] [] [] (keys constants) (Name ∷ []) of_table element of_table element begins_of_table begins_element refl refl refl
-      (mapped placed.Plain (choice_at constants)) (mapped placed.Element (name_at text))
-      (exact_makes (depth n q) (depth n false) [] (choice constants) (choice constants) placed.Plain (choice_at constants) (exact_choice n q constants has_constant constants_plain))
-      (exact_makes (depth n q) (depth n false) [] (name text) (name text) placed.Element (name_at text) (exact_name text n q)))
+      (mapped source.Plain (choice_at constants)) (mapped source.Element (name_at text))
+      (exact_makes (depth n q) (depth n false) [] (choice constants) (choice constants) source.Plain (choice_at constants) (exact_choice n q constants has_constant constants_plain))
+      (exact_makes (depth n q) (depth n false) [] (name text) (name text) source.Element (name_at text) (exact_name text n q)))
 
   -- ---- names with tokens between them
 
-  abbrev pub names : Kind → Part (List placed.Name)
+  abbrev pub names : Kind → Part (List source.Name)
   names k = separated k (name text)
 
   exact_names : (n : ℕ) (q : Bool) (k : Kind) → IsSingle k → IsPlain k → IsExact (depth n q) (depth n false) (k ∷ []) (names k) (names k) (r.names_at text k)
@@ -124,60 +124,60 @@ module _ (text : List ℕ) where
 
   -- ---- entries and tables
 
-  abbrev given_constants : Part (List placed.Const)
+  abbrev given_constants : Part (List source.Const)
   given_constants = separated (Symbol Comma) (g.constant text)
 
-  abbrev at_place : Part (Token × List placed.Const)
-  at_place = enclosed (Symbol Open) (Symbol Close) given_constants
+  abbrev at_offset : Part (Token × List source.Const)
+  at_offset = enclosed (Symbol Open) (Symbol Close) given_constants
 
-  abbrev value : Part placed.Const
+  abbrev value : Part source.Const
   value = past (Symbol Arrow) (g.constant text)
 
-  abbrev entry_made : (Token × List placed.Const) × placed.Const → placed.Entry
+  abbrev entry_made : (Token × List source.Const) × source.Const → source.Entry
   entry_made v = record { at = v.0.0.start; arguments = v.0.1; value = v.1 }
 
   pub begins_entry : Begins (Symbol Open ∷ []) (g.entry text)
   unfolding g.entry
-  begins_entry = begins_makes (Symbol Open ∷ []) (at_place then value) entry_made (begins_then (Symbol Open ∷ []) at_place value (begins_enclosed (Symbol Open) (Symbol Close) given_constants))
+  begins_entry = begins_makes (Symbol Open ∷ []) (at_offset then value) entry_made (begins_then (Symbol Open ∷ []) at_offset value (begins_enclosed (Symbol Open) (Symbol Close) given_constants))
 
   has_given : HasText given_constants
   has_given = has_separated (Symbol Comma) (g.constant text) has_a_constant
 
   has_entry : HasText (g.entry text)
   unfolding g.entry
-  has_entry = has_makes (at_place then value) entry_made (has_then at_place value (has_enclosed (Symbol Open) (Symbol Close) given_constants has_given) (has_past (Symbol Arrow) (g.constant text) has_a_constant))
+  has_entry = has_makes (at_offset then value) entry_made (has_then at_offset value (has_enclosed (Symbol Open) (Symbol Close) given_constants has_given) (has_past (Symbol Arrow) (g.constant text) has_a_constant))
 
-  abbrev entries : Part (List placed.Entry)
+  abbrev entries : Part (List source.Entry)
   entries = separated (Symbol Comma) (g.entry text)
 
-  abbrev braced_entries : Part (List placed.Entry)
+  abbrev braced_entries : Part (List source.Entry)
   braced_entries = between (Symbol OpenBrace) (Symbol CloseBrace) entries
 
-  begins_entries : Begins (Symbol OpenBrace ∷ []) (braced_entries makes placed.Entries)
-  begins_entries = begins_makes (Symbol OpenBrace ∷ []) braced_entries placed.Entries (begins_between (Symbol OpenBrace) (Symbol CloseBrace) entries)
+  begins_entries : Begins (Symbol OpenBrace ∷ []) (braced_entries makes source.Entries)
+  begins_entries = begins_makes (Symbol OpenBrace ∷ []) braced_entries source.Entries (begins_between (Symbol OpenBrace) (Symbol CloseBrace) entries)
 
-  begins_each : Begins constant_first (g.constant text makes placed.Each)
-  begins_each = begins_makes constant_first (g.constant text) placed.Each begins_constant
+  begins_each : Begins constant_first (g.constant text makes source.Each)
+  begins_each = begins_makes constant_first (g.constant text) source.Each begins_constant
 
   has_table : HasText (g.table text)
   unfolding g.table
-  has_table = let one = has_makes (g.constant text) placed.Each has_a_constant in (one.0, one.1, inr one.2)
+  has_table = let one = has_makes (g.constant text) source.Each has_a_constant in (one.0, one.1, inr one.2)
 
-  abbrev pub initial : Part (Option placed.Given)
+  abbrev pub initial : Part (Option source.Given)
   initial = optional (past (Word Initially) (g.table text))
 
   -- ---- types
 
-  abbrev codomain : Part (Option placed.Name)
+  abbrev codomain : Part (Option source.Name)
   codomain = optional (past (Symbol Arrow) (name text))
 
-  abbrev only_codomain : placed.Name → List placed.Name × Option placed.Name
+  abbrev only_codomain : source.Name → List source.Name × Option source.Name
   only_codomain x = ([], Some x)
 
-  abbrev constant_type : Part (List placed.Name × Option placed.Name)
+  abbrev constant_type : Part (List source.Name × Option source.Name)
   constant_type = past (Symbol Arrow) (name text) makes only_codomain
 
-  abbrev type_of_names : Part (List placed.Name × Option placed.Name)
+  abbrev type_of_names : Part (List source.Name × Option source.Name)
   type_of_names = names (Symbol Times) then codomain
 
   begins_constant_type : Begins (Symbol Arrow ∷ []) constant_type
@@ -197,11 +197,11 @@ module _ (text : List ℕ) where
   unfolding g.signature
   has_signature = has_makes (optional (past (Symbol Colon) (g.type text))) typed ([], None, refl)
 
-  abbrev in_parentheses : Part (List placed.Name)
+  abbrev in_parentheses : Part (List source.Name)
   in_parentheses = between (Symbol Open) (Symbol Close) (names (Symbol Comma))
 
   -- the names of an enumeration
-  abbrev pub elements : Part (List placed.Name)
+  abbrev pub elements : Part (List source.Name)
   elements = between (Symbol OpenBrace) (Symbol CloseBrace) (names (Symbol Comma))
 
   pub has_elements : HasText elements
@@ -216,14 +216,14 @@ module _ (text : List ℕ) where
     exact_given : (m : ℕ) → n ≡ suc m → IsExact (depth m true) (depth m false) (Symbol Comma ∷ []) given_constants given_constants (r.constants_at text)
     exact_given m e = exact_separated m true [] (Symbol Comma ∷ []) (Symbol Comma) (alike_symbol Comma) (refl, refl, refl) refl refl refl (g.constant text) (g.constant text) has_a_constant (r.constant_at text) (exact_constant m true) (exact_constant m false)
 
-    exact_at_place : IsExact (depth n false) (depth n false) [] at_place at_place (enclosed_of n (Symbol Open) (Symbol Close) (r.constants_at text))
-    exact_at_place = exact_enclosed n false true (Symbol Open) (Symbol Close) (alike_symbol Open) (alike_symbol Close) opened (entered n) (left n) (Symbol Comma ∷ []) refl given_constants given_constants has_given (r.constants_at text) exact_given
+    exact_at_offset : IsExact (depth n false) (depth n false) [] at_offset at_offset (enclosed_of n (Symbol Open) (Symbol Close) (r.constants_at text))
+    exact_at_offset = exact_enclosed n false true (Symbol Open) (Symbol Close) (alike_symbol Open) (alike_symbol Close) opened (entered n) (left n) (Symbol Comma ∷ []) refl given_constants given_constants has_given (r.constants_at text) exact_given
 
     pub exact_entry : IsExact (depth n false) (depth n false) [] (g.entry text) (g.entry text) (r.entry_at text n)
     unfolding g.entry r.entry_at
-    exact_entry = exact_makes (depth n false) (depth n false) [] (at_place then value) (at_place then value) entry_made (pair_of (enclosed_of n (Symbol Open) (Symbol Close) (r.constants_at text)) (past_of (Symbol Arrow) (r.constant_at text)))
-        (exact_pair (depth n false) (depth n false) (depth n false) [] [] at_place at_place value value (ends_none [] value) (has_past (Symbol Arrow) (g.constant text) has_a_constant)
-        (enclosed_of n (Symbol Open) (Symbol Close) (r.constants_at text)) (past_of (Symbol Arrow) (r.constant_at text)) exact_at_place
+    exact_entry = exact_makes (depth n false) (depth n false) [] (at_offset then value) (at_offset then value) entry_made (pair_of (enclosed_of n (Symbol Open) (Symbol Close) (r.constants_at text)) (past_of (Symbol Arrow) (r.constant_at text)))
+        (exact_pair (depth n false) (depth n false) (depth n false) [] [] at_offset at_offset value value (ends_none [] value) (has_past (Symbol Arrow) (g.constant text) has_a_constant)
+        (enclosed_of n (Symbol Open) (Symbol Close) (r.constants_at text)) (past_of (Symbol Arrow) (r.constant_at text)) exact_at_offset
         (exact_past n false (depth n false) [] (Symbol Arrow) (alike_symbol Arrow) (refl, refl, refl) (g.constant text) (g.constant text) has_a_constant (r.constant_at text) (exact_constant n false)))
 
     exact_entries : IsExact (depth n false) (depth n false) (Symbol Comma ∷ []) entries entries (r.entries_at text n)
@@ -236,10 +236,10 @@ module _ (text : List ℕ) where
 
     exact_table : IsExact (depth n false) (depth n false) [] (g.table text) (g.table text) (r.table_at text n)
     unfolding g.table r.table_at
-    exact_table = exact_or (depth n false) (depth n false) [] [] [] (Symbol OpenBrace ∷ []) constant_first (braced_entries makes placed.Entries) (g.constant text makes placed.Each) (braced_entries makes placed.Entries) (g.constant text makes placed.Each) begins_entries begins_each refl refl refl
-        (mapped placed.Entries (r.braced_entries_at text n)) (mapped placed.Each (r.constant_at text))
-        (exact_makes (depth n false) (depth n false) [] braced_entries braced_entries placed.Entries (r.braced_entries_at text n) exact_braced_entries)
-        (exact_makes (depth n false) (depth n false) [] (g.constant text) (g.constant text) placed.Each (r.constant_at text) (exact_constant n false))
+    exact_table = exact_or (depth n false) (depth n false) [] [] [] (Symbol OpenBrace ∷ []) constant_first (braced_entries makes source.Entries) (g.constant text makes source.Each) (braced_entries makes source.Entries) (g.constant text makes source.Each) begins_entries begins_each refl refl refl
+        (mapped source.Entries (r.braced_entries_at text n)) (mapped source.Each (r.constant_at text))
+        (exact_makes (depth n false) (depth n false) [] braced_entries braced_entries source.Entries (r.braced_entries_at text n) exact_braced_entries)
+        (exact_makes (depth n false) (depth n false) [] (g.constant text) (g.constant text) source.Each (r.constant_at text) (exact_constant n false))
 
     pub exact_initially : IsExact (depth n false) (depth n false) (Word Initially ∷ []) initial initial (r.initially_at text n)
     unfolding r.initially_at

@@ -8,7 +8,7 @@ use Rattle.asm_syntax.specs.declared.token.Kind.TheVariants.{Symbol, Word}
 use Rattle.asm_syntax.specs.declared.token.Symbol.TheVariants as symbols
 use Rattle.asm_syntax.specs.declared.token.Word.TheVariants as words
 use Rattle.asm_syntax.specs.declared.token.Token.{Token}
-use Rattle.asm_syntax.specs.Placed as placed
+use Rattle.asm_syntax.specs.SourceTree as source
 use Rattle.asm_reader.specs.declared.error.ReadError.TheVariants.{Unexpected, UnexpectedEnd, TooDeep}
 use Rattle.asm_reader.specs.declared.script_error.ScriptError.TheVariants.{BadLine, Repeated, TooLong}
 use Rattle.asm_reader.specs.ScriptLines.{Line, Script, pick}
@@ -25,13 +25,13 @@ use Rattle.asm_reader.proofs.EachText.{answers}
 -- ---- lines of scripts
 
 abbrev line : ℕ → List ℕ → ℕ → Line
-line i p k = record { step = i; place = p; choice = k }
+line i p k = record { step = i; offset = p; choice = k }
 
 three_fields : line_of (codes "12 0.3 7") ≡ Some (line 12 (0 ∷ 3 ∷ []) 7)
 three_fields = refl
 
-no_number_in_the_place : line_of (codes "1 - 0") ≡ Some (line 1 [] 0)
-no_number_in_the_place = refl
+no_number_in_the_path : line_of (codes "1 - 0") ≡ Some (line 1 [] 0)
+no_number_in_the_path = refl
 
 zeros_change_nothing : line_of (codes "01 00.1 007") ≡ Some (line 1 (0 ∷ 1 ∷ []) 7)
 zeros_change_nothing = refl
@@ -65,11 +65,11 @@ four_lines = line 1 (0 ∷ 0 ∷ []) 4 ∷ line 1 (3 ∷ 0 ∷ []) 2 ∷ line 1 
 good_script : IsScript text_of_four four_lines
 good_script = script_answers text_of_four (Ok four_lines) refl
 
-at_a_step_and_place : pick four_lines 1 (3 ∷ 0 ∷ []) ≡ 2
-at_a_step_and_place = refl
+at_a_step_and_path : pick four_lines 1 (3 ∷ 0 ∷ []) ≡ 2
+at_a_step_and_path = refl
 
-at_a_place_of_another_step : pick four_lines 2 (1 ∷ 1 ∷ []) ≡ 0
-at_a_place_of_another_step = refl
+at_a_path_of_another_step : pick four_lines 2 (1 ∷ 1 ∷ []) ≡ 0
+at_a_path_of_another_step = refl
 
 no_line : IsScript (codes "") []
 no_line = script_answers (codes "") (Ok []) refl
@@ -92,7 +92,7 @@ two_returns = script_answers (codes "1 - 1\r\n\r\r\n") (Err (BadLine 2)) refl
 script_too_long : (text : List ℕ) → 1_048_576 < length text → IsScriptRefusal text TooLong
 script_too_long text long = long
 
--- ---- tokens of specifications: `CoreASM T rule M =`, and a body from the place 19 on
+-- ---- tokens of specifications: `CoreASM T rule M =`, and a body from the offset 19 on
 
 abbrev token : Kind → ℕ → ℕ → Token
 token k i j = record { kind = k; start = i; end = j }
@@ -101,20 +101,20 @@ abbrev with_body : List Token → List Token
 with_body body =
     token (Word words.CoreAsm) 0 7 ∷ token kind.Name 8 9 ∷ token (Word words.Rule) 10 14 ∷ token kind.Name 15 16 ∷ token (Symbol symbols.Equal) 17 18 ∷ body
 
-abbrev name : ℕ → List ℕ → placed.Name
+abbrev name : ℕ → List ℕ → source.Name
 name i text = record { at = i; text = text }
 
-abbrev spec_with : placed.Rule → ℕ → placed.Spec
-spec_with body n = record { name = name 8 (codes "T"); items = placed.Declared (name 15 (codes "M")) [] body ∷ []; length = n }
+abbrev spec_with : source.Rule → ℕ → source.Spec
+spec_with body n = record { name = name 8 (codes "T"); items = source.Declared (name 15 (codes "M")) [] body ∷ []; length = n }
 
-abbrev named : ℕ → List ℕ → placed.Term
-named i x = placed.Named (name i x) placed.no_terms
+abbrev named : ℕ → List ℕ → source.Term
+named i x = source.Named (name i x) source.no_terms
 
 -- a name of one letter
 abbrev variable : ℕ → Token
 variable i = token kind.Name i (i + 1)
 
--- so many `par`, from a place on
+-- so many `par`, from an offset on
 abbrev pars : ℕ → ℕ → List Token → List Token
 pars zero at more = more
 pars (suc n) at more = token (Word words.Par) at (at + 3) ∷ pars n (at + 4) more
@@ -124,15 +124,15 @@ text_with body = codes "CoreASM T rule M = " ++ body
 
 record Trees : Type 0 where
   header_alone : AreSpelling (codes "CoreASM T") (token (Word words.CoreAsm) 0 7 ∷ token kind.Name 8 9 ∷ []) (record { name = name 8 (codes "T"); items = []; length = 9 })
-  word : AreSpelling (text_with (codes "skip")) (with_body (token (Word words.Skip) 19 23 ∷ [])) (spec_with placed.Skip 23)
+  word : AreSpelling (text_with (codes "skip")) (with_body (token (Word words.Skip) 19 23 ∷ [])) (spec_with source.Skip 23)
   from_the_left : AreSpelling (text_with (codes "x := a - b - c")) (with_body (variable 19 ∷ token (Symbol symbols.Assign) 21 23 ∷ variable 24 ∷ token (Symbol symbols.Minus) 26 27 ∷ variable 28 ∷ token (Symbol symbols.Minus) 30 31 ∷ variable 32 ∷ []))
-      (spec_with (placed.Assign (name 19 (codes "x")) placed.no_terms (placed.Chain (named 24 (codes "a")) (placed.link_then Subtract (named 28 (codes "b")) (placed.link_then Subtract (named 32 (codes "c")) placed.no_links)))) 33)
+      (spec_with (source.Assign (name 19 (codes "x")) source.no_terms (source.Chain (named 24 (codes "a")) (source.link_then Subtract (named 28 (codes "b")) (source.link_then Subtract (named 32 (codes "c")) source.no_links)))) 33)
   product_first : AreSpelling (text_with (codes "x := a + b * c")) (with_body (variable 19 ∷ token (Symbol symbols.Assign) 21 23 ∷ variable 24 ∷ token (Symbol symbols.Plus) 26 27 ∷ variable 28 ∷ token (Symbol symbols.Times) 30 31 ∷ variable 32 ∷ []))
-      (spec_with (placed.Assign (name 19 (codes "x")) placed.no_terms (placed.Chain (named 24 (codes "a")) (placed.link_then Add (placed.Chain (named 28 (codes "b")) (placed.link_then Multiply (named 32 (codes "c")) placed.no_links)) placed.no_links))) 33)
+      (spec_with (source.Assign (name 19 (codes "x")) source.no_terms (source.Chain (named 24 (codes "a")) (source.link_then Add (source.Chain (named 28 (codes "b")) (source.link_then Multiply (named 32 (codes "c")) source.no_links)) source.no_links))) 33)
   parentheses_make_no_node : AreSpelling (text_with (codes "x := ( a )")) (with_body (variable 19 ∷ token (Symbol symbols.Assign) 21 23 ∷ token (Symbol symbols.Open) 24 25 ∷ variable 26 ∷ token (Symbol symbols.Close) 28 29 ∷ []))
-      (spec_with (placed.Assign (name 19 (codes "x")) placed.no_terms (named 26 (codes "a"))) 29)
+      (spec_with (source.Assign (name 19 (codes "x")) source.no_terms (named 26 (codes "a"))) 29)
   followed_by_its_arguments : AreSpelling (text_with (codes "r ( a )")) (with_body (variable 19 ∷ token (Symbol symbols.Open) 21 22 ∷ variable 23 ∷ token (Symbol symbols.Close) 25 26 ∷ []))
-      (spec_with (placed.Call (name 19 (codes "r")) (placed.term_then (named 23 (codes "a")) placed.no_terms)) 26)
+      (spec_with (source.Call (name 19 (codes "r")) (source.term_then (named 23 (codes "a")) source.no_terms)) 26)
 
 trees : Trees
 unfolding specification_at item_at declared_at parameters_at turns name_at rule_at rule_over_at skip_at named_rule_at applied_at arguments_at term_at disjunction_at conjunction_at negation_at comparison_at sum_at product_at factor_at primary_at parenthesized_at inner_at

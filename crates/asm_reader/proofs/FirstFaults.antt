@@ -83,11 +83,11 @@ module _ (lines : List (Bor (List ℕ))) (i : ℕ) (d : Bor (List ℕ)) (bytes :
 
   module _ (s : is_skipped bytes ≡ false) (line : Line) (o : line_of bytes ≡ Some line) (script : Script) (says : script ≡ script_in before) where
     -- so is one that repeats another
-    pub repeated_line : list_any (is_line_of line.step line.place) script ≡ true → AreFaultless before → IsFirstFaulty is_repeated (without_returns lines) (i + 1)
+    pub repeated_line : list_any (is_line_of line.step line.path) script ≡ true → AreFaultless before → IsFirstFaulty is_repeated (without_returns lines) (i + 1)
     repeated_line e = first_faulty is_repeated ((λ j. says_again (sym says j) (said (s j) (o j))) ∙ e)
 
     -- and any other has none
-    pub taken_more : list_any (is_line_of line.step line.place) script ≡ false → AreFaultless before → AreFaultless up_to
+    pub taken_more : list_any (is_line_of line.step line.path) script ≡ false → AreFaultless before → AreFaultless up_to
     taken_more e faultless = faultless_more faultless ((λ j. (not (s j) && is_none (o j)) || says_again (sym says j) (said (s j) (o j))) ∙ e)
 
     pub taken_says : script ++ line ∷ [] ≡ script_in up_to

@@ -7,7 +7,7 @@ use Rattle.asm_syntax.specs.declared.token.Symbol.TheVariants.{Open, Colon, Equa
 use Rattle.asm_syntax.specs.declared.token.Word.TheVariants.{CoreAsm, Use, Init, Enum, Universe, Function, Controlled, Static, Initially, Derived, Rule}
 use Rattle.asm_syntax.specs.declared.spec.FunctionKind.{FunctionKind}
 use Rattle.asm_syntax.specs.declared.spec.FunctionKind.TheVariants as function_kind
-use Rattle.asm_syntax.specs.Placed as placed
+use Rattle.asm_syntax.specs.SourceTree as source
 use Rattle.asm_reader.specs.Levels.{Depth}
 use Rattle.asm_reader.specs.Parts.{Part, ◌then◌, ◌or◌, repeated, choice, past}
 use Rattle.asm_reader.specs.Steps.{Reader, pair_of, either_of, repeated_of, choice_at, past_of}
@@ -49,14 +49,14 @@ has_kind = some_choice (Word Controlled) function_kind.Controlled function_kinds
 module _ (text : List ℕ) where
   -- ---- what items are put together from
 
-  abbrev set_elements : Part (List placed.Name)
+  abbrev set_elements : Part (List source.Name)
   set_elements = past (Symbol Equal) (elements text)
 
-  abbrev enum_parts : Part (placed.Name × List placed.Name)
+  abbrev enum_parts : Part (source.Name × List source.Name)
   enum_parts = name text then set_elements
 
-  abbrev enum_made : placed.Name × List placed.Name → placed.Item
-  enum_made v = placed.Enum v.0 v.1
+  abbrev enum_made : source.Name × List source.Name → source.Item
+  enum_made v = source.Enum v.0 v.1
 
   abbrev last_number : Part WholeNumber
   last_number = past (Symbol Dots) g.int
@@ -64,40 +64,40 @@ module _ (text : List ℕ) where
   abbrev set_range : Part (WholeNumber × WholeNumber)
   set_range = past (Symbol Equal) (g.int then last_number)
 
-  abbrev universe_parts : Part (placed.Name × (WholeNumber × WholeNumber))
+  abbrev universe_parts : Part (source.Name × (WholeNumber × WholeNumber))
   universe_parts = name text then set_range
 
-  abbrev universe_made : placed.Name × (WholeNumber × WholeNumber) → placed.Item
-  universe_made v = placed.Universe v.0 v.1.0 v.1.1
+  abbrev universe_made : source.Name × (WholeNumber × WholeNumber) → source.Item
+  universe_made v = source.Universe v.0 v.1.0 v.1.1
 
-  abbrev typed_parts : Part ((List placed.Name × Option placed.Name) × Option placed.Given)
+  abbrev typed_parts : Part ((List source.Name × Option source.Name) × Option source.Given)
   typed_parts = g.signature text then initial text
 
-  abbrev function_parts : Part (FunctionKind × (placed.Name × ((List placed.Name × Option placed.Name) × Option placed.Given)))
+  abbrev function_parts : Part (FunctionKind × (source.Name × ((List source.Name × Option source.Name) × Option source.Given)))
   function_parts = choice function_kinds then (name text then typed_parts)
 
-  abbrev function_made : FunctionKind × (placed.Name × ((List placed.Name × Option placed.Name) × Option placed.Given)) → placed.Item
-  function_made v = placed.Function v.1.0 v.0 v.1.1.0.0 v.1.1.0.1 v.1.1.1
+  abbrev function_made : FunctionKind × (source.Name × ((List source.Name × Option source.Name) × Option source.Given)) → source.Item
+  function_made v = source.Function v.1.0 v.0 v.1.1.0.0 v.1.1.0.1 v.1.1.1
 
   -- the parameters of a derived function or of a rule, and its body
-  abbrev declared_parts : {A : Type 0} → Part A → Part (placed.Name × (List placed.Name × A))
+  abbrev declared_parts : {A : Type 0} → Part A → Part (source.Name × (List source.Name × A))
   declared_parts X = name text then (g.parameters text then past (Symbol Equal) X)
 
-  abbrev derived_made : placed.Name × (List placed.Name × placed.Term) → placed.Item
-  derived_made v = placed.Derived v.0 v.1.0 v.1.1
+  abbrev derived_made : source.Name × (List source.Name × source.Term) → source.Item
+  derived_made v = source.Derived v.0 v.1.0 v.1.1
 
-  abbrev declared_made : placed.Name × (List placed.Name × placed.Rule) → placed.Item
-  declared_made v = placed.Declared v.0 v.1.0 v.1.1
+  abbrev declared_made : source.Name × (List source.Name × source.Rule) → source.Item
+  declared_made v = source.Declared v.0 v.1.0 v.1.1
 
   -- ---- what items begin with
 
   begins_use : Begins (Word Use ∷ []) (g.use_item text)
   unfolding g.use_item
-  begins_use = begins_makes (Word Use ∷ []) (past (Word Use) (name text)) placed.Uses (begins_past (Word Use) (name text))
+  begins_use = begins_makes (Word Use ∷ []) (past (Word Use) (name text)) source.Uses (begins_past (Word Use) (name text))
 
   begins_init : Begins (Word Init ∷ []) (g.init_item text)
   unfolding g.init_item
-  begins_init = begins_makes (Word Init ∷ []) (past (Word Init) (name text)) placed.Init (begins_past (Word Init) (name text))
+  begins_init = begins_makes (Word Init ∷ []) (past (Word Init) (name text)) source.Init (begins_past (Word Init) (name text))
 
   begins_enum : Begins (Word Enum ∷ []) (g.enum_item text)
   unfolding g.enum_item
@@ -111,29 +111,29 @@ module _ (text : List ℕ) where
   unfolding g.function_item
   begins_function = begins_makes (Word Function ∷ []) (past (Word Function) function_parts) function_made (begins_past (Word Function) function_parts)
 
-  begins_derived : (X : Part placed.Term) (S : Part placed.Rule) → Begins (Word Derived ∷ []) (g.derived_item text X S)
+  begins_derived : (X : Part source.Term) (S : Part source.Rule) → Begins (Word Derived ∷ []) (g.derived_item text X S)
   unfolding g.derived_item
   begins_derived X S = begins_makes (Word Derived ∷ []) (past (Word Derived) (declared_parts X)) derived_made (begins_past (Word Derived) (declared_parts X))
 
-  begins_declared : (X : Part placed.Term) (S : Part placed.Rule) → Begins (Word Rule ∷ []) (g.rule_item text X S)
+  begins_declared : (X : Part source.Term) (S : Part source.Rule) → Begins (Word Rule ∷ []) (g.rule_item text X S)
   unfolding g.rule_item
   begins_declared X S = begins_makes (Word Rule ∷ []) (past (Word Rule) (declared_parts S)) declared_made (begins_past (Word Rule) (declared_parts S))
 
   -- the items from one on, in the order of the grammar
-  module _ (X : Part placed.Term) (S : Part placed.Rule) where
-    abbrev from_derived : Part placed.Item
+  module _ (X : Part source.Term) (S : Part source.Rule) where
+    abbrev from_derived : Part source.Item
     from_derived = g.derived_item text X S or g.rule_item text X S
 
-    abbrev from_function : Part placed.Item
+    abbrev from_function : Part source.Item
     from_function = g.function_item text or from_derived
 
-    abbrev from_universe : Part placed.Item
+    abbrev from_universe : Part source.Item
     from_universe = g.universe_item text or from_function
 
-    abbrev from_enum : Part placed.Item
+    abbrev from_enum : Part source.Item
     from_enum = g.enum_item text or from_universe
 
-    abbrev from_init : Part placed.Item
+    abbrev from_init : Part source.Item
     from_init = g.init_item text or from_enum
 
     begins_from_derived : Begins (Word Derived ∷ Word Rule ∷ []) from_derived
@@ -183,12 +183,12 @@ module _ (text : List ℕ) where
 
     exact_use : IsExact d d [] (g.use_item text) (g.use_item text) (r.use_at text)
     unfolding g.use_item r.use_at
-    exact_use = exact_makes d d [] (past (Word Use) (name text)) (past (Word Use) (name text)) placed.Uses (past_of (Word Use) (name_at text))
+    exact_use = exact_makes d d [] (past (Word Use) (name text)) (past (Word Use) (name text)) source.Uses (past_of (Word Use) (name_at text))
         (exact_past n false d [] (Word Use) (alike_word Use) (refl, refl, refl) (name text) (name text) (has_name text) (name_at text) (exact_name text n false))
 
     exact_init : IsExact d d [] (g.init_item text) (g.init_item text) (r.init_at text)
     unfolding g.init_item r.init_at
-    exact_init = exact_makes d d [] (past (Word Init) (name text)) (past (Word Init) (name text)) placed.Init (past_of (Word Init) (name_at text))
+    exact_init = exact_makes d d [] (past (Word Init) (name text)) (past (Word Init) (name text)) source.Init (past_of (Word Init) (name_at text))
         (exact_past n false d [] (Word Init) (alike_word Init) (refl, refl, refl) (name text) (name text) (has_name text) (name_at text) (exact_name text n false))
 
     -- behind the `=` of a declaration
@@ -229,7 +229,7 @@ module _ (text : List ℕ) where
         (exact_choice n false function_kinds has_kind kinds_plain)
         (exact_named function_more typed_parts typed_parts has_typed (pair_of (r.signature_at text) (r.initially_at text n)) exact_typed)))
       where
-        named_on : Reader (placed.Name × ((List placed.Name × Option placed.Name) × Option placed.Given))
+        named_on : Reader (source.Name × ((List source.Name × Option source.Name) × Option source.Given))
         named_on = pair_of (name_at text) (pair_of (r.signature_at text) (r.initially_at text n))
 
         has_named : HasText (name text then typed_parts)
@@ -248,10 +248,10 @@ module _ (text : List ℕ) where
 
     -- ---- terms and rules that nest at most n + 1 levels deep
 
-    abbrev pub term : Part placed.Term
+    abbrev pub term : Part source.Term
     term = term_within text (suc n)
 
-    abbrev pub rule : Part placed.Rule
+    abbrev pub rule : Part source.Rule
     rule = rule_within text (suc n)
 
     exact_term : IsExact d d term_more term (any_term text) (term_at text n)
@@ -280,15 +280,15 @@ module _ (text : List ℕ) where
 
     -- ---- items
 
-    abbrev either_item : Part placed.Item
+    abbrev either_item : Part source.Item
     either_item = g.item text term rule
 
-    abbrev any_item : Part placed.Item
+    abbrev any_item : Part source.Item
     any_item = g.item text (any_term text) (any_rule text)
 
     -- one more kind of item before the others
-    exact_before : (ks js less : List Kind) (P N Q M : Part placed.Item) → Begins ks N → Begins js M → apart js ks ≡ true → within less item_more ≡ true
-        → (f h : Reader placed.Item) → IsExact d d less P N f → IsExact d d item_more Q M h → IsExact d d item_more (P or Q) (N or M) (either_of ks f h)
+    exact_before : (ks js less : List Kind) (P N Q M : Part source.Item) → Begins ks N → Begins js M → apart js ks ≡ true → within less item_more ≡ true
+        → (f h : Reader source.Item) → IsExact d d less P N f → IsExact d d item_more Q M h → IsExact d d item_more (P or Q) (N or M) (either_of ks f h)
     exact_before ks js less P N Q M b c differ u = exact_or d d less item_more item_more ks js P Q N M b c differ u refl
 
     pub exact_item : IsExact d d item_more either_item any_item (r.item_at text n)
@@ -301,25 +301,25 @@ module _ (text : List ℕ) where
         (exact_or d d term_more rule_more item_more (Word Derived ∷ []) (Word Rule ∷ []) (g.derived_item text term rule) (g.rule_item text term rule) (g.derived_item text (any_term text) (any_rule text)) (g.rule_item text (any_term text) (any_rule text))
         (begins_derived (any_term text) (any_rule text)) (begins_declared (any_term text) (any_rule text)) refl refl refl (r.derived_at text n) (r.declared_at text n) exact_derived exact_declared)))))
       where
-        derived_on : Reader placed.Item
+        derived_on : Reader source.Item
         derived_on = either_of (Word Derived ∷ []) (r.derived_at text n) (r.declared_at text n)
 
-        function_on : Reader placed.Item
+        function_on : Reader source.Item
         function_on = either_of (Word Function ∷ []) (r.function_at text n) derived_on
 
-        universe_on : Reader placed.Item
+        universe_on : Reader source.Item
         universe_on = either_of (Word Universe ∷ []) (r.universe_at text) function_on
 
-        enum_on : Reader placed.Item
+        enum_on : Reader source.Item
         enum_on = either_of (Word Enum ∷ []) (r.enum_at text) universe_on
 
-        init_on : Reader placed.Item
+        init_on : Reader source.Item
         init_on = either_of (Word Init ∷ []) (r.init_at text) enum_on
 
     exact_items : IsExact d d items_more (repeated either_item) (repeated any_item) (repeated_of item_starts (r.item_at text n))
     exact_items = exact_repeated d item_more items_more item_starts either_item any_item (begins_item term rule) (begins_item (any_term text) (any_rule text)) refl refl refl (r.item_at text n) exact_item
 
-    abbrev spec_made : placed.Name × List placed.Item → placed.Spec
+    abbrev spec_made : source.Name × List source.Item → source.Spec
     spec_made v = record { name = v.0; items = v.1; length = length text }
 
     -- Where n levels may open, the reader of specifications takes those that nest one level deeper at most, and what it refuses is no specification at any depth.

@@ -3,7 +3,7 @@ use Rattle.std.proofs.Common.{ℕ, suc, List, length, inl, inr}
 use Rattle.asm_syntax.specs.declared.token.Kind.TheVariants.{Symbol, Word}
 use Rattle.asm_syntax.specs.declared.token.Symbol.TheVariants.{Equal}
 use Rattle.asm_syntax.specs.declared.token.Word.TheVariants.{CoreAsm, Derived, Rule}
-use Rattle.asm_syntax.specs.Placed as placed
+use Rattle.asm_syntax.specs.SourceTree as source
 use Rattle.asm_reader.specs.Parts.{Part, ◌then◌, repeated, past}
 use Rattle.asm_reader.specs.TermGrammar.{name, term_within, any_term}
 use Rattle.asm_reader.specs.RuleGrammar.{rule_within, any_rule}
@@ -12,21 +12,21 @@ use Rattle.asm_reader.proofs.Wider.{Includes, same_part, wider_then, wider_repea
 
 module _ (text : List ℕ) where
   -- a name, parameters and a body behind `=`
-  abbrev declared : {A : Type 0} → Part A → Part (placed.Name × (List placed.Name × A))
+  abbrev declared : {A : Type 0} → Part A → Part (source.Name × (List source.Name × A))
   declared X = name text then (g.parameters text then past (Symbol Equal) X)
 
   wider_declared : {A : Type 0} (X Y : Part A) → Includes X Y → Includes (declared X) (declared Y)
   wider_declared X Y h = wider_then (name text) (name text) (g.parameters text then past (Symbol Equal) X) (g.parameters text then past (Symbol Equal) Y) (same_part (name text))
       (wider_then (g.parameters text) (g.parameters text) (past (Symbol Equal) X) (past (Symbol Equal) Y) (same_part (g.parameters text)) (wider_past (Symbol Equal) X Y h))
 
-  module _ (X Y : Part placed.Term) (S T : Part placed.Rule) (h : Includes X Y) (k : Includes S T) where
+  module _ (X Y : Part source.Term) (S T : Part source.Rule) (h : Includes X Y) (k : Includes S T) where
     wider_derived : Includes (g.derived_item text X S) (g.derived_item text Y T)
     unfolding g.derived_item
-    wider_derived = wider_makes (past (Word Derived) (declared X)) (past (Word Derived) (declared Y)) (λ v. placed.Derived v.0 v.1.0 v.1.1) (wider_past (Word Derived) (declared X) (declared Y) (wider_declared X Y h))
+    wider_derived = wider_makes (past (Word Derived) (declared X)) (past (Word Derived) (declared Y)) (λ v. source.Derived v.0 v.1.0 v.1.1) (wider_past (Word Derived) (declared X) (declared Y) (wider_declared X Y h))
 
     wider_rule_item : Includes (g.rule_item text X S) (g.rule_item text Y T)
     unfolding g.rule_item
-    wider_rule_item = wider_makes (past (Word Rule) (declared S)) (past (Word Rule) (declared T)) (λ v. placed.Declared v.0 v.1.0 v.1.1) (wider_past (Word Rule) (declared S) (declared T) (wider_declared S T k))
+    wider_rule_item = wider_makes (past (Word Rule) (declared S)) (past (Word Rule) (declared T)) (λ v. source.Declared v.0 v.1.0 v.1.1) (wider_past (Word Rule) (declared S) (declared T) (wider_declared S T k))
 
     wider_item : Includes (g.item text X S) (g.item text Y T)
     unfolding g.item
@@ -38,7 +38,7 @@ module _ (text : List ℕ) where
     wider_item ts x (inr (inr (inr (inr (inr (inl p)))))) = inr (inr (inr (inr (inr (inl (wider_derived ts x p))))))
     wider_item ts x (inr (inr (inr (inr (inr (inr p)))))) = inr (inr (inr (inr (inr (inr (wider_rule_item ts x p))))))
 
-    abbrev named : Part placed.Item → Part (placed.Name × List placed.Item)
+    abbrev named : Part source.Item → Part (source.Name × List source.Item)
     named I = name text then repeated I
 
     pub wider_specification : Includes (g.specification_over text X S) (g.specification_over text Y T)

@@ -29,7 +29,7 @@ pub mod OneTree
 pub mod Whole
 pub mod Spellings
 pub mod LineLookups
-pub mod Places
+pub mod PathNumbers
 pub mod Fields
 pub mod FirstFaults
 pub mod EachText

@@ -1,4 +1,4 @@
--- Look-ups of a step and a place among the entries that a script keeps, as look-ups among its lines.
+-- Look-ups of a step and a path among the entries that a script keeps, as look-ups among its lines.
 use Rattle.std.proofs.Common.{◌≡◌, ℕ, ◌&&◌, ◌||◌, Bool, true, false, cond, List, [], ◌∷◌, ◌++◌, map, Option, None, Some, is_some, unwrap_or, refl, sym, ap, ◌∙◌, true≢false}
 use Rattle.std.proofs.lemmas.List.{map-append}
 use Rattle.std.specs.Cmp.{nat_eq_equiv}
@@ -11,28 +11,28 @@ use Rattle.asm_reader.specs.declared.script.Spot.{Spot}
 use Rattle.asm_reader.specs.ScriptLines.{is_line_of, pick}
 use Rattle.asm_reader.specs.Spots.{line_at, is_spot}
 
-module _ (step : ℕ) (place : List ℕ) where
+module _ (step : ℕ) (path : List ℕ) where
   abbrev pub is_key : Spot → Bool
-  is_key s = is_spot step place s.step s.place.items
+  is_key s = is_spot step path s.step s.path.items
 
-  is_line_at : (e : Spot × ℕ) → is_line_of step place (line_at e) ≡ is_key e.0
-  is_line_at e j = nat_eq_equiv.symm e.0.step step j && nat_list_eq_equiv.symm e.0.place.items place j
+  is_line_at : (e : Spot × ℕ) → is_line_of step path (line_at e) ≡ is_key e.0
+  is_line_at e j = nat_eq_equiv.symm e.0.step step j && nat_list_eq_equiv.symm e.0.path.items path j
 
-  pub any_line : (es : List (Spot × ℕ)) → list_any (is_line_of step place) (map line_at es) ≡ is_some (lookup is_key es)
+  pub any_line : (es : List (Spot × ℕ)) → list_any (is_line_of step path) (map line_at es) ≡ is_some (lookup is_key es)
   any_line [] = refl
-  any_line (e ∷ es) = ap (λ b. b || list_any (is_line_of step place) (map line_at es)) (is_line_at e) ∙ by (is_key e.0) (any_line es)
+  any_line (e ∷ es) = ap (λ b. b || list_any (is_line_of step path) (map line_at es)) (is_line_at e) ∙ by (is_key e.0) (any_line es)
     where
-      by : (b : Bool) → list_any (is_line_of step place) (map line_at es) ≡ is_some (lookup is_key es)
-          → (b || list_any (is_line_of step place) (map line_at es)) ≡ is_some (cond b (Some e.1) (lookup is_key es))
+      by : (b : Bool) → list_any (is_line_of step path) (map line_at es) ≡ is_some (lookup is_key es)
+          → (b || list_any (is_line_of step path) (map line_at es)) ≡ is_some (cond b (Some e.1) (lookup is_key es))
       by true rest = refl
       by false rest = rest
 
-  pub picked_line : (es : List (Spot × ℕ)) → pick (map line_at es) step place ≡ unwrap_or (lookup is_key es) 0
+  pub picked_line : (es : List (Spot × ℕ)) → pick (map line_at es) step path ≡ unwrap_or (lookup is_key es) 0
   picked_line [] = refl
-  picked_line (e ∷ es) = ap (λ b. cond b e.1 (pick (map line_at es) step place)) (is_line_at e) ∙ by (is_key e.0) (picked_line es)
+  picked_line (e ∷ es) = ap (λ b. cond b e.1 (pick (map line_at es) step path)) (is_line_at e) ∙ by (is_key e.0) (picked_line es)
     where
-      by : (b : Bool) → pick (map line_at es) step place ≡ unwrap_or (lookup is_key es) 0
-          → cond b e.1 (pick (map line_at es) step place) ≡ unwrap_or (cond b (Some e.1) (lookup is_key es)) 0
+      by : (b : Bool) → pick (map line_at es) step path ≡ unwrap_or (lookup is_key es) 0
+          → cond b e.1 (pick (map line_at es) step path) ≡ unwrap_or (cond b (Some e.1) (lookup is_key es)) 0
       by true rest = refl
       by false rest = rest
 
@@ -41,8 +41,8 @@ absent None e = refl
 absent (Some x) e = absurd (true≢false e)
 
 -- An entry with a new key is one line more at the end.
-pub added_line : {S : Type 0} (m : IndexMap Spot ℕ S) (k : Spot) (n : ℕ) → list_any (is_line_of k.step k.place.items) (map line_at m.entries) ≡ false
-    → map line_at (insert_entry (λ (s : Spot). is_key s.step s.place.items) m.entries k n) ≡ map line_at m.entries ++ line_at (k, n) ∷ []
+pub added_line : {S : Type 0} (m : IndexMap Spot ℕ S) (k : Spot) (n : ℕ) → list_any (is_line_of k.step k.path.items) (map line_at m.entries) ≡ false
+    → map line_at (insert_entry (λ (s : Spot). is_key s.step s.path.items) m.entries k n) ≡ map line_at m.entries ++ line_at (k, n) ∷ []
 added_line m k n none =
-    ap (map line_at) (insert_entry-new (λ (s : Spot). is_key s.step s.place.items) m k n (absent _ (sym (any_line k.step k.place.items m.entries) ∙ none)))
+    ap (map line_at) (insert_entry-new (λ (s : Spot). is_key s.step s.path.items) m k n (absent _ (sym (any_line k.step k.path.items m.entries) ∙ none)))
     ∙ map-append line_at m.entries ((k, n) ∷ [])

@@ -5,7 +5,7 @@ use Rattle.asm_syntax.specs.declared.error.LexError.{LexError}
 use Rattle.asm_syntax.specs.declared.refused.Refused.{Refused}
 use Rattle.asm_syntax.specs.declared.refused.Refused.TheVariants.{Memory, Named}
 use Rattle.asm_syntax.specs.declared.token.Token.{Token}
-use Rattle.asm_syntax.specs.Placed as placed
+use Rattle.asm_syntax.specs.SourceTree as source
 use Rattle.asm_syntax.specs.Tokens.{AreTokens, IsFault}
 use Rattle.asm_reader.specs.declared.error.ReadError.{ReadError}
 use Rattle.asm_reader.specs.declared.error.ReadError.TheVariants.{Lex, Unexpected, UnexpectedEnd, TooDeep}
@@ -59,7 +59,7 @@ module _ (text : List ℕ) (ts : List Token) where
   one_of_tokens (TooDeep i) UnexpectedEnd p q = absurd (none_too_deep i p q.levels)
   one_of_tokens (TooDeep i) (TooDeep j) p q = ap TooDeep (one_too_deep i j p q)
 
-  module _ (s : placed.Spec) (spelled : AreSpelling text ts s) where
+  module _ (s : source.Spec) (spelled : AreSpelling text ts s) where
     all_go_on : GoesOn text ts
     all_go_on = ([], s, rw (append-nil ts) spelled.0)
 
@@ -87,11 +87,11 @@ module _ (text : List ℕ) (one_list : (ts us : List Token) → AreTokens text t
   lexed UnexpectedEnd p = inr p
   lexed (TooDeep at) p = inr p
 
-  no_tree_beside : (s : placed.Spec) (e : ReadError) → IsSpecification text s → IsLexed e → ⊥
+  no_tree_beside : (s : source.Spec) (e : ReadError) → IsSpecification text s → IsLexed e → ⊥
   no_tree_beside s e k (inl p) = no_fault k.0 p.0 k.1 p.2
   no_tree_beside s e k (inr p) = none_of_tokens text p.0 s (subst (λ (ts : List Token). AreSpelling text ts s) (one_list k.0 p.0 k.1 p.1) k.2) e p.2
 
-  pub no_tree_beside_a_refusal : (s : placed.Spec) (e : ReadError) → IsSpecification text s → ¬ IsRefusal text e
+  pub no_tree_beside_a_refusal : (s : source.Spec) (e : ReadError) → IsSpecification text s → ¬ IsRefusal text e
   no_tree_beside_a_refusal s e k p = no_tree_beside s e k (lexed e p)
 
   module _ (one_fault : (d e : LexError) → IsFault text d → IsFault text e → d ≡ e) where

@@ -6,7 +6,7 @@ use Rattle.asm_syntax.specs.declared.token.Kind.TheVariants.{Symbol, Word}
 use Rattle.asm_syntax.specs.declared.token.Symbol.TheVariants.{Assign}
 use Rattle.asm_syntax.specs.declared.token.Word.TheVariants.{Skip}
 use Rattle.asm_syntax.specs.declared.token.Token.{Token}
-use Rattle.asm_syntax.specs.Placed as placed
+use Rattle.asm_syntax.specs.SourceTree as source
 use Rattle.asm_reader.specs.Parts.{Part, token, ◌then◌, ◌or◌, optional, ◌makes◌, nothing, past}
 use Rattle.asm_reader.specs.Steps.{Reader, refuse, expect, pair_of, either_of, option_of, past_of, mapped}
 use Rattle.asm_reader.specs.TermGrammar.{applied, term_over, term_within, any_term}
@@ -27,23 +27,23 @@ pub use Rattle.asm_reader.proofs.RuleWider.{wider_rule}
 
 begins_skip : Begins (Word Skip ∷ []) skip_rule
 unfolding skip_rule
-begins_skip = begins_makes (Word Skip ∷ []) (token (Word Skip)) (λ _. placed.Skip) (begins_token (Word Skip))
+begins_skip = begins_makes (Word Skip ∷ []) (token (Word Skip)) (λ _. source.Skip) (begins_token (Word Skip))
 
 has_skip : HasText skip_rule
 unfolding skip_rule
-has_skip = has_makes (token (Word Skip)) (λ _. placed.Skip) (has_token (Word Skip))
+has_skip = has_makes (token (Word Skip)) (λ _. source.Skip) (has_token (Word Skip))
 
-module _ (text : List ℕ) (X : Part placed.Term) (S : Part placed.Rule) where
+module _ (text : List ℕ) (X : Part source.Term) (S : Part source.Rule) where
   -- ":=" term
-  abbrev value : Part placed.Term
+  abbrev value : Part source.Term
   value = past (Symbol Assign) (term_over text X)
 
   -- the two productions that begin with a name, as one
-  abbrev named : Part placed.Rule
+  abbrev named : Part source.Rule
   named = (applied text X then optional value) makes named_rule
 
   -- and as the grammar has them
-  abbrev named_rules : Part placed.Rule
+  abbrev named_rules : Part source.Rule
   named_rules = call text X S or assignment text X S
 
   named_wide : Includes named named_rules
@@ -74,12 +74,12 @@ module _ (text : List ℕ) (X : Part placed.Term) (S : Part placed.Rule) where
 
 exact_skip : (n : ℕ) → IsExact (depth n false) (depth n false) [] skip_rule skip_rule skip_at
 unfolding skip_rule skip_at
-exact_skip n = exact_makes (depth n false) (depth n false) [] (token (Word Skip)) (token (Word Skip)) (λ _. placed.Skip) (expect (Word Skip)) (exact_plain n false (Word Skip) (alike_word Skip) (refl, refl, refl))
+exact_skip n = exact_makes (depth n false) (depth n false) [] (token (Word Skip)) (token (Word Skip)) (λ _. source.Skip) (expect (Word Skip)) (exact_plain n false (Word Skip) (alike_word Skip) (refl, refl, refl))
 
 -- `term` and `rule` read P and Q, and what they refuse is no N and no M.
-module _ (text : List ℕ) (n : ℕ) (term : Reader placed.Term) (P N : Part placed.Term) (some : HasText P) (starts : Begins term_first P) (first : Begins term_first N)
+module _ (text : List ℕ) (n : ℕ) (term : Reader source.Term) (P N : Part source.Term) (some : HasText P) (starts : Begins term_first P) (first : Begins term_first N)
     (exact : (m : ℕ) (q : Bool) → n ≡ suc m → IsExact (depth m q) (depth m false) term_more P N term)
-    (rule : Reader placed.Rule) (Q M : Part placed.Rule) (has : HasText Q) (starts_rule : Begins rule_first Q) (first_rule : Begins rule_first M)
+    (rule : Reader source.Rule) (Q M : Part source.Rule) (has : HasText Q) (starts_rule : Begins rule_first Q) (first_rule : Begins rule_first M)
     (exact_rule : (m : ℕ) → n ≡ suc m → IsExact (depth m false) (depth m false) rule_more Q M rule) where
   exact_value : IsExact (depth n false) (depth n false) term_more (value text P Q) (value text N M) (past_of (Symbol Assign) (disjunction_at text n term))
   exact_value = exact_past n false (depth n false) term_more (Symbol Assign) (alike_symbol Assign) (refl, refl, refl) (term_over text P) (term_over text N) (has_disjunction text P) (disjunction_at text n term)
@@ -95,7 +95,7 @@ module _ (text : List ℕ) (n : ℕ) (term : Reader placed.Term) (P N : Part pla
       ([], None, refl) (applied_at text n term) value_at (exact_applied text n term P N some starts first exact false)
       (exact_optional (depth n false) term_more rule_more (Symbol Assign ∷ []) (value text P Q) (value text N M) (begins_past (Symbol Assign) (term_over text N)) refl refl (past_of (Symbol Assign) (disjunction_at text n term)) exact_value)))
     where
-      value_at : Reader (Option placed.Term)
+      value_at : Reader (Option source.Term)
       value_at = option_of (Symbol Assign ∷ []) (past_of (Symbol Assign) (disjunction_at text n term))
 
   exact_rule_over : IsExact (depth n false) (depth n false) rule_more (rule_over text P Q) (rule_over text N M) (rule_over_at text n term rule)
@@ -109,7 +109,7 @@ module _ (text : List ℕ) (n : ℕ) (term : Reader placed.Term) (P N : Part pla
 -- ---- rules at any depth
 
 module _ (text : List ℕ) where
-  opened_at : (ts : List Token) (x : placed.Rule) (n : ℕ) → rule_within text n ts x → rule_over text (any_term text) (any_rule text) ts x
+  opened_at : (ts : List Token) (x : source.Rule) (n : ℕ) → rule_within text n ts x → rule_over text (any_term text) (any_rule text) ts x
   unfolding rule_within
   opened_at ts x zero q = wider_rule text nothing (any_term text) nothing (any_rule text) (λ us y v. absurd v) (λ us y v. absurd v) ts x q
   opened_at ts x (suc n) q = wider_rule text (term_within text n) (any_term text) (rule_within text n) (any_rule text) (λ us y v. (n, v)) (λ us y v. (n, v)) ts x q
@@ -128,17 +128,17 @@ module _ (text : List ℕ) where
   begins_any_rule ts x p = begins_rule p.0 ts x p.1
 
   -- what a rule over any terms and rules is exact for, rules are too
-  closed : (n d : ℕ) (term : Reader placed.Term) (rule : Reader placed.Rule) → ((k : ℕ) (p : Bool) → n ≡ suc k → IsExact (depth k p) (depth k false) term_more (term_within text (n + d)) (any_term text) term)
+  closed : (n d : ℕ) (term : Reader source.Term) (rule : Reader source.Rule) → ((k : ℕ) (p : Bool) → n ≡ suc k → IsExact (depth k p) (depth k false) term_more (term_within text (n + d)) (any_term text) term)
       → ((k : ℕ) → n ≡ suc k → IsExact (depth k false) (depth k false) rule_more (rule_within text (n + d)) (any_rule text) rule)
       → IsExact (depth n false) (depth n false) rule_more (rule_over text (term_within text (n + d)) (rule_within text (n + d))) (any_rule text) (rule_over_at text n term rule)
   closed n d term rule h k = exact_wider (depth n false) (depth n false) rule_more rule_more bounded (rule_over text (any_term text) (any_rule text)) bounded (any_rule text) (λ _ _ p. p) (λ ts x p. opened_at ts x p.0 p.1) (within_self rule_more) (rule_over_at text n term rule)
       (exact_rule_over text n term (term_within text (n + d)) (any_term text) (has_term text (n + d)) (begins_term text (n + d)) (begins_any_term text) h
       rule (rule_within text (n + d)) (any_rule text) (has_rule (n + d)) (begins_rule (n + d)) begins_any_rule k)
     where
-      bounded : Part placed.Rule
+      bounded : Part source.Rule
       bounded = rule_over text (term_within text (n + d)) (rule_within text (n + d))
 
-  rule_deeper : (n k d : ℕ) (f : Reader placed.Rule) → suc n ≡ suc k → IsExact (depth n false) (depth n false) rule_more (rule_within text (suc (n + d))) (any_rule text) f
+  rule_deeper : (n k d : ℕ) (f : Reader source.Rule) → suc n ≡ suc k → IsExact (depth n false) (depth n false) rule_more (rule_within text (suc (n + d))) (any_rule text) f
       → IsExact (depth k false) (depth k false) rule_more (rule_within text (suc n + d)) (any_rule text) f
   rule_deeper n k d f e h =
       let same : n ≡ k = omega arith in

@@ -4,7 +4,7 @@ use Rattle.asm_syntax.specs.declared.token.Kind.{Kind}
 use Rattle.asm_syntax.specs.declared.token.Kind.TheVariants.{Symbol, Word}
 use Rattle.asm_syntax.specs.declared.token.Symbol.TheVariants.{Assign, Equal}
 use Rattle.asm_syntax.specs.declared.token.Word.TheVariants.{Par, EndPar, Seq, EndSeq, If, Then, Else, EndIf, Let, In, EndLet, Forall, With, Do, EndForall, Choose, IfNone, EndChoose, Iterate, EndIterate}
-use Rattle.asm_syntax.specs.Placed as placed
+use Rattle.asm_syntax.specs.SourceTree as source
 use Rattle.asm_syntax.specs.Views.{rules_of}
 use Rattle.asm_reader.specs.Parts.{Part, ◌then◌, optional, ◌makes◌, past, several, between}
 use Rattle.asm_reader.specs.TermGrammar.{name, binding, applied, term_over}
@@ -13,32 +13,32 @@ use Rattle.asm_reader.proofs.TermWider.{wider_applied, wider_disjunction}
 use Rattle.asm_reader.proofs.Wider.{Includes, same_part, wider_then, wider_optional, wider_makes, wider_past, wider_several, wider_between}
 use Rattle.asm_reader.proofs.Blocks.{if_body, let_body, forall_body, choose_body}
 
-module _ (text : List ℕ) (X Y : Part placed.Term) (S T : Part placed.Rule) (h : Includes X Y) (k : Includes S T) where
+module _ (text : List ℕ) (X Y : Part source.Term) (S T : Part source.Rule) (h : Includes X Y) (k : Includes S T) where
   wider_call : Includes (call text X S) (call text Y T)
   unfolding call
-  wider_call = wider_makes (applied text X) (applied text Y) (λ r. placed.Call r.0 r.1) (wider_applied text X Y h)
+  wider_call = wider_makes (applied text X) (applied text Y) (λ r. source.Call r.0 r.1) (wider_applied text X Y h)
 
   wider_assignment : Includes (assignment text X S) (assignment text Y T)
   unfolding assignment
-  wider_assignment = wider_makes (applied text X then past (Symbol Assign) (term_over text X)) (applied text Y then past (Symbol Assign) (term_over text Y)) (λ r. placed.Assign r.0.0 r.0.1 r.1)
+  wider_assignment = wider_makes (applied text X then past (Symbol Assign) (term_over text X)) (applied text Y then past (Symbol Assign) (term_over text Y)) (λ r. source.Assign r.0.0 r.0.1 r.1)
       (wider_then (applied text X) (applied text Y) (past (Symbol Assign) (term_over text X)) (past (Symbol Assign) (term_over text Y)) (wider_applied text X Y h)
       (wider_past (Symbol Assign) (term_over text X) (term_over text Y) (wider_disjunction text X Y h)))
 
   -- what stands between two tokens
-  wider_frame : {A : Type 0} (opener close : Kind) (B C : Part A) (f : A → placed.Rule) → Includes B C → Includes (between opener close B makes f) (between opener close C makes f)
+  wider_frame : {A : Type 0} (opener close : Kind) (B C : Part A) (f : A → source.Rule) → Includes B C → Includes (between opener close B makes f) (between opener close C makes f)
   wider_frame opener close B C f i = wider_makes (between opener close B) (between opener close C) f (wider_between opener close B C i)
 
   wider_par : Includes (par_rule text X S) (par_rule text Y T)
   unfolding par_rule
-  wider_par = wider_frame (Word Par) (Word EndPar) (several S) (several T) (λ r. placed.Par (rules_of r)) (wider_several S T k)
+  wider_par = wider_frame (Word Par) (Word EndPar) (several S) (several T) (λ r. source.Par (rules_of r)) (wider_several S T k)
 
   wider_seq : Includes (seq_rule text X S) (seq_rule text Y T)
   unfolding seq_rule
-  wider_seq = wider_frame (Word Seq) (Word EndSeq) (several S) (several T) (λ r. placed.Seq (rules_of r)) (wider_several S T k)
+  wider_seq = wider_frame (Word Seq) (Word EndSeq) (several S) (several T) (λ r. source.Seq (rules_of r)) (wider_several S T k)
 
   wider_iterate : Includes (iterate_rule text X S) (iterate_rule text Y T)
   unfolding iterate_rule
-  wider_iterate = wider_frame (Word Iterate) (Word EndIterate) S T placed.Iterate k
+  wider_iterate = wider_frame (Word Iterate) (Word EndIterate) S T source.Iterate k
 
   -- a rule behind a token, and one more that may be left out
   wider_two : (a b : Kind) → Includes (past a S then optional (past b S)) (past a T then optional (past b T))
@@ -46,12 +46,12 @@ module _ (text : List ℕ) (X Y : Part placed.Term) (S T : Part placed.Rule) (h 
 
   wider_if : Includes (if_rule text X S) (if_rule text Y T)
   unfolding if_rule
-  wider_if = wider_frame (Word If) (Word EndIf) (if_body text X S) (if_body text Y T) (λ r. placed.If r.0 r.1.0 (branch r.1.1))
+  wider_if = wider_frame (Word If) (Word EndIf) (if_body text X S) (if_body text Y T) (λ r. source.If r.0 r.1.0 (branch r.1.1))
       (wider_then X Y (past (Word Then) S then optional (past (Word Else) S)) (past (Word Then) T then optional (past (Word Else) T)) h (wider_two (Word Then) (Word Else)))
 
   wider_let : Includes (let_rule text X S) (let_rule text Y T)
   unfolding let_rule
-  wider_let = wider_frame (Word Let) (Word EndLet) (let_body text X S) (let_body text Y T) (λ r. placed.Let r.0 r.1.0 r.1.1)
+  wider_let = wider_frame (Word Let) (Word EndLet) (let_body text X S) (let_body text Y T) (λ r. source.Let r.0 r.1.0 r.1.1)
       (wider_then (name text) (name text) (past (Symbol Equal) X then past (Word In) S) (past (Symbol Equal) Y then past (Word In) T) (same_part (name text))
       (wider_then (past (Symbol Equal) X) (past (Symbol Equal) Y) (past (Word In) S) (past (Word In) T) (wider_past (Symbol Equal) X Y h) (wider_past (Word In) S T k)))
 
@@ -62,12 +62,12 @@ module _ (text : List ℕ) (X Y : Part placed.Term) (S T : Part placed.Rule) (h 
 
   wider_forall : Includes (forall_rule text X S) (forall_rule text Y T)
   unfolding forall_rule
-  wider_forall = wider_frame (Word Forall) (Word EndForall) (forall_body text X S) (forall_body text Y T) (λ r. placed.Forall r.0.0 r.0.1 r.1.0 r.1.1)
+  wider_forall = wider_frame (Word Forall) (Word EndForall) (forall_body text X S) (forall_body text Y T) (λ r. source.Forall r.0.0 r.0.1 r.1.0 r.1.1)
       (wider_bound (past (Word Do) S) (past (Word Do) T) (wider_past (Word Do) S T k))
 
   wider_choose : Includes (choose_rule text X S) (choose_rule text Y T)
   unfolding choose_rule
-  wider_choose = wider_frame (Word Choose) (Word EndChoose) (choose_body text X S) (choose_body text Y T) (λ r. placed.Choose r.0.0 r.0.1 r.1.0 r.1.1.0 (branch r.1.1.1))
+  wider_choose = wider_frame (Word Choose) (Word EndChoose) (choose_body text X S) (choose_body text Y T) (λ r. source.Choose r.0.0 r.0.1 r.1.0 r.1.1.0 (branch r.1.1.1))
       (wider_bound (past (Word Do) S then optional (past (Word IfNone) S)) (past (Word Do) T then optional (past (Word IfNone) T)) (wider_two (Word Do) (Word IfNone)))
 
   wider_block : Includes (block_rule text X S) (block_rule text Y T)

@@ -1,4 +1,4 @@
--- What the lines of a script are: each that isn't skipped says something, and no two of one step and place.
+-- What the lines of a script are: each that isn't skipped says something, and no two of one step and path.
 use Rattle.std.proofs.Common.{◌≡◌, ℕ, Bool, true, false, not, ◌&&◌, ◌||◌, List, [], ◌∷◌, ◌++◌, length, Option, Some, None, is_none, append_assoc, refl, sym, ap, subst, ◌∙◌, inl, inr, arith}
 use Rattle.std.proofs.lemmas.Bool.{both_ways, eq-eqb, or_parts, or_right}
 use Rattle.std.proofs.lemmas.List.{append-nil, length-append}
@@ -19,11 +19,11 @@ each_says text s k before after bytes e read = by (line_of bytes) refl (subst (�
     by None is none = absurd cc
     by (Some line) is none = refl
 
--- no line has the step and the place of one before it
+-- no line has the step and the path of one before it
 abbrev AreApart : Script → Type 0
-AreApart s = (before after : Script) (line : Line) → s ≡ before ++ line ∷ after → list_any (is_line_of line.step line.place) before ≡ false
+AreApart s = (before after : Script) (line : Line) → s ≡ before ++ line ∷ after → list_any (is_line_of line.step line.path) before ≡ false
 
-apart_push : (s : Script) (line : Line) → AreApart s → list_any (is_line_of line.step line.place) s ≡ false → AreApart (s ++ line ∷ [])
+apart_push : (s : Script) (line : Line) → AreApart s → list_any (is_line_of line.step line.path) s ≡ false → AreApart (s ++ line ∷ [])
 apart_push s line apart new before after l e = elim (two_fronts s before line l [] after e) [
   | inl p ↦ rw (← p.0, ← p.1) new
   | inr (inl p) ↦ absurd (omega (arith, ap length e, ap length p.1, length-append s (line ∷ []), length-append before (l ∷ after), length-append s (line ∷ p.0)))
@@ -46,17 +46,17 @@ apart_behind before (bytes ∷ after) faultless apart =
 none_apart : AreApart []
 none_apart before after line e = absurd (omega (arith, ap length e, length-append before (line ∷ after)))
 
-same_line : (k l : Line) → k.step ≡ l.step → k.place ≡ l.place → is_line_of l.step l.place k ≡ true
-same_line k l step place = both_true (eq-eqb k.step l.step step) ((bytes_eq-Decides k.place l.place).1 place)
+same_line : (k l : Line) → k.step ≡ l.step → k.path ≡ l.path → is_line_of l.step l.path k ≡ true
+same_line k l step path = both_true (eq-eqb k.step l.step step) ((bytes_eq-Decides k.path l.path).1 path)
 
 two_lines : (before between after : Script) (k l : Line) → before ++ k ∷ between ++ l ∷ after ≡ (before ++ k ∷ between) ++ l ∷ after
 two_lines [] between after k l = refl
 two_lines (line ∷ before) between after k l = ap (λ s. line ∷ s) (two_lines before between after k l)
 
-pub lines_apart : (text : List ℕ) (s : Script) → IsScript text s → (before between after : Script) (k l : Line) → s ≡ before ++ k ∷ between ++ l ∷ after → ¬ ((k.step ≡ l.step) × (k.place ≡ l.place))
+pub lines_apart : (text : List ℕ) (s : Script) → IsScript text s → (before between after : Script) (k l : Line) → s ≡ before ++ k ∷ between ++ l ∷ after → ¬ ((k.step ≡ l.step) × (k.path ≡ l.path))
 lines_apart text s is before between after k l e same =
     let apart = subst AreApart (sym is.says) (apart_behind [] (lines_of text) is.faultless none_apart) in
     let none = apart (before ++ k ∷ between) after l (e ∙ two_lines before between after k l) in
-    let test = is_line_of l.step l.place in
+    let test = is_line_of l.step l.path in
     let found : list_any test (k ∷ between) ≡ true = ap (λ b. b || list_any test between) (same_line k l same.0 same.1) in
     both_ways (list_any test (before ++ k ∷ between)) none (list_any-append test before (k ∷ between) ∙ or_right (list_any test before) (list_any test (k ∷ between)) found)

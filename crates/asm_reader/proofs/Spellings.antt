@@ -3,7 +3,7 @@ use Rattle.std.proofs.Common.{◌≡◌, ℕ, suc, ◌<◌, ◌≤◌, List, len
 use Rattle.asm_syntax.specs.declared.refused.Refused.{Refused}
 use Rattle.asm_syntax.specs.declared.refused.Refused.TheVariants.{Named}
 use Rattle.asm_syntax.specs.declared.token.Token.{Token}
-use Rattle.asm_syntax.specs.Placed as placed
+use Rattle.asm_syntax.specs.SourceTree as source
 use Rattle.asm_reader.specs.declared.error.ReadError.{ReadError}
 use Rattle.asm_reader.specs.Parts.{Part}
 use Rattle.asm_reader.specs.TermGrammar.{term_within}
@@ -20,20 +20,20 @@ use Rattle.asm_reader.proofs.OneTree.{one_tree}
 
 module _ (text : List ℕ) where
   -- the specifications whose terms and rules nest at most n + 1 levels deep
-  abbrev within : ℕ → Part placed.Spec
+  abbrev within : ℕ → Part source.Spec
   within n = specification_over text (term_within text (suc n)) (rule_within text (suc n))
 
   wide : (n : ℕ) → Includes (within n) (specification text)
   wide = wide_specification text
 
-  pub one_tree_of_tokens : (ts : List Token) (s t : placed.Spec) → specification text ts s → specification text ts t → s ≡ t
+  pub one_tree_of_tokens : (ts : List Token) (s t : source.Spec) → specification text ts s → specification text ts t → s ≡ t
   one_tree_of_tokens = one_tree items_more within (specification text) (specification_at text) (exact_specification text)
 
   module _ (ts : List Token) where
-    pub spells_all : (s : placed.Spec) (rest : List Token) → specification_at text max_nesting ts ≡ Ok (s, rest) → length rest < 1 → AreSpelling text ts s
+    pub spells_all : (s : source.Spec) (rest : List Token) → specification_at text max_nesting ts ≡ Ok (s, rest) → length rest < 1 → AreSpelling text ts s
     spells_all = ends_here text items_more (within max_nesting) (wide max_nesting) (specification_at text max_nesting) (exact_specification text max_nesting) ts
 
-    pub spells_less : (s : placed.Spec) (rest : List Token) (default : Token) → specification_at text max_nesting ts ≡ Ok (s, rest) → 1 ≤ length rest → IsUnexpected text ts (get_or rest 0 default).start
+    pub spells_less : (s : source.Spec) (rest : List Token) (default : Token) → specification_at text max_nesting ts ≡ Ok (s, rest) → 1 ≤ length rest → IsUnexpected text ts (get_or rest 0 default).start
     spells_less = goes_past text items_more (within max_nesting) (wide max_nesting) (specification_at text max_nesting) (exact_specification text max_nesting) ts
 
     pub spells_none : (e : Refused ReadError) → ((reason : ReadError) → e ≡ Named reason → specification_at text max_nesting ts ≡ Err reason) → ExplainsTokens text ts e

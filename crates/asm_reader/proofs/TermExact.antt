@@ -9,7 +9,7 @@ use Rattle.asm_syntax.specs.declared.token.Symbol.TheVariants.{Open, Close, Comm
 use Rattle.asm_syntax.specs.declared.token.Word.TheVariants.{Or, And, Not, Div, Mod, Exists, Forall, In, With, Holds, True, False, Undef}
 use Rattle.asm_syntax.specs.declared.token.Token.{Token}
 use Rattle.asm_syntax.specs.declared.term.Literal.TheVariants as literal
-use Rattle.asm_syntax.specs.Placed as placed
+use Rattle.asm_syntax.specs.SourceTree as source
 use Rattle.asm_syntax.specs.Views.{terms_of}
 use Rattle.asm_reader.specs.Kinds.{keys}
 use Rattle.asm_reader.specs.Levels.{opens, after_token}
@@ -84,17 +84,17 @@ module _ (text : List ℕ) where
 
 -- ---- primaries and factors: what they begin with, and that each has a text
 
-abbrev number_term : Part placed.Term
-number_term = number makes (λ v. placed.Constant (literal.Number v))
+abbrev number_term : Part source.Term
+number_term = number makes (λ v. source.Constant (literal.Number v))
 
-abbrev constant_term : Part placed.Term
-constant_term = choice constants makes placed.Constant
+abbrev constant_term : Part source.Term
+constant_term = choice constants makes source.Constant
 
 begins_number_term : Begins (Number 0 ∷ []) number_term
-begins_number_term = begins_makes (Number 0 ∷ []) number (λ v. placed.Constant (literal.Number v)) (begins_number false)
+begins_number_term = begins_makes (Number 0 ∷ []) number (λ v. source.Constant (literal.Number v)) (begins_number false)
 
 begins_constant_term : Begins (keys constants) constant_term
-begins_constant_term = begins_makes (keys constants) (choice constants) placed.Constant (begins_choice 0 false constants has_constant constants_plain)
+begins_constant_term = begins_makes (keys constants) (choice constants) source.Constant (begins_choice 0 false constants has_constant constants_plain)
 
 -- what begins with a name, and what with that or a parenthesis, or with a constant
 abbrev last_first : List Kind
@@ -103,10 +103,10 @@ last_first = kind.Name ∷ Symbol Open ∷ []
 abbrev later_first : List Kind
 later_first = Word True ∷ Word False ∷ Word Undef ∷ last_first
 
-module _ (text : List ℕ) (X : Part placed.Term) where
+module _ (text : List ℕ) (X : Part source.Term) where
   begins_exists : Begins (Word Exists ∷ []) (g.exists_term text X)
   unfolding g.exists_term
-  begins_exists = begins_makes (Word Exists ∷ []) (past (Word Exists) (g.binding text then past (Word With) X)) (λ v. placed.Exists v.0.0 v.0.1 v.1) (begins_past (Word Exists) (g.binding text then past (Word With) X))
+  begins_exists = begins_makes (Word Exists ∷ []) (past (Word Exists) (g.binding text then past (Word With) X)) (λ v. source.Exists v.0.0 v.0.1 v.1) (begins_past (Word Exists) (g.binding text then past (Word With) X))
 
   has_inner : HasText X → HasText (g.inner text X)
   unfolding g.inner
@@ -114,7 +114,7 @@ module _ (text : List ℕ) (X : Part placed.Term) where
 
   begins_every : Begins (Word Forall ∷ []) (g.every_term text X)
   unfolding g.every_term
-  begins_every = begins_makes (Word Forall ∷ []) (past (Word Forall) (g.binding text then past (Word Holds) X)) (λ v. placed.Every v.0.0 v.0.1 v.1) (begins_past (Word Forall) (g.binding text then past (Word Holds) X))
+  begins_every = begins_makes (Word Forall ∷ []) (past (Word Forall) (g.binding text then past (Word Holds) X)) (λ v. source.Every v.0.0 v.0.1 v.1) (begins_past (Word Forall) (g.binding text then past (Word Holds) X))
 
   begins_arguments : Begins (Symbol Open ∷ []) (g.arguments text X)
   unfolding g.arguments
@@ -128,14 +128,14 @@ module _ (text : List ℕ) (X : Part placed.Term) where
   unfolding g.applied
   has_applied = has_makes (g.name text then optional (g.arguments text X)) (λ v. (v.0, terms_of (listed v.1))) (has_then (g.name text) (optional (g.arguments text X)) (has_name text) ([], None, refl))
 
-  abbrev named_term : Part placed.Term
-  named_term = g.applied text X makes (λ v. placed.Named v.0 v.1)
+  abbrev named_term : Part source.Term
+  named_term = g.applied text X makes (λ v. source.Named v.0 v.1)
 
-  abbrev parenthesized : Part placed.Term
+  abbrev parenthesized : Part source.Term
   parenthesized = between (Symbol Open) (Symbol Close) (g.inner text X)
 
   begins_named : Begins (kind.Name ∷ []) named_term
-  begins_named = begins_makes (kind.Name ∷ []) (g.applied text X) (λ v. placed.Named v.0 v.1) begins_applied
+  begins_named = begins_makes (kind.Name ∷ []) (g.applied text X) (λ v. source.Named v.0 v.1) begins_applied
 
   begins_parenthesized : Begins (Symbol Open ∷ []) parenthesized
   begins_parenthesized = begins_between (Symbol Open) (Symbol Close) (g.inner text X)
@@ -152,13 +152,13 @@ module _ (text : List ℕ) (X : Part placed.Term) where
 
   has_primary : HasText (g.primary text X)
   unfolding g.primary
-  has_primary = let one = has_makes number (λ v. placed.Constant (literal.Number v)) (has_number false) in (one.0, one.1, inl one.2)
+  has_primary = let one = has_makes number (λ v. source.Constant (literal.Number v)) (has_number false) in (one.0, one.1, inl one.2)
 
-  abbrev negative : Part placed.Term
-  negative = past (Symbol Minus) (g.primary text X) makes placed.Negative
+  abbrev negative : Part source.Term
+  negative = past (Symbol Minus) (g.primary text X) makes source.Negative
 
   begins_negative : Begins (Symbol Minus ∷ []) negative
-  begins_negative = begins_makes (Symbol Minus ∷ []) (past (Symbol Minus) (g.primary text X)) placed.Negative (begins_past (Symbol Minus) (g.primary text X))
+  begins_negative = begins_makes (Symbol Minus ∷ []) (past (Symbol Minus) (g.primary text X)) source.Negative (begins_past (Symbol Minus) (g.primary text X))
 
   pub begins_factor : Begins factor_first (g.factor text X)
   unfolding g.factor
@@ -186,7 +186,7 @@ module _ (text : List ℕ) (X : Part placed.Term) where
   unfolding g.sum
   begins_sum = begins_chain additions factor_first (g.product text X) begins_product
 
-  abbrev compared : Part (Op × placed.Term)
+  abbrev compared : Part (Op × source.Term)
   compared = link comparisons (g.sum text X)
 
   has_comparison : HasText (g.comparison text X)
@@ -197,11 +197,11 @@ module _ (text : List ℕ) (X : Part placed.Term) where
   unfolding g.comparison
   begins_comparison = begins_makes factor_first (g.sum text X then optional compared) (λ v. chain_of (v.0, option_to_list v.1)) (begins_then factor_first (g.sum text X) (optional compared) begins_sum)
 
-  abbrev denied : Part placed.Term
-  denied = past (Word Not) (g.comparison text X) makes placed.Not
+  abbrev denied : Part source.Term
+  denied = past (Word Not) (g.comparison text X) makes source.Not
 
   begins_denied : Begins (Word Not ∷ []) denied
-  begins_denied = begins_makes (Word Not ∷ []) (past (Word Not) (g.comparison text X)) placed.Not (begins_past (Word Not) (g.comparison text X))
+  begins_denied = begins_makes (Word Not ∷ []) (past (Word Not) (g.comparison text X)) source.Not (begins_past (Word Not) (g.comparison text X))
 
   pub has_negation : HasText (g.negation text X)
   unfolding g.negation
@@ -250,7 +250,7 @@ exact_parentheses : {A : Type 0} (n : ℕ) (q : Bool) (more : List Kind) → apa
 exact_parentheses n q more differ P N some f h = exact_between n q true (Symbol Open) (Symbol Close) (alike_symbol Open) (alike_symbol Close) (open_opens q) (open_fits n q) (close_fits n) more differ P N some f h
 
 -- what stands in parentheses, in which n levels may open
-module _ (text : List ℕ) (n : ℕ) (deeper : Reader placed.Term) (P N : Part placed.Term) (some : HasText P) (first : Begins term_first N)
+module _ (text : List ℕ) (n : ℕ) (deeper : Reader source.Term) (P N : Part source.Term) (some : HasText P) (first : Begins term_first N)
     (exact : (q : Bool) → IsExact (depth n q) (depth n false) term_more P N deeper) where
   exact_terms : IsExact (depth n true) (depth n false) terms_more (separated (Symbol Comma) P) (separated (Symbol Comma) N) (separated_of (Symbol Comma) deeper)
   exact_terms = exact_separated n true term_more terms_more (Symbol Comma) (alike_symbol Comma) (refl, refl, refl) refl refl refl P N some deeper (exact true) (exact false)
@@ -265,14 +265,14 @@ module _ (text : List ℕ) (n : ℕ) (deeper : Reader placed.Term) (P N : Part p
 
   exact_exists : IsExact (depth n true) (depth n false) term_more (g.exists_term text P) (g.exists_term text N) (r.exists_at text deeper)
   unfolding g.exists_term r.exists_at
-  exact_exists = exact_makes (depth n true) (depth n false) term_more (past (Word Exists) (g.binding text then past (Word With) P)) (past (Word Exists) (g.binding text then past (Word With) N)) (λ v. placed.Exists v.0.0 v.0.1 v.1)
+  exact_exists = exact_makes (depth n true) (depth n false) term_more (past (Word Exists) (g.binding text then past (Word With) P)) (past (Word Exists) (g.binding text then past (Word With) N)) (λ v. source.Exists v.0.0 v.0.1 v.1)
       (past_of (Word Exists) (pair_of (r.binding_at text) (past_of (Word With) deeper)))
       (exact_past n true (depth n false) term_more (Word Exists) (alike_word Exists) (refl, refl, refl) (g.binding text then past (Word With) P) (g.binding text then past (Word With) N) (has_bound (Word With))
       (pair_of (r.binding_at text) (past_of (Word With) deeper)) (exact_bound (Word With) (alike_word With) (refl, refl, refl)))
 
   exact_every : IsExact (depth n true) (depth n false) term_more (g.every_term text P) (g.every_term text N) (r.every_at text deeper)
   unfolding g.every_term r.every_at
-  exact_every = exact_makes (depth n true) (depth n false) term_more (past (Word Forall) (g.binding text then past (Word Holds) P)) (past (Word Forall) (g.binding text then past (Word Holds) N)) (λ v. placed.Every v.0.0 v.0.1 v.1)
+  exact_every = exact_makes (depth n true) (depth n false) term_more (past (Word Forall) (g.binding text then past (Word Holds) P)) (past (Word Forall) (g.binding text then past (Word Holds) N)) (λ v. source.Every v.0.0 v.0.1 v.1)
       (past_of (Word Forall) (pair_of (r.binding_at text) (past_of (Word Holds) deeper)))
       (exact_makes (depth n true) (depth n false) term_more (token (Word Forall) then (g.binding text then past (Word Holds) P)) (token (Word Forall) then (g.binding text then past (Word Holds) N)) (λ v. v.1) (pair_of (expect (Word Forall)) (pair_of (r.binding_at text) (past_of (Word Holds) deeper)))
       (exact_pair (depth n true) (depth n false) (depth n false) [] term_more (token (Word Forall)) (token (Word Forall)) (g.binding text then past (Word Holds) P) (g.binding text then past (Word Holds) N) (ends_none term_more (g.binding text then past (Word Holds) N)) (has_bound (Word Holds))
@@ -291,7 +291,7 @@ module _ (text : List ℕ) (n : ℕ) (deeper : Reader placed.Term) (P N : Part p
 
 -- ---- terms. n levels may open; what stands in parentheses is P or N.
 
-module _ (text : List ℕ) (n : ℕ) (deeper : Reader placed.Term) (P N : Part placed.Term) (some : HasText P) (starts : Begins term_first P) (first : Begins term_first N)
+module _ (text : List ℕ) (n : ℕ) (deeper : Reader source.Term) (P N : Part source.Term) (some : HasText P) (starts : Begins term_first P) (first : Begins term_first N)
     (exact : (m : ℕ) (q : Bool) → n ≡ suc m → IsExact (depth m q) (depth m false) term_more P N deeper) where
   exact_arguments : (q : Bool) → IsExact (depth n q) (depth n false) [] (g.arguments text P) (g.arguments text N) (r.arguments_at text n deeper)
   unfolding g.arguments r.arguments_at
@@ -312,36 +312,36 @@ module _ (text : List ℕ) (n : ℕ) (deeper : Reader placed.Term) (P N : Part p
       (r.name_at text) (option_of (Symbol Open ∷ []) (r.arguments_at text n deeper)) (exact_name text n q)
       (exact_optional (depth n false) [] primary_more (Symbol Open ∷ []) (g.arguments text P) (g.arguments text N) (begins_arguments text N) refl refl (r.arguments_at text n deeper) (exact_arguments false)))
 
-  abbrev named_at : Reader placed.Term
-  named_at = mapped (λ v. placed.Named v.0 v.1) (r.applied_at text n deeper)
+  abbrev named_at : Reader source.Term
+  named_at = mapped (λ v. source.Named v.0 v.1) (r.applied_at text n deeper)
 
-  abbrev last_at : Reader placed.Term
+  abbrev last_at : Reader source.Term
   last_at = either_of (kind.Name ∷ []) named_at (r.parenthesized_at text n deeper)
 
-  abbrev constant_at : Reader placed.Term
-  constant_at = mapped placed.Constant (choice_at constants)
+  abbrev constant_at : Reader source.Term
+  constant_at = mapped source.Constant (choice_at constants)
 
   exact_last : (q : Bool) → IsExact (depth n q) (depth n false) primary_more (named_term text P or parenthesized text P) (named_term text N or parenthesized text N) last_at
   exact_last q = exact_or (depth n q) (depth n false) primary_more [] primary_more (kind.Name ∷ []) (Symbol Open ∷ []) (named_term text P) (parenthesized text P) (named_term text N) (parenthesized text N)
       (begins_named text N) (begins_parenthesized text N) refl refl refl named_at (r.parenthesized_at text n deeper)
-      (exact_makes (depth n q) (depth n false) primary_more (g.applied text P) (g.applied text N) (λ v. placed.Named v.0 v.1) (r.applied_at text n deeper) (exact_applied q)) (exact_parenthesized q)
+      (exact_makes (depth n q) (depth n false) primary_more (g.applied text P) (g.applied text N) (λ v. source.Named v.0 v.1) (r.applied_at text n deeper) (exact_applied q)) (exact_parenthesized q)
 
   exact_later : (q : Bool) → IsExact (depth n q) (depth n false) primary_more (constant_term or named_term text P or parenthesized text P) (constant_term or named_term text N or parenthesized text N) (either_of (keys constants) constant_at last_at)
   exact_later q = exact_or (depth n q) (depth n false) [] primary_more primary_more (keys constants) last_first constant_term (named_term text P or parenthesized text P) constant_term (named_term text N or parenthesized text N)
       begins_constant_term (begins_last text N) refl refl refl constant_at last_at
-      (exact_makes (depth n q) (depth n false) [] (choice constants) (choice constants) placed.Constant (choice_at constants) (exact_choice n q constants has_constant constants_plain)) (exact_last q)
+      (exact_makes (depth n q) (depth n false) [] (choice constants) (choice constants) source.Constant (choice_at constants) (exact_choice n q constants has_constant constants_plain)) (exact_last q)
 
   exact_primary : (q : Bool) → IsExact (depth n q) (depth n false) primary_more (g.primary text P) (g.primary text N) (r.primary_at text n deeper)
   unfolding g.primary r.primary_at
   exact_primary q = exact_or (depth n q) (depth n false) [] primary_more primary_more (Number 0 ∷ []) later_first number_term (constant_term or named_term text P or parenthesized text P) number_term (constant_term or named_term text N or parenthesized text N)
-      begins_number_term (begins_later text N) refl refl refl (mapped (λ v. placed.Constant (literal.Number v)) (number_at false)) (either_of (keys constants) constant_at last_at)
-      (exact_makes (depth n q) (depth n false) [] number number (λ v. placed.Constant (literal.Number v)) (number_at false) (exact_number false n q)) (exact_later q)
+      begins_number_term (begins_later text N) refl refl refl (mapped (λ v. source.Constant (literal.Number v)) (number_at false)) (either_of (keys constants) constant_at last_at)
+      (exact_makes (depth n q) (depth n false) [] number number (λ v. source.Constant (literal.Number v)) (number_at false) (exact_number false n q)) (exact_later q)
 
   pub exact_factor : (q : Bool) → IsExact (depth n q) (depth n false) primary_more (g.factor text P) (g.factor text N) (r.factor_at text n deeper)
   unfolding g.factor r.factor_at
   exact_factor q = exact_or (depth n q) (depth n false) primary_more primary_more primary_more (Symbol Minus ∷ []) primary_first (negative text P) (g.primary text P) (negative text N) (g.primary text N)
-      (begins_negative text N) (begins_primary text N) refl refl refl (mapped placed.Negative (past_of (Symbol Minus) (r.primary_at text n deeper))) (r.primary_at text n deeper)
-      (exact_makes (depth n q) (depth n false) primary_more (past (Symbol Minus) (g.primary text P)) (past (Symbol Minus) (g.primary text N)) placed.Negative (past_of (Symbol Minus) (r.primary_at text n deeper))
+      (begins_negative text N) (begins_primary text N) refl refl refl (mapped source.Negative (past_of (Symbol Minus) (r.primary_at text n deeper))) (r.primary_at text n deeper)
+      (exact_makes (depth n q) (depth n false) primary_more (past (Symbol Minus) (g.primary text P)) (past (Symbol Minus) (g.primary text N)) source.Negative (past_of (Symbol Minus) (r.primary_at text n deeper))
       (exact_past n q (depth n false) primary_more (Symbol Minus) (alike_symbol Minus) (refl, refl, refl) (g.primary text P) (g.primary text N) (has_primary text P) (r.primary_at text n deeper) (exact_primary false)))
       (exact_primary q)
 
@@ -353,7 +353,7 @@ module _ (text : List ℕ) (n : ℕ) (deeper : Reader placed.Term) (P N : Part p
   unfolding g.sum r.sum_at
   exact_sum = exact_chain n additions has_additions additions_plain product_more (g.product text P) (g.product text N) (has_product text P) (r.product_at text n deeper) exact_product sum_more refl refl refl
 
-  abbrev compared_at : Reader (Op × placed.Term)
+  abbrev compared_at : Reader (Op × source.Term)
   compared_at = link_of comparisons (r.sum_at text n deeper)
 
   exact_compared : IsExact (depth n false) (depth n false) comparison_more (optional (compared text P)) (optional (compared text N)) (option_of (keys comparisons) compared_at)
@@ -370,8 +370,8 @@ module _ (text : List ℕ) (n : ℕ) (deeper : Reader placed.Term) (P N : Part p
   pub exact_negation : (q : Bool) → IsExact (depth n q) (depth n false) comparison_more (g.negation text P) (g.negation text N) (r.negation_at text n deeper)
   unfolding g.negation r.negation_at
   exact_negation q = exact_or (depth n q) (depth n false) comparison_more comparison_more comparison_more (Word Not ∷ []) factor_first (denied text P) (g.comparison text P) (denied text N) (g.comparison text N)
-      (begins_denied text N) (begins_comparison text N) refl refl refl (mapped placed.Not (past_of (Word Not) (r.comparison_at text n deeper))) (r.comparison_at text n deeper)
-      (exact_makes (depth n q) (depth n false) comparison_more (past (Word Not) (g.comparison text P)) (past (Word Not) (g.comparison text N)) placed.Not (past_of (Word Not) (r.comparison_at text n deeper))
+      (begins_denied text N) (begins_comparison text N) refl refl refl (mapped source.Not (past_of (Word Not) (r.comparison_at text n deeper))) (r.comparison_at text n deeper)
+      (exact_makes (depth n q) (depth n false) comparison_more (past (Word Not) (g.comparison text P)) (past (Word Not) (g.comparison text N)) source.Not (past_of (Word Not) (r.comparison_at text n deeper))
       (exact_past n q (depth n false) comparison_more (Word Not) (alike_word Not) (refl, refl, refl) (g.comparison text P) (g.comparison text N) (has_comparison text P) (r.comparison_at text n deeper) (exact_comparison false)))
       (exact_comparison q)
 

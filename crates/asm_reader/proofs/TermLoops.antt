@@ -1,6 +1,6 @@
 -- The readers in the loops that read terms take a token at least.
 use Rattle.std.proofs.Common.{◌≡◌, ℕ, zero, suc, ◌+◌, Bool, false, List, arith, subst}
-use Rattle.asm_syntax.specs.Placed as placed
+use Rattle.asm_syntax.specs.SourceTree as source
 use Rattle.asm_reader.specs.declared.terms.Precedence.{Precedence}
 use Rattle.asm_reader.specs.declared.terms.Precedence.TheVariants as precedence
 use Rattle.asm_reader.specs.Parts.{Part}
@@ -34,13 +34,13 @@ module _ (text : List ℕ) where
       (subst (λ v. IsExact (depth j q) (depth j false) term_more (term_within text v) (any_term text) (term_at text j)) one_more (exact_at j q))
 
   module _ (n : ℕ) where
-    abbrev within : Part placed.Term
+    abbrev within : Part source.Term
     within = term_within text n
 
-    abbrev deeper : Reader placed.Term
+    abbrev deeper : Reader source.Term
     deeper = below (term_at text) n
 
-    abbrev any : Part placed.Term
+    abbrev any : Part source.Term
     any = any_term text
 
     pub links_consume : (c : Precedence) → Consumes (r.link_at text n deeper c)

@@ -6,7 +6,7 @@ use Rattle.asm_syntax.specs.declared.token.Kind.TheVariants.{Symbol, Word}
 use Rattle.asm_syntax.specs.declared.token.Symbol.TheVariants.{Open, Close, Comma, Minus}
 use Rattle.asm_syntax.specs.declared.token.Word.TheVariants.{Not, Exists, Forall, With, Holds}
 use Rattle.asm_syntax.specs.declared.token.Token.{Token}
-use Rattle.asm_syntax.specs.Placed as placed
+use Rattle.asm_syntax.specs.SourceTree as source
 use Rattle.asm_syntax.specs.Views.{terms_of}
 use Rattle.asm_reader.specs.Parts.{Part, ◌then◌, ◌or◌, optional, ◌makes◌, nothing, past, separated}
 use Rattle.asm_reader.specs.Steps.{Reader, refuse}
@@ -20,7 +20,7 @@ use Rattle.asm_reader.proofs.Wider.{Includes, same_part, wider_then, wider_or, w
 use Rattle.asm_reader.proofs.Chains.{link, wider_link, wider_chain}
 use Rattle.asm_reader.proofs.TermExact.{term_more, term_first, has_term, begins_term, exact_disjunction}
 
-module _ (text : List ℕ) (X Y : Part placed.Term) (h : Includes X Y) where
+module _ (text : List ℕ) (X Y : Part source.Term) (h : Includes X Y) where
   wider_arguments : Includes (g.arguments text X) (g.arguments text Y)
   unfolding g.arguments
   wider_arguments = wider_between (Symbol Open) (Symbol Close) (separated (Symbol Comma) X) (separated (Symbol Comma) Y) (wider_separated (Symbol Comma) X Y h)
@@ -35,12 +35,12 @@ module _ (text : List ℕ) (X Y : Part placed.Term) (h : Includes X Y) where
 
   wider_exists : Includes (g.exists_term text X) (g.exists_term text Y)
   unfolding g.exists_term
-  wider_exists = wider_makes (past (Word Exists) (g.binding text then past (Word With) X)) (past (Word Exists) (g.binding text then past (Word With) Y)) (λ v. placed.Exists v.0.0 v.0.1 v.1)
+  wider_exists = wider_makes (past (Word Exists) (g.binding text then past (Word With) X)) (past (Word Exists) (g.binding text then past (Word With) Y)) (λ v. source.Exists v.0.0 v.0.1 v.1)
       (wider_past (Word Exists) (g.binding text then past (Word With) X) (g.binding text then past (Word With) Y) (wider_bound (Word With)))
 
   wider_every : Includes (g.every_term text X) (g.every_term text Y)
   unfolding g.every_term
-  wider_every = wider_makes (past (Word Forall) (g.binding text then past (Word Holds) X)) (past (Word Forall) (g.binding text then past (Word Holds) Y)) (λ v. placed.Every v.0.0 v.0.1 v.1)
+  wider_every = wider_makes (past (Word Forall) (g.binding text then past (Word Holds) X)) (past (Word Forall) (g.binding text then past (Word Holds) Y)) (λ v. source.Every v.0.0 v.0.1 v.1)
       (wider_past (Word Forall) (g.binding text then past (Word Holds) X) (g.binding text then past (Word Holds) Y) (wider_bound (Word Holds)))
 
   wider_inner : Includes (g.inner text X) (g.inner text Y)
@@ -51,13 +51,13 @@ module _ (text : List ℕ) (X Y : Part placed.Term) (h : Includes X Y) where
   unfolding g.primary
   wider_primary ts x (inl p) = inl p
   wider_primary ts x (inr (inl p)) = inr (inl p)
-  wider_primary ts x (inr (inr (inl p))) = inr (inr (inl (wider_makes (g.applied text X) (g.applied text Y) (λ v. placed.Named v.0 v.1) wider_applied ts x p)))
+  wider_primary ts x (inr (inr (inl p))) = inr (inr (inl (wider_makes (g.applied text X) (g.applied text Y) (λ v. source.Named v.0 v.1) wider_applied ts x p)))
   wider_primary ts x (inr (inr (inr p))) = inr (inr (inr (wider_between (Symbol Open) (Symbol Close) (g.inner text X) (g.inner text Y) wider_inner ts x p)))
 
   wider_factor : Includes (g.factor text X) (g.factor text Y)
   unfolding g.factor
-  wider_factor = wider_or (past (Symbol Minus) (g.primary text X) makes placed.Negative) (past (Symbol Minus) (g.primary text Y) makes placed.Negative) (g.primary text X) (g.primary text Y)
-      (wider_makes (past (Symbol Minus) (g.primary text X)) (past (Symbol Minus) (g.primary text Y)) placed.Negative (wider_past (Symbol Minus) (g.primary text X) (g.primary text Y) wider_primary)) wider_primary
+  wider_factor = wider_or (past (Symbol Minus) (g.primary text X) makes source.Negative) (past (Symbol Minus) (g.primary text Y) makes source.Negative) (g.primary text X) (g.primary text Y)
+      (wider_makes (past (Symbol Minus) (g.primary text X)) (past (Symbol Minus) (g.primary text Y)) source.Negative (wider_past (Symbol Minus) (g.primary text X) (g.primary text Y) wider_primary)) wider_primary
 
   wider_sum : Includes (g.sum text X) (g.sum text Y)
   unfolding g.sum g.product
@@ -71,8 +71,8 @@ module _ (text : List ℕ) (X Y : Part placed.Term) (h : Includes X Y) where
 
   wider_negation : Includes (g.negation text X) (g.negation text Y)
   unfolding g.negation
-  wider_negation = wider_or (past (Word Not) (g.comparison text X) makes placed.Not) (past (Word Not) (g.comparison text Y) makes placed.Not) (g.comparison text X) (g.comparison text Y)
-      (wider_makes (past (Word Not) (g.comparison text X)) (past (Word Not) (g.comparison text Y)) placed.Not (wider_past (Word Not) (g.comparison text X) (g.comparison text Y) wider_comparison)) wider_comparison
+  wider_negation = wider_or (past (Word Not) (g.comparison text X) makes source.Not) (past (Word Not) (g.comparison text Y) makes source.Not) (g.comparison text X) (g.comparison text Y)
+      (wider_makes (past (Word Not) (g.comparison text X)) (past (Word Not) (g.comparison text Y)) source.Not (wider_past (Word Not) (g.comparison text X) (g.comparison text Y) wider_comparison)) wider_comparison
 
   pub wider_disjunction : Includes (g.term_over text X) (g.term_over text Y)
   unfolding g.term_over g.conjunction
@@ -81,7 +81,7 @@ module _ (text : List ℕ) (X Y : Part placed.Term) (h : Includes X Y) where
 -- ---- terms at any depth
 
 module _ (text : List ℕ) where
-  opened_at : (ts : List Token) (x : placed.Term) (n : ℕ) → g.term_within text n ts x → g.term_over text (any_term text) ts x
+  opened_at : (ts : List Token) (x : source.Term) (n : ℕ) → g.term_within text n ts x → g.term_over text (any_term text) ts x
   unfolding g.term_within
   opened_at ts x zero p = wider_disjunction text nothing (any_term text) (λ us y v. absurd v) ts x p
   opened_at ts x (suc n) p = wider_disjunction text (g.term_within text n) (any_term text) (λ us y v. (n, v)) ts x p
@@ -90,13 +90,13 @@ module _ (text : List ℕ) where
   begins_any_term ts x p = begins_term text p.0 ts x p.1
 
   -- what a disjunction over any terms is exact for, terms are too
-  closed : (n d : ℕ) (q : Bool) (deeper : Reader placed.Term) → ((m : ℕ) (p : Bool) → n ≡ suc m → IsExact (depth m p) (depth m false) term_more (g.term_within text (n + d)) (any_term text) deeper)
+  closed : (n d : ℕ) (q : Bool) (deeper : Reader source.Term) → ((m : ℕ) (p : Bool) → n ≡ suc m → IsExact (depth m p) (depth m false) term_more (g.term_within text (n + d)) (any_term text) deeper)
       → IsExact (depth n q) (depth n false) term_more (g.term_over text (g.term_within text (n + d))) (any_term text) (r.disjunction_at text n deeper)
   closed n d q deeper h = exact_wider (depth n q) (depth n false) term_more term_more (g.term_over text (g.term_within text (n + d))) (g.term_over text (any_term text)) (g.term_over text (g.term_within text (n + d))) (any_term text)
       (λ _ _ p. p) (λ ts x p. opened_at ts x p.0 p.1) (within_self term_more) (r.disjunction_at text n deeper)
       (exact_disjunction text n deeper (g.term_within text (n + d)) (any_term text) (has_term text (n + d)) (begins_term text (n + d)) begins_any_term h q)
 
-  pub deeper : (n m d : ℕ) (p : Bool) (f : Reader placed.Term) → suc n ≡ suc m → IsExact (depth n p) (depth n false) term_more (g.term_within text (suc (n + d))) (any_term text) f
+  pub deeper : (n m d : ℕ) (p : Bool) (f : Reader source.Term) → suc n ≡ suc m → IsExact (depth n p) (depth n false) term_more (g.term_within text (suc (n + d))) (any_term text) f
       → IsExact (depth m p) (depth m false) term_more (g.term_within text (suc n + d)) (any_term text) f
   deeper n m d p f e h =
       let same : n ≡ m = omega arith in

@@ -6,7 +6,7 @@ use Rattle.asm_syntax.specs.declared.refused.Refused.{Refused}
 use Rattle.asm_syntax.specs.declared.refused.Refused.TheVariants.{Memory, Named}
 use Rattle.asm_syntax.specs.declared.token.Kind.{Kind}
 use Rattle.asm_syntax.specs.declared.token.Token.{Token}
-use Rattle.asm_syntax.specs.Placed as placed
+use Rattle.asm_syntax.specs.SourceTree as source
 use Rattle.asm_reader.specs.declared.error.ReadError.{ReadError}
 use Rattle.asm_reader.specs.Levels.{Depth, at_depth, depth_after}
 use Rattle.asm_reader.specs.Parts.{Part}
@@ -25,25 +25,25 @@ nothing_behind : (front us : List Token) (t : Token) → ¬ (front ++ t ∷ us �
 nothing_behind front us t e = omega (arith, ap length e, length-append front (t ∷ us))
 
 -- P are specifications in which enough levels may open.
-module _ (text : List ℕ) (more : List Kind) (P : Part placed.Spec) (wide : Includes P (specification text)) where
+module _ (text : List ℕ) (more : List Kind) (P : Part source.Spec) (wide : Includes P (specification text)) where
   abbrev top : Depth
   top = at_depth max_nesting
 
-  abbrev N : Part placed.Spec
+  abbrev N : Part source.Spec
   N = specification text
 
-  goes_on : (before : List Token) → (us : List Token) × (s : placed.Spec) × P (before ++ us) s → GoesOn text before
+  goes_on : (before : List Token) → (us : List Token) × (s : source.Spec) × P (before ++ us) s → GoesOn text before
   goes_on before g = (g.0, g.1, wide (before ++ g.0) g.1 g.2)
 
   is_within : (ts : List Token) → depth_after top ts ≡ top → IsWithinLevels ts
   is_within ts e = rw e refl
 
-  all_taken : (ts : List Token) (s : placed.Spec) → Takes top top more P N ts s [] → AreSpelling text ts s
+  all_taken : (ts : List Token) (s : source.Spec) → Takes top top more P N ts s [] → AreSpelling text ts s
   all_taken ts s t =
       let whole : ts ≡ t.front = t.parts ∙ append-nil t.front in
       (rw whole (wide t.front s t.made), rw whole (is_within t.front t.fits))
 
-  left_over : (ts : List Token) (s : placed.Spec) (t : Token) (rest : List Token) → Takes top top more P N ts s (t ∷ rest) → IsUnexpected text ts t.start
+  left_over : (ts : List Token) (s : source.Spec) (t : Token) (rest : List Token) → Takes top top more P N ts s (t ∷ rest) → IsUnexpected text ts t.start
   left_over ts s t rest u = record {
     before = u.front;
     bad = t;
@@ -96,14 +96,14 @@ module _ (text : List ℕ) (more : List Kind) (P : Part placed.Spec) (wide : Inc
   refused ts e (inl s) = rw s.error (stopped ts e s s.rest refl)
   refused ts e (inr s) = rw s.error (sunk ts e s)
 
-  module _ (f : Reader placed.Spec) (exact : IsExact top top more P N f) (ts : List Token) where
+  module _ (f : Reader source.Spec) (exact : IsExact top top more P N f) (ts : List Token) where
     -- what is read up to the end
-    pub ends_here : (s : placed.Spec) (rest : List Token) → f ts ≡ Ok (s, rest) → length rest < 1 → AreSpelling text ts s
+    pub ends_here : (s : source.Spec) (rest : List Token) → f ts ≡ Ok (s, rest) → length rest < 1 → AreSpelling text ts s
     ends_here s [] e l = all_taken ts s (rw e at (exact ts))
     ends_here s (t ∷ rest) e l = absurd (omega arith)
 
     -- what is read, and more behind it
-    pub goes_past : (s : placed.Spec) (rest : List Token) (default : Token) → f ts ≡ Ok (s, rest) → 1 ≤ length rest → IsUnexpected text ts (get_or rest 0 default).start
+    pub goes_past : (s : source.Spec) (rest : List Token) (default : Token) → f ts ≡ Ok (s, rest) → 1 ≤ length rest → IsUnexpected text ts (get_or rest 0 default).start
     goes_past s [] default e l = absurd (omega arith)
     goes_past s (t ∷ rest) default e l = left_over ts s t rest (rw e at (exact ts))
 

@@ -1,4 +1,4 @@
--- The grammar of declarations and of whole specifications, with the placed trees that its texts make.
+-- The grammar of declarations and of whole specifications, with the source trees that its texts make.
 use Rattle.std.specs.Prelude.{ℕ, List, [], ◌∷◌, length, Option, Some, None}
 use Rattle.asm_state.specs.declared.number.Number.{Number}
 use Rattle.asm_syntax.specs.declared.token.Kind.{Kind}
@@ -8,7 +8,7 @@ use Rattle.asm_syntax.specs.declared.token.Word.TheVariants.{CoreAsm, Use, Init,
 use Rattle.asm_syntax.specs.declared.term.Literal.TheVariants as literal
 use Rattle.asm_syntax.specs.declared.spec.FunctionKind.{FunctionKind}
 use Rattle.asm_syntax.specs.declared.spec.FunctionKind.TheVariants as function_kind
-use Rattle.asm_syntax.specs.Placed as placed
+use Rattle.asm_syntax.specs.SourceTree as source
 use Rattle.asm_reader.specs.Parts.{Part, ◌then◌, ◌or◌, optional, repeated, ◌makes◌, number, negative_number, choice, past, separated, enclosed, between}
 use Rattle.asm_reader.specs.TermGrammar.{name, constants, listed, any_term}
 use Rattle.asm_reader.specs.RuleGrammar.{any_rule}
@@ -19,7 +19,7 @@ abbrev pub function_kinds : List (Kind × FunctionKind)
 function_kinds = (Word Controlled, function_kind.Controlled) ∷ (Word Static, function_kind.Static) ∷ []
 
 -- the universes and the codomain of a type that may be left out
-abbrev pub typed : Option (List placed.Name × Option placed.Name) → List placed.Name × Option placed.Name
+abbrev pub typed : Option (List source.Name × Option source.Name) → List source.Name × Option source.Name
 typed None = ([], None)
 typed (Some t) = t
 
@@ -31,72 +31,72 @@ int = past (Symbol Minus) negative_number or number
 
 module _ (text : List ℕ) where
   -- int | "true" | "false" | "undef" | name
-  unfoldable pub constant : Part placed.Const
-  constant = (int makes (λ n. placed.Plain (literal.Number n))) or (choice constants makes placed.Plain) or (name text makes placed.Element)
+  unfoldable pub constant : Part source.Const
+  constant = (int makes (λ n. source.Plain (literal.Number n))) or (choice constants makes source.Plain) or (name text makes source.Element)
 
   -- "(" constant { "," constant } ")" "->" constant
-  unfoldable pub entry : Part placed.Entry
+  unfoldable pub entry : Part source.Entry
   entry = (enclosed (Symbol Open) (Symbol Close) (separated (Symbol Comma) constant) then past (Symbol Arrow) constant)
       makes (λ r. record { at = r.0.0.start; arguments = r.0.1; value = r.1 })
 
   -- "{" entry { "," entry } "}" | constant
-  unfoldable pub table : Part placed.Given
-  table = (between (Symbol OpenBrace) (Symbol CloseBrace) (separated (Symbol Comma) entry) makes placed.Entries) or (constant makes placed.Each)
+  unfoldable pub table : Part source.Given
+  table = (between (Symbol OpenBrace) (Symbol CloseBrace) (separated (Symbol Comma) entry) makes source.Entries) or (constant makes source.Each)
 
   -- "->" name | name { "*" name } [ "->" name ]
-  unfoldable pub type : Part (List placed.Name × Option placed.Name)
+  unfoldable pub type : Part (List source.Name × Option source.Name)
   type = (past (Symbol Arrow) (name text) makes (λ x. ([], Some x)))
       or (separated (Symbol Times) (name text) then optional (past (Symbol Arrow) (name text)))
 
   -- [ ":" type ]
-  unfoldable pub signature : Part (List placed.Name × Option placed.Name)
+  unfoldable pub signature : Part (List source.Name × Option source.Name)
   signature = optional (past (Symbol Colon) type) makes typed
 
   -- [ "(" name { "," name } ")" ]
-  unfoldable pub parameters : Part (List placed.Name)
+  unfoldable pub parameters : Part (List source.Name)
   parameters = optional (between (Symbol Open) (Symbol Close) (separated (Symbol Comma) (name text))) makes listed
 
   -- "use" name
-  unfoldable pub use_item : Part placed.Item
-  use_item = past (Word Use) (name text) makes placed.Uses
+  unfoldable pub use_item : Part source.Item
+  use_item = past (Word Use) (name text) makes source.Uses
 
   -- "init" name
-  unfoldable pub init_item : Part placed.Item
-  init_item = past (Word Init) (name text) makes placed.Init
+  unfoldable pub init_item : Part source.Item
+  init_item = past (Word Init) (name text) makes source.Init
 
   -- "enum" name "=" "{" name { "," name } "}"
-  unfoldable pub enum_item : Part placed.Item
+  unfoldable pub enum_item : Part source.Item
   enum_item = past (Word Enum) (name text then past (Symbol Equal) (between (Symbol OpenBrace) (Symbol CloseBrace) (separated (Symbol Comma) (name text))))
-      makes (λ r. placed.Enum r.0 r.1)
+      makes (λ r. source.Enum r.0 r.1)
 
   -- "universe" name "=" int ".." int
-  unfoldable pub universe_item : Part placed.Item
+  unfoldable pub universe_item : Part source.Item
   universe_item = past (Word Universe) (name text then past (Symbol Equal) (int then past (Symbol Dots) int))
-      makes (λ r. placed.Universe r.0 r.1.0 r.1.1)
+      makes (λ r. source.Universe r.0 r.1.0 r.1.1)
 
   -- "function" ( "controlled" | "static" ) name signature [ "initially" table ]
-  unfoldable pub function_item : Part placed.Item
+  unfoldable pub function_item : Part source.Item
   function_item = past (Word Function) (choice function_kinds then name text then signature then optional (past (Word Initially) table))
-      makes (λ r. placed.Function r.1.0 r.0 r.1.1.0.0 r.1.1.0.1 r.1.1.1)
+      makes (λ r. source.Function r.1.0 r.0 r.1.1.0.0 r.1.1.0.1 r.1.1.1)
 
   -- over the terms and the rules that are bodies
-  module _ (term : Part placed.Term) (rule : Part placed.Rule) where
+  module _ (term : Part source.Term) (rule : Part source.Rule) where
     -- "derived" name parameters "=" term
-    unfoldable pub derived_item : Part placed.Item
+    unfoldable pub derived_item : Part source.Item
     derived_item = past (Word Derived) (name text then parameters then past (Symbol Equal) term)
-        makes (λ r. placed.Derived r.0 r.1.0 r.1.1)
+        makes (λ r. source.Derived r.0 r.1.0 r.1.1)
 
     -- "rule" name parameters "=" rule
-    unfoldable pub rule_item : Part placed.Item
+    unfoldable pub rule_item : Part source.Item
     rule_item = past (Word Rule) (name text then parameters then past (Symbol Equal) rule)
-        makes (λ r. placed.Declared r.0 r.1.0 r.1.1)
+        makes (λ r. source.Declared r.0 r.1.0 r.1.1)
 
-    unfoldable pub item : Part placed.Item
+    unfoldable pub item : Part source.Item
     item = use_item or init_item or enum_item or universe_item or function_item or derived_item or rule_item
 
     -- "CoreASM" name { item }
-    unfoldable pub specification_over : Part placed.Spec
+    unfoldable pub specification_over : Part source.Spec
     specification_over = past (Word CoreAsm) (name text then repeated item) makes (λ r. record { name = r.0; items = r.1; length = length text })
 
-  abbrev pub specification : Part placed.Spec
+  abbrev pub specification : Part source.Spec
   specification = specification_over (any_term text) (any_rule text)

@@ -6,7 +6,7 @@ use Rattle.asm_syntax.specs.declared.token.Kind.TheVariants.{Number, Symbol, Wor
 use Rattle.asm_syntax.specs.declared.token.Symbol.TheVariants.{Open, Close, OpenBrace, CloseBrace, Comma, Colon, Equal, Minus, Times, Arrow, Dots}
 use Rattle.asm_syntax.specs.declared.token.Word.TheVariants.{CoreAsm, Use, Init, Enum, Universe, Function, Initially, Derived, Rule}
 use Rattle.asm_syntax.specs.declared.term.Literal.TheVariants as literal
-use Rattle.asm_syntax.specs.Placed as placed
+use Rattle.asm_syntax.specs.SourceTree as source
 use Rattle.asm_reader.specs.Kinds.{keys}
 use Rattle.asm_reader.specs.Steps.{Reader, pair_of, mapped, either_of, option_of, repeated_of, number_at, choice_at, past_of, separated_of, enclosed_of, between_of, braced_of}
 use Rattle.asm_reader.specs.TermGrammar.{constants, listed}
@@ -22,74 +22,74 @@ unfoldable pub int_at : Reader WholeNumber
 int_at = either_of (Symbol Minus ∷ []) (past_of (Symbol Minus) (number_at true)) (number_at false)
 
 module _ (text : List ℕ) where
-  unfoldable pub constant_at : Reader placed.Const
-  constant_at = either_of (Symbol Minus ∷ Number 0 ∷ []) (mapped (λ n. placed.Plain (literal.Number n)) int_at)
-      (either_of (keys constants) (mapped placed.Plain (choice_at constants)) (mapped placed.Element (name_at text)))
+  unfoldable pub constant_at : Reader source.Const
+  constant_at = either_of (Symbol Minus ∷ Number 0 ∷ []) (mapped (λ n. source.Plain (literal.Number n)) int_at)
+      (either_of (keys constants) (mapped source.Plain (choice_at constants)) (mapped source.Element (name_at text)))
 
-  abbrev pub constants_at : Reader (List placed.Const)
+  abbrev pub constants_at : Reader (List source.Const)
   constants_at = separated_of (Symbol Comma) constant_at
 
-  abbrev pub names_at : Kind → Reader (List placed.Name)
+  abbrev pub names_at : Kind → Reader (List source.Name)
   names_at between = separated_of between (name_at text)
 
-  unfoldable pub codomain_at : Reader (Option placed.Name)
+  unfoldable pub codomain_at : Reader (Option source.Name)
   codomain_at = option_of (Symbol Arrow ∷ []) (past_of (Symbol Arrow) (name_at text))
 
-  unfoldable pub type_at : Reader (List placed.Name × Option placed.Name)
+  unfoldable pub type_at : Reader (List source.Name × Option source.Name)
   type_at = either_of (Symbol Arrow ∷ []) (mapped (λ x. ([], Some x)) (past_of (Symbol Arrow) (name_at text))) (pair_of (names_at (Symbol Times)) codomain_at)
 
-  unfoldable pub signature_at : Reader (List placed.Name × Option placed.Name)
+  unfoldable pub signature_at : Reader (List source.Name × Option source.Name)
   signature_at = mapped typed (option_of (Symbol Colon ∷ []) (past_of (Symbol Colon) type_at))
 
-  unfoldable pub use_at : Reader placed.Item
-  use_at = mapped placed.Uses (past_of (Word Use) (name_at text))
+  unfoldable pub use_at : Reader source.Item
+  use_at = mapped source.Uses (past_of (Word Use) (name_at text))
 
-  unfoldable pub init_at : Reader placed.Item
-  init_at = mapped placed.Init (past_of (Word Init) (name_at text))
+  unfoldable pub init_at : Reader source.Item
+  init_at = mapped source.Init (past_of (Word Init) (name_at text))
 
-  unfoldable pub elements_at : Reader (List placed.Name)
+  unfoldable pub elements_at : Reader (List source.Name)
   elements_at = braced_of (Symbol OpenBrace) (Symbol CloseBrace) (names_at (Symbol Comma))
 
-  unfoldable pub enum_at : Reader placed.Item
-  enum_at = mapped (λ r. placed.Enum r.0 r.1) (past_of (Word Enum) (pair_of (name_at text) (past_of (Symbol Equal) elements_at)))
+  unfoldable pub enum_at : Reader source.Item
+  enum_at = mapped (λ r. source.Enum r.0 r.1) (past_of (Word Enum) (pair_of (name_at text) (past_of (Symbol Equal) elements_at)))
 
-  unfoldable pub universe_at : Reader placed.Item
-  universe_at = mapped (λ r. placed.Universe r.0 r.1.0 r.1.1) (past_of (Word Universe) (pair_of (name_at text) (past_of (Symbol Equal) (pair_of int_at (past_of (Symbol Dots) int_at)))))
+  unfoldable pub universe_at : Reader source.Item
+  universe_at = mapped (λ r. source.Universe r.0 r.1.0 r.1.1) (past_of (Word Universe) (pair_of (name_at text) (past_of (Symbol Equal) (pair_of int_at (past_of (Symbol Dots) int_at)))))
 
   -- n levels may open
   module _ (n : ℕ) where
-    unfoldable pub entry_at : Reader placed.Entry
+    unfoldable pub entry_at : Reader source.Entry
     entry_at = mapped (λ r. record { at = r.0.0.start; arguments = r.0.1; value = r.1 })
         (pair_of (enclosed_of n (Symbol Open) (Symbol Close) constants_at) (past_of (Symbol Arrow) constant_at))
 
-    abbrev pub entries_at : Reader (List placed.Entry)
+    abbrev pub entries_at : Reader (List source.Entry)
     entries_at = separated_of (Symbol Comma) entry_at
 
-    unfoldable pub braced_entries_at : Reader (List placed.Entry)
+    unfoldable pub braced_entries_at : Reader (List source.Entry)
     braced_entries_at = braced_of (Symbol OpenBrace) (Symbol CloseBrace) entries_at
 
-    unfoldable pub table_at : Reader placed.Given
-    table_at = either_of (Symbol OpenBrace ∷ []) (mapped placed.Entries braced_entries_at) (mapped placed.Each constant_at)
+    unfoldable pub table_at : Reader source.Given
+    table_at = either_of (Symbol OpenBrace ∷ []) (mapped source.Entries braced_entries_at) (mapped source.Each constant_at)
 
-    unfoldable pub initially_at : Reader (Option placed.Given)
+    unfoldable pub initially_at : Reader (Option source.Given)
     initially_at = option_of (Word Initially ∷ []) (past_of (Word Initially) table_at)
 
-    unfoldable pub parameters_at : Reader (List placed.Name)
+    unfoldable pub parameters_at : Reader (List source.Name)
     parameters_at = mapped listed (option_of (Symbol Open ∷ []) (between_of n (Symbol Open) (Symbol Close) (names_at (Symbol Comma))))
 
-    unfoldable pub function_at : Reader placed.Item
-    function_at = mapped (λ r. placed.Function r.1.0 r.0 r.1.1.0.0 r.1.1.0.1 r.1.1.1)
+    unfoldable pub function_at : Reader source.Item
+    function_at = mapped (λ r. source.Function r.1.0 r.0 r.1.1.0.0 r.1.1.0.1 r.1.1.1)
         (past_of (Word Function) (pair_of (choice_at function_kinds) (pair_of (name_at text) (pair_of signature_at initially_at))))
 
-    unfoldable pub derived_at : Reader placed.Item
-    derived_at = mapped (λ r. placed.Derived r.0 r.1.0 r.1.1) (past_of (Word Derived) (pair_of (name_at text) (pair_of parameters_at (past_of (Symbol Equal) (term_at text n)))))
+    unfoldable pub derived_at : Reader source.Item
+    derived_at = mapped (λ r. source.Derived r.0 r.1.0 r.1.1) (past_of (Word Derived) (pair_of (name_at text) (pair_of parameters_at (past_of (Symbol Equal) (term_at text n)))))
 
-    unfoldable pub declared_at : Reader placed.Item
-    declared_at = mapped (λ r. placed.Declared r.0 r.1.0 r.1.1) (past_of (Word Rule) (pair_of (name_at text) (pair_of parameters_at (past_of (Symbol Equal) (rule_at text n)))))
+    unfoldable pub declared_at : Reader source.Item
+    declared_at = mapped (λ r. source.Declared r.0 r.1.0 r.1.1) (past_of (Word Rule) (pair_of (name_at text) (pair_of parameters_at (past_of (Symbol Equal) (rule_at text n)))))
 
-    unfoldable pub item_at : Reader placed.Item
+    unfoldable pub item_at : Reader source.Item
     item_at = either_of (Word Use ∷ []) use_at (either_of (Word Init ∷ []) init_at (either_of (Word Enum ∷ []) enum_at (either_of (Word Universe ∷ []) universe_at
         (either_of (Word Function ∷ []) function_at (either_of (Word Derived ∷ []) derived_at declared_at)))))
 
-    unfoldable pub specification_at : Reader placed.Spec
+    unfoldable pub specification_at : Reader source.Spec
     specification_at = mapped (λ r. record { name = r.0; items = r.1; length = length text }) (past_of (Word CoreAsm) (pair_of (name_at text) (repeated_of item_starts item_at)))

@@ -1,14 +1,14 @@
 -- Why a text isn't a specification.
 --     IsUnexpected, IsUnexpectedEnd, IsTooDeep       what is wrong with a list of tokens
 --     IsRefusal                                      what is wrong with a text
---     refusal_number, refusal_place                  the number of a refusal, and the place where it stands, if it has one
+--     refusal_number, refusal_offset                  the number of a refusal, and the offset where it stands, if it has one
 use Rattle.std.specs.Prelude.{◌≡◌, ℕ, List, [], ◌∷◌, ◌++◌, Option, Some, None}
 use Rattle.asm_syntax.specs.declared.token.Token.{Token}
 use Rattle.asm_syntax.specs.declared.refused.Refused.{Refused}
 use Rattle.asm_syntax.specs.declared.refused.Refused.TheVariants.{Memory, Named}
-use Rattle.asm_syntax.specs.Placed as placed
+use Rattle.asm_syntax.specs.SourceTree as source
 use Rattle.asm_syntax.specs.Tokens.{AreTokens, IsFault}
-use Rattle.asm_syntax.specs.Faults.{fault_number, fault_place}
+use Rattle.asm_syntax.specs.Faults.{fault_number, fault_offset}
 use Rattle.asm_reader.specs.declared.error.ReadError.{ReadError}
 use Rattle.asm_reader.specs.declared.error.ReadError.TheVariants.{Lex, Unexpected, UnexpectedEnd, TooDeep}
 use Rattle.asm_reader.specs.Grammar.{specification}
@@ -29,7 +29,7 @@ module _ (text : List ℕ) (ts : List Token) where
   -- The tokens go on, and spell nothing.
   pub record IsUnexpectedEnd : Type 0 where
     pub goes : GoesOn text ts
-    pub unfinished : (s : placed.Spec) → ¬ specification text ts s
+    pub unfinished : (s : source.Spec) → ¬ specification text ts s
     pub levels : IsWithinLevels ts
 
   -- The tokens go on with this one, and it opens a level too many.
@@ -76,8 +76,8 @@ refusal_number (Unexpected at) = 5
 refusal_number UnexpectedEnd = 6
 refusal_number (TooDeep at) = 7
 
-abbrev pub refusal_place : ReadError → Option ℕ
-refusal_place (Lex e) = fault_place e
-refusal_place (Unexpected at) = Some at
-refusal_place UnexpectedEnd = None
-refusal_place (TooDeep at) = Some at
+abbrev pub refusal_offset : ReadError → Option ℕ
+refusal_offset (Lex e) = fault_offset e
+refusal_offset (Unexpected at) = Some at
+refusal_offset UnexpectedEnd = None
+refusal_offset (TooDeep at) = Some at

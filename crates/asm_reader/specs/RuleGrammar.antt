@@ -1,78 +1,78 @@
--- The grammar of rules, with the placed trees that its texts make.
+-- The grammar of rules, with the source trees that its texts make.
 use Rattle.std.specs.Prelude.{ℕ, zero, suc, List, Option, Some, None}
 use Rattle.asm_syntax.specs.declared.token.Kind.TheVariants.{Symbol, Word}
 use Rattle.asm_syntax.specs.declared.token.Symbol.TheVariants.{Assign, Equal}
 use Rattle.asm_syntax.specs.declared.token.Word.TheVariants.{Skip, Par, EndPar, Seq, EndSeq, If, Then, Else, EndIf, Let, In, EndLet, Forall, With, Do, EndForall, Choose, IfNone, EndChoose, Iterate, EndIterate}
-use Rattle.asm_syntax.specs.Placed as placed
+use Rattle.asm_syntax.specs.SourceTree as source
 use Rattle.asm_syntax.specs.Views.{rules_of}
 use Rattle.asm_reader.specs.Parts.{Part, token, ◌then◌, ◌or◌, optional, ◌makes◌, nothing, past, several, between, at_any_depth}
 use Rattle.asm_reader.specs.TermGrammar.{name, binding, applied, term_over, term_within}
 
 -- a rule that may be left out
-abbrev pub branch : Option placed.Rule → placed.Branch
-branch None = placed.left_out
-branch (Some P) = placed.written P
+abbrev pub branch : Option source.Rule → source.Branch
+branch None = source.left_out
+branch (Some P) = source.written P
 
 -- "skip"
-unfoldable pub skip_rule : Part placed.Rule
-skip_rule = token (Word Skip) makes (λ _. placed.Skip)
+unfoldable pub skip_rule : Part source.Rule
+skip_rule = token (Word Skip) makes (λ _. source.Skip)
 
 -- ---- productions, for names whose bytes stand in this text, over the terms and the rules that stand one level deeper
 
-module _ (text : List ℕ) (term : Part placed.Term) (rule : Part placed.Rule) where
+module _ (text : List ℕ) (term : Part source.Term) (rule : Part source.Rule) where
   -- name [ arguments ] ":=" term
-  unfoldable pub assignment : Part placed.Rule
-  assignment = (applied text term then past (Symbol Assign) (term_over text term)) makes (λ r. placed.Assign r.0.0 r.0.1 r.1)
+  unfoldable pub assignment : Part source.Rule
+  assignment = (applied text term then past (Symbol Assign) (term_over text term)) makes (λ r. source.Assign r.0.0 r.0.1 r.1)
 
   -- name [ arguments ]
-  unfoldable pub call : Part placed.Rule
-  call = applied text term makes (λ r. placed.Call r.0 r.1)
+  unfoldable pub call : Part source.Rule
+  call = applied text term makes (λ r. source.Call r.0 r.1)
 
   -- "par" rule { rule } "endpar"
-  unfoldable pub par_rule : Part placed.Rule
-  par_rule = between (Word Par) (Word EndPar) (several rule) makes (λ r. placed.Par (rules_of r))
+  unfoldable pub par_rule : Part source.Rule
+  par_rule = between (Word Par) (Word EndPar) (several rule) makes (λ r. source.Par (rules_of r))
 
   -- "seq" rule { rule } "endseq"
-  unfoldable pub seq_rule : Part placed.Rule
-  seq_rule = between (Word Seq) (Word EndSeq) (several rule) makes (λ r. placed.Seq (rules_of r))
+  unfoldable pub seq_rule : Part source.Rule
+  seq_rule = between (Word Seq) (Word EndSeq) (several rule) makes (λ r. source.Seq (rules_of r))
 
   -- "if" term "then" rule [ "else" rule ] "endif"
-  unfoldable pub if_rule : Part placed.Rule
+  unfoldable pub if_rule : Part source.Rule
   if_rule = between (Word If) (Word EndIf) (term then past (Word Then) rule then optional (past (Word Else) rule))
-      makes (λ r. placed.If r.0 r.1.0 (branch r.1.1))
+      makes (λ r. source.If r.0 r.1.0 (branch r.1.1))
 
   -- "let" name "=" term "in" rule "endlet"
-  unfoldable pub let_rule : Part placed.Rule
+  unfoldable pub let_rule : Part source.Rule
   let_rule = between (Word Let) (Word EndLet) (name text then past (Symbol Equal) term then past (Word In) rule)
-      makes (λ r. placed.Let r.0 r.1.0 r.1.1)
+      makes (λ r. source.Let r.0 r.1.0 r.1.1)
 
   -- "forall" name "in" name [ "with" term ] "do" rule "endforall"
-  unfoldable pub forall_rule : Part placed.Rule
+  unfoldable pub forall_rule : Part source.Rule
   forall_rule = between (Word Forall) (Word EndForall) (binding text then optional (past (Word With) term) then past (Word Do) rule)
-      makes (λ r. placed.Forall r.0.0 r.0.1 r.1.0 r.1.1)
+      makes (λ r. source.Forall r.0.0 r.0.1 r.1.0 r.1.1)
 
   -- "choose" name "in" name [ "with" term ] "do" rule [ "ifnone" rule ] "endchoose"
-  unfoldable pub choose_rule : Part placed.Rule
+  unfoldable pub choose_rule : Part source.Rule
   choose_rule = between (Word Choose) (Word EndChoose)
       (binding text then optional (past (Word With) term) then past (Word Do) rule then optional (past (Word IfNone) rule))
-      makes (λ r. placed.Choose r.0.0 r.0.1 r.1.0 r.1.1.0 (branch r.1.1.1))
+      makes (λ r. source.Choose r.0.0 r.0.1 r.1.0 r.1.1.0 (branch r.1.1.1))
 
   -- "iterate" rule "enditerate"
-  unfoldable pub iterate_rule : Part placed.Rule
-  iterate_rule = between (Word Iterate) (Word EndIterate) rule makes placed.Iterate
+  unfoldable pub iterate_rule : Part source.Rule
+  iterate_rule = between (Word Iterate) (Word EndIterate) rule makes source.Iterate
 
   -- the rules with an end word
-  unfoldable pub block_rule : Part placed.Rule
+  unfoldable pub block_rule : Part source.Rule
   block_rule = par_rule or seq_rule or if_rule or let_rule or forall_rule or choose_rule or iterate_rule
 
-  unfoldable pub rule_over : Part placed.Rule
+  unfoldable pub rule_over : Part source.Rule
   rule_over = skip_rule or (call or assignment) or block_rule
 
 module _ (text : List ℕ) where
   -- a rule in which rules with an end word and parentheses nest at most n deep
-  unfoldable pub rule_within : ℕ → Part placed.Rule
+  unfoldable pub rule_within : ℕ → Part source.Rule
   rule_within zero = rule_over text nothing nothing
   rule_within (suc n) = rule_over text (term_within text n) (rule_within n)
 
-  abbrev pub any_rule : Part placed.Rule
+  abbrev pub any_rule : Part source.Rule
   any_rule = at_any_depth rule_within

@@ -5,7 +5,7 @@ use Rattle.asm_syntax.specs.declared.token.Kind.TheVariants as kind
 use Rattle.asm_syntax.specs.declared.token.Kind.TheVariants.{Symbol, Word}
 use Rattle.asm_syntax.specs.declared.token.Symbol.TheVariants.{Assign, Equal}
 use Rattle.asm_syntax.specs.declared.token.Word.TheVariants.{Skip, Par, EndPar, Seq, EndSeq, If, Then, Else, EndIf, Let, In, EndLet, Forall, With, Do, EndForall, Choose, IfNone, EndChoose, Iterate, EndIterate}
-use Rattle.asm_syntax.specs.Placed as placed
+use Rattle.asm_syntax.specs.SourceTree as source
 use Rattle.asm_syntax.specs.Views.{rules_of}
 use Rattle.asm_reader.specs.Steps.{Reader, refuse, expect, pair_of, mapped, either_of, option_of, past_of, several_of, between_of}
 use Rattle.asm_reader.specs.RuleGrammar.{branch}
@@ -16,58 +16,58 @@ abbrev pub rule_starts : List Kind
 rule_starts = Word Skip ∷ kind.Name ∷ Word Par ∷ Word Seq ∷ Word If ∷ Word Let ∷ Word Forall ∷ Word Choose ∷ Word Iterate ∷ []
 
 -- a call, or the assignment that it turns out to be
-abbrev pub named_rule : (placed.Name × placed.Terms) × Option placed.Term → placed.Rule
-named_rule (target, None) = placed.Call target.0 target.1
-named_rule (target, Some t) = placed.Assign target.0 target.1 t
+abbrev pub named_rule : (source.Name × source.Terms) × Option source.Term → source.Rule
+named_rule (target, None) = source.Call target.0 target.1
+named_rule (target, Some t) = source.Assign target.0 target.1 t
 
-unfoldable pub skip_at : Reader placed.Rule
-skip_at = mapped (λ _. placed.Skip) (expect (Word Skip))
+unfoldable pub skip_at : Reader source.Rule
+skip_at = mapped (λ _. source.Skip) (expect (Word Skip))
 
-unfoldable pub else_at : Reader placed.Rule → Reader (Option placed.Rule)
+unfoldable pub else_at : Reader source.Rule → Reader (Option source.Rule)
 else_at rule = option_of (Word Else ∷ []) (past_of (Word Else) rule)
 
-unfoldable pub if_none_at : Reader placed.Rule → Reader (Option placed.Rule)
+unfoldable pub if_none_at : Reader source.Rule → Reader (Option source.Rule)
 if_none_at rule = option_of (Word IfNone ∷ []) (past_of (Word IfNone) rule)
 
-unfoldable pub condition_at : Reader placed.Term → Reader (Option placed.Term)
+unfoldable pub condition_at : Reader source.Term → Reader (Option source.Term)
 condition_at term = option_of (Word With ∷ []) (past_of (Word With) term)
 
 -- n levels may open, and `term` and `rule` read behind one of them
-module _ (text : List ℕ) (n : ℕ) (term : Reader placed.Term) (rule : Reader placed.Rule) where
-  unfoldable pub named_rule_at : Reader placed.Rule
+module _ (text : List ℕ) (n : ℕ) (term : Reader source.Term) (rule : Reader source.Rule) where
+  unfoldable pub named_rule_at : Reader source.Rule
   named_rule_at = mapped named_rule (pair_of (applied_at text n term) (option_of (Symbol Assign ∷ []) (past_of (Symbol Assign) (disjunction_at text n term))))
 
-  unfoldable pub par_at : Reader placed.Rule
-  par_at = mapped (λ r. placed.Par (rules_of r)) (between_of n (Word Par) (Word EndPar) (several_of rule_starts rule))
+  unfoldable pub par_at : Reader source.Rule
+  par_at = mapped (λ r. source.Par (rules_of r)) (between_of n (Word Par) (Word EndPar) (several_of rule_starts rule))
 
-  unfoldable pub seq_at : Reader placed.Rule
-  seq_at = mapped (λ r. placed.Seq (rules_of r)) (between_of n (Word Seq) (Word EndSeq) (several_of rule_starts rule))
+  unfoldable pub seq_at : Reader source.Rule
+  seq_at = mapped (λ r. source.Seq (rules_of r)) (between_of n (Word Seq) (Word EndSeq) (several_of rule_starts rule))
 
-  unfoldable pub if_at : Reader placed.Rule
-  if_at = mapped (λ r. placed.If r.0 r.1.0 (branch r.1.1)) (between_of n (Word If) (Word EndIf) (pair_of term (pair_of (past_of (Word Then) rule) (else_at rule))))
+  unfoldable pub if_at : Reader source.Rule
+  if_at = mapped (λ r. source.If r.0 r.1.0 (branch r.1.1)) (between_of n (Word If) (Word EndIf) (pair_of term (pair_of (past_of (Word Then) rule) (else_at rule))))
 
-  unfoldable pub let_at : Reader placed.Rule
-  let_at = mapped (λ r. placed.Let r.0 r.1.0 r.1.1) (between_of n (Word Let) (Word EndLet) (pair_of (name_at text) (pair_of (past_of (Symbol Equal) term) (past_of (Word In) rule))))
+  unfoldable pub let_at : Reader source.Rule
+  let_at = mapped (λ r. source.Let r.0 r.1.0 r.1.1) (between_of n (Word Let) (Word EndLet) (pair_of (name_at text) (pair_of (past_of (Symbol Equal) term) (past_of (Word In) rule))))
 
-  unfoldable pub forall_at : Reader placed.Rule
-  forall_at = mapped (λ r. placed.Forall r.0.0 r.0.1 r.1.0 r.1.1)
+  unfoldable pub forall_at : Reader source.Rule
+  forall_at = mapped (λ r. source.Forall r.0.0 r.0.1 r.1.0 r.1.1)
       (between_of n (Word Forall) (Word EndForall) (pair_of (binding_at text) (pair_of (condition_at term) (past_of (Word Do) rule))))
 
-  unfoldable pub choose_at : Reader placed.Rule
-  choose_at = mapped (λ r. placed.Choose r.0.0 r.0.1 r.1.0 r.1.1.0 (branch r.1.1.1))
+  unfoldable pub choose_at : Reader source.Rule
+  choose_at = mapped (λ r. source.Choose r.0.0 r.0.1 r.1.0 r.1.1.0 (branch r.1.1.1))
       (between_of n (Word Choose) (Word EndChoose) (pair_of (binding_at text) (pair_of (condition_at term) (pair_of (past_of (Word Do) rule) (if_none_at rule)))))
 
-  unfoldable pub iterate_at : Reader placed.Rule
-  iterate_at = mapped placed.Iterate (between_of n (Word Iterate) (Word EndIterate) rule)
+  unfoldable pub iterate_at : Reader source.Rule
+  iterate_at = mapped source.Iterate (between_of n (Word Iterate) (Word EndIterate) rule)
 
-  unfoldable pub block_at : Reader placed.Rule
+  unfoldable pub block_at : Reader source.Rule
   block_at = either_of (Word Par ∷ []) par_at (either_of (Word Seq ∷ []) seq_at (either_of (Word If ∷ []) if_at (either_of (Word Let ∷ []) let_at
       (either_of (Word Forall ∷ []) forall_at (either_of (Word Choose ∷ []) choose_at iterate_at)))))
 
-  unfoldable pub rule_over_at : Reader placed.Rule
+  unfoldable pub rule_over_at : Reader source.Rule
   rule_over_at = either_of (Word Skip ∷ []) skip_at (either_of (kind.Name ∷ []) named_rule_at block_at)
 
 module _ (text : List ℕ) where
-  unfoldable pub rule_at : ℕ → Reader placed.Rule
+  unfoldable pub rule_at : ℕ → Reader source.Rule
   rule_at zero = rule_over_at text zero refuse refuse
   rule_at (suc n) = rule_over_at text (suc n) (term_at text n) (rule_at n)

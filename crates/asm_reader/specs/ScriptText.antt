@@ -1,6 +1,6 @@
 -- The texts of scripts.
 --     lines_of text                 the lines, each without its end
---     line_of bytes                 what a line says, if it has the form: step, place and number
+--     line_of bytes                 what a line says, if it has the form: step, path and number
 --     script_in lines               what the lines say, in their order
 --     IsScript text script          the text has no faulty line, and this is what it says
 --     IsScriptRefusal text e        why a text is no script
@@ -36,16 +36,16 @@ numbers_of [] = Some []
 numbers_of (bytes ∷ more) = number_then (number_of bytes) (numbers_of more)
 
 -- `-`, or numbers with a dot between each two
-abbrev pub place_of : List ℕ → Option (List ℕ)
-place_of bytes = cond (bytes_eq bytes (codes "-")) (Some []) (numbers_of (slice_split (λ b. b == 46) bytes))
+abbrev pub path_of : List ℕ → Option (List ℕ)
+path_of bytes = cond (bytes_eq bytes (codes "-")) (Some []) (numbers_of (slice_split (λ b. b == 46) bytes))
 
 -- steps count from 1
 abbrev pub line_with : Option ℕ → Option (List ℕ) → Option ℕ → Option Line
-line_with (Some i) (Some p) (Some k) = cond (nat_le 1 i) (Some (record { step = i; place = p; choice = k })) None
+line_with (Some i) (Some p) (Some k) = cond (nat_le 1 i) (Some (record { step = i; path = p; choice = k })) None
 line_with _ _ _ = None
 
 abbrev pub line_of_fields : List (List ℕ) → Option Line
-line_of_fields (i ∷ p ∷ k ∷ []) = line_with (number_of i) (place_of p) (number_of k)
+line_of_fields (i ∷ p ∷ k ∷ []) = line_with (number_of i) (path_of p) (number_of k)
 line_of_fields _ = None
 
 -- three fields with a space between each two
@@ -71,10 +71,10 @@ script_in (bytes ∷ more) = said (is_skipped bytes) (line_of bytes) ++ script_i
 abbrev pub is_bad : List ℕ → Bool
 is_bad bytes = not (is_skipped bytes) && is_none (line_of bytes)
 
--- what is said with the step and the place of a line before it
+-- what is said with the step and the path of a line before it
 abbrev pub says_again : Script → Script → Bool
 says_again before [] = false
-says_again before (line ∷ more) = list_any (is_line_of line.step line.place) before
+says_again before (line ∷ more) = list_any (is_line_of line.step line.path) before
 
 abbrev pub is_repeated : (before : List (List ℕ)) → List ℕ → Bool
 is_repeated before bytes = says_again (script_in before) (said (is_skipped bytes) (line_of bytes))

@@ -8,21 +8,21 @@ use Rattle.asm_state.specs.declared.operation.Op.{Op}
 use Rattle.asm_syntax.specs.declared.name.Name.{Name}
 use Rattle.asm_syntax.specs.declared.term.Term.{Term}
 use Rattle.asm_syntax.specs.declared.rule.Rule.{Rule}
-use Rattle.asm_syntax.specs.Placed as placed
+use Rattle.asm_syntax.specs.SourceTree as source
 use Rattle.asm_syntax.specs.Views.{name_of, term_of, terms_of, rule_of}
 
-abbrev pub names_of : Name × Name → placed.Name × placed.Name
+abbrev pub names_of : Name × Name → source.Name × source.Name
 names_of r = (name_of r.0, name_of r.1)
 
-abbrev pub link_of : Op × Term → Op × placed.Term
+abbrev pub link_of : Op × Term → Op × source.Term
 link_of l = (l.0, term_of l.1)
 
-abbrev pub applied_of : Name × Vec Term Global → placed.Name × placed.Terms
+abbrev pub applied_of : Name × Vec Term Global → source.Name × source.Terms
 applied_of r = (name_of r.0, terms_of (map term_of r.1.items))
 
-abbrev pub boxed_rule_of : Option (Box Rule Global) → Option placed.Rule
+abbrev pub boxed_rule_of : Option (Box Rule Global) → Option source.Rule
 boxed_rule_of None = None
 boxed_rule_of (Some P) = Some (rule_of P.value)
 
-abbrev pub type_of : Vec Name Global × Option Name → List placed.Name × Option placed.Name
+abbrev pub type_of : Vec Name Global × Option Name → List source.Name × Option source.Name
 type_of t = (map name_of t.0.items, option_map name_of t.1)

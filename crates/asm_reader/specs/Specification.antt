@@ -5,7 +5,7 @@
 --     IsSpecification       the text has tokens that spell the tree
 use Rattle.std.specs.Prelude.{ℕ, List, ◌++◌, IsSome}
 use Rattle.asm_syntax.specs.declared.token.Token.{Token}
-use Rattle.asm_syntax.specs.Placed as placed
+use Rattle.asm_syntax.specs.SourceTree as source
 use Rattle.asm_syntax.specs.Tokens.{AreTokens}
 use Rattle.asm_reader.specs.Levels.{at_depth, depth_after}
 use Rattle.asm_reader.specs.Grammar.{specification}
@@ -19,12 +19,12 @@ IsWithinLevels ts = IsSome (depth_after (at_depth max_nesting) ts).left
 
 -- With some tokens behind them, perhaps none, the tokens spell a tree, at any depth. The names are from this text.
 abbrev pub GoesOn : List ℕ → List Token → Type 0
-GoesOn text ts = (more : List Token) × (s : placed.Spec) × specification text (ts ++ more) s
+GoesOn text ts = (more : List Token) × (s : source.Spec) × specification text (ts ++ more) s
 
 -- The tokens spell the tree, with names from this text, and nest no deeper than they may.
-abbrev pub AreSpelling : List ℕ → List Token → placed.Spec → Type 0
+abbrev pub AreSpelling : List ℕ → List Token → source.Spec → Type 0
 AreSpelling text ts s = specification text ts s × IsWithinLevels ts
 
 -- The text has tokens that spell the tree.
-abbrev pub IsSpecification : List ℕ → placed.Spec → Type 0
+abbrev pub IsSpecification : List ℕ → source.Spec → Type 0
 IsSpecification text s = (ts : List Token) × AreTokens text ts × AreSpelling text ts s

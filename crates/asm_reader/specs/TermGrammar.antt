@@ -1,4 +1,4 @@
--- The grammar of terms, with the placed trees that its texts make.
+-- The grammar of terms, with the source trees that its texts make.
 use Rattle.std.specs.Prelude.{ℕ, zero, suc, true, false, List, [], ◌∷◌, Option, Some, None, option_to_list, slice_range}
 use Rattle.asm_state.specs.declared.operation.Op.{Op}
 use Rattle.asm_state.specs.declared.operation.Op.TheVariants as op
@@ -10,20 +10,20 @@ use Rattle.asm_syntax.specs.declared.token.Word.TheVariants.{Or, And, Not, Div, 
 use Rattle.asm_syntax.specs.declared.token.Token.{Token}
 use Rattle.asm_syntax.specs.declared.term.Literal.{Literal}
 use Rattle.asm_syntax.specs.declared.term.Literal.TheVariants as literal
-use Rattle.asm_syntax.specs.Placed as placed
+use Rattle.asm_syntax.specs.SourceTree as source
 use Rattle.asm_syntax.specs.Views.{terms_of, links_of}
 use Rattle.asm_reader.specs.Parts.{Part, token, ◌then◌, ◌or◌, optional, repeated, ◌makes◌, nothing, number, choice, past, separated, between, at_any_depth}
 
 -- ---- trees
 
--- the name that a token stands for: the place of its first byte, and its bytes in the text
-abbrev pub name_at_token : List ℕ → Token → placed.Name
+-- the name that a token stands for: the offset of its first byte, and its bytes in the text
+abbrev pub name_at_token : List ℕ → Token → source.Name
 name_at_token text t = record { at = t.start; text = slice_range text t.start t.end }
 
 -- a chain with nothing behind its first member is that member
-abbrev pub chain_of : placed.Term × List (Op × placed.Term) → placed.Term
+abbrev pub chain_of : source.Term × List (Op × source.Term) → source.Term
 chain_of (first, []) = first
-chain_of (first, link ∷ links) = placed.Chain first (links_of (link ∷ links))
+chain_of (first, link ∷ links) = source.Chain first (links_of (link ∷ links))
 
 -- a list that may be left out
 abbrev pub listed : {A : Type 0} → Option (List A) → List A
@@ -52,78 +52,78 @@ abbrev pub products : List (Kind × Op)
 products = (Symbol Times, op.Multiply) ∷ (Word Div, op.Divide) ∷ (Word Mod, op.Remainder) ∷ []
 
 -- first { operator next }
-abbrev pub chain : List (Kind × Op) → Part placed.Term → Part placed.Term
+abbrev pub chain : List (Kind × Op) → Part source.Term → Part source.Term
 chain table next = (next then repeated (choice table then next)) makes chain_of
 
 -- ---- productions, for names whose bytes stand in this text
 
 module _ (text : List ℕ) where
-  abbrev pub name : Part placed.Name
+  abbrev pub name : Part source.Name
   name = token kind.Name makes name_at_token text
 
   -- name "in" name
-  unfoldable pub binding : Part (placed.Name × placed.Name)
+  unfoldable pub binding : Part (source.Name × source.Name)
   binding = name then past (Word In) name
 
   -- over the terms that stand in parentheses
-  module _ (deeper : Part placed.Term) where
+  module _ (deeper : Part source.Term) where
     -- "(" term { "," term } ")"
-    unfoldable pub arguments : Part (List placed.Term)
+    unfoldable pub arguments : Part (List source.Term)
     arguments = between (Symbol Open) (Symbol Close) (separated (Symbol Comma) deeper)
 
     -- name [ arguments ]
-    unfoldable pub applied : Part (placed.Name × placed.Terms)
+    unfoldable pub applied : Part (source.Name × source.Terms)
     applied = (name then optional arguments) makes (λ r. (r.0, terms_of (listed r.1)))
 
     -- "exists" name "in" name "with" term
-    unfoldable pub exists_term : Part placed.Term
-    exists_term = past (Word Exists) (binding then past (Word With) deeper) makes (λ r. placed.Exists r.0.0 r.0.1 r.1)
+    unfoldable pub exists_term : Part source.Term
+    exists_term = past (Word Exists) (binding then past (Word With) deeper) makes (λ r. source.Exists r.0.0 r.0.1 r.1)
 
     -- "forall" name "in" name "holds" term
-    unfoldable pub every_term : Part placed.Term
-    every_term = past (Word Forall) (binding then past (Word Holds) deeper) makes (λ r. placed.Every r.0.0 r.0.1 r.1)
+    unfoldable pub every_term : Part source.Term
+    every_term = past (Word Forall) (binding then past (Word Holds) deeper) makes (λ r. source.Every r.0.0 r.0.1 r.1)
 
     -- what stands in parentheses
-    unfoldable pub inner : Part placed.Term
+    unfoldable pub inner : Part source.Term
     inner = exists_term or every_term or deeper
 
     -- number | "true" | "false" | "undef" | name [ arguments ] | "(" inner ")"
-    unfoldable pub primary : Part placed.Term
-    primary = (number makes (λ n. placed.Constant (literal.Number n))) or (choice constants makes placed.Constant)
-        or (applied makes (λ r. placed.Named r.0 r.1)) or between (Symbol Open) (Symbol Close) inner
+    unfoldable pub primary : Part source.Term
+    primary = (number makes (λ n. source.Constant (literal.Number n))) or (choice constants makes source.Constant)
+        or (applied makes (λ r. source.Named r.0 r.1)) or between (Symbol Open) (Symbol Close) inner
 
     -- [ "-" ] primary
-    unfoldable pub factor : Part placed.Term
-    factor = (past (Symbol Minus) primary makes placed.Negative) or primary
+    unfoldable pub factor : Part source.Term
+    factor = (past (Symbol Minus) primary makes source.Negative) or primary
 
     -- factor { ( "*" | "div" | "mod" ) factor }
-    unfoldable pub product : Part placed.Term
+    unfoldable pub product : Part source.Term
     product = chain products factor
 
     -- product { ( "+" | "-" ) product }
-    unfoldable pub sum : Part placed.Term
+    unfoldable pub sum : Part source.Term
     sum = chain additions product
 
     -- sum [ ( "=" | "!=" | "<" | "<=" | ">" | ">=" ) sum ]
-    unfoldable pub comparison : Part placed.Term
+    unfoldable pub comparison : Part source.Term
     comparison = (sum then optional (choice comparisons then sum)) makes (λ r. chain_of (r.0, option_to_list r.1))
 
     -- [ "not" ] comparison
-    unfoldable pub negation : Part placed.Term
-    negation = (past (Word Not) comparison makes placed.Not) or comparison
+    unfoldable pub negation : Part source.Term
+    negation = (past (Word Not) comparison makes source.Not) or comparison
 
     -- negation { "and" negation }
-    unfoldable pub conjunction : Part placed.Term
+    unfoldable pub conjunction : Part source.Term
     conjunction = chain conjunctions negation
 
     -- conjunction { "or" conjunction }
-    unfoldable pub term_over : Part placed.Term
+    unfoldable pub term_over : Part source.Term
     term_over = chain disjunctions conjunction
 
   -- a term in which parentheses nest at most n deep
-  unfoldable pub term_within : ℕ → Part placed.Term
+  unfoldable pub term_within : ℕ → Part source.Term
   term_within zero = term_over nothing
   term_within (suc n) = term_over (term_within n)
 
-  abbrev pub any_term : Part placed.Term
+  abbrev pub any_term : Part source.Term
   any_term = at_any_depth term_within

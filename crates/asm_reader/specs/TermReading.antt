@@ -7,7 +7,7 @@ use Rattle.asm_syntax.specs.declared.token.Kind.TheVariants.{Number, Symbol, Wor
 use Rattle.asm_syntax.specs.declared.token.Symbol.TheVariants.{Open, Close, Comma, Minus}
 use Rattle.asm_syntax.specs.declared.token.Word.TheVariants.{Not, Exists, Forall, In, With, Holds}
 use Rattle.asm_syntax.specs.declared.term.Literal.TheVariants as literal
-use Rattle.asm_syntax.specs.Placed as placed
+use Rattle.asm_syntax.specs.SourceTree as source
 use Rattle.asm_syntax.specs.Views.{terms_of}
 use Rattle.asm_reader.specs.declared.terms.Precedence.{Precedence}
 use Rattle.asm_reader.specs.declared.terms.Precedence.TheVariants as precedence
@@ -15,11 +15,11 @@ use Rattle.asm_reader.specs.Kinds.{keys}
 use Rattle.asm_reader.specs.Steps.{Answer, Reader, and_then, refuse, expect, pair_of, mapped, either_of, option_of, repeated_of, number_at, choice_at, past_of, separated_of, between_of}
 use Rattle.asm_reader.specs.TermGrammar.{name_at_token, chain_of, listed, constants, disjunctions, conjunctions, comparisons, additions, products}
 
-abbrev pub chain_at : List (Kind × Op) → Reader placed.Term → Reader placed.Term
+abbrev pub chain_at : List (Kind × Op) → Reader source.Term → Reader source.Term
 chain_at table next = mapped chain_of (pair_of next (repeated_of (keys table) (pair_of (choice_at table) next)))
 
 -- a chain, from behind its first member on
-abbrev pub links_behind : List (Kind × Op) → Reader placed.Term → placed.Term → Reader placed.Term
+abbrev pub links_behind : List (Kind × Op) → Reader source.Term → source.Term → Reader source.Term
 links_behind table next first = mapped (λ links. chain_of (first, links)) (repeated_of (keys table) (pair_of (choice_at table) next))
 
 -- the operators that can stand behind a factor
@@ -34,90 +34,90 @@ table_of precedence.Sum = additions
 table_of precedence.Product = products
 
 module _ (text : List ℕ) where
-  unfoldable pub name_at : Reader placed.Name
+  unfoldable pub name_at : Reader source.Name
   name_at = mapped (name_at_token text) (expect kind.Name)
 
-  unfoldable pub binding_at : Reader (placed.Name × placed.Name)
+  unfoldable pub binding_at : Reader (source.Name × source.Name)
   binding_at = pair_of name_at (past_of (Word In) name_at)
 
   -- what stands in parentheses
-  module _ (deeper : Reader placed.Term) where
-    unfoldable pub exists_at : Reader placed.Term
-    exists_at = mapped (λ r. placed.Exists r.0.0 r.0.1 r.1) (past_of (Word Exists) (pair_of binding_at (past_of (Word With) deeper)))
+  module _ (deeper : Reader source.Term) where
+    unfoldable pub exists_at : Reader source.Term
+    exists_at = mapped (λ r. source.Exists r.0.0 r.0.1 r.1) (past_of (Word Exists) (pair_of binding_at (past_of (Word With) deeper)))
 
-    unfoldable pub every_at : Reader placed.Term
-    every_at = mapped (λ r. placed.Every r.0.0 r.0.1 r.1) (past_of (Word Forall) (pair_of binding_at (past_of (Word Holds) deeper)))
+    unfoldable pub every_at : Reader source.Term
+    every_at = mapped (λ r. source.Every r.0.0 r.0.1 r.1) (past_of (Word Forall) (pair_of binding_at (past_of (Word Holds) deeper)))
 
-    unfoldable pub inner_at : Reader placed.Term
+    unfoldable pub inner_at : Reader source.Term
     inner_at = either_of (Word Exists ∷ []) exists_at (either_of (Word Forall ∷ []) every_at deeper)
 
   -- n levels may open, and `deeper` reads a term behind one of them
-  module _ (n : ℕ) (deeper : Reader placed.Term) where
-    unfoldable pub arguments_at : Reader (List placed.Term)
+  module _ (n : ℕ) (deeper : Reader source.Term) where
+    unfoldable pub arguments_at : Reader (List source.Term)
     arguments_at = between_of n (Symbol Open) (Symbol Close) (separated_of (Symbol Comma) deeper)
 
-    unfoldable pub applied_at : Reader (placed.Name × placed.Terms)
+    unfoldable pub applied_at : Reader (source.Name × source.Terms)
     applied_at = mapped (λ r. (r.0, terms_of (listed r.1))) (pair_of name_at (option_of (Symbol Open ∷ []) arguments_at))
 
-    unfoldable pub parenthesized_at : Reader placed.Term
+    unfoldable pub parenthesized_at : Reader source.Term
     parenthesized_at = between_of n (Symbol Open) (Symbol Close) (inner_at deeper)
 
-    unfoldable pub primary_at : Reader placed.Term
-    primary_at = either_of (Number 0 ∷ []) (mapped (λ v. placed.Constant (literal.Number v)) (number_at false))
-        (either_of (keys constants) (mapped placed.Constant (choice_at constants))
-        (either_of (kind.Name ∷ []) (mapped (λ r. placed.Named r.0 r.1) applied_at) parenthesized_at))
+    unfoldable pub primary_at : Reader source.Term
+    primary_at = either_of (Number 0 ∷ []) (mapped (λ v. source.Constant (literal.Number v)) (number_at false))
+        (either_of (keys constants) (mapped source.Constant (choice_at constants))
+        (either_of (kind.Name ∷ []) (mapped (λ r. source.Named r.0 r.1) applied_at) parenthesized_at))
 
-    unfoldable pub factor_at : Reader placed.Term
-    factor_at = either_of (Symbol Minus ∷ []) (mapped placed.Negative (past_of (Symbol Minus) primary_at)) primary_at
+    unfoldable pub factor_at : Reader source.Term
+    factor_at = either_of (Symbol Minus ∷ []) (mapped source.Negative (past_of (Symbol Minus) primary_at)) primary_at
 
-    unfoldable pub product_at : Reader placed.Term
+    unfoldable pub product_at : Reader source.Term
     product_at = chain_at products factor_at
 
-    unfoldable pub sum_at : Reader placed.Term
+    unfoldable pub sum_at : Reader source.Term
     sum_at = chain_at additions product_at
 
-    unfoldable pub comparison_at : Reader placed.Term
+    unfoldable pub comparison_at : Reader source.Term
     comparison_at = mapped (λ r. chain_of (r.0, option_to_list r.1)) (pair_of sum_at (option_of (keys comparisons) (pair_of (choice_at comparisons) sum_at)))
 
-    unfoldable pub negation_at : Reader placed.Term
-    negation_at = either_of (Word Not ∷ []) (mapped placed.Not (past_of (Word Not) comparison_at)) comparison_at
+    unfoldable pub negation_at : Reader source.Term
+    negation_at = either_of (Word Not ∷ []) (mapped source.Not (past_of (Word Not) comparison_at)) comparison_at
 
-    unfoldable pub conjunction_at : Reader placed.Term
+    unfoldable pub conjunction_at : Reader source.Term
     conjunction_at = chain_at conjunctions negation_at
 
-    unfoldable pub disjunction_at : Reader placed.Term
+    unfoldable pub disjunction_at : Reader source.Term
     disjunction_at = chain_at disjunctions conjunction_at
 
-    abbrev pub operand_at : Precedence → Reader placed.Term
+    abbrev pub operand_at : Precedence → Reader source.Term
     operand_at precedence.Disjunction = conjunction_at
     operand_at precedence.Conjunction = negation_at
     operand_at precedence.Sum = product_at
     operand_at precedence.Product = factor_at
 
-    abbrev pub link_at : Precedence → Reader (Op × placed.Term)
+    abbrev pub link_at : Precedence → Reader (Op × source.Term)
     link_at c = pair_of (choice_at (table_of c)) (operand_at c)
 
-    abbrev pub chain_of_at : Precedence → Reader placed.Term
+    abbrev pub chain_of_at : Precedence → Reader source.Term
     chain_of_at precedence.Disjunction = disjunction_at
     chain_of_at precedence.Conjunction = conjunction_at
     chain_of_at precedence.Sum = sum_at
     chain_of_at precedence.Product = product_at
 
     -- the same, from behind the first member on
-    abbrev pub chain_from_at : Precedence → placed.Term → Reader placed.Term
+    abbrev pub chain_from_at : Precedence → source.Term → Reader source.Term
     chain_from_at c = links_behind (table_of c) (operand_at c)
 
     -- a comparison, from behind its first side on
-    abbrev pub compared_at : placed.Term → Reader placed.Term
+    abbrev pub compared_at : source.Term → Reader source.Term
     compared_at first = mapped (λ r. chain_of (first, option_to_list r)) (option_of (keys comparisons) (pair_of (choice_at comparisons) sum_at))
 
     -- what the operators behind a factor make of it, where no `not` stands before it
-    abbrev pub carried_on : Answer placed.Term → Answer placed.Term
+    abbrev pub carried_on : Answer source.Term → Answer source.Term
     carried_on factor = and_then (and_then (and_then (and_then (and_then factor (chain_from_at precedence.Product)) (chain_from_at precedence.Sum)) compared_at) (chain_from_at precedence.Conjunction)) (chain_from_at precedence.Disjunction)
 
-  unfoldable pub term_at : ℕ → Reader placed.Term
+  unfoldable pub term_at : ℕ → Reader source.Term
   term_at zero = disjunction_at zero refuse
   term_at (suc n) = disjunction_at (suc n) (term_at n)
 
-  abbrev pub terms_at : ℕ → Reader (List placed.Term)
+  abbrev pub terms_at : ℕ → Reader (List source.Term)
   terms_at n = separated_of (Symbol Comma) (term_at n)

@@ -1,11 +1,11 @@
 //! Why a text isn't read.
 
 ghost use Rattle.std.specs.Prelude.{◌≡◌};
-ghost use Rattle.asm_reader.specs.Refusals.{refusal_number, refusal_place};
+ghost use Rattle.asm_reader.specs.Refusals.{refusal_number, refusal_offset};
 
 use asm_syntax::LexError;
 
-/// Why a text isn't a specification. `at` is a place among its bytes.
+/// Why a text isn't a specification. `at` is an offset among its bytes.
 #[derive(Clone, Copy, Debug, PartialEq, Eq)]
 pub enum ReadError {
     /// The bytes have a fault.
@@ -31,9 +31,9 @@ impl ReadError {
         }
     }
 
-    /// The place of the byte where the text is refused; a text that is too long, or that ends too early, has none.
+    /// The offset of the byte where the text is refused; a text that is too long, or that ends too early, has none.
     pub fn at(self) -> Option<usize>
-        ensures { result ≡ refusal_place self }
+        ensures { result ≡ refusal_offset self }
     {
         match self {
             ReadError::Lex(fault) => fault.at(),

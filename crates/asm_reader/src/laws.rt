@@ -2,7 +2,7 @@
 
 ghost use Rattle.std.specs.Prelude.{◌≡◌, ◌⊎◌, ℕ, false, List, ◌∷◌, ◌++◌, IsSome};
 ghost use Rattle.asm_syntax.specs.declared.token.Token.{Token};
-ghost use Rattle.asm_syntax.specs.Placed as placed;
+ghost use Rattle.asm_syntax.specs.SourceTree as source;
 ghost use Rattle.asm_reader.specs.declared.error.ReadError.{ReadError};
 ghost use Rattle.asm_reader.specs.Grammar.{specification};
 ghost use Rattle.asm_reader.specs.Specification.{IsSpecification};
@@ -15,26 +15,26 @@ use asm_syntax::{no_tokens_beside_a_fault, one_fault, one_list_of_tokens, tokens
 
 /// Tokens spell one tree at most, at any depth.
 pub fn one_tree_of_tokens()
-    ensures { (text : List ℕ) (ts : List Token) (s t : placed.Spec) → specification text ts s → specification text ts t → s ≡ t }
+    ensures { (text : List ℕ) (ts : List Token) (s t : source.Spec) → specification text ts s → specification text ts t → s ≡ t }
 {}
 
 /// A text has one specification at most.
 pub fn one_tree()
-    ensures { (text : List ℕ) (s t : placed.Spec) → IsSpecification text s → IsSpecification text t → s ≡ t }
+    ensures { (text : List ℕ) (s t : source.Spec) → IsSpecification text s → IsSpecification text t → s ≡ t }
 {
     one_list_of_tokens();
 }
 
 /// Each text has a specification or a refusal.
 pub fn tree_or_a_refusal()
-    ensures { (text : List ℕ) → ((s : placed.Spec) × IsSpecification text s) ⊎ ((e : ReadError) × IsRefusal text e) }
+    ensures { (text : List ℕ) → ((s : source.Spec) × IsSpecification text s) ⊎ ((e : ReadError) × IsRefusal text e) }
 {
     tokens_or_a_fault();
 }
 
 /// A text that spells a specification has no refusal.
 pub fn no_tree_beside_a_refusal()
-    ensures { (text : List ℕ) (s : placed.Spec) (e : ReadError) → IsSpecification text s → ¬ IsRefusal text e }
+    ensures { (text : List ℕ) (s : source.Spec) (e : ReadError) → IsSpecification text s → ¬ IsRefusal text e }
 {
     one_list_of_tokens();
     no_tokens_beside_a_fault();
@@ -69,8 +69,8 @@ pub fn one_script_refusal()
     ensures { (text : List ℕ) (e f : ScriptError) → IsScriptRefusal text e → IsScriptRefusal text f → e ≡ f }
 {}
 
-/// Each line of a script is skipped or says something, and no two say it of one step and place.
+/// Each line of a script is skipped or says something, and no two say it of one step and path.
 pub fn script_lines()
     ensures said { (text : List ℕ) (s : Script) → IsScript text s → (before after : List (List ℕ)) (line : List ℕ) → lines_of text ≡ before ++ line ∷ after → is_skipped line ≡ false → IsSome (line_of line) }
-    ensures apart { (text : List ℕ) (s : Script) → IsScript text s → (before between after : Script) (k l : Line) → s ≡ before ++ k ∷ between ++ l ∷ after → ¬ ((k.step ≡ l.step) × (k.place ≡ l.place)) }
+    ensures apart { (text : List ℕ) (s : Script) → IsScript text s → (before between after : Script) (k l : Line) → s ≡ before ++ k ∷ between ++ l ∷ after → ¬ ((k.step ≡ l.step) × (k.path ≡ l.path)) }
 {}

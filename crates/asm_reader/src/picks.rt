@@ -7,7 +7,7 @@ pub trait Picks {
     // The script by which it answers.
     ghost script: { Self → Script };
 
-    /// The number for the `choose` at this place, in this step. Among n candidates it takes the one with this number modulo n.
-    fn pick(&self, step: u64, place: &[u64]) -> u64
-        ensures { result ≡ pick (script self.now) step place.now };
+    /// The number for the `choose` at this path, in this step. Among n candidates it takes the one with this number modulo n.
+    fn pick(&self, step: u64, path: &[u64]) -> u64
+        ensures { result ≡ pick (script self.now) step path.now };
 }

@@ -4,7 +4,7 @@ ghost use Rattle.std.specs.Prelude.{◌≡◌, ◌≢◌, ◌<◌, ℕ, List, []
 ghost use Rattle.asm_syntax.specs.declared.error.LexError.TheVariants.{TooLong};
 ghost use Rattle.asm_syntax.specs.declared.refused.Refused.TheVariants.{Memory, Named};
 ghost use Rattle.asm_syntax.specs.Lexing.{HasFirstToken};
-ghost use Rattle.asm_syntax.specs.Placed as placed;
+ghost use Rattle.asm_syntax.specs.SourceTree as source;
 ghost use Rattle.asm_syntax.specs.Views.{spec_of};
 ghost use Rattle.asm_reader.specs.declared.error.ReadError.TheVariants.{Lex};
 ghost use Rattle.asm_reader.specs.Specification.{AreSpelling, IsSpecification};
@@ -24,7 +24,7 @@ const MAX_NESTING: usize = 64;
 fn read_tokens(alloc: Global, text: &[u8], tokens: &[Token]) -> Result<Spec, Refused<ReadError>>
     ensures found { IfOk result (λ s. AreSpelling text.now tokens.now (spec_of s)) }
     ensures refused { IfErr result (ExplainsTokens text.now tokens.now) }
-    ensures accepted { (s : placed.Spec) → AreSpelling text.now tokens.now s → IfErr result (λ e. e ≡ Memory) }
+    ensures accepted { (s : source.Spec) → AreSpelling text.now tokens.now s → IfErr result (λ e. e ≡ Memory) }
     ensures memory { tokens.now ≡ [] → IfErr result (λ e. e ≢ Memory) }
 {
     let mut cursor = Cursor { rest: tokens };
@@ -43,7 +43,7 @@ pub fn read(alloc: Global, text: &[u8]) -> Result<Spec, Refused<ReadError>>
     // Memory is asked for where a first token stands, and nowhere before.
     ensures memory { IfErr result (λ e. e ≡ Memory → HasFirstToken text.now) }
     // A text that spells a specification is refused only where memory runs out.
-    ensures accepted { (s : placed.Spec) → IsSpecification text.now s → IfErr result (λ e. e ≡ Memory) }
+    ensures accepted { (s : source.Spec) → IsSpecification text.now s → IfErr result (λ e. e ≡ Memory) }
 {
     let tokens = match tokens(alloc, text) {
         Ok(tokens) => tokens,

@@ -10,29 +10,29 @@ use indexmap::{Equivalent, IndexMap};
 use std::alloc::{AllocError, Global};
 use std::marker::Model;
 
-/// A step and a place in it.
+/// A step and a path in it.
 #[derive(Drop, PartialEq, Eq, Hash)]
 struct Spot {
     step: u64,
-    place: Vec<u64>,
+    path: Vec<u64>,
 }
 
-/// The same with a borrowed place, so that a look-up takes no memory.
+/// The same with a borrowed path, so that a look-up takes no memory.
 #[derive(Clone, Copy, PartialEq, Eq, Hash)]
 struct Asked<'a> {
     step: u64,
-    place: &'a [u64],
+    path: &'a [u64],
 }
 
 impl<'a> Equivalent<Spot> for Asked<'a> {
-    ghost equivalent = { λ q k. is_spot q.step q.place.now k.step k.place.items };
+    ghost equivalent = { λ q k. is_spot q.step q.path.now k.step k.path.items };
 
-    ghost respects_hash = { λ q k. same_writes q.step k.step q.place.now k.place.items };
+    ghost respects_hash = { λ q k. same_writes q.step k.step q.path.now k.path.items };
 
-    ghost respects_eq = { λ q x y same. same_answers q.step x.step q.place.now x.place.items same y.step y.place.items };
+    ghost respects_eq = { λ q x y same. same_answers q.step x.step q.path.now x.path.items same y.step y.path.items };
 
     fn equivalent(&self, key: &Spot) -> bool {
-        self.step == key.step && self.place == key.place.as_slice()
+        self.step == key.step && self.path == key.path.as_slice()
     }
 }
 
@@ -40,11 +40,11 @@ impl<'a> Equivalent<Spot> for Asked<'a> {
 #[derive(Drop)]
 pub(crate) struct Choice {
     pub(crate) step: u64,
-    pub(crate) place: Vec<u64>,
+    pub(crate) path: Vec<u64>,
     pub(crate) number: u64,
 }
 
-/// Says which candidate is taken at a step and a place. No two of its lines have one step and place.
+/// Says which candidate is taken at a step and a path. No two of its lines have one step and path.
 #[derive(Drop)]
 pub struct Script {
     choices: IndexMap<Spot, u64>,
@@ -66,21 +66,21 @@ impl Script {
         }
     }
 
-    /// Takes a line, but not with the step and the place of another one. Answers whether it was taken.
+    /// Takes a line, but not with the step and the path of another one. Answers whether it was taken.
     pub(crate) fn add(&mut self, choice: Choice) -> Result<bool, AllocError>
-        ensures added { IfOk result (λ added. list_any (is_line_of choice.step choice.place.items) self.old ≡ not added) }
+        ensures added { IfOk result (λ added. list_any (is_line_of choice.step choice.path.items) self.old ≡ not added) }
         ensures taken { IfOk result (λ added. added ≡ true → self.new ≡ self.old ++ line_said choice ∷ []) }
     {
         let asked = Asked {
             step: choice.step,
-            place: choice.place.as_slice(),
+            path: choice.path.as_slice(),
         };
         if self.choices.contains_key(asked) {
             return Ok(false);
         }
         let spot = Spot {
             step: choice.step,
-            place: choice.place,
+            path: choice.path,
         };
         self.choices.insert(spot, choice.number)?;
         Ok(true)
@@ -90,8 +90,8 @@ impl Script {
 impl Picks for Script {
     ghost script = { λ s. s };
 
-    fn pick(&self, step: u64, place: &[u64]) -> u64 {
-        match self.choices.get(Asked { step, place }) {
+    fn pick(&self, step: u64, path: &[u64]) -> u64 {
+        match self.choices.get(Asked { step, path }) {
             Some(number) => *number,
             None => 0,
         }

@@ -53,9 +53,9 @@ fn number(digits: &[u8]) -> Option<u64>
     Some(value)
 }
 
-/// The place that is written so.
-fn place(alloc: Global, text: &[u8]) -> Result<Option<Vec<u64>>, AllocError>
-    ensures { IfOk result (λ p. option_map (λ numbers. numbers.items) p ≡ spec.place_of text.now) }
+/// The path that is written so.
+fn path(alloc: Global, text: &[u8]) -> Result<Option<Vec<u64>>, AllocError>
+    ensures { IfOk result (λ p. option_map (λ numbers. numbers.items) p ≡ spec.path_of text.now) }
 {
     let mut numbers = Vec::new(alloc);
     if text == b"-".as_slice() {
@@ -78,16 +78,12 @@ pub(crate) fn choice(alloc: Global, line: &[u8]) -> Result<Option<Choice>, Alloc
     let [step, at, chosen] = fields.as_slice() else {
         return Ok(None);
     };
-    let (Some(step), Some(place), Some(number)) = (number(step), place(alloc, at)?, number(chosen))
+    let (Some(step), Some(path), Some(number)) = (number(step), path(alloc, at)?, number(chosen))
     else {
         return Ok(None);
     };
     if step == 0 {
         return Ok(None);
     }
-    Ok(Some(Choice {
-        step,
-        place,
-        number,
-    }))
+    Ok(Some(Choice { step, path, number }))
 }

@@ -1,11 +1,11 @@
--- Texts of argument lists, of entries and of places, one after the other.
+-- Texts of argument lists, of entries and of paths, one after the other.
 use Rattle.std.proofs.Common.{◌≡◌, ℕ, zero, suc, ◌+◌, ◌<◌, List, [], ◌∷◌, ◌++◌, length, take, get_or, append_assoc, Some, refl, sym, ap, ◌∙◌, arith}
 use Rattle.std.specs.Prelude.{codes, decimal, slice_get, slice_index_or}
 use Rattle.std.proofs.lemmas.Grind.{flat_map-append}
 use Rattle.std.proofs.lemmas.List.{append-nil, take_more}
 use Rattle.std.proofs.lemmas.Option.{slice_get_within, get_or_from_slice_get}
 use Rattle.asm_state.specs.declared.value.Value.{Value}
-use Rattle.asm_syntax.specs.Placed.{Spec}
+use Rattle.asm_syntax.specs.SourceTree.{Spec}
 use Rattle.asm_updates.specs.Entries.{NamedRanges}
 use Rattle.asm_run.specs.Trace.{value_text, values_text, numbers_text}
 use Rattle.asm_run.specs.Written.{entry_line, entries_text}
@@ -37,7 +37,7 @@ entries_grow s es i e first old new at before grown =
     ap (entries_text s) more ∙ flat_map-append (entry_line s) (take i es) (e ∷ []) ∙ ap (λ t. entries_text s (take i es) ++ t) (append-nil (entry_line s e)) in
     grown ∙ ap (λ t. t ++ entry_line s e) before ∙ append_assoc first (entries_text s (take i es)) (entry_line s e) ∙ ap (λ t. first ++ t) (sym all)
 
--- one number of a place more
+-- one number of a path more
 numbers_more : (k n : ℕ) (ks : List ℕ) → numbers_text k (ks ++ n ∷ []) ≡ numbers_text k ks ++ (codes "." ++ decimal n)
 numbers_more k n [] = refl
 numbers_more k n (j ∷ js) = ap (λ t. decimal k ++ (codes "." ++ t)) (numbers_more j n js) ∙ simp append_assoc

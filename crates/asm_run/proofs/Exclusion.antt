@@ -1,6 +1,6 @@
 -- Refusals exclude one another, and runs.
 use Rattle.std.proofs.Common.{◌≡◌, ℕ, nat_eq, cond, false, List, refl, sym, ap, subst, ◌∙◌}
-use Rattle.asm_syntax.specs.Placed.{Spec}
+use Rattle.asm_syntax.specs.SourceTree.{Spec}
 use Rattle.asm_reader.specs.declared.error.ReadError.{ReadError}
 use Rattle.asm_reader.specs.Specification.{IsSpecification}
 use Rattle.asm_reader.specs.Refusals.{IsRefusal}

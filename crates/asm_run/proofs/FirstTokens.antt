@@ -2,7 +2,7 @@
 use Rattle.std.proofs.Common.{◌≡◌, ℕ, List, [], ◌∷◌, ◌++◌, Result, Ok, Err, refl, ap, ◌∙◌}
 use Rattle.std.specs.Prelude.{IfErr}
 use Rattle.asm_syntax.specs.Lexing.{HasFirstToken}
-use Rattle.asm_syntax.specs.Placed.{Spec}
+use Rattle.asm_syntax.specs.SourceTree.{Spec}
 use Rattle.asm_syntax.specs.Tokens.{AreTokens}
 use Rattle.asm_syntax.specs.declared.refused.Refused.{Refused}
 use Rattle.asm_syntax.specs.declared.refused.Refused.TheVariants as refused

@@ -7,7 +7,7 @@ use Rattle.asm_state.specs.Signature.{Shape, state_of}
 use Rattle.asm_state.specs.Updates.{UpdateSet, IsConsistent, none, fire}
 use Rattle.asm_state.proofs.Members.{member_laws}
 use Rattle.asm_state.proofs.Summaries.{fire_laws}
-use Rattle.asm_syntax.specs.Placed.{Spec}
+use Rattle.asm_syntax.specs.SourceTree.{Spec}
 use Rattle.asm_syntax.specs.Tree.{Rule}
 use Rattle.asm_reader.specs.ScriptLines.{Script}
 use Rattle.asm_check.specs.Faults.{inits}
@@ -20,7 +20,7 @@ use Rattle.asm_eval.specs.Formed.{Forms, IsSet, IsStoppedAt, greatest_count}
 use Rattle.asm_eval.specs.declared.stopped.Stopped.{Stopped}
 use Rattle.asm_eval.specs.declared.stopped.Stopped.TheVariants as stopped
 use Rattle.asm_eval.specs.Program.{Environment, nothing_bound}
-use Rattle.asm_eval.specs.Yields.{Place}
+use Rattle.asm_eval.specs.Yields.{Path}
 use Rattle.asm_run.specs.Step.{main_outcome}
 use Rattle.asm_run.proofs.Stepping.{stands_alone}
 
@@ -42,7 +42,7 @@ formed_from_none shape o cleared new before after fresh none_yet forms =
     }
 
 -- over the empty set a rule's outcome is that in the state
-pub outcome_alone : (s : Spec) (shape : Shape) (turns : ℕ) (script : Script) (step : ℕ) (contents : List Value) (A : State) (over : Entries) (e : Environment) (p : Place) (R : Rule)
+pub outcome_alone : (s : Spec) (shape : Shape) (turns : ℕ) (script : Script) (step : ℕ) (contents : List Value) (A : State) (over : Entries) (e : Environment) (p : Path) (R : Rule)
     → shape ≡ shape_of s → ((U : UpdateSet) → Stands shape over U → IsConsistent U → A ≡ fire (state_of shape contents) U)
     → Stands shape over none → e ≡ nothing_bound → p ≡ [] → R ≡ main_rule s (inits s)
     → does (program_of s) turns script step A e p R ≡ main_outcome s turns script step contents
@@ -51,7 +51,7 @@ outcome_alone s shape turns script step contents A over e p R shaped seen empty 
     λ i. does (program_of s) turns script step (here i) (free i) (top i) (main i)
 
 -- over the empty set, and from the empty set on, what is formed is the main rule's outcome
-pub formed_alone : (s : Spec) (shape : Shape) (turns : ℕ) (script : Script) (step : ℕ) (contents : List Value) (A : State) (over cleared new : Entries) (before after : ℕ) (e : Environment) (p : Place) (R : Rule)
+pub formed_alone : (s : Spec) (shape : Shape) (turns : ℕ) (script : Script) (step : ℕ) (contents : List Value) (A : State) (over cleared new : Entries) (before after : ℕ) (e : Environment) (p : Path) (R : Rule)
     → shape ≡ shape_of s → ((U : UpdateSet) → Stands shape over U → IsConsistent U → A ≡ fire (state_of shape contents) U)
     → Stands shape over none → Stands shape cleared none → before ≡ 0 → e ≡ nothing_bound → p ≡ [] → R ≡ main_rule s (inits s)
     → Forms shape (does (program_of s) turns script step A e p R) cleared new before after → IsSet (shape_of s) (main_outcome s turns script step contents) new after
@@ -61,7 +61,7 @@ formed_alone s shape turns script step contents A over cleared new before after 
     (subst (λ o. IsSet shape o new after) same (formed_from_none shape (does (program_of s) turns script step A e p R) cleared new before after fresh none_yet forms))
 
 -- what stops there stops the main rule's outcome
-pub stopped_alone : (result : Result Unit Stopped) (o q : Outcome) (p : Place) → o ≡ q → IfErr result (IsStoppedAt o p) → IfErr result (IsStoppedAt q p)
+pub stopped_alone : (result : Result Unit Stopped) (o q : Outcome) (p : Path) → o ≡ q → IfErr result (IsStoppedAt o p) → IfErr result (IsStoppedAt q p)
 stopped_alone (Ok done) o q p same said = said
 stopped_alone (Err stopped.Memory) o q p same said = said
 stopped_alone (Err stopped.Exhausted) o q p same said = ap (λ (x : Outcome). x.result) (sym same) ∙ said

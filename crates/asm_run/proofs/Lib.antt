@@ -3,7 +3,7 @@ mod Exclusion
 mod FirstTokens
 pub mod MainRule
 pub mod FormedSet
-pub mod Places
+pub mod LocationFunctions
 pub mod ArgumentTexts
 pub mod Pieces
 pub mod Ranges

@@ -1,7 +1,7 @@
 -- The rule that a run starts with: it is the body that its number stands for.
 use Rattle.std.proofs.Common.{◌≡◌, ℕ, List, [], ◌∷◌, Some, sym, ap, ◌∙◌}
-use Rattle.asm_syntax.specs.Placed.{Name, Rule, Spec}
-use Rattle.asm_syntax.specs.Unplaced.{plain_rule}
+use Rattle.asm_syntax.specs.SourceTree.{Name, Rule, Spec}
+use Rattle.asm_syntax.specs.PlainTree.{plain_rule}
 use Rattle.asm_check.specs.Faults.{inits}
 use Rattle.asm_check.specs.Names.{Procedure}
 use Rattle.asm_check.specs.Numbers.{named, rules_of, meaning_at}

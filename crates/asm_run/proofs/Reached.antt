@@ -16,7 +16,7 @@ use Rattle.asm_run.proofs.Appending.{Appends-trans}
 -- one end has one line
 pub one_end_text : (names : Names) (e : End) (s t : List ℕ) → IsEndText names e s → IsEndText names e t → s ≡ t
 one_end_text names AtLimit s t p q = p ∙ sym q
-one_end_text names (AtExhausted i place) s t p q = p ∙ sym q
+one_end_text names (AtExhausted i path) s t p q = p ∙ sym q
 one_end_text names (AtFault i U) s t p q =
     p.2 ∙ ap (fault_text names i) (fault_laws.one_first U p.0 q.0 p.1 q.1) ∙ sym q.2
 

@@ -1,7 +1,7 @@
 -- Each text, script and limits have a run or a refusal.
 use Rattle.std.proofs.Common.{◌≡◌, ◌⊎◌, ℕ, Bool, true, false, List, [], Some, inl, inr, refl, sym, subst}
 use Rattle.asm_state.specs.Updates.{Fault, Clash, Outside, IsFirstFault}
-use Rattle.asm_syntax.specs.Placed.{Spec}
+use Rattle.asm_syntax.specs.SourceTree.{Spec}
 use Rattle.asm_reader.specs.declared.error.ReadError.{ReadError}
 use Rattle.asm_reader.specs.declared.script_error.ScriptError.{ScriptError}
 use Rattle.asm_reader.specs.Specification.{IsSpecification}

@@ -10,7 +10,7 @@ use Rattle.asm_state.specs.Signature.{location_at, initial_state, state_of}
 use Rattle.asm_state.specs.Updates.{UpdateSet, IsConsistent, is_consistent, fire, Clash, Outside, IsFirstFault}
 use Rattle.asm_state.proofs.Faults.{fault_laws}
 use Rattle.asm_state.proofs.Updates.{test_laws}
-use Rattle.asm_syntax.specs.Placed.{Spec}
+use Rattle.asm_syntax.specs.SourceTree.{Spec}
 use Rattle.asm_check.specs.Faults.{IsWellFormed, inits}
 use Rattle.asm_check.specs.Shapes.{shape_of}
 use Rattle.asm_updates.specs.Entries.{range}
@@ -20,7 +20,7 @@ use Rattle.asm_updates.specs.declared.fault.Fault.TheVariants as fault
 use Rattle.asm_eval.specs.Declarations.{program_of, main_rule}
 use Rattle.asm_reader.specs.ScriptLines.{Script}
 use Rattle.asm_eval.specs.Does.{Outcome}
-use Rattle.asm_eval.specs.Yields.{Place, Result as Yielded, Gives, Exhausted}
+use Rattle.asm_eval.specs.Yields.{Path, Result as Yielded, Gives, Exhausted}
 use Rattle.asm_eval.specs.Run.{Run, run_from, step_and, ended, fired, AtLimit, AtExhausted, AtFault}
 use Rattle.asm_run.specs.declared.end.End.{End}
 use Rattle.asm_run.specs.declared.end.End.TheVariants.{Limit}
@@ -69,7 +69,7 @@ module _ (s : Spec) (turns : ℕ) (script : Script) where
     stops faulty = a_step ∙ ap by_test (false_from_ne_true (is_consistent U) (λ e. faulty ((test_laws.consistency U).0 e)))
 
   -- a main rule that is exhausted ends the run
-  exhausts : (n i : ℕ) (contents : List Value) (q : Place) → (main_outcome s turns script i contents).result ≡ Exhausted q
+  exhausts : (n i : ℕ) (contents : List Value) (q : Path) → (main_outcome s turns script i contents).result ≡ Exhausted q
       → left (suc n) i (state_of (shape_of s) contents) ≡ ended (AtExhausted i q) (state_of (shape_of s) contents)
   exhausts n i contents q is =
       ap (λ (r : Yielded). step_and (program_of s) turns (main_rule s (inits s)) r (main_outcome s turns script i contents).instances i (state_of (shape_of s) contents)
@@ -94,18 +94,18 @@ module _ (s : Spec) (good : IsWellFormed s) (turns : ℕ) (script : Script) (ste
   abbrev called : Names
   called = names_in s
 
-  abbrev places : List Location
-  places = locations_in s
+  abbrev locations : List Location
+  locations = locations_in s
 
   abbrev left_of : ℕ → ℕ → List Value → Run
   left_of n i values = left s turns script n i (state_of (shape_of s) values)
 
   abbrev now : Bool → Option (List ℕ) → Result End RunError → Type 0
-  now failed new result = Runs called places old new failed (book_run s turns script steps) result
+  now failed new result = Runs called locations old new failed (book_run s turns script steps) result
 
   -- memory ran out
   pub out_of_memory : now failed mid (Err error.Memory)
-  out_of_memory = (whole_steps called places _ _ _ old mid mid goes.reached (Appends-none mid), goes.is_open)
+  out_of_memory = (whole_steps called locations _ _ _ old mid mid goes.reached (Appends-none mid), goes.is_open)
 
   -- the last lines, where what is left of the run has come to this end
   module _ (new : Option (List ℕ)) (flag : Bool) (e : _) (end_text : List ℕ) (ends : IsEndText called e end_text) (answer : End) (answers : IsAnswer e answer) where
@@ -114,14 +114,14 @@ module _ (s : Spec) (good : IsWellFormed s) (turns : ℕ) (script : Script) (ste
     finished (Ok a) f at_end =
         let r = goes.reached in
         let lines = ap (λ w. end_text ++ w) (state_written s contents good goes.sized.contents_fit) in (
-          written_at_end called places _ _ _ old mid new r e (state_of (shape_of s) contents) at_end end_text ends (subst (λ t. Appends mid new t) lines f.0),
+          written_at_end called locations _ _ _ old mid new r e (state_of (shape_of s) contents) at_end end_text ends (subst (λ t. Appends mid new t) lines f.0),
           subst (λ v. IsAnswer v a) (sym (r.end ∙ ap (λ (v : Run). v.end) at_end)) (subst (λ v. IsAnswer e v) (sym f.2) answers),
           f.1,
         )
-    finished (Err error.Memory) f at_end = (whole_steps called places _ _ _ old mid new goes.reached f.0, f.1)
+    finished (Err error.Memory) f at_end = (whole_steps called locations _ _ _ old mid new goes.reached f.0, f.1)
     finished (Err error.Write) f at_end =
         let lines = ap (λ w. end_text ++ w) (state_written s contents good goes.sized.contents_fit) in
-        (cut_at_end called places _ _ _ old mid new goes.reached e (state_of (shape_of s) contents) at_end end_text ends (subst (λ t. AppendsFront mid new t) lines f.0), f.1)
+        (cut_at_end called locations _ _ _ old mid new goes.reached e (state_of (shape_of s) contents) at_end end_text ends (subst (λ t. AppendsFront mid new t) lines f.0), f.1)
     finished (Err error.Limits) f at_end = f
     finished (Err (error.Read refusal)) f at_end = f
     finished (Err (error.Check refusal)) f at_end = f
@@ -155,7 +155,7 @@ module _ (s : Spec) (good : IsWellFormed s) (turns : ℕ) (script : Script) (ste
         ∙ stops s turns script (steps - (made + 1)) (1 + made) contents U gives (first_fault_is_faulty U (fault_of (shape_of s) f) stopped.is_first))
 
     -- the main rule is exhausted
-    at_exhausted : (new : Option (List ℕ)) (flag : Bool) (result : Result End RunError) (next : List Value) (q : Place) → (outcome_at step).result ≡ Exhausted q → next ≡ contents
+    at_exhausted : (new : Option (List ℕ)) (flag : Bool) (result : Result End RunError) (next : List Value) (q : Path) → (outcome_at step).result ≡ Exhausted q → next ≡ contents
         → Finishes mid new flag (exhausted_line step q ++ contents_text s next) end.Exhausted result → now flag new result
     at_exhausted new flag result next q gives stays finish =
         finished new flag (AtExhausted (1 + made) q) (exhausted_line step q) (ap (λ i. exhausted_line i q) is)
@@ -165,10 +165,10 @@ module _ (s : Spec) (good : IsWellFormed s) (turns : ℕ) (script : Script) (ste
         ∙ exhausts s turns script (steps - (made + 1)) (1 + made) contents q (subst (λ i. (outcome_at i).result ≡ Exhausted q) is gives))
 
     -- the run ends at this step
-    pub at_stop : (new : Option (List ℕ)) (flag : Bool) (result : Result End RunError) (next : List Value) (q place : Place) (at : Stop) → IsStopped s turns script step contents next q at → place ≡ q
-        → Finishes mid new flag (stop_line s step at place ++ contents_text s next) (end_of_stop at) result → now flag new result
-    at_stop new flag result next q place (stop.Fault f) stopped same finish = at_fault new flag result next f stopped.0 stopped.1 finish
-    at_stop new flag result next q place stop.Exhausted stopped same finish =
+    pub at_stop : (new : Option (List ℕ)) (flag : Bool) (result : Result End RunError) (next : List Value) (q path : Path) (at : Stop) → IsStopped s turns script step contents next q at → path ≡ q
+        → Finishes mid new flag (stop_line s step at path ++ contents_text s next) (end_of_stop at) result → now flag new result
+    at_stop new flag result next q path (stop.Fault f) stopped same finish = at_fault new flag result next f stopped.0 stopped.1 finish
+    at_stop new flag result next q path stop.Exhausted stopped same finish =
         at_exhausted new flag result next q stopped.0 stopped.1
         (subst (λ p. Finishes mid new flag (exhausted_line step p ++ contents_text s next) end.Exhausted result) same finish)
 
@@ -185,12 +185,12 @@ module _ (s : Spec) (good : IsWellFormed s) (turns : ℕ) (script : Script) (ste
           ap (λ n. left_of n (1 + made) contents) one_left
           ∙ fires s turns script (steps - (made + 1)) (1 + made) contents U gives next step_fired.consistent step_fired.fired
 
-      text_is : text ≡ step_text called places (1 + made) (record { set = U; instances = instances_of })
-      text_is = step_fired.written ∙ ap (λ i. step_text called places i (record { set = U; instances = (outcome_at i).instances })) is
+      text_is : text ≡ step_text called locations (1 + made) (record { set = U; instances = instances_of })
+      text_is = step_fired.written ∙ ap (λ i. step_text called locations i (record { set = U; instances = (outcome_at i).instances })) is
 
       -- the sink failed in the step's text
       pub cut : (new : Option (List ℕ)) (flag : Bool) → AppendsFront mid new text → flag ≡ true → now flag new (Err error.Write)
-      cut new flag f failed' = (cut_in_step called places _ _ _ old mid new goes.reached U instances_of _ goes_on_by (subst (λ t. AppendsFront mid new t) text_is f), failed')
+      cut new flag f failed' = (cut_in_step called locations _ _ _ old mid new goes.reached U instances_of _ goes_on_by (subst (λ t. AppendsFront mid new t) text_is f), failed')
 
       -- the step is written
       pub goes_on : (new : Option (List ℕ)) (flag : Bool) (new_count : ℕ) → AreSized s next new_count → Appends mid new text → flag ≡ false
@@ -201,8 +201,8 @@ module _ (s : Spec) (good : IsWellFormed s) (turns : ℕ) (script : Script) (ste
           record {
             sized = sized;
             is_open = is_open;
-            reached = subst (λ i. IsReached called places total i (left_of (steps - (made + 1)) i next) old new) number
-                (reached_more called places _ _ _ old mid new goes.reached U instances_of _ goes_on_by (subst (λ t. Appends mid new t) text_is w));
+            reached = subst (λ i. IsReached called locations total i (left_of (steps - (made + 1)) i next) old new) number
+                (reached_more called locations _ _ _ old mid new goes.reached U instances_of _ goes_on_by (subst (λ t. Appends mid new t) text_is w));
           }
 
 -- memory ran out before the first step

@@ -9,7 +9,7 @@ use Rattle.asm_state.specs.Signature.{Shape, count_of, location_at, state_of}
 use Rattle.asm_state.specs.Updates.{UpdateSet, IsConsistent, IsFirstFault, together, none}
 use Rattle.asm_state.proofs.Algebra.{union_laws}
 use Rattle.asm_state.proofs.NumberedLocations.{number_laws}
-use Rattle.asm_syntax.specs.Placed.{Spec}
+use Rattle.asm_syntax.specs.SourceTree.{Spec}
 use Rattle.asm_check.specs.Faults.{IsWellFormed}
 use Rattle.asm_check.specs.Numbers.{functions_of}
 use Rattle.asm_check.specs.Shapes.{shape_of}

@@ -5,7 +5,7 @@
 --     IsRefused text script_text                    one of the texts is refused
 --     AnswersTell                                   the answer says which
 use Rattle.std.specs.Prelude.{◌≡◌, ◌≢◌, ℕ, List, Option, Ok, Err, Result, IfErr, IfOk, ⊤}
-use Rattle.asm_syntax.specs.Placed.{Spec}
+use Rattle.asm_syntax.specs.SourceTree.{Spec}
 use Rattle.asm_reader.specs.Refusals.{IsRefusal}
 use Rattle.asm_reader.specs.ScriptLines.{Script}
 use Rattle.asm_reader.specs.ScriptText.{IsScript, IsScriptRefusal}

@@ -4,7 +4,7 @@
 --     NoRunBesideARefusal       a text, a script and limits that have a run have none of these
 --     RunOrRefusal              each text, script and limits have a run, with its trace, or one of these
 use Rattle.std.specs.Prelude.{◌≡◌, ◌⊎◌, ℕ, true, List, [], Option, Some}
-use Rattle.asm_syntax.specs.Placed.{Spec}
+use Rattle.asm_syntax.specs.SourceTree.{Spec}
 use Rattle.asm_reader.specs.ScriptLines.{Script}
 use Rattle.asm_reader.specs.ScriptText.{IsScript}
 use Rattle.asm_run.specs.Limits.{are_in_range}

@@ -8,7 +8,7 @@ use Rattle.std.specs.Prelude.{◌≡◌, ◌⊎◌, ℕ, false, true, List, [], 
 use Rattle.std.specs.Io.KnownBytes.{Appends}
 use Rattle.asm_state.specs.Location.{Location}
 use Rattle.asm_state.specs.Updates.{Range, Clash, Outside, IsFirstFault}
-use Rattle.asm_syntax.specs.Placed.{Spec}
+use Rattle.asm_syntax.specs.SourceTree.{Spec}
 use Rattle.asm_reader.specs.Specification.{IsSpecification}
 use Rattle.asm_reader.specs.Refusals.{IsRefusal}
 use Rattle.asm_check.specs.declared.error.CheckError.{CheckError}

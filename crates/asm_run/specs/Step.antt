@@ -9,7 +9,7 @@ use Rattle.std.specs.Io.KnownBytes.{Appends}
 use Rattle.asm_state.specs.declared.value.Value.{Value}
 use Rattle.asm_state.specs.Signature.{count_of, state_of}
 use Rattle.asm_state.specs.Updates.{UpdateSet, IsConsistent, IsFirstFault, fire}
-use Rattle.asm_syntax.specs.Placed.{Spec}
+use Rattle.asm_syntax.specs.SourceTree.{Spec}
 use Rattle.asm_reader.specs.ScriptLines.{Script}
 use Rattle.asm_check.specs.Faults.{inits}
 use Rattle.asm_check.specs.Numbers.{functions_of}
@@ -20,7 +20,7 @@ use Rattle.asm_updates.specs.Faults.{fault_of}
 use Rattle.asm_eval.specs.Declarations.{program_of, main_rule}
 use Rattle.asm_eval.specs.Does.{Outcome, does}
 use Rattle.asm_eval.specs.Program.{nothing_bound}
-use Rattle.asm_eval.specs.Yields.{Place, Gives, Exhausted}
+use Rattle.asm_eval.specs.Yields.{Path, Gives, Exhausted}
 use Rattle.asm_run.specs.declared.end.End.{End}
 use Rattle.asm_run.specs.declared.end.End.TheVariants as end
 use Rattle.asm_run.specs.declared.error.RunError.{RunError}
@@ -57,12 +57,12 @@ pub record IsAtFault (s : Spec) (turns : ℕ) (script : Script) (step : ℕ) (ol
   pub is_first : IsFirstFault set (fault_of (shape_of s) fault)
   pub below : IsFaultBelow s fault
 
--- the main rule is exhausted at this place, or its set has this first fault
-abbrev pub IsAtStop : Spec → (turns : ℕ) → Script → (step : ℕ) → (old : List Value) → Place → Stop → Type 0
+-- the main rule is exhausted at this path, or its set has this first fault
+abbrev pub IsAtStop : Spec → (turns : ℕ) → Script → (step : ℕ) → (old : List Value) → Path → Stop → Type 0
 IsAtStop s turns script step old p (stop.Fault fault) = IsAtFault s turns script step old fault
 IsAtStop s turns script step old p stop.Exhausted = (main_outcome s turns script step old).result ≡ Exhausted p
 
-abbrev pub IsStopped : Spec → (turns : ℕ) → Script → (step : ℕ) → (old new : List Value) → Place → Stop → Type 0
+abbrev pub IsStopped : Spec → (turns : ℕ) → Script → (step : ℕ) → (old new : List Value) → Path → Stop → Type 0
 IsStopped s turns script step old new p at = IsAtStop s turns script step old p at × (new ≡ old)
 
 abbrev pub fault_line : Spec → (step : ℕ) → Fault → List ℕ
@@ -78,7 +78,7 @@ abbrev pub IsStopBelow : Spec → Stop → Type 0
 IsStopBelow s (stop.Fault fault) = IsFaultBelow s fault
 IsStopBelow s stop.Exhausted = Unit {0}
 
-abbrev pub stop_line : Spec → (step : ℕ) → Stop → Place → List ℕ
+abbrev pub stop_line : Spec → (step : ℕ) → Stop → Path → List ℕ
 stop_line s step (stop.Fault fault) p = fault_line s step fault
 stop_line s step stop.Exhausted p = exhausted_line step p
 

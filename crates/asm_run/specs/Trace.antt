@@ -12,7 +12,7 @@ use Rattle.asm_state.specs.declared.value.Value.TheVariants.{Undef, Truth, Numbe
 use Rattle.asm_state.specs.Location.{Location, Proper, Stray, State}
 use Rattle.asm_state.specs.Updates.{UpdateSet, Range, range_at, Fault, Clash, Outside, IsFirstFault}
 use Rattle.asm_eval.specs.Formed.{greatest_count}
-use Rattle.asm_eval.specs.Yields.{Place}
+use Rattle.asm_eval.specs.Yields.{Path}
 use Rattle.asm_eval.specs.Run.{End, AtLimit, AtExhausted, AtFault, FiredStep, Run}
 
 pub record Names : Type 0 where
@@ -22,7 +22,7 @@ pub record Names : Type 0 where
 abbrev pub line_end : List ℕ
 line_end = 10 ∷ []
 
--- ---- values, locations, places
+-- ---- values, locations, paths
 
 abbrev pub function_text : Names → ℕ → List ℕ
 function_text names f = slice_index_or names.functions f []
@@ -51,9 +51,9 @@ abbrev pub numbers_text : ℕ → List ℕ → List ℕ
 numbers_text k [] = decimal k
 numbers_text k (j ∷ ks) = decimal k ++ (codes "." ++ numbers_text j ks)
 
-abbrev pub place_text : Place → List ℕ
-place_text [] = codes "-"
-place_text (k ∷ ks) = numbers_text k ks
+abbrev pub path_text : Path → List ℕ
+path_text [] = codes "-"
+path_text (k ∷ ks) = numbers_text k ks
 
 -- ---- steps
 
@@ -83,8 +83,8 @@ fault_text names i (Clash l r) =
     ++ (codes " least " ++ (value_text names.elements r.least ++ (codes " greatest " ++ (value_text names.elements r.greatest ++ line_end)))))))
 fault_text names i (Outside f) = codes "end outside step " ++ (decimal i ++ (codes " " ++ (function_text names f ++ line_end)))
 
-abbrev pub exhausted_line : (step : ℕ) → Place → List ℕ
-exhausted_line i p = codes "end exhausted step " ++ (decimal i ++ (codes " place " ++ (place_text p ++ line_end)))
+abbrev pub exhausted_line : (step : ℕ) → Path → List ℕ
+exhausted_line i p = codes "end exhausted step " ++ (decimal i ++ (codes " place " ++ (path_text p ++ line_end)))
 
 abbrev pub IsEndText : Names → End → List ℕ → Type 0
 IsEndText names AtLimit text = text ≡ codes "end limit" ++ line_end

@@ -3,7 +3,7 @@
 --     SomeTrace     each run of a specification has one
 use Rattle.std.specs.Prelude.{◌≡◌, ℕ, List}
 use Rattle.asm_state.specs.Location.{Location}
-use Rattle.asm_syntax.specs.Placed.{Spec}
+use Rattle.asm_syntax.specs.SourceTree.{Spec}
 use Rattle.asm_reader.specs.ScriptLines.{Script}
 use Rattle.asm_eval.specs.Run.{Run}
 use Rattle.asm_run.specs.Trace.{Names, IsTrace}

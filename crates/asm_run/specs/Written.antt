@@ -9,7 +9,7 @@ use Rattle.asm_state.specs.declared.value.Value.TheVariants.{Undef}
 use Rattle.asm_state.specs.Location.{Location}
 use Rattle.asm_state.specs.Signature.{locations, location_at, count_of}
 use Rattle.asm_state.specs.Updates.{is_proper}
-use Rattle.asm_syntax.specs.Placed.{Spec}
+use Rattle.asm_syntax.specs.SourceTree.{Spec}
 use Rattle.asm_check.specs.Names.{Declaration}
 use Rattle.asm_check.specs.Numbers.{functions_of, elements_of}
 use Rattle.asm_check.specs.Shapes.{shape_of}

@@ -26,10 +26,10 @@ fn push_stop(
     checked: &Checked,
     step: u64,
     stop: Stop,
-    place: &[u64],
+    path: &[u64],
 ) -> Result<(), AllocError>
     requires { IsStopBelow (spec_of checked.now.spec) stop }
-    ensures { OnOk result (out.new.items ≡ out.old.items ++ stop_line (spec_of checked.now.spec) step stop place.now) }
+    ensures { OnOk result (out.new.items ≡ out.old.items ++ stop_line (spec_of checked.now.spec) step stop path.now) }
 {
     match stop {
         Stop::Fault(
@@ -40,7 +40,7 @@ fn push_stop(
             },
         ) => push_clash(alloc, out, checked, step, location, low, high),
         Stop::Fault(Fault::Outside { function }) => push_outside(out, checked, step, function),
-        Stop::Exhausted => push_exhausted(out, step, place),
+        Stop::Exhausted => push_exhausted(out, step, path),
     }
 }
 
@@ -62,7 +62,7 @@ pub fn finish_at_stop<S: Sink>(
     checked: &Checked,
     step: u64,
     stop: Stop,
-    place: &[u64],
+    path: &[u64],
     state: &State,
     out: &mut S,
 ) -> Result<End, RunError>
@@ -70,10 +70,10 @@ pub fn finish_at_stop<S: Sink>(
     requires below { IsStopBelow (spec_of checked.now.spec) stop }
     requires whole { length state.now ≡ count_of (shape_of (spec_of checked.now.spec)) }
     ensures { let s = spec_of checked.now.spec in
-        Finishes (S.bytes out.old) (S.bytes out.new) (S.has_failed out.new) (stop_line s step stop place.now ++ contents_text s state.now) (end_of_stop stop) result }
+        Finishes (S.bytes out.old) (S.bytes out.new) (S.has_failed out.new) (stop_line s step stop path.now ++ contents_text s state.now) (end_of_stop stop) result }
 {
     text.clear();
-    push_stop(alloc, text, checked, step, stop, place)?;
+    push_stop(alloc, text, checked, step, stop, path)?;
     push_state(alloc, text, checked, state)?;
     write_all(out, text.as_slice())?;
     Ok(end_of(stop))

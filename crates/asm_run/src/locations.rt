@@ -1,7 +1,7 @@
 //! How values and locations are written.
 ghost use Rattle.std.specs.Prelude.{◌≡◌, ◌<◌, ◌++◌, [], length, slice_index_or, OnOk};
 ghost use Rattle.asm_state.specs.Location.{function_of};
-ghost use Rattle.asm_state.specs.Places.{location_of};
+ghost use Rattle.asm_state.specs.CodeLocations.{location_of};
 ghost use Rattle.asm_syntax.specs.Views.{spec_of};
 ghost use Rattle.asm_check.specs.Numbers.{functions_of};
 ghost use Rattle.asm_run.specs.Trace.{value_text, values_text, function_text, location_text};
@@ -9,7 +9,7 @@ ghost use Rattle.asm_run.specs.Written.{names_in};
 
 use crate::text::{push_number, push_text};
 use asm_check::Checked;
-use asm_state::place::Place;
+use asm_state::location::Location;
 use asm_state::value::Value;
 use std::alloc::AllocError;
 
@@ -78,15 +78,15 @@ fn push_values(
 pub(crate) fn push_location(
     out: &mut Vec<u8>,
     checked: &Checked,
-    place: &Place,
+    location: &Location,
 ) -> Result<(), AllocError>
-    requires { function_of (location_of place.now) < length (functions_of (spec_of checked.now.spec)) }
+    requires { function_of (location_of location.now) < length (functions_of (spec_of checked.now.spec)) }
     ensures { let names = names_in (spec_of checked.now.spec) in
-        OnOk result (out.new.items ≡ out.old.items ++ location_text names (location_of place.now)) }
+        OnOk result (out.new.items ≡ out.old.items ++ location_text names (location_of location.now)) }
 {
-    match place {
-        Place::Stray { function } => push_function(out, checked, *function),
-        Place::Proper {
+    match location {
+        Location::Stray { function } => push_function(out, checked, *function),
+        Location::Proper {
             function,
             arguments,
         } => {

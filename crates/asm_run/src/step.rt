@@ -1,6 +1,6 @@
 //! One step of a run.
 ghost use Rattle.std.specs.Prelude.{◌≡◌, IfOk, IfErr, IfSome, IfNone, OnOk};
-ghost use Rattle.asm_syntax.specs.Unplaced.{plain_rule};
+ghost use Rattle.asm_syntax.specs.PlainTree.{plain_rule};
 ghost use Rattle.asm_syntax.specs.Views.{spec_of, rule_of};
 ghost use Rattle.asm_check.specs.Faults.{inits};
 ghost use Rattle.asm_check.specs.Shapes.{shape_of};
@@ -35,11 +35,11 @@ fn form_main<'a, P: Picks>(
     ensures formed { let o = main_outcome (spec_of checked.now.spec) turns (P.script choices.now.script.now) choices.now.step state.now in
         OnOk result (IsSet (shape_of (spec_of checked.now.spec)) o made.new.set made.new.instances) }
     ensures exhausted { let o = main_outcome (spec_of checked.now.spec) turns (P.script choices.now.script.now) choices.now.step state.now in
-        IfErr result (IsStoppedAt o made.new.place.items) }
+        IfErr result (IsStoppedAt o made.new.path.items) }
 {
     made.set.clear();
     made.instances = 0;
-    made.place.clear();
+    made.path.clear();
     let signature = checked.signature();
     let nothing = Summary::new(alloc, signature.count());
     let view = View::new(signature, state, nothing);
@@ -60,7 +60,7 @@ fn form_main<'a, P: Picks>(
 pub enum Stop {
     /// The step's set has this first fault.
     Fault(Fault),
-    /// There is no set: an `iterate` has made its last turn, the one at the place where the forming stands.
+    /// There is no set: an `iterate` has made its last turn, the one at the path where the forming stands.
     Exhausted,
 }
 
@@ -79,7 +79,7 @@ pub fn make_step<P: Picks>(
     requires main { plain_rule (rule_of main.now) ≡ main_rule (spec_of checked.now.spec) (inits (spec_of checked.now.spec)) }
     ensures sized { OnOk result (AreSized (spec_of checked.now.spec) state.new made.new.set.count) }
     ensures fired { IfOk result (λ stop. IfNone stop (IsFired (spec_of checked.now.spec) turns (P.script choices.now.script.now) choices.now.step state.old state.new text.new.items)) }
-    ensures stopped { IfOk result (λ stop. IfSome stop (IsStopped (spec_of checked.now.spec) turns (P.script choices.now.script.now) choices.now.step state.old state.new made.new.place.items)) }
+    ensures stopped { IfOk result (λ stop. IfSome stop (IsStopped (spec_of checked.now.spec) turns (P.script choices.now.script.now) choices.now.step state.old state.new made.new.path.items)) }
 {
     match form_main(alloc, checked, main, choices, turns, state, made) {
         Ok(()) => {}

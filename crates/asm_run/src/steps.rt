@@ -1,6 +1,6 @@
 //! The steps of a run, one after the other.
 ghost use Rattle.std.specs.Prelude.{◌≡◌, false};
-ghost use Rattle.asm_syntax.specs.Unplaced.{plain_rule};
+ghost use Rattle.asm_syntax.specs.PlainTree.{plain_rule};
 ghost use Rattle.asm_syntax.specs.Views.{spec_of, rule_of};
 ghost use Rattle.asm_check.specs.Faults.{inits};
 ghost use Rattle.asm_eval.specs.Declarations.{main_rule};
@@ -42,7 +42,7 @@ pub fn run_steps<S: Sink, P: Picks>(
     let mut made = Forming {
         set: Summary::new(alloc, signature.count()),
         instances: 0,
-        place: Vec::new(alloc),
+        path: Vec::new(alloc),
     };
     let mut text = Vec::new(alloc);
     for done in 0..limits.steps {
@@ -61,14 +61,14 @@ pub fn run_steps<S: Sink, P: Picks>(
             &mut text,
         )?;
         if let Some(stop) = stop {
-            let place = made.place.as_slice();
+            let path = made.path.as_slice();
             return finish_at_stop(
                 alloc,
                 &mut text,
                 checked,
                 choices.step,
                 stop,
-                place,
+                path,
                 &state,
                 out,
             );

@@ -1,7 +1,7 @@
 //! The lines of a trace.
 ghost use Rattle.std.specs.Prelude.{◌≡◌, ◌<◌, ◌++◌, Some, length, OnOk, codes};
 ghost use Rattle.asm_state.specs.Location.{function_of};
-ghost use Rattle.asm_state.specs.Places.{location_of};
+ghost use Rattle.asm_state.specs.CodeLocations.{location_of};
 ghost use Rattle.asm_state.specs.Signature.{count_of};
 ghost use Rattle.asm_syntax.specs.Views.{spec_of};
 ghost use Rattle.asm_check.specs.Numbers.{functions_of};
@@ -9,13 +9,13 @@ ghost use Rattle.asm_check.specs.Shapes.{shape_of};
 ghost use Rattle.asm_updates.specs.Entries.{range};
 ghost use Rattle.asm_updates.specs.declared.fault.Fault.TheVariants as fault;
 ghost use Rattle.asm_run.specs.Step.{fault_line};
-ghost use Rattle.asm_run.specs.Trace.{line_end, update_text, numbers_text, place_text, exhausted_line};
+ghost use Rattle.asm_run.specs.Trace.{line_end, update_text, numbers_text, path_text, exhausted_line};
 ghost use Rattle.asm_run.specs.Written.{names_in, step_line, entries_text, content_line, contents_text};
 
 use crate::locations::{push_function, push_location, push_value};
 use crate::text::{push_count, push_text};
 use asm_check::Checked;
-use asm_state::place::Place;
+use asm_state::location::Location;
 use asm_state::state::State;
 use asm_state::value::Value;
 use asm_updates::summary::Summary;
@@ -25,14 +25,14 @@ use std::alloc::{AllocError, Global};
 fn push_update(
     out: &mut Vec<u8>,
     checked: &Checked,
-    place: &Place,
+    location: &Location,
     bounds: (Value, Value),
 ) -> Result<(), AllocError>
-    requires { function_of (location_of place.now) < length (functions_of (spec_of checked.now.spec)) }
+    requires { function_of (location_of location.now) < length (functions_of (spec_of checked.now.spec)) }
     ensures { let names = names_in (spec_of checked.now.spec) in
-        OnOk result (out.new.items ≡ out.old.items ++ update_text names (location_of place.now) (Some (range bounds))) }
+        OnOk result (out.new.items ≡ out.old.items ++ update_text names (location_of location.now) (Some (range bounds))) }
 {
-    push_location(out, checked, place)?;
+    push_location(out, checked, location)?;
     push_text(out, b" := ")?;
     push_value(out, checked, bounds.0)?;
     push_text(out, b"\n")
@@ -58,8 +58,8 @@ fn push_line(
     if value == Value::Undef {
         return Ok(());
     }
-    let place = signature.location(alloc, n)?;
-    push_location(out, checked, &place)?;
+    let location = signature.location(alloc, n)?;
+    push_location(out, checked, &location)?;
     push_text(out, b" = ")?;
     push_value(out, checked, value)?;
     push_text(out, b"\n")
@@ -107,8 +107,8 @@ fn push_set(
 {
     for i in 0..set.len() {
         let (n, low, high) = set.entry_at(i);
-        let place = checked.signature().location(alloc, n)?;
-        push_update(out, checked, &place, (low, high))?;
+        let location = checked.signature().location(alloc, n)?;
+        push_update(out, checked, &location, (low, high))?;
     }
     Ok(())
 }
@@ -149,11 +149,11 @@ pub fn push_clash(
     requires { location < count_of (shape_of (spec_of checked.now.spec)) }
     ensures { OnOk result (out.new.items ≡ out.old.items ++ fault_line (spec_of checked.now.spec) step (fault.Clash location low high)) }
 {
-    let place = checked.signature().location(alloc, location)?;
+    let location = checked.signature().location(alloc, location)?;
     push_text(out, b"end clash step ")?;
     push_count(out, step)?;
     push_text(out, b" ")?;
-    push_location(out, checked, &place)?;
+    push_location(out, checked, &location)?;
     push_text(out, b" least ")?;
     push_value(out, checked, low)?;
     push_text(out, b" greatest ")?;
@@ -179,17 +179,17 @@ pub fn push_outside(
     push_text(out, b"\n")
 }
 
-/// Adds a place: its numbers with dots between them, or a hyphen where it has none.
-fn push_place(out: &mut Vec<u8>, place: &[u64]) -> Result<(), AllocError>
-    ensures { OnOk result (out.new.items ≡ out.old.items ++ place_text place.now) }
+/// Adds a path: its numbers with dots between them, or a hyphen where it has none.
+fn push_path(out: &mut Vec<u8>, path: &[u64]) -> Result<(), AllocError>
+    ensures { OnOk result (out.new.items ≡ out.old.items ++ path_text path.now) }
 {
-    match place {
+    match path {
         [] => push_text(out, b"-"),
         [first, rest @ ..] => push_numbers(out, *first, rest),
     }
 }
 
-/// Adds the numbers of a place that has any.
+/// Adds the numbers of a path that has any.
 fn push_numbers(out: &mut Vec<u8>, first: u64, rest: &[u64]) -> Result<(), AllocError>
     ensures { OnOk result (out.new.items ≡ out.old.items ++ numbers_text first rest.now) }
 {
@@ -202,13 +202,13 @@ fn push_numbers(out: &mut Vec<u8>, first: u64, rest: &[u64]) -> Result<(), Alloc
 }
 
 /// Adds the line for an `iterate` that made its last turn.
-pub fn push_exhausted(out: &mut Vec<u8>, step: u64, place: &[u64]) -> Result<(), AllocError>
-    ensures { OnOk result (out.new.items ≡ out.old.items ++ exhausted_line step place.now) }
+pub fn push_exhausted(out: &mut Vec<u8>, step: u64, path: &[u64]) -> Result<(), AllocError>
+    ensures { OnOk result (out.new.items ≡ out.old.items ++ exhausted_line step path.now) }
 {
     push_text(out, b"end exhausted step ")?;
     push_count(out, step)?;
     push_text(out, b" place ")?;
-    push_place(out, place)?;
+    push_path(out, path)?;
     push_text(out, b"\n")?;
     Ok(())
 }

@@ -18,7 +18,7 @@ use Rattle.asm_state.specs.Layout.{IsLayoutOf, static_values, static_values_by, 
 use Rattle.asm_state.specs.Signature.{Shape, HasKind, domain_in, held_value, held_by}
 use Rattle.asm_state.specs.Tables.{argument_lists, is_in, table_value}
 use Rattle.asm_state.proofs.LayoutsSoFar.{given_before, listed_in}
-use Rattle.asm_state.proofs.LocationPlaces.{lists_of}
+use Rattle.asm_state.proofs.LocationIndices.{lists_of}
 use Rattle.asm_state.proofs.Owners.{same_function, any_extent}
 
 pub static_length : (universes : List (List Value)) (function : Function) → length (static_values universes function) ≡ static_lists universes function

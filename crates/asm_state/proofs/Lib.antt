@@ -23,7 +23,7 @@ pub mod ListPositions
 pub mod TableValues
 pub mod Layouts
 pub mod LayoutsSoFar
-pub mod LocationPlaces
+pub mod LocationIndices
 pub mod Owners
 pub mod SignatureInside
 pub mod GivenValues

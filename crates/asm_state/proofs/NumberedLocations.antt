@@ -20,7 +20,7 @@ use Rattle.asm_state.proofs.Lists.{Contains-none, Contains-first, Contains-later
 use Rattle.asm_state.proofs.Containing.{contains_in, in_contains}
 use Rattle.asm_state.proofs.LocationOrder.{LocationsRise, locations_rise}
 
--- a function with its number, and the function at that place
+-- a function with its number, and the function at that index
 numbered : (functions : List Function) (first : ℕ) (x : ℕ × Function) → Contains (enumerate_from first functions) x → (k : ℕ) × (x.0 ≡ first + k) × (slice_get functions k ≡ Some x.1)
 numbered [] first x h = absurd (Contains-none x h)
 numbered (function ∷ functions) first x h =

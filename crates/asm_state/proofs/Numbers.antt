@@ -41,7 +41,7 @@ negative_is m r e =
     let same : to_z w64 (of_z w64 (pos 0 -ℤ to_z w64 (of_z w64 m.value))) ≡ neg_ℤ m.value = omega (arith, ints, m.low, m.high) in
     e ∙ ap number_or_undef same
 
--- a number that has no place in 64 bits isn't in the range
+-- a number that 64 bits can't hold isn't in the range
 tests_fail : (z : ℤ) (low high : Bool) (low_is : int_le (negsuc 999_999_999_999_999) z ≡ low) (high_is : int_le z (pos 1_000_000_000_000_000) ≡ high) → ¬ (FitsSigned w64 z) → Undef ≡ number_by_tests z low high low_is high_is
 tests_fail z true true low_is high_is h =
     let above : negsuc 999_999_999_999_999 ≤ℤ z = at_most low_is in

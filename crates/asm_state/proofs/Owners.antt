@@ -21,9 +21,9 @@ use Rattle.asm_state.specs.Tables.{is_in, location_in}
 use Rattle.asm_state.specs.Updates.{is_proper}
 use Rattle.asm_state.proofs.LayoutsSoFar.{listed_in}
 use Rattle.asm_state.proofs.NumberedLocations.{how_many}
-use Rattle.asm_state.proofs.LocationPlaces.{Holds, start_of, lists_of, proper_place, stray_place, IsNumberOf, proper_number, stray_number}
+use Rattle.asm_state.proofs.LocationIndices.{Holds, start_of, lists_of, proper_index, stray_index, IsNumberOf, proper_number, stray_number}
 
--- a place in a list of pieces is one in some piece
+-- an index in a list of pieces is one in some piece
 record Piece {X A : Type 0} (g : X → List A) (xs : List X) (n : ℕ) (e : X) : Type 0 where
   piece : ℕ
   position : ℕ
@@ -100,11 +100,11 @@ is_at shape n f start lists owned is are = record {
   begins = begins;
   stray = λ last.
       let at : n ≡ start_of shape f + length (lists_of shape owned.function) = omega (arith, last, is, are, owned.starts) in
-      ap (location_at shape) at ∙ (stray_place shape f owned.function owned.holds).1;
+      ap (location_at shape) at ∙ (stray_index shape f owned.function owned.holds).1;
   inside = inside;
   proper = λ other.
       let at : n ≡ start_of shape f + (n - start) = omega (arith, is, owned.starts) in
-      ap (location_at shape) at ∙ (proper_place shape f owned.function (n - start) owned.holds (inside other)).1;
+      ap (location_at shape) at ∙ (proper_index shape f owned.function (n - start) owned.holds (inside other)).1;
 }
   where
     begins : start ≤ n
@@ -157,8 +157,8 @@ module _ (shape : Shape) (layout : Layout) (laid_out : IsLayoutOf shape layout) 
       (it.start ∙ ap (λ k. start_by k shape f) holds.kind, it.lists)
 
   -- the location with a number, by the extent of its function
-  pub place_here : (n f : ℕ) (extent : Extent) → n < count_of shape → f ≡ get_or layout.owners.items n f → extent ≡ get_or layout.extents.items f extent → IsAt shape n f extent.start extent.lists
-  place_here n f extent h is of =
+  pub index_here : (n f : ℕ) (extent : Extent) → n < count_of shape → f ≡ get_or layout.owners.items n f → extent ≡ get_or layout.extents.items f extent → IsAt shape n f extent.start extent.lists
+  index_here n f extent h is of =
       let owned : Owned shape n f = owner_here n f h is in
       let sizes : (extent.start ≡ start_of shape f) × (extent.lists ≡ length (lists_of shape owned.function)) = extent_is f owned.function extent owned.holds of in
       is_at shape n f extent.start extent.lists owned sizes.0 sizes.1

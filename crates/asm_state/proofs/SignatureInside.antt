@@ -10,7 +10,7 @@ use Rattle.asm_state.specs.declared.signature.Signature.TheInside.{Inside}
 use Rattle.asm_state.specs.Layout.{IsLayoutOf}
 use Rattle.asm_state.specs.Signature.{Shape, count_of, domain_in, location_at}
 use Rattle.asm_state.specs.declared.layout.Extent.{Extent}
-use Rattle.asm_state.proofs.Owners.{Owned, IsAt, owner_here, place_here}
+use Rattle.asm_state.proofs.Owners.{Owned, IsAt, owner_here, index_here}
 
 abbrev pub shape_of : Inside → Shape
 shape_of s = record { universes = s.universes.items; functions = s.functions.items }
@@ -23,8 +23,8 @@ module _ (inside : Inside) (laid_out : IsLayoutOf (shape_of inside) inside.layou
   pub owned : Owned (shape_of inside) n f
   owned = owner_here (shape_of inside) inside.layout laid_out n f below_inside is
 
-  pub place : (extent : Extent) → extent ≡ get_or inside.layout.extents.items f extent → IsAt (shape_of inside) n f extent.start extent.lists
-  place extent of = place_here (shape_of inside) inside.layout laid_out n f extent below_inside is of
+  pub index : (extent : Extent) → extent ≡ get_or inside.layout.extents.items f extent → IsAt (shape_of inside) n f extent.start extent.lists
+  index extent of = index_here (shape_of inside) inside.layout laid_out n f extent below_inside is of
 
 -- the location with a number, by the universes and the domain that the code reads
 pub record Listed (shape : Shape) (universes : List (List Value)) (domain : List ℕ) (n f k : ℕ) : Type 0 where

@@ -39,7 +39,7 @@ pub length-values_from : (first : First) (count : ℕ) → length (values_from f
 length-values_from (first.Element k) count = length-elements k count
 length-values_from (first.Number z) count = length-numbers z count
 
--- the element at each place
+-- the element at each index
 pub at_elements : (first count i : ℕ) (d : Value) → i < count → slice_index_or (elements first count) i d ≡ element (first + i)
 at_elements first zero i d within = absurd (omega arith)
 at_elements first (suc n) zero d within = let same : first ≡ first + 0 = omega arith in ap element same
@@ -47,7 +47,7 @@ at_elements first (suc n) (suc i) d within =
     let same : first + 1 + i ≡ first + suc i = omega arith in
     at_elements (first + 1) n i d (omega arith) ∙ ap element same
 
--- the number at each place
+-- the number at each index
 pub at_numbers : (first : ℤ) (count i : ℕ) (d : Value) → i < count → slice_index_or (numbers first count) i d ≡ number_or_undef (first +ℤ pos i)
 at_numbers first zero i d within = absurd (omega arith)
 at_numbers first (suc n) zero d within = let same : first ≡ first +ℤ pos 0 = omega (arith, ints) in ap number_or_undef same
@@ -149,17 +149,17 @@ numbers_rise first last =
     in_turn_rise (number_code first.value) (numbers_between first.value last.value)
     (numbers_in_turn first.value (count_between first.value last.value) first.low (codes_fit first last))
 
--- no value stands at a place of another code
-other_place : (start : ℕ) (vs : List Value) → AreInTurn start vs → (v : Value) (i : ℕ) → i < length vs → (start + i ≡ code_of v → ⊥) → is_same v (slice_index_or vs i Undef) ≡ false
-other_place start vs turn v i within other =
+-- no value stands at an index of another code
+other_index : (start : ℕ) (vs : List Value) → AreInTurn start vs → (v : Value) (i : ℕ) → i < length vs → (start + i ≡ code_of v → ⊥) → is_same v (slice_index_or vs i Undef) ≡ false
+other_index start vs turn v i within other =
     elim (is_same v (slice_index_or vs i Undef)) as (λ b. is_same v (slice_index_or vs i Undef) ≡ b → b ≡ false) [
       | true ↦ λ same. absurd (other (sym (turn.code_at i Undef within) ∙ ap code_of (sym (same_value v (slice_index_or vs i Undef) same))))
       | false ↦ λ apart. refl
     ] refl
 
--- a value stands at the place of its code
-own_place : (start : ℕ) (vs : List Value) → AreInTurn start vs → (v : Value) (i : ℕ) → i < length vs → start + i ≡ code_of v → is_same v (slice_index_or vs i Undef) ≡ true
-own_place start vs turn v i within same =
+-- a value stands at the index of its code
+own_index : (start : ℕ) (vs : List Value) → AreInTurn start vs → (v : Value) (i : ℕ) → i < length vs → start + i ≡ code_of v → is_same v (slice_index_or vs i Undef) ≡ true
+own_index start vs turn v i within same =
     let it : v ≡ slice_index_or vs i Undef = codes_apart v (slice_index_or vs i Undef) (sym same ∙ sym (turn.code_at i Undef within)) in
     ap (is_same v) (sym it) ∙ value_itself v
 
@@ -175,14 +175,14 @@ no_position_by p vs e = grind (arith, common_steps)
 pub position_in_turn : (start : ℕ) (vs : List Value) → AreInTurn start vs → (v : Value) → start ≤ code_of v → code_of v - start < length vs → position (is_same v) vs ≡ Some (code_of v - start)
 position_in_turn start vs turn v from within =
     position_by (is_same v) vs (code_of v - start)
-    (position_or_len_is (is_same v) vs (code_of v - start) Undef (omega arith) (λ k before. other_place start vs turn v k (omega arith) (λ same. omega arith)) (λ here. own_place start vs turn v (code_of v - start) here (omega arith)))
+    (position_or_len_is (is_same v) vs (code_of v - start) Undef (omega arith) (λ k before. other_index start vs turn v k (omega arith) (λ same. omega arith)) (λ here. own_index start vs turn v (code_of v - start) here (omega arith)))
     within
 
 -- a value of another code has none
 pub position_out_of_turn : (start : ℕ) (vs : List Value) → AreInTurn start vs → (v : Value) → (start ≤ code_of v → length vs ≤ code_of v - start) → position (is_same v) vs ≡ None
 position_out_of_turn start vs turn v out =
     no_position_by (is_same v) vs
-    (position_or_len_is (is_same v) vs (length vs) Undef (omega arith) (λ k before. other_place start vs turn v k before (λ same. omega (arith, out (omega arith)))) (λ here. absurd (omega arith)))
+    (position_or_len_is (is_same v) vs (length vs) Undef (omega arith) (λ k before. other_index start vs turn v k before (λ same. omega (arith, out (omega arith)))) (λ here. absurd (omega arith)))
 
 -- an element of a universe is in the range
 pub element_within : {start : First} {count : ℕ} {vs : List Value} {k i : ℕ} → IsWithin start count → values_from start count ≡ vs → start ≡ first.Element k → i < length vs → k + i < 262_144
@@ -191,7 +191,7 @@ element_within {start} {count} {vs} {k} {i} within view is here =
     let known : IsWithin (first.Element k) count = subst (λ f. IsWithin f count) is within in
     omega (arith, known.in_range, ap length view)
 
--- an element of a universe stands at its place
+-- an element of a universe stands at its index
 pub element_stands : {start : First} {count : ℕ} {vs : List Value} {k i : ℕ} (e : Member) → IsWithin start count → values_from start count ≡ vs → start ≡ first.Element k → i < length vs → e.index ≡ k + i → slice_get vs i ≡ Some (Element e)
 element_stands {start} {count} {vs} {k} {i} e within view is here same =
     let seen : elements k count ≡ vs = subst (λ f. values_from f count ≡ vs) is view in
@@ -220,7 +220,7 @@ number_within {start} {count} {vs} {z} {i} within view is here =
 pub bits_further : (z : ℤ) (i : ℕ) → IsNear z i → to_z w64 (of_z w64 (to_z w64 (of_z w64 z) +ℤ to_z w64 i)) ≡ z +ℤ pos i
 bits_further z i near = omega (arith, ints, near.few, near.low, near.high)
 
--- a number of a universe stands at its place
+-- a number of a universe stands at its index
 pub number_stands : {start : First} {count : ℕ} {vs : List Value} {z : ℤ} {i : ℕ} (n : WholeNumber) → IsWithin start count → values_from start count ≡ vs → start ≡ first.Number z → i < length vs → n.value ≡ to_z w64 (of_z w64 (to_z w64 (of_z w64 z) +ℤ to_z w64 i)) → slice_get vs i ≡ Some (Number n)
 number_stands {start} {count} {vs} {z} {i} n within view is here same =
     let seen : numbers z count ≡ vs = subst (λ f. values_from f count ≡ vs) is view in
@@ -233,8 +233,8 @@ pub position_within : {start : First} {count : ℕ} {vs : List Value} {low code 
 position_within {start} {count} {vs} {low} {code} v within view low_is code_is from below =
     let turn : AreInTurn (first_code start) vs = subst (AreInTurn (first_code start)) view (values_in_turn start count within) in
     let long : length vs ≡ count = sym (ap length view) ∙ length-values_from start count in
-    let place : code - low ≡ code_of v - first_code start = omega arith in
-    ap Some place ∙ sym (position_in_turn (first_code start) vs turn v (omega arith) (omega arith))
+    let index : code - low ≡ code_of v - first_code start = omega arith in
+    ap Some index ∙ sym (position_in_turn (first_code start) vs turn v (omega arith) (omega arith))
 
 -- a value whose code is none of the universe's has no position in it
 pub position_outside : {start : First} {count : ℕ} {vs : List Value} {low code : ℕ} (v : Value) → IsWithin start count → values_from start count ≡ vs → low ≡ first_code start → code ≡ code_of v → (low ≤ code → count ≤ code - low) → None ≡ position (is_same v) vs

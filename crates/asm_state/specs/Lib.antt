@@ -12,7 +12,7 @@ pub mod Signature
 pub mod Contents
 pub mod Fits
 pub mod Layout
-pub mod Places
+pub mod CodeLocations
 pub mod ValueLaws
 pub mod BoundLaws
 pub mod DomainLaws

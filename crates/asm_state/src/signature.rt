@@ -3,7 +3,7 @@ ghost use Rattle.std.specs.Prelude.{◌≡◌, ◌<◌, ◌≤◌, Some, IsTrue,
 ghost use Rattle.asm_state.specs.declared.function.Kind.TheVariants.{Controlled, Static};
 ghost use Rattle.asm_state.specs.Fits.{Fits};
 ghost use Rattle.asm_state.specs.Location.{Stray};
-ghost use Rattle.asm_state.specs.Places.{location_of};
+ghost use Rattle.asm_state.specs.CodeLocations.{location_of};
 ghost use Rattle.asm_state.specs.Signature.{Shape, IsSound, HasKind, domain_of, functions_of, locations, count_of, location_at, number_at, initial_state, held_value};
 ghost use Rattle.asm_state.specs.Tables.{location_in};
 ghost use Rattle.asm_state.specs.Updates.{is_proper};
@@ -12,7 +12,7 @@ use crate::argument_lists::{list_position, push_list};
 use crate::arguments::Arguments;
 use crate::function::Function;
 use crate::layout::Layout;
-use crate::place::Place;
+use crate::location::Location;
 use crate::universe::Universe;
 use crate::value::Value;
 use std::alloc::{AllocError, Global};
@@ -116,20 +116,20 @@ impl Signature {
     }
 
     /// The location with this number.
-    pub fn location(&self, alloc: Global, n: usize) -> Result<Place, AllocError>
+    pub fn location(&self, alloc: Global, n: usize) -> Result<Location, AllocError>
         requires { n < count_of self.now }
-        ensures { IfOk result (λ place. location_of place ≡ location_at self.now n) }
+        ensures { IfOk result (λ location. location_of location ≡ location_at self.now n) }
     {
         let function = self.layout.owners[n];
         let extent = self.layout.extents[function];
         let list = n - extent.start;
         if list == extent.lists {
-            return Ok(Place::Stray { function });
+            return Ok(Location::Stray { function });
         }
         let domain = self.functions[function].domain.as_slice();
         let mut arguments = Vec::with_capacity(alloc, domain.len())?;
         push_list(&self.universes, domain, list, &mut arguments)?;
-        Ok(Place::Proper {
+        Ok(Location::Proper {
             function,
             arguments: Arguments::new(arguments),
         })

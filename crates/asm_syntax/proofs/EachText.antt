@@ -192,7 +192,7 @@ from_front more front.BadNumber ts at rest = Err (fault.BadNumber at)
 from_front more front.OpenComment ts at rest = Err (fault.OpenComment at)
 from_front more front.BadByte ts at rest = Err (fault.BadByte at)
 
--- Behind these tokens, up to the place `at`. Each turn takes a byte at least.
+-- Behind these tokens, up to the offset `at`. Each turn takes a byte at least.
 abbrev lexed_within : ℕ → Lexer
 lexed_within zero ts at rest = Ok ts
 lexed_within (suc n) ts at [] = Ok ts
@@ -227,7 +227,7 @@ module _ (text : List ℕ) (short : length text ≤ max_length) where
   right_within zero ts at rest room lexed = absurd (omega (arith, room))
   right_within (suc n) ts at [] room lexed = done text ts at [] lexed short refl
   right_within (suc n) ts at (b ∷ bytes) room lexed =
-      right_from ts at b bytes (lexed_within n) lexed (λ us place rest less. right_within n us place rest (omega (arith, less, room))) (front_at b bytes) (is_front b bytes)
+      right_from ts at b bytes (lexed_within n) lexed (λ us offset rest less. right_within n us offset rest (omega (arith, less, room))) (front_at b bytes) (is_front b bytes)
 
 pub is_right : (text : List ℕ) → IsRight text (lexed text)
 is_right text = by (nat_le (length text) max_length) refl

@@ -12,6 +12,6 @@ pub mod PackedKeys
 pub mod OneKind
 pub mod Stops
 pub mod OneAnswer
-pub mod TokenPlaces
+pub mod TokenOffsets
 pub mod EachText
 pub mod Examples

@@ -10,12 +10,12 @@ use Rattle.asm_syntax.specs.declared.error.LexError.TheVariants as fault
 use Rattle.asm_syntax.specs.Tokens.{max_length, IsLastGap, IsBadNumber, Next, Begins, AreTokens, IsFaultAt, IsFault}
 use Rattle.asm_syntax.proofs.Stops.{Stop, taken, finished, open_comment, nothing, Stopped, one_stopped}
 
--- what a stop at this place comes to, if it is no good token
+-- what a stop at this offset comes to, if it is no good token
 abbrev verdict : ℕ → Stop → Option LexError
-verdict place (taken k piece behind) = Some (fault.BadNumber place)
-verdict place finished = None
-verdict place open_comment = Some (fault.OpenComment place)
-verdict place nothing = Some (fault.BadByte place)
+verdict offset (taken k piece behind) = Some (fault.BadNumber offset)
+verdict offset finished = None
+verdict offset open_comment = Some (fault.OpenComment offset)
+verdict offset nothing = Some (fault.BadByte offset)
 
 -- a token that is no bad number
 abbrev IsGood : Stop → Type 0
@@ -24,7 +24,7 @@ IsGood finished = ⊥
 IsGood open_comment = ⊥
 IsGood nothing = ⊥
 
--- The text from the place `at` on ends in no token, with this fault or none.
+-- The text from the offset `at` on ends in no token, with this fault or none.
 abbrev Ends : ℕ → List ℕ → Option LexError → Type 0
 Ends at text None = IsLastGap text
 Ends at text (Some e) = IsFaultAt at text e
@@ -60,21 +60,21 @@ ended at text None (inr (gap, comment, is_gap, is_comment, e)) = record {
   no_good = λ good. good;
 }
 ended at text (Some fault.TooLong) never = absurd never
-ended at text (Some (fault.BadByte place)) (gap, rest, e, is_gap, some, none, same) = record {
+ended at text (Some (fault.BadByte offset)) (gap, rest, e, is_gap, some, none, same) = record {
   gap = gap;
   stop = nothing;
   stopped = record { rest = rest; whole = e; between = is_gap; stands = (some, none) };
   comes_to = ap (λ n. Some (fault.BadByte n)) same;
   no_good = λ good. good;
 }
-ended at text (Some (fault.OpenComment place)) (gap, inside, e, is_gap, unclosed, same) = record {
+ended at text (Some (fault.OpenComment offset)) (gap, inside, e, is_gap, unclosed, same) = record {
   gap = gap;
   stop = open_comment;
   stopped = record { rest = codes "/*" ++ inside; whole = e ∙ append_assoc gap (codes "/*") inside; between = is_gap; stands = (inside, refl, unclosed) };
   comes_to = ap (λ n. Some (fault.OpenComment n)) same;
   no_good = λ good. good;
 }
-ended at text (Some (fault.BadNumber place)) (t, behind, next, bad, same) = record {
+ended at text (Some (fault.BadNumber offset)) (t, behind, next, bad, same) = record {
   gap = next.gap;
   stop = taken t.kind next.piece behind;
   stopped = next_stopped at text t behind next;
@@ -129,7 +129,7 @@ one_next at text t u x y first second =
 
 -- ---- whole texts
 
--- The text from the place `at` on has these tokens, and then this fault or none.
+-- The text from the offset `at` on has these tokens, and then this fault or none.
 abbrev Answers : ℕ → List ℕ → List Token → Option LexError → Type 0
 Answers at text ts o = (end : ℕ) × (rest : List ℕ) × Begins at text ts end rest × Ends end rest o
 
@@ -158,9 +158,9 @@ one_answer at text (t ∷ ts) (u ∷ us) o p (end, rest, (behind, next, good, be
 -- a fault that isn't the text's length
 fault_answers : (text : List ℕ) (e : LexError) → IsFault text e → ((e ≡ fault.TooLong) × (max_length < length text)) ⊎ ((length text ≤ max_length) × (ts : List Token) × Answers 0 text ts (Some e))
 fault_answers text fault.TooLong long = inl (refl, long)
-fault_answers text (fault.BadByte place) (short, ts, end, rest, begins, at) = inr (short, ts, (end, rest, begins, at))
-fault_answers text (fault.OpenComment place) (short, ts, end, rest, begins, at) = inr (short, ts, (end, rest, begins, at))
-fault_answers text (fault.BadNumber place) (short, ts, end, rest, begins, at) = inr (short, ts, (end, rest, begins, at))
+fault_answers text (fault.BadByte offset) (short, ts, end, rest, begins, at) = inr (short, ts, (end, rest, begins, at))
+fault_answers text (fault.OpenComment offset) (short, ts, end, rest, begins, at) = inr (short, ts, (end, rest, begins, at))
+fault_answers text (fault.BadNumber offset) (short, ts, end, rest, begins, at) = inr (short, ts, (end, rest, begins, at))
 
 pub one_list_of_tokens : (text : List ℕ) (ts us : List Token) → AreTokens text ts → AreTokens text us → ts ≡ us
 one_list_of_tokens text ts us (_, end, rest, begins, last) (_, end', rest', begins', last') =

@@ -1,5 +1,5 @@
 -- Faults of texts, as a user meets them.
---     fault_number, fault_place      the number of a fault, and the place where it stands, if it has one
+--     fault_number, fault_offset      the number of a fault, and the offset where it stands, if it has one
 use Rattle.std.specs.Prelude.{ℕ, Option, Some, None}
 use Rattle.asm_syntax.specs.declared.error.LexError.{LexError}
 use Rattle.asm_syntax.specs.declared.error.LexError.TheVariants.{TooLong, BadByte, OpenComment, BadNumber}
@@ -10,8 +10,8 @@ fault_number (BadByte at) = 2
 fault_number (OpenComment at) = 3
 fault_number (BadNumber at) = 4
 
-abbrev pub fault_place : LexError → Option ℕ
-fault_place TooLong = None
-fault_place (BadByte at) = Some at
-fault_place (OpenComment at) = Some at
-fault_place (BadNumber at) = Some at
+abbrev pub fault_offset : LexError → Option ℕ
+fault_offset TooLong = None
+fault_offset (BadByte at) = Some at
+fault_offset (OpenComment at) = Some at
+fault_offset (BadNumber at) = Some at

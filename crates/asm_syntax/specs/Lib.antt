@@ -1,8 +1,8 @@
 pub mod Tree
-pub mod Placed
+pub mod SourceTree
 pub mod Views
 pub mod ViewCases
-pub mod Unplaced
+pub mod PlainTree
 pub mod Spellings
 pub mod Tokens
 pub mod Fronts

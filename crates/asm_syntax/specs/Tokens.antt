@@ -92,7 +92,7 @@ Spells text (Word w) = text ≡ word_text w
 abbrev pub IsLongest : List ℕ → List ℕ → Type 0
 IsLongest piece behind = (more rest : List ℕ) (k : Kind) → behind ≡ more ++ rest → Spells (piece ++ more) k → more ≡ []
 
--- The text from the place `at` on is a gap, the token, and what is behind it.
+-- The text from the offset `at` on is a gap, the token, and what is behind it.
 pub record Next (at : ℕ) (text : List ℕ) (t : Token) (behind : List ℕ) : Type 0 where
   pub gap : List ℕ
   pub piece : List ℕ
@@ -112,7 +112,7 @@ IsBadNumber (Word w) behind = ⊥
 
 -- ---- texts
 
--- The text from the place `at` on begins with these tokens. `behind` is what follows them, from the place `end` on.
+-- The text from the offset `at` on begins with these tokens. `behind` is what follows them, from the offset `end` on.
 abbrev pub Begins : ℕ → List ℕ → List Token → ℕ → List ℕ → Type 0
 Begins at text [] end behind = (end ≡ at) × (behind ≡ text)
 Begins at text (t ∷ ts) end behind = (between : List ℕ) × Next at text t between × ¬ IsBadNumber t.kind between × Begins t.end between ts end behind
@@ -128,12 +128,12 @@ pub record BeginsNothing (text : List ℕ) : Type 0 where
   pub line_comment : (behind : List ℕ) → text ≢ codes "//" ++ behind
   pub block_comment : (behind : List ℕ) → text ≢ codes "/*" ++ behind
 
--- Behind a gap, the text from the place `at` on has this fault.
+-- Behind a gap, the text from the offset `at` on has this fault.
 abbrev pub IsFaultAt : ℕ → List ℕ → LexError → Type 0
 IsFaultAt at text TooLong = ⊥
-IsFaultAt at text (BadByte place) = (gap rest : List ℕ) × (text ≡ gap ++ rest) × IsGap gap × (rest ≢ []) × BeginsNothing rest × (place ≡ at + length gap)
-IsFaultAt at text (OpenComment place) = (gap inside : List ℕ) × (text ≡ gap ++ codes "/*" ++ inside) × IsGap gap × ¬ StandsIn (codes "*/") inside × (place ≡ at + length gap)
-IsFaultAt at text (BadNumber place) = (t : Token) × (behind : List ℕ) × Next at text t behind × IsBadNumber t.kind behind × (place ≡ t.start)
+IsFaultAt at text (BadByte offset) = (gap rest : List ℕ) × (text ≡ gap ++ rest) × IsGap gap × (rest ≢ []) × BeginsNothing rest × (offset ≡ at + length gap)
+IsFaultAt at text (OpenComment offset) = (gap inside : List ℕ) × (text ≡ gap ++ codes "/*" ++ inside) × IsGap gap × ¬ StandsIn (codes "*/") inside × (offset ≡ at + length gap)
+IsFaultAt at text (BadNumber offset) = (t : Token) × (behind : List ℕ) × Next at text t behind × IsBadNumber t.kind behind × (offset ≡ t.start)
 
 -- the first fault of the text
 abbrev pub IsFault : List ℕ → LexError → Type 0
@@ -146,7 +146,7 @@ IsFault text e = (length text ≤ max_length) × (ts : List Token) × (end : ℕ
 abbrev pub HasNumberInRange : Token → Type 0
 HasNumberInRange t = (n : ℕ) → t.kind ≡ Number n → n ≤ max_number
 
--- From the place `at` on the tokens stand one behind another, none of them empty, and end at the place `end` or before.
+-- From the offset `at` on the tokens stand one behind another, none of them empty, and end at the offset `end` or before.
 abbrev pub StandInOrder : ℕ → List Token → ℕ → Type 0
 StandInOrder at [] end = at ≤ end
 StandInOrder at (t ∷ ts) end = (at ≤ t.start) × (t.start < t.end) × StandInOrder t.end ts end

@@ -1,6 +1,6 @@
--- Terms and rules as trees without places. A name is the list of its bytes.
+-- Terms and rules as trees without offsets. A name is the list of its bytes.
 --     Term, Terms, Links      a term;  a list of terms;  the rest of a chain: operations, each with its right operand
---     Rule, Rules             a rule;  a list of rules. A rule without `else` or `ifnone` has `Skip` in its place
+--     Rule, Rules             a rule;  a list of rules. A rule without `else` or `ifnone` has `Skip` there
 use Rattle.std.specs.Prelude.{ℕ, List, Option}
 use Rattle.asm_state.specs.declared.value.Value.{Value}
 use Rattle.asm_state.specs.declared.operation.Op.{Op}

@@ -1,9 +1,9 @@
 //! What is wrong with the bytes of a text.
 
 ghost use Rattle.std.specs.Prelude.{◌≡◌};
-ghost use Rattle.asm_syntax.specs.Faults.{fault_number, fault_place};
+ghost use Rattle.asm_syntax.specs.Faults.{fault_number, fault_offset};
 
-/// The first fault of a text. `at` is a place among its bytes.
+/// The first fault of a text. `at` is an offset among its bytes.
 #[derive(Clone, Copy, Debug, PartialEq, Eq)]
 pub enum LexError {
     /// The text has more bytes than a text may have.
@@ -29,9 +29,9 @@ impl LexError {
         }
     }
 
-    /// The place of the byte where it stands; a text that is too long has none.
+    /// The offset of the byte where it stands; a text that is too long has none.
     pub fn at(self) -> Option<usize>
-        ensures { result ≡ fault_place self }
+        ensures { result ≡ fault_offset self }
     {
         match self {
             LexError::TooLong => None,

@@ -1,7 +1,7 @@
-//! Names, and the places where they stand.
+//! Names, and the offsets where they stand.
 pub use crate::text::Text;
 
-/// A name, with the place of its first byte in the text of the specification.
+/// A name, with the offset of its first byte in the text of the specification.
 #[derive(Drop)]
 pub struct Name {
     pub at: usize,

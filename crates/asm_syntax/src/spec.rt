@@ -11,7 +11,7 @@ pub enum Const {
     Element(Name),
 }
 
-/// An entry of a table, with the place of its `(`.
+/// An entry of a table, with the offset of its `(`.
 #[derive(Drop)]
 pub struct Entry {
     pub at: usize,

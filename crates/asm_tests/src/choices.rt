@@ -23,7 +23,7 @@ struct Counting {
 impl Picks for Counting {
     ghost script = { λ _. [] };
 
-    fn pick(&self, _step: u64, _place: &[u64]) -> u64 {
+    fn pick(&self, _step: u64, _path: &[u64]) -> u64 {
         self.asked.set(self.asked.get().saturating_add(1));
         0
     }
@@ -35,7 +35,7 @@ enum Color = { red, green, blue } universe Idx = 0 .. 2 universe Empty = 1 .. 0 
 function controlled c : Idx function controlled x \
 rule Pick(n) = choose i in Idx do x := i endchoose rule M = ";
 
-/// What a main rule with this body yields at the empty place in the initial state, and how often it asks.
+/// What a main rule with this body yields at the empty path in the initial state, and how often it asks.
 fn yielded(alloc: Global, body: &str) -> Result<(Outcome, u64), Fail> {
     let mut text = String::from_str(alloc, BEFORE)?;
     text.push_str(body)?;
@@ -208,15 +208,15 @@ fn a_sequence_yields_one_set(rt: HostRuntime) -> Result<(), Fail> {
 }
 
 #[test]
-fn an_exhausted_rule_yields_its_place(rt: HostRuntime) -> Result<(), Fail> {
+fn an_exhausted_rule_yields_its_path(rt: HostRuntime) -> Result<(), Fail> {
     let body =
         "par skip seq x := 0 forall i in Idx with i > 0 do iterate c(i) := 1 enditerate endforall endseq par x := 1 x := 2 endpar endpar";
     let (outcome, asked) = yielded(rt.alloc(), body)?;
-    let Outcome::Exhausted(place) = outcome else {
+    let Outcome::Exhausted(path) = outcome else {
         return Err(Fail::from("a set"));
     };
     assert_eq!(rt; asked, 0);
-    assert!(rt; place.as_slice() == [1, 1, 1].as_slice());
-    assert!(rt; place.into_vec().as_slice() == [1, 1, 1].as_slice());
+    assert!(rt; path.as_slice() == [1, 1, 1].as_slice());
+    assert!(rt; path.into_vec().as_slice() == [1, 1, 1].as_slice());
     Ok(())
 }

@@ -5,7 +5,7 @@ use asm_syntax::Refused;
 use std::alloc::Global;
 use std::test::Fail;
 
-/// The number and the place of the text's refusal, if it is refused.
+/// The number and the offset of the text's refusal, if it is refused.
 fn refusal_of(alloc: Global, text: &[u8]) -> Result<Option<(u8, Option<usize>)>, Fail> {
     match read(alloc, text) {
         Ok(_) => Ok(None),

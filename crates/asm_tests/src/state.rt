@@ -7,8 +7,8 @@ use asm_state::element::Element;
 use asm_state::entries::Entries;
 use asm_state::function::{Function, Kind, Table};
 use asm_state::limits::fits;
+use asm_state::location::Location;
 use asm_state::number::Number;
-use asm_state::place::Place;
 use asm_state::signature::Signature;
 use asm_state::universe::Universe;
 use asm_state::value::Value;
@@ -110,11 +110,11 @@ fn is_proper(
         return Ok(false);
     }
     match signature.location(alloc, n)? {
-        Place::Proper {
+        Location::Proper {
             function,
             arguments: found,
         } => Ok(function == f && found.as_slice() == arguments),
-        Place::Stray { .. } => Ok(false),
+        Location::Stray { .. } => Ok(false),
     }
 }
 
@@ -124,7 +124,7 @@ fn is_stray(alloc: Global, signature: &Signature, n: usize, f: usize) -> Result<
         return Ok(false);
     }
     match signature.location(alloc, n)? {
-        Place::Proper { .. } => Ok(false),
-        Place::Stray { function } => Ok(function == f && signature.stray(n) == Some(f)),
+        Location::Proper { .. } => Ok(false),
+        Location::Stray { function } => Ok(function == f && signature.stray(n) == Some(f)),
     }
 }

@@ -21,7 +21,7 @@ use Rattle.clap.proofs.TakesLemmas.{each_rule}
 use Rattle.clap.proofs.WalkLemmas.{both}
 use Rattle.asm_tool.specs.Said.{HasNumber}
 use Rattle.asm_tool.proofs.GivenValues.{is_found, is_read}
-use Rattle.asm_tool.proofs.Rules.{alone, is_alone, place_low, plain_arg, undelimited, unconditional, rule_at}
+use Rattle.asm_tool.proofs.Rules.{alone, is_alone, index_low, plain_arg, undelimited, unconditional, rule_at}
 
 -- no argument has anything to do with another, and no setting changes how words are read
 pub record IsUnrelated (app : App) : Type 0 where
@@ -71,7 +71,7 @@ module _ (c : Command) (m : ArgMatches) (p : IsParsedFrom c m) (app : App) (know
       → HasNumber (found_of m) name least most
   has_number k name least most r once is named no_help no_version =
       let once' : is_alone name (map rule_of (args_of c)) k ≡ true = rw rules once in
-      let low = place_low name (args_of c) k once' in
+      let low = index_low name (args_of c) k once' in
       let d = any_of (args_of c) (omega arith) in
       let a = slice_index_or (args_of c) k d in
       let rule : rule_of a ≡ slice_index_or app.top.rules k r = rule_at (args_of c) k d r low ∙ ap (λ rs. slice_index_or rs k r) rules in

@@ -10,7 +10,7 @@ use Rattle.clap.proofs.WalkLemmas.{both}
 use Rattle.clap.specs.declared.builder.arg.Arg.{Arg}
 use Rattle.clap.specs.declared.builder.command.Command.{Command}
 
--- the rule in this place, and no other, has the id
+-- the rule at this index, and no other, has the id
 abbrev pub is_alone : Text → List Rule → ℕ → Bool
 is_alone id [] k = false
 is_alone id (r ∷ rs) zero = bytes_eq r.id id && list_all (λ x. not (bytes_eq x.id id)) rs
@@ -30,12 +30,12 @@ alone id (x ∷ xs) zero only (suc j) e low same = absurd (none_has id xs (both 
 alone id (x ∷ xs) (suc k) only zero e low same = let no = is_false _ (both (not (bytes_eq x.id.now id)) _ only).0 in let bad : true ≡ false = sym same ∙ no in cc
 alone id (x ∷ xs) (suc k) only (suc j) e low same = ap suc (alone id xs k (both (not (bytes_eq x.id.now id)) _ only).1 j e (omega arith) same)
 
-pub place_low : (id : Text) (xs : List Arg) (k : ℕ) → is_alone id (map rule_of xs) k ≡ true → k < length xs
-place_low id [] k only = let bad : false ≡ true = only in cc
-place_low id (x ∷ xs) zero only = omega arith
-place_low id (x ∷ xs) (suc k) only = let low = place_low id xs k (both (not (bytes_eq x.id.now id)) _ only).1 in omega arith
+pub index_low : (id : Text) (xs : List Arg) (k : ℕ) → is_alone id (map rule_of xs) k ≡ true → k < length xs
+index_low id [] k only = let bad : false ≡ true = only in cc
+index_low id (x ∷ xs) zero only = omega arith
+index_low id (x ∷ xs) (suc k) only = let low = index_low id xs k (both (not (bytes_eq x.id.now id)) _ only).1 in omega arith
 
--- the rule in a place is that of the argument there
+-- the rule at an index is that of the argument there
 pub rule_at : (xs : List Arg) (k : ℕ) (d : Arg) (r : Rule) → k < length xs → rule_of (slice_index_or xs k d) ≡ slice_index_or (map rule_of xs) k r
 rule_at [] k d r low = absurd (omega arith)
 rule_at (x ∷ xs) zero d r low = refl

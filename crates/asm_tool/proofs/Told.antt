@@ -7,7 +7,7 @@ use Rattle.std.specs.Str.Parse.{signed_digits_value}
 use Rattle.std.proofs.lemmas.Int.{ints}
 use Rattle.clap.specs.Simple.{matches_of}
 use Rattle.clap.specs.Walk.{Row, Text, first_of}
-use Rattle.asm_syntax.specs.Placed.{Spec}
+use Rattle.asm_syntax.specs.SourceTree.{Spec}
 use Rattle.asm_syntax.specs.declared.error.LexError.TheVariants.{TooLong}
 use Rattle.asm_reader.specs.Refusals.{IsRefusal}
 use Rattle.asm_reader.specs.Specification.{IsSpecification}

@@ -10,7 +10,7 @@ use std::alloc::AllocError;
 use std::{fmt, io};
 use thiserror::Error;
 
-/// What is wrong with a text, as the program says it: a number, and the place where there is one.
+/// What is wrong with a text, as the program says it: a number, and the offset where there is one.
 #[derive(Drop)]
 struct Refusal {
     error: ReadError,

@@ -1,6 +1,6 @@
 use Rattle.std.proofs.Common.{◌≡◌, drop}
 use Rattle.std.specs.Prelude.{flat_map}
-use Rattle.asm_syntax.specs.Placed.{Spec}
+use Rattle.asm_syntax.specs.SourceTree.{Spec}
 use Rattle.asm_check.specs.Errors.{found_of}
 use Rattle.asm_check.specs.FaultLists.{faults_of_use}
 use Rattle.asm_check.specs.Soonest.{noted}

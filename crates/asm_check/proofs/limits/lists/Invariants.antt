@@ -1,5 +1,5 @@
 use Rattle.std.proofs.Common.{◌≡◌, ◌≤◌, ◌*◌, ◌^◌, drop}
-use Rattle.asm_syntax.specs.Placed as placed
+use Rattle.asm_syntax.specs.SourceTree as source
 use Rattle.asm_check.specs.Counted.{AreCountedSizes}
 use Rattle.asm_check.specs.Tables.{IsTableOf}
 use Rattle.asm_check.proofs.ArgumentCounts.{product_of}
@@ -8,6 +8,6 @@ use Rattle.asm_check.proofs.limits.lists.Given as goal
 abbrev pub invariant-loop-name : goal.invariant-loop-name
 invariant-loop-name l = record {
   small : l.product ≤ 4096 ^ l.name-index;
-  product : (spec : placed.Spec) → IsTableOf spec l.names.entries → AreCountedSizes spec l.names.entries l.sizes
+  product : (spec : source.Spec) → IsTableOf spec l.names.entries → AreCountedSizes spec l.names.entries l.sizes
       → l.product * product_of spec (drop l.name-index l.domain) ≡ product_of spec l.domain;
 }

@@ -1,6 +1,6 @@
 use Rattle.std.proofs.Common.{◌≡◌, ◌∷◌, [], ◌≤◌, length, map, take, refl, sym, ap, subst, ◌∙◌, arith, cond}
 use Rattle.std.proofs.lemmas.List.{length-map}
-use Rattle.asm_syntax.specs.Placed.{Spec}
+use Rattle.asm_syntax.specs.SourceTree.{Spec}
 use Rattle.asm_syntax.specs.Views.{spec_of}
 use Rattle.asm_check.specs.Counted.{AreCountedSizes, AreElementCounts, AreTotals, counted_from, size_with}
 use Rattle.asm_check.specs.Errors.{found_of}

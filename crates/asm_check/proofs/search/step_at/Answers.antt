@@ -6,5 +6,5 @@ use Rattle.asm_check.proofs.search.step_at.Goals as goal
 pub returns-clause-step : goal.returns-clause-step
 returns-clause-step c =
     c.copied.ensures
-    ∙ copied_is c.deref.result.now c.args.place c.get.result c.get.ensures.lookup
-    ∙ ap (λ xs. slice_get xs c.args.place) (c.deref.ensures.value ∙ sym (next_is c.args.steps.now c.args.node c.index-steps-node.result c.requires c.index-steps-node.is))
+    ∙ copied_is c.deref.result.now c.args.index c.get.result c.get.ensures.lookup
+    ∙ ap (λ xs. slice_get xs c.args.index) (c.deref.ensures.value ∙ sym (next_is c.args.steps.now c.args.node c.index-steps-node.result c.requires c.index-steps-node.is))

@@ -1,6 +1,6 @@
 -- The arguments so far are kept, and what is found with the bad entries of the rest is what is found with all.
 use Rattle.std.proofs.Common.{◌≡◌, [], map, take, drop}
-use Rattle.asm_syntax.specs.Placed as placed
+use Rattle.asm_syntax.specs.SourceTree as source
 use Rattle.asm_syntax.specs.Views.{name_of, entry_of}
 use Rattle.asm_check.specs.EntryArguments.{HasSeen}
 use Rattle.asm_check.specs.Errors.{found_of}
@@ -13,7 +13,7 @@ abbrev pub invariant-loop-entry : goal.invariant-loop-entry
 invariant-loop-entry l =
     record {
       kept : HasSeen (map entry_of (take l.entry-index l.entries)) l.seen.keys;
-      found : (spec : placed.Spec) → IsTableOf spec l.names.entries
+      found : (spec : source.Spec) → IsTableOf spec l.names.entries
           → noted (found_of l.least.found) (bad_entries spec (map name_of l.domain) (map entry_of (take l.entry-index l.entries)) (map entry_of (drop l.entry-index l.entries)))
           ≡ noted (found_of l.fn.least.found) (bad_entries spec (map name_of l.domain) [] (map entry_of l.entries));
     }

@@ -11,7 +11,7 @@ use Rattle.asm_eval.proofs.choose.chosen.Goals as goal
 pub returns-in-Met-2 : goal.returns-in-Met-2
 returns-in-Met-2 g c =
     let a = c.args in
-    let p = λ (v : Value). holds_at a.at.now.scene.checked.now a.at.now.scene.view.now (with_value a.name.now.text v (environment a.env.now)) a.test.now in
+    let p = λ (v : Value). holds_at a.evaluation.now.scene.checked.now a.evaluation.now.scene.view.now (with_value a.name.now.text v (environment a.env.now)) a.test.now in
     met_is_taken c.pick-number.result (filter p c.in-Some.universe.now) c.in-Met-2.value (sym c.in-Met-2.is ∙ c.in_ok-value.ensures)
     ∙ (λ j. taken (c.pick-number.ensures j) (filter p (c.in-Some.ensures.some j)))
 
@@ -19,7 +19,7 @@ returns-in-Met-2 g c =
 pub returns-in-Met-3 : goal.returns-in-Met-3
 returns-in-Met-3 g c =
     let a = c.args in
-    let p = λ (v : Value). holds_at a.at.now.scene.checked.now a.at.now.scene.view.now (with_value a.name.now.text v (environment a.env.now)) a.test.now in
+    let p = λ (v : Value). holds_at a.evaluation.now.scene.checked.now a.evaluation.now.scene.view.now (with_value a.name.now.text v (environment a.env.now)) a.test.now in
     met_again_is_taken c.pick-number.result c.in-Passed.count (filter p c.in-Some.universe.now) c.in-Met-3.value
     (sym c.in-Passed.is ∙ c.in_ok-value.ensures) (sym c.in-Met-3.is ∙ c.in_ok-value-in-Passed.ensures)
     ∙ (λ j. taken (c.pick-number.ensures j) (filter p (c.in-Some.ensures.some j)))

@@ -24,55 +24,55 @@ use Rattle.asm_eval.proofs.form.+form.Goals.{form_each-then-branch+in_ok-form_pa
 pub form-returns-in-Skip : goal.form-returns-in-Skip
 form-returns-in-Skip g t c =
     let a = c.args in
-    follows_nothing (shape_at a.at.now) tt _ a.made.now
-    (skip_does a.at.now (environment a.env.now) a.made.now.place.items a.rule.now c.in-Skip.is)
+    follows_nothing (shape_at a.evaluation.now) tt _ a.made.now
+    (skip_does a.evaluation.now (environment a.env.now) a.made.now.path.items a.rule.now c.in-Skip.is)
 
 pub form-returns-in-Par : goal.form-returns-in-Par
 form-returns-in-Par g t c =
     let a = c.args in
-    follows_same (shape_at a.at.now) c.form_all.result _ _ _ _
-    (par_does a.at.now (environment a.env.now) a.made.now.place.items a.rule.now c.in-Par.rules c.as_slice-in-Par.result.now c.in-Par.is c.as_slice-in-Par.ensures.value)
+    follows_same (shape_at a.evaluation.now) c.form_all.result _ _ _ _
+    (par_does a.evaluation.now (environment a.env.now) a.made.now.path.items a.rule.now c.in-Par.rules c.as_slice-in-Par.result.now c.in-Par.is c.as_slice-in-Par.ensures.value)
     c.form_all.ensures
 
 pub form-returns-in-Seq : goal.form-returns-in-Seq
 form-returns-in-Seq g t c =
     let a = c.args in
-    follows_same (shape_at a.at.now) c.form_in_order.result _ _ _ _
-    (seq_does a.at.now (environment a.env.now) a.made.now.place.items a.rule.now c.in-Seq.rules c.as_slice-in-Seq.result.now c.in-Seq.is c.as_slice-in-Seq.ensures.value)
+    follows_same (shape_at a.evaluation.now) c.form_in_order.result _ _ _ _
+    (seq_does a.evaluation.now (environment a.env.now) a.made.now.path.items a.rule.now c.in-Seq.rules c.as_slice-in-Seq.result.now c.in-Seq.is c.as_slice-in-Seq.ensures.value)
     c.form_in_order.ensures
 
 pub form_other-returns-in-None : goal.form_other-returns-in-None
 form_other-returns-in-None g t c =
     let a = c.args in
-    follows_nothing (shape_at a.at.now) tt _ a.made.now
-    (left_out_does a.at.now (environment a.env.now) (at a.made.now.place.items 1) a.rule.now c.in-None.is)
+    follows_nothing (shape_at a.evaluation.now) tt _ a.made.now
+    (left_out_does a.evaluation.now (environment a.env.now) (at a.made.now.path.items 1) a.rule.now c.in-None.is)
 
 pub form_if-returns-then-is_true : goal.form_if-returns-then-is_true
 form_if-returns-then-is_true g t c =
     let a = c.args in
-    follows_same (shape_at a.at.now) c.form_part.result _ _ _ _
-    (first_does a.at.now (environment a.env.now) a.made.now.place.items a.test.now a.yes.now a.no.now (ap is_true (sym c.in_ok-tested.ensures) ∙ sym c.is_true.ensures ∙ c.if-is_true.true))
+    follows_same (shape_at a.evaluation.now) c.form_part.result _ _ _ _
+    (first_does a.evaluation.now (environment a.env.now) a.made.now.path.items a.test.now a.yes.now a.no.now (ap is_true (sym c.in_ok-tested.ensures) ∙ sym c.is_true.ensures ∙ c.if-is_true.true))
     c.form_part.ensures
 
 pub form_if-returns-else-is_true : goal.form_if-returns-else-is_true
 form_if-returns-else-is_true g t c =
     let a = c.args in
-    follows_same (shape_at a.at.now) c.form_other.result _ _ _ _
-    (other_does a.at.now (environment a.env.now) a.made.now.place.items a.test.now a.yes.now a.no.now (ap is_true (sym c.in_ok-tested.ensures) ∙ sym c.is_true.ensures ∙ c.if-is_true.false))
+    follows_same (shape_at a.evaluation.now) c.form_other.result _ _ _ _
+    (other_does a.evaluation.now (environment a.env.now) a.made.now.path.items a.test.now a.yes.now a.no.now (ap is_true (sym c.in_ok-tested.ensures) ∙ sym c.is_true.ensures ∙ c.if-is_true.false))
     c.form_other.ensures
 
 pub form_let-returns : goal.form_let-returns
 form_let-returns g t c =
     let a = c.args in
-    follows_same (shape_at a.at.now) c.form_part.result _ _ _ _
-    (let_does a.at.now (environment a.env.now) a.made.now.place.items a.name.now.text a.term.now a.body.now c.in_ok-value.value c.in_ok-value.ensures)
+    follows_same (shape_at a.evaluation.now) c.form_part.result _ _ _ _
+    (let_does a.evaluation.now (environment a.env.now) a.made.now.path.items a.name.now.text a.term.now a.body.now c.in_ok-value.value c.in_ok-value.ensures)
     c.form_part.ensures
 
 pub form_all-form_part-requires : goal.form_all-form_part-requires
 form_all-form_part-requires g t c κs within =
     let a = c.args in
     let l = c.loop-i in
-    let less = part_is_less (in_body a.at.now.scene.checked.now) a.rules.now l.i c.index-rules-i.result c.loop-i-test.true c.index-rules-i.is in
+    let less = part_is_less (in_body a.evaluation.now.scene.checked.now) a.rules.now l.i c.index-rules-i.result c.loop-i-test.true c.index-rules-i.is in
     (omega (arith, c.decreases, less), (search rules, l.invariant.same_count ∙ c.requires))
 
 pub form_all-loop-i-preserved : goal.form_all-loop-i-preserved
@@ -81,12 +81,12 @@ form_all-loop-i-preserved g t c =
     let l = c.loop-i in
     record {
       same_count = c.in_ok-form_part.ensures.count ∙ l.invariant.same_count;
-      same_place = c.in_ok-form_part.ensures.place ∙ l.invariant.same_place;
-      follows = λ new r rest. l.invariant.follows new r (follows_same (shape_at a.at.now) r _ _ _ _
-          (next_rule_does a.at.now (environment a.env.now) a.made.now.place.items a.rules.now l.i c.index-rules-i.result c.loop-i-test.true c.index-rules-i.is)
-          (follows_both (shape_at a.at.now) tt r _ _ _ _ _
-          (follows_same (shape_at a.at.now) _ _ _ _ _
-          (ap (λ q. rule_does a.at.now (environment a.env.now) (at q l.i) c.index-rules-i.result) l.invariant.same_place)
+      same_path = c.in_ok-form_part.ensures.path ∙ l.invariant.same_path;
+      follows = λ new r rest. l.invariant.follows new r (follows_same (shape_at a.evaluation.now) r _ _ _ _
+          (next_rule_does a.evaluation.now (environment a.env.now) a.made.now.path.items a.rules.now l.i c.index-rules-i.result c.loop-i-test.true c.index-rules-i.is)
+          (follows_both (shape_at a.evaluation.now) tt r _ _ _ _ _
+          (follows_same (shape_at a.evaluation.now) _ _ _ _ _
+          (ap (λ q. rule_does a.evaluation.now (environment a.env.now) (at q l.i) c.index-rules-i.result) l.invariant.same_path)
           c.in_ok-form_part.ensures)
           rest));
     }
@@ -95,22 +95,22 @@ pub form_all-returns : goal.form_all-returns
 form_all-returns g t c =
     let a = c.args in
     let l = c.loop-i in
-    l.invariant.follows _ _ (follows_nothing (shape_at a.at.now) tt _ _ (no_rule_does a.at.now (environment a.env.now) a.made.now.place.items a.rules.now l.i (omega arith)))
+    l.invariant.follows _ _ (follows_nothing (shape_at a.evaluation.now) tt _ _ (no_rule_does a.evaluation.now (environment a.env.now) a.made.now.path.items a.rules.now l.i (omega arith)))
 
 pub form_all-returns-in_err-form_part : goal.form_all-returns-in_err-form_part
 form_all-returns-in_err-form_part g t c =
     let a = c.args in
     let l = c.loop-i in
-    l.invariant.follows _ _ (follows_stopped (shape_at a.at.now) c.form_part.result c.from_residual.result c.in_err-form_part.field-0.0 _ _ _ _ _ refl c.in_err-form_part.was c.from_residual.ensures.1
-    (λ last ends. exhausted_rule_does a.at.now (environment a.env.now) a.made.now.place.items a.rules.now l.i c.index-rules-i.result last c.loop-i-test.true c.index-rules-i.is
-    (sym (ap (λ q. (rule_does a.at.now (environment a.env.now) (at q l.i) c.index-rules-i.result).result) l.invariant.same_place) ∙ ends))
+    l.invariant.follows _ _ (follows_stopped (shape_at a.evaluation.now) c.form_part.result c.from_residual.result c.in_err-form_part.field-0.0 _ _ _ _ _ refl c.in_err-form_part.was c.from_residual.ensures.1
+    (λ last ends. exhausted_rule_does a.evaluation.now (environment a.env.now) a.made.now.path.items a.rules.now l.i c.index-rules-i.result last c.loop-i-test.true c.index-rules-i.is
+    (sym (ap (λ q. (rule_does a.evaluation.now (environment a.env.now) (at q l.i) c.index-rules-i.result).result) l.invariant.same_path) ∙ ends))
     c.form_part.ensures)
 
 pub form_each-returns-in_default : goal.form_each-returns-in_default
 form_each-returns-in_default g t c =
     let a = c.args in
-    follows_nothing (shape_at a.at.now) tt _ a.made.now
-    (forall_of a.at.now (environment a.env.now) a.made.now.place.items a.name.now.text a.over.now.text a.test.now a.body.now _ (sym c.in_default.ensures.none))
+    follows_nothing (shape_at a.evaluation.now) tt _ a.made.now
+    (forall_of a.evaluation.now (environment a.env.now) a.made.now.path.items a.name.now.text a.over.now.text a.test.now a.body.now _ (sym c.in_default.ensures.none))
 
 pub form_each-loop-i-preserved : goal.form_each-loop-i-preserved
 form_each-loop-i-preserved g t c =
@@ -119,19 +119,19 @@ form_each-loop-i-preserved g t c =
     elim c.if-branch.branch [
       | form_each-then-branch+in_ok-form_part w ↦ rw w.made-is (record {
         same_count = w.in_ok-form_part.ensures.count ∙ l.invariant.same_count;
-        same_place = w.in_ok-form_part.ensures.place ∙ l.invariant.same_place;
-        follows = λ new r rest. l.invariant.follows new r (follows_same (shape_at a.at.now) r _ _ _ _
-            (element_does a.at.now (environment a.env.now) a.made.now.place.items a.name.now.text a.test.now a.body.now c.in-Some.universe.now l.i c.element.result c.element.ensures (sym w.if-branch.true ∙ c.in_ok-holds.ensures))
-            (follows_counted (shape_at a.at.now) r _ _ _ _ refl refl w.saturating_add-made.ensures
-            (follows_both (shape_at a.at.now) tt r _ _ _ _ _
-            (follows_same (shape_at a.at.now) _ _ _ _ _ (ap (λ q. rule_does a.at.now (with_value a.name.now.text c.element.result (environment a.env.now)) (at q l.i) a.body.now) l.invariant.same_place) w.in_ok-form_part.ensures)
+        same_path = w.in_ok-form_part.ensures.path ∙ l.invariant.same_path;
+        follows = λ new r rest. l.invariant.follows new r (follows_same (shape_at a.evaluation.now) r _ _ _ _
+            (element_does a.evaluation.now (environment a.env.now) a.made.now.path.items a.name.now.text a.test.now a.body.now c.in-Some.universe.now l.i c.element.result c.element.ensures (sym w.if-branch.true ∙ c.in_ok-holds.ensures))
+            (follows_counted (shape_at a.evaluation.now) r _ _ _ _ refl refl w.saturating_add-made.ensures
+            (follows_both (shape_at a.evaluation.now) tt r _ _ _ _ _
+            (follows_same (shape_at a.evaluation.now) _ _ _ _ _ (ap (λ q. rule_does a.evaluation.now (with_value a.name.now.text c.element.result (environment a.env.now)) (at q l.i) a.body.now) l.invariant.same_path) w.in_ok-form_part.ensures)
             rest)));
       })
       | form_each-else-branch w ↦ rw w.made-is (record {
         same_count = l.invariant.same_count;
-        same_place = l.invariant.same_place;
-        follows = λ new r rest. l.invariant.follows new r (follows_same (shape_at a.at.now) r _ _ _ _
-            (element_passed a.at.now (environment a.env.now) a.made.now.place.items a.name.now.text a.test.now a.body.now c.in-Some.universe.now l.i c.element.result c.element.ensures (sym w.if-branch.false ∙ c.in_ok-holds.ensures))
+        same_path = l.invariant.same_path;
+        follows = λ new r rest. l.invariant.follows new r (follows_same (shape_at a.evaluation.now) r _ _ _ _
+            (element_passed a.evaluation.now (environment a.env.now) a.made.now.path.items a.name.now.text a.test.now a.body.now c.in-Some.universe.now l.i c.element.result c.element.ensures (sym w.if-branch.false ∙ c.in_ok-holds.ensures))
             rest);
       })
     ]
@@ -140,53 +140,53 @@ pub form_each-returns : goal.form_each-returns
 form_each-returns g t c =
     let a = c.args in
     let l = c.loop-i in
-    follows_same (shape_at a.at.now) _ _ _ _ _ (forall_of a.at.now (environment a.env.now) a.made.now.place.items a.name.now.text a.over.now.text a.test.now a.body.now c.in-Some.universe.now c.in-Some.ensures.some)
-    (l.invariant.follows _ _ (follows_nothing (shape_at a.at.now) tt _ _
-    (no_element_does a.at.now (environment a.env.now) a.made.now.place.items a.name.now.text a.test.now a.body.now c.in-Some.universe.now l.i (omega arith))))
+    follows_same (shape_at a.evaluation.now) _ _ _ _ _ (forall_of a.evaluation.now (environment a.env.now) a.made.now.path.items a.name.now.text a.over.now.text a.test.now a.body.now c.in-Some.universe.now c.in-Some.ensures.some)
+    (l.invariant.follows _ _ (follows_nothing (shape_at a.evaluation.now) tt _ _
+    (no_element_does a.evaluation.now (environment a.env.now) a.made.now.path.items a.name.now.text a.test.now a.body.now c.in-Some.universe.now l.i (omega arith))))
 
 pub form_each-returns-in_err-form_part : goal.form_each-returns-in_err-form_part
 form_each-returns-in_err-form_part g t c =
     let a = c.args in
     let l = c.loop-i in
     let residual = c.from_residual-in_err-form_part in
-    follows_same (shape_at a.at.now) _ _ _ _ _ (forall_of a.at.now (environment a.env.now) a.made.now.place.items a.name.now.text a.over.now.text a.test.now a.body.now c.in-Some.universe.now c.in-Some.ensures.some)
-    (l.invariant.follows _ _ (follows_stopped (shape_at a.at.now) c.form_part.result residual.result c.in_err-form_part.field-0.0 _ _ _ _ _ refl c.in_err-form_part.was residual.ensures.1
-    (λ last ends. exhausted_element_does a.at.now (environment a.env.now) a.made.now.place.items a.name.now.text a.test.now a.body.now c.in-Some.universe.now l.i c.element.result last c.element.ensures (sym c.if-branch.true ∙ c.in_ok-holds.ensures)
-    (sym (ap (λ q. (rule_does a.at.now (with_value a.name.now.text c.element.result (environment a.env.now)) (at q l.i) a.body.now).result) l.invariant.same_place) ∙ ends))
+    follows_same (shape_at a.evaluation.now) _ _ _ _ _ (forall_of a.evaluation.now (environment a.env.now) a.made.now.path.items a.name.now.text a.over.now.text a.test.now a.body.now c.in-Some.universe.now c.in-Some.ensures.some)
+    (l.invariant.follows _ _ (follows_stopped (shape_at a.evaluation.now) c.form_part.result residual.result c.in_err-form_part.field-0.0 _ _ _ _ _ refl c.in_err-form_part.was residual.ensures.1
+    (λ last ends. exhausted_element_does a.evaluation.now (environment a.env.now) a.made.now.path.items a.name.now.text a.test.now a.body.now c.in-Some.universe.now l.i c.element.result last c.element.ensures (sym c.if-branch.true ∙ c.in_ok-holds.ensures)
+    (sym (ap (λ q. (rule_does a.evaluation.now (with_value a.name.now.text c.element.result (environment a.env.now)) (at q l.i) a.body.now).result) l.invariant.same_path) ∙ ends))
     c.form_part.ensures))
 
 pub form_choose-returns-in-Some : goal.form_choose-returns-in-Some
 form_choose-returns-in-Some g t c =
     let a = c.args in
-    let candidates = candidates_of a.at.now.scene.checked.now a.at.now.scene.view.now (environment a.env.now) a.name.now.text a.over.now.text a.test.now in
-    let s = setting a.at.now in
-    follows_same (shape_at a.at.now) c.form_part.result _ _ _ _
-    (chosen_does a.at.now (environment a.env.now) a.made.now.place.items a.name.now.text a.over.now.text a.test.now a.body.now a.none.now c.in-Some.value
+    let candidates = candidates_of a.evaluation.now.scene.checked.now a.evaluation.now.scene.view.now (environment a.env.now) a.name.now.text a.over.now.text a.test.now in
+    let s = setting a.evaluation.now in
+    follows_same (shape_at a.evaluation.now) c.form_part.result _ _ _ _
+    (chosen_does a.evaluation.now (environment a.env.now) a.made.now.path.items a.name.now.text a.over.now.text a.test.now a.body.now a.none.now c.in-Some.value
     (sym c.in-Some.is ∙ c.in_ok-value.ensures ∙ ap (λ q. taken (pick s.script s.step q) candidates) c.as_slice.ensures.value))
     c.form_part.ensures
 
 pub form_choose-returns-in-None : goal.form_choose-returns-in-None
 form_choose-returns-in-None g t c =
     let a = c.args in
-    let candidates = candidates_of a.at.now.scene.checked.now a.at.now.scene.view.now (environment a.env.now) a.name.now.text a.over.now.text a.test.now in
-    let s = setting a.at.now in
-    follows_same (shape_at a.at.now) c.form_other.result _ _ _ _
-    (none_does a.at.now (environment a.env.now) a.made.now.place.items a.name.now.text a.over.now.text a.test.now a.body.now a.none.now
+    let candidates = candidates_of a.evaluation.now.scene.checked.now a.evaluation.now.scene.view.now (environment a.env.now) a.name.now.text a.over.now.text a.test.now in
+    let s = setting a.evaluation.now in
+    follows_same (shape_at a.evaluation.now) c.form_other.result _ _ _ _
+    (none_does a.evaluation.now (environment a.env.now) a.made.now.path.items a.name.now.text a.over.now.text a.test.now a.body.now a.none.now
     (sym c.in-None.is ∙ c.in_ok-value.ensures ∙ ap (λ q. taken (pick s.script s.step q) candidates) c.as_slice.ensures.value))
     c.form_other.ensures
 
 pub form_call-form_part-requires : goal.form_call-form_part-requires
 form_call-form_part-requires g t c κs within =
     let a = c.args in
-    let less = call_is_less a.at.now.scene.checked.now a.name.now.text (meant_terms a.arguments.now) c.in-Some-Called.r c.rule.result.0.now c.rule.result.1.now
+    let less = call_is_less a.evaluation.now.scene.checked.now a.name.now.text (meant_terms a.arguments.now) c.in-Some-Called.r c.rule.result.0.now c.rule.result.1.now
     (sym c.named.ensures.named ∙ c.in-Some-Called.is ∙ ap Some c.in-Some-Called.field-0-is) c.rule.ensures in
     (omega (arith, c.decreases, less), (search rules, c.requires))
 
 pub form_call-returns-in-Some-Called : goal.form_call-returns-in-Some-Called
 form_call-returns-in-Some-Called g t c =
     let a = c.args in
-    follows_same (shape_at a.at.now) c.form_part.result _ _ _ _
-    (called_does a.at.now (environment a.env.now) a.made.now.place.items a.name.now.text a.arguments.now c.in-Some-Called.r c.rule.result.0.now c.rule.result.1.now
+    follows_same (shape_at a.evaluation.now) c.form_part.result _ _ _ _
+    (called_does a.evaluation.now (environment a.env.now) a.made.now.path.items a.name.now.text a.arguments.now c.in-Some-Called.r c.rule.result.0.now c.rule.result.1.now
     (sym c.named.ensures.named ∙ c.in-Some-Called.is ∙ ap Some c.in-Some-Called.field-0-is) c.rule.ensures)
     c.form_part.ensures
 
@@ -194,15 +194,15 @@ pub form_call-returns-in_default : goal.form_call-returns-in_default
 form_call-returns-in_default g t c =
     let a = c.args in
     let other : rule_number c.named.result ≡ None = search rules in
-    follows_nothing (shape_at a.at.now) tt _ a.made.now
-    (not_called_does a.at.now (environment a.env.now) a.made.now.place.items a.name.now.text a.arguments.now c.named.result c.named.ensures.named other)
+    follows_nothing (shape_at a.evaluation.now) tt _ a.made.now
+    (not_called_does a.evaluation.now (environment a.env.now) a.made.now.path.items a.name.now.text a.arguments.now c.named.result c.named.ensures.named other)
 
 pub form_call-returns-in_default-2 : goal.form_call-returns-in_default-2
 form_call-returns-in_default-2 g t c =
     let a = c.args in
     let other : rule_number c.named.result ≡ None = search rules in
-    follows_nothing (shape_at a.at.now) tt _ a.made.now
-    (not_called_does a.at.now (environment a.env.now) a.made.now.place.items a.name.now.text a.arguments.now c.named.result c.named.ensures.named other)
+    follows_nothing (shape_at a.evaluation.now) tt _ a.made.now
+    (not_called_does a.evaluation.now (environment a.env.now) a.made.now.path.items a.name.now.text a.arguments.now c.named.result c.named.ensures.named other)
 
 -- ---- sequences
 
@@ -211,19 +211,19 @@ form_in_order-loop-i-init g t c =
     let a = c.args in
     record {
       same_count = refl;
-      same_place = refl;
+      same_path = refl;
       same_before = refl;
       counted = c.new-so_far.ensures.count ∙ c.count-2.ensures.count;
-      underway = begins (shape_at a.at.now) (state_at a.at.now) _
-          (rules_do_in_order (setting a.at.now) (environment a.env.now) a.made.now.place.items 0 a.rules.now)
-          c.new-so_far.result a.made.now.instances refl (omega (arith, a.made.now.in_range)) (c.new-so_far.ensures.empty (shape_at a.at.now) c.count-2.ensures.sound c.count-2.ensures.count);
+      underway = begins (shape_at a.evaluation.now) (state_at a.evaluation.now) _
+          (rules_do_in_order (setting a.evaluation.now) (environment a.env.now) a.made.now.path.items 0 a.rules.now)
+          c.new-so_far.result a.made.now.instances refl (omega (arith, a.made.now.in_range)) (c.new-so_far.ensures.empty (shape_at a.evaluation.now) c.count-2.ensures.sound c.count-2.ensures.count);
     }
 
 pub form_in_order-form_next-requires : goal.form_in_order-form_next-requires
 form_in_order-form_next-requires g t c κs within =
     let a = c.args in
     let l = c.loop-i in
-    let less = part_is_less (in_body a.at.now.scene.checked.now) a.rules.now l.i c.index-rules-i.result c.loop-i-test.true c.index-rules-i.is in
+    let less = part_is_less (in_body a.evaluation.now.scene.checked.now) a.rules.now l.i c.index-rules-i.result c.loop-i-test.true c.index-rules-i.is in
     let alone = l.invariant.same_count ∙ ap (λ (s : Entries). s.count) c.replace-before.ensures.after ∙ c.new-nothing.ensures.count ∙ c.count.ensures.count in
     (omega (arith, c.decreases, less), (search rules, (alone, l.invariant.counted)))
 
@@ -235,14 +235,14 @@ form_in_order-loop-i-preserved g t c =
     let on = c.in_ok-form_next.ensures.formed under.set under.stands under.consistent in
     record {
       same_count = c.in_ok-form_next.ensures.count ∙ l.invariant.same_count;
-      same_place = c.in_ok-form_next.ensures.place ∙ l.invariant.same_place;
+      same_path = c.in_ok-form_next.ensures.path ∙ l.invariant.same_path;
       same_before = l.invariant.same_before;
       counted = c.in_ok-form_next.ensures.so_far_count ∙ l.invariant.counted;
-      underway = part_goes_on (setting a.at.now) (environment a.env.now) a.made.now.place.items
-          (shape_at a.at.now) (state_at a.at.now) _ _ _ _ a.rules.now l.i under
-          l.made.place.items c.index-rules-i.result l.invariant.same_place c.loop-i-test.true c.index-rules-i.is
+      underway = part_goes_on (setting a.evaluation.now) (environment a.env.now) a.made.now.path.items
+          (shape_at a.evaluation.now) (state_at a.evaluation.now) _ _ _ _ a.rules.now l.i under
+          l.made.path.items c.index-rules-i.result l.invariant.same_path c.loop-i-test.true c.index-rules-i.is
           c.form_next.new.so_far c.form_next.new.made.set c.form_next.new.made.instances on
-          (no_fault_found (shape_at a.at.now) c.form_next.new.made.set on.set c.first_fault.result (sym c.is_some.ensures ∙ c.if-is_some.false) c.first_fault.ensures.consistent on.stands);
+          (no_fault_found (shape_at a.evaluation.now) c.form_next.new.made.set on.set c.first_fault.result (sym c.is_some.ensures ∙ c.if-is_some.false) c.first_fault.ensures.consistent on.stands);
     }
 
 pub form_in_order-put_back-requires : goal.form_in_order-put_back-requires
@@ -261,13 +261,13 @@ form_in_order-returns g t c =
     let l = c.loop-i in
     record {
       count = c.put_back-2.ensures.count ∙ ap (λ (s : Entries). s.count) (c.loop-i.invariant.same_before ∙ c.replace-before.ensures.value);
-      place = search rules;
-      formed = parts_end (setting a.at.now) (environment a.env.now) a.made.now.place.items
-          (shape_at a.at.now) (state_at a.at.now) _ _ _ _ a.rules.now l.i l.invariant.underway
+      path = search rules;
+      formed = parts_end (setting a.evaluation.now) (environment a.env.now) a.made.now.path.items
+          (shape_at a.evaluation.now) (state_at a.evaluation.now) _ _ _ _ a.rules.now l.i l.invariant.underway
           l.before a.made.now.set c.put_back-2.new.made.set c.put_back-2.new.made.instances c.put_back-2.result c.loop-i-test.false (l.invariant.same_before ∙ c.replace-before.ensures.value)
-          c.put_back-2.ensures.instances (c.put_back-2.ensures.adds (shape_at a.at.now));
+          c.put_back-2.ensures.instances (c.put_back-2.ensures.adds (shape_at a.evaluation.now));
       exhausted = stopped_for_memory
-          (rules_do_in_order (setting a.at.now) (environment a.env.now) a.made.now.place.items 0 a.rules.now (state_at a.at.now)) _ c.put_back-2.result c.put_back-2.ensures.stopped;
+          (rules_do_in_order (setting a.evaluation.now) (environment a.env.now) a.made.now.path.items 0 a.rules.now (state_at a.evaluation.now)) _ c.put_back-2.result c.put_back-2.ensures.stopped;
     }
 
 pub form_in_order-returns-then-is_some : goal.form_in_order-returns-then-is_some
@@ -278,15 +278,15 @@ form_in_order-returns-then-is_some g t c =
     let on = c.in_ok-form_next.ensures.formed under.set under.stands under.consistent in
     record {
       count = c.put_back.ensures.count ∙ ap (λ (s : Entries). s.count) (c.loop-i.invariant.same_before ∙ c.replace-before.ensures.value);
-      place = search rules;
-      formed = part_ends (setting a.at.now) (environment a.env.now) a.made.now.place.items
-          (shape_at a.at.now) (state_at a.at.now) _ _ _ _ a.rules.now l.i under
-          l.made.place.items c.index-rules-i.result l.invariant.same_place c.loop-i-test.true c.index-rules-i.is
+      path = search rules;
+      formed = part_ends (setting a.evaluation.now) (environment a.env.now) a.made.now.path.items
+          (shape_at a.evaluation.now) (state_at a.evaluation.now) _ _ _ _ a.rules.now l.i under
+          l.made.path.items c.index-rules-i.result l.invariant.same_path c.loop-i-test.true c.index-rules-i.is
           c.form_next.new.so_far c.form_next.new.made.set l.before a.made.now.set c.put_back.new.made.set c.form_next.new.made.instances c.put_back.new.made.instances c.put_back.result on
-          (fault_found (shape_at a.at.now) c.form_next.new.made.set on.set c.first_fault.result (sym c.is_some.ensures ∙ c.if-is_some.true) c.first_fault.ensures.first on.stands)
-          (l.invariant.same_before ∙ c.replace-before.ensures.value) c.put_back.ensures.instances (c.put_back.ensures.adds (shape_at a.at.now));
+          (fault_found (shape_at a.evaluation.now) c.form_next.new.made.set on.set c.first_fault.result (sym c.is_some.ensures ∙ c.if-is_some.true) c.first_fault.ensures.first on.stands)
+          (l.invariant.same_before ∙ c.replace-before.ensures.value) c.put_back.ensures.instances (c.put_back.ensures.adds (shape_at a.evaluation.now));
       exhausted = stopped_for_memory
-          (rules_do_in_order (setting a.at.now) (environment a.env.now) a.made.now.place.items 0 a.rules.now (state_at a.at.now)) _ c.put_back.result c.put_back.ensures.stopped;
+          (rules_do_in_order (setting a.evaluation.now) (environment a.env.now) a.made.now.path.items 0 a.rules.now (state_at a.evaluation.now)) _ c.put_back.result c.put_back.ensures.stopped;
     }
 
 pub form_in_order-returns-in_err-form_next : goal.form_in_order-returns-in_err-form_next
@@ -296,12 +296,12 @@ form_in_order-returns-in_err-form_next g t c =
     let under = l.invariant.underway in
     record {
       count = search rules;
-      place = search rules;
+      path = search rules;
       formed = search rules;
-      exhausted = part_stops (setting a.at.now) (environment a.env.now) a.made.now.place.items
-          (shape_at a.at.now) (state_at a.at.now) _ _ _ _ a.rules.now l.i under
-          l.made.place.items c.index-rules-i.result l.invariant.same_place c.loop-i-test.true c.index-rules-i.is
-          c.form_next.new.made.place.items c.form_next.result c.from_residual.result c.in_err-form_next.field-0.0 c.in_err-form_next.was c.from_residual.ensures.1
+      exhausted = part_stops (setting a.evaluation.now) (environment a.env.now) a.made.now.path.items
+          (shape_at a.evaluation.now) (state_at a.evaluation.now) _ _ _ _ a.rules.now l.i under
+          l.made.path.items c.index-rules-i.result l.invariant.same_path c.loop-i-test.true c.index-rules-i.is
+          c.form_next.new.made.path.items c.form_next.result c.from_residual.result c.in_err-form_next.field-0.0 c.in_err-form_next.was c.from_residual.ensures.1
           (c.form_next.ensures.exhausted under.set under.stands under.consistent);
     }
 
@@ -311,9 +311,9 @@ form_next-returns g t c =
     record {
       count = search rules;
       so_far_count = search rules;
-      place = search rules;
+      path = search rules;
       formed = λ U stands consistent.
-          let shape = (shape_at a.at.now) in
+          let shape = (shape_at a.evaluation.now) in
           let v = c.upon-view.result in
           let given = subst (λ s. Stands shape s U) (sym c.replace.ensures.value) stands in
           goes_upon shape _ U c.clear.new.self v.over c.then.new.self c.form_part.new.made.set a.made.now.instances c.form_part.new.made.instances
@@ -321,8 +321,8 @@ form_next-returns g t c =
           (subst (λ s. Stands shape s U) (sym c.upon-view.ensures.over) given)
           (c.in_ok-then.ensures.merge shape)
           (forms_same shape _ _ _ _ _ _
-          (ap (λ A. outcome (setting a.at.now) A (environment a.env.now) (at a.made.now.place.items a.number) (meant a.rule.now)) (c.upon-view.ensures.fired U given consistent))
-          (subst (λ s. Forms s (outcome (setting a.at.now) (shown v) (environment a.env.now) (at a.made.now.place.items a.number) (meant a.rule.now)) c.clear.new.self c.form_part.new.made.set a.made.now.instances c.form_part.new.made.instances) c.upon-view.ensures.signature
+          (ap (λ A. outcome (setting a.evaluation.now) A (environment a.env.now) (at a.made.now.path.items a.number) (meant a.rule.now)) (c.upon-view.ensures.fired U given consistent))
+          (subst (λ s. Forms s (outcome (setting a.evaluation.now) (shown v) (environment a.env.now) (at a.made.now.path.items a.number) (meant a.rule.now)) c.clear.new.self c.form_part.new.made.set a.made.now.instances c.form_part.new.made.instances) c.upon-view.ensures.signature
           c.in_ok-form_part.ensures.formed));
       exhausted = λ U stands consistent. tt;
     }
@@ -332,14 +332,14 @@ form_turns-loop-turn-init g t c =
     let a = c.args in
     record {
       same_count = refl;
-      same_place = refl;
+      same_path = refl;
       same_before = refl;
       counted = c.new-so_far.ensures.count ∙ c.count-2.ensures.count;
-      underway = begins (shape_at a.at.now) (state_at a.at.now) _
-          (turns_do (setting a.at.now) (environment a.env.now) a.made.now.place.items (a.at.now.turns - 0) 0 a.body.now)
+      underway = begins (shape_at a.evaluation.now) (state_at a.evaluation.now) _
+          (turns_do (setting a.evaluation.now) (environment a.env.now) a.made.now.path.items (a.evaluation.now.turns - 0) 0 a.body.now)
           c.new-so_far.result a.made.now.instances
-          (ap (λ n. turns_do (setting a.at.now) (environment a.env.now) a.made.now.place.items n 0 a.body.now
-          (state_at a.at.now)) (omega arith)) (omega (arith, a.made.now.in_range)) (c.new-so_far.ensures.empty (shape_at a.at.now) c.count-2.ensures.sound c.count-2.ensures.count);
+          (ap (λ n. turns_do (setting a.evaluation.now) (environment a.env.now) a.made.now.path.items n 0 a.body.now
+          (state_at a.evaluation.now)) (omega arith)) (omega (arith, a.made.now.in_range)) (c.new-so_far.ensures.empty (shape_at a.evaluation.now) c.count-2.ensures.sound c.count-2.ensures.count);
     }
 
 pub form_turns-loop-turn-preserved : goal.form_turns-loop-turn-preserved
@@ -350,15 +350,15 @@ form_turns-loop-turn-preserved g t c =
     let on = c.in_ok-form_next.ensures.formed under.set under.stands under.consistent in
     record {
       same_count = c.in_ok-form_next.ensures.count ∙ l.invariant.same_count;
-      same_place = c.in_ok-form_next.ensures.place ∙ l.invariant.same_place;
+      same_path = c.in_ok-form_next.ensures.path ∙ l.invariant.same_path;
       same_before = l.invariant.same_before;
       counted = c.in_ok-form_next.ensures.so_far_count ∙ l.invariant.counted;
-      underway = turn_goes_on (setting a.at.now) (environment a.env.now) a.made.now.place.items
-          (shape_at a.at.now) (state_at a.at.now) _ _ _ _ a.at.now.turns a.body.now l.turn under
-          l.made.place.items c.from.result l.invariant.same_place c.loop-turn-test.true c.from.ensures
+      underway = turn_goes_on (setting a.evaluation.now) (environment a.env.now) a.made.now.path.items
+          (shape_at a.evaluation.now) (state_at a.evaluation.now) _ _ _ _ a.evaluation.now.turns a.body.now l.turn under
+          l.made.path.items c.from.result l.invariant.same_path c.loop-turn-test.true c.from.ensures
           c.form_next.new.so_far c.form_next.new.made.set c.form_next.new.made.instances on
-          (λ is. false≢true (sym c.if-is_empty.false ∙ (c.is_empty.ensures.empty (shape_at a.at.now) on.set on.stands).1 is))
-          (no_fault_found (shape_at a.at.now) c.form_next.new.made.set on.set c.first_fault.result (sym c.is_some.ensures ∙ c.if-is_some.false) c.first_fault.ensures.consistent on.stands);
+          (λ is. false≢true (sym c.if-is_empty.false ∙ (c.is_empty.ensures.empty (shape_at a.evaluation.now) on.set on.stands).1 is))
+          (no_fault_found (shape_at a.evaluation.now) c.form_next.new.made.set on.set c.first_fault.result (sym c.is_some.ensures ∙ c.if-is_some.false) c.first_fault.ensures.consistent on.stands);
     }
 
 pub form_turns-put_back-requires : goal.form_turns-put_back-requires
@@ -373,22 +373,22 @@ form_turns-returns-then-is_empty g t c =
     let under = l.invariant.underway in
     let on = c.in_ok-form_next.ensures.formed under.set under.stands under.consistent in
     let last : (on.set ≡ none) ⊎ (¬ (IsConsistent on.set)) = elim c.then-is_empty.branch [
-      | form_turns-then-is_empty-via-then-is_empty w ↦ inl ((c.is_empty.ensures.empty (shape_at a.at.now) on.set on.stands).0 w.if-is_empty.true)
-      | form_turns-then-is_empty-via-else-is_empty+then-is_some w ↦ inr (fault_found (shape_at a.at.now) c.form_next.new.made.set on.set w.first_fault.result
+      | form_turns-then-is_empty-via-then-is_empty w ↦ inl ((c.is_empty.ensures.empty (shape_at a.evaluation.now) on.set on.stands).0 w.if-is_empty.true)
+      | form_turns-then-is_empty-via-else-is_empty+then-is_some w ↦ inr (fault_found (shape_at a.evaluation.now) c.form_next.new.made.set on.set w.first_fault.result
           (sym w.is_some.ensures ∙ w.if-is_some.true) w.first_fault.ensures.first on.stands)
     ] in
-    follows_same (shape_at a.at.now) _ _ _ _ _
-    (iterate_does a.at.now (environment a.env.now) a.made.now.place.items a.body.now)
+    follows_same (shape_at a.evaluation.now) _ _ _ _ _
+    (iterate_does a.evaluation.now (environment a.env.now) a.made.now.path.items a.body.now)
     (record {
       count = c.put_back.ensures.count ∙ ap (λ (s : Entries). s.count) (c.loop-turn.invariant.same_before ∙ c.replace-before.ensures.value);
-      place = search rules;
-      formed = turn_ends (setting a.at.now) (environment a.env.now) a.made.now.place.items
-          (shape_at a.at.now) (state_at a.at.now) _ _ _ _ a.at.now.turns a.body.now l.turn under
-          l.made.place.items c.from.result l.invariant.same_place c.loop-turn-test.true c.from.ensures
+      path = search rules;
+      formed = turn_ends (setting a.evaluation.now) (environment a.env.now) a.made.now.path.items
+          (shape_at a.evaluation.now) (state_at a.evaluation.now) _ _ _ _ a.evaluation.now.turns a.body.now l.turn under
+          l.made.path.items c.from.result l.invariant.same_path c.loop-turn-test.true c.from.ensures
           c.form_next.new.so_far c.form_next.new.made.set l.before a.made.now.set c.put_back.new.made.set c.form_next.new.made.instances c.put_back.new.made.instances c.put_back.result on
-          last (l.invariant.same_before ∙ c.replace-before.ensures.value) c.put_back.ensures.instances (c.put_back.ensures.adds (shape_at a.at.now));
+          last (l.invariant.same_before ∙ c.replace-before.ensures.value) c.put_back.ensures.instances (c.put_back.ensures.adds (shape_at a.evaluation.now));
       exhausted = stopped_for_memory
-          (turns_do (setting a.at.now) (environment a.env.now) a.made.now.place.items a.at.now.turns 0 a.body.now (state_at a.at.now)) _ c.put_back.result c.put_back.ensures.stopped;
+          (turns_do (setting a.evaluation.now) (environment a.env.now) a.made.now.path.items a.evaluation.now.turns 0 a.body.now (state_at a.evaluation.now)) _ c.put_back.result c.put_back.ensures.stopped;
     })
 
 pub form_turns-returns-in_err-form_next : goal.form_turns-returns-in_err-form_next
@@ -396,16 +396,16 @@ form_turns-returns-in_err-form_next g t c =
     let a = c.args in
     let l = c.loop-turn in
     let under = l.invariant.underway in
-    follows_same (shape_at a.at.now) _ _ _ _ _
-    (iterate_does a.at.now (environment a.env.now) a.made.now.place.items a.body.now)
+    follows_same (shape_at a.evaluation.now) _ _ _ _ _
+    (iterate_does a.evaluation.now (environment a.env.now) a.made.now.path.items a.body.now)
     (record {
       count = search rules;
-      place = search rules;
+      path = search rules;
       formed = search rules;
-      exhausted = turn_stops (setting a.at.now) (environment a.env.now) a.made.now.place.items
-          (shape_at a.at.now) (state_at a.at.now) _ _ _ _ a.at.now.turns a.body.now l.turn under
-          l.made.place.items c.from.result l.invariant.same_place c.loop-turn-test.true c.from.ensures
-          c.form_next.new.made.place.items c.form_next.result c.from_residual.result c.in_err-form_next.field-0.0 c.in_err-form_next.was c.from_residual.ensures.1
+      exhausted = turn_stops (setting a.evaluation.now) (environment a.env.now) a.made.now.path.items
+          (shape_at a.evaluation.now) (state_at a.evaluation.now) _ _ _ _ a.evaluation.now.turns a.body.now l.turn under
+          l.made.path.items c.from.result l.invariant.same_path c.loop-turn-test.true c.from.ensures
+          c.form_next.new.made.path.items c.form_next.result c.from_residual.result c.in_err-form_next.field-0.0 c.in_err-form_next.was c.from_residual.ensures.1
           (c.form_next.ensures.exhausted under.set under.stands under.consistent);
     })
 
@@ -415,11 +415,11 @@ form_turns-returns g t c =
     let l = c.loop-turn in
     record {
       count = search rules;
-      place = search rules;
+      path = search rules;
       formed = search rules;
       exhausted = ap (λ (o : Outcome). o.result)
-          (sym (iterate_does a.at.now (environment a.env.now) a.made.now.place.items a.body.now))
-          ∙ turns_stop (setting a.at.now) (environment a.env.now) a.made.now.place.items
-          (shape_at a.at.now) (state_at a.at.now) _ _ _ _ a.at.now.turns a.body.now l.turn l.invariant.underway c.loop-turn-test.false
-          ∙ ap Exhausted (sym l.invariant.same_place);
+          (sym (iterate_does a.evaluation.now (environment a.env.now) a.made.now.path.items a.body.now))
+          ∙ turns_stop (setting a.evaluation.now) (environment a.env.now) a.made.now.path.items
+          (shape_at a.evaluation.now) (state_at a.evaluation.now) _ _ _ _ a.evaluation.now.turns a.body.now l.turn l.invariant.underway c.loop-turn-test.false
+          ∙ ap Exhausted (sym l.invariant.same_path);
     }

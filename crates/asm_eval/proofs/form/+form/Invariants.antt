@@ -15,40 +15,40 @@ use Rattle.asm_eval.proofs.form.+form.Given as goal
 -- ---- that it ends: each goes by the rule that it forms
 
 abbrev pub decreases-form : goal.decreases-form
-decreases-form g l = left_to_form l.at.now.scene.checked.now 1 (meant l.rule.now)
+decreases-form g l = left_to_form l.evaluation.now.scene.checked.now 1 (meant l.rule.now)
 
 abbrev pub decreases-form_part : goal.decreases-form_part
-decreases-form_part g l = left_to_form l.at.now.scene.checked.now 2 (meant l.rule.now)
+decreases-form_part g l = left_to_form l.evaluation.now.scene.checked.now 2 (meant l.rule.now)
 
 abbrev pub decreases-form_other : goal.decreases-form_other
-decreases-form_other g l = left_to_form l.at.now.scene.checked.now 3 (meant_branch l.rule.now)
+decreases-form_other g l = left_to_form l.evaluation.now.scene.checked.now 3 (meant_branch l.rule.now)
 
 abbrev pub decreases-form_if : goal.decreases-form_if
-decreases-form_if g l = left_to_form l.at.now.scene.checked.now 0 (tree.If (meant_term l.test.now) (meant l.yes.now) (meant_branch l.no.now))
+decreases-form_if g l = left_to_form l.evaluation.now.scene.checked.now 0 (tree.If (meant_term l.test.now) (meant l.yes.now) (meant_branch l.no.now))
 
 abbrev pub decreases-form_let : goal.decreases-form_let
-decreases-form_let g l = left_to_form l.at.now.scene.checked.now 0 (tree.Let l.name.now.text (meant_term l.term.now) (meant l.body.now))
+decreases-form_let g l = left_to_form l.evaluation.now.scene.checked.now 0 (tree.Let l.name.now.text (meant_term l.term.now) (meant l.body.now))
 
 abbrev pub decreases-form_all : goal.decreases-form_all
-decreases-form_all g l = left_to_form l.at.now.scene.checked.now 0 (tree.Par (meant_rules l.rules.now))
+decreases-form_all g l = left_to_form l.evaluation.now.scene.checked.now 0 (tree.Par (meant_rules l.rules.now))
 
 abbrev pub decreases-form_each : goal.decreases-form_each
-decreases-form_each g l = left_to_form l.at.now.scene.checked.now 0 (tree.Forall l.name.now.text l.over.now.text (condition l.test.now) (meant l.body.now))
+decreases-form_each g l = left_to_form l.evaluation.now.scene.checked.now 0 (tree.Forall l.name.now.text l.over.now.text (condition l.test.now) (meant l.body.now))
 
 abbrev pub decreases-form_choose : goal.decreases-form_choose
-decreases-form_choose g l = left_to_form l.at.now.scene.checked.now 0 (tree.Choose l.name.now.text l.over.now.text (condition l.test.now) (meant l.body.now) (meant_branch l.none.now))
+decreases-form_choose g l = left_to_form l.evaluation.now.scene.checked.now 0 (tree.Choose l.name.now.text l.over.now.text (condition l.test.now) (meant l.body.now) (meant_branch l.none.now))
 
 abbrev pub decreases-form_call : goal.decreases-form_call
-decreases-form_call g l = left_to_form l.at.now.scene.checked.now 0 (tree.Call l.name.now.text (meant_terms l.arguments.now))
+decreases-form_call g l = left_to_form l.evaluation.now.scene.checked.now 0 (tree.Call l.name.now.text (meant_terms l.arguments.now))
 
 abbrev pub decreases-form_in_order : goal.decreases-form_in_order
-decreases-form_in_order g l = left_to_form l.at.now.scene.checked.now 0 (tree.Seq (meant_rules l.rules.now))
+decreases-form_in_order g l = left_to_form l.evaluation.now.scene.checked.now 0 (tree.Seq (meant_rules l.rules.now))
 
 abbrev pub decreases-form_turns : goal.decreases-form_turns
-decreases-form_turns g l = left_to_form l.at.now.scene.checked.now 0 (tree.Iterate (meant l.body.now))
+decreases-form_turns g l = left_to_form l.evaluation.now.scene.checked.now 0 (tree.Iterate (meant l.body.now))
 
 abbrev pub decreases-form_next : goal.decreases-form_next
-decreases-form_next g l = left_to_form l.at.now.scene.checked.now 3 (meant l.rule.now)
+decreases-form_next g l = left_to_form l.evaluation.now.scene.checked.now 3 (meant l.rule.now)
 
 -- ---- the loops
 
@@ -56,32 +56,32 @@ decreases-form_next g l = left_to_form l.at.now.scene.checked.now 3 (meant l.rul
 abbrev pub invariant-form_all-loop-i : goal.invariant-form_all-loop-i
 invariant-form_all-loop-i g l = record {
   same_count : l.made.set.count ≡ l.initial.made.set.count;
-  same_place : l.made.place.items ≡ l.initial.made.place.items;
+  same_path : l.made.path.items ≡ l.initial.made.path.items;
   follows : (new : Forming) (r : Result (Unit {0}) Stopped)
-      → Follows (shape_at l.at) (rules_do l.at (environment l.env) l.initial.made.place.items l.i (drop l.i l.rules)) l.made new r
-      → Follows (shape_at l.at) (rules_do l.at (environment l.env) l.initial.made.place.items 0 l.rules) l.initial.made new r;
+      → Follows (shape_at l.evaluation) (rules_do l.evaluation (environment l.env) l.initial.made.path.items l.i (drop l.i l.rules)) l.made new r
+      → Follows (shape_at l.evaluation) (rules_do l.evaluation (environment l.env) l.initial.made.path.items 0 l.rules) l.initial.made new r;
 }
 
 -- the same of the elements
 abbrev pub invariant-form_each-loop-i : goal.invariant-form_each-loop-i
 invariant-form_each-loop-i g l = record {
   same_count : l.made.set.count ≡ l.initial.made.set.count;
-  same_place : l.made.place.items ≡ l.initial.made.place.items;
+  same_path : l.made.path.items ≡ l.initial.made.path.items;
   follows : (new : Forming) (r : Result (Unit {0}) Stopped)
-      → Follows (shape_at l.at) (each_does l.at (environment l.env) l.initial.made.place.items l.name.text l.test l.body l.i (drop l.i l.universe)) l.made new r
-      → Follows (shape_at l.at) (each_does l.at (environment l.env) l.initial.made.place.items l.name.text l.test l.body 0 l.universe) l.initial.made new r;
+      → Follows (shape_at l.evaluation) (each_does l.evaluation (environment l.env) l.initial.made.path.items l.name.text l.test l.body l.i (drop l.i l.universe)) l.made new r
+      → Follows (shape_at l.evaluation) (each_does l.evaluation (environment l.env) l.initial.made.path.items l.name.text l.test l.body 0 l.universe) l.initial.made new r;
 }
 
 -- the sets of the parts so far, and what is left of the parts
 abbrev pub invariant-form_in_order-loop-i : goal.invariant-form_in_order-loop-i
 invariant-form_in_order-loop-i g l = record {
   same_count : l.made.set.count ≡ l.initial.made.set.count;
-  same_place : l.made.place.items ≡ l.initial.made.place.items;
+  same_path : l.made.path.items ≡ l.initial.made.path.items;
   same_before : l.before ≡ l.initial.before;
-  counted : l.so_far.count ≡ count_of (shape_at l.at);
-  underway : IsUnderway (shape_at l.at) (state_at l.at)
-      (rules_do_in_order (setting l.at) (environment l.env) l.initial.made.place.items 0 l.rules (state_at l.at))
-      (rules_do_in_order (setting l.at) (environment l.env) l.initial.made.place.items l.i (drop l.i l.rules))
+  counted : l.so_far.count ≡ count_of (shape_at l.evaluation);
+  underway : IsUnderway (shape_at l.evaluation) (state_at l.evaluation)
+      (rules_do_in_order (setting l.evaluation) (environment l.env) l.initial.made.path.items 0 l.rules (state_at l.evaluation))
+      (rules_do_in_order (setting l.evaluation) (environment l.env) l.initial.made.path.items l.i (drop l.i l.rules))
       l.so_far l.initial.made.instances l.made.instances;
 }
 
@@ -89,11 +89,11 @@ invariant-form_in_order-loop-i g l = record {
 abbrev pub invariant-form_turns-loop-turn : goal.invariant-form_turns-loop-turn
 invariant-form_turns-loop-turn g l = record {
   same_count : l.made.set.count ≡ l.initial.made.set.count;
-  same_place : l.made.place.items ≡ l.initial.made.place.items;
+  same_path : l.made.path.items ≡ l.initial.made.path.items;
   same_before : l.before ≡ l.initial.before;
-  counted : l.so_far.count ≡ count_of (shape_at l.at);
-  underway : IsUnderway (shape_at l.at) (state_at l.at)
-      (turns_do (setting l.at) (environment l.env) l.initial.made.place.items l.at.turns 0 l.body (state_at l.at))
-      (turns_do (setting l.at) (environment l.env) l.initial.made.place.items (l.at.turns - l.turn) l.turn l.body)
+  counted : l.so_far.count ≡ count_of (shape_at l.evaluation);
+  underway : IsUnderway (shape_at l.evaluation) (state_at l.evaluation)
+      (turns_do (setting l.evaluation) (environment l.env) l.initial.made.path.items l.evaluation.turns 0 l.body (state_at l.evaluation))
+      (turns_do (setting l.evaluation) (environment l.env) l.initial.made.path.items (l.evaluation.turns - l.turn) l.turn l.body)
       l.so_far l.initial.made.instances l.made.instances;
 }

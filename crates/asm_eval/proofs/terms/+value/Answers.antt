@@ -2,7 +2,7 @@ use Rattle.std.proofs.Common.{[], Some, refl, sym, arith, ap, ◌∙◌, map, ta
 use Rattle.std.proofs.lemmas.Grind.{common_steps}
 use Rattle.std.proofs.lemmas.List.{length-set, take_all}
 use Rattle.asm_state.proofs.ValueLaws.{value_laws}
-use Rattle.asm_syntax.specs.Unplaced as plain
+use Rattle.asm_syntax.specs.PlainTree as plain
 use Rattle.asm_syntax.specs.Views.{term_of, terms_of, spec_of}
 use Rattle.asm_check.specs.declared.checked.Named.TheVariants as number
 use Rattle.asm_eval.specs.Declarations.{numbered}

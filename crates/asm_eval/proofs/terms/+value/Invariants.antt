@@ -2,7 +2,7 @@ use Rattle.std.proofs.Common.{◌≡◌, ◌+◌, ◌*◌, length, map, take, dr
 use Rattle.std.specs.List.{list_any, list_all}
 use Rattle.std.specs.Prelude.{false, true}
 use Rattle.asm_syntax.specs.Views.{term_of, links_of, spec_of}
-use Rattle.asm_syntax.specs.Unplaced.{plain_term, plain_links}
+use Rattle.asm_syntax.specs.PlainTree.{plain_term, plain_links}
 use Rattle.asm_syntax.specs.Tree as tree
 use Rattle.asm_eval.specs.Declarations.{numbered}
 use Rattle.asm_eval.specs.Environments.{environment}

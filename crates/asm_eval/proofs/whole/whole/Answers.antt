@@ -4,7 +4,7 @@ use Rattle.asm_state.specs.Updates.{none}
 use Rattle.asm_state.proofs.Algebra.{union_laws}
 use Rattle.asm_updates.specs.Entries.{Entries}
 use Rattle.asm_updates.specs.Stands.{Stands}
-use Rattle.asm_syntax.specs.Unplaced as plain
+use Rattle.asm_syntax.specs.PlainTree as plain
 use Rattle.asm_syntax.specs.Views.{rule_of}
 use Rattle.asm_eval.specs.Does.{Outcome, does}
 use Rattle.asm_eval.specs.Environments.{environment}
@@ -27,7 +27,7 @@ returns-in-Ok g c =
     let a = c.args in
     let shape : Shape = a.view.now.signature.now in
     let o = λ (p : List ℕ). does (program a.checked.now) a.turns (g.P.Picks.script a.choices.now.script.now) a.choices.now.step (shown a.view.now) (environment a.env.now) p (plain.plain_rule (rule_of a.rule.now)) in
-    let at_place : c.in_ok-to_vec.field-0.items ≡ a.place.now = c.in_ok-to_vec.ensures.items_if_clones_equal (λ x y h. h) in
-    formed_from_none shape (o a.place.now) c.new.result c.form.new.made.set c.form.new.made.instances
+    let at_path : c.in_ok-to_vec.field-0.items ≡ a.path.now = c.in_ok-to_vec.ensures.items_if_clones_equal (λ x y h. h) in
+    formed_from_none shape (o a.path.now) c.new.result c.form.new.made.set c.form.new.made.instances
     (c.new.ensures.empty shape c.count.ensures.sound c.count.ensures.count) (c.in-Ok.ensures.count ∙ c.new.ensures.count ∙ c.count.ensures.count)
-    (subst (λ p. Forms shape (o p) c.new.result c.form.new.made.set 0 c.form.new.made.instances) at_place c.in-Ok.ensures.formed)
+    (subst (λ p. Forms shape (o p) c.new.result c.form.new.made.set 0 c.form.new.made.instances) at_path c.in-Ok.ensures.formed)

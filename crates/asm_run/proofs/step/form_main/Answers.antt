@@ -1,7 +1,7 @@
 use Rattle.std.proofs.Common.{refl, sym, ap, subst, ◌∙◌}
 use Rattle.std.proofs.lemmas.Result.{on_ok_weaker}
 use Rattle.asm_state.specs.Signature.{count_of}
-use Rattle.asm_syntax.specs.Unplaced.{plain_rule}
+use Rattle.asm_syntax.specs.PlainTree.{plain_rule}
 use Rattle.asm_syntax.specs.Views.{spec_of, rule_of}
 use Rattle.asm_eval.specs.Declarations.{program_of}
 use Rattle.asm_eval.specs.Does.{Outcome, does}
@@ -39,7 +39,7 @@ returns-clause-exhausted g c =
     let s = spec_of c.args.checked.now.spec in
     let shape = c.signature-signature.result.now in
     let script = g.P.Picks.script c.args.choices.now.script.now in
-    stopped_alone c.form.result _ _ c.form.new.made.place.items
+    stopped_alone c.form.result _ _ c.form.new.made.path.items
     (outcome_alone s shape c.args.turns script c.args.choices.now.step c.args.state.now (shown c.new-view.result) c.new-nothing.result (environment c.new-env.result)
     c.clear-2.new.self.items (plain_rule (rule_of c.args.main.now)) c.signature-signature.ensures c.new-view.ensures.fired
     (c.new-nothing.ensures.empty shape c.count.ensures.sound c.count.ensures.count) c.new-env.ensures c.clear-2.ensures.items c.requires.main)

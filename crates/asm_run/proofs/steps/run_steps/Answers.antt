@@ -39,7 +39,7 @@ returns-in-Some g c =
     at_stop (spec_of c.args.checked.now.spec) c.args.checked.now.well_formed limits.turns (g.P.Picks.script c.args.script.now) limits.steps now.done now.state now.made.set.count
     (g.S.Sink.bytes c.args.out.now) (g.S.Sink.bytes now.out) (g.S.Sink.has_failed now.out) now.invariant
     c.loop-done-test.true (c.from.result + 1) (omega (arith, c.from.ensures)) (g.S.Sink.bytes c.finish_at_stop.new.out) (g.S.Sink.has_failed c.finish_at_stop.new.out)
-    c.finish_at_stop.result c.make_step.new.state c.make_step.new.made.place.items c.as_slice-place.result.now c.in-Some.stop (search rules) c.as_slice-place.ensures.value c.finish_at_stop.ensures
+    c.finish_at_stop.result c.make_step.new.state c.make_step.new.made.path.items c.as_slice-path.result.now c.in-Some.stop (search rules) c.as_slice-path.ensures.value c.finish_at_stop.ensures
 
 pub returns-in_err-write_all : goal.returns-in_err-write_all
 returns-in_err-write_all g c =

@@ -1,5 +1,5 @@
-use Rattle.asm_syntax.proofs.TokenPlaces as places
+use Rattle.asm_syntax.proofs.TokenOffsets as offsets
 use Rattle.asm_syntax.proofs.laws.tokens_in_order.Goals as goal
 
 pub returns : goal.returns
-returns c = places.tokens_in_order
+returns c = offsets.tokens_in_order

@@ -8,10 +8,10 @@ element_name-requires-clause-number c =
     let self = c.args.self.now in
     (element_has_name (spec_of self.spec) self.numbering self.numbered c.args.e c.requires).number
 
-pub element_name-requires-clause-place : goal.element_name-requires-clause-place
-element_name-requires-clause-place c =
+pub element_name-requires-clause-index : goal.element_name-requires-clause-index
+element_name-requires-clause-index c =
     let self = c.args.self.now in
-    (element_has_name (spec_of self.spec) self.numbering self.numbered c.args.e c.requires).place
+    (element_has_name (spec_of self.spec) self.numbering self.numbered c.args.e c.requires).index
 
 pub returns : goal.returns
 returns c =

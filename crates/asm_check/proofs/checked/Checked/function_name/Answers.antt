@@ -8,10 +8,10 @@ function_name-requires-clause-number c =
     let self = c.args.self.now in
     (function_has_name (spec_of self.spec) self.numbering self.numbered c.args.f c.requires).number
 
-pub function_name-requires-clause-place : goal.function_name-requires-clause-place
-function_name-requires-clause-place c =
+pub function_name-requires-clause-index : goal.function_name-requires-clause-index
+function_name-requires-clause-index c =
     let self = c.args.self.now in
-    (function_has_name (spec_of self.spec) self.numbering self.numbered c.args.f c.requires).place
+    (function_has_name (spec_of self.spec) self.numbering self.numbered c.args.f c.requires).index
 
 pub returns : goal.returns
 returns c =

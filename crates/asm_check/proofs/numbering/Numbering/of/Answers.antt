@@ -17,4 +17,4 @@ returns c = λ spec table.
     let entries = c.args.names.now.entries in
     let whole : length (map declaration_of entries) ≤ c.loop-i.i = omega (arith, length-map entries declaration_of) in
     let it = subst (λ ds. IsNumberingOf ds c.loop-i.numbering) (all_entries spec entries table c.loop-i.i whole) (c.loop-i.invariant spec table) in
-    record { names = it.names; places = it.places }
+    record { names = it.names; indices = it.indices }

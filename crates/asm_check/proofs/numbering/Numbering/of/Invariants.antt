@@ -1,5 +1,5 @@
 use Rattle.std.proofs.Common.{map, take}
-use Rattle.asm_syntax.specs.Placed.{Spec}
+use Rattle.asm_syntax.specs.SourceTree.{Spec}
 use Rattle.asm_check.specs.NumberTables.{IsNumberingOf}
 use Rattle.asm_check.specs.Tables.{IsTableOf, declaration_of}
 use Rattle.asm_check.proofs.numbering.Numbering.of.Given as goal

@@ -4,7 +4,7 @@ use Rattle.asm_state.specs.Location.{Proper}
 use Rattle.asm_state.specs.Signature.{location_at, domain_in}
 use Rattle.asm_state.specs.Tables.{argument_lists}
 use Rattle.asm_state.proofs.Owners.{known_extent}
-use Rattle.asm_state.proofs.SignatureInside.{shape_of, owned, place, Listed, listed}
+use Rattle.asm_state.proofs.SignatureInside.{shape_of, owned, index, Listed, listed}
 use Rattle.asm_state.proofs.signature.Signature.location.Goals as goal
 
 pub index-extent-requires : goal.index-extent-requires
@@ -14,12 +14,12 @@ index-extent-requires c =
     search (rules, known)
 
 pub overflow_sub-list : goal.overflow_sub-list
-overflow_sub-list c = (place c.self.inside c.self.invariant c.args.self.now c.self.view_is c.args.n c.index-function.result.now c.requires c.index-function.ensures c.index-extent.result.now c.index-extent.ensures).begins
+overflow_sub-list c = (index c.self.inside c.self.invariant c.args.self.now c.self.view_is c.args.n c.index-function.result.now c.requires c.index-function.ensures c.index-extent.result.now c.index-extent.ensures).begins
 
 pub returns-then-list-extent : goal.returns-then-list-extent
 returns-then-list-extent c =
     sym (ap (λ s. location_at s c.args.n) (sym c.self.view_is)
-    ∙ (place c.self.inside c.self.invariant c.args.self.now c.self.view_is c.args.n c.index-function.result.now c.requires c.index-function.ensures c.index-extent.result.now c.index-extent.ensures).stray c.if-list-extent.true)
+    ∙ (index c.self.inside c.self.invariant c.args.self.now c.self.view_is c.args.n c.index-function.result.now c.requires c.index-function.ensures c.index-extent.result.now c.index-extent.ensures).stray c.if-list-extent.true)
 
 pub index-requires : goal.index-requires
 index-requires c =
@@ -29,7 +29,7 @@ index-requires c =
 
 here : (c : goal.After-arguments-2-1) → Listed c.args.self.now c.deref.result.now c.as_slice-domain.result.now c.args.n c.index-function.result.now (c.args.n - c.index-extent.result.now.start)
 here c =
-    let at = place c.self.inside c.self.invariant c.args.self.now c.self.view_is c.args.n c.index-function.result.now c.requires c.index-function.ensures c.index-extent.result.now c.index-extent.ensures in
+    let at = index c.self.inside c.self.invariant c.args.self.now c.self.view_is c.args.n c.index-function.result.now c.requires c.index-function.ensures c.index-extent.result.now c.index-extent.ensures in
     listed c.self.inside c.self.invariant c.args.self.now c.self.view_is c.args.n c.index-function.result.now c.index-extent.result.now.start c.index-extent.result.now.lists at c.if-list-extent.false
     c.index.result.now c.index.ensures c.deref.result.now c.as_slice-domain.result.now c.deref.ensures.value c.as_slice-domain.ensures
 
@@ -44,7 +44,7 @@ push_list-requires-clause-in_range c = (here c).in_range
 
 pub returns : goal.returns
 returns c =
-    let at = place c.self.inside c.self.invariant c.args.self.now c.self.view_is c.args.n c.index-function.result.now c.requires c.index-function.ensures c.index-extent.result.now c.index-extent.ensures in
+    let at = index c.self.inside c.self.invariant c.args.self.now c.self.view_is c.args.n c.index-function.result.now c.requires c.index-function.ensures c.index-extent.result.now c.index-extent.ensures in
     let it = listed c.self.inside c.self.invariant c.args.self.now c.self.view_is c.args.n c.index-function.result.now c.index-extent.result.now.start c.index-extent.result.now.lists at c.if-list-extent.false
     c.index.result.now c.index.ensures c.deref.result.now c.as_slice-domain.result.now c.deref.ensures.value c.as_slice-domain.ensures in
     let list = get_or (argument_lists (domain_in c.deref.result.now c.as_slice-domain.result.now)) (c.args.n - c.index-extent.result.now.start) [] in

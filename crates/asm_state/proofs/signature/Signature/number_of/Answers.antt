@@ -3,7 +3,7 @@ use Rattle.std.specs.Prelude.{IfSome, IfNone}
 use Rattle.asm_state.specs.declared.function.Kind.TheVariants.{Controlled}
 use Rattle.asm_state.specs.Signature.{HasKind, domain_in, count_of}
 use Rattle.asm_state.specs.Tables.{argument_lists, is_in}
-use Rattle.asm_state.proofs.LocationPlaces.{IsNumberOf}
+use Rattle.asm_state.proofs.LocationIndices.{IsNumberOf}
 use Rattle.asm_state.proofs.Owners.{number_here}
 use Rattle.asm_state.proofs.SignatureInside.{shape_of}
 use Rattle.asm_state.proofs.signature.Signature.number_of.Goals as goal

@@ -5,7 +5,7 @@ use Rattle.asm_state.specs.Location.{Stray}
 use Rattle.asm_state.specs.Signature.{HasKind, domain_in, domain_of, count_of}
 use Rattle.asm_state.specs.Tables.{argument_lists, is_in, location_in}
 use Rattle.asm_state.specs.Updates.{is_proper}
-use Rattle.asm_state.proofs.LocationPlaces.{IsNumberOf, lists_of}
+use Rattle.asm_state.proofs.LocationIndices.{IsNumberOf, lists_of}
 use Rattle.asm_state.proofs.Owners.{number_at_list, proper_here, stray_here}
 use Rattle.asm_state.proofs.SignatureInside.{shape_of}
 use Rattle.asm_state.proofs.signature.Signature.proper_number.Goals as goal

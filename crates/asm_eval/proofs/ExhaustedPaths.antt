@@ -1,4 +1,4 @@
--- Exhausted places lie within the place of their rule, so that of parts beside each other the first exhausted one has the least.
+-- Exhausted paths lie within the path of their rule, so that of parts beside each other the first exhausted one has the least.
 --     first_part_first        of a part and the parts behind it
 --     first_element_first     of an element and the elements behind it
 use Rattle.std.proofs.Common.{◌≡◌, ℕ, suc, ◌<◌, Bool, false, cond, List, [], ◌∷◌, ◌++◌, refl, sym, ap, ◌∙◌, arith}
@@ -13,27 +13,27 @@ use Rattle.asm_reader.specs.ScriptLines.{Script}
 use Rattle.asm_eval.specs.Cases.{all_run}
 use Rattle.asm_eval.specs.Does.{does, parts, each}
 use Rattle.asm_eval.specs.Program.{Program, Environment, with_value}
-use Rattle.asm_eval.specs.Yields.{Place, at, first_place, Result, Gives, Exhausted, beside}
-use Rattle.asm_eval.proofs.NestedPlaces.{IsWithin, IsBehind, Within, Behind, rule_within, all_within, parts_behind, each_behind}
+use Rattle.asm_eval.specs.Yields.{Path, at, first_path, Result, Gives, Exhausted, beside}
+use Rattle.asm_eval.proofs.NestedPaths.{IsWithin, IsBehind, Within, Behind, rule_within, all_within, parts_behind, each_behind}
 
--- a place in a later descent isn't less
-not_less : (p : Place) (k j : ℕ) (s t : Place) → k < j → is_lt (slice_cmp nat_cmp (p ++ (j ∷ t)) (at p k ++ s)) ≡ false
+-- a path in a later descent isn't less
+not_less : (p : Path) (k j : ℕ) (s t : Path) → k < j → is_lt (slice_cmp nat_cmp (p ++ (j ∷ t)) (at p k ++ s)) ≡ false
 not_less [] k j s t h = ap (λ o. is_lt (ordering_then o (slice_cmp nat_cmp t s))) (sym (nat_cmp_is j k Greater h))
 not_less (i ∷ p) k j s t h =
     ap (λ o. is_lt (ordering_then o (slice_cmp nat_cmp (p ++ (j ∷ t)) (at p k ++ s)))) (sym (nat_cmp_is i i Equal refl)) ∙ not_less p k j s t h
 
-first_is_first : (p : Place) (k : ℕ) (q r : Place) → IsWithin (at p k) q → IsBehind p (suc k) r → first_place q r ≡ q
+first_is_first : (p : Path) (k : ℕ) (q r : Path) → IsWithin (at p k) q → IsBehind p (suc k) r → first_path q r ≡ q
 first_is_first p k q r h g =
     let below : k < g.number = let low = g.from in omega arith in
     ap (λ b. cond b r q) (ap (λ x. is_lt (slice_cmp nat_cmp x q)) g.is ∙ ap (λ x. is_lt (slice_cmp nat_cmp (p ++ (g.number ∷ g.rest)) x)) h.is ∙ not_less p k g.number h.rest g.rest below)
 
 -- a result at number k, and those behind it
-first_beside : (p : Place) (k : ℕ) (q : Place) (r s : Result) → Within (at p k) r → Behind p (suc k) s → r ≡ Exhausted q → beside r s ≡ Exhausted q
+first_beside : (p : Path) (k : ℕ) (q : Path) (r s : Result) → Within (at p k) r → Behind p (suc k) s → r ≡ Exhausted q → beside r s ≡ Exhausted q
 first_beside p k q (Gives U) s h g e = cc
 first_beside p k q (Exhausted r) (Gives V) h g e = e
 first_beside p k q (Exhausted r) (Exhausted s) h g e = ap Exhausted (first_is_first p k r s h g) ∙ e
 
-pub first_part_first : (program : Program) (turns : ℕ) (script : Script) (step : ℕ) (A : State) (e : Environment) (p q : Place) (k : ℕ) (R : Rule) (Ps : Rules)
+pub first_part_first : (program : Program) (turns : ℕ) (script : Script) (step : ℕ) (A : State) (e : Environment) (p q : Path) (k : ℕ) (R : Rule) (Ps : Rules)
     → (does program turns script step A e (at p k) R).result ≡ Exhausted q
     → beside (does program turns script step A e (at p k) R).result (parts (all_run program turns script step Ps) (suc k) A e p).result ≡ Exhausted q
 first_part_first program turns script step A e p q k R Ps is =
@@ -41,8 +41,8 @@ first_part_first program turns script step A e p q k R Ps is =
     (rule_within program turns script step A e (at p k) R)
     (parts_behind (all_run program turns script step Ps) (all_within program turns script step Ps) (suc k) A e p) is
 
--- the rule has a place and an environment of its own for each element
-pub first_element_first : (program : Program) (turns : ℕ) (script : Script) (step : ℕ) (A : State) (e : Environment) (p q : Place) (x : Name) (test : Value → Bool) (k : ℕ) (v : Value) (vs : List Value) (R : Rule)
+-- the rule has a path and an environment of its own for each element
+pub first_element_first : (program : Program) (turns : ℕ) (script : Script) (step : ℕ) (A : State) (e : Environment) (p q : Path) (x : Name) (test : Value → Bool) (k : ℕ) (v : Value) (vs : List Value) (R : Rule)
     → (does program turns script step A (with_value x v e) (at p k) R).result ≡ Exhausted q
     → beside (does program turns script step A (with_value x v e) (at p k) R).result
     (each (λ w n. does program turns script step A (with_value x w e) (at p n) R) test (suc k) vs).result ≡ Exhausted q

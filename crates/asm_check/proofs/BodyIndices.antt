@@ -10,47 +10,47 @@ use Rattle.asm_syntax.specs.declared.term.Term as code_term
 use Rattle.asm_syntax.specs.declared.spec.Item as code
 use Rattle.asm_syntax.specs.declared.spec.Item.TheVariants as variant
 use Rattle.asm_syntax.specs.Views.{item_of}
-use Rattle.asm_syntax.specs.Placed as tree
-use Rattle.asm_syntax.specs.Placed.{Name, Term, Rule, Item, Spec}
+use Rattle.asm_syntax.specs.SourceTree as source
+use Rattle.asm_syntax.specs.SourceTree.{Name, Term, Rule, Item, Spec}
 use Rattle.asm_check.specs.declared.bodies.Bodies.{Bodies}
 use Rattle.asm_check.specs.Faults.{IsWellFormed}
 use Rattle.asm_check.specs.Limits.{is_rule}
 use Rattle.asm_check.specs.Names as names
 use Rattle.asm_check.specs.Names.{Declaration, Meaning, Procedure, Derived, declarations_of, declarations_from, first_declarations}
 use Rattle.asm_check.specs.Numbers.{is_derived, rules_of, derived_of, meaning_at}
-use Rattle.asm_check.specs.NumberTables.{places_where, placed_if, like, is_rule_item, is_derived_item, AreBodies, AreBodiesOf}
+use Rattle.asm_check.specs.NumberTables.{indices_where, appended_if, like, is_rule_item, is_derived_item, AreBodies, AreBodiesOf}
 use Rattle.asm_check.proofs.ItemLists.{elements_dropped, like_next}
-use Rattle.asm_check.proofs.PlacesWhere.{IsNth, nth, where_one, where_length}
+use Rattle.asm_check.proofs.IndicesWhere.{IsNth, nth, where_one, where_length}
 use Rattle.asm_check.proofs.Sole.{all_count}
 
 -- what the item is a body of
 abbrev pub body_meaning : Item → Meaning
-body_meaning (tree.Declared x xs P) = Procedure xs P
-body_meaning (tree.Derived x xs t) = Derived xs t
+body_meaning (source.Declared x xs P) = Procedure xs P
+body_meaning (source.Derived x xs t) = Derived xs t
 body_meaning item = names.Predeclared
 
 abbrev meanings : List Declaration → List Meaning
 meanings ds = map (λ d. d.meaning) ds
 
 own_rules : (k : ℕ) (item : Item) → meanings (like is_rule (declarations_of k item)) ≡ map body_meaning (filter is_rule_item (item ∷ []))
-own_rules k (tree.Uses x) = refl
-own_rules k (tree.Init x) = refl
-own_rules k (tree.Enum x xs) = ap meanings (elements_dropped is_rule k xs refl)
-own_rules k (tree.Universe x first last) = refl
-own_rules k (tree.Function x kind.Controlled domain codomain table) = refl
-own_rules k (tree.Function x kind.Static domain codomain table) = refl
-own_rules k (tree.Derived x xs t) = refl
-own_rules k (tree.Declared x xs P) = refl
+own_rules k (source.Uses x) = refl
+own_rules k (source.Init x) = refl
+own_rules k (source.Enum x xs) = ap meanings (elements_dropped is_rule k xs refl)
+own_rules k (source.Universe x first last) = refl
+own_rules k (source.Function x kind.Controlled domain codomain table) = refl
+own_rules k (source.Function x kind.Static domain codomain table) = refl
+own_rules k (source.Derived x xs t) = refl
+own_rules k (source.Declared x xs P) = refl
 
 own_derived : (k : ℕ) (item : Item) → meanings (like is_derived (declarations_of k item)) ≡ map body_meaning (filter is_derived_item (item ∷ []))
-own_derived k (tree.Uses x) = refl
-own_derived k (tree.Init x) = refl
-own_derived k (tree.Enum x xs) = ap meanings (elements_dropped is_derived k xs refl)
-own_derived k (tree.Universe x first last) = refl
-own_derived k (tree.Function x kind.Controlled domain codomain table) = refl
-own_derived k (tree.Function x kind.Static domain codomain table) = refl
-own_derived k (tree.Derived x xs t) = refl
-own_derived k (tree.Declared x xs P) = refl
+own_derived k (source.Uses x) = refl
+own_derived k (source.Init x) = refl
+own_derived k (source.Enum x xs) = ap meanings (elements_dropped is_derived k xs refl)
+own_derived k (source.Universe x first last) = refl
+own_derived k (source.Function x kind.Controlled domain codomain table) = refl
+own_derived k (source.Function x kind.Static domain codomain table) = refl
+own_derived k (source.Derived x xs t) = refl
+own_derived k (source.Declared x xs P) = refl
 
 filter_head : (p : Item → Bool) (item : Item) (items : List Item) → map body_meaning (filter p (item ∷ [])) ++ map body_meaning (filter p items) ≡ map body_meaning (filter p (item ∷ items))
 filter_head p item items = elim (p item) as (λ b. map body_meaning (cond b (item ∷ []) []) ++ map body_meaning (filter p items) ≡ map body_meaning (cond b (item ∷ filter p items) (filter p items))) [
@@ -72,12 +72,12 @@ module _ (is_like : Meaning → Bool) (p : Item → Bool) (own : (k : ℕ) (item
     bodies : meanings (like is_like (first_declarations spec)) ≡ map body_meaning (filter p spec.items)
     bodies = are ∙ all_bodies 0 spec.items
 
-    how_many : length (places_where p 0 spec.items) ≡ length (like is_like (first_declarations spec))
+    how_many : length (indices_where p 0 spec.items) ≡ length (like is_like (first_declarations spec))
     how_many =
         where_length p spec.items ∙ sym (length-map (filter p spec.items) body_meaning) ∙ ap length (sym bodies)
         ∙ length-map (like is_like (first_declarations spec)) (λ d. d.meaning)
 
-    body_at : (r k : ℕ) → slice_get (places_where p 0 spec.items) r ≡ Some k
+    body_at : (r k : ℕ) → slice_get (indices_where p 0 spec.items) r ≡ Some k
         → (it : IsNth p spec.items r k) × (meaning_at (like is_like (first_declarations spec)) r ≡ Some (body_meaning it.it))
     body_at r k at =
         let it = nth p spec.items r k at in (
@@ -95,40 +95,40 @@ derived_declarations spec good = ap (λ ds. meanings (like is_derived ds)) (all_
 -- the item of a body
 pub record IsBody (spec : Spec) (p : Item → Bool) (ds : List Declaration) (r k : ℕ) : Type 0 where
   pub it : Item
-  pub place : slice_get spec.items k ≡ Some it
+  pub index : slice_get spec.items k ≡ Some it
   pub passes : p it ≡ true
   pub meaning : meaning_at ds r ≡ Some (body_meaning it)
 
-module _ (spec : Spec) (good : IsWellFormed spec) (places : Bodies) (are : AreBodiesOf spec.items places) where
-  pub rules_counted : length places.rules.items ≡ length (rules_of spec)
+module _ (spec : Spec) (good : IsWellFormed spec) (indices : Bodies) (are : AreBodiesOf spec.items indices) where
+  pub rules_counted : length indices.rules.items ≡ length (rules_of spec)
   rules_counted = ap length are.rules_are ∙ how_many is_rule is_rule_item own_rules spec (rule_declarations spec good)
 
-  pub derived_counted : length places.derived.items ≡ length (derived_of spec)
+  pub derived_counted : length indices.derived.items ≡ length (derived_of spec)
   derived_counted = ap length are.derived_are ∙ how_many is_derived is_derived_item own_derived spec (derived_declarations spec good)
 
-  pub rule_at : (r k : ℕ) → slice_get places.rules.items r ≡ Some k → IsBody spec is_rule_item (rules_of spec) r k
+  pub rule_at : (r k : ℕ) → slice_get indices.rules.items r ≡ Some k → IsBody spec is_rule_item (rules_of spec) r k
   rule_at r k at =
       let it = body_at is_rule is_rule_item own_rules spec (rule_declarations spec good) r k (ap (λ ns. slice_get ns r) (sym are.rules_are) ∙ at) in
-      record { it = it.0.it; place = it.0.place; passes = it.0.passes; meaning = it.1 }
+      record { it = it.0.it; index = it.0.index; passes = it.0.passes; meaning = it.1 }
 
-  pub derived_at : (d k : ℕ) → slice_get places.derived.items d ≡ Some k → IsBody spec is_derived_item (derived_of spec) d k
+  pub derived_at : (d k : ℕ) → slice_get indices.derived.items d ≡ Some k → IsBody spec is_derived_item (derived_of spec) d k
   derived_at d k at =
       let it = body_at is_derived is_derived_item own_derived spec (derived_declarations spec good) d k (ap (λ ns. slice_get ns d) (sym are.derived_are) ∙ at) in
-      record { it = it.0.it; place = it.0.place; passes = it.0.passes; meaning = it.1 }
+      record { it = it.0.it; index = it.0.index; passes = it.0.passes; meaning = it.1 }
 
 -- ---- one item after another
 
 module _ (items : List Item) (item : Item) (n : ℕ) (whole : n ≡ length items) where
-  pub bodies_grow : (rules derived rules' derived' : List ℕ) → AreBodies items rules derived → rules' ≡ placed_if (is_rule_item item) rules n → derived' ≡ placed_if (is_derived_item item) derived n
+  pub bodies_grow : (rules derived rules' derived' : List ℕ) → AreBodies items rules derived → rules' ≡ appended_if (is_rule_item item) rules n → derived' ≡ appended_if (is_derived_item item) derived n
       → AreBodies (items ++ item ∷ []) rules' derived'
   bodies_grow rules derived rules' derived' are e f = record {
-    rules_are = e ∙ ap (λ ns. placed_if (is_rule_item item) ns n) are.rules_are ∙ sym (where_one is_rule_item items item n whole);
-    derived_are = f ∙ ap (λ ns. placed_if (is_derived_item item) ns n) are.derived_are ∙ sym (where_one is_derived_item items item n whole);
+    rules_are = e ∙ ap (λ ns. appended_if (is_rule_item item) ns n) are.rules_are ∙ sym (where_one is_rule_item items item n whole);
+    derived_are = f ∙ ap (λ ns. appended_if (is_derived_item item) ns n) are.derived_are ∙ sym (where_one is_derived_item items item n whole);
   }
 
 pub bodies_step : {X : Type 0} (view : X → Item) (xs : List X) (i : ℕ) (x : X) → i < length xs → x ≡ get_or xs i x
     → (rules derived rules' derived' : List ℕ) → AreBodies (map view (take i xs)) rules derived
-    → rules' ≡ placed_if (is_rule_item (view x)) rules i → derived' ≡ placed_if (is_derived_item (view x)) derived i
+    → rules' ≡ appended_if (is_rule_item (view x)) rules i → derived' ≡ appended_if (is_derived_item (view x)) derived i
     → AreBodies (map view (take (i + 1) xs)) rules' derived'
 bodies_step view xs i x within is rules derived rules' derived' are e f =
     let count : i ≡ length (map view (take i xs)) = omega (arith, length-map (take i xs) view, length-take-le i xs (omega (arith, within))) in
@@ -155,20 +155,20 @@ other_than_derived (variant.Function x how domain codomain table) other = refl
 other_than_derived (variant.Declared x xs P) other = refl
 
 module _ (ns ns' : List ℕ) (k : ℕ) (it : code.Item) where
-  pub rule_placed : (x : code_name.Name) (xs : Vec code_name.Name Global) (P : code_rule.Rule) → it ≡ variant.Declared x xs P → ns' ≡ ns ++ k ∷ [] → ns' ≡ placed_if (is_rule_item (item_of it)) ns k
-  rule_placed x xs P is e = e ∙ ap (λ z. placed_if (is_rule_item (item_of z)) ns k) (sym is)
+  pub rule_indexed : (x : code_name.Name) (xs : Vec code_name.Name Global) (P : code_rule.Rule) → it ≡ variant.Declared x xs P → ns' ≡ ns ++ k ∷ [] → ns' ≡ appended_if (is_rule_item (item_of it)) ns k
+  rule_indexed x xs P is e = e ∙ ap (λ z. appended_if (is_rule_item (item_of z)) ns k) (sym is)
 
-  pub rule_kept : (x : code_name.Name) (xs : Vec code_name.Name Global) (t : code_term.Term) → it ≡ variant.Derived x xs t → ns' ≡ ns → ns' ≡ placed_if (is_rule_item (item_of it)) ns k
-  rule_kept x xs t is e = e ∙ ap (λ z. placed_if (is_rule_item (item_of z)) ns k) (sym is)
+  pub rule_kept : (x : code_name.Name) (xs : Vec code_name.Name Global) (t : code_term.Term) → it ≡ variant.Derived x xs t → ns' ≡ ns → ns' ≡ appended_if (is_rule_item (item_of it)) ns k
+  rule_kept x xs t is e = e ∙ ap (λ z. appended_if (is_rule_item (item_of z)) ns k) (sym is)
 
-  pub rule_left : ((x : code_name.Name) (xs : Vec code_name.Name Global) (P : code_rule.Rule) → it ≡ variant.Declared x xs P → ⊥) → ns' ≡ ns → ns' ≡ placed_if (is_rule_item (item_of it)) ns k
-  rule_left other e = e ∙ ap (λ b. placed_if b ns k) (sym (other_than_rule it other))
+  pub rule_left : ((x : code_name.Name) (xs : Vec code_name.Name Global) (P : code_rule.Rule) → it ≡ variant.Declared x xs P → ⊥) → ns' ≡ ns → ns' ≡ appended_if (is_rule_item (item_of it)) ns k
+  rule_left other e = e ∙ ap (λ b. appended_if b ns k) (sym (other_than_rule it other))
 
-  pub derived_placed : (x : code_name.Name) (xs : Vec code_name.Name Global) (t : code_term.Term) → it ≡ variant.Derived x xs t → ns' ≡ ns ++ k ∷ [] → ns' ≡ placed_if (is_derived_item (item_of it)) ns k
-  derived_placed x xs t is e = e ∙ ap (λ z. placed_if (is_derived_item (item_of z)) ns k) (sym is)
+  pub derived_indexed : (x : code_name.Name) (xs : Vec code_name.Name Global) (t : code_term.Term) → it ≡ variant.Derived x xs t → ns' ≡ ns ++ k ∷ [] → ns' ≡ appended_if (is_derived_item (item_of it)) ns k
+  derived_indexed x xs t is e = e ∙ ap (λ z. appended_if (is_derived_item (item_of z)) ns k) (sym is)
 
-  pub derived_kept : (x : code_name.Name) (xs : Vec code_name.Name Global) (P : code_rule.Rule) → it ≡ variant.Declared x xs P → ns' ≡ ns → ns' ≡ placed_if (is_derived_item (item_of it)) ns k
-  derived_kept x xs P is e = e ∙ ap (λ z. placed_if (is_derived_item (item_of z)) ns k) (sym is)
+  pub derived_kept : (x : code_name.Name) (xs : Vec code_name.Name Global) (P : code_rule.Rule) → it ≡ variant.Declared x xs P → ns' ≡ ns → ns' ≡ appended_if (is_derived_item (item_of it)) ns k
+  derived_kept x xs P is e = e ∙ ap (λ z. appended_if (is_derived_item (item_of z)) ns k) (sym is)
 
-  pub derived_left : ((x : code_name.Name) (xs : Vec code_name.Name Global) (t : code_term.Term) → it ≡ variant.Derived x xs t → ⊥) → ns' ≡ ns → ns' ≡ placed_if (is_derived_item (item_of it)) ns k
-  derived_left other e = e ∙ ap (λ b. placed_if b ns k) (sym (other_than_derived it other))
+  pub derived_left : ((x : code_name.Name) (xs : Vec code_name.Name Global) (t : code_term.Term) → it ≡ variant.Derived x xs t → ⊥) → ns' ≡ ns → ns' ≡ appended_if (is_derived_item (item_of it)) ns k
+  derived_left other e = e ∙ ap (λ b. appended_if b ns k) (sym (other_than_derived it other))

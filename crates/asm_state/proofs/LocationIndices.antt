@@ -54,9 +54,9 @@ its_locations shape f function holds =
     zero_plus : 0 + f ≡ f
     zero_plus = omega arith
 
-its_place : (shape : Shape) (f : ℕ) (function : Function) (j : ℕ) → Holds shape f function → j < length (lists_of shape function) + 1
+its_index : (shape : Shape) (f : ℕ) (function : Function) (j : ℕ) → Holds shape f function → j < length (lists_of shape function) + 1
     → (start_of shape f + j < count_of shape) × (location_at shape (start_of shape f + j) ≡ get_or (locations_by Controlled f (domain_in shape.universes function.domain)) j (Stray 0))
-its_place shape f function j holds h =
+its_index shape f function j holds h =
     let its = its_locations shape f function holds in
     let many : length (function_locations shape.universes (get_or (enumerate_from 0 shape.functions) f (0, function))) ≡ length (lists_of shape function) + 1 = ap length its ∙ how_many f (domain_in shape.universes function.domain) in
     let inside : f < length (enumerate_from 0 shape.functions) = subst (λ n. f < n) (sym (length-enumerate_from 0 shape.functions)) (slice_get_within shape.functions f function holds.at) in
@@ -66,17 +66,17 @@ its_place shape f function j holds h =
           ∙ ap (λ ls. get_or ls j (Stray 0)) its,
     )
 
-pub proper_place : (shape : Shape) (f : ℕ) (function : Function) (k : ℕ) → Holds shape f function → k < length (lists_of shape function)
+pub proper_index : (shape : Shape) (f : ℕ) (function : Function) (k : ℕ) → Holds shape f function → k < length (lists_of shape function)
     → (start_of shape f + k < count_of shape) × (location_at shape (start_of shape f + k) ≡ Proper f (get_or (lists_of shape function) k []))
-proper_place shape f function k holds h =
-    let place = its_place shape f function k holds (omega (arith, h)) in
-    (place.0, place.1 ∙ locations_listed f (domain_in shape.universes function.domain) k (Stray 0) h)
+proper_index shape f function k holds h =
+    let index = its_index shape f function k holds (omega (arith, h)) in
+    (index.0, index.1 ∙ locations_listed f (domain_in shape.universes function.domain) k (Stray 0) h)
 
-pub stray_place : (shape : Shape) (f : ℕ) (function : Function) → Holds shape f function
+pub stray_index : (shape : Shape) (f : ℕ) (function : Function) → Holds shape f function
     → (start_of shape f + length (lists_of shape function) < count_of shape) × (location_at shape (start_of shape f + length (lists_of shape function)) ≡ Stray f)
-stray_place shape f function holds =
-    let place = its_place shape f function (length (lists_of shape function)) holds (omega arith) in
-    (place.0, place.1 ∙ stray_listed f (domain_in shape.universes function.domain) (Stray 0))
+stray_index shape f function holds =
+    let index = its_index shape f function (length (lists_of shape function)) holds (omega arith) in
+    (index.0, index.1 ∙ stray_listed f (domain_in shape.universes function.domain) (Stray 0))
 
 -- ---- the number of a function's location
 
@@ -95,15 +95,15 @@ numbered shape f arguments n sound below is = record {
 pub proper_number : (shape : Shape) (f : ℕ) (function : Function) (arguments : List Value) (k : ℕ) → IsSound shape → Holds shape f function
     → k < length (lists_of shape function) → get_or (lists_of shape function) k [] ≡ arguments → IsNumberOf shape f arguments (start_of shape f + k)
 proper_number shape f function arguments k sound holds h is =
-    let place = proper_place shape f function k holds h in
+    let index = proper_index shape f function k holds h in
     let domain : Domain = domain_in shape.universes function.domain in
     let inside : is_in domain arguments ≡ true = subst (λ vs. is_in domain vs ≡ true) is (listed_in domain k h) in
-    numbered shape f arguments (start_of shape f + k) sound place.0
-    (place.1 ∙ ap (Proper f) is ∙ ap (λ b. cond b (Proper f arguments) (Stray f)) (sym inside) ∙ ap (λ o. location_in f (domain_by shape.universes o) arguments) (sym holds.at))
+    numbered shape f arguments (start_of shape f + k) sound index.0
+    (index.1 ∙ ap (Proper f) is ∙ ap (λ b. cond b (Proper f arguments) (Stray f)) (sym inside) ∙ ap (λ o. location_in f (domain_by shape.universes o) arguments) (sym holds.at))
 
 pub stray_number : (shape : Shape) (f : ℕ) (function : Function) (arguments : List Value) → IsSound shape → Holds shape f function
     → is_in (domain_in shape.universes function.domain) arguments ≡ false → IsNumberOf shape f arguments (start_of shape f + length (lists_of shape function))
 stray_number shape f function arguments sound holds out =
-    let place = stray_place shape f function holds in
-    numbered shape f arguments (start_of shape f + length (lists_of shape function)) sound place.0
-    (place.1 ∙ ap (λ b. cond b (Proper f arguments) (Stray f)) (sym out) ∙ ap (λ o. location_in f (domain_by shape.universes o) arguments) (sym holds.at))
+    let index = stray_index shape f function holds in
+    numbered shape f arguments (start_of shape f + length (lists_of shape function)) sound index.0
+    (index.1 ∙ ap (λ b. cond b (Proper f arguments) (Stray f)) (sym out) ∙ ap (λ o. location_in f (domain_by shape.universes o) arguments) (sym holds.at))

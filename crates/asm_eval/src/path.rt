@@ -1,4 +1,4 @@
-//! The place of a rule in a step.
+//! The path of a rule in a step.
 ghost use Rattle.std.specs.Prelude.{◌≡◌};
 
 use std::marker::Model;
@@ -6,11 +6,11 @@ use std::marker::Model;
 /// The numbers of the descents from the body of the main rule: of a part, of an element in its universe, or of a turn, from 0. It takes
 /// no memory to make one of a `Vec`, nor to give it back.
 #[derive(Debug, Drop)]
-pub struct Place {
+pub struct Path {
     numbers: Vec<u64>,
 }
 
-impl Model for Place {
+impl Model for Path {
     ghost use Rattle.std.specs.Prelude.{List, ℕ};
 
     ghost Value = { List ℕ };
@@ -18,12 +18,12 @@ impl Model for Place {
     ghost view = { λ p. p.numbers.items };
 }
 
-impl Place {
-    /// The place with these numbers.
-    pub fn new(numbers: Vec<u64>) -> Place
+impl Path {
+    /// The path with these numbers.
+    pub fn new(numbers: Vec<u64>) -> Path
         ensures { result ≡ numbers.items }
     {
-        Place { numbers }
+        Path { numbers }
     }
 
     /// Its numbers.
@@ -37,7 +37,7 @@ impl Place {
     pub fn into_vec(self) -> Vec<u64>
         ensures { result.items ≡ self }
     {
-        let Place { numbers } = self;
+        let Path { numbers } = self;
         numbers
     }
 }

@@ -1,4 +1,4 @@
--- An exhausted place lies within the place of its rule.
+-- An exhausted path lies within the path of its rule.
 --     IsWithin p q, IsBehind p k q     q is p or below it;  q is in a descent of p whose number is k or more
 --     Within, Behind                   the same of a result, if it is exhausted
 --     rule_within                      of what a rule does
@@ -15,58 +15,58 @@ use Rattle.asm_eval.specs.Cases.{all_run}
 use Rattle.asm_eval.specs.Does.{Outcome, Meaning, parts, in_order, part_and, turns_of, turn_and, each, one_of, called, meaning, meanings, does_within, does}
 use Rattle.asm_eval.specs.Program.{Program, Declared, Universe, Enumerated, Controlled, Static, Derived, Procedure, declared, Environment, with_value, bind_terms}
 use Rattle.asm_eval.specs.Value.{value, holds, candidates, universe, nesting}
-use Rattle.asm_eval.specs.Yields.{Place, at, Result, Gives, Exhausted, beside, after}
+use Rattle.asm_eval.specs.Yields.{Path, at, Result, Gives, Exhausted, beside, after}
 use Rattle.asm_eval.proofs.Free.{by_test}
 
--- ---- places
+-- ---- paths
 
-pub record IsWithin (p q : Place) : Type 0 where
-  pub rest : Place
+pub record IsWithin (p q : Path) : Type 0 where
+  pub rest : Path
   pub is : q ≡ p ++ rest
 
-pub record IsBehind (p : Place) (k : ℕ) (q : Place) : Type 0 where
+pub record IsBehind (p : Path) (k : ℕ) (q : Path) : Type 0 where
   pub number : ℕ
-  pub rest : Place
+  pub rest : Path
   pub from : k ≤ number
   pub is : q ≡ p ++ (number ∷ rest)
 
-abbrev pub Within : Place → Result → Type 0
+abbrev pub Within : Path → Result → Type 0
 Within p (Gives U) = Unit {0}
 Within p (Exhausted q) = IsWithin p q
 
-abbrev pub Behind : Place → ℕ → Result → Type 0
+abbrev pub Behind : Path → ℕ → Result → Type 0
 Behind p k (Gives U) = Unit {0}
 Behind p k (Exhausted q) = IsBehind p k q
 
-behind_is_within : (p : Place) (k : ℕ) (r : Result) → Behind p k r → Within p r
+behind_is_within : (p : Path) (k : ℕ) (r : Result) → Behind p k r → Within p r
 behind_is_within p k (Gives U) h = tt
 behind_is_within p k (Exhausted q) h = record { rest = h.number ∷ h.rest; is = h.is }
 
 -- what is within a descent is behind its number
-descent_is_behind : (p : Place) (k : ℕ) (r : Result) → Within (at p k) r → Behind p k r
+descent_is_behind : (p : Path) (k : ℕ) (r : Result) → Within (at p k) r → Behind p k r
 descent_is_behind p k (Gives U) h = tt
 descent_is_behind p k (Exhausted q) h = record { number = k; rest = h.rest; from = omega arith; is = h.is ∙ append_assoc p (k ∷ []) h.rest }
 
-descent_is_within : (p : Place) (k : ℕ) (r : Result) → Within (at p k) r → Within p r
+descent_is_within : (p : Path) (k : ℕ) (r : Result) → Within (at p k) r → Within p r
 descent_is_within p k r h = behind_is_within p k r (descent_is_behind p k r h)
 
-behind_less : (p : Place) (k : ℕ) (r : Result) → Behind p (suc k) r → Behind p k r
+behind_less : (p : Path) (k : ℕ) (r : Result) → Behind p (suc k) r → Behind p k r
 behind_less p k (Gives U) h = tt
 behind_less p k (Exhausted q) h = record { number = h.number; rest = h.rest; from = let low = h.from in omega arith; is = h.is }
 
 -- ---- results beside each other, and after each other
 
-behind_beside : (p : Place) (k : ℕ) (r s : Result) → Behind p k r → Behind p k s → Behind p k (beside r s)
+behind_beside : (p : Path) (k : ℕ) (r s : Result) → Behind p k r → Behind p k s → Behind p k (beside r s)
 behind_beside p k (Gives U) (Gives V) h g = tt
 behind_beside p k (Gives U) (Exhausted q) h g = g
 behind_beside p k (Exhausted q) (Gives V) h g = h
 behind_beside p k (Exhausted q) (Exhausted s) h g = by_test (IsBehind p k) (is_lt (slice_cmp nat_cmp s q)) s q (λ _. g) (λ _. h)
 
-within_after : (p : Place) (U : UpdateSet) (r : Result) → Within p r → Within p (after U r)
+within_after : (p : Path) (U : UpdateSet) (r : Result) → Within p r → Within p (after U r)
 within_after p U (Gives V) h = tt
 within_after p U (Exhausted q) h = h
 
-module _ (p : Place) where
+module _ (p : Path) where
   part_within : (r : Result) (n : ℕ) (rest : UpdateSet → Outcome) → Within p r → ((U : UpdateSet) → Within p (rest U).result) → Within p (part_and r n rest).result
   part_within (Exhausted q) n rest h g = h
   part_within (Gives U) n rest h g = by_test (λ (o : Outcome). Within p o.result) (is_consistent U) _ _ (λ _. within_after p U (rest U).result (g U)) (λ _. tt)
@@ -79,31 +79,31 @@ module _ (p : Place) where
 -- ---- meanings
 
 abbrev pub Nests : Meaning → Type 0
-Nests m = (A : State) (e : Environment) (p : Place) → Within p (m A e p).result
+Nests m = (A : State) (e : Environment) (p : Path) → Within p (m A e p).result
 
 abbrev pub AllNest : List Meaning → Type 0
 AllNest [] = Unit {0}
 AllNest (m ∷ ms) = Nests m × AllNest ms
 
-pub parts_behind : (ms : List Meaning) → AllNest ms → (k : ℕ) (A : State) (e : Environment) (p : Place) → Behind p k (parts ms k A e p).result
+pub parts_behind : (ms : List Meaning) → AllNest ms → (k : ℕ) (A : State) (e : Environment) (p : Path) → Behind p k (parts ms k A e p).result
 parts_behind [] nest k A e p = tt
 parts_behind (m ∷ ms) nest k A e p =
     behind_beside p k (m A e (at p k)).result (parts ms (suc k) A e p).result (descent_is_behind p k (m A e (at p k)).result (nest.0 A e (at p k)))
     (behind_less p k (parts ms (suc k) A e p).result (parts_behind ms nest.1 (suc k) A e p))
 
-in_order_within : (ms : List Meaning) → AllNest ms → (k : ℕ) (A : State) (e : Environment) (p : Place) → Within p (in_order ms k A e p).result
+in_order_within : (ms : List Meaning) → AllNest ms → (k : ℕ) (A : State) (e : Environment) (p : Path) → Within p (in_order ms k A e p).result
 in_order_within [] nest k A e p = tt
 in_order_within (m ∷ ms) nest k A e p =
     part_within p (m A e (at p k)).result (m A e (at p k)).instances (λ U. in_order ms (suc k) (fire A U) e p)
     (descent_is_within p k (m A e (at p k)).result (nest.0 A e (at p k))) (λ U. in_order_within ms nest.1 (suc k) (fire A U) e p)
 
-turns_within : (m : Meaning) → Nests m → (left t : ℕ) (A : State) (e : Environment) (p : Place) → Within p (turns_of m left t A e p).result
+turns_within : (m : Meaning) → Nests m → (left t : ℕ) (A : State) (e : Environment) (p : Path) → Within p (turns_of m left t A e p).result
 turns_within m nest zero t A e p = record { rest = []; is = sym (append-nil p) }
 turns_within m nest (suc left) t A e p =
     turn_within p (m A e (at p t)).result (m A e (at p t)).instances (λ U. turns_of m left (suc t) (fire A U) e p)
     (descent_is_within p t (m A e (at p t)).result (nest A e (at p t))) (λ U. turns_within m nest left (suc t) (fire A U) e p)
 
-pub each_behind : (p : Place) (m : Value → ℕ → Outcome) (test : Value → Bool) → ((v : Value) (k : ℕ) → Within (at p k) (m v k).result) → (k : ℕ) (vs : List Value)
+pub each_behind : (p : Path) (m : Value → ℕ → Outcome) (test : Value → Bool) → ((v : Value) (k : ℕ) → Within (at p k) (m v k).result) → (k : ℕ) (vs : List Value)
     → Behind p k (each m test k vs).result
 each_behind p m test nest k [] = tt
 each_behind p m test nest k (v ∷ vs) =
@@ -112,14 +112,14 @@ each_behind p m test nest k (v ∷ vs) =
     (λ _. behind_beside p k (m v k).result (each m test (suc k) vs).result (descent_is_behind p k (m v k).result (nest v k)) more)
     (λ _. more)
 
-one_within : (p : Place) (n : ℕ) (vs : List Value) (m : Value → Outcome) (other : Outcome) → ((v : Value) → Within p (m v).result) → Within p other.result
+one_within : (p : Path) (n : ℕ) (vs : List Value) (m : Value → Outcome) (other : Outcome) → ((v : Value) → Within p (m v).result) → Within p other.result
     → Within p (one_of n vs m other).result
 one_within p n [] m other nest none = none
 one_within p n (v ∷ vs) m other nest none = nest (slice_index_or (v ∷ vs) (n % length (v ∷ vs)) v)
 
 -- ---- rules
 
-module _ (program : Program) (turns : ℕ) (chosen : Place → ℕ) (body : Rule → Meaning) (nest : (P : Rule) → Nests (body P)) where
+module _ (program : Program) (turns : ℕ) (chosen : Path → ℕ) (body : Rule → Meaning) (nest : (P : Rule) → Nests (body P)) where
   called_within : (d : Option Declared) (ts : Terms) → Nests (called program turns chosen body d ts)
   called_within None ts A e p = tt
   called_within (Some (Universe vs)) ts A e p = tt
@@ -160,13 +160,13 @@ module _ (program : Program) (turns : ℕ) (chosen : Place → ℕ) (body : Rule
     all_nest no_rules = tt
     all_nest (rule_then P Ps) = (rule_nests P, all_nest Ps)
 
-within_depth : (program : Program) (turns : ℕ) (chosen : Place → ℕ) (n : ℕ) (R : Rule) → Nests (does_within program turns chosen n R)
+within_depth : (program : Program) (turns : ℕ) (chosen : Path → ℕ) (n : ℕ) (R : Rule) → Nests (does_within program turns chosen n R)
 unfolding does_within
 within_depth program turns chosen zero R = rule_nests program turns chosen _ (λ P A e p. tt) R
 within_depth program turns chosen (suc n) R = rule_nests program turns chosen (does_within program turns chosen n) (within_depth program turns chosen n) R
 
 module _ (program : Program) (turns : ℕ) (script : Script) (step : ℕ) where
-  pub rule_within : (A : State) (e : Environment) (p : Place) (R : Rule) → Within p (does program turns script step A e p R).result
+  pub rule_within : (A : State) (e : Environment) (p : Path) (R : Rule) → Within p (does program turns script step A e p R).result
   unfolding does
   rule_within A e p R = within_depth program turns (pick script step) nesting R A e p
 

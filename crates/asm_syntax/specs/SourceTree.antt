@@ -1,8 +1,8 @@
--- Specifications as the reader makes them: each name with its place in the text.
---     Name                        a name, with the place of its first byte
+-- Specifications as the reader makes them: each name with its offset in the text.
+--     Name                        a name, with the offset of its first byte
 --     Term, Terms, Links          a term;  a list of terms;  the rest of a chain
 --     Rule, Rules, Branch         a rule;  a list of rules;  a rule that may be left out
---     Const, Entry, Given         a constant of a table;  an entry, with the place of its `(`;  a table
+--     Const, Entry, Given         a constant of a table;  an entry, with the offset of its `(`;  a table
 --     Item, Spec                  a declaration or another line;  a specification, with the length of its text
 use Rattle.std.specs.Prelude.{ℕ, List, Option}
 use Rattle.asm_state.specs.declared.number.Number.{Number}
