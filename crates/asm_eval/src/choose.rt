@@ -110,10 +110,8 @@ pub(crate) fn chosen<'e, P: Picks>(
     let Walk::Met(first) = find_candidate(alloc, evaluation, env, name, universe, test, 0)? else {
         return Ok(None);
     };
-    let number = evaluation
-        .choices
-        .script
-        .pick(evaluation.choices.step, path);
+    let choices = evaluation.choices;
+    let number = choices.script.pick(choices.step, path);
     if number == 0 {
         return Ok(Some(first));
     }
