@@ -75,7 +75,7 @@ def elements(count):
 
 
 def grid(rows):
-    """A `forall` of so many rows by 64 with a `choose` inside, which a script answers at some places."""
+    """A `forall` of so many rows by 64 with a `choose` inside, which a script answers at some paths."""
     return (
         HEAD + f"universe I = 0 .. {rows - 1}\nuniverse J = 0 .. 63\nuniverse K = 0 .. 7\nfunction controlled f : I * J initially 0\n" + COUNTED
         + "rule M = par x := x + 1 forall i in I do forall j in J do choose k in K with (k + i + j) mod 2 = x mod 2 do f(i, j) := k + x mod 2"
@@ -84,7 +84,7 @@ def grid(rows):
 
 
 def grid_script(rows):
-    """Lines for a quarter of the grid's even places in each of the first hundred steps."""
+    """Lines for a quarter of the grid's even paths in each of the first hundred steps."""
     return "".join(
         f"{step} 1.{i}.{j} {i + j}\n" for step in range(1, 101) for i in range(0, rows, 2) for j in range(0, 64, 2) if (i * 7 + j) % 4 == 0
     )

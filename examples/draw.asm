@@ -2,7 +2,7 @@ CoreASM Draw
 init Draw
 
 // Three players draw a card at once, twice, each of a suit that they don't hold. The script
-// says which: a line has a step, the place of a choice in this step, and the number of a candidate.
+// says which: a line has a step, the path of a choice in this step, and the number of a candidate.
 // Without a line it is the first one.
 
 enum Suit = { hearts, spades, clubs }

@@ -25,7 +25,7 @@ use Rattle.asm_reader.proofs.EachText.{answers}
 -- ---- lines of scripts
 
 abbrev line : ℕ → List ℕ → ℕ → Line
-line i p k = record { step = i; offset = p; choice = k }
+line i p k = record { step = i; path = p; choice = k }
 
 three_fields : line_of (codes "12 0.3 7") ≡ Some (line 12 (0 ∷ 3 ∷ []) 7)
 three_fields = refl

@@ -34,10 +34,10 @@ the run ended; then the last state:
   state
   x = 3
 
-A script has a line for each choice: the step, the place of the choose, and a number, as in `3 0.1 2`.
-Places are made of the numbers of parts, from 0, on the way from the main rule's body, whose place is
-`-`. The number says which candidate is taken, from 0, modulo how many there are. Where there is no
-line, the first candidate is taken.
+A script has a line for each choice: the step, the path of the choose, and a number, as in `3 0.1 2`.
+A path is made of the numbers of parts, from 0, on the way from the main rule's body, whose path is
+`-`; the trace says `place` before one. The number says which candidate is taken, from 0, modulo how
+many there are. Where there is no line, the first candidate is taken.
 
 Workers, cut and rounds are about speed alone: the trace is the same for all of them.
 
