@@ -90,7 +90,7 @@ unfolding uses
 all_known spec good item u it own =
     elim (is_known_use spec u) as (λ b. is_known_use spec u ≡ b → b ≡ true) [
       | true ↦ λ e. refl
-      | false ↦ λ e. absurd (good u.name.at 9 (unknown (record { use_of = u; stands = used_somewhere spec.items item u it own; unknown = e; index = refl })))
+      | false ↦ λ e. absurd (good u.name.at 9 (unknown (record { use_of = u; stands = used_somewhere spec.items item u it own; unknown = e; offset = refl })))
     ] refl
 
 -- the universe of a name that is known as one

@@ -285,7 +285,7 @@ module _ (spec : Spec) (good : IsWellFormed spec) where
             parts = parts;
             known = all_pass (is_known_use spec) (uses_of_entry e) (λ u own. entry_known e u (subst (λ es. Contains es e) (sym parts) (Contains-append_right before (e ∷ after) e (here e after))) own);
             wrong = wrong;
-            index = refl;
+            offset = refl;
           })))
           | false ↦ λ _. refl
         ] refl

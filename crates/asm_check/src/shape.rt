@@ -148,7 +148,7 @@ fn add<'a>(names: &mut Ordered<'a>, name: &'a Name) -> Result<(), AllocError>
 }
 
 /// Where a name stands among others, which is behind them all where it isn't there.
-fn index(names: &Ordered, name: &Name) -> usize
+fn index_of(names: &Ordered, name: &Name) -> usize
     ensures { result ≡ index_among (texts_in names.now.keys) name.now.text }
 {
     names
@@ -170,7 +170,7 @@ fn domain_of(alloc: Global, domain: &[Name], universes: &Ordered) -> Result<Doma
 {
     let mut numbers = Vec::with_capacity(alloc, domain.len())?;
     for name in domain {
-        numbers.push(index(universes, name))?;
+        numbers.push(index_of(universes, name))?;
     }
     Ok(Domain::new(numbers))
 }
@@ -215,7 +215,7 @@ fn value_of(constant: &Const, elements: &Ordered) -> Value
 {
     match constant {
         Const::Plain(literal) => plain_value(*literal),
-        Const::Element(name) => element(index(elements, name)),
+        Const::Element(name) => element(index_of(elements, name)),
     }
 }
 

@@ -3,7 +3,7 @@ use Rattle.std.specs.List.{position}
 use Rattle.asm_check.specs.Names.{Text, is_text}
 use Rattle.asm_check.specs.Shapes.{texts_in, index_among}
 use Rattle.asm_check.proofs.ApartTexts.{index_found}
-use Rattle.asm_check.proofs.shape.index.Goals as goal
+use Rattle.asm_check.proofs.shape.index_of.Goals as goal
 
 pub returns : goal.returns
 returns c =
