@@ -344,7 +344,7 @@ fn push_declaration(out: &mut String, item: &Item) -> Pushed {
             push_head(out, "derived ", name, parameters)?;
             push_term(out, body)
         }
-        Item::Declared {
+        Item::Rule {
             name,
             parameters,
             body,

@@ -16,7 +16,7 @@ use Rattle.asm_check.specs.declared.bodies.Bodies.{Bodies}
 use Rattle.asm_check.specs.Faults.{IsWellFormed}
 use Rattle.asm_check.specs.Limits.{is_rule}
 use Rattle.asm_check.specs.Names as names
-use Rattle.asm_check.specs.Names.{Declaration, Meaning, Procedure, Derived, declarations_of, declarations_from, first_declarations}
+use Rattle.asm_check.specs.Names.{Declaration, Meaning, NamedRule, Derived, declarations_of, declarations_from, first_declarations}
 use Rattle.asm_check.specs.Numbers.{is_derived, rules_of, derived_of, meaning_at}
 use Rattle.asm_check.specs.NumberTables.{indices_where, appended_if, like, is_rule_item, is_derived_item, AreBodies, AreBodiesOf}
 use Rattle.asm_check.proofs.ItemLists.{elements_dropped, like_next}
@@ -25,7 +25,7 @@ use Rattle.asm_check.proofs.Sole.{all_count}
 
 -- what the item is a body of
 abbrev pub body_meaning : Item → Meaning
-body_meaning (source.Declared x xs P) = Procedure xs P
+body_meaning (source.NamedRule x xs P) = NamedRule xs P
 body_meaning (source.Derived x xs t) = Derived xs t
 body_meaning item = names.Predeclared
 
@@ -40,7 +40,7 @@ own_rules k (source.Universe x first last) = refl
 own_rules k (source.Function x kind.Controlled domain codomain table) = refl
 own_rules k (source.Function x kind.Static domain codomain table) = refl
 own_rules k (source.Derived x xs t) = refl
-own_rules k (source.Declared x xs P) = refl
+own_rules k (source.NamedRule x xs P) = refl
 
 own_derived : (k : ℕ) (item : Item) → meanings (like is_derived (declarations_of k item)) ≡ map body_meaning (filter is_derived_item (item ∷ []))
 own_derived k (source.Uses x) = refl
@@ -50,7 +50,7 @@ own_derived k (source.Universe x first last) = refl
 own_derived k (source.Function x kind.Controlled domain codomain table) = refl
 own_derived k (source.Function x kind.Static domain codomain table) = refl
 own_derived k (source.Derived x xs t) = refl
-own_derived k (source.Declared x xs P) = refl
+own_derived k (source.NamedRule x xs P) = refl
 
 filter_head : (p : Item → Bool) (item : Item) (items : List Item) → map body_meaning (filter p (item ∷ [])) ++ map body_meaning (filter p items) ≡ map body_meaning (filter p (item ∷ items))
 filter_head p item items = elim (p item) as (λ b. map body_meaning (cond b (item ∷ []) []) ++ map body_meaning (filter p items) ≡ map body_meaning (cond b (item ∷ filter p items) (filter p items))) [
@@ -136,8 +136,8 @@ bodies_step view xs i x within is rules derived rules' derived' are e f =
     (sym (ap (map view) (take_more xs i x within ∙ ap (λ y. take i xs ++ y ∷ []) (sym is)) ∙ map-append view (take i xs) (x ∷ [])))
     (bodies_grow (map view (take i xs)) (view x) i count rules derived rules' derived' are e f)
 
-pub other_than_rule : (it : code.Item) → ((x : code_name.Name) (xs : Vec code_name.Name Global) (P : code_rule.Rule) → it ≡ variant.Declared x xs P → ⊥) → is_rule_item (item_of it) ≡ false
-other_than_rule (variant.Declared x xs P) other = absurd (other x xs P refl)
+pub other_than_rule : (it : code.Item) → ((x : code_name.Name) (xs : Vec code_name.Name Global) (P : code_rule.Rule) → it ≡ variant.Rule x xs P → ⊥) → is_rule_item (item_of it) ≡ false
+other_than_rule (variant.Rule x xs P) other = absurd (other x xs P refl)
 other_than_rule (variant.Uses x) other = refl
 other_than_rule (variant.Init x) other = refl
 other_than_rule (variant.Enum x xs) other = refl
@@ -152,22 +152,22 @@ other_than_derived (variant.Init x) other = refl
 other_than_derived (variant.Enum x xs) other = refl
 other_than_derived (variant.Universe x first last) other = refl
 other_than_derived (variant.Function x how domain codomain table) other = refl
-other_than_derived (variant.Declared x xs P) other = refl
+other_than_derived (variant.Rule x xs P) other = refl
 
 module _ (ns ns' : List ℕ) (k : ℕ) (it : code.Item) where
-  pub rule_indexed : (x : code_name.Name) (xs : Vec code_name.Name Global) (P : code_rule.Rule) → it ≡ variant.Declared x xs P → ns' ≡ ns ++ k ∷ [] → ns' ≡ appended_if (is_rule_item (item_of it)) ns k
+  pub rule_indexed : (x : code_name.Name) (xs : Vec code_name.Name Global) (P : code_rule.Rule) → it ≡ variant.Rule x xs P → ns' ≡ ns ++ k ∷ [] → ns' ≡ appended_if (is_rule_item (item_of it)) ns k
   rule_indexed x xs P is e = e ∙ ap (λ z. appended_if (is_rule_item (item_of z)) ns k) (sym is)
 
   pub rule_kept : (x : code_name.Name) (xs : Vec code_name.Name Global) (t : code_term.Term) → it ≡ variant.Derived x xs t → ns' ≡ ns → ns' ≡ appended_if (is_rule_item (item_of it)) ns k
   rule_kept x xs t is e = e ∙ ap (λ z. appended_if (is_rule_item (item_of z)) ns k) (sym is)
 
-  pub rule_left : ((x : code_name.Name) (xs : Vec code_name.Name Global) (P : code_rule.Rule) → it ≡ variant.Declared x xs P → ⊥) → ns' ≡ ns → ns' ≡ appended_if (is_rule_item (item_of it)) ns k
+  pub rule_left : ((x : code_name.Name) (xs : Vec code_name.Name Global) (P : code_rule.Rule) → it ≡ variant.Rule x xs P → ⊥) → ns' ≡ ns → ns' ≡ appended_if (is_rule_item (item_of it)) ns k
   rule_left other e = e ∙ ap (λ b. appended_if b ns k) (sym (other_than_rule it other))
 
   pub derived_indexed : (x : code_name.Name) (xs : Vec code_name.Name Global) (t : code_term.Term) → it ≡ variant.Derived x xs t → ns' ≡ ns ++ k ∷ [] → ns' ≡ appended_if (is_derived_item (item_of it)) ns k
   derived_indexed x xs t is e = e ∙ ap (λ z. appended_if (is_derived_item (item_of z)) ns k) (sym is)
 
-  pub derived_kept : (x : code_name.Name) (xs : Vec code_name.Name Global) (P : code_rule.Rule) → it ≡ variant.Declared x xs P → ns' ≡ ns → ns' ≡ appended_if (is_derived_item (item_of it)) ns k
+  pub derived_kept : (x : code_name.Name) (xs : Vec code_name.Name Global) (P : code_rule.Rule) → it ≡ variant.Rule x xs P → ns' ≡ ns → ns' ≡ appended_if (is_derived_item (item_of it)) ns k
   derived_kept x xs P is e = e ∙ ap (λ z. appended_if (is_derived_item (item_of z)) ns k) (sym is)
 
   pub derived_left : ((x : code_name.Name) (xs : Vec code_name.Name Global) (t : code_term.Term) → it ≡ variant.Derived x xs t → ⊥) → ns' ≡ ns → ns' ≡ appended_if (is_derived_item (item_of it)) ns k

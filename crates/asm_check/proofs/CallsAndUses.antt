@@ -4,14 +4,14 @@ use Rattle.std.specs.Prelude.{Contains, filter}
 use Rattle.std.proofs.lemmas.Bool.{false≢true}
 use Rattle.asm_syntax.specs.SourceTree.{Name, Rule, Term, Spec}
 use Rattle.asm_check.specs.Names as names
-use Rattle.asm_check.specs.Names.{Text, Meaning, Procedure, Derived, Use, declared}
+use Rattle.asm_check.specs.Names.{Text, Meaning, NamedRule, Derived, Use, declared}
 use Rattle.asm_check.specs.Onward.{onward}
 use Rattle.asm_check.specs.Ways.{called, used, calls_in, uses_in, is_call, is_use}
 use Rattle.asm_check.proofs.Heights.{none_in, head_or_tail}
 use Rattle.asm_check.proofs.Simulation.{out_of_map}
 
 pub data IsRule : Option Meaning → Type 0 where
-  is_rule : (xs : List Name) (P : Rule) → IsRule (Some (Procedure xs P))
+  is_rule : (xs : List Name) (P : Rule) → IsRule (Some (NamedRule xs P))
 
 pub data IsDerived : Option Meaning → Type 0 where
   is_derived : (xs : List Name) (t : Term) → IsDerived (Some (Derived xs t))
@@ -25,7 +25,7 @@ passes {X = X} p (y ∷ ys) x c =
     ] refl c
 
 no_calls : (spec : Spec) (m : Option Meaning) (u : Use) → Contains (calls_in spec m) u → IsRule m
-no_calls spec (Some (Procedure xs P)) u c = is_rule xs P
+no_calls spec (Some (NamedRule xs P)) u c = is_rule xs P
 no_calls spec None u c = none_in u c
 no_calls spec (Some names.Predeclared) u c = none_in u c
 no_calls spec (Some (names.Range first last)) u c = none_in u c
@@ -44,7 +44,7 @@ no_uses spec (Some (names.Enumeration k)) u c = none_in u c
 no_uses spec (Some (names.Element k)) u c = none_in u c
 no_uses spec (Some (names.Controlled domain)) u c = none_in u c
 no_uses spec (Some (names.Static domain)) u c = none_in u c
-no_uses spec (Some (Procedure xs P)) u c = none_in u c
+no_uses spec (Some (NamedRule xs P)) u c = none_in u c
 
 -- what calls is a rule, and so is what is called
 pub caller : (spec : Spec) (f g : Text) → Contains (called spec f) g → IsRule (declared spec f)
@@ -56,15 +56,15 @@ unfolding used
 user spec f g c = let it = out_of_map (λ (u : Use). u.name.text) (uses_in spec (declared spec f)) g c in no_uses spec (declared spec f) it.0 it.1
 
 call_of : (spec : Spec) (role : names.Role) (m : Option Meaning) → is_call role m ≡ true → IsRule m
-call_of spec names.AsCalled (Some (Procedure xs P)) e = is_rule xs P
-call_of spec names.AsCalled None e = absurd (false≢true e)
-call_of spec names.AsCalled (Some names.Predeclared) e = absurd (false≢true e)
-call_of spec names.AsCalled (Some (names.Range first last)) e = absurd (false≢true e)
-call_of spec names.AsCalled (Some (names.Enumeration k)) e = absurd (false≢true e)
-call_of spec names.AsCalled (Some (names.Element k)) e = absurd (false≢true e)
-call_of spec names.AsCalled (Some (names.Controlled domain)) e = absurd (false≢true e)
-call_of spec names.AsCalled (Some (names.Static domain)) e = absurd (false≢true e)
-call_of spec names.AsCalled (Some (Derived xs t)) e = absurd (false≢true e)
+call_of spec names.AsRule (Some (NamedRule xs P)) e = is_rule xs P
+call_of spec names.AsRule None e = absurd (false≢true e)
+call_of spec names.AsRule (Some names.Predeclared) e = absurd (false≢true e)
+call_of spec names.AsRule (Some (names.Range first last)) e = absurd (false≢true e)
+call_of spec names.AsRule (Some (names.Enumeration k)) e = absurd (false≢true e)
+call_of spec names.AsRule (Some (names.Element k)) e = absurd (false≢true e)
+call_of spec names.AsRule (Some (names.Controlled domain)) e = absurd (false≢true e)
+call_of spec names.AsRule (Some (names.Static domain)) e = absurd (false≢true e)
+call_of spec names.AsRule (Some (Derived xs t)) e = absurd (false≢true e)
 call_of spec names.InTerm m e = absurd (false≢true e)
 call_of spec names.AsTarget m e = absurd (false≢true e)
 call_of spec names.AsUniverse m e = absurd (false≢true e)
@@ -81,15 +81,15 @@ use_by spec names.InTerm false (Some (names.Enumeration k)) e = absurd (false≢
 use_by spec names.InTerm false (Some (names.Element k)) e = absurd (false≢true e)
 use_by spec names.InTerm false (Some (names.Controlled domain)) e = absurd (false≢true e)
 use_by spec names.InTerm false (Some (names.Static domain)) e = absurd (false≢true e)
-use_by spec names.InTerm false (Some (Procedure xs P)) e = absurd (false≢true e)
+use_by spec names.InTerm false (Some (NamedRule xs P)) e = absurd (false≢true e)
 use_by spec names.AsTarget b m e = absurd (false≢true e)
-use_by spec names.AsCalled b m e = absurd (false≢true e)
+use_by spec names.AsRule b m e = absurd (false≢true e)
 use_by spec names.AsUniverse b m e = absurd (false≢true e)
 use_by spec names.AsCodomain b m e = absurd (false≢true e)
 use_by spec names.AsElement b m e = absurd (false≢true e)
 
 called_by : (spec : Spec) (m : Option Meaning) (u : Use) → Contains (calls_in spec m) u → is_call u.role (declared spec u.name.text) ≡ true
-called_by spec (Some (Procedure xs P)) u c = passes (λ u. is_call u.role (declared spec u.name.text)) (names.uses_of_rule P (map names.text_of xs)) u c
+called_by spec (Some (NamedRule xs P)) u c = passes (λ u. is_call u.role (declared spec u.name.text)) (names.uses_of_rule P (map names.text_of xs)) u c
 called_by spec None u c = none_in u c
 called_by spec (Some names.Predeclared) u c = none_in u c
 called_by spec (Some (names.Range first last)) u c = none_in u c
@@ -108,7 +108,7 @@ used_by spec (Some (names.Enumeration k)) u c = none_in u c
 used_by spec (Some (names.Element k)) u c = none_in u c
 used_by spec (Some (names.Controlled domain)) u c = none_in u c
 used_by spec (Some (names.Static domain)) u c = none_in u c
-used_by spec (Some (Procedure xs P)) u c = none_in u c
+used_by spec (Some (NamedRule xs P)) u c = none_in u c
 
 pub callee : (spec : Spec) (f g : Text) → Contains (called spec f) g → IsRule (declared spec g)
 unfolding called

@@ -7,7 +7,7 @@ use Rattle.std.proofs.lemmas.Option.{slice_get-map}
 use Rattle.std.proofs.lemmas.List.{drop_all, append-nil, append_assoc}
 use Rattle.std.proofs.lemmas.List.Elements.{All-nil, All-cons}
 use Rattle.asm_syntax.specs.SourceTree.{Name, Spec}
-use Rattle.asm_check.specs.declared.meaning.Declared.{Declared}
+use Rattle.asm_check.specs.declared.meaning.Declaration.{Declaration as CodeDeclaration}
 use Rattle.asm_check.specs.Names.{Text, Declaration, Meaning, declares, is_text, is_among, declarations, first_of_each, first_declarations, declared}
 use Rattle.asm_check.specs.Limits.{is_universe, size_of, counted_size}
 use Rattle.asm_check.specs.Tables.{Entry, IsTableOf, declaration_of, meaning_of, text_of_entry}
@@ -55,24 +55,24 @@ module _ (size : Meaning → ℕ) where
   abbrev pub AreSizesSoFar : List Declaration → (i left : ℕ) → List ℕ → Type 0
   AreSizesSoFar ds i left sizes = sizes ++ counted_from size left (drop i ds) ≡ counted_from size 64 ds
 
-  next_size : (ds : List Declaration) (i left left' : ℕ) (sizes : List ℕ) (n : ℕ) (r : Declared) (s : Stands ds i r)
+  next_size : (ds : List Declaration) (i left left' : ℕ) (sizes : List ℕ) (n : ℕ) (r : CodeDeclaration) (s : Stands ds i r)
       → counted_from size left (declares s.name (meaning_of r.meaning) ∷ drop (i + 1) ds) ≡ n ∷ counted_from size left' (drop (i + 1) ds)
       → AreSizesSoFar ds i left sizes → AreSizesSoFar ds (i + 1) left' (sizes ++ n ∷ [])
   next_size ds i left left' sizes n r s step h =
       append_assoc sizes (n ∷ []) (counted_from size left' (drop (i + 1) ds))
       ∙ ap (λ ns. sizes ++ ns) (sym (ap (counted_from size left) s.rest ∙ step)) ∙ h
 
-  pub size_of_universe : (ds : List Declaration) (i left : ℕ) (sizes : List ℕ) (r : Declared) → Stands ds i r → 0 < left → is_universe (meaning_of r.meaning) ≡ true
+  pub size_of_universe : (ds : List Declaration) (i left : ℕ) (sizes : List ℕ) (r : CodeDeclaration) → Stands ds i r → 0 < left → is_universe (meaning_of r.meaning) ≡ true
       → AreSizesSoFar ds i left sizes → AreSizesSoFar ds (i + 1) (left - 1) (sizes ++ allowed_size (size (meaning_of r.meaning)) ∷ [])
   size_of_universe ds i left sizes r s some e h =
       next_size ds i left (left - 1) sizes (allowed_size (size (meaning_of r.meaning))) r s (counted_universe left (declares s.name (meaning_of r.meaning)) (drop (i + 1) ds) some e) h
 
-  pub size_of_other : (ds : List Declaration) (i left : ℕ) (sizes : List ℕ) (r : Declared) → Stands ds i r → is_universe (meaning_of r.meaning) ≡ false
+  pub size_of_other : (ds : List Declaration) (i left : ℕ) (sizes : List ℕ) (r : CodeDeclaration) → Stands ds i r → is_universe (meaning_of r.meaning) ≡ false
       → AreSizesSoFar ds i left sizes → AreSizesSoFar ds (i + 1) left (sizes ++ 0 ∷ [])
   size_of_other ds i left sizes r s e h =
       next_size ds i left left sizes 0 r s (counted_other left (declares s.name (meaning_of r.meaning)) (drop (i + 1) ds) e) h
 
-  pub size_past : (ds : List Declaration) (i left : ℕ) (sizes : List ℕ) (r : Declared) → Stands ds i r → left ≤ 0
+  pub size_past : (ds : List Declaration) (i left : ℕ) (sizes : List ℕ) (r : CodeDeclaration) → Stands ds i r → left ≤ 0
       → AreSizesSoFar ds i left sizes → AreSizesSoFar ds (i + 1) left (sizes ++ 0 ∷ [])
   size_past ds i left sizes r s none h =
       next_size ds i left left sizes 0 r s (counted_past left (declares s.name (meaning_of r.meaning)) (drop (i + 1) ds) none) h

@@ -4,7 +4,7 @@ use Rattle.std.specs.Prelude.{slice_index_or, option_map}
 use Rattle.std.proofs.lemmas.Option.{slice_get-get_or, slice_get_within}
 use Rattle.asm_check.specs.declared.error.FaultKind.{FaultKind}
 use Rattle.asm_check.specs.declared.meaning.Meaning.{Meaning}
-use Rattle.asm_check.specs.declared.meaning.Declared.{Declared}
+use Rattle.asm_check.specs.declared.meaning.Declaration.{Declaration}
 use Rattle.asm_check.specs.Errors.{number_of}
 use Rattle.std.proofs.Common.{map}
 use Rattle.std.specs.Global.{Vec}
@@ -26,7 +26,7 @@ number_is m kind e number f = some_is (number_of kind) number (e ∙ f)
     some_is : (a b : ℕ) → Some a ≡ Some b → a ≡ b
     some_is a b e = cc
 
-module _ (lists : List (List ℕ)) (n : ℕ) (d : Declared) where
+module _ (lists : List (List ℕ)) (n : ℕ) (d : Declaration) where
   pub cycle_noted : (kind : FaultKind) → option_map number_of (Some kind) ≡ cycle_number d.meaning → LeadsTo (next_of lists) n n
       → (found after : Option (ℕ × ℕ)) → after ≡ noted found ((d.at, number_of kind) ∷ []) → IsSoonestWith (IsCycleAt lists n d.at d.meaning) found after
   cycle_noted kind e back found after is =

@@ -8,7 +8,7 @@ use Rattle.asm_syntax.specs.SourceTree as source
 use Rattle.asm_syntax.specs.declared.spec.FunctionKind.TheVariants as kind
 use Rattle.asm_check.specs.Names as names
 use Rattle.asm_syntax.specs.SourceTree.{Name, Item, Rule, Term, Spec}
-use Rattle.asm_check.specs.Names.{Text, Meaning, Procedure, Derived, Declaration, declares, Use, is_text, is_among, text_of, predeclared, predeclared_names, declarations_of, declarations_from, declarations, first_of_each, first_declarations, declared, uses_of, uses, uses_of_rule, uses_of_term}
+use Rattle.asm_check.specs.Names.{Text, Meaning, NamedRule, Derived, Declaration, declares, Use, is_text, is_among, text_of, predeclared, predeclared_names, declarations_of, declarations_from, declarations, first_of_each, first_declarations, declared, uses_of, uses, uses_of_rule, uses_of_term}
 use Rattle.asm_check.specs.Laws.{TextsAreTold}
 use Rattle.asm_check.proofs.Heights.{here, there, none_in, head_or_tail}
 
@@ -76,7 +76,7 @@ stands (d ∷ ds) f m found =
 -- ---- the uses in a body are among all uses
 
 abbrev uses_of_meaning : Meaning → List Use
-uses_of_meaning (Procedure xs P) = uses_of_rule P (map text_of xs)
+uses_of_meaning (NamedRule xs P) = uses_of_rule P (map text_of xs)
 uses_of_meaning (Derived xs t) = uses_of_term t (map text_of xs)
 uses_of_meaning m = []
 
@@ -106,7 +106,7 @@ of_item k (source.Universe x first last) d c = only x (names.Range first.value l
 of_item k (source.Function x kind.Controlled domain codomain table) d c = only x (names.Controlled domain) _ (λ u bad. none_in u bad) d c
 of_item k (source.Function x kind.Static domain codomain table) d c = only x (names.Static domain) _ (λ u bad. none_in u bad) d c
 of_item k (source.Derived x xs t) d c = only x (Derived xs t) _ (λ u it. it) d c
-of_item k (source.Declared x xs P) d c = only x (Procedure xs P) _ (λ u it. it) d c
+of_item k (source.NamedRule x xs P) d c = only x (NamedRule xs P) _ (λ u it. it) d c
 
 of_items : (k : ℕ) (items : List Item) (d : Declaration) → Contains (declarations_from k items) d → AreUses (flat_map uses_of items) d
 of_items k [] d c u it = none_in d c

@@ -154,7 +154,7 @@ of_item spec P items each (source.Init x) f it is = cc
 of_item spec P items each (source.Enum x xs) f it is = cc
 of_item spec P items each (source.Universe x first last) f it is = cc
 of_item spec P items each (source.Derived x xs t) f it is = cc
-of_item spec P items each (source.Declared x xs P') f it is = cc
+of_item spec P items each (source.NamedRule x xs P') f it is = cc
 
 pub each_function : (spec : Spec) (P : state.Function → Type 0)
     → ((x : Name) (how : FunctionKind) (domain : List Name) (codomain : Option Name) (table : Option Given) → Contains spec.items (source.Function x how domain codomain table) → P (given_by spec how domain table))

@@ -7,10 +7,10 @@ use Rattle.std.proofs.lemmas.List.Sums.{sum_by_push, sum_by-append, sum_by-cons,
 use Rattle.asm_syntax.specs.SourceTree as source
 use Rattle.asm_syntax.specs.SourceTree.{Name, Item, Spec}
 use Rattle.asm_syntax.specs.declared.spec.FunctionKind.TheVariants as kind
-use Rattle.asm_check.specs.declared.meaning.Declared.{Declared}
+use Rattle.asm_check.specs.declared.meaning.Declaration.{Declaration as CodeDeclaration}
 use Rattle.asm_check.specs.declared.meaning.Meaning as code
 use Rattle.asm_check.specs.declared.meaning.Meaning.TheVariants as variants
-use Rattle.asm_check.specs.Names.{Text, Declaration, Meaning, Predeclared, Range, Enumeration, Element, Controlled, Static, Derived, Procedure, declares, is_among, predeclared, declarations_of, declarations_from, declarations, first_of_each, first_declarations}
+use Rattle.asm_check.specs.Names.{Text, Declaration, Meaning, Predeclared, Range, Enumeration, Element, Controlled, Static, Derived, NamedRule, declares, is_among, predeclared, declarations_of, declarations_from, declarations, first_of_each, first_declarations}
 use Rattle.asm_check.specs.Limits.{is_element_of, size_of}
 use Rattle.asm_check.specs.Tables.{meaning_of}
 use Rattle.asm_check.specs.Counted.{AreElementCounts, size_with}
@@ -27,7 +27,7 @@ size_with_is spec counts h (Element k) = refl
 size_with_is spec counts h (Controlled domain) = refl
 size_with_is spec counts h (Static domain) = refl
 size_with_is spec counts h (Derived xs t) = refl
-size_with_is spec counts h (Procedure xs P) = refl
+size_with_is spec counts h (NamedRule xs P) = refl
 
 -- ---- an element belongs to an item that there is
 
@@ -50,7 +50,7 @@ none_in_item k j (source.Universe x first last) h = refl
 none_in_item k j (source.Function x kind.Controlled domain codomain table) h = refl
 none_in_item k j (source.Function x kind.Static domain codomain table) h = refl
 none_in_item k j (source.Derived x xs t) h = refl
-none_in_item k j (source.Declared x xs P) h = refl
+none_in_item k j (source.NamedRule x xs P) h = refl
 
 none_in_items : (k j : ℕ) (items : List Item) → j + length items ≤ k → elements_in k (declarations_from j items) ≡ 0
 none_in_items k j [] h = refl
@@ -82,7 +82,7 @@ none_outside spec k h =
 abbrev pub AreCountsOf : List Declaration → List ℕ → Type 0
 AreCountsOf ds counts = (k : ℕ) → k < length counts → get_or counts k 0 ≡ elements_in k ds
 
-added : (k : ℕ) (ds : List Declaration) (i : ℕ) (r : Declared) (s : Stands ds i r)
+added : (k : ℕ) (ds : List Declaration) (i : ℕ) (r : CodeDeclaration) (s : Stands ds i r)
     → elements_in k (take (i + 1) ds) ≡ elements_in k (take i ds) + cond (is_element_of k (meaning_of r.meaning)) 1 0
 added k ds i r s =
     ap (elements_in k) s.front ∙ sum_by_push (λ c. cond (is_element_of k c.meaning) 1 0) (take i ds) (declares s.name (meaning_of r.meaning))
@@ -95,10 +95,10 @@ other_than_element (variants.Element j) k h = absurd (h j refl)
 other_than_element (variants.Controlled domain) k h = refl
 other_than_element (variants.Static domain) k h = refl
 other_than_element (variants.Derived xs t) k h = refl
-other_than_element (variants.Procedure xs P) k h = refl
+other_than_element (variants.Rule xs P) k h = refl
 
 -- the next one is no element that is counted
-pub counts_same : (ds : List Declaration) (i : ℕ) (r : Declared) (counts : List ℕ) → Stands ds i r
+pub counts_same : (ds : List Declaration) (i : ℕ) (r : CodeDeclaration) (counts : List ℕ) → Stands ds i r
     → ((k : ℕ) → k < length counts → is_element_of k (meaning_of r.meaning) ≡ false) → AreCountsOf (take i ds) counts → AreCountsOf (take (i + 1) ds) counts
 counts_same ds i r counts s other h =
     λ k low.
@@ -106,7 +106,7 @@ counts_same ds i r counts s other h =
     omega (arith, h k low, more)
 
 -- one element more
-pub counts_more : (ds : List Declaration) (i : ℕ) (r : Declared) (counts : List ℕ) (j : ℕ) → Stands ds i r
+pub counts_more : (ds : List Declaration) (i : ℕ) (r : CodeDeclaration) (counts : List ℕ) (j : ℕ) → Stands ds i r
     → meaning_of r.meaning ≡ Element j → j < length counts → AreCountsOf (take i ds) counts → AreCountsOf (take (i + 1) ds) (set counts j (get_or counts j 0 + 1))
 counts_more ds i r counts j s e inside h = λ k low. at k (omega (arith, length-set counts j (get_or counts j 0 + 1), low)) (cases_eq k j)
   where

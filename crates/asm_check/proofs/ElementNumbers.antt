@@ -52,7 +52,7 @@ own_elements k (source.Universe x first last) = refl
 own_elements k (source.Function x kind.Controlled domain codomain table) = refl
 own_elements k (source.Function x kind.Static domain codomain table) = refl
 own_elements k (source.Derived x xs t) = refl
-own_elements k (source.Declared x xs P) = refl
+own_elements k (source.NamedRule x xs P) = refl
 
 own_count : (item : Item) → length (element_names item) ≡ elements_of_item item
 own_count (source.Uses x) = refl
@@ -61,7 +61,7 @@ own_count (source.Enum x xs) = refl
 own_count (source.Universe x first last) = refl
 own_count (source.Function x how domain codomain table) = refl
 own_count (source.Derived x xs t) = refl
-own_count (source.Declared x xs P) = refl
+own_count (source.NamedRule x xs P) = refl
 
 elements_next : (k : ℕ) (item : Item) (items : List Item)
     → like is_element (declarations_from k (item ∷ items)) ≡ element_declarations k (element_names item) ++ like is_element (declarations_from (suc k) items)

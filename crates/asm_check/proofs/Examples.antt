@@ -7,7 +7,7 @@ use Rattle.std.proofs.lemmas.Int.{ints}
 use Rattle.asm_state.specs.declared.number.Number.{Number}
 use Rattle.asm_syntax.specs.declared.spec.FunctionKind.TheVariants.{Static}
 use Rattle.asm_syntax.specs.declared.term.Literal.TheVariants as literal
-use Rattle.asm_syntax.specs.SourceTree.{Name, Term, Constant, Named, no_terms, term_then, Skip, Assign, Call, Let, Const, Plain, Entry, Each, Entries, Item, Init, Enum, Universe, Function, Derived, Declared, Spec}
+use Rattle.asm_syntax.specs.SourceTree.{Name, Term, Constant, Named, no_terms, term_then, Skip, Assign, Call, Let, Const, Plain, Entry, Each, Entries, Item, Init, Enum, Universe, Function, Derived, NamedRule, Spec}
 use Rattle.asm_check.specs.FaultLists.{twice_faults, use_faults, init_faults, limit_faults, entry_faults}
 use Rattle.asm_check.specs.Faults.{IsLeastFault, IsWellFormed}
 use Rattle.asm_check.specs.Limits.{size_of}
@@ -87,7 +87,7 @@ text length items = with_length length (Init (name 15 M') ∷ items)
 
 -- `rule M = skip`, where `M` stands
 abbrev main : ℕ → Item
-main at = Declared (name at M') [] Skip
+main at = NamedRule (name at M') [] Skip
 
 -- ---- no fault
 
@@ -102,7 +102,7 @@ no_fault_in_skipping = none_is skipping refl
 -- rule M = r(0)
 -- rule r(p) = skip
 abbrev calling : Spec
-calling = text 48 (Declared (name 22 M') [] (Call (name 26 r') (term_then nought no_terms)) ∷ Declared (name 36 r') (name 38 p' ∷ []) Skip ∷ [])
+calling = text 48 (NamedRule (name 22 M') [] (Call (name 26 r') (term_then nought no_terms)) ∷ NamedRule (name 36 r') (name 38 p' ∷ []) Skip ∷ [])
 
 no_fault_in_calling : IsWellFormed calling
 unfolding declared declarations first_declarations uses called used height twice_faults use_faults init_faults limit_faults entry_faults
@@ -123,7 +123,7 @@ no_fault_in_tabled = none_is tabled refl
 -- rule M = skip
 -- rule M(p) = skip
 abbrev declared_again : Spec
-declared_again = text 48 (main 22 ∷ Declared (name 36 M') (name 38 p' ∷ []) Skip ∷ [])
+declared_again = text 48 (main 22 ∷ NamedRule (name 36 M') (name 38 p' ∷ []) Skip ∷ [])
 
 fault_in_declared_again : IsLeastFault declared_again 36 8
 unfolding declared declarations first_declarations uses called used height twice_faults use_faults init_faults limit_faults entry_faults
@@ -132,7 +132,7 @@ fault_in_declared_again = least_is declared_again 36 8 refl
 -- rule M = skip
 -- rule ANY = skip
 abbrev declared_from_the_start : Spec
-declared_from_the_start = text 47 (main 22 ∷ Declared (name 36 (codes "ANY")) [] Skip ∷ [])
+declared_from_the_start = text 47 (main 22 ∷ NamedRule (name 36 (codes "ANY")) [] Skip ∷ [])
 
 fault_in_declared_from_the_start : IsLeastFault declared_from_the_start 36 8
 unfolding declared declarations first_declarations uses called used height twice_faults use_faults init_faults limit_faults entry_faults
@@ -149,7 +149,7 @@ fault_in_parameter_twice = least_is parameter_twice 44 8 refl
 
 -- rule M = x := 0
 abbrev unknown_target : Spec
-unknown_target = text 33 (Declared (name 22 M') [] (Assign (name 26 x') no_terms nought) ∷ [])
+unknown_target = text 33 (NamedRule (name 22 M') [] (Assign (name 26 x') no_terms nought) ∷ [])
 
 fault_in_unknown_target : IsLeastFault unknown_target 26 9
 unfolding declared declarations first_declarations uses called used height twice_faults use_faults init_faults limit_faults entry_faults
@@ -158,7 +158,7 @@ fault_in_unknown_target = least_is unknown_target 26 9 refl
 -- enum E = { e }
 -- rule M = let y = e(0) in skip endlet
 abbrev element_with_argument : Spec
-element_with_argument = text 69 (Enum (name 22 E') (name 28 e' ∷ []) ∷ Declared (name 37 M') [] (Let (name 45 y') (applied (name 49 e')) Skip) ∷ [])
+element_with_argument = text 69 (Enum (name 22 E') (name 28 e' ∷ []) ∷ NamedRule (name 37 M') [] (Let (name 45 y') (applied (name 49 e')) Skip) ∷ [])
 
 fault_in_element_with_argument : IsLeastFault element_with_argument 49 10
 unfolding declared declarations first_declarations uses called used height twice_faults use_faults init_faults limit_faults entry_faults
@@ -166,7 +166,7 @@ fault_in_element_with_argument = least_is element_with_argument 49 10 refl
 
 -- rule M = let y = 0 in let z = y(0) in skip endlet endlet
 abbrev bound_with_argument : Spec
-bound_with_argument = text 74 (Declared (name 22 M') [] (Let (name 30 y') nought (Let (name 43 z') (applied (name 47 y')) Skip)) ∷ [])
+bound_with_argument = text 74 (NamedRule (name 22 M') [] (Let (name 30 y') nought (Let (name 43 z') (applied (name 47 y')) Skip)) ∷ [])
 
 fault_in_bound_with_argument : IsLeastFault bound_with_argument 47 10
 unfolding declared declarations first_declarations uses called used height twice_faults use_faults init_faults limit_faults entry_faults
@@ -175,7 +175,7 @@ fault_in_bound_with_argument = least_is bound_with_argument 47 10 refl
 -- function static g initially 1
 -- rule M = g := 2
 abbrev static_target : Spec
-static_target = text 63 (Function (name 33 g') Static [] None (Some (Each (Plain (literal.Number one)))) ∷ Declared (name 52 M') [] (Assign (name 56 g') no_terms nought) ∷ [])
+static_target = text 63 (Function (name 33 g') Static [] None (Some (Each (Plain (literal.Number one)))) ∷ NamedRule (name 52 M') [] (Assign (name 56 g') no_terms nought) ∷ [])
 
 fault_in_static_target : IsLeastFault static_target 56 11
 unfolding declared declarations first_declarations uses called used height twice_faults use_faults init_faults limit_faults entry_faults
@@ -183,7 +183,7 @@ fault_in_static_target = least_is static_target 56 11 refl
 
 -- rule M = let y = 0 in y := 0 endlet
 abbrev bound_target : Spec
-bound_target = text 53 (Declared (name 22 M') [] (Let (name 30 y') nought (Assign (name 39 y') no_terms nought)) ∷ [])
+bound_target = text 53 (NamedRule (name 22 M') [] (Let (name 30 y') nought (Assign (name 39 y') no_terms nought)) ∷ [])
 
 fault_in_bound_target : IsLeastFault bound_target 39 11
 unfolding declared declarations first_declarations uses called used height twice_faults use_faults init_faults limit_faults entry_faults
@@ -192,7 +192,7 @@ fault_in_bound_target = least_is bound_target 39 11 refl
 -- rule M = r
 -- rule r = M
 abbrev circle_of_calls : Spec
-circle_of_calls = text 39 (Declared (name 22 M') [] (Call (name 26 r') no_terms) ∷ Declared (name 33 r') [] (Call (name 37 M') no_terms) ∷ [])
+circle_of_calls = text 39 (NamedRule (name 22 M') [] (Call (name 26 r') no_terms) ∷ NamedRule (name 33 r') [] (Call (name 37 M') no_terms) ∷ [])
 
 fault_in_circle_of_calls : IsLeastFault circle_of_calls 22 12
 unfolding declared declarations first_declarations uses called used height twice_faults use_faults init_faults limit_faults entry_faults
@@ -220,7 +220,7 @@ fault_in_no_start = least_is no_start 24 14 refl
 -- rule M = skip
 -- rule r = skip
 abbrev two_starts : Spec
-two_starts = text 52 (Init (name 22 r') ∷ main 29 ∷ Declared (name 43 r') [] Skip ∷ [])
+two_starts = text 52 (Init (name 22 r') ∷ main 29 ∷ NamedRule (name 43 r') [] Skip ∷ [])
 
 fault_in_two_starts : IsLeastFault two_starts 22 14
 unfolding declared declarations first_declarations uses called used height twice_faults use_faults init_faults limit_faults entry_faults
@@ -228,7 +228,7 @@ fault_in_two_starts = least_is two_starts 22 14 refl
 
 -- rule M(p) = skip
 abbrev start_with_parameter : Spec
-start_with_parameter = text 34 (Declared (name 22 M') (name 24 p' ∷ []) Skip ∷ [])
+start_with_parameter = text 34 (NamedRule (name 22 M') (name 24 p' ∷ []) Skip ∷ [])
 
 fault_in_start_with_parameter : IsLeastFault start_with_parameter 15 14
 unfolding declared declarations first_declarations uses called used height twice_faults use_faults init_faults limit_faults entry_faults
@@ -270,9 +270,9 @@ fault_in_entry_outside = least_is entry_outside 71 16 refl
 -- rule M = skip
 -- rule M(p) = skip
 abbrev repeating : Spec
-repeating = text 84 (Enum (name 22 E') (name 28 d' ∷ name 31 e' ∷ []) ∷ Enum (name 40 U') (name 46 e' ∷ name 49 g' ∷ []) ∷ main 58 ∷ Declared (name 72 M') (name 74 p' ∷ []) Skip ∷ [])
+repeating = text 84 (Enum (name 22 E') (name 28 d' ∷ name 31 e' ∷ []) ∷ Enum (name 40 U') (name 46 e' ∷ name 49 g' ∷ []) ∷ main 58 ∷ NamedRule (name 72 M') (name 74 p' ∷ []) Skip ∷ [])
 
-the_first_counts : declared repeating M' ≡ Some (names.Procedure [] Skip)
+the_first_counts : declared repeating M' ≡ Some (names.NamedRule [] Skip)
 unfolding declared declarations
 the_first_counts = refl
 

@@ -11,7 +11,7 @@ use Rattle.std.proofs.lemmas.Bool.{false≢true, not-true, not_from_false, eqb-f
 use Rattle.std.proofs.lemmas.List.Elements.{Contains-append_left, Contains-append_right, Contains-append_cases}
 use Rattle.asm_syntax.specs.SourceTree.{Name, Entry, Spec}
 use Rattle.asm_check.specs.Names as names
-use Rattle.asm_check.specs.Names.{Text, Declaration, Meaning, Role, InTerm, AsTarget, AsCalled, Use, declarations, first_declarations, declared, uses, is_among, text_of, is_known, arguments_of, is_assignable, is_start, uses_of_entry}
+use Rattle.asm_check.specs.Names.{Text, Declaration, Meaning, Role, InTerm, AsTarget, AsRule, Use, declarations, first_declarations, declared, uses, is_among, text_of, is_known, arguments_of, is_assignable, is_start, uses_of_entry}
 use Rattle.asm_check.specs.Limits as limits
 use Rattle.asm_check.specs.Limits.{is_universe, is_function, is_controlled, is_static, is_rule, size_of, domain_of, lists_of, max_universes, max_elements, max_functions, max_domain, max_locations, max_static_lists, max_rules, Passes, PassesLimit}
 use Rattle.asm_check.specs.Faults.{IsRepeated, IsTwice, IsUnknown, IsMiscounted, IsUnassignable, IsBadInit, IsOverLimit, IsBadEntry, IsFault, twice, unknown, arity, not_controlled, cyclic_rule, cyclic_derived, init, another, no_start, missing, too_many, table_entry, parameters_of, is_known_use, inits, table_of}
@@ -148,7 +148,7 @@ counted_is_known InTerm false (Some (names.Controlled domain)) k h = refl
 counted_is_known InTerm false (Some (names.Static domain)) k h = refl
 counted_is_known InTerm false (Some (names.Derived xs t)) k h = refl
 counted_is_known AsTarget false (Some (names.Controlled domain)) k h = refl
-counted_is_known AsCalled b (Some (names.Procedure xs P)) k h = refl
+counted_is_known AsRule b (Some (names.NamedRule xs P)) k h = refl
 counted_is_known r b m k h = cc
 
 -- what isn't assignable has no number of arguments as a target

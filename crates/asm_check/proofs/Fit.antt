@@ -7,7 +7,7 @@ use Rattle.std.proofs.lemmas.List.Elements.{Contains-append_left, Contains-appen
 use Rattle.asm_syntax.specs.SourceTree as source
 use Rattle.asm_syntax.specs.SourceTree.{Name, Term, Constant, Named, Chain, Not, Negative, Exists, Every, Terms, no_terms, term_then, Links, no_links, link_then, Rule, Skip, Assign, Call, Par, Seq, If, Let, Forall, Choose, Iterate, Rules, no_rules, rule_then, Branch, left_out, written, Const, Entry, Given, Item, Spec}
 use Rattle.asm_check.specs.Names as names
-use Rattle.asm_check.specs.Names.{Text, Meaning, Procedure, Derived, Role, InTerm, AsTarget, AsCalled, AsUniverse, AsCodomain, AsElement, Use, use_of, plain_use, term_count, text_of, is_among, is_known, arguments_of, is_assignable, is_start, declared, uses, uses_of, uses_of_rule, uses_of_rules, uses_of_branch, uses_of_term, uses_of_terms, uses_of_links, uses_of_test, uses_of_const, uses_of_entry, uses_of_codomain, uses_of_table}
+use Rattle.asm_check.specs.Names.{Text, Meaning, NamedRule, Derived, Role, InTerm, AsTarget, AsRule, AsUniverse, AsCodomain, AsElement, Use, use_of, plain_use, term_count, text_of, is_among, is_known, arguments_of, is_assignable, is_start, declared, uses, uses_of, uses_of_rule, uses_of_rules, uses_of_branch, uses_of_term, uses_of_terms, uses_of_links, uses_of_test, uses_of_const, uses_of_entry, uses_of_codomain, uses_of_table}
 use Rattle.asm_check.specs.Faults.{IsWellFormed, is_known_use, inits, unknown, arity, not_controlled, init, another, no_start, missing}
 use Rattle.asm_check.specs.Fit.{IsUniverseName, IsCodomainName, IsFitConst, IsFitTable, IsFitFunction, IsFitTerm, AreFitTerms, AreFitLinks, IsFitTest, IsFitRule, AreFitRules, IsFitBranch, HasStart}
 use Rattle.asm_check.specs.Laws.{BodiesAreFit}
@@ -108,7 +108,7 @@ module _ (spec : Spec) where
           fit_terms ts bound (front (uses_of_terms ts bound) (uses_of_term t bound) rest),
           fit_term t bound (back (uses_of_terms ts bound) (uses_of_term t bound) rest),
         )
-    fit_rule (Call r ts) bound h = (first AsCalled r (term_count ts) bound (uses_of_terms ts bound) h, fit_terms ts bound (tail _ (uses_of_terms ts bound) h))
+    fit_rule (Call r ts) bound h = (first AsRule r (term_count ts) bound (uses_of_terms ts bound) h, fit_terms ts bound (tail _ (uses_of_terms ts bound) h))
     fit_rule (Par Ps) bound h = fit_rules Ps bound h
     fit_rule (Seq Ps) bound h = fit_rules Ps bound h
     fit_rule (If t P Q) bound h =
@@ -192,9 +192,9 @@ module _ (spec : Spec) where
 
 -- ---- the starting rule
 
-starting : (m : Option Meaning) → is_start m ≡ true → (P : Rule) × (m ≡ Some (Procedure [] P))
-starting (Some (Procedure [] P)) e = (P, refl)
-starting (Some (Procedure (x ∷ xs) P)) e = absurd (false≢true e)
+starting : (m : Option Meaning) → is_start m ≡ true → (P : Rule) × (m ≡ Some (NamedRule [] P))
+starting (Some (NamedRule [] P)) e = (P, refl)
+starting (Some (NamedRule (x ∷ xs) P)) e = absurd (false≢true e)
 starting (Some names.Predeclared) e = absurd (false≢true e)
 starting (Some (names.Range first last)) e = absurd (false≢true e)
 starting (Some (names.Enumeration k)) e = absurd (false≢true e)
@@ -226,7 +226,7 @@ in_uses spec item it u c = among_all uses_of spec.items item u it c
 
 pub bodies_are_fit : BodiesAreFit
 bodies_are_fit spec good = record {
-  rules = λ f xs P is. fit_rule spec P (map text_of xs) (λ u c. good_use spec good u (body_uses spec f (Procedure xs P) is u c));
+  rules = λ f xs P is. fit_rule spec P (map text_of xs) (λ u c. good_use spec good u (body_uses spec f (NamedRule xs P) is u c));
   derived = λ f xs t is. fit_term spec t (map text_of xs) (λ u c. good_use spec good u (body_uses spec f (Derived xs t) is u c));
   functions = λ x kind domain codomain table it. fit_function spec domain codomain table (λ u c. good_use spec good u (in_uses spec (source.Function x kind domain codomain table) it u c));
   start = starts spec good (inits spec) refl;

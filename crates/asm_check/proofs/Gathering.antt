@@ -7,7 +7,7 @@ use Rattle.std.proofs.lemmas.List.{map-append, take_more}
 use Rattle.std.specs.Cmp.Lexicographic.{pointwise}
 use Rattle.indexmap.specs.IndexMap.{insert_entry}
 use Rattle.asm_syntax.specs.SourceTree.{Name, Item, Spec}
-use Rattle.asm_check.specs.declared.meaning.Declared.{Declared}
+use Rattle.asm_check.specs.declared.meaning.Declaration.{Declaration as CodeDeclaration}
 use Rattle.asm_check.specs.Names.{Text, Declaration, is_text, is_among, text_of, first_of_each, declares, declarations_of, declarations_from, Element, predeclared, declarations, first_declarations}
 use Rattle.asm_check.specs.FaultLists.{repeats, at_with, twice_faults}
 use Rattle.asm_check.specs.Soonest.{noted}
@@ -57,7 +57,7 @@ known_by ds entries x table = held entries x ∙ ap (λ es. is_among (texts es) 
 
 -- ---- one declaration
 
-module _ (first : Option (ℕ × ℕ)) (ds : List Declaration) (entries : List Entry) (found : Option (ℕ × ℕ)) (text : Bor (List ℕ)) (declared : Declared) where
+module _ (first : Option (ℕ × ℕ)) (ds : List Declaration) (entries : List Entry) (found : Option (ℕ × ℕ)) (text : Bor (List ℕ)) (declared : CodeDeclaration) where
   abbrev one : Declaration
   one = declaration_of (text, declared)
 
@@ -93,7 +93,7 @@ module _ (first : Option (ℕ × ℕ)) (ds : List Declaration) (entries : List E
         least = noted_after first found (repeated ds) [] it.least ∙ ap (noted first) (sym (noted_one_more false new));
       }
 
-inserted : (entries : List Entry) (text : Bor (List ℕ)) (declared : Declared) → is_some (lookup (is_key text.now) entries) ≡ false
+inserted : (entries : List Entry) (text : Bor (List ℕ)) (declared : CodeDeclaration) → is_some (lookup (is_key text.now) entries) ≡ false
     → insert_entry (λ (a b : Bor (List ℕ)). pointwise nat_eq a.now b.now) entries text declared ≡ entries ++ (text, declared) ∷ []
 inserted [] text declared absent = refl
 inserted (e ∷ es) text declared absent = by_key (is_key text.now e.0) absent (inserted es text declared)
@@ -104,14 +104,14 @@ inserted (e ∷ es) text declared absent = by_key (is_key text.now e.0) absent (
     by_key true there rest = absurd (true≢false there)
     by_key false absent rest = ap (λ xs. e ∷ xs) (rest absent)
 
-pub gathers_again : (entries : List Entry) (found found' : Option (ℕ × ℕ)) (text : Bor (List ℕ)) (declared : Declared) → true ≡ is_some (lookup (is_key text.now) entries)
+pub gathers_again : (entries : List Entry) (found found' : Option (ℕ × ℕ)) (text : Bor (List ℕ)) (declared : CodeDeclaration) → true ≡ is_some (lookup (is_key text.now) entries)
     → found' ≡ noted found ((declared.at, 8) ∷ []) → Gathers (declaration_of (text, declared) ∷ []) entries found entries found'
 gathers_again entries found found' text declared there note = record {
   after = λ first ds it.
       subst (IsGathered first (ds ++ declaration_of (text, declared) ∷ []) entries) (sym note) (gathered_again first ds entries found text declared it (sym there));
 }
 
-pub gathers_new : (entries entries' : List Entry) (found : Option (ℕ × ℕ)) (text : Bor (List ℕ)) (declared : Declared) → false ≡ is_some (lookup (is_key text.now) entries)
+pub gathers_new : (entries entries' : List Entry) (found : Option (ℕ × ℕ)) (text : Bor (List ℕ)) (declared : CodeDeclaration) → false ≡ is_some (lookup (is_key text.now) entries)
     → entries' ≡ insert_entry (λ (a b : Bor (List ℕ)). pointwise nat_eq a.now b.now) entries text declared → Gathers (declaration_of (text, declared) ∷ []) entries found entries' found
 gathers_new entries entries' found text declared absent put = record {
   after = λ first ds it.

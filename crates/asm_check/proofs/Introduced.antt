@@ -33,7 +33,7 @@ own_texts k (source.Enum x xs) = ap (λ ts. x.text ∷ ts) (element_texts_are k 
 own_texts k (source.Universe x first last) = refl
 own_texts k (source.Function x how domain codomain table) = refl
 own_texts k (source.Derived x xs t) = refl
-own_texts k (source.Declared x xs P) = refl
+own_texts k (source.NamedRule x xs P) = refl
 
 texts_from : (k : ℕ) (items : List Item) → texts_of (declarations_from k items) ≡ map text_of (flat_map introduced items)
 texts_from k [] = refl
@@ -80,7 +80,7 @@ parameters_different spec good item it = different_from (parameters_of item) onc
 pub names_are_apart : NamesAreApart
 names_are_apart spec good = record {
   names = names_different spec good;
-  parameters_of_rules = λ x xs P it. parameters_different spec good (source.Declared x xs P) it;
+  parameters_of_rules = λ x xs P it. parameters_different spec good (source.NamedRule x xs P) it;
   parameters_of_derived = λ x xs t it. parameters_different spec good (source.Derived x xs t) it;
 }
 
@@ -136,5 +136,5 @@ items_are_declared spec good = record {
   controlled = λ x domain codomain table. declared_alone spec good (source.Function x kind.Controlled domain codomain table) x (names.Controlled domain) (λ k. refl);
   static = λ x domain codomain table. declared_alone spec good (source.Function x kind.Static domain codomain table) x (names.Static domain) (λ k. refl);
   derived = λ x xs t. declared_alone spec good (source.Derived x xs t) x (names.Derived xs t) (λ k. refl);
-  rules = λ x xs P. declared_alone spec good (source.Declared x xs P) x (names.Procedure xs P) (λ k. refl);
+  rules = λ x xs P. declared_alone spec good (source.NamedRule x xs P) x (names.NamedRule xs P) (λ k. refl);
 }

@@ -51,7 +51,7 @@ universe_text_is k (source.Universe x first last) = refl
 universe_text_is k (source.Function x kind.Controlled domain codomain table) = refl
 universe_text_is k (source.Function x kind.Static domain codomain table) = refl
 universe_text_is k (source.Derived x xs t) = refl
-universe_text_is k (source.Declared x xs P) = refl
+universe_text_is k (source.NamedRule x xs P) = refl
 
 element_text_is : (k : ℕ) (item : Item) → texts_of (like is_element (declarations_of k item)) ≡ element_text item
 element_text_is k (source.Uses x) = refl
@@ -61,7 +61,7 @@ element_text_is k (source.Universe x first last) = refl
 element_text_is k (source.Function x kind.Controlled domain codomain table) = refl
 element_text_is k (source.Function x kind.Static domain codomain table) = refl
 element_text_is k (source.Derived x xs t) = refl
-element_text_is k (source.Declared x xs P) = refl
+element_text_is k (source.NamedRule x xs P) = refl
 
 texts_next : (is_like : Meaning → Bool) (k : ℕ) (item : Item) (items : List Item) (own rest : List Text)
     → texts_of (like is_like (declarations_of k item)) ≡ own → texts_of (like is_like (declarations_from (suc k) items)) ≡ rest
@@ -111,7 +111,7 @@ count_before_of j k (source.Universe x first last) = zero_either (nat_lt k j)
 count_before_of j k (source.Function x kind.Controlled domain codomain table) = zero_either (nat_lt k j)
 count_before_of j k (source.Function x kind.Static domain codomain table) = zero_either (nat_lt k j)
 count_before_of j k (source.Derived x xs t) = zero_either (nat_lt k j)
-count_before_of j k (source.Declared x xs P) = zero_either (nat_lt k j)
+count_before_of j k (source.NamedRule x xs P) = zero_either (nat_lt k j)
 
 count_own_of : (j k : ℕ) (item : Item) → count_like (is_element_of j) (declarations_of k item) ≡ cond (nat_eq j k) (elements_of_item item) 0
 count_own_of j k (source.Uses x) = zero_either (nat_eq j k)
@@ -121,7 +121,7 @@ count_own_of j k (source.Universe x first last) = zero_either (nat_eq j k)
 count_own_of j k (source.Function x kind.Controlled domain codomain table) = zero_either (nat_eq j k)
 count_own_of j k (source.Function x kind.Static domain codomain table) = zero_either (nat_eq j k)
 count_own_of j k (source.Derived x xs t) = zero_either (nat_eq j k)
-count_own_of j k (source.Declared x xs P) = zero_either (nat_eq j k)
+count_own_of j k (source.NamedRule x xs P) = zero_either (nat_eq j k)
 
 count_more : (is_like : Meaning → Bool) (cs ds : List Declaration) → count_like is_like (cs ++ ds) ≡ count_like is_like cs + count_like is_like ds
 count_more is_like cs ds = sum_by-append (λ (d : Declaration). cond (is_like d.meaning) 1 0) cs ds
@@ -204,7 +204,7 @@ module _ (spec : Spec) where
   own_values k first (source.Function x kind.Controlled domain codomain table) before own = refl
   own_values k first (source.Function x kind.Static domain codomain table) before own = refl
   own_values k first (source.Derived x xs t) before own = refl
-  own_values k first (source.Declared x xs P) before own = refl
+  own_values k first (source.NamedRule x xs P) before own = refl
 
   pub universe_lists_are : (k first : ℕ) (items : List Item) → AreNumbered (first_declarations spec) k first items
       → map values (like is_universe (declarations_from k items)) ≡ universe_lists first items

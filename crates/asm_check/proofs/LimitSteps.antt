@@ -2,7 +2,7 @@
 use Rattle.std.proofs.Common.{◌≡◌, ℕ, ◌+◌, ◌≤◌, Bool, List, [], ◌∷◌, ◌++◌, cond, length, take, drop, Option, sym, ap, ◌∙◌}
 use Rattle.std.proofs.lemmas.List.{drop_all}
 use Rattle.asm_syntax.specs.SourceTree.{Spec}
-use Rattle.asm_check.specs.declared.meaning.Declared.{Declared}
+use Rattle.asm_check.specs.declared.meaning.Declaration.{Declaration as CodeDeclaration}
 use Rattle.asm_check.specs.FaultLists.{limit_faults, limit_faults_from, passes_limit}
 use Rattle.asm_check.specs.Names.{Declaration, declares, first_declarations}
 use Rattle.asm_check.specs.Soonest.{noted}
@@ -14,7 +14,7 @@ use Rattle.asm_check.proofs.TableSteps.{Stands}
 abbrev pub found_after : Spec → List Declaration → (i : ℕ) → (found : Option (ℕ × ℕ)) → Option (ℕ × ℕ)
 found_after spec ds i found = noted found (limit_faults_from spec (take i ds) (drop i ds))
 
-pub one_limit : (spec : Spec) (ds : List Declaration) (i : ℕ) (r : Declared) (s : Stands ds i r) (b : Bool) (found found' : Option (ℕ × ℕ))
+pub one_limit : (spec : Spec) (ds : List Declaration) (i : ℕ) (r : CodeDeclaration) (s : Stands ds i r) (b : Bool) (found found' : Option (ℕ × ℕ))
     → b ≡ passes_limit spec (take i ds) (declares s.name (meaning_of r.meaning)) → found' ≡ noted found (cond b ((r.at, 15) ∷ []) [])
     → found_after spec ds (i + 1) found' ≡ found_after spec ds i found
 one_limit spec ds i r s b found found' e h =

@@ -36,7 +36,7 @@ length_own k (source.Universe x first last) = refl
 length_own k (source.Function x kind.Controlled domain codomain table) = refl
 length_own k (source.Function x kind.Static domain codomain table) = refl
 length_own k (source.Derived x xs t) = refl
-length_own k (source.Declared x xs P) = refl
+length_own k (source.NamedRule x xs P) = refl
 
 -- the items have so many elements
 pub length_elements : (k : ℕ) (items : List Item) → length (like is_element (declarations_from k items)) ≡ elements_in items
@@ -61,7 +61,7 @@ own_meaning k (source.Universe x first last) n d e = cc
 own_meaning k (source.Function x kind.Controlled domain codomain table) n d e = cc
 own_meaning k (source.Function x kind.Static domain codomain table) n d e = cc
 own_meaning k (source.Derived x xs t) n d e = cc
-own_meaning k (source.Declared x xs P) n d e = cc
+own_meaning k (source.NamedRule x xs P) n d e = cc
 
 -- so many elements in a row have each one of them
 pub in_row : (first count n : ℕ) → n < count → Contains (elements first count) (element (first + n))
@@ -111,7 +111,7 @@ length_functions spec k (source.Universe x first last ∷ items) = length_functi
 length_functions spec k (source.Function x kind.Controlled domain codomain table ∷ items) = let rest = length_functions spec (suc k) items in omega (arith, rest)
 length_functions spec k (source.Function x kind.Static domain codomain table ∷ items) = let rest = length_functions spec (suc k) items in omega (arith, rest)
 length_functions spec k (source.Derived x xs t ∷ items) = length_functions spec (suc k) items
-length_functions spec k (source.Declared x xs P ∷ items) = length_functions spec (suc k) items
+length_functions spec k (source.NamedRule x xs P ∷ items) = length_functions spec (suc k) items
 
 module _ (spec : Spec) where
   abbrev AreOfSpec : List Item → Type 0
@@ -153,4 +153,4 @@ module _ (spec : Spec) where
   function_indexed k (source.Function x kind.Static domain codomain table ∷ items) all (suc f) d e =
       function_indexed (suc k) items (later (source.Function x kind.Static domain codomain table) items all) f d e
   function_indexed k (source.Derived x xs t ∷ items) all f d e = function_indexed (suc k) items (later (source.Derived x xs t) items all) f d e
-  function_indexed k (source.Declared x xs P ∷ items) all f d e = function_indexed (suc k) items (later (source.Declared x xs P) items all) f d e
+  function_indexed k (source.NamedRule x xs P ∷ items) all f d e = function_indexed (suc k) items (later (source.NamedRule x xs P) items all) f d e

@@ -75,7 +75,7 @@ known_universe (Some (names.Element k)) e = absurd (false≢true e)
 known_universe (Some (names.Controlled domain)) e = absurd (false≢true e)
 known_universe (Some (names.Static domain)) e = absurd (false≢true e)
 known_universe (Some (names.Derived xs t)) e = absurd (false≢true e)
-known_universe (Some (names.Procedure xs P)) e = absurd (false≢true e)
+known_universe (Some (names.NamedRule xs P)) e = absurd (false≢true e)
 
 pub used_somewhere : (items : List Item) (item : Item) (u : names.Use) → Contains items item → Contains (uses_of item) u → Contains (flat_map uses_of items) u
 used_somewhere [] item u it own = none_in item it

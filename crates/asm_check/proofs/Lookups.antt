@@ -9,7 +9,7 @@ use Rattle.std.specs.List.{position_or_len}
 use Rattle.std.specs.Map.{keys_of, lookup}
 use Rattle.std.proofs.lemmas.Slice.Eq.{slice_eq-Decides}
 use Rattle.asm_syntax.specs.SourceTree.{Spec}
-use Rattle.asm_check.specs.declared.meaning.Declared.{Declared}
+use Rattle.asm_check.specs.declared.meaning.Declaration.{Declaration as CodeDeclaration}
 use Rattle.asm_check.specs.Names as names
 use Rattle.asm_check.specs.Names.{Text, Declaration, is_text, is_among, first_declarations, declared}
 use Rattle.asm_check.specs.Tables.{Entry, meaning_of, declaration_of, IsTableOf, text_at}
@@ -32,29 +32,29 @@ text_turned x y =
 abbrev found_in : Text → List Entry → Option names.Meaning
 found_in x entries = option_map (λ d. d.meaning) (find (is_of x) (map declaration_of entries))
 
-looked_up : (entries : List Entry) (x : Text) → option_map (λ (d : Declared). meaning_of d.meaning) (lookup (is_key x) entries) ≡ found_in x entries
+looked_up : (entries : List Entry) (x : Text) → option_map (λ (d : CodeDeclaration). meaning_of d.meaning) (lookup (is_key x) entries) ≡ found_in x entries
 looked_up [] x = refl
 looked_up (e ∷ es) x =
-    ap (λ b. option_map (λ (d : Declared). meaning_of d.meaning) (cond b (Some e.1) (lookup (is_key x) es))) (text_turned x e.0.now)
+    ap (λ b. option_map (λ (d : CodeDeclaration). meaning_of d.meaning) (cond b (Some e.1) (lookup (is_key x) es))) (text_turned x e.0.now)
     ∙ by_test (is_text e.0.now x) (looked_up es x)
   where
-    by_test : (b : Bool) → option_map (λ (d : Declared). meaning_of d.meaning) (lookup (is_key x) es) ≡ found_in x es
-        → option_map (λ (d : Declared). meaning_of d.meaning) (cond b (Some e.1) (lookup (is_key x) es))
+    by_test : (b : Bool) → option_map (λ (d : CodeDeclaration). meaning_of d.meaning) (lookup (is_key x) es) ≡ found_in x es
+        → option_map (λ (d : CodeDeclaration). meaning_of d.meaning) (cond b (Some e.1) (lookup (is_key x) es))
         ≡ option_map (λ d. d.meaning) (cond b (Some (declaration_of e)) (find (is_of x) (map declaration_of es)))
     by_test true rest = refl
     by_test false rest = rest
 
 -- what is found is what the name is declared as
 pub looked_up_declared : (spec : Spec) (entries : List Entry) (x : Text) → IsTableOf spec entries
-    → option_map (λ (d : Declared). meaning_of d.meaning) (lookup (is_key x) entries) ≡ declared spec x
+    → option_map (λ (d : CodeDeclaration). meaning_of d.meaning) (lookup (is_key x) entries) ≡ declared spec x
 looked_up_declared spec entries x table =
     looked_up entries x ∙ ap (λ ds. option_map (λ d. d.meaning) (find (is_of x) ds)) table ∙ first_stands spec x
 
 -- the same, of what `get` answers
-pub got_declared : (spec : Spec) (entries : List Entry) (x key : Text) (got : Option Declared) → IsTableOf spec entries → key ≡ x
-    → got ≡ lookup (is_key key) entries → option_map (λ (d : Declared). meaning_of d.meaning) got ≡ declared spec x
+pub got_declared : (spec : Spec) (entries : List Entry) (x key : Text) (got : Option CodeDeclaration) → IsTableOf spec entries → key ≡ x
+    → got ≡ lookup (is_key key) entries → option_map (λ (d : CodeDeclaration). meaning_of d.meaning) got ≡ declared spec x
 got_declared spec entries x key got table e found =
-    ap (option_map (λ (d : Declared). meaning_of d.meaning)) (found ∙ ap (λ y. lookup (is_key y) entries) e) ∙ looked_up_declared spec entries x table
+    ap (option_map (λ (d : CodeDeclaration). meaning_of d.meaning)) (found ∙ ap (λ y. lookup (is_key y) entries) e) ∙ looked_up_declared spec entries x table
 
 -- ---- positions
 
@@ -88,6 +88,6 @@ pub undeclared : (spec : Spec) (entries : List Entry) (x key : Text) (r : Option
 undeclared spec entries x key (Some i) table e found = tt
 undeclared spec entries x key None table e found = sym (got_declared spec entries x key None table e (none_there (lookup (is_key key) entries) found))
   where
-    none_there : (o : Option Declared) → false ≡ is_some o → None ≡ o
+    none_there : (o : Option CodeDeclaration) → false ≡ is_some o → None ≡ o
     none_there None h = refl
     none_there (Some d) h = cc

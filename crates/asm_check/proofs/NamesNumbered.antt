@@ -75,7 +75,7 @@ module _ (spec : Spec) (x : Text) where
   numbered (names.Controlled domain) means = inr (leads_by (names.Controlled domain) means is_table number.Function refl refl (λ n. refl))
   numbered (names.Static domain) means = inr (leads_by (names.Static domain) means is_table number.Function refl refl (λ n. refl))
   numbered (names.Derived xs t) means = inr (leads_by (names.Derived xs t) means is_derived number.Derived refl refl (λ n. refl))
-  numbered (names.Procedure xs P) means = inr (leads_by (names.Procedure xs P) means is_rule number.Called refl refl (λ n. refl))
+  numbered (names.NamedRule xs P) means = inr (leads_by (names.NamedRule xs P) means is_rule number.Rule refl refl (λ n. refl))
 
   of_number : (o : Option Meaning) → declared spec x ≡ o → (n : Named) → named_as spec x o ≡ Some n → meaning_numbered spec n ≡ o
   of_number None means n is = cc

@@ -59,7 +59,7 @@ module _ (ds : List Declaration) (indices : Indices) (are : AreIndicesOf ds indi
   number_is (names.Controlled domain) = ap (λ n. Some (number.Function n)) (how_many is_table indices.functions.items are.functions)
   number_is (names.Static domain) = ap (λ n. Some (number.Function n)) (how_many is_table indices.functions.items are.functions)
   number_is (names.Derived xs t) = ap (λ n. Some (number.Derived n)) (how_many is_derived indices.derived.items are.derived)
-  number_is (names.Procedure xs P) = ap (λ n. Some (number.Called n)) (how_many is_rule indices.rules.items are.rules)
+  number_is (names.NamedRule xs P) = ap (λ n. Some (number.Rule n)) (how_many is_rule indices.rules.items are.rules)
 
 numbers_one : (before ds : List Declaration) (d : Declaration) → numbers_from before (ds ++ d ∷ []) ≡ numbers_from before ds ++ (d.name.text, number_after (before ++ ds) d.meaning) ∷ []
 numbers_one before [] d = ap (λ cs. (d.name.text, number_after cs d.meaning) ∷ []) (sym (append-nil before))
@@ -210,7 +210,7 @@ module _ (spec : Spec) (before : List Declaration) (d : Declaration) (after : Li
   number_named (names.Controlled domain) is = ap (option_map number.Function) (own_number is_table (ap is_table is))
   number_named (names.Static domain) is = ap (option_map number.Function) (own_number is_table (ap is_table is))
   number_named (names.Derived xs t) is = ap (option_map number.Derived) (own_number is_derived (ap is_derived is))
-  number_named (names.Procedure xs P) is = ap (option_map number.Called) (own_number is_rule (ap is_rule is))
+  number_named (names.NamedRule xs P) is = ap (option_map number.Rule) (own_number is_rule (ap is_rule is))
 
 abbrev meaning_in : List Declaration → Text → Option Meaning
 meaning_in ds x = option_map (λ d. d.meaning) (find (λ d. is_text d.name.text x) ds)

@@ -5,7 +5,7 @@ use Rattle.std.proofs.lemmas.Bool.{false≢true}
 use Rattle.std.proofs.lemmas.List.Elements.{Contains-append_left, Contains-append_right}
 use Rattle.asm_syntax.specs.SourceTree.{Name, Term, Constant, Named, Chain, Not, Negative, Exists, Every, Terms, no_terms, term_then, Links, no_links, link_then, Rule, Skip, Assign, Call, Par, Seq, If, Let, Forall, Choose, Iterate, Rules, no_rules, rule_then, Branch, left_out, written, Spec}
 use Rattle.asm_check.specs.Names as names
-use Rattle.asm_check.specs.Names.{Text, Meaning, Procedure, Derived, Role, InTerm, AsCalled, Use, use_of, term_count, is_known, is_among, text_of, declared, uses, uses_of_rule, uses_of_rules, uses_of_branch, uses_of_term, uses_of_terms, uses_of_links, uses_of_test}
+use Rattle.asm_check.specs.Names.{Text, Meaning, NamedRule, Derived, Role, InTerm, AsRule, Use, use_of, term_count, is_known, is_among, text_of, declared, uses, uses_of_rule, uses_of_rules, uses_of_branch, uses_of_term, uses_of_terms, uses_of_links, uses_of_test}
 use Rattle.asm_check.specs.Ways.{called, used, is_call, is_use, calls_in, uses_in, LeadsTo, at_once, by_way_of, ReachesCycle, IsOnWay, height}
 use Rattle.asm_check.specs.Limits.{rule_rank, derived_rank}
 use Rattle.asm_check.specs.Faults.{IsWellFormed, IsCyclic, is_known_use, unknown, cyclic_rule, cyclic_derived, too_many}
@@ -19,7 +19,7 @@ use Rattle.asm_check.proofs.Declared.{first_is, body_uses}
 
 module _ (spec : Spec) (rank : Text → ℕ) (n : ℕ) where
   abbrev CallsAreBelow : List Use → Type 0
-  CallsAreBelow us = (u : Use) → Contains us u → u.role ≡ AsCalled → IsCallable spec rank n u.name.text
+  CallsAreBelow us = (u : Use) → Contains us u → u.role ≡ AsRule → IsCallable spec rank n u.name.text
 
   first_part : (us vs : List Use) → CallsAreBelow (us ++ vs) → CallsAreBelow us
   first_part us vs h u c = h u (Contains-append_left us vs u c)
@@ -34,7 +34,7 @@ module _ (spec : Spec) (rank : Text → ℕ) (n : ℕ) where
     calls_below : (R : Rule) (bound : List Text) → CallsAreBelow (uses_of_rule R bound) → CallsBelow spec rank n R
     calls_below Skip bound h = tt
     calls_below (Assign f ts t) bound h = tt
-    calls_below (Call f ts) bound h = h (use_of AsCalled f (term_count ts) bound) (here _ (uses_of_terms ts bound)) refl
+    calls_below (Call f ts) bound h = h (use_of AsRule f (term_count ts) bound) (here _ (uses_of_terms ts bound)) refl
     calls_below (Par Ps) bound h = each_below Ps bound h
     calls_below (Seq Ps) bound h = each_below Ps bound h
     calls_below (If t P Q) bound h =
@@ -184,12 +184,12 @@ derived_ranked spec good =
 
 -- ---- each call is a step
 
-in_called : (spec : Spec) (f : Text) (xs : List Name) (P : Rule) → declared spec f ≡ Some (Procedure xs P)
+in_called : (spec : Spec) (f : Text) (xs : List Name) (P : Rule) → declared spec f ≡ Some (NamedRule xs P)
     → (u : Use) → Contains (uses_of_rule P (map text_of xs)) u → is_call u.role (declared spec u.name.text) ≡ true → Contains (called spec f) u.name.text
 unfolding called
 in_called spec f xs P is u c e =
     subst (λ m. Contains (map (λ u. u.name.text) (calls_in spec m)) u.name.text) (sym is)
-    (in_map (λ u. u.name.text) (calls_in spec (Some (Procedure xs P))) u
+    (in_map (λ u. u.name.text) (calls_in spec (Some (NamedRule xs P))) u
     (in_filter (λ u. is_call u.role (declared spec u.name.text)) (uses_of_rule P (map text_of xs)) u e c))
 
 in_used : (spec : Spec) (f : Text) (xs : List Name) (t : Term) → declared spec f ≡ Some (Derived xs t)
@@ -201,8 +201,8 @@ in_used spec f xs t is u c e =
     (in_filter (λ u. is_use u.role u.is_bound (declared spec u.name.text)) (uses_of_term t (map text_of xs)) u e c))
 
 -- what is known as called is a rule
-known_rule : (b : Bool) (m : Option Meaning) → is_known AsCalled b m ≢ false → (xs : List Name) × (P : Rule) × (m ≡ Some (Procedure xs P))
-known_rule b (Some (Procedure xs P)) h = (xs, P, refl)
+known_rule : (b : Bool) (m : Option Meaning) → is_known AsRule b m ≢ false → (xs : List Name) × (P : Rule) × (m ≡ Some (NamedRule xs P))
+known_rule b (Some (NamedRule xs P)) h = (xs, P, refl)
 known_rule b (Some names.Predeclared) h = absurd (h refl)
 known_rule b (Some (names.Range first last)) h = absurd (h refl)
 known_rule b (Some (names.Enumeration k)) h = absurd (h refl)
@@ -219,11 +219,11 @@ ranks_exist spec good = record { rules = rules; rules_low = (rules_ranked spec g
     known : (u : Use) → Contains (uses spec) u → is_known_use spec u ≢ false
     known u c no' = good u.name.at 9 (unknown (record { use_of = u; stands = c; unknown = no'; offset = refl }))
 
-    callable : (f : Text) (xs : List Name) (P : Rule) → declared spec f ≡ Some (Procedure xs P) → (u : Use) → Contains (uses_of_rule P (map text_of xs)) u → u.role ≡ AsCalled
+    callable : (f : Text) (xs : List Name) (P : Rule) → declared spec f ≡ Some (NamedRule xs P) → (u : Use) → Contains (uses_of_rule P (map text_of xs)) u → u.role ≡ AsRule
         → IsCallable spec (height (called spec) 17) (height (called spec) 17 f) u.name.text
     callable f xs P is u c role =
-        let it = known_rule u.is_bound (declared spec u.name.text) (subst (λ r. is_known r u.is_bound (declared spec u.name.text) ≢ false) role (known u (body_uses spec f (Procedure xs P) is u c))) in
-        let call : is_call u.role (declared spec u.name.text) ≡ true = ap (λ r. is_call r (declared spec u.name.text)) role ∙ ap (is_call AsCalled) it.2 in
+        let it = known_rule u.is_bound (declared spec u.name.text) (subst (λ r. is_known r u.is_bound (declared spec u.name.text) ≢ false) role (known u (body_uses spec f (NamedRule xs P) is u c))) in
+        let call : is_call u.role (declared spec u.name.text) ≡ true = ap (λ r. is_call r (declared spec u.name.text)) role ∙ ap (is_call AsRule) it.2 in
         record { parameters = it.0; body = it.1; is_declared = it.2; is_below = (rules_ranked spec good).1 f u.name.text (in_called spec f xs P is u c call) }
 
     rules : ranks.AreRulesRanked spec (height (called spec) 17)

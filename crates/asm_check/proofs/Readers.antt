@@ -51,7 +51,7 @@ number_in_range spec x (Some (names.Element k)) = below (elements_of spec) x num
 number_in_range spec x (Some (names.Controlled domain)) = below (functions_of spec) x number.Function (IsInRange spec) tt (λ n h. h)
 number_in_range spec x (Some (names.Static domain)) = below (functions_of spec) x number.Function (IsInRange spec) tt (λ n h. h)
 number_in_range spec x (Some (names.Derived xs t)) = below (derived_of spec) x number.Derived (IsInRange spec) tt (λ n h. h)
-number_in_range spec x (Some (names.Procedure xs P)) = below (rules_of spec) x number.Called (IsInRange spec) tt (λ n h. h)
+number_in_range spec x (Some (names.NamedRule xs P)) = below (rules_of spec) x number.Rule (IsInRange spec) tt (λ n h. h)
 
 pub named_in_range : (spec : Spec) (x : Text) → IsInRange spec (named spec x)
 unfolding named
@@ -141,16 +141,16 @@ has_number ds x any =
     (n, ap (λ b. cond b (Some n) None) test)
 
 -- the name that the specification starts with is a rule's
-pub start_called : (spec : Spec) → IsWellFormed spec → (x : Name) → inits spec ≡ x ∷ [] → (n : ℕ) × (named spec x.text ≡ Some (number.Called n))
+pub start_called : (spec : Spec) → IsWellFormed spec → (x : Name) → inits spec ≡ x ∷ [] → (n : ℕ) × (named spec x.text ≡ Some (number.Rule n))
 unfolding named
 start_called spec good x is =
     let start = (bodies_are_fit spec good).start in
     let same : start.name ≡ x = cc in
     let rule = ap (λ (y : Name). declared spec y.text) (sym same) ∙ start.rule in
-    let it = has_number (rules_of spec) x.text (is_there is_rule (first_declarations spec) x.text (names.Procedure [] start.body) (first_stands spec x.text ∙ rule) refl) in
-    (it.0, ap (named_as spec x.text) rule ∙ ap (option_map number.Called) it.1)
+    let it = has_number (rules_of spec) x.text (is_there is_rule (first_declarations spec) x.text (names.NamedRule [] start.body) (first_stands spec x.text ∙ rule) refl) in
+    (it.0, ap (named_as spec x.text) rule ∙ ap (option_map number.Rule) it.1)
 
-pub main_is : (spec : Spec) (x : Name) (n : ℕ) → inits spec ≡ x ∷ [] → named spec x.text ≡ Some (number.Called n) → IsMain spec n
+pub main_is : (spec : Spec) (x : Name) (n : ℕ) → inits spec ≡ x ∷ [] → named spec x.text ≡ Some (number.Rule n) → IsMain spec n
 main_is spec x n is called = record {
   in_range = subst (IsInRange spec) called (named_in_range spec x.text);
   named = λ y e. let same : y ≡ x = cc in ap (λ (z : Name). named spec z.text) same ∙ called;
@@ -204,7 +204,7 @@ other_than_init (variant.Enum x xs) other = refl
 other_than_init (variant.Universe x first last) other = refl
 other_than_init (variant.Function x how domain codomain table) other = refl
 other_than_init (variant.Derived x xs t) other = refl
-other_than_init (variant.Declared x xs P) other = refl
+other_than_init (variant.Rule x xs P) other = refl
 
 pub no_init_more : (its : List item.Item) (k : ℕ) (it : item.Item) → k < length its → it ≡ get_or its k it → ((x : code_name.Name) → it ≡ variant.Init x → ⊥)
     → inits_in (map item_of (take k its)) ≡ [] → inits_in (map item_of (take (k + 1) its)) ≡ []
@@ -254,12 +254,12 @@ module _ (spec : Spec) (good : IsWellFormed spec) (n : Numbering) (it : IsNumber
   pub start_found : IsSome found
   start_found = let main = start_called spec good x start in subst IsSome (sym (answered ∙ main.1)) refl
 
-  pub start_other : (r : Named) → found ≡ Some r → ((m : ℕ) → r ≡ number.Called m → ⊥) → ⊥
+  pub start_other : (r : Named) → found ≡ Some r → ((m : ℕ) → r ≡ number.Rule m → ⊥) → ⊥
   start_other r is_r other =
       let main = start_called spec good x start in
-      let both : Some r ≡ Some (number.Called main.0) = sym is_r ∙ answered ∙ main.1 in
-      let same : r ≡ number.Called main.0 = cc in
+      let both : Some r ≡ Some (number.Rule main.0) = sym is_r ∙ answered ∙ main.1 in
+      let same : r ≡ number.Rule main.0 = cc in
       other main.0 same
 
-  pub start_main : (r : Named) (m : ℕ) → found ≡ Some r → r ≡ number.Called m → IsMain spec m
+  pub start_main : (r : Named) (m : ℕ) → found ≡ Some r → r ≡ number.Rule m → IsMain spec m
   start_main r m is_r called = main_is spec x m start (sym answered ∙ is_r ∙ ap (λ o. Some o) called)

@@ -10,7 +10,7 @@ use Rattle.asm_syntax.specs.SourceTree.{Name, Term, Constant, Named, Chain, Not,
 use Rattle.indexmap.specs.IndexSet.{insert_key}
 use Rattle.asm_syntax.specs.declared.name.Name as code
 use Rattle.asm_syntax.specs.Views.{name_of}
-use Rattle.asm_check.specs.Names.{Text, text_of, is_text, is_among, Role, InTerm, AsTarget, AsCalled, AsUniverse, Use, use_of, plain_use, term_count, uses_of_term, uses_of_terms, uses_of_links, uses_of_test, uses_of_rule, uses_of_rules, uses_of_branch}
+use Rattle.asm_check.specs.Names.{Text, text_of, is_text, is_among, Role, InTerm, AsTarget, AsRule, AsUniverse, Use, use_of, plain_use, term_count, uses_of_term, uses_of_terms, uses_of_links, uses_of_test, uses_of_rule, uses_of_rules, uses_of_branch}
 use Rattle.asm_check.specs.Collected.{IsSameScope}
 
 pub nat_symmetric : (x y : ℕ) → nat_eq x y ≡ nat_eq y x
@@ -117,7 +117,7 @@ mutual
   same_rule (Assign f ts t) xs ys same = both (use_of AsTarget f (term_count ts) xs ∷ uses_of_terms ts xs) (use_of AsTarget f (term_count ts) ys ∷ uses_of_terms ts ys) (uses_of_term t xs) (uses_of_term t ys)
       (both (use_of AsTarget f (term_count ts) xs ∷ []) (use_of AsTarget f (term_count ts) ys ∷ []) (uses_of_terms ts xs) (uses_of_terms ts ys) (ap (λ u. u ∷ []) (same_use AsTarget f (term_count ts) xs ys same)) (same_terms ts xs ys same))
       (same_term t xs ys same)
-  same_rule (Call r ts) xs ys same = both (use_of AsCalled r (term_count ts) xs ∷ []) (use_of AsCalled r (term_count ts) ys ∷ []) (uses_of_terms ts xs) (uses_of_terms ts ys) (ap (λ u. u ∷ []) (same_use AsCalled r (term_count ts) xs ys same)) (same_terms ts xs ys same)
+  same_rule (Call r ts) xs ys same = both (use_of AsRule r (term_count ts) xs ∷ []) (use_of AsRule r (term_count ts) ys ∷ []) (uses_of_terms ts xs) (uses_of_terms ts ys) (ap (λ u. u ∷ []) (same_use AsRule r (term_count ts) xs ys same)) (same_terms ts xs ys same)
   same_rule (Par Ps) xs ys same = same_rules Ps xs ys same
   same_rule (Seq Ps) xs ys same = same_rules Ps xs ys same
   same_rule (If t P Q) xs ys same = both (uses_of_term t xs ++ uses_of_rule P xs) (uses_of_term t ys ++ uses_of_rule P ys) (uses_of_branch Q xs) (uses_of_branch Q ys)

@@ -57,7 +57,7 @@ module _ (spec : Spec) (good : IsWellFormed spec) where
   fewer_functions k (source.Function x kind.Controlled domain codomain table ∷ items) = let rest = fewer_functions (suc k) items in omega (arith, rest)
   fewer_functions k (source.Function x kind.Static domain codomain table ∷ items) = let rest = fewer_functions (suc k) items in omega (arith, rest)
   fewer_functions k (source.Derived x xs t ∷ items) = let rest = fewer_functions (suc k) items in omega (arith, rest)
-  fewer_functions k (source.Declared x xs P ∷ items) = fewer_functions (suc k) items
+  fewer_functions k (source.NamedRule x xs P ∷ items) = fewer_functions (suc k) items
 
   functions_few : length (filter_map (function_given spec) spec.items) ≤ 256
   functions_few =

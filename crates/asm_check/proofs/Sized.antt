@@ -39,7 +39,7 @@ module _ (spec : Spec) (good : IsWellFormed spec) where
   own_small k (source.Init x) is small = tt
   own_small k (source.Function x how domain codomain table) is small = tt
   own_small k (source.Derived x xs t) is small = tt
-  own_small k (source.Declared x xs P) is small = tt
+  own_small k (source.NamedRule x xs P) is small = tt
 
   small_from : (k first : ℕ) (items : List Item) → AreNumbered (first_declarations spec) k first items → ((d : Declaration) → Contains (declarations_from k items) d → size_of spec d.meaning ≤ 4096)
       → (item : Item) → Contains items item → IsSmallItem item
@@ -71,7 +71,7 @@ module _ (spec : Spec) (good : IsWellFormed spec) where
   own_few k (source.Init x) small = omega arith
   own_few k (source.Function x how domain codomain table) small = omega arith
   own_few k (source.Derived x xs t) small = omega arith
-  own_few k (source.Declared x xs P) small = omega arith
+  own_few k (source.NamedRule x xs P) small = omega arith
 
   few_from : (k : ℕ) (items : List Item) → ((item : Item) → Contains items item → IsSmallItem item) → elements_in items ≤ 4096 * length (like is_universe (declarations_from k items))
   few_from k [] small = omega arith

@@ -23,7 +23,7 @@ own_universes n (source.Universe x low high) room =
     All-cons IsUniverse (numbers_between low.value high.value) [] (universe_laws.numbers_rise low high) (All-nil IsUniverse)
 own_universes n (source.Function x how domain codomain table) room = All-nil IsUniverse
 own_universes n (source.Derived x xs t) room = All-nil IsUniverse
-own_universes n (source.Declared x xs P) room = All-nil IsUniverse
+own_universes n (source.NamedRule x xs P) room = All-nil IsUniverse
 
 universes_from : (n : ℕ) (items : List Item) → n + elements_in items ≤ 262_144 → All IsUniverse (universe_lists n items)
 universes_from n [] room = All-nil IsUniverse

@@ -64,7 +64,7 @@ get_of (y ∷ ys) x c =
 
 kind_of_number : (m : Meaning) (number : ℕ) → cycle_number m ≡ Some number
     → (IsRule (Some (meaning_of m)) × (12 ≡ number)) ⊎ (IsDerived (Some (meaning_of m)) × (13 ≡ number))
-kind_of_number (code.Procedure xs P) number e = inl (is_rule _ _, cc)
+kind_of_number (code.Rule xs P) number e = inl (is_rule _ _, cc)
 kind_of_number (code.Derived xs t) number e = inr (is_derived _ _, cc)
 kind_of_number code.Predeclared number e = cc
 kind_of_number (code.Range first last) number e = cc
@@ -74,7 +74,7 @@ kind_of_number (code.Controlled domain) number e = cc
 kind_of_number (code.Static domain) number e = cc
 
 abbrev rule_test : Option names.Meaning → Bool
-rule_test (Some (names.Procedure xs P)) = true
+rule_test (Some (names.NamedRule xs P)) = true
 rule_test m = false
 
 abbrev derived_test : Option names.Meaning → Bool
@@ -88,7 +88,7 @@ derived_passes : (m : Option names.Meaning) → IsDerived m → derived_test m �
 derived_passes m (is_derived xs t) = refl
 
 number_of_rule : (m : Meaning) → rule_test (Some (meaning_of m)) ≡ true → cycle_number m ≡ Some 12
-number_of_rule (code.Procedure xs P) e = refl
+number_of_rule (code.Rule xs P) e = refl
 number_of_rule (code.Derived xs t) e = absurd (false≢true e)
 number_of_rule code.Predeclared e = absurd (false≢true e)
 number_of_rule (code.Range first last) e = absurd (false≢true e)
@@ -99,7 +99,7 @@ number_of_rule (code.Static domain) e = absurd (false≢true e)
 
 number_of_derived : (m : Meaning) → derived_test (Some (meaning_of m)) ≡ true → cycle_number m ≡ Some 13
 number_of_derived (code.Derived xs t) e = refl
-number_of_derived (code.Procedure xs P) e = absurd (false≢true e)
+number_of_derived (code.Rule xs P) e = absurd (false≢true e)
 number_of_derived code.Predeclared e = absurd (false≢true e)
 number_of_derived (code.Range first last) e = absurd (false≢true e)
 number_of_derived (code.Enumeration k) e = absurd (false≢true e)

@@ -1,5 +1,5 @@
 -- A use of a name that has no fault, in words of what the name stands for.
---     in_term, as_called, ..     of a name that is declared so, in this role
+--     in_term, as_rule, ..     of a name that is declared so, in this role
 --     suited                     of a use
 use Rattle.std.proofs.Common.{◌≡◌, ℕ, Bool, true, false, ◌||◌, List, [], ◌∷◌, length, Option, Some, None, refl, sym, ap, subst, ◌∙◌, inl, inr}
 use Rattle.std.specs.Prelude.{Contains, option_map}
@@ -8,7 +8,7 @@ use Rattle.asm_syntax.specs.SourceTree.{Name, Spec}
 use Rattle.asm_check.specs.Fit.{IsUniverseName, IsElementName, IsCodomainName, IsFitName, IsFitUse, IsFitTarget, IsFitCall, element, controlled, static, derived}
 use Rattle.asm_check.specs.Limits.{is_universe, is_rule}
 use Rattle.asm_check.specs.Names as names
-use Rattle.asm_check.specs.Names.{Text, Meaning, Role, InTerm, AsTarget, AsCalled, AsUniverse, AsCodomain, AsElement, is_known, is_text, is_among, arguments_of, is_assignable, declared}
+use Rattle.asm_check.specs.Names.{Text, Meaning, Role, InTerm, AsTarget, AsRule, AsUniverse, AsCodomain, AsElement, is_known, is_text, is_among, arguments_of, is_assignable, declared}
 use Rattle.asm_check.specs.Numbers.{is_element, is_table, is_derived, all_of, number_in, named_as, named, meaning_at}
 use Rattle.asm_check.specs.declared.checked.Named.{Named}
 use Rattle.asm_check.specs.declared.checked.Named.TheVariants as number
@@ -44,18 +44,18 @@ module _ (spec : Spec) (x : Name) where
     in_term (Some (names.Controlled domain)) means known counted = let at = numbered is_table number.Function (names.Controlled domain) means refl refl in controlled at.n domain at.stands at.means (counted (length domain) refl)
     in_term (Some (names.Static domain)) means known counted = let at = numbered is_table number.Function (names.Static domain) means refl refl in static at.n domain at.stands at.means (counted (length domain) refl)
     in_term (Some (names.Derived xs t)) means known counted = let at = numbered is_derived number.Derived (names.Derived xs t) means refl refl in derived at.n xs t at.stands at.means (counted (length xs) refl)
-    in_term (Some (names.Procedure xs P)) means known counted = absurd (false≢true known)
+    in_term (Some (names.NamedRule xs P)) means known counted = absurd (false≢true known)
 
-    as_called : (b : Bool) (m : Option Meaning) → declared spec x.text ≡ m → is_known AsCalled b m ≡ true → Counts AsCalled b m → IsFitCall spec x n
-    as_called b None means known counted = absurd (false≢true known)
-    as_called b (Some names.Predeclared) means known counted = absurd (false≢true known)
-    as_called b (Some (names.Range first last)) means known counted = absurd (false≢true known)
-    as_called b (Some (names.Enumeration k)) means known counted = absurd (false≢true known)
-    as_called b (Some (names.Element k)) means known counted = absurd (false≢true known)
-    as_called b (Some (names.Controlled domain)) means known counted = absurd (false≢true known)
-    as_called b (Some (names.Static domain)) means known counted = absurd (false≢true known)
-    as_called b (Some (names.Derived xs t)) means known counted = absurd (false≢true known)
-    as_called b (Some (names.Procedure xs P)) means known counted = let at = numbered is_rule number.Called (names.Procedure xs P) means refl refl in record { rule = at.n; parameters = xs; body = P; stands = at.stands; means = at.means; counted = counted (length xs) refl }
+    as_rule : (b : Bool) (m : Option Meaning) → declared spec x.text ≡ m → is_known AsRule b m ≡ true → Counts AsRule b m → IsFitCall spec x n
+    as_rule b None means known counted = absurd (false≢true known)
+    as_rule b (Some names.Predeclared) means known counted = absurd (false≢true known)
+    as_rule b (Some (names.Range first last)) means known counted = absurd (false≢true known)
+    as_rule b (Some (names.Enumeration k)) means known counted = absurd (false≢true known)
+    as_rule b (Some (names.Element k)) means known counted = absurd (false≢true known)
+    as_rule b (Some (names.Controlled domain)) means known counted = absurd (false≢true known)
+    as_rule b (Some (names.Static domain)) means known counted = absurd (false≢true known)
+    as_rule b (Some (names.Derived xs t)) means known counted = absurd (false≢true known)
+    as_rule b (Some (names.NamedRule xs P)) means known counted = let at = numbered is_rule number.Rule (names.NamedRule xs P) means refl refl in record { rule = at.n; parameters = xs; body = P; stands = at.stands; means = at.means; counted = counted (length xs) refl }
 
     as_universe : (b : Bool) (m : Option Meaning) → declared spec x.text ≡ m → is_known AsUniverse b m ≡ true → IsUniverseName spec x
     as_universe b None means known = absurd (false≢true known)
@@ -66,7 +66,7 @@ module _ (spec : Spec) (x : Name) where
     as_universe b (Some (names.Controlled domain)) means known = absurd (false≢true known)
     as_universe b (Some (names.Static domain)) means known = absurd (false≢true known)
     as_universe b (Some (names.Derived xs t)) means known = absurd (false≢true known)
-    as_universe b (Some (names.Procedure xs P)) means known = absurd (false≢true known)
+    as_universe b (Some (names.NamedRule xs P)) means known = absurd (false≢true known)
 
     as_codomain : (b : Bool) (m : Option Meaning) → declared spec x.text ≡ m → is_known AsCodomain b m ≡ true → IsCodomainName spec x
     as_codomain b None means known = absurd (false≢true known)
@@ -77,7 +77,7 @@ module _ (spec : Spec) (x : Name) where
     as_codomain b (Some (names.Controlled domain)) means known = absurd (false≢true known)
     as_codomain b (Some (names.Static domain)) means known = absurd (false≢true known)
     as_codomain b (Some (names.Derived xs t)) means known = absurd (false≢true known)
-    as_codomain b (Some (names.Procedure xs P)) means known = absurd (false≢true known)
+    as_codomain b (Some (names.NamedRule xs P)) means known = absurd (false≢true known)
 
     as_element : (b : Bool) (m : Option Meaning) → declared spec x.text ≡ m → is_known AsElement b m ≡ true → IsElementName spec x
     as_element b None means known = absurd (false≢true known)
@@ -88,7 +88,7 @@ module _ (spec : Spec) (x : Name) where
     as_element b (Some (names.Controlled domain)) means known = absurd (false≢true known)
     as_element b (Some (names.Static domain)) means known = absurd (false≢true known)
     as_element b (Some (names.Derived xs t)) means known = absurd (false≢true known)
-    as_element b (Some (names.Procedure xs P)) means known = absurd (false≢true known)
+    as_element b (Some (names.NamedRule xs P)) means known = absurd (false≢true known)
 
     as_target : (bound : List Text) → ¬ (Contains bound x.text) → (m : Option Meaning) → declared spec x.text ≡ m → is_assignable false m ≡ true → Counts AsTarget false m → IsFitTarget spec x n bound
     as_target bound free (Some (names.Controlled domain)) means known counted =
@@ -101,7 +101,7 @@ module _ (spec : Spec) (x : Name) where
     as_target bound free (Some (names.Element k)) means known counted = absurd (false≢true known)
     as_target bound free (Some (names.Static domain)) means known counted = absurd (false≢true known)
     as_target bound free (Some (names.Derived xs t)) means known counted = absurd (false≢true known)
-    as_target bound free (Some (names.Procedure xs P)) means known counted = absurd (false≢true known)
+    as_target bound free (Some (names.NamedRule xs P)) means known counted = absurd (false≢true known)
 
 -- ---- a use, inside binders
 
@@ -125,7 +125,7 @@ module _ (spec : Spec) where
   abbrev pub IsSuited : Role → Name → ℕ → (bound : List Text) → Type 0
   IsSuited InTerm x n bound = IsFitUse spec x n bound
   IsSuited AsTarget x n bound = IsFitTarget spec x n bound
-  IsSuited AsCalled x n bound = IsFitCall spec x n
+  IsSuited AsRule x n bound = IsFitCall spec x n
   IsSuited AsUniverse x n bound = IsUniverseName spec x
   IsSuited AsCodomain x n bound = IsCodomainName spec x
   IsSuited AsElement x n bound = IsElementName spec x
@@ -148,7 +148,7 @@ module _ (spec : Spec) where
     pub suited : (role : Role) (b : Bool) → is_among bound x.text ≡ b → IsGood role x n b → IsSuited role x n bound
     suited InTerm b e good = term_suited b e good
     suited AsTarget b e good = target_suited b e good
-    suited AsCalled b e good = as_called spec x n b (declared spec x.text) refl good.known good.counted
+    suited AsRule b e good = as_rule spec x n b (declared spec x.text) refl good.known good.counted
     suited AsUniverse b e good = as_universe spec x n b (declared spec x.text) refl good.known
     suited AsCodomain b e good = as_codomain spec x n b (declared spec x.text) refl good.known
     suited AsElement b e good = as_element spec x n b (declared spec x.text) refl good.known

@@ -145,7 +145,7 @@ known_element (Some (Enumeration k)) e = absurd (false≢true e)
 known_element (Some (names.Controlled domain)) e = absurd (false≢true e)
 known_element (Some (names.Static domain)) e = absurd (false≢true e)
 known_element (Some (names.Derived xs t)) e = absurd (false≢true e)
-known_element (Some (names.Procedure xs P)) e = absurd (false≢true e)
+known_element (Some (names.NamedRule xs P)) e = absurd (false≢true e)
 
 of_element : (k : ℕ) (m : Meaning) → is_element_of k m ≡ true → m ≡ Element k
 of_element k (Element j) e = let same : k ≡ j = grind (arith, nat_tests) in ap Element (sym same)
@@ -155,7 +155,7 @@ of_element k (Enumeration j) e = absurd (false≢true e)
 of_element k (names.Controlled domain) e = absurd (false≢true e)
 of_element k (names.Static domain) e = absurd (false≢true e)
 of_element k (names.Derived xs t) e = absurd (false≢true e)
-of_element k (names.Procedure xs P) e = absurd (false≢true e)
+of_element k (names.NamedRule xs P) e = absurd (false≢true e)
 
 module _ (spec : Spec) (good : IsWellFormed spec) where
   abbrev number_of : Name → ℕ
@@ -183,7 +183,7 @@ module _ (spec : Spec) (good : IsWellFormed spec) where
   const_inside (names.Controlled domain) c inside = absurd (false≢true inside)
   const_inside (names.Static domain) c inside = absurd (false≢true inside)
   const_inside (names.Derived xs t) c inside = absurd (false≢true inside)
-  const_inside (names.Procedure xs P) c inside = absurd (false≢true inside)
+  const_inside (names.NamedRule xs P) c inside = absurd (false≢true inside)
 
   abbrev values_at : Name → List Value
   values_at u = slice_index_or (values_of spec good) (index_among (texts_of (universes_of spec)) u.text) []

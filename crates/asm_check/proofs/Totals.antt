@@ -81,7 +81,7 @@ module _ (spec : Spec) (good : IsWellFormed spec) where
       split ∙ omega (arith, rest, next, own, many, is)
   count_locations f k (source.Function x kind.Static domain codomain table ∷ items) counted = count_locations (f + 1) (suc k) items (later (source.Function x kind.Static domain codomain table) items counted)
   count_locations f k (source.Derived x xs t ∷ items) counted = count_locations f (suc k) items (later (source.Derived x xs t) items counted)
-  count_locations f k (source.Declared x xs P ∷ items) counted = count_locations f (suc k) items (later (source.Declared x xs P) items counted)
+  count_locations f k (source.NamedRule x xs P ∷ items) counted = count_locations f (suc k) items (later (source.NamedRule x xs P) items counted)
 
   abbrev statics_in : List Item → ℕ
   statics_in items = sum_by (static_lists (values_of spec good)) (filter_map (function_given spec) items)
@@ -109,7 +109,7 @@ module _ (spec : Spec) (good : IsWellFormed spec) where
       let split = sum_by-cons (static_lists (values_of spec good)) (given_by spec kind.Static domain table) (filter_map (function_given spec) items) in
       split ∙ omega (arith, rest, next, own, is)
   count_statics k (source.Derived x xs t ∷ items) counted = count_statics (suc k) items (later (source.Derived x xs t) items counted)
-  count_statics k (source.Declared x xs P ∷ items) counted = count_statics (suc k) items (later (source.Declared x xs P) items counted)
+  count_statics k (source.NamedRule x xs P ∷ items) counted = count_statics (suc k) items (later (source.NamedRule x xs P) items counted)
 
   all_counted : AreCounted spec.items
   all_counted x how domain codomain table it = lists_are spec good domain (short_domain spec good x how domain codomain table it)

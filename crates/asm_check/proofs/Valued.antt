@@ -17,4 +17,4 @@ length_values spec (names.Element k) = refl
 length_values spec (names.Controlled domain) = refl
 length_values spec (names.Static domain) = refl
 length_values spec (names.Derived xs t) = refl
-length_values spec (names.Procedure xs P) = refl
+length_values spec (names.NamedRule xs P) = refl

@@ -6,13 +6,13 @@
 use Rattle.std.specs.Prelude.{◌≡◌, ◌<◌, ◌+◌, ◌-◌, ◌^◌, ℕ, zero, suc, cond, nat_le, min, List, [], ◌∷◌, length, slice_index}
 use Rattle.asm_syntax.specs.SourceTree.{Name, Spec}
 use Rattle.asm_check.specs.declared.limits.Totals.{Totals}
-use Rattle.asm_check.specs.declared.meaning.Declared.{Declared}
+use Rattle.asm_check.specs.declared.meaning.Declaration.{Declaration as CodeDeclaration}
 use Rattle.asm_check.specs.Names.{Declaration, Meaning, Range, Enumeration}
 use Rattle.asm_check.specs.Limits.{is_universe, is_function, is_controlled, is_static, is_rule, range_size, size_of, domain_of, lists_of, counted_size}
 use Rattle.asm_check.specs.FaultLists.{total_of}
 use Rattle.asm_check.specs.Tables.{Entry, text_at}
 
-abbrev pub value_of_entry : Entry → Declared
+abbrev pub value_of_entry : Entry → CodeDeclaration
 value_of_entry e = e.1
 
 abbrev pub size_with : (counts : List ℕ) → Meaning → ℕ

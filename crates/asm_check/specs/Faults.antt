@@ -25,7 +25,7 @@ pub record IsRepeated (xs : List Name) (at : ℕ) : Type 0 where
 
 abbrev pub parameters_of : Item → List Name
 parameters_of (source.Derived x parameters t) = parameters
-parameters_of (source.Declared x parameters P) = parameters
+parameters_of (source.NamedRule x parameters P) = parameters
 parameters_of item = []
 
 abbrev pub name_lists : Spec → List (List Name)

@@ -7,7 +7,7 @@ use Rattle.std.specs.Prelude.{◌≡◌, ◌⊎◌, ℕ, List, [], ◌∷◌, ma
 use Rattle.asm_syntax.specs.declared.spec.FunctionKind.{FunctionKind}
 use Rattle.asm_syntax.specs.SourceTree as source
 use Rattle.asm_syntax.specs.SourceTree.{Name, Term, Constant, Named, Chain, Not, Negative, Exists, Every, Terms, no_terms, term_then, Links, no_links, link_then, Rule, Skip, Assign, Call, Par, Seq, If, Let, Forall, Choose, Iterate, Rules, no_rules, rule_then, Branch, left_out, written, Const, Given, Spec}
-use Rattle.asm_check.specs.Names.{Text, Predeclared, Controlled, Static, Procedure, Derived, declared, term_count, text_of}
+use Rattle.asm_check.specs.Names.{Text, Predeclared, Controlled, Static, NamedRule, Derived, declared, term_count, text_of}
 use Rattle.asm_check.specs.Numbers.{functions_of, derived_of, rules_of, meaning_at, named}
 use Rattle.asm_check.specs.declared.checked.Named as checked
 use Rattle.asm_check.specs.declared.checked.Named.TheVariants as number
@@ -77,8 +77,8 @@ module _ (spec : Spec) where
     pub rule : ℕ
     pub parameters : List Name
     pub body : Rule
-    pub stands : StandsFor x (number.Called rule)
-    pub means : meaning_at (rules_of spec) rule ≡ Some (Procedure parameters body)
+    pub stands : StandsFor x (number.Rule rule)
+    pub means : meaning_at (rules_of spec) rule ≡ Some (NamedRule parameters body)
     pub counted : n ≡ length parameters
 
   abbrev mutual
@@ -124,10 +124,10 @@ module _ (spec : Spec) where
     pub name : Name
     pub body : Rule
     pub only : inits spec ≡ name ∷ []
-    pub rule : declared spec name.text ≡ Some (Procedure [] body)
+    pub rule : declared spec name.text ≡ Some (NamedRule [] body)
 
   pub record IsReady : Type 0 where
-    pub rules : (f : Text) (xs : List Name) (P : Rule) → declared spec f ≡ Some (Procedure xs P) → IsFitRule P (map text_of xs)
+    pub rules : (f : Text) (xs : List Name) (P : Rule) → declared spec f ≡ Some (NamedRule xs P) → IsFitRule P (map text_of xs)
     pub derived : (f : Text) (xs : List Name) (t : Term) → declared spec f ≡ Some (Derived xs t) → IsFitTerm t (map text_of xs)
     pub functions : (x : Name) (kind : FunctionKind) (domain : List Name) (codomain : Option Name) (table : Option Given)
         → Contains spec.items (source.Function x kind domain codomain table) → IsFitFunction domain codomain table

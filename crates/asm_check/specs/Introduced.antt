@@ -8,7 +8,7 @@ use Rattle.asm_state.specs.declared.number.Number.{Number}
 use Rattle.asm_syntax.specs.declared.spec.FunctionKind.TheVariants as kind
 use Rattle.asm_syntax.specs.SourceTree as source
 use Rattle.asm_syntax.specs.SourceTree.{Name, Term, Rule, Given, Item, Spec}
-use Rattle.asm_check.specs.Names.{Text, Range, Enumeration, Element, Controlled, Static, Derived, Procedure, declared, text_of}
+use Rattle.asm_check.specs.Names.{Text, Range, Enumeration, Element, Controlled, Static, Derived, NamedRule, declared, text_of}
 
 abbrev pub introduced : Item → List Name
 introduced (source.Uses x) = []
@@ -17,7 +17,7 @@ introduced (source.Enum x elements) = x ∷ elements
 introduced (source.Universe x first last) = x ∷ []
 introduced (source.Function x how domain codomain table) = x ∷ []
 introduced (source.Derived x parameters t) = x ∷ []
-introduced (source.Declared x parameters P) = x ∷ []
+introduced (source.NamedRule x parameters P) = x ∷ []
 
 abbrev pub all_names : Spec → List Text
 all_names spec = codes "NUMBER" ∷ codes "BOOLEAN" ∷ codes "ANY" ∷ map text_of (flat_map introduced spec.items)
@@ -27,7 +27,7 @@ AreDifferent texts = AllPairs (λ x y. x ≢ y) texts
 
 pub record HasNamesApart (spec : Spec) : Type 0 where
   pub names : AreDifferent (all_names spec)
-  pub parameters_of_rules : (x : Name) (xs : List Name) (P : Rule) → Contains spec.items (source.Declared x xs P) → AreDifferent (map text_of xs)
+  pub parameters_of_rules : (x : Name) (xs : List Name) (P : Rule) → Contains spec.items (source.NamedRule x xs P) → AreDifferent (map text_of xs)
   pub parameters_of_derived : (x : Name) (xs : List Name) (t : Term) → Contains spec.items (source.Derived x xs t) → AreDifferent (map text_of xs)
 
 -- an enumeration, and each of its elements, is known by the enumeration's position among the items
@@ -40,4 +40,4 @@ pub record HasMeanings (spec : Spec) : Type 0 where
   pub static : (x : Name) (domain : List Name) (codomain : Option Name) (table : Option Given) → Contains spec.items (source.Function x kind.Static domain codomain table)
       → declared spec x.text ≡ Some (Static domain)
   pub derived : (x : Name) (xs : List Name) (t : Term) → Contains spec.items (source.Derived x xs t) → declared spec x.text ≡ Some (Derived xs t)
-  pub rules : (x : Name) (xs : List Name) (P : Rule) → Contains spec.items (source.Declared x xs P) → declared spec x.text ≡ Some (Procedure xs P)
+  pub rules : (x : Name) (xs : List Name) (P : Rule) → Contains spec.items (source.NamedRule x xs P) → declared spec x.text ≡ Some (NamedRule xs P)

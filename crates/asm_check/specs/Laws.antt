@@ -86,7 +86,7 @@ meaning_numbered spec (number.Universe n) = meaning_at (universes_of spec) n
 meaning_numbered spec (number.Element n) = meaning_at (elements_of spec) n
 meaning_numbered spec (number.Function f) = meaning_at (functions_of spec) f
 meaning_numbered spec (number.Derived d) = meaning_at (derived_of spec) d
-meaning_numbered spec (number.Called r) = meaning_at (rules_of spec) r
+meaning_numbered spec (number.Rule r) = meaning_at (rules_of spec) r
 
 -- The number of a name leads to what the name is declared as, and each declared name but those of codomains has one.
 pub record HasNumber (spec : Spec) (x : Text) : Type 0 where

@@ -2,7 +2,7 @@
 use Rattle.std.specs.Prelude.{◌≡◌, ◌<◌, ℕ, suc, ◌+◌, ◌*◌, ℤ, ◌-ℤ◌, nat_abs, int_le, nat_eq, nat_le, Bool, true, false, cond, List, [], ◌∷◌, ◌++◌, map, length, take, filter, find, count_by, sum_by}
 use Rattle.std.specs.Option.{option_map_or}
 use Rattle.asm_syntax.specs.SourceTree.{Name, Spec}
-use Rattle.asm_check.specs.Names.{Declaration, Meaning, Range, Enumeration, Element, Controlled, Static, Derived, Procedure, first_declarations, is_text}
+use Rattle.asm_check.specs.Names.{Declaration, Meaning, Range, Enumeration, Element, Controlled, Static, Derived, NamedRule, first_declarations, is_text}
 use Rattle.asm_check.specs.Ways.{called, used, ReachesCycle, IsOnWay}
 
 abbrev pub max_universes : ℕ
@@ -49,7 +49,7 @@ is_function (Derived xs t) = true
 is_function m = false
 
 abbrev pub is_rule : Meaning → Bool
-is_rule (Procedure xs P) = true
+is_rule (NamedRule xs P) = true
 is_rule m = false
 
 abbrev pub is_element_of : ℕ → Meaning → Bool

@@ -33,7 +33,7 @@ pub data Meaning : Type 0 where
   Controlled : (domain : List Name) → Meaning
   Static : (domain : List Name) → Meaning
   Derived : (parameters : List Name) → Term → Meaning
-  Procedure : (parameters : List Name) → Rule → Meaning
+  NamedRule : (parameters : List Name) → Rule → Meaning
 
 pub record Declaration : Type 0 where
   pub name : Name
@@ -53,7 +53,7 @@ declarations_of k (source.Enum x elements) = declares x (Enumeration k) ∷ map 
 declarations_of k (source.Universe x first last) = declares x (Range first.value last.value) ∷ []
 declarations_of k (source.Function x how domain codomain table) = declares x (function_of how domain) ∷ []
 declarations_of k (source.Derived x parameters t) = declares x (Derived parameters t) ∷ []
-declarations_of k (source.Declared x parameters P) = declares x (Procedure parameters P) ∷ []
+declarations_of k (source.NamedRule x parameters P) = declares x (NamedRule parameters P) ∷ []
 
 abbrev pub declarations_from : ℕ → List Item → List Declaration
 declarations_from k [] = []
@@ -86,7 +86,7 @@ declared spec x = option_map (λ d. d.meaning) (find (λ d. is_text d.name.text 
 pub data Role : Type 0 where
   InTerm : Role
   AsTarget : Role
-  AsCalled : Role
+  AsRule : Role
   AsUniverse : Role
   AsCodomain : Role
   AsElement : Role
@@ -134,7 +134,7 @@ abbrev mutual
   pub uses_of_rule : Rule → (bound : List Text) → List Use
   uses_of_rule Skip bound = []
   uses_of_rule (Assign f ts t) bound = use_of AsTarget f (term_count ts) bound ∷ uses_of_terms ts bound ++ uses_of_term t bound
-  uses_of_rule (Call r ts) bound = use_of AsCalled r (term_count ts) bound ∷ uses_of_terms ts bound
+  uses_of_rule (Call r ts) bound = use_of AsRule r (term_count ts) bound ∷ uses_of_terms ts bound
   uses_of_rule (Par Ps) bound = uses_of_rules Ps bound
   uses_of_rule (Seq Ps) bound = uses_of_rules Ps bound
   uses_of_rule (If t P Q) bound = uses_of_term t bound ++ uses_of_rule P bound ++ uses_of_branch Q bound
@@ -175,7 +175,7 @@ uses_of (source.Enum x elements) = []
 uses_of (source.Universe x first last) = []
 uses_of (source.Function x how domain codomain table) = map (plain_use AsUniverse) domain ++ uses_of_codomain codomain ++ uses_of_table table
 uses_of (source.Derived x parameters t) = uses_of_term t (map text_of parameters)
-uses_of (source.Declared x parameters P) = uses_of_rule P (map text_of parameters)
+uses_of (source.NamedRule x parameters P) = uses_of_rule P (map text_of parameters)
 
 unfoldable pub uses : Spec → List Use
 uses spec = flat_map uses_of spec.items
@@ -191,7 +191,7 @@ is_known InTerm false (Some (Static domain)) = true
 is_known InTerm false (Some (Derived xs t)) = true
 is_known AsTarget true m = true
 is_known AsTarget false (Some m) = true
-is_known AsCalled b (Some (Procedure xs P)) = true
+is_known AsRule b (Some (NamedRule xs P)) = true
 is_known AsUniverse b (Some (Range first last)) = true
 is_known AsUniverse b (Some (Enumeration k)) = true
 is_known AsCodomain b (Some Predeclared) = true
@@ -208,7 +208,7 @@ arguments_of InTerm false (Some (Controlled domain)) = Some (length domain)
 arguments_of InTerm false (Some (Static domain)) = Some (length domain)
 arguments_of InTerm false (Some (Derived xs t)) = Some (length xs)
 arguments_of AsTarget false (Some (Controlled domain)) = Some (length domain)
-arguments_of AsCalled b (Some (Procedure xs P)) = Some (length xs)
+arguments_of AsRule b (Some (NamedRule xs P)) = Some (length xs)
 arguments_of role b m = None
 
 -- a controlled function, and no binder
@@ -217,5 +217,5 @@ is_assignable false (Some (Controlled domain)) = true
 is_assignable b m = false
 
 abbrev pub is_start : Option Meaning → Bool
-is_start (Some (Procedure [] P)) = true
+is_start (Some (NamedRule [] P)) = true
 is_start m = false

@@ -45,7 +45,7 @@ next_number indices (names.Element k) = Some (number.Element (length indices.ele
 next_number indices (names.Controlled domain) = Some (number.Function (length indices.functions.items))
 next_number indices (names.Static domain) = Some (number.Function (length indices.functions.items))
 next_number indices (names.Derived xs t) = Some (number.Derived (length indices.derived.items))
-next_number indices (names.Procedure xs P) = Some (number.Called (length indices.rules.items))
+next_number indices (names.NamedRule xs P) = Some (number.Rule (length indices.rules.items))
 
 abbrev pub indices_like : (Meaning → Bool) → List Declaration → List ℕ
 indices_like is_like ds = indices_where (λ (d : Declaration). is_like d.meaning) 0 ds
@@ -69,7 +69,7 @@ number_after ds (names.Element k) = Some (number.Element (length (like is_elemen
 number_after ds (names.Controlled domain) = Some (number.Function (length (like is_table ds)))
 number_after ds (names.Static domain) = Some (number.Function (length (like is_table ds)))
 number_after ds (names.Derived xs t) = Some (number.Derived (length (like is_derived ds)))
-number_after ds (names.Procedure xs P) = Some (number.Called (length (like is_rule ds)))
+number_after ds (names.NamedRule xs P) = Some (number.Rule (length (like is_rule ds)))
 
 abbrev pub numbers_from : (before ds : List Declaration) → List (Text × Option Named)
 numbers_from before [] = []
@@ -92,12 +92,12 @@ IsInRange spec (Some (number.Universe n)) = n < length (universes_of spec)
 IsInRange spec (Some (number.Element n)) = n < length (elements_of spec)
 IsInRange spec (Some (number.Function n)) = n < length (functions_of spec)
 IsInRange spec (Some (number.Derived n)) = n < length (derived_of spec)
-IsInRange spec (Some (number.Called n)) = n < length (rules_of spec)
+IsInRange spec (Some (number.Rule n)) = n < length (rules_of spec)
 
 -- ---- bodies
 
 abbrev pub is_rule_item : Item → Bool
-is_rule_item (source.Declared x xs P) = true
+is_rule_item (source.NamedRule x xs P) = true
 is_rule_item item = false
 
 abbrev pub is_derived_item : Item → Bool
@@ -114,4 +114,4 @@ AreBodiesOf items bodies = AreBodies items bodies.rules.items bodies.derived.ite
 -- the main rule's number
 pub record IsMain (spec : Spec) (n : ℕ) : Type 0 where
   pub in_range : n < length (rules_of spec)
-  pub named : (x : Name) → inits spec ≡ x ∷ [] → named spec x.text ≡ Some (number.Called n)
+  pub named : (x : Name) → inits spec ≡ x ∷ [] → named spec x.text ≡ Some (number.Rule n)

@@ -3,7 +3,7 @@
 --     named spec x                                                      what the name x stands for outside of binders
 use Rattle.std.specs.Prelude.{ℕ, Bool, true, false, List, filter, position, slice_get, Option, Some, None, option_map}
 use Rattle.asm_syntax.specs.SourceTree.{Spec}
-use Rattle.asm_check.specs.Names.{Text, Declaration, Meaning, Predeclared, Range, Enumeration, Element, Controlled, Static, Derived, Procedure, first_declarations, declared, is_text}
+use Rattle.asm_check.specs.Names.{Text, Declaration, Meaning, Predeclared, Range, Enumeration, Element, Controlled, Static, Derived, NamedRule, first_declarations, declared, is_text}
 use Rattle.asm_check.specs.Limits.{is_universe, is_rule}
 use Rattle.asm_check.specs.declared.checked.Named.{Named}
 use Rattle.asm_check.specs.declared.checked.Named.TheVariants as number
@@ -53,7 +53,7 @@ named_as spec x (Some (Element k)) = option_map number.Element (number_in (eleme
 named_as spec x (Some (Controlled domain)) = option_map number.Function (number_in (functions_of spec) x)
 named_as spec x (Some (Static domain)) = option_map number.Function (number_in (functions_of spec) x)
 named_as spec x (Some (Derived xs t)) = option_map number.Derived (number_in (derived_of spec) x)
-named_as spec x (Some (Procedure xs P)) = option_map number.Called (number_in (rules_of spec) x)
+named_as spec x (Some (NamedRule xs P)) = option_map number.Rule (number_in (rules_of spec) x)
 
 unfoldable pub named : Spec → Text → Option Named
 named spec x = named_as spec x (declared spec x)

@@ -4,7 +4,7 @@
 --     HasRanks spec                       the heights of calls and uses are such ranks, and within the limit
 use Rattle.std.specs.Prelude.{◌≡◌, ℕ, suc, ◌<◌, ◌≤◌, false, List, ◌∷◌, map, Some}
 use Rattle.asm_syntax.specs.SourceTree.{Name, Term, Constant, Named, Chain, Not, Negative, Exists, Every, Terms, no_terms, term_then, Links, no_links, link_then, Rule, Skip, Assign, Call, Par, Seq, If, Let, Forall, Choose, Iterate, Rules, no_rules, rule_then, Branch, left_out, written, Spec}
-use Rattle.asm_check.specs.Names.{Text, Procedure, Derived, declared, is_among, text_of}
+use Rattle.asm_check.specs.Names.{Text, NamedRule, Derived, declared, is_among, text_of}
 use Rattle.asm_check.specs.Ways.{called, used, height}
 use Rattle.asm_check.specs.Limits.{max_rank}
 
@@ -12,7 +12,7 @@ module _ (spec : Spec) (rank : Text → ℕ) (n : ℕ) where
   pub record IsCallable (f : Text) : Type 0 where
     pub parameters : List Name
     pub body : Rule
-    pub is_declared : declared spec f ≡ Some (Procedure parameters body)
+    pub is_declared : declared spec f ≡ Some (NamedRule parameters body)
     pub is_below : rank f < n
 
   abbrev mutual
@@ -61,7 +61,7 @@ module _ (spec : Spec) (rank : Text → ℕ) (n : ℕ) where
 -- each rule calls only rules of lower rank
 abbrev pub AreRulesRanked : Spec → (Text → ℕ) → Type 0
 AreRulesRanked spec rank =
-    (f : Text) (xs : List Name) (P : Rule) → declared spec f ≡ Some (Procedure xs P) → CallsBelow spec rank (rank f) P
+    (f : Text) (xs : List Name) (P : Rule) → declared spec f ≡ Some (NamedRule xs P) → CallsBelow spec rank (rank f) P
 
 -- each derived function uses only those of lower rank
 abbrev pub AreDerivedRanked : Spec → (Text → ℕ) → Type 0

@@ -3,7 +3,7 @@ use Rattle.std.specs.Prelude.{◌≡◌, ◌⊎◌, ◌<◌, ℕ, suc, List, map
 use Rattle.asm_syntax.specs.SourceTree.{Spec}
 use Rattle.asm_check.specs.declared.meaning.Meaning.{Meaning}
 use Rattle.asm_check.specs.declared.meaning.Meaning.TheVariants as code
-use Rattle.asm_check.specs.declared.meaning.Declared.{Declared}
+use Rattle.asm_check.specs.declared.meaning.Declaration.{Declaration}
 use Rattle.asm_check.specs.Graph.{IsGraph, next_of}
 use Rattle.asm_check.specs.Limits.{max_rank}
 use Rattle.asm_check.specs.Onward.{onward}
@@ -18,7 +18,7 @@ pub record AreStepsOf (spec : Spec) (entries : List Entry) (lists : List (List �
 
 -- the number of a cycle's fault
 abbrev pub cycle_number : Meaning → Option ℕ
-cycle_number (code.Procedure xs P) = Some 12
+cycle_number (code.Rule xs P) = Some 12
 cycle_number (code.Derived xs t) = Some 13
 cycle_number m = None
 
@@ -29,7 +29,7 @@ module _ (lists : List (List ℕ)) (n : ℕ) where
   abbrev pub IsHighAt : (offset : ℕ) → (at number : ℕ) → Type 0
   IsHighAt offset at number = IsOnWay (next_of lists) (suc max_rank) n × (¬ (ReachesCycle (next_of lists) n)) × (offset ≡ at) × (15 ≡ number)
 
-  abbrev pub IsFaultOf : Declared → (at number : ℕ) → Type 0
+  abbrev pub IsFaultOf : Declaration → (at number : ℕ) → Type 0
   IsFaultOf d at number = IsCycleAt d.at d.meaning at number ⊎ IsHighAt d.at at number
 
   abbrev pub IsFaultAt : List Entry → (at number : ℕ) → Type 0

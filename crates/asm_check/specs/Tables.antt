@@ -8,7 +8,7 @@ use Rattle.asm_syntax.specs.SourceTree.{Spec}
 use Rattle.asm_syntax.specs.Views.{name_of, term_of, rule_of}
 use Rattle.asm_check.specs.declared.meaning.Meaning.{Meaning}
 use Rattle.asm_check.specs.declared.meaning.Meaning.TheVariants as code
-use Rattle.asm_check.specs.declared.meaning.Declared.{Declared}
+use Rattle.asm_check.specs.declared.meaning.Declaration.{Declaration as CodeDeclaration}
 use Rattle.asm_check.specs.Names as names
 use Rattle.asm_check.specs.Names.{Text, Declaration, first_declarations}
 
@@ -20,10 +20,10 @@ meaning_of (code.Element k) = names.Element k
 meaning_of (code.Controlled domain) = names.Controlled (map name_of domain.now)
 meaning_of (code.Static domain) = names.Static (map name_of domain.now)
 meaning_of (code.Derived xs t) = names.Derived (map name_of xs.now) (term_of t.now)
-meaning_of (code.Procedure xs P) = names.Procedure (map name_of xs.now) (rule_of P.now)
+meaning_of (code.Rule xs P) = names.NamedRule (map name_of xs.now) (rule_of P.now)
 
 abbrev pub Entry : Type 0
-Entry = Bor (List ℕ) × Declared
+Entry = Bor (List ℕ) × CodeDeclaration
 
 abbrev pub declaration_of : Entry → Declaration
 declaration_of e = record { name = record { at = e.1.at; text = e.0.now }; meaning = meaning_of e.1.meaning }

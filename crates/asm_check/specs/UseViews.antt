@@ -8,7 +8,7 @@ use Rattle.asm_check.specs.declared.uses.Use.{Use}
 abbrev pub role_of : Role → names.Role
 role_of code.InTerm = names.InTerm
 role_of code.AsTarget = names.AsTarget
-role_of code.AsCalled = names.AsCalled
+role_of code.AsRule = names.AsRule
 role_of code.AsUniverse = names.AsUniverse
 role_of code.AsCodomain = names.AsCodomain
 role_of code.AsElement = names.AsElement

@@ -21,7 +21,7 @@ impl Bodies {
         let mut derived = Vec::new(alloc);
         for (k, item) in items.iter().enumerate() {
             match item {
-                Item::Declared { .. } => rules.push(k)?,
+                Item::Rule { .. } => rules.push(k)?,
                 Item::Derived { .. } => derived.push(k)?,
                 _ => {}
             }

@@ -8,7 +8,7 @@ ghost use Rattle.asm_check.specs.Names.{first_declarations};
 ghost use Rattle.asm_check.specs.Numbers.{named, functions_of, derived_of, rules_of, elements_of, meaning_at, name_at};
 ghost use Rattle.asm_check.specs.NumberTables.{IsNumberingOf, AreBodiesOf, IsMain, IsInRange};
 ghost use Rattle.asm_check.specs.Shapes.{shape_of};
-ghost use Rattle.asm_check.specs.declared.checked.Named.TheVariants.{Called};
+ghost use Rattle.asm_check.specs.declared.checked.Named.TheVariants as number;
 
 use crate::bodies::Bodies;
 use crate::numbering::Numbering;
@@ -28,8 +28,7 @@ pub enum Named {
     /// A controlled or static function: its number in the signature.
     Function(usize),
     Derived(usize),
-    /// A rule.
-    Called(usize),
+    Rule(usize),
 }
 
 /// A specification without faults, with what its names stand for at hand. Its readers take no memory, and constant time.
@@ -85,10 +84,10 @@ impl Checked {
     /// The parameters and the body of the rule with this number.
     pub fn rule(&self, r: usize) -> (&[Name], &Rule)
         requires { r < length (rules_of (spec_of self.now.spec)) }
-        ensures { meaning_at (rules_of (spec_of self.now.spec)) r ≡ Some (names.Procedure (map name_of result.0.now) (rule_of result.1.now)) }
+        ensures { meaning_at (rules_of (spec_of self.now.spec)) r ≡ Some (names.NamedRule (map name_of result.0.now) (rule_of result.1.now)) }
     {
         match &self.spec.items[self.bodies.rules[r]] {
-            Item::Declared {
+            Item::Rule {
                 parameters,
                 body,
                 ..
@@ -115,7 +114,7 @@ impl Checked {
     /// The number of the rule that is named after `init`.
     pub fn main(&self) -> usize
         ensures in_range { result < length (rules_of (spec_of self.now.spec)) }
-        ensures main { (x : source.Name) → inits (spec_of self.now.spec) ≡ x ∷ [] → named (spec_of self.now.spec) x.text ≡ Some (Called result) }
+        ensures main { (x : source.Name) → inits (spec_of self.now.spec) ≡ x ∷ [] → named (spec_of self.now.spec) x.text ≡ Some (number.Rule result) }
         ensures one { (x : source.Name) × (inits (spec_of self.now.spec) ≡ x ∷ []) }
     {
         self.main
@@ -153,7 +152,7 @@ fn main_of(spec: &Spec, numbering: &Numbering) -> usize
 {
     let start = start_of(spec);
     match numbering.named(&start.text).unwrap() {
-        Named::Called(main) => main,
+        Named::Rule(main) => main,
         _ => unreachable!(),
     }
 }

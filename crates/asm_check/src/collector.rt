@@ -206,7 +206,7 @@ impl<'a> Collector<'a> {
     fn call(&mut self, name: &'a Name, arguments: &'a Vec<Term>) -> Result<(), AllocError>
         ensures { OnOk result (Adds self.old self.new (names.uses_of_rule (source.Call (name_of name.now) (terms_of (map term_of arguments.now.items))) (bound_of self.old))) }
     {
-        self.add(Role::AsCalled, name, arguments.len())?;
+        self.add(Role::AsRule, name, arguments.len())?;
         self.terms(arguments)
     }
 

@@ -12,7 +12,7 @@ ghost use Rattle.asm_check.specs.Ways.{ReachesCycle, IsOnWay};
 use crate::error::FaultKind;
 use crate::graph::{leads_back, on_ways, reaching_cycles};
 use crate::least::Least;
-use crate::meaning::{Declared, Meaning};
+use crate::meaning::{Declaration, Meaning};
 use crate::names::Names;
 use crate::steps::steps_of;
 use asm_syntax::spec::Spec;
@@ -60,7 +60,7 @@ fn note_node(
     node: usize,
     is_reaching: bool,
     is_long: bool,
-    declared: Declared,
+    declared: Declaration,
     least: &mut Least,
 ) -> Result<(), AllocError>
     requires graph { IsGraph (step_lists steps.now) }
@@ -84,7 +84,7 @@ fn note_cycle(
     alloc: Global,
     steps: &[Vec<usize>],
     node: usize,
-    declared: Declared,
+    declared: Declaration,
     least: &mut Least,
 ) -> Result<(), AllocError>
     requires graph { IsGraph (step_lists steps.now) }
@@ -106,7 +106,7 @@ fn cycle_kind(meaning: Meaning) -> Option<FaultKind>
     ensures { option_map number_of result ≡ cycle_number meaning.entry }
 {
     match meaning {
-        Meaning::Procedure(_, _) => Some(FaultKind::CyclicRule),
+        Meaning::Rule(_, _) => Some(FaultKind::CyclicRule),
         Meaning::Derived(_, _) => Some(FaultKind::CyclicDerived),
         _ => None,
     }

@@ -6,13 +6,14 @@ ghost use Rattle.asm_check.specs.Counted.{AreCountedSizes, AreElementCounts, Are
 ghost use Rattle.asm_check.specs.Errors.{found_of};
 ghost use Rattle.asm_check.specs.FaultLists.{limit_faults, passes_limit};
 ghost use Rattle.asm_check.specs.Limits.{counted_size, domain_of, lists_of, range_size, size_of, is_universe};
-ghost use Rattle.asm_check.specs.Names.{Declaration, declares};
+ghost use Rattle.asm_check.specs.Names as declarations;
+ghost use Rattle.asm_check.specs.Names.{declares};
 ghost use Rattle.asm_check.specs.Soonest.{noted};
 ghost use Rattle.asm_check.specs.Tables.{IsTableOf, declaration_of, meaning_of};
 
 use crate::error::FaultKind;
 use crate::least::Least;
-use crate::meaning::{Declared, Meaning};
+use crate::meaning::{Declaration, Meaning};
 use crate::names::{Names, position};
 use asm_state::number::Number;
 use asm_syntax::name::{Name, Text};
@@ -65,7 +66,7 @@ pub(crate) fn note_limits(
 }
 
 /// The declaration at a position of the table.
-fn declared_at<'a>(names: &Names<'a>, i: usize) -> Declared<'a>
+fn declared_at<'a>(names: &Names<'a>, i: usize) -> Declaration<'a>
     requires { i < length names.now.entries }
     ensures { option_map value_of_entry (slice_get names.now.entries i) ≡ Some result }
 {
@@ -211,7 +212,7 @@ impl Totals {
     /// Adds a declaration, with the size of its universe and the number of its argument lists. Answers whether it passes
     /// a limit.
     fn add(&mut self, meaning: &Meaning, size: usize, lists: usize) -> bool
-        ensures { (spec : source.Spec) (before : List Declaration) (x : source.Name) → AreTotals spec before self.old
+        ensures { (spec : source.Spec) (before : List declarations.Declaration) (x : source.Name) → AreTotals spec before self.old
             → size ≡ size_of spec (meaning_of meaning.now) → lists ≡ lists_of spec (domain_of (meaning_of meaning.now))
             → AreTotals spec (before ++ declares x (meaning_of meaning.now) ∷ []) self.new
             × (result ≡ passes_limit spec before (declares x (meaning_of meaning.now))) }
@@ -238,7 +239,7 @@ impl Totals {
                 self.functions = self.functions.saturating_add(1);
                 self.functions > FUNCTIONS
             }
-            Meaning::Procedure(_, _) => {
+            Meaning::Rule(_, _) => {
                 self.rules = self.rules.saturating_add(1);
                 self.rules > RULES
             }

@@ -14,12 +14,12 @@ pub(crate) enum Meaning<'a> {
     Controlled(&'a [Name]),
     Static(&'a [Name]),
     Derived(&'a [Name], &'a Term),
-    Procedure(&'a [Name], &'a Rule),
+    Rule(&'a [Name], &'a Rule),
 }
 
 /// A declaration that counts, with the offset of its name.
 #[derive(Clone, Copy)]
-pub(crate) struct Declared<'a> {
+pub(crate) struct Declaration<'a> {
     pub at: usize,
     pub meaning: Meaning<'a>,
 }

@@ -13,14 +13,14 @@ ghost use Rattle.asm_syntax.specs.SourceTree as source;
 
 use crate::error::FaultKind;
 use crate::least::Least;
-use crate::meaning::{Declared, Meaning};
+use crate::meaning::{Declaration, Meaning};
 use asm_syntax::name::{Name, Text};
 use asm_syntax::spec::{FunctionKind, Item, Spec};
 use indexmap::{IndexMap, IndexSet};
 use std::alloc::{AllocError, Global};
 
 /// The declarations that count, the first of each name, in the order of the text.
-pub(crate) type Names<'a> = IndexMap<&'a [u8], Declared<'a>>;
+pub(crate) type Names<'a> = IndexMap<&'a [u8], Declaration<'a>>;
 
 /// The table of a specification. Names that are declared twice are noted.
 pub(crate) fn first_names<'a>(
@@ -50,7 +50,7 @@ fn predeclare_all(names: &mut Names, least: &mut Least) -> Result<(), AllocError
 fn predeclare(names: &mut Names, name: &'static str, least: &mut Least) -> Result<(), AllocError>
     ensures { OnOk result (Gathers (predeclares name.entry.now ∷ []) names.old.entries (found_of least.old.found) names.new.entries (found_of least.new.found)) }
 {
-    let declared = Declared {
+    let declared = Declaration {
         at: 0,
         meaning: Meaning::Predeclared,
     };
@@ -104,11 +104,11 @@ fn declare_item<'a>(
             parameters,
             body,
         } => declare_name(names, name, Meaning::Derived(parameters, body), least),
-        Item::Declared {
+        Item::Rule {
             name,
             parameters,
             body,
-        } => declare_name(names, name, Meaning::Procedure(parameters, body), least),
+        } => declare_name(names, name, Meaning::Rule(parameters, body), least),
     }
 }
 
@@ -145,7 +145,7 @@ fn declare_name<'a>(
 ) -> Result<(), AllocError>
     ensures { OnOk result (Gathers (declares (name_of name.now) (meaning_of meaning.entry) ∷ []) names.old.entries (found_of least.old.found) names.new.entries (found_of least.new.found)) }
 {
-    let declared = Declared {
+    let declared = Declaration {
         at: name.at,
         meaning,
     };
@@ -156,7 +156,7 @@ fn declare_name<'a>(
 fn declare<'a>(
     names: &mut Names<'a>,
     text: &'a [u8],
-    declared: Declared<'a>,
+    declared: Declaration<'a>,
     least: &mut Least,
 ) -> Result<(), AllocError>
     ensures { OnOk result (Gathers (declaration_of (text.entry, declared.entry) ∷ []) names.old.entries (found_of least.old.found) names.new.entries (found_of least.new.found)) }
@@ -184,7 +184,7 @@ fn parameters(item: &Item) -> &[Name]
     ensures { map name_of result.now ≡ parameters_of (item_of item.now) }
 {
     match item {
-        Item::Derived { parameters, .. } | Item::Declared { parameters, .. } => parameters,
+        Item::Derived { parameters, .. } | Item::Rule { parameters, .. } => parameters,
         _ => &[],
     }
 }

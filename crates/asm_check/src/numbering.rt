@@ -13,7 +13,7 @@ ghost use Rattle.asm_check.specs.Tables.{meaning_of, declaration_of, IsTableOf};
 
 use crate::checked::Named;
 use crate::likely::Likely;
-use crate::meaning::{Declared, Meaning};
+use crate::meaning::{Declaration, Meaning};
 use crate::names::Names;
 use asm_syntax::name::Text;
 use indexmap::IndexMap;
@@ -125,7 +125,7 @@ impl Numbering {
 }
 
 /// The declaration at an index, with its name.
-fn entry_at<'a>(names: &Names<'a>, i: usize) -> (&'a [u8], Declared<'a>)
+fn entry_at<'a>(names: &Names<'a>, i: usize) -> (&'a [u8], Declaration<'a>)
     requires { i < length names.now.entries }
     ensures { option_map declaration_of (slice_get names.now.entries i) ≡ Some (declaration_of result) }
 {
@@ -173,7 +173,7 @@ impl Indices {
             Meaning::Controlled(_) => Ok(Some(Named::Function(push(&mut self.functions, index)?))),
             Meaning::Static(_) => Ok(Some(Named::Function(push(&mut self.functions, index)?))),
             Meaning::Derived(_, _) => Ok(Some(Named::Derived(push(&mut self.derived, index)?))),
-            Meaning::Procedure(_, _) => Ok(Some(Named::Called(push(&mut self.rules, index)?))),
+            Meaning::Rule(_, _) => Ok(Some(Named::Rule(push(&mut self.rules, index)?))),
         }
     }
 }

@@ -68,7 +68,7 @@ fn is_start(meaning: Option<Meaning>) -> bool
     ensures { result ≡ meanings.is_start (option_map meaning_of meaning.entry) }
 {
     match meaning {
-        Some(Meaning::Procedure(parameters, _)) => parameters.is_empty(),
+        Some(Meaning::Rule(parameters, _)) => parameters.is_empty(),
         _ => false,
     }
 }

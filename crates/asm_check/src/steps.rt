@@ -11,7 +11,7 @@ ghost use Rattle.asm_check.specs.UseViews.{use_of};
 use crate::meaning::Meaning;
 use crate::names::{Names, meaning, position};
 use crate::roles::is_step;
-use crate::uses::{Use, uses_of_body, uses_of_procedure};
+use crate::uses::{Use, uses_of_body, uses_of_named_rule};
 use asm_syntax::spec::Spec;
 use std::alloc::{AllocError, Global};
 
@@ -43,8 +43,8 @@ fn steps_from(alloc: Global, names: &Names, meaning: Meaning) -> Result<Vec<usiz
         map (text_at names.now.entries) steps.items ≡ onward_from spec (Some (meaning_of meaning.entry))) }
 {
     match meaning {
-        Meaning::Procedure(parameters, body) => {
-            let uses = uses_of_procedure(alloc, parameters, body)?;
+        Meaning::Rule(parameters, body) => {
+            let uses = uses_of_named_rule(alloc, parameters, body)?;
             positions(alloc, names, &uses, true)
         }
         Meaning::Derived(parameters, body) => {

@@ -16,7 +16,7 @@ use std::alloc::{AllocError, Global};
 pub(crate) enum Role {
     InTerm,
     AsTarget,
-    AsCalled,
+    AsRule,
     AsUniverse,
     AsCodomain,
     AsElement,
@@ -53,11 +53,11 @@ pub(crate) fn uses_of_item<'a>(alloc: Global, item: &'a Item) -> Result<Vec<Use<
             body,
             ..
         } => uses_of_body(alloc, parameters, body),
-        Item::Declared {
+        Item::Rule {
             parameters,
             body,
             ..
-        } => uses_of_procedure(alloc, parameters, body),
+        } => uses_of_named_rule(alloc, parameters, body),
     }
 }
 
@@ -75,7 +75,7 @@ pub(crate) fn uses_of_body<'a>(
 }
 
 /// The uses in the body of a rule.
-pub(crate) fn uses_of_procedure<'a>(
+pub(crate) fn uses_of_named_rule<'a>(
     alloc: Global,
     parameters: &'a [Name],
     body: &'a Rule,

@@ -35,7 +35,7 @@ use Rattle.asm_eval.specs.Declarations.{held_as, function_at, body_of, numbered}
 use Rattle.asm_eval.specs.Does.{Outcome, Meaning as Does, nothing, called, meaning, does_within, does}
 use Rattle.asm_eval.specs.Environments.{text_of}
 use Rattle.asm_eval.specs.Evaluated.{state_at, meant, meant_terms}
-use Rattle.asm_eval.specs.Program.{Program, Declared, Universe, Procedure, Environment, declared, bind_terms}
+use Rattle.asm_eval.specs.Program.{Program, Declared, Universe, NamedRule, Environment, declared, bind_terms}
 use Rattle.asm_eval.specs.Valued.{program}
 use Rattle.asm_eval.specs.Weights.{called_size, rule_size, rule_sizes, rule_size_within, rule_weight}
 use Rattle.asm_eval.specs.Yields.{Path, at}
@@ -45,9 +45,9 @@ use Rattle.asm_eval.proofs.NumberedValues.{numbered_rule}
 use Rattle.asm_eval.proofs.Ranked.{rules_ranked, rule_rank_low}
 use Rattle.asm_eval.proofs.Weights.{rule_within, call_weights_fall}
 
-pub declared_rule : (checked : Checked) (f : tree.Name) (r : ℕ) (xs : List syntax.Name) (R : Rule) → named (spec_of checked.spec) f ≡ Some (number.Called r)
-    → meaning_at (rules_of (spec_of checked.spec)) r ≡ Some (names.Procedure (map name_of xs) (rule_of R))
-    → declared (program checked) f ≡ Some (Procedure (map text_of xs) (plain_rule (rule_of R)))
+pub declared_rule : (checked : Checked) (f : tree.Name) (r : ℕ) (xs : List syntax.Name) (R : Rule) → named (spec_of checked.spec) f ≡ Some (number.Rule r)
+    → meaning_at (rules_of (spec_of checked.spec)) r ≡ Some (names.NamedRule (map name_of xs) (rule_of R))
+    → declared (program checked) f ≡ Some (NamedRule (map text_of xs) (plain_rule (rule_of R)))
 declared_rule checked f r xs R is says =
     let spec = spec_of checked.spec in
     program_declares spec f ∙ numbered_rule spec (named spec f) r xs R is says
@@ -81,8 +81,8 @@ module _ (program : Program) (body : tree.Rule → ℕ) where
 weight_is : (checked : Checked) (R : tree.Rule) → rules_in (in_body checked) R ≡ rule_weight (program checked) R
 weight_is checked R = size_is (program checked) (rule_size_within (program checked) 16) R ∙ sym (rule_within (program checked) R)
 
-pub call_is_less : (checked : Checked) (f : tree.Name) (ts : tree.Terms) (r : ℕ) (xs : List syntax.Name) (R : Rule) → named (spec_of checked.spec) f ≡ Some (number.Called r)
-    → meaning_at (rules_of (spec_of checked.spec)) r ≡ Some (names.Procedure (map name_of xs) (rule_of R))
+pub call_is_less : (checked : Checked) (f : tree.Name) (ts : tree.Terms) (r : ℕ) (xs : List syntax.Name) (R : Rule) → named (spec_of checked.spec) f ≡ Some (number.Rule r)
+    → meaning_at (rules_of (spec_of checked.spec)) r ≡ Some (names.NamedRule (map name_of xs) (rule_of R))
     → rules_in (in_body checked) (plain_rule (rule_of R)) < rules_in (in_body checked) (tree.Call f ts)
 call_is_less checked f ts r xs R is says =
     let spec = spec_of checked.spec in
@@ -95,7 +95,7 @@ call_is_less checked f ts r xs R is says =
 -- ---- what a name stands for that is no rule
 
 abbrev pub rule_number : Option Named → Option ℕ
-rule_number (Some (number.Called r)) = Some r
+rule_number (Some (number.Rule r)) = Some r
 rule_number it = None
 
 module _ (program : Program) (turns : ℕ) (chosen : Path → ℕ) (body : tree.Rule → Does) (ts : tree.Terms) (A : State) (e : Environment) (p : Path) where
@@ -115,7 +115,7 @@ module _ (program : Program) (turns : ℕ) (chosen : Path → ℕ) (body : tree.
   universe_is_no_rule (Some vs) = refl
 
   derived_is_no_rule : (m : Meaning) → is_derived m ≡ true → nothing ≡ calls (body_of (Some m))
-  derived_is_no_rule (names.Procedure xs P) is = cc
+  derived_is_no_rule (names.NamedRule xs P) is = cc
   derived_is_no_rule m is = refl
 
   none_is_a_rule : (ds : List Declaration) (d : ℕ) → All (λ d. is_derived d.meaning ≡ true) ds → nothing ≡ calls (body_of (meaning_at ds d))
@@ -129,7 +129,7 @@ module _ (program : Program) (turns : ℕ) (chosen : Path → ℕ) (body : tree.
   no_rule spec (Some (number.Element n)) other = refl
   no_rule spec (Some (number.Function f)) other = function_is_no_rule (shape_of spec) f (slice_get (shape_of spec).functions f)
   no_rule spec (Some (number.Derived d)) other = none_is_a_rule (derived_of spec) d (filter_passes (λ d. is_derived d.meaning) (first_declarations spec))
-  no_rule spec (Some (number.Called r)) other = cc
+  no_rule spec (Some (number.Rule r)) other = cc
 
 -- ---- what calls do
 
@@ -144,8 +144,8 @@ module _ {P : Type 0} {picks : Ghosts P} (on : Evaluation P picks) (e : Environm
   abbrev terms : tree.Terms
   terms = meant_terms ts
 
-  pub called_does : (r : ℕ) (xs : List syntax.Name) (R : Rule) → named (spec_of on.scene.checked.now.spec) f ≡ Some (number.Called r)
-      → meaning_at (rules_of (spec_of on.scene.checked.now.spec)) r ≡ Some (names.Procedure (map name_of xs) (rule_of R))
+  pub called_does : (r : ℕ) (xs : List syntax.Name) (R : Rule) → named (spec_of on.scene.checked.now.spec) f ≡ Some (number.Rule r)
+      → meaning_at (rules_of (spec_of on.scene.checked.now.spec)) r ≡ Some (names.NamedRule (map name_of xs) (rule_of R))
       → rule_does on (bind_terms (map text_of xs) terms e) (at p 0) R ≡ plain_does on e p (tree.Call f terms)
   called_does r xs R is says =
       sym ((cases on).of_call f terms (map text_of xs) (meant R) (state_at on) e p

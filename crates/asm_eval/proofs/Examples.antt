@@ -13,7 +13,7 @@ use Rattle.asm_state.proofs.Summaries.{fire_laws}
 use Rattle.asm_state.proofs.Updates.{test_laws}
 use Rattle.asm_syntax.specs.Tree.{Name, Term, Constant, Named, Chain, Exists, Every, Terms, no_terms, term_then, no_links, link_then, Rule, Skip, Assign, Call, Par, Seq, If, Let, Forall, Choose, Iterate, Rules, no_rules, rule_then}
 use Rattle.asm_reader.specs.ScriptLines.{Script}
-use Rattle.asm_eval.specs.Program.{Program, Universe, Controlled, Static, Derived, Procedure, nothing_bound, with_value}
+use Rattle.asm_eval.specs.Program.{Program, Universe, Controlled, Static, Derived, NamedRule, nothing_bound, with_value}
 use Rattle.asm_eval.specs.Value.{value, values, reading, reading_within, readings_of}
 use Rattle.asm_eval.specs.Yields.{Path, Gives, Exhausted, beside}
 use Rattle.asm_eval.specs.Does.{Outcome, nothing, following, meaning, does_within, does}
@@ -50,10 +50,10 @@ sample =
     ∷ (codes "y", Controlled 2 [])
     ∷ (codes "g", Static (three ∷ []) (Entries ((number (pos 0) ∷ [], number (pos 7)) ∷ (number (pos 1) ∷ [], number (pos 3)) ∷ [])))
     ∷ (codes "twice", Derived (codes "n" ∷ []) (Chain (name (codes "n")) (link_then Multiply (constant (pos 2)) no_links)))
-    ∷ (codes "fill", Procedure (codes "p" ∷ []) (Forall (codes "i") (codes "Idx") None (Assign (codes "f") (of_one (name (codes "i"))) (name (codes "p")))))
+    ∷ (codes "fill", NamedRule (codes "p" ∷ []) (Forall (codes "i") (codes "Idx") None (Assign (codes "f") (of_one (name (codes "i"))) (name (codes "p")))))
     ∷ (
       codes "next",
-      Procedure (codes "p" ∷ []) (Seq (two_rules
+      NamedRule (codes "p" ∷ []) (Seq (two_rules
           (Assign (codes "x") no_terms (Chain (name (codes "p")) (link_then Add (constant (pos 1)) no_links)))
           (Assign (codes "y") no_terms (name (codes "p"))))),
     )

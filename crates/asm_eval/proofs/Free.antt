@@ -9,7 +9,7 @@ use Rattle.asm_state.specs.Location.{State}
 use Rattle.asm_state.specs.Updates.{UpdateSet, IsConsistent, is_consistent, is_none, none, fire}
 use Rattle.asm_state.proofs.Updates.{test_laws}
 use Rattle.asm_syntax.specs.Tree.{Name, Term, Rule, Skip, Assign, Call, Par, Seq, If, Let, Forall, Choose, Iterate, Rules, no_rules, rule_then}
-use Rattle.asm_eval.specs.Program.{Program, Procedure, declared, Environment, with_value, bind_terms}
+use Rattle.asm_eval.specs.Program.{Program, NamedRule, declared, Environment, with_value, bind_terms}
 use Rattle.asm_eval.specs.Value.{value, holds, candidates, universe, nesting}
 use Rattle.asm_eval.specs.Yields.{Path, at, Result, Gives, Exhausted, beside, all_beside, Yields, YieldsParts, YieldsInOrder, YieldsEach, YieldsTurns, skip, assign, call, par, seq, if_true, if_false, bind, forall, choose, if_none, iterate, no_part, part_then, end, faulty, exhausted, go_on, no_element, left_out, element_then, turn_limit, last_turn, exhausted_turn, turn_then}
 use Rattle.asm_reader.specs.ScriptLines.{pick}
@@ -98,7 +98,7 @@ module _ (program : Program) (turns : ℕ) where
       choose k (ap (λ cs. slice_get cs k) is ∙ slice_get-get_or (v ∷ vs) k v (mod_below n (length (v ∷ vs)) (omega arith))) (ys (slice_index_or (v ∷ vs) k v))
 
   module _ (rank : Name → ℕ) (chosen : Path → ℕ) (body : Rule → Meaning) (n : ℕ)
-      (bodies : (f : Name) (xs : List Name) (P : Rule) → declared program f ≡ Some (Procedure xs P) → rank f < n
+      (bodies : (f : Name) (xs : List Name) (P : Rule) → declared program f ≡ Some (NamedRule xs P) → rank f < n
       → (A : State) (e : Environment) (p : Path) → Yields program turns A e p P (body P A e p).result) where
     abbrev means : Rule → Meaning
     means = meaning program turns chosen body

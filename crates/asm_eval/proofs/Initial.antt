@@ -12,7 +12,7 @@ use Rattle.asm_state.specs.Operation.{is_same}
 use Rattle.asm_state.specs.Tables.{Domain, is_in, is_list, entry_of, table_value, value_in}
 use Rattle.asm_state.proofs.ValueLaws.{value_laws}
 use Rattle.asm_syntax.specs.declared.spec.FunctionKind.TheVariants as kind
-use Rattle.asm_syntax.specs.SourceTree.{Name, Entry, Given, Each, Entries, Item, Uses, Init, Enum, Universe, Function, Derived, Declared, Spec}
+use Rattle.asm_syntax.specs.SourceTree.{Name, Entry, Given, Each, Entries, Item, Uses, Init, Enum, Universe, Function, Derived, NamedRule, Spec}
 use Rattle.asm_check.specs.Shapes.{const_value, entry_by, function_given, shape_of, table_by, texts_of}
 use Rattle.asm_check.specs.Numbers.{elements_of}
 use Rattle.asm_eval.specs.Declarations.{specification_of}
@@ -31,7 +31,7 @@ given_at spec (Function y how us codomain table ∷ items) zero item e =
     ap (function_given spec) same
 given_at spec (Function y how us codomain table ∷ items) (suc f) item e = given_at spec items f item e
 given_at spec (Derived y ys t ∷ items) f item e = given_at spec items f item e
-given_at spec (Declared y ys P ∷ items) f item e = given_at spec items f item e
+given_at spec (NamedRule y ys P ∷ items) f item e = given_at spec items f item e
 
 -- ---- tables
 

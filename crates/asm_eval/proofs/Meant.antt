@@ -63,7 +63,7 @@ numbered_is spec (Some (number.Universe m)) n vs e at = let same : m ≡ n = cc 
 numbered_is spec (Some (number.Element m)) n vs e at = cc
 numbered_is spec (Some (number.Function m)) n vs e at = cc
 numbered_is spec (Some (number.Derived m)) n vs e at = cc
-numbered_is spec (Some (number.Called m)) n vs e at = cc
+numbered_is spec (Some (number.Rule m)) n vs e at = cc
 numbered_is spec None n vs e at = cc
 
 pub universe_is : (spec : Spec) (x : Name) (n : ℕ) (vs : List Value) → universe_number (named spec x) ≡ Some n
@@ -87,7 +87,7 @@ body_is_no_universe (Some (names.Element k)) = refl
 body_is_no_universe (Some (names.Controlled domain)) = refl
 body_is_no_universe (Some (names.Static domain)) = refl
 body_is_no_universe (Some (names.Derived xs t)) = refl
-body_is_no_universe (Some (names.Procedure xs P)) = refl
+body_is_no_universe (Some (names.NamedRule xs P)) = refl
 
 number_is_no_universe : (spec : Spec) (it : Option Named) → universe_number it ≡ None → elements_of (numbered spec it) ≡ []
 number_is_no_universe spec None is = refl
@@ -95,7 +95,7 @@ number_is_no_universe spec (Some (number.Universe n)) is = cc
 number_is_no_universe spec (Some (number.Element n)) is = refl
 number_is_no_universe spec (Some (number.Function f)) is = function_is_no_universe (shape_of spec) f (slice_get (shape_of spec).functions f)
 number_is_no_universe spec (Some (number.Derived d)) is = body_is_no_universe (meaning_at (derived_of spec) d)
-number_is_no_universe spec (Some (number.Called r)) is = body_is_no_universe (meaning_at (rules_of spec) r)
+number_is_no_universe spec (Some (number.Rule r)) is = body_is_no_universe (meaning_at (rules_of spec) r)
 
 pub no_universe : (spec : Spec) (x : Name) → universe_number (named spec x) ≡ None → universe (program_of spec) x ≡ []
 no_universe spec x is = elements_meant spec x ∙ number_is_no_universe spec (named spec x) is
@@ -107,5 +107,5 @@ universe_numbered spec (Some (number.Universe m)) n good below e = let same = (s
 universe_numbered spec (Some (number.Element m)) n good below e = cc
 universe_numbered spec (Some (number.Function m)) n good below e = cc
 universe_numbered spec (Some (number.Derived m)) n good below e = cc
-universe_numbered spec (Some (number.Called m)) n good below e = cc
+universe_numbered spec (Some (number.Rule m)) n good below e = cc
 universe_numbered spec None n good below e = cc

@@ -13,7 +13,7 @@ use Rattle.asm_syntax.specs.Tree.{Terms, Rule, Skip, Assign, Call, Par, Seq, If,
 use Rattle.asm_reader.specs.ScriptLines.{Script, pick}
 use Rattle.asm_eval.specs.Cases.{all_run}
 use Rattle.asm_eval.specs.Does.{Outcome, Meaning, parts, in_order, part_and, turns_of, turn_and, each, one_of, called, meaning, meanings, does_within, does}
-use Rattle.asm_eval.specs.Program.{Program, Declared, Universe, Enumerated, Controlled, Static, Derived, Procedure, declared, Environment, with_value, bind_terms}
+use Rattle.asm_eval.specs.Program.{Program, Declared, Universe, Enumerated, Controlled, Static, Derived, NamedRule, declared, Environment, with_value, bind_terms}
 use Rattle.asm_eval.specs.Value.{value, holds, candidates, universe, nesting}
 use Rattle.asm_eval.specs.Yields.{Path, at, Result, Gives, Exhausted, beside, after}
 use Rattle.asm_eval.proofs.Free.{by_test}
@@ -127,7 +127,7 @@ module _ (program : Program) (turns : ℕ) (chosen : Path → ℕ) (body : Rule 
   called_within (Some (Controlled f domain)) ts A e p = tt
   called_within (Some (Static domain table)) ts A e p = tt
   called_within (Some (Derived xs t)) ts A e p = tt
-  called_within (Some (Procedure xs P)) ts A e p =
+  called_within (Some (NamedRule xs P)) ts A e p =
       descent_is_within p 0 (body P A (bind_terms xs ts e) (at p 0)).result (nest P A (bind_terms xs ts e) (at p 0))
 
   abbrev means : Rule → Meaning

@@ -25,7 +25,7 @@ use Rattle.asm_check.specs.declared.checked.Named.{Named}
 use Rattle.asm_check.specs.declared.checked.Named.TheVariants as number
 use Rattle.asm_eval.specs.Declarations.{numbered, body_of}
 use Rattle.asm_eval.specs.Environments.{text_of}
-use Rattle.asm_eval.specs.Program.{Program, Derived, Procedure, Universe}
+use Rattle.asm_eval.specs.Program.{Program, Derived, NamedRule, Universe}
 use Rattle.asm_eval.specs.Valued.{declared_value}
 
 -- the numbers of elements and of functions are below the signature's limits
@@ -55,10 +55,10 @@ pub numbered_derived : (spec : Spec) (it : Option Named) (d : ℕ) (xs : List Na
 numbered_derived spec it d xs t is meant = ap (numbered spec) is ∙ ap body_of meant ∙ ap (λ ys. Some (Derived ys (plain_term (term_of t)))) (texts xs)
 
 -- a rule with the code's parameters and body
-pub numbered_rule : (spec : Spec) (it : Option Named) (r : ℕ) (xs : List Name) (R : Rule) → it ≡ Some (number.Called r)
-    → meaning_at (rules_of spec) r ≡ Some (names.Procedure (map name_of xs) (rule_of R))
-    → numbered spec it ≡ Some (Procedure (map text_of xs) (plain_rule (rule_of R)))
-numbered_rule spec it r xs R is meant = ap (numbered spec) is ∙ ap body_of meant ∙ ap (λ ys. Some (Procedure ys (plain_rule (rule_of R)))) (texts xs)
+pub numbered_rule : (spec : Spec) (it : Option Named) (r : ℕ) (xs : List Name) (R : Rule) → it ≡ Some (number.Rule r)
+    → meaning_at (rules_of spec) r ≡ Some (names.NamedRule (map name_of xs) (rule_of R))
+    → numbered spec it ≡ Some (NamedRule (map text_of xs) (plain_rule (rule_of R)))
+numbered_rule spec it r xs R is meant = ap (numbered spec) is ∙ ap body_of meant ∙ ap (λ ys. Some (NamedRule ys (plain_rule (rule_of R)))) (texts xs)
 
 -- ---- what has no value
 
@@ -79,5 +79,5 @@ module _ (program : Program) (A : State) (vs : List Value) where
       by None = refl
       by (Some us) = refl
 
-  pub called_undef : (spec : Spec) (r : ℕ) → Undef ≡ declared_value program A (numbered spec (Some (number.Called r))) vs
-  called_undef spec r = rules_undef (rules_of spec) r (filter_passes (λ d. is_rule d.meaning) (first_declarations spec))
+  pub named_rule_undef : (spec : Spec) (r : ℕ) → Undef ≡ declared_value program A (numbered spec (Some (number.Rule r))) vs
+  named_rule_undef spec r = rules_undef (rules_of spec) r (filter_passes (λ d. is_rule d.meaning) (first_declarations spec))

@@ -22,7 +22,7 @@ use Rattle.asm_check.specs.declared.checked.Named.{Named}
 use Rattle.asm_check.specs.declared.checked.Named.TheVariants as number
 use Rattle.asm_check.proofs.Ranks.{ranks_exist}
 use Rattle.asm_eval.specs.Declarations.{program_of, held_as, function_at, body_of, numbered}
-use Rattle.asm_eval.specs.Program.{Declared, Universe, Enumerated, Derived, Procedure, declared}
+use Rattle.asm_eval.specs.Program.{Declared, Universe, Enumerated, Derived, NamedRule, declared}
 use Rattle.asm_eval.specs.Ranks.{UsesBelow, EachUsesBelow, LinksUseBelow, AreDerivedRanked, IsCallable, CallsBelow, EachCallsBelow, IsRanked}
 use Rattle.asm_eval.specs.Value.{nesting}
 use Rattle.asm_eval.proofs.Meant.{program_declares}
@@ -33,7 +33,7 @@ use Rattle.asm_check.proofs.NamesNumbered.{names_have_numbers}
 
 abbrev has_body : Declared → Bool
 has_body (Derived xs t) = true
-has_body (Procedure xs P) = true
+has_body (NamedRule xs P) = true
 has_body it = false
 
 -- a number that stands for a derived function or a rule leads to its declaration
@@ -56,7 +56,7 @@ module _ (it : Declared) (body : has_body it ≡ true) where
   body_number spec (Some (number.Element n)) e = let same : Enumerated (element n) ≡ it = cc in let bad : false ≡ true = ap has_body same ∙ body in cc
   body_number spec (Some (number.Function f)) e = absurd (never_function (shape_of spec) f (slice_get (shape_of spec).functions f) e)
   body_number spec (Some (number.Derived d)) e = (number.Derived d, refl, e)
-  body_number spec (Some (number.Called r)) e = (number.Called r, refl, e)
+  body_number spec (Some (number.Rule r)) e = (number.Rule r, refl, e)
 
   body_of_program : NamesHaveNumbers → (spec : Spec) (x : Name) → declared (program_of spec) x ≡ Some it → body_of (names.declared spec x) ≡ Some it
   body_of_program law spec x e =
@@ -80,49 +80,49 @@ derived_body xs t (Some (names.Element k)) e = cc
 derived_body xs t (Some (names.Controlled domain)) e = cc
 derived_body xs t (Some (names.Static domain)) e = cc
 derived_body xs t (Some (names.Derived ys s)) e = record { parameters = ys; body = s; is_declared = refl; same_parameters = cc; same_body = cc }
-derived_body xs t (Some (names.Procedure ys P)) e = cc
+derived_body xs t (Some (names.NamedRule ys P)) e = cc
 
 derived_of_program : (xs : List Name) (t : Term) → NamesHaveNumbers → (spec : Spec) (x : Name) → declared (program_of spec) x ≡ Some (Derived xs t) → IsDerived xs t (names.declared spec x)
 derived_of_program xs t law spec x e = derived_body xs t (names.declared spec x) (body_of_program (Derived xs t) refl law spec x e)
 
 -- likewise a rule's
-record IsProcedure (xs : List Name) (P : Rule) (m : Option Meaning) : Type 0 where
+record IsNamedRule (xs : List Name) (P : Rule) (m : Option Meaning) : Type 0 where
   parameters : List source.Name
   body : source.Rule
-  is_declared : m ≡ Some (names.Procedure parameters body)
+  is_declared : m ≡ Some (names.NamedRule parameters body)
   same_body : plain_rule body ≡ P
 
-procedure_body : (xs : List Name) (P : Rule) (m : Option Meaning) → body_of m ≡ Some (Procedure xs P) → IsProcedure xs P m
-procedure_body xs P None e = cc
-procedure_body xs P (Some names.Predeclared) e = cc
-procedure_body xs P (Some (names.Range first last)) e = cc
-procedure_body xs P (Some (names.Enumeration k)) e = cc
-procedure_body xs P (Some (names.Element k)) e = cc
-procedure_body xs P (Some (names.Controlled domain)) e = cc
-procedure_body xs P (Some (names.Static domain)) e = cc
-procedure_body xs P (Some (names.Derived ys s)) e = cc
-procedure_body xs P (Some (names.Procedure ys Q)) e = record { parameters = ys; body = Q; is_declared = refl; same_body = cc }
+named_rule_body : (xs : List Name) (P : Rule) (m : Option Meaning) → body_of m ≡ Some (NamedRule xs P) → IsNamedRule xs P m
+named_rule_body xs P None e = cc
+named_rule_body xs P (Some names.Predeclared) e = cc
+named_rule_body xs P (Some (names.Range first last)) e = cc
+named_rule_body xs P (Some (names.Enumeration k)) e = cc
+named_rule_body xs P (Some (names.Element k)) e = cc
+named_rule_body xs P (Some (names.Controlled domain)) e = cc
+named_rule_body xs P (Some (names.Static domain)) e = cc
+named_rule_body xs P (Some (names.Derived ys s)) e = cc
+named_rule_body xs P (Some (names.NamedRule ys Q)) e = record { parameters = ys; body = Q; is_declared = refl; same_body = cc }
 
-procedure_of_program : (xs : List Name) (P : Rule) → NamesHaveNumbers → (spec : Spec) (x : Name) → declared (program_of spec) x ≡ Some (Procedure xs P) → IsProcedure xs P (names.declared spec x)
-procedure_of_program xs P law spec x e = procedure_body xs P (names.declared spec x) (body_of_program (Procedure xs P) refl law spec x e)
+named_rule_of_program : (xs : List Name) (P : Rule) → NamesHaveNumbers → (spec : Spec) (x : Name) → declared (program_of spec) x ≡ Some (NamedRule xs P) → IsNamedRule xs P (names.declared spec x)
+named_rule_of_program xs P law spec x e = named_rule_body xs P (names.declared spec x) (body_of_program (NamedRule xs P) refl law spec x e)
 
 -- and what is declared as a rule is a rule of the program
-called_number : (spec : Spec) (o : Option ℕ) (n : Named) → option_map number.Called o ≡ Some n → numbered spec (Some n) ≡ body_of (meaning_numbered spec n)
-called_number spec None n e = cc
-called_number spec (Some r) n e = let same : number.Called r ≡ n = cc in subst (λ n. numbered spec (Some n) ≡ body_of (meaning_numbered spec n)) same refl
+rule_numbered : (spec : Spec) (o : Option ℕ) (n : Named) → option_map number.Rule o ≡ Some n → numbered spec (Some n) ≡ body_of (meaning_numbered spec n)
+rule_numbered spec None n e = cc
+rule_numbered spec (Some r) n e = let same : number.Rule r ≡ n = cc in subst (λ n. numbered spec (Some n) ≡ body_of (meaning_numbered spec n)) same refl
 
-called_as : (spec : Spec) (x : Name) (ys : List source.Name) (Q : source.Rule) (n : Named) → names.declared spec x ≡ Some (names.Procedure ys Q) → named spec x ≡ Some n
+rule_as : (spec : Spec) (x : Name) (ys : List source.Name) (Q : source.Rule) (n : Named) → names.declared spec x ≡ Some (names.NamedRule ys Q) → named spec x ≡ Some n
     → numbered spec (Some n) ≡ body_of (meaning_numbered spec n)
 unfolding named
-called_as spec x ys Q n is e = called_number spec (number_in (rules_of spec) x) n (ap (named_as spec x) (sym is) ∙ e)
+rule_as spec x ys Q n is e = rule_numbered spec (number_in (rules_of spec) x) n (ap (named_as spec x) (sym is) ∙ e)
 
-program_calls : NamesHaveNumbers → (spec : Spec) (x : Name) (ys : List source.Name) (Q : source.Rule) → names.declared spec x ≡ Some (names.Procedure ys Q)
-    → declared (program_of spec) x ≡ Some (Procedure (map text_of ys) (plain_rule Q))
+program_calls : NamesHaveNumbers → (spec : Spec) (x : Name) (ys : List source.Name) (Q : source.Rule) → names.declared spec x ≡ Some (names.NamedRule ys Q)
+    → declared (program_of spec) x ≡ Some (NamedRule (map text_of ys) (plain_rule Q))
 program_calls law spec x ys Q is =
-    let found = (law spec x).of_meaning (names.Procedure ys Q) is (λ bad. cc) in
+    let found = (law spec x).of_meaning (names.NamedRule ys Q) is (λ bad. cc) in
     program_declares spec x
     ∙ ap (numbered spec) found.1
-    ∙ called_as spec x ys Q found.0 is found.1
+    ∙ rule_as spec x ys Q found.0 is found.1
     ∙ ap body_of ((law spec x).of_number found.0 found.1 ∙ is)
 
 -- ---- uses in a term without its paths
@@ -199,7 +199,7 @@ module _ (law : NamesHaveNumbers) (spec : Spec) (rank : Name → ℕ) (n : ℕ) 
 
 rules_ranked_by : NamesHaveNumbers → (spec : Spec) → IsWellFormed spec → IsRanked (program_of spec) (rule_rank spec)
 rules_ranked_by law spec good f xs P e =
-    let d = procedure_of_program xs P law spec f e in
+    let d = named_rule_of_program xs P law spec f e in
     let rank = rule_rank spec in
     subst (CallsBelow (program_of spec) rank (rank f)) d.same_body
     (plain_calls law spec rank (rank f) d.body ((ranks_exist spec good).rules f d.parameters d.body d.is_declared))

@@ -11,7 +11,7 @@ use Rattle.asm_state.specs.Location.{State}
 use Rattle.asm_state.specs.Updates.{UpdateSet, IsConsistent, is_consistent, is_none, none}
 use Rattle.asm_state.proofs.Updates.{test_laws}
 use Rattle.asm_syntax.specs.Tree.{Name, Term, Rule, Rules}
-use Rattle.asm_eval.specs.Program.{Program, Procedure, declared, Environment, with_value, bind_terms}
+use Rattle.asm_eval.specs.Program.{Program, NamedRule, declared, Environment, with_value, bind_terms}
 use Rattle.asm_eval.specs.Value.{holds, candidates, nesting}
 use Rattle.asm_eval.specs.Yields.{Path, at, Result, Gives, Exhausted, beside, all_beside, after, Yields, YieldsParts, YieldsInOrder, YieldsEach, YieldsTurns, skip, assign, call, par, seq, if_true, if_false, bind, forall, choose, if_none, iterate, no_part, part_then, end, faulty, exhausted, go_on, no_element, left_out, element_then, turn_limit, last_turn, exhausted_turn, turn_then}
 use Rattle.asm_reader.specs.ScriptLines.{Script, pick}
@@ -90,7 +90,7 @@ one_of_none : (cs : List Value) (n : ℕ) (m : Value → Outcome) (other : Outco
 one_of_none cs n m other e = ap (λ cs. one_of n cs m other) e
 
 module _ (program : Program) (turns : ℕ) (rank : Name → ℕ) (body : (Path → ℕ) → Rule → Meaning) (n : ℕ)
-    (bodies : (f : Name) (xs : List Name) (P : Rule) → declared program f ≡ Some (Procedure xs P) → rank f < n
+    (bodies : (f : Name) (xs : List Name) (P : Rule) → declared program f ≡ Some (NamedRule xs P) → rank f < n
     → (A : State) (e : Environment) (p : Path) (r : Result) → Yields program turns A e p P r → Scripts (λ chosen. (body chosen P A e p).result) p r) where
   abbrev means : (Path → ℕ) → Rule → Meaning
   means chosen = meaning program turns chosen (body chosen)

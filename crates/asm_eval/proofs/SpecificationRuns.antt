@@ -6,7 +6,7 @@ use Rattle.asm_syntax.specs.Tree.{Name, Rule}
 use Rattle.asm_check.specs.Faults.{IsWellFormed, inits}
 use Rattle.asm_check.specs.Ranks.{derived_rank, rule_rank}
 use Rattle.asm_eval.specs.Declarations.{main_rule, program_of, rule_body, specification_of}
-use Rattle.asm_eval.specs.Program.{Declared, Controlled, Derived, Enumerated, Procedure, Static, Universe, declared}
+use Rattle.asm_eval.specs.Program.{Declared, Controlled, Derived, Enumerated, NamedRule, Static, Universe, declared}
 use Rattle.asm_eval.specs.Ranks.{CallsBelow, lower}
 use Rattle.asm_eval.specs.SpecificationLaw.{SpecificationsAreRanked, SpecificationRunsAreFree, SpecificationRunsHaveScripts}
 use Rattle.asm_eval.specs.Value.{nesting}
@@ -17,7 +17,7 @@ module _ (spec : Spec) (good : IsWellFormed spec) where
   abbrev Below : Rule → Type 0
   Below P = CallsBelow (program_of spec) (rule_rank spec) nesting P
 
-  body : (f : Name) (xs : List Name) (P : Rule) → declared (program_of spec) f ≡ Some (Procedure xs P) → Below P
+  body : (f : Name) (xs : List Name) (P : Rule) → declared (program_of spec) f ≡ Some (NamedRule xs P) → Below P
   body f xs P d =
       let low = rule_rank_low spec f good in
       lower (program_of spec) (rule_rank spec) (rule_rank spec f) nesting (omega arith) P (rules_ranked spec good f xs P d)
@@ -29,7 +29,7 @@ module _ (spec : Spec) (good : IsWellFormed spec) where
   body_of f (Some (Controlled n domain)) d = tt
   body_of f (Some (Static domain table)) d = tt
   body_of f (Some (Derived xs t)) d = tt
-  body_of f (Some (Procedure xs P)) d = body f xs P d
+  body_of f (Some (NamedRule xs P)) d = body f xs P d
 
   main : (names : List source.Name) → Below (main_rule spec names)
   main [] = tt

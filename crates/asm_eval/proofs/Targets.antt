@@ -63,7 +63,7 @@ body_assigns_none (Some (names.Element k)) vs v = refl
 body_assigns_none (Some (names.Controlled domain)) vs v = refl
 body_assigns_none (Some (names.Static domain)) vs v = refl
 body_assigns_none (Some (names.Derived xs t)) vs v = refl
-body_assigns_none (Some (names.Procedure xs P)) vs v = refl
+body_assigns_none (Some (names.NamedRule xs P)) vs v = refl
 
 universe_assigns_none : (us : Option (List Value)) (vs : List Value) (v : Value) → assigned (option_map Universe us) vs v ≡ none
 universe_assigns_none None vs v = refl
@@ -75,7 +75,7 @@ number_assigns_none spec (Some (number.Universe n)) is vs v = universe_assigns_n
 number_assigns_none spec (Some (number.Element n)) is vs v = refl
 number_assigns_none spec (Some (number.Function f)) is vs v = cc
 number_assigns_none spec (Some (number.Derived d)) is vs v = body_assigns_none (meaning_at (numbers.derived_of spec) d) vs v
-number_assigns_none spec (Some (number.Called r)) is vs v = body_assigns_none (meaning_at (numbers.rules_of spec) r) vs v
+number_assigns_none spec (Some (number.Rule r)) is vs v = body_assigns_none (meaning_at (numbers.rules_of spec) r) vs v
 
 -- a name that stands for no function is updated nowhere
 pub other_assigns_none : (spec : Spec) (x : Name) (it : Option Named) → it ≡ named spec x → function_number it ≡ None → (vs : List Value) (v : Value)

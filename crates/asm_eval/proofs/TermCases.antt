@@ -7,7 +7,7 @@ use Rattle.asm_state.specs.declared.operation.Op.TheVariants.{Not, Negate}
 use Rattle.asm_state.specs.Operation.{op}
 use Rattle.asm_state.specs.Location.{State}
 use Rattle.asm_syntax.specs.Tree.{Name, Term, Constant, Named, Chain, Not as not_term, Negative, Exists, Every, Terms, no_terms, term_then, Links, no_links, link_then}
-use Rattle.asm_eval.specs.Program.{Program, Declared, Universe, Enumerated, Controlled, Static, Derived, Procedure, declared, look_up, is_name, Environment, nothing_bound, with_value, with_term, bind_values, Binding, ToValue, ToTerm, bound_to}
+use Rattle.asm_eval.specs.Program.{Program, Declared, Universe, Enumerated, Controlled, Static, Derived, NamedRule, declared, look_up, is_name, Environment, nothing_bound, with_value, with_term, bind_values, Binding, ToValue, ToTerm, bound_to}
 use Rattle.asm_eval.specs.Value.{Reading, Readings, reading, readings, chained, applied, named, constants, reading_within, readings_of, value, values, is_true, universe, nesting}
 use Rattle.asm_eval.specs.Ranks.{is_among, IsUsable, UsesBelow, EachUsesBelow, LinksUseBelow, AreDerivedRanked}
 use Rattle.asm_eval.specs.TermCases.{chain_value, ValuedByCases}
@@ -36,7 +36,7 @@ module _ (program : Program) (rank : Name → ℕ) (use₁ use₂ : Use) (n : �
   same_applied x (Some (Controlled f domain)) d h vs A = refl
   same_applied x (Some (Static domain table)) d h vs A = refl
   same_applied x (Some (Derived xs t)) d h vs A = λ i. alike x xs t d (h xs t refl) i vs A
-  same_applied x (Some (Procedure xs P)) d h vs A = refl
+  same_applied x (Some (NamedRule xs P)) d h vs A = refl
   same_applied x None d h vs A = refl
 
   same_named : (x : Name) (bound : Option Reading) → (bound ≡ None → (xs : List Name) (t : Term) → declared program x ≡ Some (Derived xs t) → rank x < n)

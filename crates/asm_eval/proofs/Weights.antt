@@ -3,7 +3,7 @@ use Rattle.std.proofs.Common.{◌≡◌, ℕ, zero, suc, ◌+◌, ◌<◌, ◌�
 use Rattle.asm_state.specs.declared.value.Value.{Value}
 use Rattle.asm_state.specs.declared.operation.Op.{Op}
 use Rattle.asm_syntax.specs.Tree.{Name, Term, Constant, Named, Chain, Not, Negative, Exists, Every, Terms, no_terms, term_then, Links, no_links, link_then, Rule, Skip, Assign, Call, Par, Seq, If, Let, Forall, Choose, Iterate, Rules, no_rules, rule_then}
-use Rattle.asm_eval.specs.Program.{Program, Declared, Universe, Enumerated, Controlled, Static, Derived, Procedure, declared, is_name, Environment, nothing_bound, with_value, with_term, bind_values, Binding, ToValue, ToTerm, bound_to}
+use Rattle.asm_eval.specs.Program.{Program, Declared, Universe, Enumerated, Controlled, Static, Derived, NamedRule, declared, is_name, Environment, nothing_bound, with_value, with_term, bind_values, Binding, ToValue, ToTerm, bound_to}
 use Rattle.asm_eval.specs.Value.{nesting}
 use Rattle.asm_eval.specs.Ranks.{is_among, UsesBelow, EachUsesBelow, LinksUseBelow, AreDerivedRanked, IsRanked, CallsBelow, EachCallsBelow, lower}
 use Rattle.asm_eval.specs.Weights.{names_of, used, size, sizes, link_sizes, size_within, load, weight, TermWeightsFall, called_size, rule_size, rule_sizes, rule_size_within, rule_weight, CallWeightsFall}
@@ -21,7 +21,7 @@ module _ (program : Program) (rank : Name → ℕ) (body₁ body₂ : List Name 
   same_used x (Some (Controlled f domain)) d false h = refl
   same_used x (Some (Static domain table)) d false h = refl
   same_used x (Some (Derived xs t)) d false h = alike x xs t d (h refl xs t refl)
-  same_used x (Some (Procedure xs P)) d false h = refl
+  same_used x (Some (NamedRule xs P)) d false h = refl
   same_used x None d false h = refl
 
   mutual
@@ -201,7 +201,7 @@ term_weights_fall program rank e ranked = record {
 -- ---- rules
 
 module _ (program : Program) (rank : Name → ℕ) (body₁ body₂ : Rule → ℕ) (n : ℕ)
-    (alike : (f : Name) (xs : List Name) (P : Rule) → declared program f ≡ Some (Procedure xs P) → rank f < n → body₁ P ≡ body₂ P) where
+    (alike : (f : Name) (xs : List Name) (P : Rule) → declared program f ≡ Some (NamedRule xs P) → rank f < n → body₁ P ≡ body₂ P) where
   mutual
     unfolding rule_size
 
@@ -223,7 +223,7 @@ module _ (program : Program) (rank : Name → ℕ) (body₁ body₂ : Rule → �
     rules_same no_rules c = refl
     rules_same (rule_then P Ps) c = λ i. rule_same P c.0 i + rules_same Ps c.1 i
 
-above_called : (program : Program) (n : ℕ) (f : Name) (ts : Terms) (xs : List Name) (P : Rule) → declared program f ≡ Some (Procedure xs P) → rule_size_within program n P < rule_size_within program (suc n) (Call f ts)
+above_called : (program : Program) (n : ℕ) (f : Name) (ts : Terms) (xs : List Name) (P : Rule) → declared program f ≡ Some (NamedRule xs P) → rule_size_within program n P < rule_size_within program (suc n) (Call f ts)
 unfolding rule_size_within rule_size
 above_called program n f ts xs P d =
     let is : called_size program (rule_size_within program n) (declared program f) ≡ rule_size_within program n P = ap (called_size program (rule_size_within program n)) d in
@@ -239,7 +239,7 @@ module _ (program : Program) (rank : Name → ℕ) (ranked : IsRanked program ra
       rule_same program rank _ _ (suc n)
       (λ f xs P d below. rule_deep_enough n m P (lower program rank (rank f) n (omega arith) P (ranked f xs P d)) (omega arith)) R c
 
-  at_call : (f : Name) (ts : Terms) (xs : List Name) (P : Rule) → declared program f ≡ Some (Procedure xs P) → rank f < nesting → rule_weight program P < rule_weight program (Call f ts)
+  at_call : (f : Name) (ts : Terms) (xs : List Name) (P : Rule) → declared program f ≡ Some (NamedRule xs P) → rank f < nesting → rule_weight program P < rule_weight program (Call f ts)
   unfolding rule_weight
   at_call f ts xs P d below =
       let deep : rule_size_within program 16 P ≡ rule_size_within program nesting P =

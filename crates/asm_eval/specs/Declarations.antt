@@ -18,7 +18,7 @@ use Rattle.asm_check.specs.Numbers.{derived_of, rules_of, meaning_at, named}
 use Rattle.asm_check.specs.Shapes.{shape_of}
 use Rattle.asm_check.specs.declared.checked.Named.{Named}
 use Rattle.asm_check.specs.declared.checked.Named.TheVariants as number
-use Rattle.asm_eval.specs.Program.{Program, Declared, Universe, Enumerated, Controlled, Static, Derived, Procedure, declared}
+use Rattle.asm_eval.specs.Program.{Program, Declared, Universe, Enumerated, Controlled, Static, Derived, NamedRule, declared}
 use Rattle.asm_eval.specs.Run.{Specification}
 
 abbrev pub held_as : Shape → ℕ → state.Function → Kind → Declared
@@ -33,7 +33,7 @@ function_at shape f (Some it) = Some (held_as shape f it it.kind)
 -- a derived function or a rule
 abbrev pub body_of : Option Meaning → Option Declared
 body_of (Some (names.Derived xs t)) = Some (Derived (map text_of xs) (plain_term t))
-body_of (Some (names.Procedure xs P)) = Some (Procedure (map text_of xs) (plain_rule P))
+body_of (Some (names.NamedRule xs P)) = Some (NamedRule (map text_of xs) (plain_rule P))
 body_of m = None
 
 -- what a number stands for
@@ -43,7 +43,7 @@ numbered spec (Some (number.Universe n)) = option_map Universe (slice_get (shape
 numbered spec (Some (number.Element n)) = Some (Enumerated (element n))
 numbered spec (Some (number.Function f)) = function_at (shape_of spec) f (slice_get (shape_of spec).functions f)
 numbered spec (Some (number.Derived d)) = body_of (meaning_at (derived_of spec) d)
-numbered spec (Some (number.Called r)) = body_of (meaning_at (rules_of spec) r)
+numbered spec (Some (number.Rule r)) = body_of (meaning_at (rules_of spec) r)
 
 abbrev pub meant : source.Spec → Name → Option Declared
 meant spec x = numbered spec (named spec x)
@@ -64,7 +64,7 @@ abbrev pub ProgramDeclares : Type 0
 ProgramDeclares = (spec : source.Spec) (x : Name) → declared (program_of spec) x ≡ meant spec x
 
 abbrev pub rule_body : Option Declared → Rule
-rule_body (Some (Procedure xs P)) = P
+rule_body (Some (NamedRule xs P)) = P
 rule_body it = Skip
 
 -- the body of the rule that the first `init` names

@@ -8,7 +8,7 @@ use Rattle.asm_state.specs.Location.{State}
 use Rattle.asm_state.specs.Updates.{UpdateSet, is_consistent, is_none, none, fire}
 use Rattle.asm_syntax.specs.Tree.{Terms, Rule, Skip, Assign, Call, Par, Seq, If, Let, Forall, Choose, Iterate, Rules, no_rules, rule_then}
 use Rattle.asm_reader.specs.ScriptLines.{Script, pick}
-use Rattle.asm_eval.specs.Program.{Program, Declared, Procedure, declared, Environment, with_value, bind_terms}
+use Rattle.asm_eval.specs.Program.{Program, Declared, NamedRule, declared, Environment, with_value, bind_terms}
 use Rattle.asm_eval.specs.Value.{value, values, holds, candidates, universe, nesting}
 use Rattle.asm_eval.specs.Yields.{Path, at, Result, Gives, Exhausted, beside, after, assigned}
 
@@ -77,7 +77,7 @@ turns_of m (suc left) t A e p =
 
 module _ (program : Program) (turns : ℕ) (chosen : Path → ℕ) (body : Rule → Meaning) where
   abbrev pub called : Option Declared → Terms → Meaning
-  called (Some (Procedure xs P)) ts A e p = body P A (bind_terms xs ts e) (at p 0)
+  called (Some (NamedRule xs P)) ts A e p = body P A (bind_terms xs ts e) (at p 0)
   called _ ts A e p = nothing
 
   unfoldable mutual

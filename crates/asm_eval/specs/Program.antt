@@ -24,7 +24,7 @@ pub data Declared : Type 0 where
   Controlled : (function : ℕ) → Domain → Declared
   Static : Domain → Table → Declared
   Derived : (parameters : List Name) → Term → Declared
-  Procedure : (parameters : List Name) → Rule → Declared
+  NamedRule : (parameters : List Name) → Rule → Declared
 
 abbrev pub Program : Type 0
 Program = List (Name × Declared)

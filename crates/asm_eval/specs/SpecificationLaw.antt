@@ -12,7 +12,7 @@ use Rattle.asm_syntax.specs.Tree.{Name, Rule}
 use Rattle.asm_reader.specs.ScriptLines.{Script}
 use Rattle.asm_check.specs.Faults.{IsWellFormed, inits}
 use Rattle.asm_eval.specs.Declarations.{main_rule, program_of, specification_of}
-use Rattle.asm_eval.specs.Program.{Procedure, declared}
+use Rattle.asm_eval.specs.Program.{NamedRule, declared}
 use Rattle.asm_eval.specs.Ranks.{AreDerivedRanked, CallsBelow, IsRanked}
 use Rattle.asm_eval.specs.Run.{End, IsRun, Run, run, sets_of}
 use Rattle.asm_eval.specs.Scripts.{IsUnrepeated}
@@ -21,7 +21,7 @@ use Rattle.asm_eval.specs.Value.{nesting}
 pub record RanksFall (spec : Spec) : Type 0 where
   pub rank : Name → ℕ
   pub ranked : IsRanked (program_of spec) rank
-  pub bodies : (f : Name) (xs : List Name) (P : Rule) → declared (program_of spec) f ≡ Some (Procedure xs P) → CallsBelow (program_of spec) rank nesting P
+  pub bodies : (f : Name) (xs : List Name) (P : Rule) → declared (program_of spec) f ≡ Some (NamedRule xs P) → CallsBelow (program_of spec) rank nesting P
   pub main : CallsBelow (program_of spec) rank nesting (main_rule spec (inits spec))
   pub rank_low : (f : Name) → rank f < nesting
   -- the same of derived functions, for the value of a term by cases

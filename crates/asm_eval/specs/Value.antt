@@ -10,7 +10,7 @@ use Rattle.asm_state.specs.Operation.{op}
 use Rattle.asm_state.specs.Location.{Location, Proper, Stray, State}
 use Rattle.asm_state.specs.Tables.{location_in, value_in}
 use Rattle.asm_syntax.specs.Tree.{Name, Term, Constant, Named, Chain, Not as not_term, Negative, Exists, Every, Terms, no_terms, term_then, Links, no_links, link_then}
-use Rattle.asm_eval.specs.Program.{Program, Declared, Universe, Enumerated, Controlled, Static, Derived, Procedure, declared, look_up, Environment, nothing_bound, with_value, with_term}
+use Rattle.asm_eval.specs.Program.{Program, Declared, Universe, Enumerated, Controlled, Static, Derived, NamedRule, declared, look_up, Environment, nothing_bound, with_value, with_term}
 
 abbrev pub is_true : Value → Bool
 is_true (Truth b) = b
@@ -47,7 +47,7 @@ module _ (program : Program) (derived : List Name → Term → List Value → St
   applied (Some (Static domain table)) vs A = value_in domain table vs
   applied (Some (Derived xs t)) vs A = derived xs t vs A
   applied (Some (Universe us)) vs A = Undef
-  applied (Some (Procedure xs P)) vs A = Undef
+  applied (Some (NamedRule xs P)) vs A = Undef
   applied None vs A = Undef
 
   abbrev pub named : Option Reading → Option Declared → List Value → State → Value

@@ -6,7 +6,7 @@ use Rattle.std.specs.Prelude.{◌≡◌, ◌<◌, ℕ, zero, suc, ◌+◌, max, 
 use Rattle.asm_state.specs.declared.value.Value.{Value}
 use Rattle.asm_state.specs.declared.operation.Op.{Op}
 use Rattle.asm_syntax.specs.Tree.{Name, Term, Constant, Named, Chain, Not, Negative, Exists, Every, Terms, no_terms, term_then, Links, no_links, link_then, Rule, Skip, Assign, Call, Par, Seq, If, Let, Forall, Choose, Iterate, Rules, no_rules, rule_then}
-use Rattle.asm_eval.specs.Program.{Program, Declared, Derived, Procedure, declared, Environment, nothing_bound, with_value, with_term, bind_values, ToTerm, bound_to}
+use Rattle.asm_eval.specs.Program.{Program, Declared, Derived, NamedRule, declared, Environment, nothing_bound, with_value, with_term, bind_values, ToTerm, bound_to}
 use Rattle.asm_eval.specs.Value.{nesting}
 use Rattle.asm_eval.specs.Ranks.{is_among, AreDerivedRanked, IsRanked}
 
@@ -76,7 +76,7 @@ TermWeightsFall = (program : Program) (rank : Name → ℕ) (e : Environment) �
 
 module _ (program : Program) (body : Rule → ℕ) where
   abbrev pub called_size : Option Declared → ℕ
-  called_size (Some (Procedure xs P)) = body P
+  called_size (Some (NamedRule xs P)) = body P
   called_size _ = 0
 
   unfoldable mutual
@@ -104,7 +104,7 @@ unfoldable pub rule_weight : Program → Rule → ℕ
 rule_weight program R = rule_size_within program nesting R
 
 pub record RuleWeightsFall (program : Program) (rank : Name → ℕ) : Type 0 where
-  pub at_call : (f : Name) (ts : Terms) (xs : List Name) (P : Rule) → declared program f ≡ Some (Procedure xs P) → rank f < nesting
+  pub at_call : (f : Name) (ts : Terms) (xs : List Name) (P : Rule) → declared program f ≡ Some (NamedRule xs P) → rank f < nesting
       → rule_weight program P < rule_weight program (Call f ts)
   pub at_par : (P : Rule) (Ps : Rules) → rule_weight program P < rule_weight program (Par (rule_then P Ps))
   pub at_later_par : (P : Rule) (Ps : Rules) → rule_weight program (Par Ps) < rule_weight program (Par (rule_then P Ps))

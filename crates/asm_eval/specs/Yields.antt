@@ -9,7 +9,7 @@ use Rattle.asm_state.specs.Location.{State}
 use Rattle.asm_state.specs.Tables.{location_in}
 use Rattle.asm_state.specs.Updates.{UpdateSet, IsConsistent, none, one, together, merge, fire}
 use Rattle.asm_syntax.specs.Tree.{Name, Term, Terms, Rule, Skip, Assign, Call, Par, Seq, If, Let, Forall, Choose, Iterate, Rules, no_rules, rule_then}
-use Rattle.asm_eval.specs.Program.{Program, Declared, Controlled, Procedure, declared, Environment, with_value, bind_terms}
+use Rattle.asm_eval.specs.Program.{Program, Declared, Controlled, NamedRule, declared, Environment, with_value, bind_terms}
 use Rattle.asm_eval.specs.Value.{value, values, holds, candidates, universe}
 
 -- the numbers of the descents from the main rule's body
@@ -53,7 +53,7 @@ module _ (program : Program) (turns : ℕ) where
       assign : {A : State} {e : Environment} {p : Path} {f : Name} {ts : Terms} {t : Term}
           → Yields A e p (Assign f ts t) (Gives (assigned (declared program f) (values program A e ts) (value program A e t)))
       call : {A : State} {e : Environment} {p : Path} {f : Name} {ts : Terms} {xs : List Name} {P : Rule} {r : Result}
-          → declared program f ≡ Some (Procedure xs P) → Yields A (bind_terms xs ts e) (at p 0) P r → Yields A e p (Call f ts) r
+          → declared program f ≡ Some (NamedRule xs P) → Yields A (bind_terms xs ts e) (at p 0) P r → Yields A e p (Call f ts) r
       par : {A : State} {e : Environment} {p : Path} {Ps : Rules} {rs : List Result}
           → YieldsParts A e p 0 Ps rs → Yields A e p (Par Ps) (all_beside rs)
       seq : {A : State} {e : Environment} {p : Path} {Ps : Rules} {r : Result}

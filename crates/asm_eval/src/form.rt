@@ -276,7 +276,7 @@ fn form_call<'e, P: Picks>(
         Follows (shape_at evaluation.now) (outcome_at evaluation.now env.now made.old.path.items R) made.old made.new result }
 {
     match evaluation.scene.checked.named(&name.text) {
-        Some(Named::Called(r)) => {
+        Some(Named::Rule(r)) => {
             let (names, body) = evaluation.scene.checked.rule(r);
             let bound = Env::Terms {
                 names,

@@ -188,7 +188,7 @@ fn value_of(
             let (names, body) = scene.checked.derived(d);
             value(alloc, scene, &Env::Values { names, values }, body)
         }
-        Some(Named::Universe(_) | Named::Called(_)) | None => Ok(Value::Undef),
+        Some(Named::Universe(_) | Named::Rule(_)) | None => Ok(Value::Undef),
     }
 }
 

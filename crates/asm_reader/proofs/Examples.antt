@@ -18,7 +18,7 @@ use Rattle.asm_reader.specs.Refusals.{IsUnexpected, IsUnexpectedEnd, IsTooDeep}
 use Rattle.asm_reader.specs.Steps.{turns}
 use Rattle.asm_reader.specs.TermReading.{name_at, arguments_at, applied_at, parenthesized_at, primary_at, factor_at, product_at, sum_at, comparison_at, negation_at, conjunction_at, disjunction_at, inner_at, term_at}
 use Rattle.asm_reader.specs.RuleReading.{skip_at, named_rule_at, par_at, iterate_at, block_at, rule_over_at, rule_at}
-use Rattle.asm_reader.specs.Reading.{parameters_at, declared_at, item_at, specification_at}
+use Rattle.asm_reader.specs.Reading.{parameters_at, rule_item_at, item_at, specification_at}
 use Rattle.asm_reader.proofs.EachScript.{answers as script_answers}
 use Rattle.asm_reader.proofs.EachText.{answers}
 
@@ -105,7 +105,7 @@ abbrev name : ℕ → List ℕ → source.Name
 name i text = record { at = i; text = text }
 
 abbrev spec_with : source.Rule → ℕ → source.Spec
-spec_with body n = record { name = name 8 (codes "T"); items = source.Declared (name 15 (codes "M")) [] body ∷ []; length = n }
+spec_with body n = record { name = name 8 (codes "T"); items = source.NamedRule (name 15 (codes "M")) [] body ∷ []; length = n }
 
 abbrev named : ℕ → List ℕ → source.Term
 named i x = source.Named (name i x) source.no_terms
@@ -135,7 +135,7 @@ record Trees : Type 0 where
       (spec_with (source.Call (name 19 (codes "r")) (source.term_then (named 23 (codes "a")) source.no_terms)) 26)
 
 trees : Trees
-unfolding specification_at item_at declared_at parameters_at turns name_at rule_at rule_over_at skip_at named_rule_at applied_at arguments_at term_at disjunction_at conjunction_at negation_at comparison_at sum_at product_at factor_at primary_at parenthesized_at inner_at
+unfolding specification_at item_at rule_item_at parameters_at turns name_at rule_at rule_over_at skip_at named_rule_at applied_at arguments_at term_at disjunction_at conjunction_at negation_at comparison_at sum_at product_at factor_at primary_at parenthesized_at inner_at
 trees = record {
   header_alone = answers _ _ (Ok _) refl;
   word = answers _ _ (Ok _) refl;
@@ -160,7 +160,7 @@ module _ (text : List ℕ) where
     unexpected_opens_nothing : IsUnexpected text (with_body (pars 64 26 (token (Symbol symbols.Open) 282 283 ∷ []))) 282
 
   refused : Refused
-  unfolding specification_at item_at declared_at parameters_at turns name_at rule_at rule_over_at skip_at block_at par_at iterate_at named_rule_at applied_at arguments_at term_at disjunction_at conjunction_at negation_at comparison_at sum_at product_at factor_at primary_at parenthesized_at inner_at
+  unfolding specification_at item_at rule_item_at parameters_at turns name_at rule_at rule_over_at skip_at block_at par_at iterate_at named_rule_at applied_at arguments_at term_at disjunction_at conjunction_at negation_at comparison_at sum_at product_at factor_at primary_at parenthesized_at inner_at
   refused = record {
     no_token = answers text [] (Err UnexpectedEnd) refl;
     not_ended = answers text _ (Err UnexpectedEnd) refl;

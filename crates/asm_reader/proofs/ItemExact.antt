@@ -86,8 +86,8 @@ module _ (text : List ℕ) where
   abbrev derived_made : source.Name × (List source.Name × source.Term) → source.Item
   derived_made v = source.Derived v.0 v.1.0 v.1.1
 
-  abbrev declared_made : source.Name × (List source.Name × source.Rule) → source.Item
-  declared_made v = source.Declared v.0 v.1.0 v.1.1
+  abbrev rule_item_made : source.Name × (List source.Name × source.Rule) → source.Item
+  rule_item_made v = source.NamedRule v.0 v.1.0 v.1.1
 
   -- ---- what items begin with
 
@@ -115,9 +115,9 @@ module _ (text : List ℕ) where
   unfolding g.derived_item
   begins_derived X S = begins_makes (Word Derived ∷ []) (past (Word Derived) (declared_parts X)) derived_made (begins_past (Word Derived) (declared_parts X))
 
-  begins_declared : (X : Part source.Term) (S : Part source.Rule) → Begins (Word Rule ∷ []) (g.rule_item text X S)
+  begins_rule_item : (X : Part source.Term) (S : Part source.Rule) → Begins (Word Rule ∷ []) (g.rule_item text X S)
   unfolding g.rule_item
-  begins_declared X S = begins_makes (Word Rule ∷ []) (past (Word Rule) (declared_parts S)) declared_made (begins_past (Word Rule) (declared_parts S))
+  begins_rule_item X S = begins_makes (Word Rule ∷ []) (past (Word Rule) (declared_parts S)) rule_item_made (begins_past (Word Rule) (declared_parts S))
 
   -- the items from one on, in the order of the grammar
   module _ (X : Part source.Term) (S : Part source.Rule) where
@@ -137,7 +137,7 @@ module _ (text : List ℕ) where
     from_init = g.init_item text or from_enum
 
     begins_from_derived : Begins (Word Derived ∷ Word Rule ∷ []) from_derived
-    begins_from_derived = begins_or (Word Derived ∷ []) (Word Rule ∷ []) (Word Derived ∷ Word Rule ∷ []) (g.derived_item text X S) (g.rule_item text X S) (begins_derived X S) (begins_declared X S) refl refl
+    begins_from_derived = begins_or (Word Derived ∷ []) (Word Rule ∷ []) (Word Derived ∷ Word Rule ∷ []) (g.derived_item text X S) (g.rule_item text X S) (begins_derived X S) (begins_rule_item X S) refl refl
 
     begins_from_function : Begins (Word Function ∷ Word Derived ∷ Word Rule ∷ []) from_function
     begins_from_function = begins_or (Word Function ∷ []) (Word Derived ∷ Word Rule ∷ []) (Word Function ∷ Word Derived ∷ Word Rule ∷ []) (g.function_item text) from_derived begins_function begins_from_derived refl refl
@@ -272,9 +272,9 @@ module _ (text : List ℕ) where
         (exact_past n false d term_more (Word Derived) (alike_word Derived) (refl, refl, refl) (declared_parts term) (declared_parts (any_term text)) (has_declared_parts term (has_term text (suc n))) (pair_of (name_at text) (pair_of (r.parameters_at text n) (past_of (Symbol Equal) (term_at text n))))
         (exact_declared_parts term_more term (any_term text) (has_term text (suc n)) (term_at text n) exact_term))
 
-    exact_declared : IsExact d d rule_more (g.rule_item text term rule) (g.rule_item text (any_term text) (any_rule text)) (r.declared_at text n)
-    unfolding g.rule_item r.declared_at
-    exact_declared = exact_makes d d rule_more (past (Word Rule) (declared_parts rule)) (past (Word Rule) (declared_parts (any_rule text))) declared_made (past_of (Word Rule) (pair_of (name_at text) (pair_of (r.parameters_at text n) (past_of (Symbol Equal) (rule_at text n)))))
+    exact_rule_item : IsExact d d rule_more (g.rule_item text term rule) (g.rule_item text (any_term text) (any_rule text)) (r.rule_item_at text n)
+    unfolding g.rule_item r.rule_item_at
+    exact_rule_item = exact_makes d d rule_more (past (Word Rule) (declared_parts rule)) (past (Word Rule) (declared_parts (any_rule text))) rule_item_made (past_of (Word Rule) (pair_of (name_at text) (pair_of (r.parameters_at text n) (past_of (Symbol Equal) (rule_at text n)))))
         (exact_past n false d rule_more (Word Rule) (alike_word Rule) (refl, refl, refl) (declared_parts rule) (declared_parts (any_rule text)) (has_declared_parts rule (has_rule text (suc n))) (pair_of (name_at text) (pair_of (r.parameters_at text n) (past_of (Symbol Equal) (rule_at text n))))
         (exact_declared_parts rule_more rule (any_rule text) (has_rule text (suc n)) (rule_at text n) exact_rule))
 
@@ -299,10 +299,10 @@ module _ (text : List ℕ) where
         (exact_before (Word Universe ∷ []) (Word Function ∷ Word Derived ∷ Word Rule ∷ []) [] (g.universe_item text) (g.universe_item text) (from_function term rule) (from_function (any_term text) (any_rule text)) begins_universe (begins_from_function (any_term text) (any_rule text)) refl refl (r.universe_at text) function_on exact_universe
         (exact_before (Word Function ∷ []) (Word Derived ∷ Word Rule ∷ []) function_more (g.function_item text) (g.function_item text) (from_derived term rule) (from_derived (any_term text) (any_rule text)) begins_function (begins_from_derived (any_term text) (any_rule text)) refl refl (r.function_at text n) derived_on exact_function
         (exact_or d d term_more rule_more item_more (Word Derived ∷ []) (Word Rule ∷ []) (g.derived_item text term rule) (g.rule_item text term rule) (g.derived_item text (any_term text) (any_rule text)) (g.rule_item text (any_term text) (any_rule text))
-        (begins_derived (any_term text) (any_rule text)) (begins_declared (any_term text) (any_rule text)) refl refl refl (r.derived_at text n) (r.declared_at text n) exact_derived exact_declared)))))
+        (begins_derived (any_term text) (any_rule text)) (begins_rule_item (any_term text) (any_rule text)) refl refl refl (r.derived_at text n) (r.rule_item_at text n) exact_derived exact_rule_item)))))
       where
         derived_on : Reader source.Item
-        derived_on = either_of (Word Derived ∷ []) (r.derived_at text n) (r.declared_at text n)
+        derived_on = either_of (Word Derived ∷ []) (r.derived_at text n) (r.rule_item_at text n)
 
         function_on : Reader source.Item
         function_on = either_of (Word Function ∷ []) (r.function_at text n) derived_on

@@ -26,7 +26,7 @@ module _ (text : List ℕ) where
 
     wider_rule_item : Includes (g.rule_item text X S) (g.rule_item text Y T)
     unfolding g.rule_item
-    wider_rule_item = wider_makes (past (Word Rule) (declared S)) (past (Word Rule) (declared T)) (λ v. source.Declared v.0 v.1.0 v.1.1) (wider_past (Word Rule) (declared S) (declared T) (wider_declared S T k))
+    wider_rule_item = wider_makes (past (Word Rule) (declared S)) (past (Word Rule) (declared T)) (λ v. source.NamedRule v.0 v.1.0 v.1.1) (wider_past (Word Rule) (declared S) (declared T) (wider_declared S T k))
 
     wider_item : Includes (g.item text X S) (g.item text Y T)
     unfolding g.item

@@ -89,7 +89,7 @@ module _ (text : List ℕ) where
     -- "rule" name parameters "=" rule
     unfoldable pub rule_item : Part source.Item
     rule_item = past (Word Rule) (name text then parameters then past (Symbol Equal) rule)
-        makes (λ r. source.Declared r.0 r.1.0 r.1.1)
+        makes (λ r. source.NamedRule r.0 r.1.0 r.1.1)
 
     unfoldable pub item : Part source.Item
     item = use_item or init_item or enum_item or universe_item or function_item or derived_item or rule_item

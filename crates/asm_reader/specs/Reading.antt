@@ -84,12 +84,12 @@ module _ (text : List ℕ) where
     unfoldable pub derived_at : Reader source.Item
     derived_at = mapped (λ r. source.Derived r.0 r.1.0 r.1.1) (past_of (Word Derived) (pair_of (name_at text) (pair_of parameters_at (past_of (Symbol Equal) (term_at text n)))))
 
-    unfoldable pub declared_at : Reader source.Item
-    declared_at = mapped (λ r. source.Declared r.0 r.1.0 r.1.1) (past_of (Word Rule) (pair_of (name_at text) (pair_of parameters_at (past_of (Symbol Equal) (rule_at text n)))))
+    unfoldable pub rule_item_at : Reader source.Item
+    rule_item_at = mapped (λ r. source.NamedRule r.0 r.1.0 r.1.1) (past_of (Word Rule) (pair_of (name_at text) (pair_of parameters_at (past_of (Symbol Equal) (rule_at text n)))))
 
     unfoldable pub item_at : Reader source.Item
     item_at = either_of (Word Use ∷ []) use_at (either_of (Word Init ∷ []) init_at (either_of (Word Enum ∷ []) enum_at (either_of (Word Universe ∷ []) universe_at
-        (either_of (Word Function ∷ []) function_at (either_of (Word Derived ∷ []) derived_at declared_at)))))
+        (either_of (Word Function ∷ []) function_at (either_of (Word Derived ∷ []) derived_at rule_item_at)))))
 
     unfoldable pub specification_at : Reader source.Spec
     specification_at = mapped (λ r. record { name = r.0; items = r.1; length = length text }) (past_of (Word CoreAsm) (pair_of (name_at text) (repeated_of item_starts item_at)))

@@ -247,21 +247,21 @@ fn derived_item(
     })
 }
 
-#[tactic(auto, unfolding(crate::specs::Reading::declared_at))]
+#[tactic(auto, unfolding(crate::specs::Reading::rule_item_at))]
 fn rule_item(
     alloc: Global,
     text: &[u8],
     tokens: &mut Cursor<'_>,
     levels: usize,
 ) -> Result<Item, Refused<ReadError>>
-    ensures { Reads item_of (reading.declared_at text.now levels tokens.old.rest.now) result tokens.new.rest.now }
+    ensures { Reads item_of (reading.rule_item_at text.now levels tokens.old.rest.now) result tokens.new.rest.now }
 {
     tokens.expect(Kind::Word(Word::Rule))?;
     let name = name(alloc, text, tokens)?;
     let parameters = parameters(alloc, text, tokens, levels)?;
     tokens.expect(Kind::Symbol(Symbol::Equal))?;
     let body = rule(alloc, text, tokens, levels)?;
-    Ok(Item::Declared {
+    Ok(Item::Rule {
         name,
         parameters,
         body,

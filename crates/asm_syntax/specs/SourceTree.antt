@@ -73,7 +73,7 @@ pub data Item : Type 0 where
   Universe : Name → (first last : Number) → Item
   Function : Name → FunctionKind → (domain : List Name) → (codomain : Option Name) → (table : Option Given) → Item
   Derived : Name → (parameters : List Name) → Term → Item
-  Declared : Name → (parameters : List Name) → Rule → Item
+  NamedRule : Name → (parameters : List Name) → Rule → Item
 
 pub record Spec : Type 0 where
   pub name : Name

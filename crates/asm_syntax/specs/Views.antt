@@ -93,7 +93,7 @@ item_of (item.Enum name elements) = source.Enum (name_of name) (map name_of elem
 item_of (item.Universe name first last) = source.Universe (name_of name) first last
 item_of (item.Function name kind domain codomain table) = source.Function (name_of name) kind (map name_of domain.items) (option_map name_of codomain) (option_map given_of table)
 item_of (item.Derived name parameters body) = source.Derived (name_of name) (map name_of parameters.items) (term_of body)
-item_of (item.Declared name parameters body) = source.Declared (name_of name) (map name_of parameters.items) (rule_of body)
+item_of (item.Rule name parameters body) = source.NamedRule (name_of name) (map name_of parameters.items) (rule_of body)
 
 abbrev pub spec_of : Spec → source.Spec
 spec_of s = record { name = name_of s.name; items = map item_of s.items.items; length = s.length }

@@ -59,7 +59,7 @@ pub enum Item {
         parameters: Vec<Name>,
         body: Term,
     },
-    Declared {
+    Rule {
         name: Name,
         parameters: Vec<Name>,
         body: Rule,

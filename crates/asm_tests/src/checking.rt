@@ -39,8 +39,8 @@ fn names_stand_for_numbers(rt: HostRuntime) -> Result<(), Fail> {
         ("f", Some(Named::Function(0))),
         ("g", Some(Named::Function(1))),
         ("d", Some(Named::Derived(0))),
-        ("M", Some(Named::Called(0))),
-        ("r", Some(Named::Called(1))),
+        ("M", Some(Named::Rule(0))),
+        ("r", Some(Named::Rule(1))),
         ("NUMBER", None),
         ("p", None),
         ("T", None),
@@ -63,7 +63,7 @@ fn numbers_lead_to_names_and_bodies(rt: HostRuntime) -> Result<(), Fail> {
     };
     assert!(rt; checked.function_name(g) == b"g".as_slice());
     assert!(rt; checked.element_name(b) == b"b".as_slice());
-    let (Some(Named::Called(r)), Some(Named::Derived(d))) = (
+    let (Some(Named::Rule(r)), Some(Named::Derived(d))) = (
         named(rt.alloc(), &checked, "r")?,
         named(rt.alloc(), &checked, "d")?,
     ) else {

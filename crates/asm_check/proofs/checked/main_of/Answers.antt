@@ -10,9 +10,9 @@ unwrap-requires c =
 pub unreachable-requires : goal.unreachable-requires
 unreachable-requires c =
     start_other (spec_of c.args.spec.now) c.requires.good c.args.numbering.now c.requires.numbered (name_of c.start_of-start.result.now) c.start_of-start.ensures
-    c.named.result c.named.ensures c.unwrap.result c.unwrap.ensures c.in_default.not-Called
+    c.named.result c.named.ensures c.unwrap.result c.unwrap.ensures c.in_default.not-Rule
 
 pub returns : goal.returns
 returns c =
     start_main (spec_of c.args.spec.now) c.requires.good c.args.numbering.now c.requires.numbered (name_of c.start_of-start.result.now) c.start_of-start.ensures
-    c.named.result c.named.ensures c.unwrap.result c.in-Called.main c.unwrap.ensures c.in-Called.is
+    c.named.result c.named.ensures c.unwrap.result c.in-Rule.main c.unwrap.ensures c.in-Rule.is

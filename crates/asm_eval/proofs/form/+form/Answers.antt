@@ -178,16 +178,16 @@ form_choose-returns-in-None g t c =
 pub form_call-form_part-requires : goal.form_call-form_part-requires
 form_call-form_part-requires g t c κs within =
     let a = c.args in
-    let less = call_is_less a.evaluation.now.scene.checked.now a.name.now.text (meant_terms a.arguments.now) c.in-Some-Called.r c.rule.result.0.now c.rule.result.1.now
-    (sym c.named.ensures.named ∙ c.in-Some-Called.is ∙ ap Some c.in-Some-Called.field-0-is) c.rule.ensures in
+    let less = call_is_less a.evaluation.now.scene.checked.now a.name.now.text (meant_terms a.arguments.now) c.in-Some-Rule.r c.rule.result.0.now c.rule.result.1.now
+    (sym c.named.ensures.named ∙ c.in-Some-Rule.is ∙ ap Some c.in-Some-Rule.field-0-is) c.rule.ensures in
     (omega (arith, c.decreases, less), (search rules, c.requires))
 
-pub form_call-returns-in-Some-Called : goal.form_call-returns-in-Some-Called
-form_call-returns-in-Some-Called g t c =
+pub form_call-returns-in-Some-Rule : goal.form_call-returns-in-Some-Rule
+form_call-returns-in-Some-Rule g t c =
     let a = c.args in
     follows_same (shape_at a.evaluation.now) c.form_part.result _ _ _ _
-    (called_does a.evaluation.now (environment a.env.now) a.made.now.path.items a.name.now.text a.arguments.now c.in-Some-Called.r c.rule.result.0.now c.rule.result.1.now
-    (sym c.named.ensures.named ∙ c.in-Some-Called.is ∙ ap Some c.in-Some-Called.field-0-is) c.rule.ensures)
+    (called_does a.evaluation.now (environment a.env.now) a.made.now.path.items a.name.now.text a.arguments.now c.in-Some-Rule.r c.rule.result.0.now c.rule.result.1.now
+    (sym c.named.ensures.named ∙ c.in-Some-Rule.is ∙ ap Some c.in-Some-Rule.field-0-is) c.rule.ensures)
     c.form_part.ensures
 
 pub form_call-returns-in_default : goal.form_call-returns-in_default

@@ -14,7 +14,7 @@ use Rattle.asm_eval.proofs.ArgumentWeights.{argument_lighter, body_lighter}
 use Rattle.asm_eval.proofs.ChainLinks.{first_falls, link_falls, chain_starts}
 use Rattle.asm_eval.proofs.Evaluating.{cases, falls}
 use Rattle.asm_eval.proofs.Measures.{body_weight}
-use Rattle.asm_eval.proofs.NumberedValues.{element_below, function_below, numbered_derived, universe_undef, called_undef}
+use Rattle.asm_eval.proofs.NumberedValues.{element_below, function_below, numbered_derived, universe_undef, named_rule_undef}
 use Rattle.asm_eval.proofs.OneOperand.{not_falls, negative_falls, constant_value, not_value, negative_value}
 use Rattle.asm_eval.proofs.Quantified.{passes, exists_of_none, every_of_none, exists_at, fails_at, exists_past, every_past, none_more, all_more}
 use Rattle.asm_eval.proofs.terms.+value.Goals as goal
@@ -235,7 +235,7 @@ value_of-returns-in-Some-Element t c =
     ∙ ap (λ it. declared_value (program a.scene.now.checked.now) (shown a.scene.now.view.now) (numbered (spec_of a.scene.now.checked.now.spec) it) a.values.now) (sym (c.in-Some-Element.is ∙ ap Some field))
 
 pub value_of-returns-in-Some-Universe : goal.value_of-returns-in-Some-Universe
-value_of-returns-in-Some-Universe t c = grind (arith, common_steps, universe_undef, called_undef)
+value_of-returns-in-Some-Universe t c = grind (arith, common_steps, universe_undef, named_rule_undef)
 
 pub value_of-returns-in-Some-Derived : goal.value_of-returns-in-Some-Derived
 value_of-returns-in-Some-Derived t c =

@@ -25,7 +25,7 @@ unreachable-requires c =
     let self = c.args.self.now in
     let body = rule_read self.spec self.well_formed self.bodies self.indexed c.args.r c.index.result.now c.requires c.index.ensures in
     let it = c.index-2.result.now in
-    body_passes self.spec is_rule_item (rules_of (spec_of self.spec)) c.args.r c.index.result.now body it c.index-2.ensures (other_than_rule it c.in_default.not-Declared)
+    body_passes self.spec is_rule_item (rules_of (spec_of self.spec)) c.args.r c.index.result.now body it c.index-2.ensures (other_than_rule it c.in_default.not-Rule)
 
 pub returns : goal.returns
 returns c =
@@ -33,5 +33,5 @@ returns c =
     let body = rule_read self.spec self.well_formed self.bodies self.indexed c.args.r c.index.result.now c.requires c.index.ensures in
     let it = c.index-2.result.now in
     body_means self.spec is_rule_item (rules_of (spec_of self.spec)) c.args.r c.index.result.now body it c.index-2.ensures
-    (variant.Declared c.in-Declared.name c.in-Declared.parameters c.in-Declared.body) c.in-Declared.is
-    ∙ ap (λ xs. Some (names.Procedure (map name_of xs) (rule_of c.in-Declared.body))) (sym c.deref.ensures.value)
+    (variant.Rule c.in-Rule.name c.in-Rule.parameters c.in-Rule.body) c.in-Rule.is
+    ∙ ap (λ xs. Some (names.NamedRule (map name_of xs) (rule_of c.in-Rule.body))) (sym c.deref.ensures.value)

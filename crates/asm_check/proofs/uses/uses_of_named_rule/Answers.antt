@@ -4,7 +4,7 @@ use Rattle.asm_check.specs.Names.{text_of, uses_of_rule}
 use Rattle.asm_check.specs.UseViews.{use_of}
 use Rattle.asm_check.specs.Collected.{bound_of}
 use Rattle.asm_check.proofs.Scopes.{same_rule}
-use Rattle.asm_check.proofs.uses.uses_of_procedure.Goals as goal
+use Rattle.asm_check.proofs.uses.uses_of_named_rule.Goals as goal
 
 pub returns : goal.returns
 returns c =
