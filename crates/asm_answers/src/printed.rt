@@ -1,8 +1,9 @@
 //! Trees as lines of text, where each name has its offset, as in `x@12`.
+use asm_state::function::FunctionKind;
 use asm_state::operation::Op;
 use asm_syntax::name::Name;
 use asm_syntax::rule::Rule;
-use asm_syntax::spec::{Const, Entry, FunctionKind, Given, Item, Spec};
+use asm_syntax::spec::{Const, Entry, Given, Item, Spec};
 use asm_syntax::term::{Literal, Term};
 use std::alloc::{AllocError, Global};
 

@@ -5,7 +5,7 @@ use Rattle.std.specs.Cmp.{unsigned_Decides}
 use Rattle.std.proofs.lemmas.List.Elements.{Contains-append_left, Contains-append_right, Contains-append_cases}
 use Rattle.std.proofs.lemmas.Slice.Eq.{slice_eq-Decides}
 use Rattle.asm_syntax.specs.SourceTree as source
-use Rattle.asm_syntax.specs.declared.spec.FunctionKind.TheVariants as kind
+use Rattle.asm_state.specs.declared.function.FunctionKind.TheVariants as kind
 use Rattle.asm_check.specs.Names as names
 use Rattle.asm_syntax.specs.SourceTree.{Name, Item, Rule, Term, Spec}
 use Rattle.asm_check.specs.Names.{Text, Meaning, NamedRule, Derived, Declaration, declares, Use, is_text, is_among, text_of, predeclared, predeclared_names, declarations_of, declarations_from, declarations, first_of_each, first_declarations, declared, uses_of, uses, uses_of_rule, uses_of_term}

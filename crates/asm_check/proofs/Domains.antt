@@ -11,15 +11,15 @@ use Rattle.asm_state.specs.declared.value.Value.{Value}
 use Rattle.asm_state.specs.Fits.{IsDomainOf}
 use Rattle.asm_state.specs.Signature.{domain_in}
 use Rattle.asm_state.specs.Tables.{argument_lists}
-use Rattle.asm_syntax.specs.declared.spec.FunctionKind.{FunctionKind}
-use Rattle.asm_syntax.specs.declared.spec.FunctionKind.TheVariants as kind
+use Rattle.asm_state.specs.declared.function.FunctionKind.{FunctionKind}
+use Rattle.asm_state.specs.declared.function.FunctionKind.TheVariants as kind
 use Rattle.asm_syntax.specs.SourceTree as source
 use Rattle.asm_syntax.specs.SourceTree.{Name, Given, Item, Spec}
 use Rattle.asm_check.specs.Names.{Declaration, AsUniverse, declares, function_of, declarations_of, declarations_from, first_declarations, plain_use, uses_of, uses_of_codomain, uses_of_table}
 use Rattle.asm_check.specs.Faults.{IsWellFormed}
 use Rattle.asm_check.specs.Limits.{is_universe, size_of, domain_of, allowed_universes, counted_size, lists_of, product}
 use Rattle.asm_check.specs.Numbers.{universes_of, elements_of}
-use Rattle.asm_check.specs.Shapes.{kind_given, table_by, index_among, texts_of, domain_by, universe_values, function_given}
+use Rattle.asm_check.specs.Shapes.{table_by, index_among, texts_of, domain_by, universe_values, function_given}
 use Rattle.asm_check.proofs.Heights.{here, there, none_in, head_or_tail, in_map}
 use Rattle.asm_check.proofs.Looked.{is_named, index_is, at_index, index_inside, all_known, universe_named, length-lists}
 use Rattle.asm_check.proofs.Sized.{few_universes, stands_first}
@@ -143,7 +143,7 @@ module _ (spec : Spec) (good : IsWellFormed spec) where
       ∙ ap (λ b. cond b (product (map (counted_size spec) domain)) 0) (sym few)
 
 abbrev pub given_by : (spec : Spec) → FunctionKind → List Name → Option Given → state.Function
-given_by spec how domain table = record { kind = kind_given how; domain = domain_by (texts_of (universes_of spec)) domain; table = table_by (texts_of (elements_of spec)) table }
+given_by spec how domain table = record { kind = how; domain = domain_by (texts_of (universes_of spec)) domain; table = table_by (texts_of (elements_of spec)) table }
 
 of_item : (spec : Spec) (P : state.Function → Type 0) (items : List Item)
     → ((x : Name) (how : FunctionKind) (domain : List Name) (codomain : Option Name) (table : Option Given) → Contains items (source.Function x how domain codomain table) → P (given_by spec how domain table))

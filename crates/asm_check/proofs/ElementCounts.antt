@@ -6,7 +6,7 @@ use Rattle.std.proofs.lemmas.List.{take_all, get_or-set_same, get_or-set_other, 
 use Rattle.std.proofs.lemmas.List.Sums.{sum_by_push, sum_by-append, sum_by-cons, count_by-le-length}
 use Rattle.asm_syntax.specs.SourceTree as source
 use Rattle.asm_syntax.specs.SourceTree.{Name, Item, Spec}
-use Rattle.asm_syntax.specs.declared.spec.FunctionKind.TheVariants as kind
+use Rattle.asm_state.specs.declared.function.FunctionKind.TheVariants as kind
 use Rattle.asm_check.specs.declared.meaning.Declaration.{Declaration as CodeDeclaration}
 use Rattle.asm_check.specs.declared.meaning.Meaning as code
 use Rattle.asm_check.specs.declared.meaning.Meaning.TheVariants as variants

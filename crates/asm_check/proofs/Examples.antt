@@ -5,7 +5,7 @@ use Rattle.std.proofs.Common.{◌≡◌, ℕ, ◌≤◌, pos, List, [], ◌∷�
 use Rattle.std.specs.Prelude.{codes}
 use Rattle.std.proofs.lemmas.Int.{ints}
 use Rattle.asm_state.specs.declared.number.Number.{Number}
-use Rattle.asm_syntax.specs.declared.spec.FunctionKind.TheVariants.{Static}
+use Rattle.asm_state.specs.declared.function.FunctionKind.TheVariants.{Static}
 use Rattle.asm_syntax.specs.declared.term.Literal.TheVariants as literal
 use Rattle.asm_syntax.specs.SourceTree.{Name, Term, Constant, Named, no_terms, term_then, Skip, Assign, Call, Let, Const, Plain, Entry, Each, Entries, Item, Init, Enum, Universe, Function, Derived, NamedRule, Spec}
 use Rattle.asm_check.specs.FaultLists.{twice_faults, use_faults, init_faults, limit_faults, entry_faults}

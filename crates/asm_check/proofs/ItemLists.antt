@@ -7,7 +7,7 @@ use Rattle.std.proofs.lemmas.List.Elements.{filter-append}
 use Rattle.std.proofs.lemmas.List.Sums.{sum_by-append, sum_by-cons}
 use Rattle.asm_state.specs.declared.value.Value.{Value}
 use Rattle.asm_state.specs.Universe.{elements}
-use Rattle.asm_syntax.specs.declared.spec.FunctionKind.TheVariants as kind
+use Rattle.asm_state.specs.declared.function.FunctionKind.TheVariants as kind
 use Rattle.asm_syntax.specs.SourceTree as source
 use Rattle.asm_syntax.specs.SourceTree.{Name, Item, Spec}
 use Rattle.asm_check.specs.Names.{Text, Declaration, Meaning, Enumeration, Element, declares, declarations_of, declarations_from, predeclared, first_declarations, text_of}

@@ -8,7 +8,7 @@ use Rattle.asm_state.specs.Fits.{IsDomainOf}
 use Rattle.asm_state.specs.Signature.{domain_in}
 use Rattle.asm_state.specs.Tables.{IsTableOf}
 use Rattle.asm_state.proofs.Lists.{All-from_contained}
-use Rattle.asm_syntax.specs.declared.spec.FunctionKind.TheVariants as kind
+use Rattle.asm_state.specs.declared.function.FunctionKind.TheVariants as kind
 use Rattle.asm_syntax.specs.SourceTree as source
 use Rattle.asm_syntax.specs.SourceTree.{Item, Spec}
 use Rattle.asm_check.specs.Names.{Declaration, declarations_of, declarations_from, first_declarations}

@@ -22,7 +22,7 @@ use Rattle.asm_state.specs.Universe.{element, elements, numbers, count_between, 
 use Rattle.asm_state.proofs.Domains.{universe_laws}
 use Rattle.asm_state.proofs.Lists.{All-from_contained, AllPairs-none, AllPairs-map, Contains-flat_map}
 use Rattle.asm_state.proofs.ValueLaws.{value_laws}
-use Rattle.asm_syntax.specs.declared.spec.FunctionKind.{FunctionKind}
+use Rattle.asm_state.specs.declared.function.FunctionKind.{FunctionKind}
 use Rattle.asm_syntax.specs.declared.term.Literal.{Literal}
 use Rattle.asm_syntax.specs.declared.term.Literal.TheVariants as literal
 use Rattle.asm_syntax.specs.SourceTree as source

@@ -9,8 +9,8 @@ use Rattle.asm_state.specs.Fits.{static_lists}
 use Rattle.asm_state.specs.Signature.{domain_in, function_locations}
 use Rattle.asm_state.specs.Tables.{argument_lists}
 use Rattle.asm_state.proofs.NumberedLocations.{number_laws}
-use Rattle.asm_syntax.specs.declared.spec.FunctionKind.{FunctionKind}
-use Rattle.asm_syntax.specs.declared.spec.FunctionKind.TheVariants as kind
+use Rattle.asm_state.specs.declared.function.FunctionKind.{FunctionKind}
+use Rattle.asm_state.specs.declared.function.FunctionKind.TheVariants as kind
 use Rattle.asm_syntax.specs.SourceTree as source
 use Rattle.asm_syntax.specs.SourceTree.{Name, Given, Item, Spec}
 use Rattle.asm_check.specs.Names.{Declaration, Meaning, Element, declarations_of, declarations_from, first_declarations}

@@ -4,7 +4,7 @@
 --     HasStart spec                                      the one starting rule
 --     IsReady spec                                       all of it
 use Rattle.std.specs.Prelude.{◌≡◌, ◌⊎◌, ℕ, List, [], ◌∷◌, map, length, Contains, Option, Some, None}
-use Rattle.asm_syntax.specs.declared.spec.FunctionKind.{FunctionKind}
+use Rattle.asm_state.specs.declared.function.FunctionKind.{FunctionKind}
 use Rattle.asm_syntax.specs.SourceTree as source
 use Rattle.asm_syntax.specs.SourceTree.{Name, Term, Constant, Named, Chain, Not, Negative, Exists, Every, Terms, no_terms, term_then, Links, no_links, link_then, Rule, Skip, Assign, Call, Par, Seq, If, Let, Forall, Choose, Iterate, Rules, no_rules, rule_then, Branch, left_out, written, Const, Given, Spec}
 use Rattle.asm_check.specs.Names.{Text, Predeclared, Controlled, Static, NamedRule, Derived, declared, term_count, text_of}

@@ -5,7 +5,7 @@
 --     HasMeanings spec         each name is declared as its item says
 use Rattle.std.specs.Prelude.{◌≡◌, ◌≢◌, ℕ, List, [], ◌∷◌, map, flat_map, slice_get, codes, AllPairs, Contains, Option, Some}
 use Rattle.asm_state.specs.declared.number.Number.{Number}
-use Rattle.asm_syntax.specs.declared.spec.FunctionKind.TheVariants as kind
+use Rattle.asm_state.specs.declared.function.FunctionKind.TheVariants as kind
 use Rattle.asm_syntax.specs.SourceTree as source
 use Rattle.asm_syntax.specs.SourceTree.{Name, Term, Rule, Given, Item, Spec}
 use Rattle.asm_check.specs.Names.{Text, Range, Enumeration, Element, Controlled, Static, Derived, NamedRule, declared, text_of}

@@ -4,7 +4,7 @@ use Rattle.asm_state.specs.declared.function.Function as state
 use Rattle.asm_state.specs.Fits.{Fits}
 use Rattle.asm_state.specs.Signature.{IsSound}
 use Rattle.asm_state.specs.Universe.{element}
-use Rattle.asm_syntax.specs.declared.spec.FunctionKind.{FunctionKind}
+use Rattle.asm_state.specs.declared.function.FunctionKind.{FunctionKind}
 use Rattle.asm_syntax.specs.SourceTree as source
 use Rattle.asm_syntax.specs.SourceTree.{Name, Given, Spec}
 use Rattle.asm_check.specs.Names.{Text, Declaration, Meaning, declares, declared, function_of, is_text, Predeclared, Enumeration, Element}

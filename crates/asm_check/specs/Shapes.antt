@@ -8,14 +8,10 @@ use Rattle.std.specs.List.{position_or_len}
 use Rattle.asm_state.specs.declared.value.Value.{Value}
 use Rattle.asm_state.specs.declared.value.Value.TheVariants.{Undef}
 use Rattle.asm_state.specs.declared.function.Function as state
-use Rattle.asm_state.specs.declared.function.Kind as state_kind
-use Rattle.asm_state.specs.declared.function.Kind.TheVariants as held
 use Rattle.asm_state.specs.declared.function.Table as state_table
 use Rattle.asm_state.specs.declared.function.Table.TheVariants as given
 use Rattle.asm_state.specs.Signature.{Shape}
 use Rattle.asm_state.specs.Universe.{element, elements, numbers_between}
-use Rattle.asm_syntax.specs.declared.spec.FunctionKind.{FunctionKind}
-use Rattle.asm_syntax.specs.declared.spec.FunctionKind.TheVariants as kind
 use Rattle.asm_syntax.specs.SourceTree as source
 use Rattle.asm_syntax.specs.SourceTree.{Name, Const, Entry, Given, Item, Spec}
 use Rattle.asm_syntax.specs.PlainTree.{literal_value}
@@ -50,16 +46,12 @@ table_by elements None = given.Same Undef
 table_by elements (Some (source.Each c)) = given.Same (const_by elements c)
 table_by elements (Some (source.Entries entries)) = given.Entries (map (entry_by elements) entries)
 
-abbrev pub kind_given : FunctionKind → state_kind.Kind
-kind_given kind.Controlled = held.Controlled
-kind_given kind.Static = held.Static
-
 abbrev pub domain_by : (universes : List Text) → List Name → List ℕ
 domain_by universes domain = map (λ (u : Name). index_among universes u.text) domain
 
 abbrev pub function_by : (universes elements : List Text) → Item → Option state.Function
 function_by universes elements (source.Function x how domain codomain table) =
-    Some (record { kind = kind_given how; domain = domain_by universes domain; table = table_by elements table })
+    Some (record { kind = how; domain = domain_by universes domain; table = table_by elements table })
 function_by universes elements item = None
 
 abbrev pub texts_of : List Declaration → List Text

@@ -14,8 +14,9 @@ ghost use Rattle.asm_syntax.specs.SourceTree as source;
 use crate::error::FaultKind;
 use crate::least::Least;
 use crate::meaning::{Declaration, Meaning};
+use asm_state::function::FunctionKind;
 use asm_syntax::name::{Name, Text};
-use asm_syntax::spec::{FunctionKind, Item, Spec};
+use asm_syntax::spec::{Item, Spec};
 use indexmap::{IndexMap, IndexSet};
 use std::alloc::{AllocError, Global};
 

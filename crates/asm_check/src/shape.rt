@@ -6,18 +6,18 @@ ghost use Rattle.asm_syntax.specs.PlainTree.{literal_value};
 ghost use Rattle.asm_check.specs.Faults.{IsWellFormed};
 ghost use Rattle.asm_check.specs.Names.{text_of, is_among};
 ghost use Rattle.asm_check.specs.Numbers.{universes_of, elements_of};
-ghost use Rattle.asm_check.specs.Shapes.{shape_of, texts_of, texts_in, AreApart, index_among, const_by, entry_by, table_by, kind_given, domain_by, function_by};
+ghost use Rattle.asm_check.specs.Shapes.{shape_of, texts_of, texts_in, AreApart, index_among, const_by, entry_by, table_by, domain_by, function_by};
 
 use asm_state::arguments::Arguments;
 use asm_state::domain::Domain;
 use asm_state::element::Element;
 use asm_state::entries::Entries;
-use asm_state::function::{Function, Kind, Table};
+use asm_state::function::{Function, Table};
 use asm_state::signature::Signature;
 use asm_state::universe::Universe;
 use asm_state::value::Value;
 use asm_syntax::name::Name;
-use asm_syntax::spec::{Const, Entry, FunctionKind, Given, Item, Spec};
+use asm_syntax::spec::{Const, Entry, Given, Item, Spec};
 use asm_syntax::term::Literal;
 use indexmap::IndexSet;
 use std::alloc::{AllocError, Global};
@@ -91,7 +91,7 @@ fn function_of(
         return Ok(None);
     };
     Ok(Some(Function {
-        kind: kind_of(*kind),
+        kind: *kind,
         domain: domain_of(alloc, domain, universes)?,
         table: table_of(alloc, table, elements)?,
     }))
@@ -154,15 +154,6 @@ fn index_of(names: &Ordered, name: &Name) -> usize
     names
         .get_index_of(name.text.as_bytes())
         .unwrap_or(names.len())
-}
-
-fn kind_of(kind: FunctionKind) -> Kind
-    ensures { result ≡ kind_given kind }
-{
-    match kind {
-        FunctionKind::Controlled => Kind::Controlled,
-        FunctionKind::Static => Kind::Static,
-    }
 }
 
 fn domain_of(alloc: Global, domain: &[Name], universes: &Ordered) -> Result<Domain, AllocError>

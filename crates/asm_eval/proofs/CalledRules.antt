@@ -8,8 +8,8 @@ use Rattle.std.specs.List.{All}
 use Rattle.std.specs.Prelude.{option_map, slice_get}
 use Rattle.std.proofs.lemmas.List.Elements.{filter_passes}
 use Rattle.asm_state.specs.declared.function.Function as state
-use Rattle.asm_state.specs.declared.function.Kind.{Kind}
-use Rattle.asm_state.specs.declared.function.Kind.TheVariants as kind
+use Rattle.asm_state.specs.declared.function.FunctionKind.{FunctionKind}
+use Rattle.asm_state.specs.declared.function.FunctionKind.TheVariants as kind
 use Rattle.asm_state.specs.declared.value.Value.{Value}
 use Rattle.asm_state.specs.Location.{State}
 use Rattle.asm_state.specs.Signature.{Shape}
@@ -102,7 +102,7 @@ module _ (program : Program) (turns : ℕ) (chosen : Path → ℕ) (body : tree.
   abbrev calls : Option Declared → Outcome
   calls it = called program turns chosen body it ts A e p
 
-  held_is_no_rule : (shape : Shape) (f : ℕ) (it : state.Function) (k : Kind) → nothing ≡ calls (Some (held_as shape f it k))
+  held_is_no_rule : (shape : Shape) (f : ℕ) (it : state.Function) (k : FunctionKind) → nothing ≡ calls (Some (held_as shape f it k))
   held_is_no_rule shape f it kind.Controlled = refl
   held_is_no_rule shape f it kind.Static = refl
 

@@ -11,7 +11,7 @@ use Rattle.asm_state.specs.Signature.{domain_by, domain_of, initial_value}
 use Rattle.asm_state.specs.Operation.{is_same}
 use Rattle.asm_state.specs.Tables.{Domain, is_in, is_list, entry_of, table_value, value_in}
 use Rattle.asm_state.proofs.ValueLaws.{value_laws}
-use Rattle.asm_syntax.specs.declared.spec.FunctionKind.TheVariants as kind
+use Rattle.asm_state.specs.declared.function.FunctionKind.TheVariants as kind
 use Rattle.asm_syntax.specs.SourceTree.{Name, Entry, Given, Each, Entries, Item, Uses, Init, Enum, Universe, Function, Derived, NamedRule, Spec}
 use Rattle.asm_check.specs.Shapes.{const_value, entry_by, function_given, shape_of, table_by, texts_of}
 use Rattle.asm_check.specs.Numbers.{elements_of}

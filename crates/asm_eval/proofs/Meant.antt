@@ -4,8 +4,8 @@ use Rattle.std.specs.Prelude.{find, option_map, slice_get}
 use Rattle.std.specs.List.{filter_map, cons_option}
 use Rattle.asm_state.specs.declared.value.Value.{Value}
 use Rattle.asm_state.specs.declared.function.Function as state
-use Rattle.asm_state.specs.declared.function.Kind.{Kind}
-use Rattle.asm_state.specs.declared.function.Kind.TheVariants as kind
+use Rattle.asm_state.specs.declared.function.FunctionKind.{FunctionKind}
+use Rattle.asm_state.specs.declared.function.FunctionKind.TheVariants as kind
 use Rattle.asm_state.specs.Signature.{Shape}
 use Rattle.asm_syntax.specs.SourceTree.{Spec}
 use Rattle.asm_syntax.specs.Tree.{Name}
@@ -70,7 +70,7 @@ pub universe_is : (spec : Spec) (x : Name) (n : ℕ) (vs : List Value) → unive
     → slice_get (shape_of spec).universes n ≡ Some vs → universe (program_of spec) x ≡ vs
 universe_is spec x n vs e at = elements_meant spec x ∙ numbered_is spec (named spec x) n vs e at
 
-held_is_no_universe : (shape : Shape) (f : ℕ) (it : state.Function) (k : Kind) → elements_of (Some (held_as shape f it k)) ≡ []
+held_is_no_universe : (shape : Shape) (f : ℕ) (it : state.Function) (k : FunctionKind) → elements_of (Some (held_as shape f it k)) ≡ []
 held_is_no_universe shape f it kind.Controlled = refl
 held_is_no_universe shape f it kind.Static = refl
 

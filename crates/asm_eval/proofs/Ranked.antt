@@ -2,8 +2,8 @@
 use Rattle.std.proofs.Common.{◌≡◌, ℕ, ◌<◌, Bool, true, false, List, ◌∷◌, map, Option, Some, None, refl, sym, ap, subst, ◌∙◌, arith}
 use Rattle.std.specs.Prelude.{option_map, slice_get}
 use Rattle.asm_state.specs.declared.function.Function as state
-use Rattle.asm_state.specs.declared.function.Kind.{Kind}
-use Rattle.asm_state.specs.declared.function.Kind.TheVariants as kind
+use Rattle.asm_state.specs.declared.function.FunctionKind.{FunctionKind}
+use Rattle.asm_state.specs.declared.function.FunctionKind.TheVariants as kind
 use Rattle.asm_state.specs.declared.value.Value.{Value}
 use Rattle.asm_state.specs.Signature.{Shape}
 use Rattle.asm_state.specs.Universe.{element}
@@ -38,7 +38,7 @@ has_body it = false
 
 -- a number that stands for a derived function or a rule leads to its declaration
 module _ (it : Declared) (body : has_body it ≡ true) where
-  never_held : (shape : Shape) (f : ℕ) (fn : state.Function) (k : Kind) → ¬ (Some (held_as shape f fn k) ≡ Some it)
+  never_held : (shape : Shape) (f : ℕ) (fn : state.Function) (k : FunctionKind) → ¬ (Some (held_as shape f fn k) ≡ Some it)
   never_held shape f fn kind.Controlled e = let same : held_as shape f fn kind.Controlled ≡ it = cc in let bad : false ≡ true = ap has_body same ∙ body in cc
   never_held shape f fn kind.Static e = let same : held_as shape f fn kind.Static ≡ it = cc in let bad : false ≡ true = ap has_body same ∙ body in cc
 

@@ -3,7 +3,7 @@ use Rattle.std.proofs.Common.{◌≡◌, ℕ, ◌<◌, List, Option, Some, None,
 use Rattle.std.specs.Prelude.{slice_get, option_map}
 use Rattle.asm_state.specs.declared.value.Value.{Value}
 use Rattle.asm_state.specs.declared.function.Function as state
-use Rattle.asm_state.specs.declared.function.Kind.TheVariants as kind
+use Rattle.asm_state.specs.declared.function.FunctionKind.TheVariants as kind
 use Rattle.asm_state.specs.Signature.{Shape, functions_of, domain_by, domain_of}
 use Rattle.asm_state.specs.Updates.{none}
 use Rattle.asm_syntax.specs.SourceTree.{Spec}

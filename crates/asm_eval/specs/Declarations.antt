@@ -4,8 +4,8 @@
 use Rattle.std.specs.Prelude.{◌≡◌, ℕ, List, [], ◌∷◌, map, slice_get, Option, Some, None, option_map}
 use Rattle.std.specs.List.{filter_map}
 use Rattle.asm_state.specs.declared.function.Function as state
-use Rattle.asm_state.specs.declared.function.Kind.{Kind}
-use Rattle.asm_state.specs.declared.function.Kind.TheVariants as kind
+use Rattle.asm_state.specs.declared.function.FunctionKind.{FunctionKind}
+use Rattle.asm_state.specs.declared.function.FunctionKind.TheVariants as kind
 use Rattle.asm_state.specs.Signature.{Shape, domain_in, initial_state}
 use Rattle.asm_state.specs.Universe.{element}
 use Rattle.asm_syntax.specs.SourceTree as source
@@ -21,7 +21,7 @@ use Rattle.asm_check.specs.declared.checked.Named.TheVariants as number
 use Rattle.asm_eval.specs.Program.{Program, Declared, Universe, Enumerated, Controlled, Static, Derived, NamedRule, declared}
 use Rattle.asm_eval.specs.Run.{Specification}
 
-abbrev pub held_as : Shape → ℕ → state.Function → Kind → Declared
+abbrev pub held_as : Shape → ℕ → state.Function → FunctionKind → Declared
 held_as shape f it kind.Controlled = Controlled f (domain_in shape.universes it.domain)
 held_as shape f it kind.Static = Static (domain_in shape.universes it.domain) it.table
 

@@ -7,7 +7,7 @@ use Rattle.asm_state.specs.declared.value.Value.TheVariants.{Undef}
 use Rattle.asm_state.specs.Location.{Proper}
 use Rattle.asm_state.specs.Signature.{domain_of}
 use Rattle.asm_state.specs.Tables.{is_in}
-use Rattle.asm_syntax.specs.declared.spec.FunctionKind.TheVariants as kind
+use Rattle.asm_state.specs.declared.function.FunctionKind.TheVariants as kind
 use Rattle.asm_syntax.specs.SourceTree.{Name, Const, Entry, Given, Each, Entries, Item, Function, Spec}
 use Rattle.asm_check.specs.Shapes.{const_value, shape_of}
 use Rattle.asm_eval.specs.Declarations.{specification_of}

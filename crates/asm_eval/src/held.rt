@@ -10,7 +10,7 @@ ghost use Rattle.asm_eval.specs.Value as spec;
 
 use crate::view::View;
 use asm_check::{Checked, Named};
-use asm_state::function::Kind;
+use asm_state::function::FunctionKind;
 use asm_state::universe::Universe;
 use asm_state::value::Value;
 use asm_syntax::name::Name;
@@ -41,8 +41,8 @@ pub(crate) fn function_value(view: &View, f: usize, values: &[Value]) -> Value
         result ≡ held (function_at shape f (slice_get shape.functions f)) values.now (shown view.now) }
 {
     match view.signature.function(f).kind {
-        Kind::Controlled => view.read(f, values),
-        Kind::Static => view.signature.given(f, values),
+        FunctionKind::Controlled => view.read(f, values),
+        FunctionKind::Static => view.signature.given(f, values),
     }
 }
 

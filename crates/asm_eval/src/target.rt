@@ -1,6 +1,6 @@
 //! The location that an assignment updates.
 ghost use Rattle.std.specs.Prelude.{◌≡◌, ◌<◌, List, Some, map, IfOk, IfSome, IfNone};
-ghost use Rattle.asm_state.specs.declared.function.Kind.TheVariants.{Controlled};
+ghost use Rattle.asm_state.specs.declared.function.FunctionKind.TheVariants.{Controlled};
 ghost use Rattle.asm_state.specs.declared.value.Value.{Value};
 ghost use Rattle.asm_state.specs.Signature.{HasKind, count_of, domain_of, location_at};
 ghost use Rattle.asm_state.specs.Tables.{location_in};
@@ -14,7 +14,7 @@ use crate::env::Env;
 use crate::evaluation::Scene;
 use crate::terms::{FEW, value};
 use asm_check::Named;
-use asm_state::function::Kind;
+use asm_state::function::FunctionKind;
 use asm_state::value::Value;
 use asm_syntax::name::Name;
 use asm_syntax::term::Term;
@@ -28,8 +28,8 @@ pub(crate) fn target(scene: &Scene, name: &Name) -> Option<usize>
 {
     match scene.checked.named(&name.text) {
         Some(Named::Function(f)) => match scene.view.signature.function(f).kind {
-            Kind::Controlled => Some(f),
-            Kind::Static => None,
+            FunctionKind::Controlled => Some(f),
+            FunctionKind::Static => None,
         },
         _ => None,
     }

@@ -1,6 +1,6 @@
 //! Views of states.
 ghost use Rattle.std.specs.Prelude.{◌≡◌, ◌<◌, IsTrue, length, slice_index_or};
-ghost use Rattle.asm_state.specs.declared.function.Kind.TheVariants.{Controlled};
+ghost use Rattle.asm_state.specs.declared.function.FunctionKind.TheVariants.{Controlled};
 ghost use Rattle.asm_state.specs.declared.value.Value.TheVariants.{Undef};
 ghost use Rattle.asm_state.specs.Signature.{HasKind, IsSound, count_of, domain_of, location_at, state_of};
 ghost use Rattle.asm_state.specs.Tables.{location_in};

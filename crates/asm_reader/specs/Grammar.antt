@@ -6,8 +6,8 @@ use Rattle.asm_syntax.specs.declared.token.Kind.TheVariants.{Symbol, Word}
 use Rattle.asm_syntax.specs.declared.token.Symbol.TheVariants.{Open, Close, OpenBrace, CloseBrace, Comma, Colon, Equal, Minus, Times, Arrow, Dots}
 use Rattle.asm_syntax.specs.declared.token.Word.TheVariants.{CoreAsm, Use, Init, Enum, Universe, Function, Controlled, Static, Initially, Derived, Rule}
 use Rattle.asm_syntax.specs.declared.term.Literal.TheVariants as literal
-use Rattle.asm_syntax.specs.declared.spec.FunctionKind.{FunctionKind}
-use Rattle.asm_syntax.specs.declared.spec.FunctionKind.TheVariants as function_kind
+use Rattle.asm_state.specs.declared.function.FunctionKind.{FunctionKind}
+use Rattle.asm_state.specs.declared.function.FunctionKind.TheVariants as function_kind
 use Rattle.asm_syntax.specs.SourceTree as source
 use Rattle.asm_reader.specs.Parts.{Part, ◌then◌, ◌or◌, optional, repeated, ◌makes◌, number, negative_number, choice, past, separated, enclosed, between}
 use Rattle.asm_reader.specs.TermGrammar.{name, constants, listed, any_term}

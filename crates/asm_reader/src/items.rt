@@ -17,8 +17,9 @@ use crate::error::ReadError;
 use crate::names::{name, names};
 use crate::rules::rule;
 use crate::terms::term;
+use asm_state::function::FunctionKind;
 use asm_syntax::name::Name;
-use asm_syntax::spec::{FunctionKind, Given, Item, Spec};
+use asm_syntax::spec::{Given, Item, Spec};
 use asm_syntax::{Kind, Refused, Symbol, Word};
 use std::alloc::Global;
 

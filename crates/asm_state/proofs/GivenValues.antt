@@ -7,8 +7,8 @@ use Rattle.std.proofs.lemmas.List.Concat.{get_or-flat_map, length-flat_map}
 use Rattle.std.proofs.lemmas.List.Folds.{length-flat_map-take}
 use Rattle.std.proofs.lemmas.Option.{slice_get_within}
 use Rattle.asm_state.specs.declared.function.Function.{Function}
-use Rattle.asm_state.specs.declared.function.Kind.{Kind}
-use Rattle.asm_state.specs.declared.function.Kind.TheVariants.{Controlled, Static}
+use Rattle.asm_state.specs.declared.function.FunctionKind.{FunctionKind}
+use Rattle.asm_state.specs.declared.function.FunctionKind.TheVariants.{Controlled, Static}
 use Rattle.asm_state.specs.declared.layout.Extent.{Extent}
 use Rattle.asm_state.specs.declared.layout.Layout.{Layout}
 use Rattle.asm_state.specs.declared.value.Value.{Value}
@@ -24,7 +24,7 @@ use Rattle.asm_state.proofs.Owners.{same_function, any_extent}
 pub static_length : (universes : List (List Value)) (function : Function) → length (static_values universes function) ≡ static_lists universes function
 static_length universes function = by_kind function.kind
   where
-    by_kind : (kind : Kind) → length (static_values_by kind (map (table_value function.table) (argument_lists (domain_in universes function.domain)))) ≡ static_lists_by kind (length (argument_lists (domain_in universes function.domain)))
+    by_kind : (kind : FunctionKind) → length (static_values_by kind (map (table_value function.table) (argument_lists (domain_in universes function.domain)))) ≡ static_lists_by kind (length (argument_lists (domain_in universes function.domain)))
     by_kind Controlled = refl
     by_kind Static = length-map (argument_lists (domain_in universes function.domain)) (table_value function.table)
 

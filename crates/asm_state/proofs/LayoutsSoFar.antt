@@ -10,8 +10,8 @@ use Rattle.std.proofs.lemmas.List.{append-nil, map-append, take_all, length-map,
 use Rattle.std.proofs.lemmas.List.FromFn.{length-enumerate_from, get_or-enumerate_from}
 use Rattle.std.proofs.lemmas.Option.{slice_get-get_or}
 use Rattle.asm_state.specs.declared.function.Function.{Function}
-use Rattle.asm_state.specs.declared.function.Kind.{Kind}
-use Rattle.asm_state.specs.declared.function.Kind.TheVariants.{Controlled, Static}
+use Rattle.asm_state.specs.declared.function.FunctionKind.{FunctionKind}
+use Rattle.asm_state.specs.declared.function.FunctionKind.TheVariants.{Controlled, Static}
 use Rattle.asm_state.specs.declared.layout.Extent.{Extent}
 use Rattle.asm_state.specs.declared.layout.Layout.{Layout}
 use Rattle.asm_state.specs.declared.value.Value.{Value}
@@ -92,7 +92,7 @@ initial_contents shape f function at = by_kind function.kind refl
     domain : Domain
     domain = domain_in shape.universes function.domain
 
-    by_kind : (kind : Kind) → function.kind ≡ kind → map (initial_state shape) (locations_by kind f (domain_in shape.universes function.domain)) ≡ initial_values_by kind (map (table_value function.table) (argument_lists (domain_in shape.universes function.domain)))
+    by_kind : (kind : FunctionKind) → function.kind ≡ kind → map (initial_state shape) (locations_by kind f (domain_in shape.universes function.domain)) ≡ initial_values_by kind (map (table_value function.table) (argument_lists (domain_in shape.universes function.domain)))
     by_kind Controlled e = controlled_contents shape f function at e (argument_lists (domain_in shape.universes function.domain)) (listed_in (domain_in shape.universes function.domain))
     by_kind Static e = refl
 
@@ -105,7 +105,7 @@ pub record UpTo (shape : Shape) (f : ℕ) (layout : Layout) : Type 0 where
   pub initial : layout.initial.items ≡ map (initial_state shape) (locations_before shape f)
   pub given : layout.given.items ≡ given_before shape f
 
-start_is : (kind : Kind) (shape : Shape) (f : ℕ) (layout : Layout) → UpTo shape f layout → next_start kind layout ≡ start_by kind shape f
+start_is : (kind : FunctionKind) (shape : Shape) (f : ℕ) (layout : Layout) → UpTo shape f layout → next_start kind layout ≡ start_by kind shape f
 start_is Controlled shape f layout so_far = ap length so_far.initial ∙ length-map (locations_before shape f) (initial_state shape)
 start_is Static shape f layout so_far = ap length so_far.given
 

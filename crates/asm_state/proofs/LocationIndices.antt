@@ -10,7 +10,7 @@ use Rattle.std.proofs.lemmas.List.FromFn.{length-enumerate_from, get_or-enumerat
 use Rattle.std.proofs.lemmas.List.Folds.{length-flat_map-take}
 use Rattle.std.proofs.lemmas.Option.{get_or_from_slice_get, slice_get_within}
 use Rattle.asm_state.specs.declared.function.Function.{Function}
-use Rattle.asm_state.specs.declared.function.Kind.TheVariants.{Controlled}
+use Rattle.asm_state.specs.declared.function.FunctionKind.TheVariants.{Controlled}
 use Rattle.asm_state.specs.declared.value.Value.{Value}
 use Rattle.asm_state.specs.Location.{Location, Proper, Stray}
 use Rattle.asm_state.specs.Signature.{Shape, IsSound, domain_in, domain_by, domain_of, locations_by, function_locations, count_of, location_at, number_at}

@@ -10,8 +10,8 @@ use Rattle.std.proofs.lemmas.List.{get_or_past}
 use Rattle.std.proofs.lemmas.List.Elements.{All-get_or, All-map, Contains-append_cases}
 use Rattle.std.proofs.lemmas.List.FromFn.{length-enumerate_from, get_or-enumerate_from}
 use Rattle.asm_state.specs.declared.function.Function.{Function}
-use Rattle.asm_state.specs.declared.function.Kind.{Kind}
-use Rattle.asm_state.specs.declared.function.Kind.TheVariants.{Controlled, Static}
+use Rattle.asm_state.specs.declared.function.FunctionKind.{FunctionKind}
+use Rattle.asm_state.specs.declared.function.FunctionKind.TheVariants.{Controlled, Static}
 use Rattle.asm_state.specs.declared.value.Value.{Value}
 use Rattle.asm_state.specs.Value.{value_cmp}
 use Rattle.asm_state.specs.Location.{Location, Proper, Stray, function_of, stray_of, arguments_of, location_cmp}
@@ -46,7 +46,7 @@ stray_is_last : (f : ℕ) (us : List Value) → LocationsRise (Proper f us) (Str
 stray_is_last f us = ap (λ o. ordering_then o Less) (sym (nat_cmp_is f f Equal refl))
 
 -- the proper locations of a function, and then the stray one
-one_function_rises : (kind : Kind) (f : ℕ) (domain : Domain) → All IsUniverse domain → AllPairs LocationsRise (locations_by kind f domain)
+one_function_rises : (kind : FunctionKind) (f : ℕ) (domain : Domain) → All IsUniverse domain → AllPairs LocationsRise (locations_by kind f domain)
 one_function_rises Controlled f domain sound =
     AllPairs-append LocationsRise (map (Proper f) (argument_lists domain)) (Stray f ∷ [])
     (AllPairs-map ListsRise LocationsRise (Proper f) (less_by_arguments f) (argument_lists domain) (lists_apart domain sound))
@@ -63,7 +63,7 @@ one_function_rises Controlled f domain sound =
 one_function_rises Static f domain sound = AllPairs-none LocationsRise
 
 -- the locations of a function are of this function
-of_function : (kind : Kind) (f : ℕ) (domain : Domain) (l : Location) → Contains (locations_by kind f domain) l → function_of l ≡ f
+of_function : (kind : FunctionKind) (f : ℕ) (domain : Domain) (l : Location) → Contains (locations_by kind f domain) l → function_of l ≡ f
 of_function Controlled f domain l h =
     elim (Contains-append_cases (map (Proper f) (argument_lists domain)) (Stray f ∷ []) l h) [
       | inl proper ↦ let found = Contains-from_map (Proper f) (argument_lists domain) l proper in ap function_of (sym found.2)

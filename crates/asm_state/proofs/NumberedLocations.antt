@@ -8,8 +8,8 @@ use Rattle.std.proofs.lemmas.List.{length-map, length-append}
 use Rattle.std.proofs.lemmas.List.Elements.{Contains-get_or, Contains-append_left, Contains-append_right, Contains-append_cases}
 use Rattle.std.proofs.lemmas.List.Sums.{position_or_len_is, passes_at_first, fails_before_first}
 use Rattle.asm_state.specs.declared.function.Function.{Function}
-use Rattle.asm_state.specs.declared.function.Kind.{Kind}
-use Rattle.asm_state.specs.declared.function.Kind.TheVariants.{Controlled, Static}
+use Rattle.asm_state.specs.declared.function.FunctionKind.{FunctionKind}
+use Rattle.asm_state.specs.declared.function.FunctionKind.TheVariants.{Controlled, Static}
 use Rattle.asm_state.specs.declared.value.Value.{Value}
 use Rattle.asm_state.specs.Location.{Location, Proper, Stray, location_cmp, location_cmp-total}
 use Rattle.asm_state.specs.Tables.{Domain, argument_lists, is_in}
@@ -48,11 +48,11 @@ contains_numbered (g ∷ functions) first (suc k) n function at there =
     Contains-later {X = ℕ × Function} (first, g) (enumerate_from (first + 1) functions) (n, function) (contains_numbered functions (first + 1) k n function (omega arith) there)
 
 -- a location is among those of the function with this number
-abbrev IsOf : Kind → ℕ → Domain → Location → Type 0
+abbrev IsOf : FunctionKind → ℕ → Domain → Location → Type 0
 IsOf kind f domain (Proper g vs) = (kind ≡ Controlled) × (g ≡ f) × IsTrue (is_in domain vs)
 IsOf kind f domain (Stray g) = (kind ≡ Controlled) × (g ≡ f)
 
-is_of : (kind : Kind) (f : ℕ) (domain : Domain) (l : Location) → Contains (locations_by kind f domain) l → IsOf kind f domain l
+is_of : (kind : FunctionKind) (f : ℕ) (domain : Domain) (l : Location) → Contains (locations_by kind f domain) l → IsOf kind f domain l
 is_of Controlled f domain l h =
     elim (Contains-append_cases (map (Proper f) (argument_lists domain)) (Stray f ∷ []) l h) [
       | inl proper ↦ let found = Contains-from_map (Proper f) (argument_lists domain) l proper in
@@ -64,12 +64,12 @@ is_of Controlled f domain l h =
     ]
 is_of Static f domain l h = absurd (Contains-none l h)
 
-contains_proper : (kind : Kind) (f : ℕ) (domain : Domain) (vs : List Value) → kind ≡ Controlled → IsTrue (is_in domain vs) → Contains (locations_by kind f domain) (Proper f vs)
+contains_proper : (kind : FunctionKind) (f : ℕ) (domain : Domain) (vs : List Value) → kind ≡ Controlled → IsTrue (is_in domain vs) → Contains (locations_by kind f domain) (Proper f vs)
 contains_proper kind f domain vs controlled h =
     subst (λ kind. Contains (locations_by kind f domain) (Proper f vs)) (sym controlled)
     (Contains-append_left (map (Proper f) (argument_lists domain)) (Stray f ∷ []) (Proper f vs) (Contains-map (Proper f) (argument_lists domain) vs (contains_in domain vs h)))
 
-contains_stray : (kind : Kind) (f : ℕ) (domain : Domain) → kind ≡ Controlled → Contains (locations_by kind f domain) (Stray f)
+contains_stray : (kind : FunctionKind) (f : ℕ) (domain : Domain) → kind ≡ Controlled → Contains (locations_by kind f domain) (Stray f)
 contains_stray kind f domain controlled =
     subst (λ kind. Contains (locations_by kind f domain) (Stray f)) (sym controlled)
     (Contains-append_right (map (Proper f) (argument_lists domain)) (Stray f ∷ []) (Stray f) (Contains-first (Stray f) []))

@@ -7,8 +7,8 @@ use Rattle.std.proofs.lemmas.List.{length-append, get_or-map}
 use Rattle.std.proofs.lemmas.List.FromFn.{length-enumerate_from, get_or-enumerate_from}
 use Rattle.std.proofs.lemmas.Option.{slice_get-get_or, get_or_from_slice_get, slice_get_within}
 use Rattle.asm_state.specs.declared.function.Function.{Function}
-use Rattle.asm_state.specs.declared.function.Kind.{Kind}
-use Rattle.asm_state.specs.declared.function.Kind.TheVariants.{Controlled, Static}
+use Rattle.asm_state.specs.declared.function.FunctionKind.{FunctionKind}
+use Rattle.asm_state.specs.declared.function.FunctionKind.TheVariants.{Controlled, Static}
 use Rattle.asm_state.specs.declared.layout.Extent.{Extent}
 use Rattle.asm_state.specs.declared.layout.Layout.{Layout}
 use Rattle.asm_state.specs.declared.function.Table.TheVariants.{Same}
@@ -58,7 +58,7 @@ pub record Owned (shape : Shape) (n f : ℕ) : Type 0 where
   pub starts : start_of shape f ≤ n
   pub ends : n - start_of shape f < length (lists_of shape function) + 1
 
-owned_piece : (shape : Shape) (n i j : ℕ) (function : Function) → slice_get shape.functions i ≡ Some function → (kind : Kind) → function.kind ≡ kind
+owned_piece : (shape : Shape) (n i j : ℕ) (function : Function) → slice_get shape.functions i ≡ Some function → (kind : FunctionKind) → function.kind ≡ kind
     → j < length (locations_by kind i (domain_in shape.universes function.domain)) → n ≡ start_of shape i + j → Owned shape n i
 owned_piece shape n i j function at Static e h is = absurd (omega (arith, h))
 owned_piece shape n i j function at Controlled e h is =
@@ -125,7 +125,7 @@ same_owner shape n f owned =
     at = is_at shape n f (start_of shape f) (length (lists_of shape owned.function)) owned refl refl
 
 -- the function that a list has at a number is the one that it is known to have
-pub same_function : (shape : Shape) (kind : Kind) (f : ℕ) (function : Function) → HasKind kind shape f → function ≡ get_or shape.functions f function
+pub same_function : (shape : Shape) (kind : FunctionKind) (f : ℕ) (function : Function) → HasKind kind shape f → function ≡ get_or shape.functions f function
     → (slice_get shape.functions f ≡ Some function) × (function.kind ≡ kind)
 same_function shape kind f function has is =
     let same : has.0 ≡ function = sym (get_or_from_slice_get shape.functions f has.0 function has.1) ∙ sym is in

@@ -3,8 +3,8 @@ use Rattle.std.proofs.Common.{◌≡◌, ◌≢◌, ℕ, ◌<◌, ◌≤◌, Boo
 use Rattle.std.proofs.lemmas.Bool.{cases_lt, false_from_ne_true, false≢true}
 use Rattle.std.proofs.lemmas.List.{get_or_past, get_or-map, length-map, length-set, get_or-set_same, get_or-set_other}
 use Rattle.asm_state.specs.declared.function.Function.{Function}
-use Rattle.asm_state.specs.declared.function.Kind.{Kind}
-use Rattle.asm_state.specs.declared.function.Kind.TheVariants.{Controlled, Static}
+use Rattle.asm_state.specs.declared.function.FunctionKind.{FunctionKind}
+use Rattle.asm_state.specs.declared.function.FunctionKind.TheVariants.{Controlled, Static}
 use Rattle.asm_state.specs.declared.value.Value.{Value}
 use Rattle.asm_state.specs.declared.value.Value.TheVariants.{Undef}
 use Rattle.asm_state.specs.Contents.{IsStateOf}
@@ -40,7 +40,7 @@ outside shape contents l whole h =
     undef_anyway (is_proper l) (get_or contents (number_at shape l) Undef) (get_or_past contents (number_at shape l) Undef (omega arith))
 
 -- a function has no initial value outside its domain, and a static one has none at all
-initial_outside : (universes : List (List Value)) (function : Function) (vs : List Value) (kind : Kind) → function.kind ≡ kind → (kind ≡ Controlled → is_in (domain_in universes function.domain) vs ≡ false) → initial_value universes (Some function) vs ≡ Undef
+initial_outside : (universes : List (List Value)) (function : Function) (vs : List Value) (kind : FunctionKind) → function.kind ≡ kind → (kind ≡ Controlled → is_in (domain_in universes function.domain) vs ≡ false) → initial_value universes (Some function) vs ≡ Undef
 initial_outside universes function vs Controlled e h = rw (e, h refl) refl
 initial_outside universes function vs Static e h = rw e refl
 

@@ -1,8 +1,8 @@
 -- The limits of a signature.
 use Rattle.std.specs.Prelude.{◌≤◌, ◌<◌, ℕ, List, length, All, sum_by}
 use Rattle.asm_state.specs.declared.function.Function.{Function}
-use Rattle.asm_state.specs.declared.function.Kind.{Kind}
-use Rattle.asm_state.specs.declared.function.Kind.TheVariants.{Controlled, Static}
+use Rattle.asm_state.specs.declared.function.FunctionKind.{FunctionKind}
+use Rattle.asm_state.specs.declared.function.FunctionKind.TheVariants.{Controlled, Static}
 use Rattle.asm_state.specs.declared.value.Value.{Value}
 use Rattle.asm_state.specs.Signature.{Shape, domain_in, count_of}
 use Rattle.asm_state.specs.Tables.{argument_lists, IsTableOf}
@@ -13,7 +13,7 @@ pub record IsDomainOf (universes : List (List Value)) (domain : List ℕ) : Type
   pub known : All (λ n. n < length universes) domain
 
 -- how many argument lists a static function has
-abbrev pub static_lists_by : Kind → ℕ → ℕ
+abbrev pub static_lists_by : FunctionKind → ℕ → ℕ
 static_lists_by Controlled n = 0
 static_lists_by Static n = n
 

@@ -5,8 +5,8 @@
 use Rattle.std.specs.Prelude.{◌≡◌, ℕ, ◌<◌, List, [], ◌∷◌, ◌++◌, map, length, take, slice_index_or}
 use Rattle.std.specs.List.{flat_map, enumerate_from}
 use Rattle.asm_state.specs.declared.function.Function.{Function}
-use Rattle.asm_state.specs.declared.function.Kind.{Kind}
-use Rattle.asm_state.specs.declared.function.Kind.TheVariants.{Controlled, Static}
+use Rattle.asm_state.specs.declared.function.FunctionKind.{FunctionKind}
+use Rattle.asm_state.specs.declared.function.FunctionKind.TheVariants.{Controlled, Static}
 use Rattle.asm_state.specs.declared.layout.Extent.{Extent}
 use Rattle.asm_state.specs.declared.layout.Layout.{Layout}
 use Rattle.asm_state.specs.declared.value.Value.{Value}
@@ -17,7 +17,7 @@ use Rattle.asm_state.specs.Signature.{Shape, IsSound, domain_in, function_locati
 use Rattle.asm_state.specs.Tables.{argument_lists, table_value}
 
 -- the values of a static function, for its argument lists in order
-abbrev pub static_values_by : Kind → List Value → List Value
+abbrev pub static_values_by : FunctionKind → List Value → List Value
 static_values_by Controlled vs = []
 static_values_by Static vs = vs
 
@@ -25,19 +25,19 @@ abbrev pub static_values : List (List Value) → Function → List Value
 static_values universes f = static_values_by f.kind (map (table_value f.table) (argument_lists (domain_in universes f.domain)))
 
 -- how many locations, and how many values of static functions, stand before those of a function
-abbrev pub start_by : Kind → Shape → ℕ → ℕ
+abbrev pub start_by : FunctionKind → Shape → ℕ → ℕ
 start_by Controlled shape f = length (flat_map (function_locations shape.universes) (take f (enumerate_from 0 shape.functions)))
 start_by Static shape f = length (flat_map (static_values shape.universes) (take f shape.functions))
 
 -- the initial contents of a function's locations
-abbrev pub initial_values_by : Kind → List Value → List Value
+abbrev pub initial_values_by : FunctionKind → List Value → List Value
 initial_values_by Controlled vs = vs ++ Undef ∷ []
 initial_values_by Static vs = []
 
 abbrev pub initial_values : List (List Value) → Function → List Value
 initial_values universes f = initial_values_by f.kind (map (table_value f.table) (argument_lists (domain_in universes f.domain)))
 
-abbrev pub next_start : Kind → Layout → ℕ
+abbrev pub next_start : FunctionKind → Layout → ℕ
 next_start Controlled layout = length layout.initial.items
 next_start Static layout = length layout.given.items
 

@@ -9,8 +9,8 @@ use Rattle.std.specs.Prelude.{◌≡◌, ℕ, Bool, cond, List, [], ◌∷◌, �
 use Rattle.std.specs.List.{flat_map, enumerate_from, position_or_len}
 use Rattle.std.specs.Ordering.{eq_by_cmp}
 use Rattle.asm_state.specs.declared.function.Function.{Function}
-use Rattle.asm_state.specs.declared.function.Kind.{Kind}
-use Rattle.asm_state.specs.declared.function.Kind.TheVariants.{Controlled, Static}
+use Rattle.asm_state.specs.declared.function.FunctionKind.{FunctionKind}
+use Rattle.asm_state.specs.declared.function.FunctionKind.TheVariants.{Controlled, Static}
 use Rattle.asm_state.specs.declared.value.Value.{Value}
 use Rattle.asm_state.specs.declared.value.Value.TheVariants.{Undef}
 use Rattle.asm_state.specs.Location.{Location, Proper, Stray, State, location_cmp}
@@ -30,7 +30,7 @@ IsSound shape = All IsUniverse shape.universes
 abbrev pub domain_in : List (List Value) → List ℕ → Domain
 domain_in universes numbers = map (λ n. slice_index_or universes n []) numbers
 
-abbrev pub locations_by : Kind → (function : ℕ) → Domain → List Location
+abbrev pub locations_by : FunctionKind → (function : ℕ) → Domain → List Location
 locations_by Controlled f domain = map (Proper f) (argument_lists domain) ++ Stray f ∷ []
 locations_by Static f domain = []
 
@@ -68,7 +68,7 @@ abbrev pub initial_value : List (List Value) → Option Function → List Value 
 initial_value universes None vs = Undef
 initial_value universes (Some function) vs = initial_by function.kind
   where
-    initial_by : Kind → Value
+    initial_by : FunctionKind → Value
     initial_by Controlled = value_in (domain_in universes function.domain) function.table vs
     initial_by Static = Undef
 
@@ -79,7 +79,7 @@ initial_state shape (Stray f) = Undef
 
 -- ---- functions by their numbers
 
-abbrev pub HasKind : Kind → Shape → ℕ → Type 0
+abbrev pub HasKind : FunctionKind → Shape → ℕ → Type 0
 HasKind kind shape f = (function : Function) × (slice_get shape.functions f ≡ Some function) × (function.kind ≡ kind)
 
 abbrev pub domain_by : List (List Value) → Option Function → Domain

@@ -1,7 +1,7 @@
 -- Laws of the numbers of locations, and of the states that lists of contents are.
 use Rattle.std.specs.Prelude.{◌≡◌, ℕ, ◌+◌, ◌<◌, List, map, length, slice_index_or, slice_set, IsTrue}
 use Rattle.std.specs.declared.cmp.Ordering.TheVariants.{Less}
-use Rattle.asm_state.specs.declared.function.Kind.TheVariants.{Controlled}
+use Rattle.asm_state.specs.declared.function.FunctionKind.TheVariants.{Controlled}
 use Rattle.asm_state.specs.declared.value.Value.{Value}
 use Rattle.asm_state.specs.declared.value.Value.TheVariants.{Undef}
 use Rattle.asm_state.specs.Contents.{IsStateOf}

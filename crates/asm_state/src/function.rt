@@ -5,7 +5,7 @@ use crate::value::Value;
 
 /// Whether a function is held in the state or is a fixed table.
 #[derive(Clone, Copy, Debug, PartialEq, Eq)]
-pub enum Kind {
+pub enum FunctionKind {
     Controlled,
     Static,
 }
@@ -21,7 +21,7 @@ pub enum Table {
 /// A function that is held in the state, or a fixed table.
 #[derive(Debug, Drop)]
 pub struct Function {
-    pub kind: Kind,
+    pub kind: FunctionKind,
     pub domain: Domain,
     pub table: Table,
 }

@@ -8,7 +8,7 @@ ghost use Rattle.asm_state.specs.Tables.{argument_lists, table_value};
 ghost use Rattle.asm_state.specs.Universe.{IsUniverse};
 
 use crate::argument_lists::{list_count, list_position};
-use crate::function::{Function, Kind, Table};
+use crate::function::{Function, FunctionKind, Table};
 use crate::universe::Universe;
 use crate::value::Value;
 use std::alloc::{AllocError, Global};
@@ -97,8 +97,8 @@ impl Layout {
         let lists = list_count(universes, domain);
         let values = table_values(alloc, universes, domain, &function.table, lists)?;
         match function.kind {
-            Kind::Controlled => self.push_controlled(alloc, f, lists, &values),
-            Kind::Static => self.push_static(lists, &values),
+            FunctionKind::Controlled => self.push_controlled(alloc, f, lists, &values),
+            FunctionKind::Static => self.push_static(lists, &values),
         }
     }
 

@@ -8,7 +8,7 @@ ghost use Rattle.asm_state.specs.Universe.{IsUniverse};
 
 use crate::argument_lists::{list_count, list_position};
 use crate::arguments::Arguments;
-use crate::function::{Function, Kind, Table};
+use crate::function::{Function, FunctionKind, Table};
 use crate::layout::check_universes;
 use crate::universe::Universe;
 use crate::value::Value;
@@ -68,8 +68,8 @@ fn counts_fit(universes: &[Universe], functions: &[Function]) -> bool
         let function = &functions[f];
         let lists = list_count(universes, function.domain.as_slice());
         match function.kind {
-            Kind::Controlled => locations += lists + 1,
-            Kind::Static => static_lists += lists,
+            FunctionKind::Controlled => locations += lists + 1,
+            FunctionKind::Static => static_lists += lists,
         }
     }
     locations <= LOCATIONS && static_lists <= STATIC_LISTS

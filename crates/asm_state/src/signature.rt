@@ -1,6 +1,6 @@
 //! The signature: which universes, functions and locations there are, by number.
 ghost use Rattle.std.specs.Prelude.{◌≡◌, ◌<◌, ◌≤◌, Some, IsTrue, IfOk, IfSome, IfNone, length, map, slice_get};
-ghost use Rattle.asm_state.specs.declared.function.Kind.TheVariants.{Controlled, Static};
+ghost use Rattle.asm_state.specs.declared.function.FunctionKind.TheVariants.{Controlled, Static};
 ghost use Rattle.asm_state.specs.Fits.{Fits};
 ghost use Rattle.asm_state.specs.Location.{Stray};
 ghost use Rattle.asm_state.specs.CodeLocations.{location_of};

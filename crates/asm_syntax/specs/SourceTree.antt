@@ -8,7 +8,7 @@ use Rattle.std.specs.Prelude.{ℕ, List, Option}
 use Rattle.asm_state.specs.declared.number.Number.{Number}
 use Rattle.asm_state.specs.declared.operation.Op.{Op}
 use Rattle.asm_syntax.specs.declared.term.Literal.{Literal}
-use Rattle.asm_syntax.specs.declared.spec.FunctionKind.{FunctionKind}
+use Rattle.asm_state.specs.declared.function.FunctionKind.{FunctionKind}
 
 pub record Name : Type 0 where
   pub at : ℕ

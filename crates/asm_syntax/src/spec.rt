@@ -2,6 +2,7 @@
 use crate::name::Name;
 use crate::rule::Rule;
 use crate::term::{Literal, Term};
+use asm_state::function::FunctionKind;
 use asm_state::number::Number;
 
 /// A constant in a table.
@@ -24,13 +25,6 @@ pub struct Entry {
 pub enum Given {
     Each(Const),
     Entries(Vec<Entry>),
-}
-
-/// Whether a function is held in the state or is a fixed table.
-#[derive(Clone, Copy, Debug, PartialEq, Eq)]
-pub enum FunctionKind {
-    Controlled,
-    Static,
 }
 
 /// A declaration, or another line of a specification.

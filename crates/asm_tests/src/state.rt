@@ -5,7 +5,7 @@ use asm_state::arguments::Arguments;
 use asm_state::domain::Domain;
 use asm_state::element::Element;
 use asm_state::entries::Entries;
-use asm_state::function::{Function, Kind, Table};
+use asm_state::function::{Function, FunctionKind, Table};
 use asm_state::limits::fits;
 use asm_state::location::Location;
 use asm_state::number::Number;
@@ -46,7 +46,7 @@ fn table_of(alloc: Global, rows: &[Row]) -> Result<Table, AllocError> {
 
 fn function_of(
     alloc: Global,
-    kind: Kind,
+    kind: FunctionKind,
     domain: &[usize],
     table: Table,
 ) -> Result<Function, AllocError> {
@@ -73,7 +73,7 @@ fn signature_of(
 
 /// The number of a location, if its function is a controlled one.
 fn number_of(signature: &Signature, f: usize, arguments: &[Value]) -> Option<usize> {
-    if f < signature.functions() && signature.function(f).kind == Kind::Controlled {
+    if f < signature.functions() && signature.function(f).kind == FunctionKind::Controlled {
         Some(signature.number_of(f, arguments))
     } else {
         None
@@ -82,7 +82,7 @@ fn number_of(signature: &Signature, f: usize, arguments: &[Value]) -> Option<usi
 
 /// The number of a location in the domain of a controlled function.
 fn proper_number(signature: &Signature, f: usize, arguments: &[Value]) -> Option<usize> {
-    if f < signature.functions() && signature.function(f).kind == Kind::Controlled {
+    if f < signature.functions() && signature.function(f).kind == FunctionKind::Controlled {
         signature.proper_number(f, arguments)
     } else {
         None
@@ -91,7 +91,7 @@ fn proper_number(signature: &Signature, f: usize, arguments: &[Value]) -> Option
 
 /// The value of a function for arguments, if it is a static one.
 fn given(signature: &Signature, f: usize, arguments: &[Value]) -> Option<Value> {
-    if f < signature.functions() && signature.function(f).kind == Kind::Static {
+    if f < signature.functions() && signature.function(f).kind == FunctionKind::Static {
         Some(signature.given(f, arguments))
     } else {
         None

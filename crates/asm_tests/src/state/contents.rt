@@ -16,8 +16,13 @@ fn initial_contents(rt: HostRuntime) -> Result<(), Fail> {
         ],
     )?;
     let functions = vec![in alloc;
-        function_of(alloc, Kind::Controlled, &[0], table)?,
-        function_of(alloc, Kind::Controlled, &[0], Table::Same(number(7)))?,
+        function_of(alloc, FunctionKind::Controlled, &[0], table)?,
+        function_of(
+            alloc,
+            FunctionKind::Controlled,
+            &[0],
+            Table::Same(number(7))
+        )?,
     ]?;
     let signature = signature_of(alloc, universes, functions)?;
     assert_eq!(rt; signature.count(), 8);
@@ -57,9 +62,9 @@ fn values_of_static_functions(rt: HostRuntime) -> Result<(), Fail> {
         ],
     )?;
     let functions = vec![in alloc;
-        function_of(alloc, Kind::Static, &[0], Table::Same(number(9)))?,
-        function_of(alloc, Kind::Controlled, &[], Table::Same(number(1)))?,
-        function_of(alloc, Kind::Static, &[0, 1], table)?,
+        function_of(alloc, FunctionKind::Static, &[0], Table::Same(number(9)))?,
+        function_of(alloc, FunctionKind::Controlled, &[], Table::Same(number(1)))?,
+        function_of(alloc, FunctionKind::Static, &[0, 1], table)?,
     ]?;
     let signature = signature_of(alloc, universes, functions)?;
     assert_eq!(rt; signature.count(), 2);

@@ -75,7 +75,7 @@ fn universes_of(alloc: Global) -> Result<Vec<Universe>, AllocError> {
 /// Adds a function of one kind for each domain, which has no value but `Undef`.
 fn push_functions(
     alloc: Global,
-    kind: Kind,
+    kind: FunctionKind,
     domains: &[&[usize]],
     functions: &mut Vec<Function>,
 ) -> Result<(), AllocError> {
@@ -91,24 +91,24 @@ fn as_many_locations_and_lists_as_fit(rt: HostRuntime) -> Result<(), Fail> {
     let universes = universes_of(alloc)?;
     for (domains, expected) in CONTROLLED {
         let mut functions = Vec::new(alloc);
-        push_functions(alloc, Kind::Controlled, domains, &mut functions)?;
+        push_functions(alloc, FunctionKind::Controlled, domains, &mut functions)?;
         assert_eq!(rt; fits(&universes, &functions), expected, "{domains:?}");
     }
     for (domains, expected) in STATIC {
         let mut functions = Vec::new(alloc);
-        push_functions(alloc, Kind::Static, domains, &mut functions)?;
+        push_functions(alloc, FunctionKind::Static, domains, &mut functions)?;
         assert_eq!(rt; fits(&universes, &functions), expected, "{domains:?}");
     }
     let mut functions = Vec::new(alloc);
     push_functions(
         alloc,
-        Kind::Controlled,
+        FunctionKind::Controlled,
         &[&[0], &[0], &[0], &[0]],
         &mut functions,
     )?;
     push_functions(
         alloc,
-        Kind::Static,
+        FunctionKind::Static,
         &[&[1], &[1], &[1], &[1]],
         &mut functions,
     )?;
@@ -138,10 +138,10 @@ fn as_many_functions_as_fit(rt: HostRuntime) -> Result<(), Fail> {
     let alloc = rt.alloc();
     let mut functions = Vec::new(alloc);
     for _ in 0..256 {
-        push_functions(alloc, Kind::Static, &[&[]], &mut functions)?;
+        push_functions(alloc, FunctionKind::Static, &[&[]], &mut functions)?;
     }
     assert!(rt; fits(&[], &functions));
-    push_functions(alloc, Kind::Static, &[&[]], &mut functions)?;
+    push_functions(alloc, FunctionKind::Static, &[&[]], &mut functions)?;
     assert!(rt; !fits(&[], &functions));
     Ok(())
 }
@@ -158,7 +158,7 @@ fn table_fits(alloc: Global, lists: &[&[u16]]) -> Result<bool, AllocError> {
     }
     let table = Table::Entries(Entries::new(entries));
     let universes = vec![in alloc; Universe::range(Number { value: 0 }, Number { value: 2 })]?;
-    let functions = vec![in alloc; function_of(alloc, Kind::Static, &[0], table)?]?;
+    let functions = vec![in alloc; function_of(alloc, FunctionKind::Static, &[0], table)?]?;
     Ok(fits(&universes, &functions))
 }
 

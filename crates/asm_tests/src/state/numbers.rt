@@ -7,8 +7,18 @@ fn location_numbers(rt: HostRuntime) -> Result<(), Fail> {
     let alloc = rt.alloc();
     let universes = vec![in alloc; Universe::range(Number { value: 0 }, Number { value: 3 })]?;
     let functions = vec![in alloc;
-        function_of(alloc, Kind::Controlled, &[0], Table::Same(Value::Undef))?,
-        function_of(alloc, Kind::Controlled, &[], Table::Same(Value::Undef))?,
+        function_of(
+            alloc,
+            FunctionKind::Controlled,
+            &[0],
+            Table::Same(Value::Undef)
+        )?,
+        function_of(
+            alloc,
+            FunctionKind::Controlled,
+            &[],
+            Table::Same(Value::Undef)
+        )?,
     ]?;
     let signature = signature_of(alloc, universes, functions)?;
     assert_eq!(rt; signature.functions(), 2);
@@ -50,7 +60,12 @@ fn two_universes_in_a_domain(rt: HostRuntime) -> Result<(), Fail> {
         Universe::elements(0, 3),
     ]?;
     let functions = vec![in alloc;
-        function_of(alloc, Kind::Controlled, &[0, 1], Table::Same(Value::Undef))?,
+        function_of(
+            alloc,
+            FunctionKind::Controlled,
+            &[0, 1],
+            Table::Same(Value::Undef)
+        )?,
     ]?;
     let signature = signature_of(alloc, universes, functions)?;
     assert_eq!(rt; signature.count(), 7);
@@ -76,7 +91,12 @@ fn an_empty_range_as_a_domain(rt: HostRuntime) -> Result<(), Fail> {
     let alloc = rt.alloc();
     let universes = vec![in alloc; Universe::range(Number { value: 5 }, Number { value: 4 })]?;
     let functions = vec![in alloc;
-        function_of(alloc, Kind::Controlled, &[0], Table::Same(number(7)))?,
+        function_of(
+            alloc,
+            FunctionKind::Controlled,
+            &[0],
+            Table::Same(number(7))
+        )?,
     ]?;
     let signature = signature_of(alloc, universes, functions)?;
     assert_eq!(rt; signature.count(), 1);
@@ -95,14 +115,19 @@ fn universes_and_functions_by_number(rt: HostRuntime) -> Result<(), Fail> {
         Universe::range(Number { value: 0 }, Number { value: 1 }),
     ]?;
     let functions = vec![in alloc;
-        function_of(alloc, Kind::Static, &[], Table::Same(Value::Undef))?,
-        function_of(alloc, Kind::Controlled, &[1], Table::Same(Value::Undef))?,
+        function_of(alloc, FunctionKind::Static, &[], Table::Same(Value::Undef))?,
+        function_of(
+            alloc,
+            FunctionKind::Controlled,
+            &[1],
+            Table::Same(Value::Undef)
+        )?,
     ]?;
     let signature = signature_of(alloc, universes, functions)?;
     assert_eq!(rt; signature.universe(0).size(), 3);
     assert_eq!(rt; signature.universe(1).size(), 2);
-    assert!(rt; signature.function(0).kind == Kind::Static);
-    assert!(rt; signature.function(1).kind == Kind::Controlled);
+    assert!(rt; signature.function(0).kind == FunctionKind::Static);
+    assert!(rt; signature.function(1).kind == FunctionKind::Controlled);
     assert_eq!(rt; signature.function(1).domain.as_slice(), [1].as_slice());
     Ok(())
 }

@@ -4,7 +4,7 @@ ghost use Rattle.asm_state.specs.Signature.{count_of};
 
 use super::*;
 use asm_state::domain::Domain;
-use asm_state::function::{Function, Kind, Table};
+use asm_state::function::{Function, FunctionKind, Table};
 use asm_state::limits::fits;
 use asm_state::signature::Signature;
 use asm_state::state::State;
@@ -19,12 +19,12 @@ fn signature_of_two(alloc: Global) -> Result<Signature, Fail>
     let numbers = Universe::range(Number { value: 0 }, Number { value: 3 });
     let universes = vec![in alloc; numbers]?;
     let over_numbers = Function {
-        kind: Kind::Controlled,
+        kind: FunctionKind::Controlled,
         domain: Domain::new(vec![in alloc; 0]?),
         table: Table::Same(Value::Undef),
     };
     let alone = Function {
-        kind: Kind::Controlled,
+        kind: FunctionKind::Controlled,
         domain: Domain::new(Vec::new(alloc)),
         table: Table::Same(Value::Undef),
     };

@@ -1,6 +1,6 @@
 use Rattle.std.proofs.Common.{rules, ◌≡◌, ◌<◌, length, get_or, [], ap, subst, sym, ◌∙◌, arith, false}
 use Rattle.asm_state.proofs.signature.Signature.given.Goals as goal
-use Rattle.asm_state.specs.declared.function.Kind.TheVariants.{Static}
+use Rattle.asm_state.specs.declared.function.FunctionKind.TheVariants.{Static}
 use Rattle.asm_state.specs.Signature.{HasKind, domain_in, held_value}
 use Rattle.asm_state.specs.Tables.{argument_lists, is_in}
 use Rattle.asm_state.proofs.GivenValues.{given_here, given_outside}

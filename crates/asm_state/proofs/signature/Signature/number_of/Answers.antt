@@ -1,6 +1,6 @@
 use Rattle.std.proofs.Common.{◌≡◌, ◌+◌, ◌<◌, ◌≤◌, length, get_or, [], subst, sym, arith, false}
 use Rattle.std.specs.Prelude.{IfSome, IfNone}
-use Rattle.asm_state.specs.declared.function.Kind.TheVariants.{Controlled}
+use Rattle.asm_state.specs.declared.function.FunctionKind.TheVariants.{Controlled}
 use Rattle.asm_state.specs.Signature.{HasKind, domain_in, count_of}
 use Rattle.asm_state.specs.Tables.{argument_lists, is_in}
 use Rattle.asm_state.proofs.LocationIndices.{IsNumberOf}

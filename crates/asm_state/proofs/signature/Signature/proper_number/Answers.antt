@@ -1,6 +1,6 @@
 use Rattle.std.proofs.Common.{◌≡◌, ◌+◌, ◌<◌, ◌≤◌, length, get_or, [], subst, sym, arith, false}
 use Rattle.std.specs.Prelude.{IfNone, IsTrue}
-use Rattle.asm_state.specs.declared.function.Kind.TheVariants.{Controlled}
+use Rattle.asm_state.specs.declared.function.FunctionKind.TheVariants.{Controlled}
 use Rattle.asm_state.specs.Location.{Stray}
 use Rattle.asm_state.specs.Signature.{HasKind, domain_in, domain_of, count_of}
 use Rattle.asm_state.specs.Tables.{argument_lists, is_in, location_in}
