@@ -2,7 +2,6 @@
 ghost use Rattle.std.specs.Prelude.{◌≡◌, ◌++◌, [], ◌∷◌, false, map, option_map, IfOk, OnOk};
 ghost use Rattle.asm_state.specs.Universe as numbered;
 ghost use Rattle.asm_syntax.specs.Views.{spec_of, item_of, name_of, const_of, entry_of, given_of};
-ghost use Rattle.asm_syntax.specs.PlainTree.{literal_value};
 ghost use Rattle.asm_check.specs.Faults.{IsWellFormed};
 ghost use Rattle.asm_check.specs.Names.{text_of, is_among};
 ghost use Rattle.asm_check.specs.Numbers.{universes_of, elements_of};
@@ -18,7 +17,6 @@ use asm_state::universe::Universe;
 use asm_state::value::Value;
 use asm_syntax::name::Name;
 use asm_syntax::spec::{Const, Entry, Given, Item, Spec};
-use asm_syntax::term::Literal;
 use indexmap::IndexSet;
 use std::alloc::{AllocError, Global};
 
@@ -205,18 +203,8 @@ fn value_of(constant: &Const, elements: &Ordered) -> Value
     ensures { result ≡ const_by (texts_in elements.now.keys) (const_of constant.now) }
 {
     match constant {
-        Const::Plain(literal) => plain_value(*literal),
+        Const::Plain(literal) => literal.value(),
         Const::Element(name) => element(index_of(elements, name)),
-    }
-}
-
-fn plain_value(literal: Literal) -> Value
-    ensures { result ≡ literal_value literal }
-{
-    match literal {
-        Literal::Undef => Value::Undef,
-        Literal::Truth(truth) => Value::Truth(truth),
-        Literal::Number(number) => Value::Number(number),
     }
 }
 

@@ -1,7 +1,6 @@
-//! Values that need no environment: of literals, functions and universes.
+//! Values that need no environment: of functions and universes.
 ghost use Rattle.std.specs.Prelude.{◌≡◌, ◌<◌, List, [], IfSome, IfNone, slice_get};
 ghost use Rattle.asm_state.specs.Signature.{functions_of};
-ghost use Rattle.asm_syntax.specs.PlainTree as plain;
 ghost use Rattle.asm_syntax.specs.Views.{spec_of};
 ghost use Rattle.asm_eval.specs.Declarations as declared;
 ghost use Rattle.asm_eval.specs.Declarations.{function_at};
@@ -14,18 +13,6 @@ use asm_state::function::FunctionKind;
 use asm_state::universe::Universe;
 use asm_state::value::Value;
 use asm_syntax::name::Name;
-use asm_syntax::term::Literal;
-
-/// The value of a literal.
-pub(crate) fn literal_value(literal: Literal) -> Value
-    ensures { result ≡ plain.literal_value literal }
-{
-    match literal {
-        Literal::Undef => Value::Undef,
-        Literal::Truth(truth) => Value::Truth(truth),
-        Literal::Number(number) => Value::Number(number),
-    }
-}
 
 /// Whether a value is the truth value true.
 pub(crate) fn is_true(value: Value) -> bool

@@ -14,7 +14,7 @@ ghost use Rattle.asm_eval.specs.Value as spec;
 use crate::env::{Binding, Env};
 use crate::evaluation::Scene;
 use crate::find::find;
-use crate::held::{function_value, is_true, literal_value, universe_of};
+use crate::held::{function_value, is_true, universe_of};
 use asm_check::Named;
 use asm_state::element::Element;
 use asm_state::operation::{Op, apply};
@@ -44,7 +44,7 @@ pub(crate) fn value<'e>(
     // Answers of others are taken out and put in again, so that no form of term writes its own to memory first: it would be read back
     // before it is there, and the processor would wait.
     match term {
-        Term::Constant(literal) => Ok(literal_value(*literal)),
+        Term::Constant(literal) => Ok(literal.value()),
         Term::Named { name, arguments } => Ok(named(
             alloc,
             scene,
@@ -85,7 +85,7 @@ fn operand<'e>(
     ensures { IfOk result (λ v. v ≡ scene_value scene.now env.now term.now) }
 {
     match term {
-        Term::Constant(literal) => Ok(literal_value(*literal)),
+        Term::Constant(literal) => Ok(literal.value()),
         Term::Named { name, arguments } => named(alloc, scene, env, name, arguments.as_slice()),
         _ => value(alloc, scene, env, term),
     }

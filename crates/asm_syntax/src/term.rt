@@ -1,7 +1,11 @@
 //! Terms.
+ghost use Rattle.std.specs.Prelude.{◌≡◌};
+ghost use Rattle.asm_syntax.specs.PlainTree.{literal_value};
+
 use crate::name::Name;
 use asm_state::number::Number;
 use asm_state::operation::Op;
+use asm_state::value::Value;
 
 /// A value that can be written: any but the elements of enumerations, which have names.
 #[derive(Clone, Copy, Debug, PartialEq, Eq)]
@@ -9,6 +13,20 @@ pub enum Literal {
     Undef,
     Truth(bool),
     Number(Number),
+}
+
+impl Literal {
+    /// The value that is written so.
+    #[inline(always)]
+    pub fn value(self) -> Value
+        ensures { result ≡ literal_value self }
+    {
+        match self {
+            Literal::Undef => Value::Undef,
+            Literal::Truth(truth) => Value::Truth(truth),
+            Literal::Number(number) => Value::Number(number),
+        }
+    }
 }
 
 /// A term. A pair of parentheses makes no node, and a chain has one link at least.

@@ -162,7 +162,7 @@ of_many-operand-requires t c =
 
 pub operand-returns-in-Constant : goal.operand-returns-in-Constant
 operand-returns-in-Constant t c =
-    c.literal_value.ensures ∙ constant_value c.args.scene.now.checked.now (environment c.args.env.now) c.args.term.now c.args.scene.now.view.now c.in-Constant.literal c.in-Constant.is
+    c.value.ensures ∙ constant_value c.args.scene.now.checked.now (environment c.args.env.now) c.args.term.now c.args.scene.now.view.now c.in-Constant.literal c.in-Constant.is
 
 pub value-operand-requires : goal.value-operand-requires
 value-operand-requires t c =
@@ -190,7 +190,7 @@ value-operand-requires-in-Negative t c =
 
 pub value-returns-in-Constant : goal.value-returns-in-Constant
 value-returns-in-Constant t c =
-    c.literal_value.ensures ∙ constant_value c.args.scene.now.checked.now (environment c.args.env.now) c.args.term.now c.args.scene.now.view.now c.in-Constant.literal c.in-Constant.is
+    c.value.ensures ∙ constant_value c.args.scene.now.checked.now (environment c.args.env.now) c.args.term.now c.args.scene.now.view.now c.in-Constant.literal c.in-Constant.is
 
 pub value-returns-in_ok-inner-in-Not : goal.value-returns-in_ok-inner-in-Not
 value-returns-in_ok-inner-in-Not t c =
