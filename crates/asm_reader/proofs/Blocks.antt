@@ -14,7 +14,7 @@ use Rattle.asm_reader.specs.Steps.{Reader, pair_of, mapped, either_of, option_of
 use Rattle.asm_reader.specs.TermGrammar.{name, binding}
 use Rattle.asm_reader.specs.TermReading.{name_at, binding_at}
 use Rattle.asm_reader.specs.RuleGrammar.{branch, par_rule, seq_rule, if_rule, let_rule, forall_rule, choose_rule, iterate_rule, block_rule}
-use Rattle.asm_reader.specs.RuleReading.{rule_starts, else_at, if_none_at, condition_at, par_at, seq_at, if_at, let_at, forall_at, choose_at, iterate_at, block_at}
+use Rattle.asm_reader.specs.RuleReading.{rule_starts, branch_at, condition_at, par_at, seq_at, if_at, let_at, forall_at, choose_at, iterate_at, block_at}
 use Rattle.asm_reader.proofs.Lists.{alike_symbol, alike_word, alike_self, apart, within}
 use Rattle.asm_reader.proofs.Readers.{IsExact, Begins, HasText, exact_pair, exact_makes, exact_optional, exact_repeated, repeated_ends, ends_none, ends_by}
 use Rattle.asm_reader.proofs.Exact.{depth, IsPlain, exact_past, has_past, has_makes, has_then, begins_makes, begins_then, begins_past, begins_or, exact_or, optional_ends}
@@ -208,7 +208,7 @@ module _ (text : List ℕ) (n : ℕ) (term : Reader source.Term) (P N : Part sou
       term (pair_of (past_of (Word Then) rule) (option_of (Word Else ∷ []) (past_of (Word Else) rule))) (exact m e) (exact_two Then Else (refl, refl, refl) (refl, refl, refl) refl refl m e)
 
   exact_if : IsExact (depth n false) (depth n false) [] (if_rule text P Q) (if_rule text N M) (if_at text n term rule)
-  unfolding if_rule if_at else_at
+  unfolding if_rule if_at branch_at
   exact_if = exact_frame n If EndIf (refl, refl, refl) (two_more Else) refl (if_body text P Q) (if_body text N M) (has_then P (past (Word Then) Q then optional (past (Word Else) Q)) some (has_two Then Else))
       (pair_of term (pair_of (past_of (Word Then) rule) (option_of (Word Else ∷ []) (past_of (Word Else) rule)))) exact_if_body (λ r. source.If r.0 r.1.0 (branch r.1.1))
 
@@ -250,7 +250,7 @@ module _ (text : List ℕ) (n : ℕ) (term : Reader source.Term) (P N : Part sou
       (λ m e. exact_bound rule_more (past (Word Do) Q) (past (Word Do) M) (has_past (Word Do) Q has) (past_of (Word Do) rule) (begins_past (Word Do) M) m e (exact_behind Do (refl, refl, refl) m e)) (λ r. source.Forall r.0.0 r.0.1 r.1.0 r.1.1)
 
   exact_choose : IsExact (depth n false) (depth n false) [] (choose_rule text P Q) (choose_rule text N M) (choose_at text n term rule)
-  unfolding choose_rule choose_at if_none_at
+  unfolding choose_rule choose_at branch_at
   exact_choose = exact_frame n Choose EndChoose (refl, refl, refl) (two_more IfNone) refl (choose_body text P Q) (choose_body text N M)
       (has_bound (two_more IfNone) (past (Word Do) Q then optional (past (Word IfNone) Q)) (past (Word Do) M then optional (past (Word IfNone) M)) (has_two Do IfNone) done_at)
       (pair_of (binding_at text) (pair_of (condition_at term) done_at))

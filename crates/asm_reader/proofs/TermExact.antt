@@ -264,14 +264,14 @@ module _ (text : List ℕ) (n : ℕ) (deeper : Reader source.Term) (P N : Part s
   has_bound k = has_then (g.binding text) (past k P) (has_binding text) (has_past k P some)
 
   exact_exists : IsExact (depth n true) (depth n false) term_more (g.exists_term text P) (g.exists_term text N) (r.exists_at text deeper)
-  unfolding g.exists_term r.exists_at
+  unfolding g.exists_term r.exists_at r.quantified_at
   exact_exists = exact_makes (depth n true) (depth n false) term_more (past (Word Exists) (g.binding text then past (Word With) P)) (past (Word Exists) (g.binding text then past (Word With) N)) (λ v. source.Exists v.0.0 v.0.1 v.1)
       (past_of (Word Exists) (pair_of (r.binding_at text) (past_of (Word With) deeper)))
       (exact_past n true (depth n false) term_more (Word Exists) (alike_word Exists) (refl, refl, refl) (g.binding text then past (Word With) P) (g.binding text then past (Word With) N) (has_bound (Word With))
       (pair_of (r.binding_at text) (past_of (Word With) deeper)) (exact_bound (Word With) (alike_word With) (refl, refl, refl)))
 
   exact_every : IsExact (depth n true) (depth n false) term_more (g.every_term text P) (g.every_term text N) (r.every_at text deeper)
-  unfolding g.every_term r.every_at
+  unfolding g.every_term r.every_at r.quantified_at
   exact_every = exact_makes (depth n true) (depth n false) term_more (past (Word Forall) (g.binding text then past (Word Holds) P)) (past (Word Forall) (g.binding text then past (Word Holds) N)) (λ v. source.Every v.0.0 v.0.1 v.1)
       (past_of (Word Forall) (pair_of (r.binding_at text) (past_of (Word Holds) deeper)))
       (exact_makes (depth n true) (depth n false) term_more (token (Word Forall) then (g.binding text then past (Word Holds) P)) (token (Word Forall) then (g.binding text then past (Word Holds) N)) (λ v. v.1) (pair_of (expect (Word Forall)) (pair_of (r.binding_at text) (past_of (Word Holds) deeper)))

@@ -4,6 +4,7 @@ use Rattle.asm_syntax.specs.declared.token.Kind.{Kind}
 use Rattle.asm_syntax.specs.declared.token.Kind.TheVariants as kind
 use Rattle.asm_syntax.specs.declared.token.Kind.TheVariants.{Symbol, Word}
 use Rattle.asm_syntax.specs.declared.token.Symbol.TheVariants.{Assign, Equal}
+use Rattle.asm_syntax.specs.declared.token.Word.{Word as Keyword}
 use Rattle.asm_syntax.specs.declared.token.Word.TheVariants.{Skip, Par, EndPar, Seq, EndSeq, If, Then, Else, EndIf, Let, In, EndLet, Forall, With, Do, EndForall, Choose, IfNone, EndChoose, Iterate, EndIterate}
 use Rattle.asm_syntax.specs.SourceTree as source
 use Rattle.asm_syntax.specs.Views.{rules_of}
@@ -23,11 +24,9 @@ named_rule (target, Some t) = source.Assign target.0 target.1 t
 unfoldable pub skip_at : Reader source.Rule
 skip_at = mapped (λ _. source.Skip) (expect (Word Skip))
 
-unfoldable pub else_at : Reader source.Rule → Reader (Option source.Rule)
-else_at rule = option_of (Word Else ∷ []) (past_of (Word Else) rule)
-
-unfoldable pub if_none_at : Reader source.Rule → Reader (Option source.Rule)
-if_none_at rule = option_of (Word IfNone ∷ []) (past_of (Word IfNone) rule)
+-- the rule behind a word, if the word is there
+unfoldable pub branch_at : Keyword → Reader source.Rule → Reader (Option source.Rule)
+branch_at word rule = option_of (Word word ∷ []) (past_of (Word word) rule)
 
 unfoldable pub condition_at : Reader source.Term → Reader (Option source.Term)
 condition_at term = option_of (Word With ∷ []) (past_of (Word With) term)
@@ -44,7 +43,7 @@ module _ (text : List ℕ) (n : ℕ) (term : Reader source.Term) (rule : Reader 
   seq_at = mapped (λ r. source.Seq (rules_of r)) (between_of n (Word Seq) (Word EndSeq) (several_of rule_starts rule))
 
   unfoldable pub if_at : Reader source.Rule
-  if_at = mapped (λ r. source.If r.0 r.1.0 (branch r.1.1)) (between_of n (Word If) (Word EndIf) (pair_of term (pair_of (past_of (Word Then) rule) (else_at rule))))
+  if_at = mapped (λ r. source.If r.0 r.1.0 (branch r.1.1)) (between_of n (Word If) (Word EndIf) (pair_of term (pair_of (past_of (Word Then) rule) (branch_at Else rule))))
 
   unfoldable pub let_at : Reader source.Rule
   let_at = mapped (λ r. source.Let r.0 r.1.0 r.1.1) (between_of n (Word Let) (Word EndLet) (pair_of (name_at text) (pair_of (past_of (Symbol Equal) term) (past_of (Word In) rule))))
@@ -55,7 +54,7 @@ module _ (text : List ℕ) (n : ℕ) (term : Reader source.Term) (rule : Reader 
 
   unfoldable pub choose_at : Reader source.Rule
   choose_at = mapped (λ r. source.Choose r.0.0 r.0.1 r.1.0 r.1.1.0 (branch r.1.1.1))
-      (between_of n (Word Choose) (Word EndChoose) (pair_of (binding_at text) (pair_of (condition_at term) (pair_of (past_of (Word Do) rule) (if_none_at rule)))))
+      (between_of n (Word Choose) (Word EndChoose) (pair_of (binding_at text) (pair_of (condition_at term) (pair_of (past_of (Word Do) rule) (branch_at IfNone rule)))))
 
   unfoldable pub iterate_at : Reader source.Rule
   iterate_at = mapped source.Iterate (between_of n (Word Iterate) (Word EndIterate) rule)

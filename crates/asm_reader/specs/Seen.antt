@@ -1,7 +1,8 @@
 -- How parts of trees that are no trees by themselves are seen.
---     names_of, link_of           two names;  a link of a chain
---     applied_of, boxed_rule_of    a name with its arguments;  a rule that may be left out
---     type_of                     the universes and the codomain of a function
+--     names_of, link_of            two names;  a link of a chain
+--     applied_of, quantified_of    a name with its arguments;  a binding with its test
+--     boxed_rule_of                a rule that may be left out
+--     type_of                      the universes and the codomain of a function
 use Rattle.std.specs.Prelude.{List, map, Option, Some, None, option_map}
 use Rattle.std.proofs.Common.{Box, Vec, Global}
 use Rattle.asm_state.specs.declared.operation.Op.{Op}
@@ -19,6 +20,9 @@ link_of l = (l.0, term_of l.1)
 
 abbrev pub applied_of : Name × Vec Term Global → source.Name × source.Terms
 applied_of r = (name_of r.0, terms_of (map term_of r.1.items))
+
+abbrev pub quantified_of : Name × Name × Box Term Global → (source.Name × source.Name) × source.Term
+quantified_of r = ((name_of r.0, name_of r.1), term_of r.2.value)
 
 abbrev pub boxed_rule_of : Option (Box Rule Global) → Option source.Rule
 boxed_rule_of None = None

@@ -5,6 +5,7 @@ use Rattle.asm_syntax.specs.declared.token.Kind.{Kind}
 use Rattle.asm_syntax.specs.declared.token.Kind.TheVariants as kind
 use Rattle.asm_syntax.specs.declared.token.Kind.TheVariants.{Number, Symbol, Word}
 use Rattle.asm_syntax.specs.declared.token.Symbol.TheVariants.{Open, Close, Comma, Minus}
+use Rattle.asm_syntax.specs.declared.token.Word.{Word as Keyword}
 use Rattle.asm_syntax.specs.declared.token.Word.TheVariants.{Not, Exists, Forall, In, With, Holds}
 use Rattle.asm_syntax.specs.declared.term.Literal.TheVariants as literal
 use Rattle.asm_syntax.specs.SourceTree as source
@@ -42,11 +43,15 @@ module _ (text : List ℕ) where
 
   -- what stands in parentheses
   module _ (deeper : Reader source.Term) where
+    -- a binding behind the one word, and a term behind the other
+    unfoldable pub quantified_at : (first second : Keyword) → Reader ((source.Name × source.Name) × source.Term)
+    quantified_at first second = past_of (Word first) (pair_of binding_at (past_of (Word second) deeper))
+
     unfoldable pub exists_at : Reader source.Term
-    exists_at = mapped (λ r. source.Exists r.0.0 r.0.1 r.1) (past_of (Word Exists) (pair_of binding_at (past_of (Word With) deeper)))
+    exists_at = mapped (λ r. source.Exists r.0.0 r.0.1 r.1) (quantified_at Exists With)
 
     unfoldable pub every_at : Reader source.Term
-    every_at = mapped (λ r. source.Every r.0.0 r.0.1 r.1) (past_of (Word Forall) (pair_of binding_at (past_of (Word Holds) deeper)))
+    every_at = mapped (λ r. source.Every r.0.0 r.0.1 r.1) (quantified_at Forall Holds)
 
     unfoldable pub inner_at : Reader source.Term
     inner_at = either_of (Word Exists ∷ []) exists_at (either_of (Word Forall ∷ []) every_at deeper)

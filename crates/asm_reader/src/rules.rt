@@ -106,39 +106,20 @@ fn seq(
     Ok(Rule::Seq(all))
 }
 
-/// What stands behind `else`, if it is there.
+/// The rule behind this word, if the word is there.
 #[cycle(rules)]
-#[tactic(auto, unfolding(crate::specs::RuleReading::else_at))]
-fn else_rule(
+#[tactic(auto, unfolding(crate::specs::RuleReading::branch_at))]
+fn branch(
     alloc: Global,
     text: &[u8],
     tokens: &mut Cursor<'_>,
     levels: usize,
+    word: Word,
 ) -> Result<Option<Box<Rule>>, Refused<ReadError>>
-    ensures { Reads boxed_rule_of (reading.else_at (reading.rule_at text.now levels) tokens.old.rest.now) result tokens.new.rest.now }
+    ensures { Reads boxed_rule_of (reading.branch_at word (reading.rule_at text.now levels) tokens.old.rest.now) result tokens.new.rest.now }
 {
-    if tokens.sees(Kind::Word(Word::Else)) {
-        tokens.expect(Kind::Word(Word::Else))?;
-        let other = rule(alloc, text, tokens, levels)?;
-        let other = Box::new(alloc, other)?;
-        return Ok(Some(other));
-    }
-    Ok(None)
-}
-
-/// What stands behind `ifnone`, if it is there.
-#[cycle(rules)]
-#[tactic(auto, unfolding(crate::specs::RuleReading::if_none_at))]
-fn if_none_rule(
-    alloc: Global,
-    text: &[u8],
-    tokens: &mut Cursor<'_>,
-    levels: usize,
-) -> Result<Option<Box<Rule>>, Refused<ReadError>>
-    ensures { Reads boxed_rule_of (reading.if_none_at (reading.rule_at text.now levels) tokens.old.rest.now) result tokens.new.rest.now }
-{
-    if tokens.sees(Kind::Word(Word::IfNone)) {
-        tokens.expect(Kind::Word(Word::IfNone))?;
+    if tokens.sees(Kind::Word(word)) {
+        tokens.expect(Kind::Word(word))?;
         let other = rule(alloc, text, tokens, levels)?;
         let other = Box::new(alloc, other)?;
         return Ok(Some(other));
@@ -161,7 +142,7 @@ fn conditional(
     tokens.expect(Kind::Word(Word::Then))?;
     let yes = rule(alloc, text, tokens, levels - 1)?;
     let yes = Box::new(alloc, yes)?;
-    let no = else_rule(alloc, text, tokens, levels - 1)?;
+    let no = branch(alloc, text, tokens, levels - 1, Word::Else)?;
     tokens.expect(Kind::Word(Word::EndIf))?;
     Ok(Rule::If { test, yes, no })
 }
@@ -228,7 +209,7 @@ fn choose(
     tokens.expect(Kind::Word(Word::Do))?;
     let body = rule(alloc, text, tokens, levels - 1)?;
     let body = Box::new(alloc, body)?;
-    let none = if_none_rule(alloc, text, tokens, levels - 1)?;
+    let none = branch(alloc, text, tokens, levels - 1, Word::IfNone)?;
     tokens.expect(Kind::Word(Word::EndChoose))?;
     Ok(Rule::Choose {
         name,

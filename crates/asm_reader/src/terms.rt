@@ -9,7 +9,7 @@ ghost use Rattle.asm_reader.specs.Kinds.{begins, is_one_of};
 ghost use Rattle.asm_reader.specs.TermGrammar as grammar;
 ghost use Rattle.asm_reader.specs.TermReading as reading;
 ghost use Rattle.asm_reader.specs.RuleReading.{condition_at};
-ghost use Rattle.asm_reader.specs.Seen.{applied_of, link_of};
+ghost use Rattle.asm_reader.specs.Seen.{applied_of, link_of, quantified_of};
 ghost use Rattle.asm_reader.specs.Steps.{Reads, below, each_of};
 
 use crate::cursor::Cursor;
@@ -172,45 +172,31 @@ pub fn applied(
     Ok((name, Vec::new(alloc)))
 }
 
+/// A bound name and what it ranges over behind the one word, and a term behind the other.
 #[cycle(terms)]
-#[tactic(auto, unfolding(crate::specs::TermReading::exists_at))]
-fn exists(
+#[inline(never)]
+#[tactic(auto, unfolding(crate::specs::TermReading::quantified_at))]
+fn quantified(
     alloc: Global,
     text: &[u8],
     tokens: &mut Cursor<'_>,
     levels: usize,
-) -> Result<Term, Refused<ReadError>>
-    ensures { Reads term_of (reading.exists_at text.now (reading.term_at text.now levels) tokens.old.rest.now) result tokens.new.rest.now }
+    first: Word,
+    second: Word,
+) -> Result<(Name, Name, Box<Term>), Refused<ReadError>>
+    ensures { Reads quantified_of (reading.quantified_at text.now (reading.term_at text.now levels) first second tokens.old.rest.now) result tokens.new.rest.now }
 {
-    tokens.expect(Kind::Word(Word::Exists))?;
+    tokens.expect(Kind::Word(first))?;
     let (name, over) = binding(alloc, text, tokens)?;
-    tokens.expect(Kind::Word(Word::With))?;
+    tokens.expect(Kind::Word(second))?;
     let test = term(alloc, text, tokens, levels)?;
     let test = Box::new(alloc, test)?;
-    Ok(Term::Exists { name, over, test })
-}
-
-#[cycle(terms)]
-#[tactic(auto, unfolding(crate::specs::TermReading::every_at))]
-fn every(
-    alloc: Global,
-    text: &[u8],
-    tokens: &mut Cursor<'_>,
-    levels: usize,
-) -> Result<Term, Refused<ReadError>>
-    ensures { Reads term_of (reading.every_at text.now (reading.term_at text.now levels) tokens.old.rest.now) result tokens.new.rest.now }
-{
-    tokens.expect(Kind::Word(Word::Forall))?;
-    let (name, over) = binding(alloc, text, tokens)?;
-    tokens.expect(Kind::Word(Word::Holds))?;
-    let test = term(alloc, text, tokens, levels)?;
-    let test = Box::new(alloc, test)?;
-    Ok(Term::Every { name, over, test })
+    Ok((name, over, test))
 }
 
 /// What stands in parentheses.
 #[cycle(terms)]
-#[tactic(auto, unfolding(crate::specs::TermReading::inner_at))]
+#[tactic(auto, unfolding(crate::specs::TermReading::inner_at, crate::specs::TermReading::exists_at, crate::specs::TermReading::every_at))]
 fn inner(
     alloc: Global,
     text: &[u8],
@@ -220,10 +206,19 @@ fn inner(
     ensures { Reads term_of (reading.inner_at text.now (reading.term_at text.now levels) tokens.old.rest.now) result tokens.new.rest.now }
 {
     if tokens.sees(Kind::Word(Word::Exists)) {
-        return exists(alloc, text, tokens, levels);
+        let (name, over, test) = quantified(alloc, text, tokens, levels, Word::Exists, Word::With)?;
+        return Ok(Term::Exists { name, over, test });
     }
     if tokens.sees(Kind::Word(Word::Forall)) {
-        return every(alloc, text, tokens, levels);
+        let (name, over, test) = quantified(
+            alloc,
+            text,
+            tokens,
+            levels,
+            Word::Forall,
+            Word::Holds,
+        )?;
+        return Ok(Term::Every { name, over, test });
     }
     term(alloc, text, tokens, levels)
 }

@@ -35,11 +35,8 @@ decreases-rule l = l.levels * 4 + 2
 abbrev pub decreases-several : goal.decreases-several
 decreases-several l = l.levels * 4 + 3
 
-abbrev pub decreases-else_rule : goal.decreases-else_rule
-decreases-else_rule l = l.levels * 4 + 3
-
-abbrev pub decreases-if_none_rule : goal.decreases-if_none_rule
-decreases-if_none_rule l = l.levels * 4 + 3
+abbrev pub decreases-branch : goal.decreases-branch
+decreases-branch l = l.levels * 4 + 3
 
 abbrev pub invariant-several-loop-alloc : goal.invariant-several-loop-alloc
 invariant-several-loop-alloc l =

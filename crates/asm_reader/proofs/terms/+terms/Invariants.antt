@@ -58,11 +58,8 @@ decreases-term l = l.levels * 30 + 25
 abbrev pub decreases-terms : goal.decreases-terms
 decreases-terms l = l.levels * 30 + 26
 
-abbrev pub decreases-exists : goal.decreases-exists
-decreases-exists l = l.levels * 30 + 26
-
-abbrev pub decreases-every : goal.decreases-every
-decreases-every l = l.levels * 30 + 26
+abbrev pub decreases-quantified : goal.decreases-quantified
+decreases-quantified l = l.levels * 30 + 26
 
 abbrev pub decreases-inner : goal.decreases-inner
 decreases-inner l = l.levels * 30 + 27
