@@ -42,9 +42,12 @@ first_apart seen (d ∷ ds) = by_seen (is_among seen d.name.text) (first_apart s
     by_seen true rest more = rest
     by_seen false rest more = (unseen (d.name.text ∷ seen) ds d.name.text (ap (λ b. b || is_among seen d.name.text) (text_itself d.name.text)), more)
 
-pub table_apart : (spec : Spec) (entries : List Entry) → IsTableOf spec entries → AreApart (texts (map declaration_of entries))
+pub declarations_apart : (spec : Spec) → AreApart (texts (first_declarations spec))
 unfolding first_declarations
-table_apart spec entries table = subst (λ ds. AreApart (texts ds)) (sym table) (first_apart [] (declarations spec))
+declarations_apart spec = first_apart [] (declarations spec)
+
+pub table_apart : (spec : Spec) (entries : List Entry) → IsTableOf spec entries → AreApart (texts (map declaration_of entries))
+table_apart spec entries table = subst (λ ds. AreApart (texts ds)) (sym table) (declarations_apart spec)
 
 among_at : (entries : List Entry) (i : ℕ) → i < length entries → is_among (texts (map declaration_of entries)) (text_at entries i) ≡ true
 among_at [] i h = absurd (omega (arith, h))

@@ -10,11 +10,10 @@ use Rattle.asm_state.specs.Universe.{elements}
 use Rattle.asm_state.specs.declared.function.FunctionKind.TheVariants as kind
 use Rattle.asm_syntax.specs.SourceTree as source
 use Rattle.asm_syntax.specs.SourceTree.{Name, Item, Spec}
-use Rattle.asm_check.specs.Names.{Text, Declaration, Meaning, Enumeration, Element, declares, declarations_of, declarations_from, predeclared, first_declarations, text_of}
+use Rattle.asm_check.specs.Names.{Declaration, Meaning, Enumeration, Element, declares, declarations_of, declarations_from, predeclared, first_declarations, text_of}
 use Rattle.asm_check.specs.Limits.{is_universe, is_element_of}
-use Rattle.asm_check.specs.Numbers.{is_element}
 use Rattle.asm_check.specs.Shapes.{texts_of, is_element_before, universe_values}
-use Rattle.asm_check.specs.Listed.{elements_of_item, universe_of_item, universe_lists, universe_text, universe_texts, element_text, element_texts}
+use Rattle.asm_check.specs.Listed.{elements_of_item, universe_of_item, universe_lists}
 
 abbrev pub element_declarations : ℕ → List Name → List Declaration
 element_declarations k xs = map (λ y. declares y (Element k)) xs
@@ -27,57 +26,13 @@ pub elements_dropped : (is_like : Meaning → Bool) (k : ℕ) (xs : List Name) �
 elements_dropped is_like k [] out = refl
 elements_dropped is_like k (x ∷ xs) out = ap (λ b. cond b (declares x (Element k) ∷ like is_like (element_declarations k xs)) (like is_like (element_declarations k xs))) out ∙ elements_dropped is_like k xs out
 
-elements_kept : (is_like : Meaning → Bool) (k : ℕ) (xs : List Name) → is_like (Element k) ≡ true → like is_like (element_declarations k xs) ≡ element_declarations k xs
-elements_kept is_like k [] kept = refl
-elements_kept is_like k (x ∷ xs) kept =
-    ap (λ b. cond b (declares x (Element k) ∷ like is_like (element_declarations k xs)) (like is_like (element_declarations k xs))) kept
-    ∙ ap (λ ds. declares x (Element k) ∷ ds) (elements_kept is_like k xs kept)
-
 pub like_next : (is_like : Meaning → Bool) (k : ℕ) (item : Item) (items : List Item)
     → like is_like (declarations_from k (item ∷ items)) ≡ like is_like (declarations_of k item) ++ like is_like (declarations_from (suc k) items)
 like_next is_like k item items = filter-append (λ d. is_like d.meaning) (declarations_of k item) (declarations_from (suc k) items)
 
--- ---- names of universes and of elements
-
 pub element_texts_are : (k : ℕ) (xs : List Name) → texts_of (element_declarations k xs) ≡ map text_of xs
 element_texts_are k [] = refl
 element_texts_are k (x ∷ xs) = ap (λ ts. x.text ∷ ts) (element_texts_are k xs)
-
-universe_text_is : (k : ℕ) (item : Item) → texts_of (like is_universe (declarations_of k item)) ≡ universe_text item
-universe_text_is k (source.Uses x) = refl
-universe_text_is k (source.Init x) = refl
-universe_text_is k (source.Enum x xs) = ap (λ ds. texts_of (declares x (Enumeration k) ∷ ds)) (elements_dropped is_universe k xs refl)
-universe_text_is k (source.Universe x first last) = refl
-universe_text_is k (source.Function x kind.Controlled domain codomain table) = refl
-universe_text_is k (source.Function x kind.Static domain codomain table) = refl
-universe_text_is k (source.Derived x xs t) = refl
-universe_text_is k (source.NamedRule x xs P) = refl
-
-element_text_is : (k : ℕ) (item : Item) → texts_of (like is_element (declarations_of k item)) ≡ element_text item
-element_text_is k (source.Uses x) = refl
-element_text_is k (source.Init x) = refl
-element_text_is k (source.Enum x xs) = ap texts_of (elements_kept is_element k xs refl) ∙ element_texts_are k xs
-element_text_is k (source.Universe x first last) = refl
-element_text_is k (source.Function x kind.Controlled domain codomain table) = refl
-element_text_is k (source.Function x kind.Static domain codomain table) = refl
-element_text_is k (source.Derived x xs t) = refl
-element_text_is k (source.NamedRule x xs P) = refl
-
-texts_next : (is_like : Meaning → Bool) (k : ℕ) (item : Item) (items : List Item) (own rest : List Text)
-    → texts_of (like is_like (declarations_of k item)) ≡ own → texts_of (like is_like (declarations_from (suc k) items)) ≡ rest
-    → texts_of (like is_like (declarations_from k (item ∷ items))) ≡ own ++ rest
-texts_next is_like k item items own rest e f =
-    ap texts_of (like_next is_like k item items)
-    ∙ map-append (λ d. d.name.text) (like is_like (declarations_of k item)) (like is_like (declarations_from (suc k) items))
-    ∙ ap (λ xs. xs ++ texts_of (like is_like (declarations_from (suc k) items))) e ∙ ap (λ xs. own ++ xs) f
-
-pub universe_texts_are : (k : ℕ) (items : List Item) → texts_of (like is_universe (declarations_from k items)) ≡ universe_texts items
-universe_texts_are k [] = refl
-universe_texts_are k (item ∷ items) = texts_next is_universe k item items (universe_text item) (universe_texts items) (universe_text_is k item) (universe_texts_are (suc k) items)
-
-pub element_texts_are_all : (k : ℕ) (items : List Item) → texts_of (like is_element (declarations_from k items)) ≡ element_texts items
-element_texts_are_all k [] = refl
-element_texts_are_all k (item ∷ items) = texts_next is_element k item items (element_text item) (element_texts items) (element_text_is k item) (element_texts_are_all (suc k) items)
 
 -- ---- how many elements
 

@@ -1,6 +1,5 @@
 pub mod AllFaults
 pub mod Apart
-pub mod ApartTexts
 pub mod ArgumentCounts
 pub mod BadEntries
 pub mod Beyond
@@ -32,6 +31,7 @@ pub mod ListedDeclarations
 pub mod Looked
 pub mod Lookups
 pub mod Marks
+pub mod NameNumbers
 pub mod NamesNumbered
 pub mod Noted
 pub mod Numbered
@@ -41,6 +41,7 @@ pub mod Ranks
 pub mod Reaching
 pub mod Readers
 pub mod Repeats
+pub mod RestOfList
 pub mod Scopes
 pub mod Searching
 pub mod Seen

@@ -163,7 +163,7 @@ all_entries spec entries table i whole = take_all i (map declaration_of entries)
 
 -- ---- what a name stands for
 
-none_like : (is_like : Meaning → Bool) (ds : List Declaration) (x : Text) → is_among (texts_of ds) x ≡ false → list_any (λ (d : Declaration). is_text d.name.text x) (like is_like ds) ≡ false
+pub none_like : (is_like : Meaning → Bool) (ds : List Declaration) (x : Text) → is_among (texts_of ds) x ≡ false → list_any (λ (d : Declaration). is_text d.name.text x) (like is_like ds) ≡ false
 none_like is_like [] x new = refl
 none_like is_like (d ∷ ds) x new = by_kind (is_like d.meaning) (is_text d.name.text x) refl (none_like is_like ds x) new
   where

@@ -4,12 +4,12 @@ use Rattle.std.specs.Prelude.{Contains, filter}
 use Rattle.std.proofs.lemmas.Bool.{false≢true}
 use Rattle.std.proofs.lemmas.List.{map-append}
 use Rattle.std.proofs.lemmas.List.Elements.{All-contains, filter-append}
-use Rattle.std.proofs.lemmas.List.Kept.{AllPairs-cons, AllPairs-filter}
-use Rattle.asm_state.proofs.Lists.{All-from_contained, AllPairs-none, AllPairs-head, AllPairs-tail, AllPairs-map}
+use Rattle.std.proofs.lemmas.List.Kept.{AllPairs-cons}
+use Rattle.asm_state.proofs.Lists.{All-from_contained, AllPairs-none, AllPairs-head, AllPairs-tail}
 use Rattle.asm_syntax.specs.SourceTree.{Spec}
 use Rattle.asm_check.specs.Names.{Text, Declaration, Meaning, Predeclared, predeclared_names, declares, is_text, is_among, text_of, predeclared, declarations_from, declarations, first_of_each, first_declarations}
 use Rattle.asm_check.specs.Faults.{IsWellFormed, IsRepeated, parameters_of, twice}
-use Rattle.asm_check.specs.Shapes.{AreApart, texts_of}
+use Rattle.asm_check.specs.Shapes.{texts_of}
 use Rattle.asm_check.proofs.Heights.{here, there, split}
 
 -- two declarations of different names
@@ -67,17 +67,6 @@ all_kept (c ∷ ds) seen new others =
 pub all_count : (spec : Spec) → IsWellFormed spec → first_declarations spec ≡ predeclared ++ declarations_from 0 spec.items
 unfolding declarations first_declarations
 all_count spec good = all_kept (declarations spec) [] (λ d it. refl) (apart spec good)
-
-last_apart : (cs ds : List Declaration) → AllPairs IsOther (cs ++ ds) → AllPairs IsOther ds
-last_apart [] ds apart = apart
-last_apart (c ∷ cs) ds apart = last_apart cs ds (AllPairs-tail IsOther c (cs ++ ds) apart)
-
--- those of one kind
-pub like_apart : (spec : Spec) → IsWellFormed spec → (is_like : Meaning → Bool) → AreApart (texts_of (filter (λ d. is_like d.meaning) (declarations_from 0 spec.items)))
-unfolding declarations
-like_apart spec good is_like =
-    AllPairs-map IsOther (λ x y. is_text x y ≡ false) (λ d. d.name.text) (λ c d e. e) (filter (λ d. is_like d.meaning) (declarations_from 0 spec.items))
-    (AllPairs-filter IsOther (λ d. is_like d.meaning) (declarations_from 0 spec.items) (last_apart predeclared (declarations_from 0 spec.items) (apart spec good)))
 
 none_predeclared : (is_like : Meaning → Bool) (xs : List Text) → is_like Predeclared ≡ false
     → filter (λ d. is_like d.meaning) (map (λ x. declares (record { at = 0; text = x }) Predeclared) xs) ≡ []

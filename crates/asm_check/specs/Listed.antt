@@ -1,13 +1,11 @@
 -- What the items of a specification declare, item by item.
---     universe_lists first items      the values of the universes, where elements are numbered from this number on
---     universe_texts, element_texts   the names of universes, and of elements
---     elements_in items               how many elements there are
-use Rattle.std.specs.Prelude.{ℕ, ◌+◌, List, [], ◌∷◌, ◌++◌, map, flat_map, length}
+--     universe_lists first items   the values of the universes, where elements are numbered from this number on
+--     elements_in items            how many elements there are
+use Rattle.std.specs.Prelude.{ℕ, ◌+◌, List, [], ◌∷◌, ◌++◌, length}
 use Rattle.asm_state.specs.declared.value.Value.{Value}
 use Rattle.asm_state.specs.Universe.{elements, numbers_between}
 use Rattle.asm_syntax.specs.SourceTree as source
 use Rattle.asm_syntax.specs.SourceTree.{Item}
-use Rattle.asm_check.specs.Names.{Text, text_of}
 
 abbrev pub elements_of_item : Item → ℕ
 elements_of_item (source.Enum x xs) = length xs
@@ -25,18 +23,3 @@ universe_of_item first item = []
 abbrev pub universe_lists : (first : ℕ) → List Item → List (List Value)
 universe_lists first [] = []
 universe_lists first (item ∷ items) = universe_of_item first item ++ universe_lists (first + elements_of_item item) items
-
-abbrev pub universe_text : Item → List Text
-universe_text (source.Enum x xs) = x.text ∷ []
-universe_text (source.Universe x low high) = x.text ∷ []
-universe_text item = []
-
-abbrev pub universe_texts : List Item → List Text
-universe_texts items = flat_map universe_text items
-
-abbrev pub element_text : Item → List Text
-element_text (source.Enum x xs) = map text_of xs
-element_text item = []
-
-abbrev pub element_texts : List Item → List Text
-element_texts items = flat_map element_text items

@@ -83,6 +83,15 @@ pub record IsNumberingOf (ds : List Declaration) (n : Numbering) : Type 0 where
 abbrev pub text_kept_at : Numbering → ℕ → Option Text
 text_kept_at n k = option_map (λ (e : Text × Option Named). e.0) (slice_get n.names.entries k)
 
+-- the number, if it is that of a universe, or of an element, or else the other one
+abbrev pub universe_or : ℕ → Option Named → ℕ
+universe_or other (Some (number.Universe n)) = n
+universe_or other it = other
+
+abbrev pub element_or : ℕ → Option Named → ℕ
+element_or other (Some (number.Element n)) = n
+element_or other it = other
+
 -- ---- in a specification
 
 -- a number that is below the number of its like

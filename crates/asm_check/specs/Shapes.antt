@@ -2,8 +2,7 @@
 --     universe_values spec m      the values of a universe, in order
 --     const_value spec c          the value of a constant
 --     shape_of spec               all universes, and all controlled and static functions, in the order of the text
-use Rattle.std.specs.Prelude.{◌≡◌, ℕ, Bool, false, nat_lt, List, [], map, filter_map, count_by, AllPairs, Option, Some, None}
-use Rattle.std.specs.Borrow.{Bor}
+use Rattle.std.specs.Prelude.{ℕ, Bool, false, nat_lt, List, [], map, filter_map, count_by, Option, Some, None}
 use Rattle.std.specs.List.{position_or_len}
 use Rattle.asm_state.specs.declared.value.Value.{Value}
 use Rattle.asm_state.specs.declared.value.Value.TheVariants.{Undef}
@@ -56,14 +55,6 @@ function_by universes elements item = None
 
 abbrev pub texts_of : List Declaration → List Text
 texts_of ds = map (λ d. d.name.text) ds
-
--- the texts that the code holds
-abbrev pub texts_in : List (Bor Text) → List Text
-texts_in keys = map (λ key. key.now) keys
-
--- no text stands twice
-abbrev pub AreApart : List Text → Type 0
-AreApart texts = AllPairs (λ x y. is_text x y ≡ false) texts
 
 module _ (spec : Spec) where
   abbrev pub const_value : Const → Value

@@ -53,7 +53,7 @@ impl Checked {
         requires numbered { IsNumberingOf (first_declarations (spec_of spec)) numbering }
         ensures { IfOk result (λ c. c.spec ≡ spec) }
     {
-        let signature = signature_of(alloc, &spec)?;
+        let signature = signature_of(alloc, &spec, &numbering)?;
         let bodies = Bodies::of(alloc, &spec.items)?;
         let main = main_of(&spec, &numbering);
         Ok(Checked {

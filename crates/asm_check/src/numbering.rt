@@ -99,6 +99,13 @@ impl Numbering {
         self.name_at(self.indices.functions[f])
     }
 
+    /// How many universes there are.
+    pub(crate) fn universes(&self) -> usize
+        ensures { result ≡ length self.now.indices.universes.items }
+    {
+        self.indices.universes.len()
+    }
+
     /// How many elements there are.
     pub(crate) fn elements(&self) -> usize
         ensures { result ≡ length self.now.indices.elements.items }

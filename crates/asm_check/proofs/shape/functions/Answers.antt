@@ -1,32 +1,27 @@
-use Rattle.std.proofs.Common.{◌≡◌, ◌++◌, map, sym, ap, ◌∙◌, append-nil}
+use Rattle.std.proofs.Common.{◌++◌, map, sym, ap, ◌∙◌, append-nil}
 use Rattle.std.specs.Prelude.{filter_map}
 use Rattle.asm_syntax.specs.Views.{item_of, spec_of}
-use Rattle.asm_check.specs.Numbers.{universes_of}
-use Rattle.asm_check.specs.Shapes.{function_by, function_given, shape_of, texts_in, texts_of}
-use Rattle.asm_check.proofs.ApartTexts.{at_end, with_one, with_none}
+use Rattle.asm_check.specs.Shapes.{function_given, shape_of}
+use Rattle.asm_check.proofs.RestOfList.{at_end, with_one, with_none}
 use Rattle.asm_check.proofs.shape.functions.Goals as goal
 use Rattle.asm_check.proofs.shape.functions.Goals.{in-Some+in_ok-push, in_default}
 
 pub loop-item-preserved : goal.loop-item-preserved
 loop-item-preserved c =
-    let given : c.in_ok-function.field-0 ≡ function_given (spec_of c.args.spec.now) (item_of c.item-item.result) =
-    c.in_ok-function.ensures
-    ∙ ap (λ xs. function_by xs (texts_in c.in_ok-elements.elements.keys) (item_of c.item-item.result)) c.in_ok-universes.ensures
-    ∙ ap (λ xs. function_by (texts_of (universes_of (spec_of c.args.spec.now))) xs (item_of c.item-item.result)) c.in_ok-elements.ensures in
-    elim c.match-branch-4.branch [
+    elim c.match-branch-2.branch [
       | in-Some+in_ok-push w ↦
-          with_one (function_given (spec_of c.args.spec.now)) item_of c.loop-item.functions.items (filter_map (function_given (spec_of c.args.spec.now)) (map item_of c.args.spec.now.items.items)) c.args.spec.now.items.items
+          with_one (function_given (spec_of c.args.numbered.now.spec.now)) item_of c.loop-item.functions.items (filter_map (function_given (spec_of c.args.numbered.now.spec.now)) (map item_of c.args.numbered.now.spec.now.items.items)) c.args.numbered.now.spec.now.items.items
           c.deref-item-items.result.now c.loop-item.item-index c.item-item.result c.deref-item-items.ensures.value c.loop-item-test.true c.item-item.is
-          w.in-Some.function c.match-branch-4.functions.items (ap (λ v. v.items) w.functions-is ∙ w.in_ok-push.ensures.items) (sym w.in-Some.is ∙ given) c.loop-item.invariant
+          w.in-Some.function c.match-branch-2.functions.items (ap (λ v. v.items) w.functions-is ∙ w.in_ok-push.ensures.items) (sym w.in-Some.is ∙ c.in_ok-function.ensures) c.loop-item.invariant
       | in_default w ↦
-          with_none (function_given (spec_of c.args.spec.now)) item_of c.loop-item.functions.items (filter_map (function_given (spec_of c.args.spec.now)) (map item_of c.args.spec.now.items.items)) c.args.spec.now.items.items
+          with_none (function_given (spec_of c.args.numbered.now.spec.now)) item_of c.loop-item.functions.items (filter_map (function_given (spec_of c.args.numbered.now.spec.now)) (map item_of c.args.numbered.now.spec.now.items.items)) c.args.numbered.now.spec.now.items.items
           c.deref-item-items.result.now c.loop-item.item-index c.item-item.result c.deref-item-items.ensures.value c.loop-item-test.true c.item-item.is
-          c.match-branch-4.functions.items (ap (λ v. v.items) w.functions-is) (sym w.in_default.is ∙ given) c.loop-item.invariant
+          c.match-branch-2.functions.items (ap (λ v. v.items) w.functions-is) (sym w.in_default.is ∙ c.in_ok-function.ensures) c.loop-item.invariant
     ]
 
 pub returns : goal.returns
 unfolding shape_of
 returns c =
     sym (append-nil c.loop-item.functions.items)
-    ∙ ap (λ xs. c.loop-item.functions.items ++ filter_map (function_given (spec_of c.args.spec.now)) (map item_of xs)) (sym (at_end c.args.spec.now.items.items c.deref-item-items.result.now c.loop-item.item-index c.deref-item-items.ensures.value c.loop-item-test.false))
+    ∙ ap (λ xs. c.loop-item.functions.items ++ filter_map (function_given (spec_of c.args.numbered.now.spec.now)) (map item_of xs)) (sym (at_end c.args.numbered.now.spec.now.items.items c.deref-item-items.result.now c.loop-item.item-index c.deref-item-items.ensures.value c.loop-item-test.false))
     ∙ c.loop-item.invariant

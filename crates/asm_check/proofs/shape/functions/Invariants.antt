@@ -6,4 +6,4 @@ use Rattle.asm_check.proofs.shape.functions.Given as goal
 
 abbrev pub invariant-loop-item : goal.invariant-loop-item
 invariant-loop-item l =
-    l.functions.items ++ filter_map (function_given (spec_of l.spec)) (map item_of (drop l.item-index l.spec.items.items)) ≡ filter_map (function_given (spec_of l.spec)) (map item_of l.spec.items.items)
+    l.functions.items ++ filter_map (function_given (spec_of l.numbered.spec.now)) (map item_of (drop l.item-index l.numbered.spec.now.items.items)) ≡ filter_map (function_given (spec_of l.numbered.spec.now)) (map item_of l.numbered.spec.now.items.items)

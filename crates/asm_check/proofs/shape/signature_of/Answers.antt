@@ -11,4 +11,4 @@ pub build-requires : goal.build-requires
 build-requires c =
     subst (λ (us : List (List Value)). Fits (record { universes = us; functions = c.in_ok-functions.functions.items })) (sym c.in_ok-universes.ensures)
     (subst (λ (fs : List Function). Fits (record { universes = (shape_of (spec_of c.args.spec.now)).universes; functions = fs })) (sym c.in_ok-functions.ensures)
-    (signature_fits (spec_of c.args.spec.now) c.requires))
+    (signature_fits (spec_of c.args.spec.now) c.requires.good))

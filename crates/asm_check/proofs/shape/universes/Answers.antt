@@ -9,7 +9,7 @@ use Rattle.asm_check.specs.Faults.{IsWellFormed}
 use Rattle.asm_check.specs.Limits.{is_universe}
 use Rattle.asm_check.specs.Listed.{elements_of_item, elements_in, universe_lists}
 use Rattle.asm_check.specs.Shapes.{universe_values, shape_of}
-use Rattle.asm_check.proofs.ApartTexts.{at_end, item_among, next_of}
+use Rattle.asm_check.proofs.RestOfList.{at_end, item_among, next_of}
 use Rattle.asm_check.proofs.ItemLists.{universe_lists_are}
 use Rattle.asm_check.proofs.Sized.{IsSmallItem, all_numbered, all_small, room_for}
 use Rattle.asm_check.proofs.Sole.{all_like}
