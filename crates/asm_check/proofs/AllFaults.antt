@@ -6,6 +6,7 @@ use Rattle.std.specs.Prelude.{Contains, filter}
 use Rattle.std.proofs.lemmas.Bool.{false≢true, and_parts, and_from, not-true, not_from_false, false_from_ne_true}
 use Rattle.std.proofs.lemmas.Bool.Decides.{nat_tests}
 use Rattle.std.proofs.lemmas.List.Elements.{Contains-append_left, Contains-append_right, Contains-append_cases}
+use Rattle.asm_state.proofs.Lists.{Contains-cons_cases, Contains-first, Contains-from_map, Contains-later, Contains-map, Contains-none}
 use Rattle.asm_syntax.specs.SourceTree.{Spec}
 use Rattle.asm_check.specs.Faults.{IsFault, IsLeastFault, IsWellFormed, IsCyclic}
 use Rattle.asm_check.specs.Laws.{LeastExists}
@@ -18,24 +19,24 @@ use Rattle.asm_check.specs.Ways.{called, used, ReachesCycle, IsOnWay, height}
 use Rattle.asm_check.proofs.Declared.{first_is}
 use Rattle.asm_check.proofs.Ending.{listed, listed_sound, listed_complete}
 use Rattle.asm_check.proofs.FaultLists.{steps_sound}
-use Rattle.asm_check.proofs.Heights.{here, none_in, head_or_tail, there, in_map, way, high, within}
+use Rattle.asm_check.proofs.Heights.{way, high, within}
 use Rattle.asm_check.proofs.Leading.{leads, leads_sound, leads_complete, reaches, reaches_sound, reaches_complete}
 use Rattle.asm_check.proofs.LeastOfAll.{soonest_of_list}
-use Rattle.asm_check.proofs.Listed.{IsListed, from_map}
+use Rattle.asm_check.proofs.Listed.{IsListed}
 use Rattle.asm_check.proofs.Ranks.{in_filter, rules_begun, derived_begun}
 use Rattle.asm_check.proofs.Soonest.{least_from_soonest, well_formed_from_soonest}
 
 from_filter : {X : Type 0} (p : X → Bool) (xs : List X) (x : X) → Contains (filter p xs) x → Contains xs x × (p x ≡ true)
-from_filter p [] x c = none_in x c
+from_filter p [] x c = absurd (Contains-none x c)
 from_filter p (y ∷ xs) x c = by_test (p y) refl c (from_filter p xs x)
   where
     by_test : (b : Bool) → p y ≡ b → Contains (cond b (y ∷ filter p xs) (filter p xs)) x → (Contains (filter p xs) x → Contains xs x × (p x ≡ true)) → Contains (y ∷ xs) x × (p x ≡ true)
     by_test true e c behind =
-        elim (head_or_tail y x (filter p xs) c) [
-          | inl same ↦ (subst (Contains (y ∷ xs)) same (here y xs), subst (λ z. p z ≡ true) same e)
-          | inr rest ↦ let it = behind rest in (there y x xs it.0, it.1)
+        elim (Contains-cons_cases y (filter p xs) x c) [
+          | inl same ↦ (subst (Contains (y ∷ xs)) same (Contains-first y xs), subst (λ z. p z ≡ true) same e)
+          | inr rest ↦ let it = behind rest in (Contains-later y xs x it.0, it.1)
         ]
-    by_test false e c behind = let it = behind c in (there y x xs it.0, it.1)
+    by_test false e c behind = let it = behind c in (Contains-later y xs x it.0, it.1)
 
 -- ---- ways of steps, as tests
 
@@ -59,8 +60,8 @@ module _ (spec : Spec) (next : Text → List Text)
   all_begin f g c =
       let given = begun f g c in
       let first = first_is spec f given.0 given.1 in
-      let stands : Contains (first_declarations spec) first.it = subst (λ ds. Contains ds first.it) (sym first.parts) (Contains-append_right first.before (first.it ∷ first.after) first.it (here first.it first.after)) in
-      subst (Contains names) first.name (in_map (λ d. d.name.text) (first_declarations spec) first.it stands)
+      let stands : Contains (first_declarations spec) first.it = subst (λ ds. Contains ds first.it) (sym first.parts) (Contains-append_right first.before (first.it ∷ first.after) first.it (Contains-first first.it first.after)) in
+      subst (Contains names) first.name (Contains-map (λ d. d.name.text) (first_declarations spec) first.it stands)
 
   -- ---- cycles
 
@@ -69,7 +70,7 @@ module _ (spec : Spec) (next : Text → List Text)
 
   pub cyclic_sound : (number at n : ℕ) → IsListed (cyclic number) at n → (n ≡ number) × IsCyclic spec next at
   cyclic_sound number at n c =
-      let it = from_map (λ (d : Declaration). (d.name.at, number)) (filter (λ d. leads next names d.name.text d.name.text) (first_declarations spec)) (at, n) c in
+      let it = Contains-from_map (λ (d : Declaration). (d.name.at, number)) (filter (λ d. leads next names d.name.text d.name.text) (first_declarations spec)) (at, n) c in
       let member = from_filter (λ d. leads next names d.name.text d.name.text) (first_declarations spec) it.0 it.1 in (
         sym (ap (λ f. f.1) it.2),
         record { member = it.0; stands = member.0; back = leads_sound next names it.0.name.text it.0.name.text member.1; offset = ap (λ f. f.0) it.2 },
@@ -78,7 +79,7 @@ module _ (spec : Spec) (next : Text → List Text)
   pub cyclic_complete : (number at : ℕ) → IsCyclic spec next at → IsListed (cyclic number) at number
   cyclic_complete number at it =
       subst (λ a. IsListed (cyclic number) a number) it.offset
-      (in_map (λ (d : Declaration). (d.name.at, number)) (filter (λ d. leads next names d.name.text d.name.text) (first_declarations spec)) it.member
+      (Contains-map (λ (d : Declaration). (d.name.at, number)) (filter (λ d. leads next names d.name.text d.name.text) (first_declarations spec)) it.member
       (in_filter (λ d. leads next names d.name.text d.name.text) (first_declarations spec) it.member (leads_complete next names all_begin it.back) it.stands))
 
   -- ---- ranks
@@ -91,7 +92,7 @@ module _ (spec : Spec) (next : Text → List Text)
 
   pub high_sound : (at n : ℕ) → IsListed high_faults at n → (n ≡ 15) × (d : Declaration) × Contains (first_declarations spec) d × IsOnWay next 17 d.name.text × (¬ (ReachesCycle next d.name.text)) × (d.name.at ≡ at)
   high_sound at n c =
-      let it = from_map (λ (d : Declaration). (d.name.at, 15)) (filter (λ d. is_high d.name.text) (first_declarations spec)) (at, n) c in
+      let it = Contains-from_map (λ (d : Declaration). (d.name.at, 15)) (filter (λ d. is_high d.name.text) (first_declarations spec)) (at, n) c in
       let member = from_filter (λ d. is_high d.name.text) (first_declarations spec) it.0 it.1 in
       let f = it.0.name.text in (
         sym (ap (λ f. f.1) it.2),
@@ -106,7 +107,7 @@ module _ (spec : Spec) (next : Text → List Text)
   high_complete d at stands long none offset =
       let f = d.name.text in
       subst (λ a. IsListed high_faults a 15) offset
-      (in_map (λ (d : Declaration). (d.name.at, 15)) (filter (λ d. is_high d.name.text) (first_declarations spec)) d
+      (Contains-map (λ (d : Declaration). (d.name.at, 15)) (filter (λ d. is_high d.name.text) (first_declarations spec)) d
       (in_filter (λ d. is_high d.name.text) (first_declarations spec) d
       (and_from (nat_le 17 (height next 17 f)) (not (reaches next names all_begin f)) (long_is next 17 f long)
       (not_from_false (reaches next names all_begin f) (false_from_ne_true (reaches next names all_begin f) (λ e. none (reaches_sound next names all_begin f e))))) stands))

@@ -1,6 +1,7 @@
 -- The table of names has each name once.
 use Rattle.std.proofs.Common.{◌≡◌, ℕ, suc, zero, ◌<◌, Bool, true, false, cond, ◌||◌, List, [], ◌∷◌, length, map, slice_get, Some, refl, sym, ap, subst, ◌∙◌, arith, true≢false}
 use Rattle.std.specs.Prelude.{find, option_map}
+use Rattle.std.proofs.lemmas.Bool.{or_right}
 use Rattle.asm_syntax.specs.SourceTree.{Spec}
 use Rattle.asm_check.specs.Names.{Text, Declaration, is_text, is_among, declarations, first_of_each, first_declarations, declared}
 use Rattle.asm_check.specs.Tables.{Entry, meaning_of, declaration_of, IsTableOf, text_of_entry, text_at}
@@ -52,11 +53,7 @@ table_apart spec entries table = subst (λ ds. AreApart (texts ds)) (sym table) 
 among_at : (entries : List Entry) (i : ℕ) → i < length entries → is_among (texts (map declaration_of entries)) (text_at entries i) ≡ true
 among_at [] i h = absurd (omega (arith, h))
 among_at (e ∷ es) zero h = ap (λ b. b || is_among (texts (map declaration_of es)) e.0.now) (text_itself e.0.now)
-among_at (e ∷ es) (suc i) h = or_true (is_text e.0.now (text_at es i)) _ (among_at es i (omega (arith, h)))
-  where
-    or_true : (b c : Bool) → c ≡ true → (b || c) ≡ true
-    or_true true c e = refl
-    or_true false c e = e
+among_at (e ∷ es) (suc i) h = or_right (is_text e.0.now (text_at es i)) _ (among_at es i (omega (arith, h)))
 
 apart_at : (entries : List Entry) → AreApart (texts (map declaration_of entries)) → (i j : ℕ) → i < length entries → j < length entries → text_at entries i ≡ text_at entries j → i ≡ j
 apart_at [] apart i j h k same = absurd (omega (arith, h))

@@ -4,13 +4,13 @@ use Rattle.std.specs.Prelude.{Contains, find, option_map, flat_map}
 use Rattle.std.specs.Cmp.{unsigned_Decides}
 use Rattle.std.proofs.lemmas.List.Elements.{Contains-append_left, Contains-append_right, Contains-append_cases}
 use Rattle.std.proofs.lemmas.Slice.Eq.{slice_eq-Decides}
+use Rattle.asm_state.proofs.Lists.{Contains-cons_cases, Contains-first, Contains-later, Contains-none}
 use Rattle.asm_syntax.specs.SourceTree as source
 use Rattle.asm_state.specs.declared.function.FunctionKind.TheVariants as kind
 use Rattle.asm_check.specs.Names as names
 use Rattle.asm_syntax.specs.SourceTree.{Name, Item, Rule, Term, Spec}
 use Rattle.asm_check.specs.Names.{Text, Meaning, NamedRule, Derived, Declaration, declares, Use, is_text, is_among, text_of, predeclared, predeclared_names, declarations_of, declarations_from, declarations, first_of_each, first_declarations, declared, uses_of, uses, uses_of_rule, uses_of_term}
 use Rattle.asm_check.specs.Laws.{TextsAreTold}
-use Rattle.asm_check.proofs.Heights.{here, there, none_in, head_or_tail}
 
 pub same_text : (x y : Text) → is_text x y ≡ true → x ≡ y
 same_text x y e = (slice_eq-Decides unsigned_Decides x y true (sym e)).0 refl
@@ -69,8 +69,8 @@ stands [] f m found = cc
 stands (d ∷ ds) f m found =
     elim (is_text d.name.text f) as (λ b. option_map (λ d. d.meaning) (cond b (Some d) (find (λ d. is_text d.name.text f) ds)) ≡ Some m
     → (c : Declaration) × Contains (d ∷ ds) c × (c.meaning ≡ m)) [
-      | true ↦ λ is. let same : d.meaning ≡ m = cc in (d, here d ds, same)
-      | false ↦ λ is. let rest = stands ds f m is in (rest.0, there d rest.0 ds rest.1, rest.2)
+      | true ↦ λ is. let same : d.meaning ≡ m = cc in (d, Contains-first d ds, same)
+      | false ↦ λ is. let rest = stands ds f m is in (rest.0, Contains-later d ds rest.0 rest.1, rest.2)
     ] found
 
 -- ---- the uses in a body are among all uses
@@ -84,32 +84,32 @@ abbrev AreUses : List Use → Declaration → Type 0
 AreUses us d = (u : Use) → Contains (uses_of_meaning d.meaning) u → Contains us u
 
 only : (x : Name) (m : Meaning) (us : List Use) → AreUses us (declares x m) → (d : Declaration) → Contains (declares x m ∷ []) d → AreUses us d
-only x m us h d c = elim (head_or_tail (declares x m) d [] c) [ inl e ↦ subst (AreUses us) e h | inr bad ↦ none_in d bad ]
+only x m us h d c = elim (Contains-cons_cases (declares x m) [] d c) [ inl e ↦ subst (AreUses us) e h | inr bad ↦ absurd (Contains-none d bad) ]
 
 no_uses : (us : List Use) (k : ℕ) (xs : List Name) (d : Declaration) → Contains (map (λ y. declares y (names.Element k)) xs) d → AreUses us d
-no_uses us k [] d c = none_in d c
+no_uses us k [] d c = absurd (Contains-none d c)
 no_uses us k (x ∷ xs) d c =
-    elim (head_or_tail (declares x (names.Element k)) d (map (λ y. declares y (names.Element k)) xs) c) [
-      | inl e ↦ subst (AreUses us) e (λ u bad. none_in u bad)
+    elim (Contains-cons_cases (declares x (names.Element k)) (map (λ y. declares y (names.Element k)) xs) d c) [
+      | inl e ↦ subst (AreUses us) e (λ u bad. absurd (Contains-none u bad))
       | inr rest ↦ no_uses us k xs d rest
     ]
 
 of_item : (k : ℕ) (item : Item) (d : Declaration) → Contains (declarations_of k item) d → AreUses (uses_of item) d
-of_item k (source.Uses x) d c = none_in d c
-of_item k (source.Init x) d c = none_in d c
+of_item k (source.Uses x) d c = absurd (Contains-none d c)
+of_item k (source.Init x) d c = absurd (Contains-none d c)
 of_item k (source.Enum x xs) d c =
-    elim (head_or_tail (declares x (names.Enumeration k)) d _ c) [
-      | inl e ↦ subst (AreUses []) e (λ u bad. none_in u bad)
+    elim (Contains-cons_cases (declares x (names.Enumeration k)) _ d c) [
+      | inl e ↦ subst (AreUses []) e (λ u bad. absurd (Contains-none u bad))
       | inr rest ↦ no_uses [] k xs d rest
     ]
-of_item k (source.Universe x first last) d c = only x (names.Range first.value last.value) [] (λ u bad. none_in u bad) d c
-of_item k (source.Function x kind.Controlled domain codomain table) d c = only x (names.Controlled domain) _ (λ u bad. none_in u bad) d c
-of_item k (source.Function x kind.Static domain codomain table) d c = only x (names.Static domain) _ (λ u bad. none_in u bad) d c
+of_item k (source.Universe x first last) d c = only x (names.Range first.value last.value) [] (λ u bad. absurd (Contains-none u bad)) d c
+of_item k (source.Function x kind.Controlled domain codomain table) d c = only x (names.Controlled domain) _ (λ u bad. absurd (Contains-none u bad)) d c
+of_item k (source.Function x kind.Static domain codomain table) d c = only x (names.Static domain) _ (λ u bad. absurd (Contains-none u bad)) d c
 of_item k (source.Derived x xs t) d c = only x (Derived xs t) _ (λ u it. it) d c
 of_item k (source.NamedRule x xs P) d c = only x (NamedRule xs P) _ (λ u it. it) d c
 
 of_items : (k : ℕ) (items : List Item) (d : Declaration) → Contains (declarations_from k items) d → AreUses (flat_map uses_of items) d
-of_items k [] d c u it = none_in d c
+of_items k [] d c u it = absurd (Contains-none d c)
 of_items k (item ∷ items) d c u it =
     elim (Contains-append_cases (declarations_of k item) (declarations_from (suc k) items) d c) [
       | inl own ↦ Contains-append_left (uses_of item) (flat_map uses_of items) u (of_item k item d own u it)
@@ -118,10 +118,10 @@ of_items k (item ∷ items) d c u it =
 
 none_before : (us : List Use) (xs : List Text) (d : Declaration)
     → Contains (map (λ x. declares (record { at = 0; text = x }) names.Predeclared) xs) d → AreUses us d
-none_before us [] d c = none_in d c
+none_before us [] d c = absurd (Contains-none d c)
 none_before us (x ∷ xs) d c =
-    elim (head_or_tail _ d _ c) [
-      | inl e ↦ subst (AreUses us) e (λ u bad. none_in u bad)
+    elim (Contains-cons_cases _ _ d c) [
+      | inl e ↦ subst (AreUses us) e (λ u bad. absurd (Contains-none u bad))
       | inr rest ↦ none_before us xs d rest
     ]
 

@@ -6,6 +6,7 @@ use Rattle.std.specs.Option.{option_map_or}
 use Rattle.std.proofs.lemmas.Bool.Decides.{nat_tests}
 use Rattle.std.proofs.lemmas.List.{length-map}
 use Rattle.std.proofs.lemmas.List.Elements.{All-nil, All-cons, Contains-append_left, Contains-append_right}
+use Rattle.asm_state.proofs.Lists.{Contains-cons_cases, Contains-first, Contains-later, Contains-map, Contains-none}
 use Rattle.asm_state.specs.declared.function.Function as state
 use Rattle.asm_state.specs.declared.value.Value.{Value}
 use Rattle.asm_state.specs.Fits.{IsDomainOf}
@@ -20,7 +21,6 @@ use Rattle.asm_check.specs.Faults.{IsWellFormed}
 use Rattle.asm_check.specs.Limits.{is_universe, size_of, domain_of, allowed_universes, counted_size, lists_of, product}
 use Rattle.asm_check.specs.Numbers.{universes_of, elements_of}
 use Rattle.asm_check.specs.Shapes.{table_by, index_among, texts_of, domain_by, universe_values, function_given}
-use Rattle.asm_check.proofs.Heights.{here, there, none_in, head_or_tail, in_map}
 use Rattle.asm_check.proofs.Looked.{is_named, index_is, at_index, index_inside, all_known, universe_named, length-lists}
 use Rattle.asm_check.proofs.Sized.{few_universes, stands_first}
 use Rattle.asm_check.proofs.Sizes.{limits_hold}
@@ -31,19 +31,19 @@ use Rattle.asm_check.proofs.Valued.{length_values}
 pub all_functions : (spec : Spec) (P : state.Function → Type 0) (items : List Item)
     → ((item : Item) (f : state.Function) → Contains items item → function_given spec item ≡ Some f → P f) → All P (filter_map (function_given spec) items)
 all_functions spec P [] each = All-nil P
-all_functions spec P (item ∷ items) each = go (function_given spec item) refl (all_functions spec P items (λ other f it. each other f (there item other items it)))
+all_functions spec P (item ∷ items) each = go (function_given spec item) refl (all_functions spec P items (λ other f it. each other f (Contains-later item items other it)))
   where
     go : (o : Option state.Function) → function_given spec item ≡ o → All P (filter_map (function_given spec) items) → All P (cons_option o (filter_map (function_given spec) items))
     go None e rest = rest
-    go (Some f) e rest = All-cons P f (filter_map (function_given spec) items) (each item f (here item items) e) rest
+    go (Some f) e rest = All-cons P f (filter_map (function_given spec) items) (each item f (Contains-first item items) e) rest
 
 function_stands : (k : ℕ) (items : List Item) (x : Name) (how : FunctionKind) (domain : List Name) (codomain : Option Name) (table : Option Given)
     → Contains items (source.Function x how domain codomain table) → Contains (declarations_from k items) (declares x (function_of how domain))
-function_stands k [] x how domain codomain table it = none_in (source.Function x how domain codomain table) it
+function_stands k [] x how domain codomain table it = absurd (Contains-none (source.Function x how domain codomain table) it)
 function_stands k (head ∷ items) x how domain codomain table it =
-    elim (head_or_tail head (source.Function x how domain codomain table) items it) [
+    elim (Contains-cons_cases head items (source.Function x how domain codomain table) it) [
       | inl e ↦ Contains-append_left (declarations_of k head) (declarations_from (suc k) items) (declares x (function_of how domain))
-          (subst (λ i. Contains (declarations_of k i) (declares x (function_of how domain))) (sym e) (here (declares x (function_of how domain)) []))
+          (subst (λ i. Contains (declarations_of k i) (declares x (function_of how domain))) (sym e) (Contains-first (declares x (function_of how domain)) []))
       | inr rest ↦ Contains-append_right (declarations_of k head) (declarations_from (suc k) items) (declares x (function_of how domain)) (function_stands (suc k) items x how domain codomain table rest)
     ]
 
@@ -59,14 +59,14 @@ take_all (suc n) (x ∷ xs) h = ap (λ ys. x ∷ ys) (take_all n xs (omega (arit
 
 filter_all : {X : Type 0} (p : X → Bool) (xs : List X) → ((x : X) → Contains xs x → p x ≡ true) → filter p xs ≡ xs
 filter_all p [] each = refl
-filter_all p (x ∷ xs) each = ap (λ b. cond b (x ∷ filter p xs) (filter p xs)) (each x (here x xs)) ∙ ap (λ ys. x ∷ ys) (filter_all p xs (λ y it. each y (there x y xs it)))
+filter_all p (x ∷ xs) each = ap (λ b. cond b (x ∷ filter p xs) (filter p xs)) (each x (Contains-first x xs)) ∙ ap (λ ys. x ∷ ys) (filter_all p xs (λ y it. each y (Contains-later x xs y it)))
 
 filter_within : {X : Type 0} (p : X → Bool) (xs : List X) (x : X) → Contains (filter p xs) x → Contains xs x
-filter_within p [] x it = none_in x it
+filter_within p [] x it = absurd (Contains-none x it)
 filter_within p (y ∷ xs) x it =
     elim (p y) as (λ b. Contains (cond b (y ∷ filter p xs) (filter p xs)) x → Contains (y ∷ xs) x) [
-      | true ↦ λ c. elim (head_or_tail y x (filter p xs) c) [ inl e ↦ subst (λ z. Contains (y ∷ xs) z) e (here y xs) | inr rest ↦ there y x xs (filter_within p xs x rest) ]
-      | false ↦ λ c. there y x xs (filter_within p xs x c)
+      | true ↦ λ c. elim (Contains-cons_cases y (filter p xs) x c) [ inl e ↦ subst (λ z. Contains (y ∷ xs) z) e (Contains-first y xs) | inr rest ↦ Contains-later y xs x (filter_within p xs x rest) ]
+      | false ↦ λ c. Contains-later y xs x (filter_within p xs x c)
     ] it
 
 module _ (spec : Spec) (good : IsWellFormed spec) where
@@ -87,8 +87,8 @@ module _ (spec : Spec) (good : IsWellFormed spec) where
   numbers_known : (domain : List Name) → ((u : Name) → Contains domain u → index_among (texts_of (universes_of spec)) u.text < length values_of) → All (λ n. n < length values_of) (domain_by (texts_of (universes_of spec)) domain)
   numbers_known [] each = All-nil (λ n. n < length values_of)
   numbers_known (u ∷ domain) each =
-      All-cons (λ n. n < length values_of) (index_among (texts_of (universes_of spec)) u.text) (domain_by (texts_of (universes_of spec)) domain) (each u (here u domain))
-      (numbers_known domain (λ v it. each v (there u v domain it)))
+      All-cons (λ n. n < length values_of) (index_among (texts_of (universes_of spec)) u.text) (domain_by (texts_of (universes_of spec)) domain) (each u (Contains-first u domain))
+      (numbers_known domain (λ v it. each v (Contains-later u domain v it)))
 
   index_known : (item : Item) (u : Name) → Contains spec.items item → Contains (uses_of item) (plain_use AsUniverse u) → index_among (texts_of (universes_of spec)) u.text < length values_of
   index_known item u it own =
@@ -101,7 +101,7 @@ module _ (spec : Spec) (good : IsWellFormed spec) where
   used_by : (x : Name) (how : FunctionKind) (domain : List Name) (codomain : Option Name) (table : Option Given) (u : Name) → Contains domain u → Contains (uses_of (source.Function x how domain codomain table)) (plain_use AsUniverse u)
   used_by x how domain codomain table u it =
       Contains-append_left (map (plain_use AsUniverse) domain ++ uses_of_codomain codomain) (uses_of_table table) (plain_use AsUniverse u)
-      (Contains-append_left (map (plain_use AsUniverse) domain) (uses_of_codomain codomain) (plain_use AsUniverse u) (in_map (plain_use AsUniverse) domain u it))
+      (Contains-append_left (map (plain_use AsUniverse) domain) (uses_of_codomain codomain) (plain_use AsUniverse u) (Contains-map (plain_use AsUniverse) domain u it))
 
   pub domain_fits : (x : Name) (how : FunctionKind) (domain : List Name) (codomain : Option Name) (table : Option Given)
       → Contains spec.items (source.Function x how domain codomain table) → IsDomainOf values_of (domain_by (texts_of (universes_of spec)) domain)

@@ -13,10 +13,12 @@ use Rattle.asm_check.specs.Limits.{is_element_of}
 use Rattle.asm_check.specs.Listed.{elements_of_item, elements_in}
 use Rattle.asm_check.specs.Numbers.{is_element, elements_of}
 use Rattle.asm_check.specs.Shapes.{is_element_before, index_among, texts_of}
-use Rattle.asm_check.proofs.ItemLists.{element_declarations, like, like_next, count_like, AreNumbered}
+use Rattle.asm_check.proofs.ItemLists.{element_declarations, like_next, count_like, AreNumbered}
 use Rattle.asm_check.proofs.Looked.{is_named, index_is, find_kept, first_named}
 use Rattle.asm_check.proofs.Sized.{all_numbered, few_elements}
 use Rattle.asm_check.proofs.Sole.{all_like}
+use Rattle.asm_check.proofs.ListedDeclarations.{kept_enumeration, length_elements}
+use Rattle.asm_check.specs.NumberTables.{like}
 
 -- where the first that passes is, it stands
 pub stands_at : {X : Type 0} (p : X → Bool) (xs : List X) (x : X) → find p xs ≡ Some x → slice_get xs (position_or_len p xs) ≡ Some x
@@ -40,14 +42,10 @@ abbrev element_names : Item → List Name
 element_names (source.Enum x xs) = xs
 element_names item = []
 
-elements_kept : (k : ℕ) (xs : List Name) → like is_element (element_declarations k xs) ≡ element_declarations k xs
-elements_kept k [] = refl
-elements_kept k (x ∷ xs) = ap (λ ds. declares x (Element k) ∷ ds) (elements_kept k xs)
-
 own_elements : (k : ℕ) (item : Item) → like is_element (declarations_of k item) ≡ element_declarations k (element_names item)
 own_elements k (source.Uses x) = refl
 own_elements k (source.Init x) = refl
-own_elements k (source.Enum x xs) = elements_kept k xs
+own_elements k (source.Enum x xs) = kept_enumeration k xs
 own_elements k (source.Universe x first last) = refl
 own_elements k (source.Function x kind.Controlled domain codomain table) = refl
 own_elements k (source.Function x kind.Static domain codomain table) = refl
@@ -66,20 +64,6 @@ own_count (source.NamedRule x xs P) = refl
 elements_next : (k : ℕ) (item : Item) (items : List Item)
     → like is_element (declarations_from k (item ∷ items)) ≡ element_declarations k (element_names item) ++ like is_element (declarations_from (suc k) items)
 elements_next k item items = like_next is_element k item items ∙ ap (λ ds. ds ++ like is_element (declarations_from (suc k) items)) (own_elements k item)
-
-length_own : (k : ℕ) (xs : List Name) → length (element_declarations k xs) ≡ length xs
-length_own k [] = refl
-length_own k (x ∷ xs) = ap suc (length_own k xs)
-
-pub length_elements_from : (k : ℕ) (items : List Item) → length (like is_element (declarations_from k items)) ≡ elements_in items
-length_elements_from k [] = refl
-length_elements_from k (item ∷ items) =
-    let rest = length_elements_from (suc k) items in
-    let own = length_own k (element_names item) in
-    let count = own_count item in
-    ap length (elements_next k item items)
-    ∙ length-append (element_declarations k (element_names item)) (like is_element (declarations_from (suc k) items))
-    ∙ omega (arith, rest, own, count)
 
 -- an element stands among those of this enumeration, or so far behind them
 abbrev StandsIn : ℕ → ℕ → List Declaration → ℕ → Declaration → Type 0
@@ -127,7 +111,7 @@ module _ (spec : Spec) (good : IsWellFormed spec) where
   all_elements = all_like spec good is_element refl
 
   pub elements_few : length (elements_of spec) ≤ 262_144
-  elements_few = let same : length (elements_of spec) ≡ elements_in spec.items = ap length all_elements ∙ length_elements_from 0 spec.items in let few = few_elements spec good in omega (arith, same, few)
+  elements_few = let same : length (elements_of spec) ≡ elements_in spec.items = ap length all_elements ∙ length_elements 0 spec.items in let few = few_elements spec good in omega (arith, same, few)
 
   -- the element that has this number
   pub number_in : (n k : ℕ) (d : Declaration) → slice_get (elements_of spec) n ≡ Some d → d.meaning ≡ Element k → IsNumberIn (first_declarations spec) k n

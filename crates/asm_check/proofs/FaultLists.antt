@@ -9,6 +9,7 @@ use Rattle.std.specs.Prelude.{Contains, flat_map}
 use Rattle.std.specs.List.{list_all}
 use Rattle.std.proofs.lemmas.Bool.{false≢true, not-true, not_from_false, eqb-false, ne_eqb, ltb-true, lt-ltb, and_parts, and_from, or_cases, or_left, or_right}
 use Rattle.std.proofs.lemmas.List.Elements.{Contains-append_left, Contains-append_right, Contains-append_cases}
+use Rattle.asm_state.proofs.Lists.{Contains-cons_cases, Contains-first, Contains-flat_map, Contains-from_flat_map, Contains-from_map, Contains-later, Contains-map, Contains-none}
 use Rattle.asm_syntax.specs.SourceTree.{Name, Entry, Spec}
 use Rattle.asm_check.specs.Names as names
 use Rattle.asm_check.specs.Names.{Text, Declaration, Meaning, Role, InTerm, AsTarget, AsRule, Use, declarations, first_declarations, declared, uses, is_among, text_of, is_known, arguments_of, is_assignable, is_start, uses_of_entry}
@@ -18,17 +19,17 @@ use Rattle.asm_check.specs.Faults.{IsRepeated, IsTwice, IsUnknown, IsMiscounted,
 use Rattle.asm_check.specs.FaultLists.{repeats, at_with, twice_faults, miscounts, is_target, faults_of_use, use_faults, unfit_starts, faults_of_inits, init_faults, passes, passes_limit, limit_faults_from, limit_faults, is_bad_entry, bad_entries, entry_faults}
 use Rattle.asm_check.specs.Steps as steps
 use Rattle.asm_check.specs.Steps.{IsStepFault}
-use Rattle.asm_check.proofs.Heights.{here, there, none_in, head_or_tail, in_map, split}
+use Rattle.asm_check.proofs.Heights.{split}
 use Rattle.asm_check.proofs.Firsts.{covered, turn}
-use Rattle.asm_check.proofs.Listed.{IsListed, the_only, from_map, in_flat_map, from_flat_map, in_then, in_else, walk_sound, walk_complete}
+use Rattle.asm_check.proofs.Listed.{IsListed, the_only, in_then, in_else, walk_sound, walk_complete}
 
 at_sound : (number : ℕ) (offsets : List ℕ) (at n : ℕ) → IsListed (at_with number offsets) at n → Contains offsets at × (number ≡ n)
 at_sound number offsets at n c =
-    let it = from_map (λ (a : ℕ). (a, number)) offsets (at, n) c in
+    let it = Contains-from_map (λ (a : ℕ). (a, number)) offsets (at, n) c in
     (subst (Contains offsets) (ap (λ f. f.0) it.2) it.1, ap (λ f. f.1) it.2)
 
 at_complete : (number : ℕ) (offsets : List ℕ) (at : ℕ) → Contains offsets at → Contains (at_with number offsets) (at, number)
-at_complete number offsets at c = in_map (λ (a : ℕ). (a, number)) offsets at c
+at_complete number offsets at c = Contains-map (λ (a : ℕ). (a, number)) offsets at c
 
 -- ---- 8
 
@@ -54,11 +55,11 @@ seen_later seen x xs at seen' same it = record {
 }
 
 repeats_sound : (seen : List Text) (xs : List Name) (at : ℕ) → Contains (repeats seen xs) at → IsSeen seen xs at
-repeats_sound seen [] at c = none_in at c
+repeats_sound seen [] at c = absurd (Contains-none at c)
 repeats_sound seen (x ∷ xs) at c =
     elim (is_among seen x.text) as (λ b. is_among seen x.text ≡ b → Contains (cond b (x.at ∷ repeats seen xs) (repeats (x.text ∷ seen) xs)) at → IsSeen seen (x ∷ xs) at) [
       | true ↦ λ e it.
-          elim (head_or_tail x.at at (repeats seen xs) it) [
+          elim (Contains-cons_cases x.at (repeats seen xs) at it) [
             | inl same ↦ record { before = []; name = x; after = xs; parts = refl; is_before = or_left (is_among seen x.text) false e; offset = same }
             | inr rest ↦ seen_later seen x xs at seen (λ y b. sym (covered seen x.text y b e)) (repeats_sound seen xs at rest)
           ]
@@ -70,14 +71,14 @@ repeats_complete : (seen : List Text) (before : List Name) (name : Name) (after 
     → (is_among seen name.text || is_among (map text_of before) name.text) ≡ true → Contains (repeats seen (before ++ name ∷ after)) name.at
 repeats_complete seen [] name after h =
     elim (or_cases (is_among seen name.text) false h) [
-      | inl e ↦ in_then (is_among seen name.text) (name.at ∷ repeats seen after) (repeats (name.text ∷ seen) after) name.at e (here name.at (repeats seen after))
+      | inl e ↦ in_then (is_among seen name.text) (name.at ∷ repeats seen after) (repeats (name.text ∷ seen) after) name.at e (Contains-first name.at (repeats seen after))
       | inr bad ↦ absurd (false≢true bad)
     ]
 repeats_complete seen (x ∷ before) name after h =
     let rest = before ++ name ∷ after in
     let known = is_among (map text_of before) name.text in
     elim (is_among seen x.text) as (λ b. is_among seen x.text ≡ b → Contains (cond b (x.at ∷ repeats seen rest) (repeats (x.text ∷ seen) rest)) name.at) [
-      | true ↦ λ e. there x.at name.at (repeats seen rest) (repeats_complete seen before name after (covered seen x.text name.text known e ∙ h))
+      | true ↦ λ e. Contains-later x.at (repeats seen rest) name.at (repeats_complete seen before name after (covered seen x.text name.text known e ∙ h))
       | false ↦ λ e. repeats_complete (x.text ∷ seen) before name after (turn (is_among seen name.text) (names.is_text x.text name.text) known ∙ h)
     ] refl
 
@@ -104,27 +105,27 @@ module _ (spec : Spec) where
       elim (Contains-append_cases (at_with 8 (repeats [] declared_names)) (at_with 8 twice_named) (at, n) c) [
         | inl first ↦
             let it = at_sound 8 (repeats [] declared_names) at n first in
-            subst (IsFault spec at) it.1 (twice (declared_names, here declared_names (map parameters_of spec.items), repeated declared_names at it.0))
+            subst (IsFault spec at) it.1 (twice (declared_names, Contains-first declared_names (map parameters_of spec.items), repeated declared_names at it.0))
         | inr second ↦
             let it = at_sound 8 twice_named at n second in
-            let of = from_flat_map (λ item. repeats [] (parameters_of item)) spec.items at it.0 in
+            let of = Contains-from_flat_map (λ item. repeats [] (parameters_of item)) spec.items at it.0 in
             let xs = parameters_of of.0 in
             subst (IsFault spec at) it.1
-            (twice (xs, there declared_names xs (map parameters_of spec.items) (in_map parameters_of spec.items of.0 of.1), repeated xs at of.2))
+            (twice (xs, Contains-later declared_names (map parameters_of spec.items) xs (Contains-map parameters_of spec.items of.0 of.1), repeated xs at of.2))
       ]
 
   pub twice_complete : (at : ℕ) → IsTwice spec at → IsListed (twice_faults spec) at 8
   unfolding twice_faults
   twice_complete at (xs, stands, it) =
-      elim (head_or_tail declared_names xs (map parameters_of spec.items) stands) [
+      elim (Contains-cons_cases declared_names (map parameters_of spec.items) xs stands) [
         | inl e ↦
             Contains-append_left (at_with 8 (repeats [] declared_names)) (at_with 8 twice_named) (at, 8)
             (at_complete 8 (repeats [] declared_names) at (found_again declared_names at (subst (λ ys. IsRepeated ys at) (sym e) it)))
         | inr later ↦
-            let of = from_map parameters_of spec.items xs later in
+            let of = Contains-from_map parameters_of spec.items xs later in
             Contains-append_right (at_with 8 (repeats [] declared_names)) (at_with 8 twice_named) (at, 8)
             (at_complete 8 twice_named at
-            (in_flat_map (λ item. repeats [] (parameters_of item)) spec.items of.0 at of.1 (found_again (parameters_of of.0) at (subst (λ ys. IsRepeated ys at) (sym of.2) it))))
+            (Contains-flat_map (λ item. repeats [] (parameters_of item)) spec.items of.0 at of.1 (found_again (parameters_of of.0) at (subst (λ ys. IsRepeated ys at) (sym of.2) it))))
       ]
 
 -- ---- 9, 10, 11
@@ -186,7 +187,7 @@ module _ (spec : Spec) (u : Use) where
             unassignable = not-true (is_assignable u.is_bound (declared spec u.name.text)) parts.1;
             offset = refl;
           }))
-      third false e known c = none_in (at, n) c
+      third false e known c = absurd (Contains-none (at, n) c)
 
       second : (b : Bool) → miscounts count_of u.count ≡ b → is_known_use spec u ≡ true → IsListed (cond b ((u.name.at, 10) ∷ []) as_target) at n → IsFault spec at n
       second true e known c =
@@ -202,13 +203,13 @@ module _ (spec : Spec) (u : Use) where
           (unknown (record { use_of = u; stands = stands; unknown = e; offset = refl }))
 
   use_unknown : is_known_use spec u ≡ false → IsListed (faults_of_use spec u) u.name.at 9
-  use_unknown e = in_else (is_known_use spec u) as_known ((u.name.at, 9) ∷ []) (u.name.at, 9) e (here (u.name.at, 9) [])
+  use_unknown e = in_else (is_known_use spec u) as_known ((u.name.at, 9) ∷ []) (u.name.at, 9) e (Contains-first (u.name.at, 9) [])
 
   use_miscounted : (k : ℕ) → count_of ≡ Some k → u.count ≢ k → IsListed (faults_of_use spec u) u.name.at 10
   use_miscounted k has differs =
       in_then (is_known_use spec u) as_known ((u.name.at, 9) ∷ []) (u.name.at, 10) (counted_is_known u.role u.is_bound (declared spec u.name.text) k has)
       (in_then (miscounts count_of u.count) ((u.name.at, 10) ∷ []) as_target (u.name.at, 10)
-      (ap (λ m. miscounts m u.count) has ∙ miscounts_from u.count k differs) (here (u.name.at, 10) []))
+      (ap (λ m. miscounts m u.count) has ∙ miscounts_from u.count k differs) (Contains-first (u.name.at, 10) []))
 
   use_unassignable : u.role ≡ AsTarget → is_known_use spec u ≡ true → is_assignable u.is_bound (declared spec u.name.text) ≡ false
       → IsListed (faults_of_use spec u) u.name.at 11
@@ -219,17 +220,17 @@ module _ (spec : Spec) (u : Use) where
       (in_else (miscounts count_of u.count) ((u.name.at, 10) ∷ []) as_target (u.name.at, 11) (ap (λ m. miscounts m u.count) none)
       (in_then is_wrong_target ((u.name.at, 11) ∷ []) [] (u.name.at, 11)
       (and_from (is_target u.role) (not (is_assignable u.is_bound (declared spec u.name.text))) target
-      (not_from_false (is_assignable u.is_bound (declared spec u.name.text)) e)) (here (u.name.at, 11) [])))
+      (not_from_false (is_assignable u.is_bound (declared spec u.name.text)) e)) (Contains-first (u.name.at, 11) [])))
 
 module _ (spec : Spec) where
   pub uses_sound : (at n : ℕ) → IsListed (use_faults spec) at n → IsFault spec at n
   unfolding use_faults
-  uses_sound at n c = let of = from_flat_map (faults_of_use spec) (uses spec) (at, n) c in use_sound spec of.0 of.1 at n of.2
+  uses_sound at n c = let of = Contains-from_flat_map (faults_of_use spec) (uses spec) (at, n) c in use_sound spec of.0 of.1 at n of.2
 
   of_a_use : (u : Use) → Contains (uses spec) u → (at n : ℕ) → u.name.at ≡ at → IsListed (faults_of_use spec u) u.name.at n → IsListed (use_faults spec) at n
   unfolding use_faults
   of_a_use u stands at n offset c =
-      in_flat_map (faults_of_use spec) (uses spec) u (at, n) stands (subst (λ (a : ℕ). IsListed (faults_of_use spec u) a n) offset c)
+      Contains-flat_map (faults_of_use spec) (uses spec) u (at, n) stands (subst (λ (a : ℕ). IsListed (faults_of_use spec u) a n) offset c)
 
   pub unknown_complete : (at : ℕ) → IsUnknown spec at → IsListed (use_faults spec) at 9
   unknown_complete at it = of_a_use it.use_of it.stands at 9 it.offset (use_unknown spec it.use_of it.unknown)
@@ -251,7 +252,7 @@ module _ (spec : Spec) where
     where
       next : (b : Bool) → is_wrong x ≡ b → Contains (cond b (x ∷ []) []) y → (x ≡ y) × (is_start (declared spec x.text) ≡ false)
       next true e c = (the_only x y c, not-true (is_start (declared spec x.text)) e)
-      next false e c = none_in y c
+      next false e c = absurd (Contains-none y c)
 
   of_inits_sound : (xs : List Name) → inits spec ≡ xs → (at n : ℕ) → IsListed (faults_of_inits spec xs) at n → IsFault spec at n
   of_inits_sound [] e at n c = subst (λ f. IsFault spec f.0 f.1) (the_only (spec.length, 14) (at, n) c) (init (missing e refl))
@@ -261,13 +262,13 @@ module _ (spec : Spec) where
       elim (Contains-append_cases (at_with 14 unfit) (at_with 14 others) (at, n) c) [
         | inl first ↦
             let it = at_sound 14 unfit at n first in
-            let of = from_map (λ y. y.at) (unfit_starts spec (x ∷ [])) at it.0 in
+            let of = Contains-from_map (λ y. y.at) (unfit_starts spec (x ∷ [])) at it.0 in
             let why = unfit_sound x of.0 of.1 in
             subst (IsFault spec at) it.1
-            (init (no_start x (subst (λ ys. Contains ys x) (sym e) (here x more)) why.1 (ap (λ y. y.at) why.0 ∙ of.2)))
+            (init (no_start x (subst (λ ys. Contains ys x) (sym e) (Contains-first x more)) why.1 (ap (λ y. y.at) why.0 ∙ of.2)))
         | inr second ↦
             let it = at_sound 14 others at n second in
-            let of = from_map (λ y. y.at) more at it.0 in
+            let of = Contains-from_map (λ y. y.at) more at it.0 in
             subst (IsFault spec at) it.1 (init (another x more of.0 e of.1 of.2))
       ]
 
@@ -278,18 +279,18 @@ module _ (spec : Spec) where
   among_more : (x : Name) (more : List Name) (y : Name) → Contains more y → IsListed (faults_of_inits spec (x ∷ more)) y.at 14
   among_more x more y c =
       Contains-append_right (at_with 14 (map (λ z. z.at) (unfit_starts spec (x ∷ [])))) (at_with 14 (map (λ z. z.at) more)) (y.at, 14)
-      (at_complete 14 (map (λ z. z.at) more) y.at (in_map (λ z. z.at) more y c))
+      (at_complete 14 (map (λ z. z.at) more) y.at (Contains-map (λ z. z.at) more y c))
 
   no_start_listed : (xs : List Name) (x : Name) → Contains xs x → is_start (declared spec x.text) ≡ false → IsListed (faults_of_inits spec xs) x.at 14
-  no_start_listed [] x c h = none_in x c
+  no_start_listed [] x c h = absurd (Contains-none x c)
   no_start_listed (y ∷ more) x c h =
-      elim (head_or_tail y x more c) [
+      elim (Contains-cons_cases y more x c) [
         | inl e ↦
             let wrong : is_wrong y ≡ true = not_from_false (is_start (declared spec y.text)) (ap (λ z. is_start (declared spec z.text)) e ∙ h) in
-            let kept : Contains (unfit_starts spec (y ∷ [])) y = in_then (is_wrong y) (y ∷ []) [] y wrong (here y []) in
+            let kept : Contains (unfit_starts spec (y ∷ [])) y = in_then (is_wrong y) (y ∷ []) [] y wrong (Contains-first y []) in
             Contains-append_left (at_with 14 (map (λ z. z.at) (unfit_starts spec (y ∷ [])))) (at_with 14 (map (λ z. z.at) more)) (x.at, 14)
             (at_complete 14 (map (λ z. z.at) (unfit_starts spec (y ∷ []))) x.at
-            (subst (Contains (map (λ z. z.at) (unfit_starts spec (y ∷ [])))) (ap (λ z. z.at) e) (in_map (λ z. z.at) (unfit_starts spec (y ∷ [])) y kept)))
+            (subst (Contains (map (λ z. z.at) (unfit_starts spec (y ∷ [])))) (ap (λ z. z.at) e) (Contains-map (λ z. z.at) (unfit_starts spec (y ∷ [])) y kept)))
         | inr rest ↦ among_more y more x rest
       ]
 
@@ -300,7 +301,7 @@ module _ (spec : Spec) where
       (subst (λ (a : ℕ). IsListed (faults_of_inits spec (x ∷ more)) a 14) offset (among_more x more y c))
   inits_complete at (no_start x c h offset) = subst (λ (a : ℕ). IsListed (faults_of_inits spec (inits spec)) a 14) offset (no_start_listed (inits spec) x c h)
   inits_complete at (missing e offset) =
-      subst (λ xs. IsListed (faults_of_inits spec xs) at 14) (sym e) (subst (λ (a : ℕ). IsListed ((spec.length, 14) ∷ []) a 14) offset (here (spec.length, 14) []))
+      subst (λ xs. IsListed (faults_of_inits spec xs) at 14) (sym e) (subst (λ (a : ℕ). IsListed ((spec.length, 14) ∷ []) a 14) offset (Contains-first (spec.length, 14) []))
 
 -- ---- 15
 
@@ -378,7 +379,7 @@ module _ (spec : Spec) where
             (walk_complete (passes_limit spec) (λ d. d.name.at) 15 (limit_faults_from spec) (λ before. refl) (λ before d ds. refl) [] it.before it.passing it.after holds)))
         | inr high ↦
             let stands : Contains (it.before ++ it.passing ∷ it.after) it.passing =
-            Contains-append_right it.before (it.passing ∷ it.after) it.passing (here it.passing it.after) in
+            Contains-append_right it.before (it.passing ∷ it.after) it.passing (Contains-first it.passing it.after) in
             inr (steps.too_high it.passing (subst (λ ds. Contains ds it.passing) (sym it.parts) stands) high it.offset)
       ]
 
@@ -394,7 +395,7 @@ module _ (spec : Spec) where
   pub entries_sound : (at n : ℕ) → IsListed (entry_faults spec) at n → IsFault spec at n
   unfolding entry_faults
   entries_sound at n c =
-      let of = from_flat_map faults_of_table given_tables (at, n) c in
+      let of = Contains-from_flat_map faults_of_table given_tables (at, n) c in
       let it = walk_sound (is_bad_entry spec of.0.0) (λ e. e.at) 16 (bad_entries spec of.0.0) (λ before. refl) (λ before e es. refl) [] of.0.1 at n of.2 in
       let parts = and_parts (list_all (is_known_use spec) (uses_of_entry it.1.it)) _ it.1.holds in
       subst (IsFault spec at) (sym it.0)
@@ -415,7 +416,7 @@ module _ (spec : Spec) where
   unfolding entry_faults
   entries_complete at it =
       let holds : is_bad_entry spec it.domain it.before it.entry ≡ true = and_from (list_all (is_known_use spec) (uses_of_entry it.entry)) _ it.known it.wrong in
-      in_flat_map faults_of_table given_tables (it.domain, it.entries) (at, 16) it.stands
+      Contains-flat_map faults_of_table given_tables (it.domain, it.entries) (at, 16) it.stands
       (subst (λ es. IsListed (bad_entries spec it.domain [] es) at 16) (sym it.parts)
       (subst (λ a. IsListed (bad_entries spec it.domain [] (it.before ++ it.entry ∷ it.after)) a 16) it.offset
       (walk_complete (is_bad_entry spec it.domain) (λ e. e.at) 16 (bad_entries spec it.domain) (λ before. refl) (λ before e es. refl) [] it.before it.entry it.after holds)))

@@ -1,6 +1,7 @@
 -- What a table of the first declarations answers, and how it grows.
 use Rattle.std.proofs.Common.{◌≡◌, Bool, true, false, cond, ◌||◌, List, [], ◌∷◌, ◌++◌, map, Some, refl, sym, ap, subst, ◌∙◌}
 use Rattle.std.specs.Prelude.{find, option_map}
+use Rattle.std.proofs.Math.Bool.{or-false}
 use Rattle.asm_syntax.specs.SourceTree.{Spec}
 use Rattle.asm_check.specs.Names.{Text}
 use Rattle.asm_check.specs.Names.{Declaration, is_text, is_among, declarations, first_of_each, first_declarations, declared}
@@ -29,10 +30,6 @@ find_first (d ∷ ds) seen x new =
           ]
     ] refl
 
-or_false : (b : Bool) → (b || false) ≡ b
-or_false true = refl
-or_false false = refl
-
 pub turn : (a b c : Bool) → (b || a || c) ≡ (a || (b || c))
 turn true true true = refl
 turn true true false = refl
@@ -59,7 +56,7 @@ covered seen c x rest there =
 
 grow_behind : (ds : List Declaration) (seen : List Text) (d : Declaration)
     → first_of_each seen (ds ++ d ∷ []) ≡ cond (is_among seen d.name.text || is_among (texts ds) d.name.text) (first_of_each seen ds) (first_of_each seen ds ++ d ∷ [])
-grow_behind [] seen d = ap (λ b. cond b [] (d ∷ [])) (sym (or_false (is_among seen d.name.text)))
+grow_behind [] seen d = ap (λ b. cond b [] (d ∷ [])) (sym (or-false (is_among seen d.name.text)))
 grow_behind (c ∷ ds) seen d =
     elim (is_among seen c.name.text) as (λ b. is_among seen c.name.text ≡ b
     → cond b (first_of_each seen (ds ++ d ∷ [])) (c ∷ first_of_each (c.name.text ∷ seen) (ds ++ d ∷ []))

@@ -4,6 +4,7 @@ use Rattle.std.specs.Prelude.{Contains, flat_map}
 use Rattle.std.specs.Cmp.{unsigned_Decides}
 use Rattle.std.proofs.lemmas.Bool.{false≢true}
 use Rattle.std.proofs.lemmas.List.Elements.{Contains-append_left, Contains-append_right}
+use Rattle.asm_state.proofs.Lists.{Contains-cons_cases, Contains-first, Contains-flat_map, Contains-later, Contains-none}
 use Rattle.asm_syntax.specs.SourceTree as source
 use Rattle.asm_syntax.specs.SourceTree.{Name, Term, Constant, Named, Chain, Not, Negative, Exists, Every, Terms, no_terms, term_then, Links, no_links, link_then, Rule, Skip, Assign, Call, Par, Seq, If, Let, Forall, Choose, Iterate, Rules, no_rules, rule_then, Branch, left_out, written, Const, Entry, Given, Item, Spec}
 use Rattle.asm_check.specs.Names as names
@@ -11,7 +12,6 @@ use Rattle.asm_check.specs.Names.{Text, Meaning, NamedRule, Derived, Role, InTer
 use Rattle.asm_check.specs.Faults.{IsWellFormed, is_known_use, inits, unknown, arity, not_controlled, init, another, no_start, missing}
 use Rattle.asm_check.specs.Fit.{IsUniverseName, IsCodomainName, IsFitConst, IsFitTable, IsFitFunction, IsFitTerm, AreFitTerms, AreFitLinks, IsFitTest, IsFitRule, AreFitRules, IsFitBranch, HasStart}
 use Rattle.asm_check.specs.Laws.{BodiesAreFit}
-use Rattle.asm_check.proofs.Heights.{here, there, none_in, head_or_tail}
 use Rattle.asm_check.proofs.Declared.{body_uses}
 use Rattle.asm_check.proofs.Suited.{IsSuited, IsGood, suited}
 
@@ -50,14 +50,14 @@ module _ (spec : Spec) where
   back us vs h u c = h u (Contains-append_right us vs u c)
 
   tail : (u : Use) (us : List Use) → AreGood (u ∷ us) → AreGood us
-  tail u us h v c = h v (there u v us c)
+  tail u us h v c = h v (Contains-later u us v c)
 
   first : (role : Role) (x : Name) (n : ℕ) (bound : List Text) (us : List Use) → AreGood (use_of role x n bound ∷ us) → IsSuited spec role x n bound
-  first role x n bound us h = suited spec x n bound role (is_among bound x.text) refl (h (use_of role x n bound) (here (use_of role x n bound) us))
+  first role x n bound us h = suited spec x n bound role (is_among bound x.text) refl (h (use_of role x n bound) (Contains-first (use_of role x n bound) us))
 
   -- a name that has no arguments, and that no binder is looked at for
   plain : (role : Role) (x : Name) (us : List Use) → AreGood (plain_use role x ∷ us) → IsSuited spec role x 0 []
-  plain role x us h = suited spec x 0 [] role false refl (h (plain_use role x) (here (plain_use role x) us))
+  plain role x us h = suited spec x 0 [] role false refl (h (plain_use role x) (Contains-first (plain_use role x) us))
 
   -- ---- terms
 
@@ -142,17 +142,17 @@ module _ (spec : Spec) where
   fit_const (source.Element x) h = plain AsElement x [] h
 
   fit_consts : (cs : List Const) → AreGood (flat_map uses_of_const cs) → (c : Const) → Contains cs c → IsFitConst spec c
-  fit_consts [] h c it = none_in c it
+  fit_consts [] h c it = absurd (Contains-none c it)
   fit_consts (d ∷ cs) h c it =
-      elim (head_or_tail d c cs it) [
+      elim (Contains-cons_cases d cs c it) [
         | inl same ↦ subst (IsFitConst spec) same (fit_const d (front (uses_of_const d) (flat_map uses_of_const cs) h))
         | inr rest ↦ fit_consts cs (back (uses_of_const d) (flat_map uses_of_const cs) h) c rest
       ]
 
   fit_entries : (es : List Entry) → AreGood (flat_map uses_of_entry es) → (e : Entry) → Contains es e → ((c : Const) → Contains e.arguments c → IsFitConst spec c) × IsFitConst spec e.value
-  fit_entries [] h e it = none_in e it
+  fit_entries [] h e it = absurd (Contains-none e it)
   fit_entries (d ∷ es) h e it =
-      elim (head_or_tail d e es it) [
+      elim (Contains-cons_cases d es e it) [
         | inl same ↦ subst (λ e. ((c : Const) → Contains e.arguments c → IsFitConst spec c) × IsFitConst spec e.value) same
             (let own = front (uses_of_entry d) (flat_map uses_of_entry es) h in (
               fit_consts d.arguments (front (flat_map uses_of_const d.arguments) (uses_of_const d.value) own),
@@ -167,9 +167,9 @@ module _ (spec : Spec) where
   fit_table (Some (source.Entries entries)) h = fit_entries entries h
 
   fit_domain : (us : List Name) → AreGood (map (plain_use AsUniverse) us) → (u : Name) → Contains us u → IsUniverseName spec u
-  fit_domain [] h u it = none_in u it
+  fit_domain [] h u it = absurd (Contains-none u it)
   fit_domain (v ∷ us) h u it =
-      elim (head_or_tail v u us it) [
+      elim (Contains-cons_cases v us u it) [
         | inl same ↦ subst (IsUniverseName spec) same (plain AsUniverse v (map (plain_use AsUniverse) us) h)
         | inr rest ↦ fit_domain us (tail (plain_use AsUniverse v) (map (plain_use AsUniverse) us) h) u rest
       ]
@@ -206,23 +206,15 @@ starting None e = absurd (false≢true e)
 
 starts : (spec : Spec) → IsWellFormed spec → (xs : List Name) → inits spec ≡ xs → HasStart spec
 starts spec good [] e = absurd (good spec.length 14 (init (missing e refl)))
-starts spec good (x ∷ y ∷ more) e = absurd (good y.at 14 (init (another x (y ∷ more) y e (here y more) refl)))
+starts spec good (x ∷ y ∷ more) e = absurd (good y.at 14 (init (another x (y ∷ more) y e (Contains-first y more) refl)))
 starts spec good (x ∷ []) e =
     let it = starting (declared spec x.text) (not_false (is_start (declared spec x.text))
-    (λ no'. good x.at 14 (init (no_start x (subst (λ xs. Contains xs x) (sym e) (here x [])) no' refl)))) in
+    (λ no'. good x.at 14 (init (no_start x (subst (λ xs. Contains xs x) (sym e) (Contains-first x [])) no' refl)))) in
     record { name = x; body = it.0; only = e; rule = it.1 }
 
 in_uses : (spec : Spec) (item : Item) → Contains spec.items item → (u : Use) → Contains (uses_of item) u → Contains (uses spec) u
 unfolding uses
-in_uses spec item it u c = among_all uses_of spec.items item u it c
-  where
-    among_all : {X Y : Type 0} (f : X → List Y) (xs : List X) (x : X) (y : Y) → Contains xs x → Contains (f x) y → Contains (flat_map f xs) y
-    among_all f [] x y it c = none_in x it
-    among_all f (z ∷ xs) x y it c =
-        elim (head_or_tail z x xs it) [
-          | inl same ↦ Contains-append_left (f z) (flat_map f xs) y (subst (λ w. Contains (f w) y) (sym same) c)
-          | inr rest ↦ Contains-append_right (f z) (flat_map f xs) y (among_all f xs x y rest c)
-        ]
+in_uses spec item it u c = Contains-flat_map uses_of spec.items item u it c
 
 pub bodies_are_fit : BodiesAreFit
 bodies_are_fit spec good = record {

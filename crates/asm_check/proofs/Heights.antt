@@ -3,39 +3,16 @@ use Rattle.std.proofs.Common.{◌≡◌, ◌⊎◌, ℕ, zero, suc, ◌<◌, ◌
 use Rattle.std.specs.Prelude.{Contains}
 use Rattle.std.proofs.lemmas.List.Elements.{Contains-append_left, Contains-append_right, Contains-append_cases, Contains-push, Contains-push_cases}
 use Rattle.std.proofs.lemmas.Bool.{cases_lt}
+use Rattle.asm_state.proofs.Lists.{Contains-cons_cases, Contains-first, Contains-later, Contains-map, Contains-none}
 use Rattle.asm_check.specs.Names.{Text}
 use Rattle.asm_check.specs.Ways.{greatest, IsOnWay, height}
 
-pub here : {X : Type 0} (x : X) (xs : List X) → Contains (x ∷ xs) x
-here x xs = Contains-append_left (x ∷ []) xs x (Contains-push [] x)
-
-pub there : {X : Type 0} (x y : X) (xs : List X) → Contains xs y → Contains (x ∷ xs) y
-there x y xs c = Contains-append_right (x ∷ []) xs y c
-
-pub none_in : {X : Type 0} {A : Type 0} (x : X) → Contains [] x → A
-none_in x c = let below : c.0 < 0 = c.1 in absurd (omega arith)
-
-pub head_or_tail : {X : Type 0} (x y : X) (xs : List X) → Contains (x ∷ xs) y → (x ≡ y) ⊎ Contains xs y
-head_or_tail x y xs c =
-    elim (Contains-append_cases (x ∷ []) xs y c) [
-      | inl first ↦ elim (Contains-push_cases [] x y first) [ inl bad ↦ none_in y bad | inr e ↦ inl e ]
-      | inr rest ↦ inr rest
-    ]
-
 pub split : {X : Type 0} (xs : List X) (x : X) → Contains xs x → (before after : List X) × (xs ≡ before ++ x ∷ after)
-split [] x c = none_in x c
+split [] x c = absurd (Contains-none x c)
 split (y ∷ xs) x c =
-    elim (head_or_tail y x xs c) [
+    elim (Contains-cons_cases y xs x c) [
       | inl e ↦ ([], xs, ap (λ z. z ∷ xs) e)
       | inr rest ↦ let it = split xs x rest in (y ∷ it.0, it.1, ap (λ zs. y ∷ zs) it.2)
-    ]
-
-pub in_map : {X Y : Type 0} (f : X → Y) (xs : List X) (x : X) → Contains xs x → Contains (map f xs) (f x)
-in_map f [] x c = none_in x c
-in_map {Y = Y} f (y ∷ ys) x c =
-    elim (head_or_tail y x ys c) [
-      | inl e ↦ subst (λ z. Contains (f y ∷ map f ys) (f z)) e (here (f y) (map f ys))
-      | inr rest ↦ there (f y) (f x) (map f ys) (in_map f ys x rest)
     ]
 
 max_left : (m n : ℕ) → m ≤ max m n
@@ -45,9 +22,9 @@ max_right : (m n : ℕ) → n ≤ max m n
 max_right m n = omega arith
 
 greatest_above : (ns : List ℕ) (m : ℕ) → Contains ns m → m ≤ greatest ns
-greatest_above [] m c = none_in m c
+greatest_above [] m c = absurd (Contains-none m c)
 greatest_above (n ∷ ns) m c =
-    elim (head_or_tail n m ns c) [
+    elim (Contains-cons_cases n ns m c) [
       | inl e ↦ subst (λ k. k ≤ max n (greatest ns)) e (max_left n (greatest ns))
       | inr rest ↦ let below = greatest_above ns m rest in let right = max_right n (greatest ns) in omega (arith, below, right)
     ]
@@ -59,8 +36,8 @@ attained h (x ∷ xs) some =
       | inl below ↦
           let it = attained h xs (omega arith) in
           let rest : greatest (map h xs) ≡ h it.0 = it.2 in
-          (it.0, there x it.0 xs it.1, omega (arith, below, rest))
-      | inr above ↦ (x, here x xs, omega (arith, above))
+          (it.0, Contains-later x xs it.0 it.1, omega (arith, below, rest))
+      | inr above ↦ (x, Contains-first x xs, omega (arith, above))
     ]
 
 -- each height is at most 16, and falls with each step
@@ -86,7 +63,7 @@ module _ (next : Text → List Text) where
   high zero (suc k) f h w = absurd (omega arith)
   high (suc n) (suc k) f h w =
       let below = high n k w.0 (omega arith) w.2 in
-      let among = greatest_above (map (λ g. suc (height next n g)) (next f)) (suc (height next n w.0)) (in_map (λ g. suc (height next n g)) (next f) w.0 w.1) in
+      let among = greatest_above (map (λ g. suc (height next n g)) (next f)) (suc (height next n w.0)) (Contains-map (λ g. suc (height next n g)) (next f) w.0 w.1) in
       omega (arith, below, among)
 
   pub within : (n : ℕ) (f : Text) → height next n f ≤ n

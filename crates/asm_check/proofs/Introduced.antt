@@ -5,7 +5,7 @@ use Rattle.std.proofs.lemmas.Bool.{false≢true}
 use Rattle.std.proofs.lemmas.List.{map-append}
 use Rattle.std.proofs.lemmas.List.Elements.{All-contains, All-map, Contains-append_left, Contains-append_right}
 use Rattle.std.proofs.lemmas.List.Kept.{AllPairs-cons}
-use Rattle.asm_state.proofs.Lists.{All-from_contained, AllPairs-none, AllPairs-head, AllPairs-tail, AllPairs-map}
+use Rattle.asm_state.proofs.Lists.{All-from_contained, AllPairs-none, AllPairs-head, AllPairs-tail, AllPairs-map, Contains-cons_cases, Contains-first, Contains-later, Contains-map, Contains-none}
 use Rattle.asm_state.specs.declared.function.FunctionKind.TheVariants as kind
 use Rattle.asm_syntax.specs.SourceTree as source
 use Rattle.asm_syntax.specs.SourceTree.{Name, Term, Rule, Given, Item, Spec}
@@ -16,7 +16,7 @@ use Rattle.asm_check.specs.Names as names
 use Rattle.asm_check.specs.Names.{Text, Declaration, Meaning, declares, declarations_of, declarations_from, declarations, predeclared, declared, is_text, is_among, text_of}
 use Rattle.asm_check.specs.Shapes.{texts_of}
 use Rattle.asm_check.proofs.Declared.{text_itself}
-use Rattle.asm_check.proofs.Heights.{here, there, none_in, head_or_tail, split, in_map}
+use Rattle.asm_check.proofs.Heights.{split}
 use Rattle.asm_check.proofs.ItemLists.{element_declarations, element_texts_are}
 use Rattle.asm_check.proofs.Sole.{IsOther, left_false, right_false, apart}
 use Rattle.asm_check.proofs.StepFaults.{get_of}
@@ -71,7 +71,7 @@ parameters_different spec good item it = different_from (parameters_of item) onc
         elim (is_among (map text_of before) x.text) as (λ b. is_among (map text_of before) x.text ≡ b → b ≡ false) [
           | true ↦ λ e. absurd (good x.at 8 (twice (
             parameters_of item,
-            there (map (λ d. d.name) (declarations spec)) (parameters_of item) (map parameters_of spec.items) (in_map parameters_of spec.items item it),
+            Contains-later (map (λ d. d.name) (declarations spec)) (map parameters_of spec.items) (parameters_of item) (Contains-map parameters_of spec.items item it),
             record { before = before; name = x; after = after; parts = parts; is_before = e; offset = refl },
           )))
           | false ↦ λ e. refl
@@ -88,9 +88,9 @@ names_are_apart spec good = record {
 
 -- of names that differ the one that is looked for is found
 found_alone : (ds : List Declaration) (d : Declaration) → AllPairs IsOther ds → Contains ds d → find (λ c. is_text c.name.text d.name.text) ds ≡ Some d
-found_alone [] d others it = none_in d it
+found_alone [] d others it = absurd (Contains-none d it)
 found_alone (c ∷ ds) d others it =
-    elim (head_or_tail c d ds it) [
+    elim (Contains-cons_cases c ds d it) [
       | inl same ↦ ap (λ b. cond b (Some c) (find (λ c. is_text c.name.text d.name.text) ds)) (subst (λ (e : Declaration). is_text c.name.text e.name.text ≡ true) same (text_itself c.name.text)) ∙ ap Some same
       | inr rest ↦
           ap (λ b. cond b (Some c) (find (λ c. is_text c.name.text d.name.text) ds)) (All-contains (IsOther c) ds d (AllPairs-head IsOther c ds others) rest)
@@ -123,14 +123,14 @@ module _ (spec : Spec) (good : IsWellFormed spec) where
   declared_alone : (item : Item) (x : Name) (m : Meaning) → ((k : ℕ) → declarations_of k item ≡ declares x m ∷ []) → Contains spec.items item → declared spec x.text ≡ Some m
   declared_alone item x m alone it =
       let at = get_of spec.items item it in
-      declared_at at.0 item x m at.1 (subst (λ ds. Contains ds (declares x m)) (sym (alone at.0)) (here (declares x m) []))
+      declared_at at.0 item x m at.1 (subst (λ ds. Contains ds (declares x m)) (sym (alone at.0)) (Contains-first (declares x m) []))
 
   element_declared : (k : ℕ) (x y : Name) (xs : List Name) → Contains xs y → Contains (declarations_of k (source.Enum x xs)) (declares y (names.Element k))
-  element_declared k x y xs it = there (declares x (names.Enumeration k)) (declares y (names.Element k)) (element_declarations k xs) (in_map (λ z. declares z (names.Element k)) xs y it)
+  element_declared k x y xs it = Contains-later (declares x (names.Enumeration k)) (element_declarations k xs) (declares y (names.Element k)) (Contains-map (λ z. declares z (names.Element k)) xs y it)
 
 pub items_are_declared : ItemsAreDeclared
 items_are_declared spec good = record {
-  enumerations = λ k x xs at. declared_at spec good k (source.Enum x xs) x (names.Enumeration k) at (here (declares x (names.Enumeration k)) (element_declarations k xs));
+  enumerations = λ k x xs at. declared_at spec good k (source.Enum x xs) x (names.Enumeration k) at (Contains-first (declares x (names.Enumeration k)) (element_declarations k xs));
   elements = λ k x xs at y it. declared_at spec good k (source.Enum x xs) y (names.Element k) at (element_declared spec good k x y xs it);
   ranges = λ x first last. declared_alone spec good (source.Universe x first last) x (names.Range first.value last.value) (λ k. refl);
   controlled = λ x domain codomain table. declared_alone spec good (source.Function x kind.Controlled domain codomain table) x (names.Controlled domain) (λ k. refl);

@@ -14,13 +14,10 @@ use Rattle.asm_check.specs.Names.{Declaration, Meaning, Enumeration, Element, de
 use Rattle.asm_check.specs.Limits.{is_universe, is_element_of}
 use Rattle.asm_check.specs.Shapes.{texts_of, is_element_before, universe_values}
 use Rattle.asm_check.specs.Listed.{elements_of_item, universe_of_item, universe_lists}
+use Rattle.asm_check.specs.NumberTables.{like}
 
 abbrev pub element_declarations : ℕ → List Name → List Declaration
 element_declarations k xs = map (λ y. declares y (Element k)) xs
-
--- those that pass a test of what they mean
-abbrev pub like : (Meaning → Bool) → List Declaration → List Declaration
-like is_like ds = filter (λ d. is_like d.meaning) ds
 
 pub elements_dropped : (is_like : Meaning → Bool) (k : ℕ) (xs : List Name) → is_like (Element k) ≡ false → like is_like (element_declarations k xs) ≡ []
 elements_dropped is_like k [] out = refl

@@ -5,26 +5,26 @@ use Rattle.std.proofs.Common.{◌≡◌, Bool, true, ◌&&◌, ◌||◌, List, [
 use Rattle.std.specs.Prelude.{Contains}
 use Rattle.std.specs.List.{list_any}
 use Rattle.std.proofs.lemmas.Bool.{false≢true, and_parts, and_from, or_cases, or_left, or_right}
+use Rattle.asm_state.proofs.Lists.{Contains-cons_cases, Contains-first, Contains-later, Contains-none}
 use Rattle.asm_check.specs.Names.{Text, is_text, is_among}
 use Rattle.asm_check.specs.Ways.{LeadsTo, at_once, by_way_of, ReachesCycle}
 use Rattle.asm_check.proofs.Declared.{text_itself}
-use Rattle.asm_check.proofs.Heights.{here, there, none_in, head_or_tail}
 use Rattle.asm_check.proofs.Suited.{among}
 
 -- ---- members of lists, by tests
 
 is_member : (xs : List Text) (x : Text) → Contains xs x → is_among xs x ≡ true
-is_member [] x c = none_in x c
+is_member [] x c = absurd (Contains-none x c)
 is_member (y ∷ xs) x c =
-    elim (head_or_tail y x xs c) [
+    elim (Contains-cons_cases y xs x c) [
       | inl same ↦ or_left (is_text y x) (is_among xs x) (subst (λ z. is_text y z ≡ true) same (text_itself y))
       | inr rest ↦ or_right (is_text y x) (is_among xs x) (is_member xs x rest)
     ]
 
 some_passes : (p : Text → Bool) (xs : List Text) (x : Text) → Contains xs x → p x ≡ true → list_any p xs ≡ true
-some_passes p [] x c e = none_in x c
+some_passes p [] x c e = absurd (Contains-none x c)
 some_passes p (y ∷ xs) x c e =
-    elim (head_or_tail y x xs c) [
+    elim (Contains-cons_cases y xs x c) [
       | inl same ↦ or_left (p y) (list_any p xs) (subst (λ z. p z ≡ true) (sym same) e)
       | inr rest ↦ or_right (p y) (list_any p xs) (some_passes p xs x rest e)
     ]
@@ -33,8 +33,8 @@ one_passes : (p : Text → Bool) (xs : List Text) → list_any p xs ≡ true →
 one_passes p [] e = absurd (false≢true e)
 one_passes p (y ∷ xs) e =
     elim (or_cases (p y) (list_any p xs) e) [
-      | inl first ↦ (y, here y xs, first)
-      | inr rest ↦ let it = one_passes p xs rest in (it.0, there y it.0 xs it.1, it.2)
+      | inl first ↦ (y, Contains-first y xs, first)
+      | inr rest ↦ let it = one_passes p xs rest in (it.0, Contains-later y xs it.0 it.1, it.2)
     ]
 
 -- ---- ways
@@ -69,9 +69,9 @@ module _ (next : Text → List Text) where
 
   -- ways that meet at a name of the list are one
   leads_through : (S : List Text) (f s g : Text) → Contains S s → leads S f s ≡ true → leads S s g ≡ true → leads S f g ≡ true
-  leads_through [] f s g c to from = none_in s c
+  leads_through [] f s g c to from = absurd (Contains-none s c)
   leads_through (t ∷ S) f s g c to from =
-      elim (head_or_tail t s S c) [
+      elim (Contains-cons_cases t S s c) [
         | inl same ↦
             by_head (leads_into t S f (subst (λ z. leads (t ∷ S) f z ≡ true) (sym same) to)) (leads_out t S g (subst (λ z. leads (t ∷ S) z g ≡ true) (sym same) from))
         | inr rest ↦

@@ -3,9 +3,9 @@
 --     soonest_with        and of others
 use Rattle.std.proofs.Common.{◌≡◌, ◌⊎◌, ℕ, List, [], ◌∷◌, Option, Some, None, refl, subst, inl, inr, arith}
 use Rattle.std.specs.Prelude.{Contains}
+use Rattle.asm_state.proofs.Lists.{Contains-cons_cases, Contains-first, Contains-later, Contains-none}
 use Rattle.asm_check.specs.Faults.{IsUpTo}
 use Rattle.asm_check.specs.Soonest.{IsSoonest, IsSoonestWith, IsCovered, sooner, noted}
-use Rattle.asm_check.proofs.Heights.{here, there, none_in, head_or_tail}
 use Rattle.asm_check.proofs.Listed.{IsListed}
 use Rattle.asm_check.proofs.Soonest.{upto_then, soonest_of_both}
 
@@ -23,16 +23,16 @@ one_is_soonest f = (refl, λ at n e. subst (λ g. IsUpTo f.0 f.1 g.0 g.1) e (inr
 
 -- what is found after a list of faults is the least of it and of those before
 pub soonest_noted : (P : ℕ → ℕ → Type 0) (found : Option (ℕ × ℕ)) (fs : List (ℕ × ℕ)) → IsSoonest P found → IsSoonest (λ at n. P at n ⊎ IsListed fs at n) (noted found fs)
-soonest_noted P found [] it = soonest_same P (λ at n. P at n ⊎ IsListed [] at n) found (λ at n p. inl p) (λ at n o. elim o [ inl p ↦ p | inr bad ↦ none_in (at, n) bad ]) it
+soonest_noted P found [] it = soonest_same P (λ at n. P at n ⊎ IsListed [] at n) found (λ at n p. inl p) (λ at n o. elim o [ inl p ↦ p | inr bad ↦ absurd (Contains-none (at, n) bad) ]) it
 soonest_noted P found (f ∷ fs) it =
     soonest_same (λ at n. (P at n ⊎ IsThat f at n) ⊎ IsListed fs at n) (λ at n. P at n ⊎ IsListed (f ∷ fs) at n) (noted found (f ∷ fs))
     (λ at n o. elim o [
-      | inl o' ↦ elim o' [ inl p ↦ inl p | inr e ↦ inr (subst (Contains (f ∷ fs)) e (here f fs)) ]
-      | inr rest ↦ inr (there f (at, n) fs rest)
+      | inl o' ↦ elim o' [ inl p ↦ inl p | inr e ↦ inr (subst (Contains (f ∷ fs)) e (Contains-first f fs)) ]
+      | inr rest ↦ inr (Contains-later f fs (at, n) rest)
     ])
     (λ at n o. elim o [
       | inl p ↦ inl (inl p)
-      | inr c ↦ elim (head_or_tail f (at, n) fs c) [ inl e ↦ inl (inr e) | inr rest ↦ inr rest ]
+      | inr c ↦ elim (Contains-cons_cases f fs (at, n) c) [ inl e ↦ inl (inr e) | inr rest ↦ inr rest ]
     ])
     (soonest_noted (λ at n. P at n ⊎ IsThat f at n) (sooner found (Some f)) fs (soonest_of_both P (IsThat f) found (Some f) it (one_is_soonest f)))
 

@@ -3,38 +3,14 @@ use Rattle.std.proofs.Common.{◌≡◌, ℕ, Bool, true, false, cond, List, [],
 use Rattle.std.specs.Prelude.{Contains, flat_map}
 use Rattle.std.proofs.lemmas.Bool.{cond-true, cond-false}
 use Rattle.std.proofs.lemmas.List.Elements.{Contains-append_left, Contains-append_right, Contains-append_cases}
-use Rattle.asm_check.proofs.Heights.{here, there, none_in, head_or_tail}
+use Rattle.asm_state.proofs.Lists.{Contains-cons_cases, Contains-first, Contains-none}
 
 -- a list has this fault
 abbrev pub IsListed : List (ℕ × ℕ) → (at number : ℕ) → Type 0
 IsListed fs at number = Contains {X = ℕ × ℕ} fs (at, number)
 
 pub the_only : {X : Type 0} (x y : X) → Contains (x ∷ []) y → x ≡ y
-the_only x y c = elim (head_or_tail x y [] c) [ inl e ↦ e | inr bad ↦ none_in y bad ]
-
-pub from_map : {X Y : Type 0} (f : X → Y) (xs : List X) (y : Y) → Contains (map f xs) y → (x : X) × Contains xs x × (f x ≡ y)
-from_map f [] y c = none_in y c
-from_map f (x ∷ xs) y c =
-    elim (head_or_tail (f x) y (map f xs) c) [
-      | inl e ↦ (x, here x xs, e)
-      | inr rest ↦ let it = from_map f xs y rest in (it.0, there x it.0 xs it.1, it.2)
-    ]
-
-pub in_flat_map : {X Y : Type 0} (f : X → List Y) (xs : List X) (x : X) (y : Y) → Contains xs x → Contains (f x) y → Contains (flat_map f xs) y
-in_flat_map f [] x y stands c = none_in x stands
-in_flat_map f (z ∷ xs) x y stands c =
-    elim (head_or_tail z x xs stands) [
-      | inl e ↦ Contains-append_left (f z) (flat_map f xs) y (subst (λ w. Contains (f w) y) (sym e) c)
-      | inr rest ↦ Contains-append_right (f z) (flat_map f xs) y (in_flat_map f xs x y rest c)
-    ]
-
-pub from_flat_map : {X Y : Type 0} (f : X → List Y) (xs : List X) (y : Y) → Contains (flat_map f xs) y → (x : X) × Contains xs x × Contains (f x) y
-from_flat_map f [] y c = none_in y c
-from_flat_map f (x ∷ xs) y c =
-    elim (Contains-append_cases (f x) (flat_map f xs) y c) [
-      | inl own ↦ (x, here x xs, own)
-      | inr rest ↦ let it = from_flat_map f xs y rest in (it.0, there x it.0 xs it.1, it.2)
-    ]
+the_only x y c = elim (Contains-cons_cases x [] y c) [ inl e ↦ e | inr bad ↦ absurd (Contains-none y bad) ]
 
 pub in_then : {X : Type 0} (b : Bool) (xs ys : List X) (x : X) → b ≡ true → Contains xs x → Contains (cond b xs ys) x
 in_then b xs ys x e c = subst (λ zs. Contains zs x) (sym (cond-true b xs ys e)) c
@@ -57,7 +33,7 @@ module _ {X : Type 0} (test : List X → X → Bool) (offset : X → ℕ) (numbe
     (goes_on : (before : List X) (x : X) (xs : List X)
     → walk before (x ∷ xs) ≡ cond (test before x) ((offset x, number) ∷ []) [] ++ walk (before ++ x ∷ []) xs) where
   pub walk_sound : (done xs : List X) (at n : ℕ) → IsListed (walk done xs) at n → (n ≡ number) × IsMet test offset (done ++ xs) at
-  walk_sound done [] at n c = none_in (at, n) (subst (λ fs. IsListed fs at n) (ends done) c)
+  walk_sound done [] at n c = absurd (Contains-none (at, n) (subst (λ fs. IsListed fs at n) (ends done) c))
   walk_sound done (x ∷ xs) at n c =
       elim (Contains-append_cases (cond (test done x) ((offset x, number) ∷ []) []) (walk (done ++ x ∷ []) xs) (at, n)
       (subst (λ fs. IsListed fs at n) (goes_on done x xs) c)) [
@@ -71,13 +47,13 @@ module _ {X : Type 0} (test : List X → X → Bool) (offset : X → ℕ) (numbe
       this true e own =
           let same = the_only (offset x, number) (at, n) own in
           (ap (λ f. f.1) (sym same), record { before = done; it = x; after = xs; parts = refl; holds = e; is_at = ap (λ f. f.0) same })
-      this false e own = none_in (at, n) own
+      this false e own = absurd (Contains-none (at, n) own)
 
   pub walk_complete : (done middle : List X) (x : X) (after : List X) → test (done ++ middle) x ≡ true → IsListed (walk done (middle ++ x ∷ after)) (offset x) number
   walk_complete done [] x after holds =
       subst (λ fs. IsListed fs (offset x) number) (sym (goes_on done x after))
       (Contains-append_left (cond (test done x) ((offset x, number) ∷ []) []) (walk (done ++ x ∷ []) after) (offset x, number)
-      (in_then (test done x) ((offset x, number) ∷ []) [] (offset x, number) (subst (λ ys. test ys x ≡ true) (append-nil done) holds) (here (offset x, number) [])))
+      (in_then (test done x) ((offset x, number) ∷ []) [] (offset x, number) (subst (λ ys. test ys x ≡ true) (append-nil done) holds) (Contains-first (offset x, number) [])))
   walk_complete done (y ∷ middle) x after holds =
       subst (λ fs. IsListed fs (offset x) number) (sym (goes_on done y (middle ++ x ∷ after)))
       (Contains-append_right (cond (test done y) ((offset y, number) ∷ []) []) (walk (done ++ y ∷ []) (middle ++ x ∷ after)) (offset x, number)

@@ -3,6 +3,7 @@ use Rattle.std.proofs.Common.{◌≡◌, ◌⊎◌, ℕ, zero, suc, ◌+◌, ◌
 use Rattle.std.specs.Prelude.{Contains, filter_map, slice_get}
 use Rattle.std.proofs.lemmas.List.{length-append, length-map}
 use Rattle.std.proofs.lemmas.Option.{slice_get_within}
+use Rattle.asm_state.proofs.Lists.{Contains-first, Contains-later}
 use Rattle.asm_state.specs.Universe.{element, elements}
 use Rattle.asm_state.specs.declared.function.FunctionKind.TheVariants as kind
 use Rattle.asm_syntax.specs.SourceTree as source
@@ -13,8 +14,8 @@ use Rattle.asm_check.specs.Numbers.{is_element, is_table}
 use Rattle.asm_check.specs.Shapes.{is_element_before, function_given}
 use Rattle.asm_check.specs.Listed.{elements_of_item, elements_in}
 use Rattle.asm_check.specs.Laws.{IsDeclaredBy}
-use Rattle.asm_check.proofs.Heights.{here, there}
-use Rattle.asm_check.proofs.ItemLists.{element_declarations, like, like_next, elements_dropped, count_like, AreNumbered}
+use Rattle.asm_check.proofs.ItemLists.{element_declarations, like_next, elements_dropped, count_like, AreNumbered}
+use Rattle.asm_check.specs.NumberTables.{like}
 
 -- what stands in two lists, one behind the other, stands in the first or in the second
 pub in_either : {X : Type 0} (xs ys : List X) (n : ℕ) (x : X) → slice_get (xs ++ ys) n ≡ Some x → (slice_get xs n ≡ Some x) ⊎ ((m : ℕ) × (n ≡ length xs + m) × (slice_get ys m ≡ Some x))
@@ -24,7 +25,8 @@ in_either (y ∷ xs) ys (suc n) x e = elim (in_either xs ys n x e) [ inl first �
 
 -- ---- elements
 
-kept_enumeration : (k : ℕ) (xs : List Name) → like is_element (element_declarations k xs) ≡ element_declarations k xs
+-- the elements of an enumeration are all of its declarations
+pub kept_enumeration : (k : ℕ) (xs : List Name) → like is_element (element_declarations k xs) ≡ element_declarations k xs
 kept_enumeration k [] = refl
 kept_enumeration k (x ∷ xs) = ap (λ ds. declares x (Element k) ∷ ds) (kept_enumeration k xs)
 
@@ -66,10 +68,10 @@ own_meaning k (source.NamedRule x xs P) n d e = cc
 -- so many elements in a row have each one of them
 pub in_row : (first count n : ℕ) → n < count → Contains (elements first count) (element (first + n))
 in_row first zero n h = absurd (omega (arith, h))
-in_row first (suc count) zero h = let same : first ≡ first + 0 = omega arith in subst (λ k. Contains (elements first (suc count)) (element k)) same (here (element first) (elements (first + 1) count))
+in_row first (suc count) zero h = let same : first ≡ first + 0 = omega arith in subst (λ k. Contains (elements first (suc count)) (element k)) same (Contains-first (element first) (elements (first + 1) count))
 in_row first (suc count) (suc n) h =
     let same : first + 1 + n ≡ first + suc n = omega arith in
-    subst (λ k. Contains (elements first (suc count)) (element k)) same (there (element first) (element (first + 1 + n)) (elements (first + 1) count) (in_row (first + 1) count n (omega (arith, h))))
+    subst (λ k. Contains (elements first (suc count)) (element k)) same (Contains-later (element first) (elements (first + 1) count) (element (first + 1 + n)) (in_row (first + 1) count n (omega (arith, h))))
 
 -- the n-th element of the items is the one so many numbers behind the first, and stands in the row of its own enumeration
 pub element_indexed : (all : List Declaration) (k first : ℕ) (items : List Item) → AreNumbered all k first items → (n j : ℕ) (d : Declaration) → slice_get (like is_element (declarations_from k items)) n ≡ Some d → d.meaning ≡ Element j
@@ -118,7 +120,7 @@ module _ (spec : Spec) where
   AreOfSpec items = (item : Item) → Contains items item → Contains spec.items item
 
   later : (item : Item) (items : List Item) → AreOfSpec (item ∷ items) → AreOfSpec items
-  later item items all other it = all other (there item other items it)
+  later item items all other it = all other (Contains-later item items other it)
 
   -- the function of each declaration of one
   pub function_indexed : (k : ℕ) (items : List Item) → AreOfSpec items → (f : ℕ) (d : Declaration) → slice_get (like is_table (declarations_from k items)) f ≡ Some d
@@ -134,7 +136,7 @@ module _ (spec : Spec) where
     domain = domain;
     codomain = codomain;
     table = table;
-    stands = all (source.Function x kind.Controlled domain codomain table) (here (source.Function x kind.Controlled domain codomain table) items);
+    stands = all (source.Function x kind.Controlled domain codomain table) (Contains-first (source.Function x kind.Controlled domain codomain table) items);
     declared_so = cc;
     given_so = refl;
   }
@@ -146,7 +148,7 @@ module _ (spec : Spec) where
     domain = domain;
     codomain = codomain;
     table = table;
-    stands = all (source.Function x kind.Static domain codomain table) (here (source.Function x kind.Static domain codomain table) items);
+    stands = all (source.Function x kind.Static domain codomain table) (Contains-first (source.Function x kind.Static domain codomain table) items);
     declared_so = cc;
     given_so = refl;
   }

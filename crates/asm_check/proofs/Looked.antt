@@ -5,6 +5,7 @@ use Rattle.std.specs.List.{position_or_len}
 use Rattle.std.specs.Option.{option_map_or}
 use Rattle.std.proofs.lemmas.Bool.{false≢true}
 use Rattle.std.proofs.lemmas.List.Elements.{Contains-append_left, Contains-append_right}
+use Rattle.asm_state.proofs.Lists.{Contains-cons_cases, Contains-none}
 use Rattle.asm_state.specs.declared.value.Value.{Value}
 use Rattle.asm_state.specs.Signature.{domain_in}
 use Rattle.asm_state.specs.Tables.{argument_lists}
@@ -17,7 +18,6 @@ use Rattle.asm_check.specs.Limits.{is_universe, product}
 use Rattle.asm_check.specs.Numbers.{universes_of}
 use Rattle.asm_check.specs.Shapes.{index_among, texts_of}
 use Rattle.asm_check.proofs.Firsts.{first_stands}
-use Rattle.asm_check.proofs.Heights.{none_in, head_or_tail}
 
 abbrev pub is_named : Text → Declaration → Bool
 is_named x d = is_text d.name.text x
@@ -78,9 +78,9 @@ known_universe (Some (names.Derived xs t)) e = absurd (false≢true e)
 known_universe (Some (names.NamedRule xs P)) e = absurd (false≢true e)
 
 pub used_somewhere : (items : List Item) (item : Item) (u : names.Use) → Contains items item → Contains (uses_of item) u → Contains (flat_map uses_of items) u
-used_somewhere [] item u it own = none_in item it
+used_somewhere [] item u it own = absurd (Contains-none item it)
 used_somewhere (head ∷ items) item u it own =
-    elim (head_or_tail head item items it) [
+    elim (Contains-cons_cases head items item it) [
       | inl e ↦ Contains-append_left (uses_of head) (flat_map uses_of items) u (subst (λ i. Contains (uses_of i) u) (sym e) own)
       | inr rest ↦ Contains-append_right (uses_of head) (flat_map uses_of items) u (used_somewhere items item u rest own)
     ]

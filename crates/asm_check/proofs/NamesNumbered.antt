@@ -14,20 +14,9 @@ use Rattle.asm_check.specs.Names as names
 use Rattle.asm_check.specs.Names.{Text, Declaration, Meaning, is_text, first_declarations, declared}
 use Rattle.asm_check.specs.Numbers.{is_element, is_table, is_derived, all_of, number_in, named_as, named, meaning_at}
 use Rattle.asm_check.proofs.Firsts.{first_stands}
+use Rattle.asm_check.proofs.Looked.{find_kept}
 
 -- ---- the first that passes
-
--- it is also the first among those that pass another test, if it passes that one too
-first_kept : {X : Type 0} (p q : X → Bool) (xs : List X) (x : X) → find p xs ≡ Some x → q x ≡ true → find p (filter q xs) ≡ Some x
-first_kept p q [] x found kept = cc
-first_kept p q (y ∷ ys) x found kept = by_tests (p y) refl (q y) refl found (first_kept p q ys x)
-  where
-    by_tests : (b : Bool) → p y ≡ b → (c : Bool) → q y ≡ c → cond b (Some y) (find p ys) ≡ Some x
-        → (find p ys ≡ Some x → q x ≡ true → find p (filter q ys) ≡ Some x) → find p (cond c (y ∷ filter q ys) (filter q ys)) ≡ Some x
-    by_tests true here true e found rest = ap (λ b. cond b (Some y) (find p (filter q ys))) here ∙ found
-    by_tests true here false e found rest = let same : y ≡ x = cc in let bad : true ≡ false = sym kept ∙ ap q (sym same) ∙ e in cc
-    by_tests false other true e found rest = ap (λ b. cond b (Some y) (find p (filter q ys))) other ∙ rest found kept
-    by_tests false other false e found rest = rest found kept
 
 -- it stands at the position of the first that passes
 at_position : {X : Type 0} (p : X → Bool) (xs : List X) (x : X) → find p xs ≡ Some x → (n : ℕ) × (position p xs ≡ Some n) × (slice_get xs n ≡ Some x)
@@ -57,7 +46,7 @@ module _ (spec : Spec) (x : Text) where
     index_like is_like kind =
         let d = declared_by (find (λ d. is_text d.name.text x) (first_declarations spec)) m (first_stands spec x ∙ means) in
         let at = at_position (λ (d : Declaration). is_text d.name.text x) (all_of is_like spec) d.0
-        (first_kept (λ (d : Declaration). is_text d.name.text x) (λ (d : Declaration). is_like d.meaning) (first_declarations spec) d.0 d.1 (ap is_like d.2 ∙ kind)) in
+        (find_kept (λ (d : Declaration). is_text d.name.text x) (λ (d : Declaration). is_like d.meaning) (first_declarations spec) d.0 d.1 (ap is_like d.2 ∙ kind)) in
         (at.0, at.1, ap (option_map (λ (d : Declaration). d.meaning)) at.2 ∙ ap (λ m. Some m) d.2)
 
     leads_by : (is_like : Meaning → Bool) (make : ℕ → Named) → is_like m ≡ true → named_as spec x (Some m) ≡ option_map make (number_in (all_of is_like spec) x)

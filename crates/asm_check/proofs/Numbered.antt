@@ -8,6 +8,7 @@ use Rattle.std.specs.Option.{option_flatten}
 use Rattle.std.proofs.lemmas.Bool.Decides.{nat_tests}
 use Rattle.std.proofs.lemmas.List.Elements.{filter-append}
 use Rattle.std.proofs.lemmas.Option.{slice_get-map}
+use Rattle.std.proofs.lemmas.Bool.{or_right}
 use Rattle.indexmap.specs.IndexMap.{insert_entry}
 use Rattle.asm_syntax.specs.SourceTree.{Spec}
 use Rattle.asm_check.specs.declared.checked.Named.{Named}
@@ -128,11 +129,7 @@ among_at : (ds : List Declaration) (i : ℕ) (d : Declaration) → slice_get ds 
 among_at [] i d at = cc
 among_at (c ∷ cs) zero d at = let same : c ≡ d = cc in subst (λ (z : Declaration). (is_text c.name.text z.name.text || is_among (texts_of cs) z.name.text) ≡ true) same
     (ap (λ b. b || is_among (texts_of cs) c.name.text) (text_itself c.name.text))
-among_at (c ∷ cs) (suc i) d at = either (is_text c.name.text d.name.text) (is_among (texts_of cs) d.name.text) (among_at cs i d at)
-  where
-    either : (a b : Bool) → b ≡ true → (a || b) ≡ true
-    either true b e = refl
-    either false b e = e
+among_at (c ∷ cs) (suc i) d at = or_right (is_text c.name.text d.name.text) (is_among (texts_of cs) d.name.text) (among_at cs i d at)
 
 new_at : (ds : List Declaration) → AreApart (texts_of ds) → (i : ℕ) (d : Declaration) → slice_get ds i ≡ Some d → is_among (texts_of (take i ds)) d.name.text ≡ false
 new_at [] apart i d at = cc

@@ -3,6 +3,7 @@ use Rattle.std.proofs.Common.{◌≡◌, ◌≢◌, ℕ, ◌<◌, Bool, true, fa
 use Rattle.std.specs.Prelude.{Contains, filter}
 use Rattle.std.proofs.lemmas.Bool.{false≢true}
 use Rattle.std.proofs.lemmas.List.Elements.{Contains-append_left, Contains-append_right}
+use Rattle.asm_state.proofs.Lists.{Contains-cons_cases, Contains-first, Contains-later, Contains-map, Contains-none}
 use Rattle.asm_syntax.specs.SourceTree.{Name, Term, Constant, Named, Chain, Not, Negative, Exists, Every, Terms, no_terms, term_then, Links, no_links, link_then, Rule, Skip, Assign, Call, Par, Seq, If, Let, Forall, Choose, Iterate, Rules, no_rules, rule_then, Branch, left_out, written, Spec}
 use Rattle.asm_check.specs.Names as names
 use Rattle.asm_check.specs.Names.{Text, Meaning, NamedRule, Derived, Role, InTerm, AsRule, Use, use_of, term_count, is_known, is_among, text_of, declared, uses, uses_of_rule, uses_of_rules, uses_of_branch, uses_of_term, uses_of_terms, uses_of_links, uses_of_test}
@@ -12,7 +13,7 @@ use Rattle.asm_check.specs.Faults.{IsWellFormed, IsCyclic, is_known_use, unknown
 use Rattle.asm_check.specs.Ranks as ranks
 use Rattle.asm_check.specs.Ranks.{IsCallable, CallsBelow, EachCallsBelow, BranchCallsBelow, UsesBelow, EachUsesBelow, LinksUseBelow, HasRanks}
 use Rattle.asm_check.specs.Laws.{RanksExist}
-use Rattle.asm_check.proofs.Heights.{here, there, none_in, head_or_tail, in_map, AreRanks, heights_are_ranks}
+use Rattle.asm_check.proofs.Heights.{AreRanks, heights_are_ranks}
 use Rattle.asm_check.proofs.Declared.{first_is, body_uses}
 
 -- ---- from facts on the uses in a body to facts on its calls
@@ -28,13 +29,13 @@ module _ (spec : Spec) (rank : Text → ℕ) (n : ℕ) where
   last_part us vs h u c = h u (Contains-append_right us vs u c)
 
   tail : (u : Use) (us : List Use) → CallsAreBelow (u ∷ us) → CallsAreBelow us
-  tail u us h v c = h v (there u v us c)
+  tail u us h v c = h v (Contains-later u us v c)
 
   mutual
     calls_below : (R : Rule) (bound : List Text) → CallsAreBelow (uses_of_rule R bound) → CallsBelow spec rank n R
     calls_below Skip bound h = tt
     calls_below (Assign f ts t) bound h = tt
-    calls_below (Call f ts) bound h = h (use_of AsRule f (term_count ts) bound) (here _ (uses_of_terms ts bound)) refl
+    calls_below (Call f ts) bound h = h (use_of AsRule f (term_count ts) bound) (Contains-first _ (uses_of_terms ts bound)) refl
     calls_below (Par Ps) bound h = each_below Ps bound h
     calls_below (Seq Ps) bound h = each_below Ps bound h
     calls_below (If t P Q) bound h =
@@ -76,13 +77,13 @@ module _ (spec : Spec) (rank : Text → ℕ) (n : ℕ) where
   back_uses us vs h u c = h u (Contains-append_right us vs u c)
 
   tail_uses : (u : Use) (us : List Use) → UsesAreBelow (u ∷ us) → UsesAreBelow us
-  tail_uses u us h v c = h v (there u v us c)
+  tail_uses u us h v c = h v (Contains-later u us v c)
 
   mutual
     uses_below : (t : Term) (bound : List Text) → UsesAreBelow (uses_of_term t bound) → UsesBelow spec rank n t bound
     uses_below (Constant v) bound h = tt
     uses_below (Named x ts) bound h = (
-      λ free xs t is. h (use_of InTerm x (term_count ts) bound) (here _ (uses_of_terms ts bound)) refl free xs t is,
+      λ free xs t is. h (use_of InTerm x (term_count ts) bound) (Contains-first _ (uses_of_terms ts bound)) refl free xs t is,
       each_uses ts bound (tail_uses _ (uses_of_terms ts bound) h),
     )
     uses_below (Chain t links) bound h = (
@@ -111,11 +112,11 @@ module _ (spec : Spec) (rank : Text → ℕ) (n : ℕ) where
 -- ---- no long ways
 
 pub in_filter : {X : Type 0} (p : X → Bool) (xs : List X) (x : X) → p x ≡ true → Contains xs x → Contains (filter p xs) x
-in_filter p [] x e c = none_in x c
+in_filter p [] x e c = absurd (Contains-none x c)
 in_filter {X = X} p (y ∷ ys) x e c =
     elim (p y) as (λ b. p y ≡ b → Contains (cond b (y ∷ filter p ys) (filter p ys)) x) [
-      | true ↦ λ e'. elim (head_or_tail y x ys c) [ inl s ↦ subst (λ z. Contains (y ∷ filter p ys) z) s (here y (filter p ys)) | inr rest ↦ there y x (filter p ys) (in_filter p ys x e rest) ]
-      | false ↦ λ no'. elim (head_or_tail y x ys c) [ inl s ↦ absurd (false≢true (sym no' ∙ ap p s ∙ e)) | inr rest ↦ in_filter p ys x e rest ]
+      | true ↦ λ e'. elim (Contains-cons_cases y ys x c) [ inl s ↦ subst (λ z. Contains (y ∷ filter p ys) z) s (Contains-first y (filter p ys)) | inr rest ↦ Contains-later y (filter p ys) x (in_filter p ys x e rest) ]
+      | false ↦ λ no'. elim (Contains-cons_cases y ys x c) [ inl s ↦ absurd (false≢true (sym no' ∙ ap p s ∙ e)) | inr rest ↦ in_filter p ys x e rest ]
     ] refl
 
 -- a name from which a step leads is declared
@@ -128,8 +129,8 @@ starts_declared spec starts none f g c = go (declared spec f) refl c
     go None e c = absurd (no_item (starts None) none c)
       where
         no_item : (us : List Use) → ((u : Use) → ¬ (Contains us u)) → ¬ (Contains (map (λ u. u.name.text) us) g)
-        no_item [] h c = none_in g c
-        no_item (u ∷ us) h c = h u (here u us)
+        no_item [] h c = absurd (Contains-none g c)
+        no_item (u ∷ us) h c = h u (Contains-first u us)
 
 module _ (spec : Spec) (next : Text → List Text)
     (begun : (f g : Text) → Contains (next f) g → (m : Meaning) × (declared spec f ≡ Some m))
@@ -146,7 +147,7 @@ module _ (spec : Spec) (next : Text → List Text)
       acyclic first.it.name.at
       (record {
         member = first.it;
-        stands = subst (λ ds. Contains ds first.it) (sym first.parts) (Contains-append_right first.before (first.it ∷ first.after) first.it (here first.it first.after));
+        stands = subst (λ ds. Contains ds first.it) (sym first.parts) (Contains-append_right first.before (first.it ∷ first.after) first.it (Contains-first first.it first.after));
         back = subst (λ x. LeadsTo next x x) (sym first.name) back;
         offset = refl;
       })
@@ -164,11 +165,11 @@ module _ (spec : Spec) (next : Text → List Text)
 
 pub rules_begun : (spec : Spec) (f g : Text) → Contains (called spec f) g → (m : Meaning) × (declared spec f ≡ Some m)
 unfolding called
-rules_begun spec f g c = starts_declared spec (calls_in spec) (λ u bad. none_in u bad) f g c
+rules_begun spec f g c = starts_declared spec (calls_in spec) (λ u bad. absurd (Contains-none u bad)) f g c
 
 pub derived_begun : (spec : Spec) (f g : Text) → Contains (used spec f) g → (m : Meaning) × (declared spec f ≡ Some m)
 unfolding used
-derived_begun spec f g c = starts_declared spec (uses_in spec) (λ u bad. none_in u bad) f g c
+derived_begun spec f g c = starts_declared spec (uses_in spec) (λ u bad. absurd (Contains-none u bad)) f g c
 
 rules_ranked : (spec : Spec) → IsWellFormed spec → AreRanks (called spec) (height (called spec) 17)
 rules_ranked spec good =
@@ -189,7 +190,7 @@ in_called : (spec : Spec) (f : Text) (xs : List Name) (P : Rule) → declared sp
 unfolding called
 in_called spec f xs P is u c e =
     subst (λ m. Contains (map (λ u. u.name.text) (calls_in spec m)) u.name.text) (sym is)
-    (in_map (λ u. u.name.text) (calls_in spec (Some (NamedRule xs P))) u
+    (Contains-map (λ u. u.name.text) (calls_in spec (Some (NamedRule xs P))) u
     (in_filter (λ u. is_call u.role (declared spec u.name.text)) (uses_of_rule P (map text_of xs)) u e c))
 
 in_used : (spec : Spec) (f : Text) (xs : List Name) (t : Term) → declared spec f ≡ Some (Derived xs t)
@@ -197,7 +198,7 @@ in_used : (spec : Spec) (f : Text) (xs : List Name) (t : Term) → declared spec
 unfolding used
 in_used spec f xs t is u c e =
     subst (λ m. Contains (map (λ u. u.name.text) (uses_in spec m)) u.name.text) (sym is)
-    (in_map (λ u. u.name.text) (uses_in spec (Some (Derived xs t))) u
+    (Contains-map (λ u. u.name.text) (uses_in spec (Some (Derived xs t))) u
     (in_filter (λ u. is_use u.role u.is_bound (declared spec u.name.text)) (uses_of_term t (map text_of xs)) u e c))
 
 -- what is known as called is a rule

@@ -9,6 +9,7 @@ use Rattle.std.proofs.lemmas.Bool.Decides.{nat_tests}
 use Rattle.std.proofs.lemmas.List.{length-map, map-append, take-map, take_more}
 use Rattle.std.proofs.lemmas.List.Elements.{filter_map-append}
 use Rattle.std.proofs.lemmas.Option.{slice_get-map, slice_get_within, slice_get-get_or}
+use Rattle.std.proofs.lemmas.Bool.{or_right}
 use Rattle.asm_syntax.specs.declared.name.Name as code_name
 use Rattle.asm_syntax.specs.declared.spec.Spec as code
 use Rattle.asm_syntax.specs.declared.spec.Item as item
@@ -109,11 +110,7 @@ is_there is_like (d ∷ ds) x m found kind = by_text (is_text d.name.text x) ref
   where
     in_rest : (b c : Bool) → list_any (λ (d : Declaration). is_text d.name.text x) (like is_like ds) ≡ true
         → list_any (λ (d : Declaration). is_text d.name.text x) (cond b (d ∷ like is_like ds) (like is_like ds)) ≡ true
-    in_rest true c e = or_true (is_text d.name.text x) (list_any (λ (d : Declaration). is_text d.name.text x) (like is_like ds)) e
-      where
-        or_true : (a b : Bool) → b ≡ true → (a || b) ≡ true
-        or_true true b e = refl
-        or_true false b e = e
+    in_rest true c e = or_right (is_text d.name.text x) (list_any (λ (d : Declaration). is_text d.name.text x) (like is_like ds)) e
     in_rest false c e = e
 
     by_text : (b : Bool) → is_text d.name.text x ≡ b → option_map (λ (d : Declaration). d.meaning) (cond b (Some d) (find (λ d. is_text d.name.text x) ds)) ≡ Some m

@@ -1,37 +1,16 @@
 -- Names that stand in a list once more.
 use Rattle.std.proofs.Common.{◌≡◌, ℕ, Bool, true, false, cond, ◌||◌, List, [], ◌∷◌, ◌++◌, map, refl, sym, ap, subst, ◌∙◌}
+use Rattle.std.proofs.Math.Bool.{or-false}
 use Rattle.asm_syntax.specs.SourceTree.{Name}
 use Rattle.asm_check.specs.Names.{Text, is_text, is_among, text_of}
 use Rattle.asm_check.specs.FaultLists.{repeats, at_with}
 use Rattle.asm_check.proofs.Declared.{same_text}
-
-or_false : (b : Bool) → b ≡ (b || false)
-or_false true = refl
-or_false false = refl
-
-turned : (a b c : Bool) → ((b || a) || c) ≡ (a || (b || c))
-turned true true true = refl
-turned true true false = refl
-turned true false true = refl
-turned true false false = refl
-turned false true true = refl
-turned false true false = refl
-turned false false true = refl
-turned false false false = refl
-
-covered : (before : List Text) (c x : Text) (rest : Bool) → is_among before c ≡ true → (is_among before x || rest) ≡ (is_among before x || (is_text c x || rest))
-covered before c x rest there = by_text (is_text c x) refl
-  where
-    by_text : (b : Bool) → is_text c x ≡ b → (is_among before x || rest) ≡ (is_among before x || (b || rest))
-    by_text true is =
-        let known : is_among before x ≡ true = subst (λ z. is_among before z ≡ true) (same_text c x is) there in
-        ap (λ b. b || rest) known ∙ sym (ap (λ b. b || true) known)
-    by_text false is = refl
+use Rattle.asm_check.proofs.Firsts.{covered, turn}
 
 -- one more name
 pub repeats_one : (before : List Text) (xs : List Name) (x : Name)
     → repeats before (xs ++ x ∷ []) ≡ repeats before xs ++ cond (is_among before x.text || is_among (map text_of xs) x.text) (x.at ∷ []) []
-repeats_one before [] x = ap (λ b. cond b (x.at ∷ []) []) (or_false (is_among before x.text))
+repeats_one before [] x = ap (λ b. cond b (x.at ∷ []) []) (sym (or-false (is_among before x.text)))
 repeats_one before (c ∷ xs) x = by_known (is_among before c.text) refl (repeats_one before xs x) (repeats_one (c.text ∷ before) xs x)
   where
     by_known : (b : Bool) → is_among before c.text ≡ b
@@ -43,7 +22,7 @@ repeats_one before (c ∷ xs) x = by_known (is_among before c.text) refl (repeat
         ap (λ ys. c.at ∷ ys) same
         ∙ ap (λ b. c.at ∷ (repeats before xs ++ cond b (x.at ∷ []) [])) (covered before c.text x.text (is_among (map text_of xs) x.text) known)
     by_known false new same more =
-        more ∙ ap (λ b. repeats (c.text ∷ before) xs ++ cond b (x.at ∷ []) []) (turned (is_among before x.text) (is_text c.text x.text) (is_among (map text_of xs) x.text))
+        more ∙ ap (λ b. repeats (c.text ∷ before) xs ++ cond b (x.at ∷ []) []) (turn (is_among before x.text) (is_text c.text x.text) (is_among (map text_of xs) x.text))
 
 pub at_with_append : (number : ℕ) (xs ys : List ℕ) → at_with number (xs ++ ys) ≡ at_with number xs ++ at_with number ys
 at_with_append number [] ys = refl

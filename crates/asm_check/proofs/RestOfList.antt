@@ -2,7 +2,7 @@
 use Rattle.std.proofs.Common.{◌≡◌, ℕ, suc, ◌+◌, ◌<◌, ◌≤◌, List, [], ◌∷◌, ◌++◌, map, length, drop, get_or, drop-cons, drop_of_length-le, append_assoc, sym, ap, subst, ◌∙◌, arith}
 use Rattle.std.specs.Prelude.{Contains, filter_map, Some, None, Option}
 use Rattle.std.specs.List.{cons_option}
-use Rattle.asm_check.proofs.Heights.{in_map}
+use Rattle.asm_state.proofs.Lists.{Contains-map}
 
 -- the rest of a list from an index on
 pub next_of : {X : Type 0} (xs : List X) (i : ℕ) (x : X) → i < length xs → x ≡ get_or xs i x → drop i xs ≡ x ∷ drop (suc i) xs
@@ -14,7 +14,7 @@ at_end items seen i same h = subst (λ xs. drop i xs ≡ []) same (drop_of_lengt
 
 -- the item at an index is among the items
 pub item_among : {X Y : Type 0} (g : X → Y) (items seen : List X) (i : ℕ) (x : X) → seen ≡ items → i < length seen → x ≡ get_or seen i x → Contains (map g items) (g x)
-item_among g items seen i x same h is = in_map g items x (subst (λ xs. Contains xs x) same (i, h, sym is))
+item_among g items seen i x same h is = Contains-map g items x (subst (λ xs. Contains xs x) same (i, h, sym is))
 
 -- the same where each item has one thing or none
 module _ {X Y A : Type 0} (f : Y → Option A) (g : X → Y) (before all : List A) (items seen : List X) (i : ℕ) (x : X) (same : seen ≡ items) (h : i < length seen) (is : x ≡ get_or seen i x) where

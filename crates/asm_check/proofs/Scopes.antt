@@ -6,12 +6,14 @@ use Rattle.std.proofs.lemmas.Slice.Eq.{bytes_eq-Decides}
 use Rattle.std.proofs.lemmas.List.{map-append, map_more}
 use Rattle.std.proofs.lemmas.List.Folds.{list_any-append}
 use Rattle.std.proofs.lemmas.List.Sorted.{list_any-IsPermutation, IsPermutation-reverse}
+use Rattle.std.proofs.Math.Bool.{or-false, or-true}
 use Rattle.asm_syntax.specs.SourceTree.{Name, Term, Constant, Named, Chain, Not, Negative, Exists, Every, Terms, no_terms, term_then, Links, no_links, link_then, Rule, Skip, Assign, Call, Par, Seq, If, Let, Forall, Choose, Iterate, Rules, no_rules, rule_then, Branch, left_out, written}
 use Rattle.indexmap.specs.IndexSet.{insert_key}
 use Rattle.asm_syntax.specs.declared.name.Name as code
 use Rattle.asm_syntax.specs.Views.{name_of}
 use Rattle.asm_check.specs.Names.{Text, text_of, is_text, is_among, Role, InTerm, AsTarget, AsRule, AsUniverse, Use, use_of, plain_use, term_count, uses_of_term, uses_of_terms, uses_of_links, uses_of_test, uses_of_rule, uses_of_rules, uses_of_branch}
 use Rattle.asm_check.specs.Collected.{IsSameScope}
+use Rattle.asm_check.proofs.Declared.{same_text}
 
 pub nat_symmetric : (x y : ℕ) → nat_eq x y ≡ nat_eq y x
 nat_symmetric x y = grind (arith, nat_tests)
@@ -21,9 +23,6 @@ text_symmetric [] [] = refl
 text_symmetric [] (y ∷ ys) = refl
 text_symmetric (x ∷ xs) [] = refl
 text_symmetric (x ∷ xs) (y ∷ ys) = rw (nat_symmetric x y, text_symmetric xs ys) refl
-
-pub same_text : (x y : Text) → is_text x y ≡ true → x ≡ y
-same_text x y e = (bytes_eq-Decides x y).0 e
 
 pub among_reverse : (xs : List Text) (x : Text) → is_among (reverse xs) x ≡ is_among xs x
 among_reverse xs x = sym (list_any-IsPermutation (λ y. is_text y x) xs (reverse xs) (IsPermutation-reverse xs))
@@ -46,28 +45,20 @@ among_bound bs ps x =
 
 -- ---- the parameters, as a set of texts
 
-or_false : (b : Bool) → (b || false) ≡ b
-or_false true = refl
-or_false false = refl
-
-or_true : (b : Bool) → (b || true) ≡ true
-or_true true = refl
-or_true false = refl
-
 -- a text that is there already adds nothing
 pub covered : (ks : List (Bor Text)) (k : Bor Text) (x : Text) → list_any (λ b. is_text k.now b.now) ks ≡ true → (is_among (map (λ p. p.now) ks) x || is_text k.now x) ≡ is_among (map (λ p. p.now) ks) x
 covered ks k x found = by_case (is_text k.now x) refl
   where
     by_case : (b : Bool) → is_text k.now x ≡ b → (is_among (map (λ p. p.now) ks) x || b) ≡ is_among (map (λ p. p.now) ks) x
-    by_case false e = or_false (is_among (map (λ p. p.now) ks) x)
-    by_case true e = or_true (is_among (map (λ p. p.now) ks) x) ∙ sym (ap (is_among (map (λ p. p.now) ks)) (sym (same_text k.now x e)) ∙ among_parameters ks k.now ∙ found)
+    by_case false e = or-false (is_among (map (λ p. p.now) ks) x)
+    by_case true e = or-true (is_among (map (λ p. p.now) ks) x) ∙ sym (ap (is_among (map (λ p. p.now) ks)) (sym (same_text k.now x e)) ∙ among_parameters ks k.now ∙ found)
 
 pub among_inserted : (ks : List (Bor Text)) (k : Bor Text) (x : Text) → is_among (map (λ p. p.now) (insert_key (λ a b. is_text a.now b.now) ks k)) x ≡ (is_among (map (λ p. p.now) ks) x || is_text k.now x)
 among_inserted ks k x = by_case (list_any (λ b. is_text k.now b.now) ks) refl
   where
     by_case : (b : Bool) → list_any (λ p. is_text k.now p.now) ks ≡ b → is_among (map (λ p. p.now) (if b then ks else ks ++ k ∷ [])) x ≡ (is_among (map (λ p. p.now) ks) x || is_text k.now x)
     by_case true e = sym (covered ks k x e)
-    by_case false e = ap (λ ys. is_among ys x) (map-append (λ p. p.now) ks (k ∷ [])) ∙ list_any-append (λ y. is_text y x) (map (λ p. p.now) ks) (k.now ∷ []) ∙ ap (λ b. is_among (map (λ p. p.now) ks) x || b) (or_false (is_text k.now x))
+    by_case false e = ap (λ ys. is_among ys x) (map-append (λ p. p.now) ks (k ∷ [])) ∙ list_any-append (λ y. is_text y x) (map (λ p. p.now) ks) (k.now ∷ []) ∙ ap (λ b. is_among (map (λ p. p.now) ks) x || b) (or-false (is_text k.now x))
 
 -- one more parameter
 pub one_more_parameter : (ks new : List (Bor Text)) (k : Bor Text) (xs : List code.Name) (i : ℕ) (item : code.Name) → i < length xs → item ≡ get_or xs i item → k.now ≡ item.text → new ≡ insert_key (λ a b. is_text a.now b.now) ks k
@@ -76,7 +67,7 @@ one_more_parameter ks new k xs i item below is text keys same x =
     let more : map text_of (map name_of (take (i + 1) xs)) ≡ map text_of (map name_of (take i xs)) ++ item.text ∷ [] =
     ap (map text_of) (map_more name_of xs i item below) ∙ map-append text_of (map name_of (take i xs)) (name_of (get_or xs i item) ∷ []) ∙ ap (λ (n : code.Name). map text_of (map name_of (take i xs)) ++ n.text ∷ []) (sym is) in
     ap (λ ys. is_among (map (λ p. p.now) ys) x) keys ∙ among_inserted ks k x ∙ ap (λ b. b || is_text k.now x) (same x) ∙ ap (λ t. is_among (map text_of (map name_of (take i xs))) x || is_text t x) text
-    ∙ sym (ap (λ ys. is_among ys x) more ∙ list_any-append (λ y. is_text y x) (map text_of (map name_of (take i xs))) (item.text ∷ []) ∙ ap (λ b. is_among (map text_of (map name_of (take i xs))) x || b) (or_false (is_text item.text x)))
+    ∙ sym (ap (λ ys. is_among ys x) more ∙ list_any-append (λ y. is_text y x) (map text_of (map name_of (take i xs))) (item.text ∷ []) ∙ ap (λ b. is_among (map text_of (map name_of (take i xs))) x || b) (or-false (is_text item.text x)))
 
 -- ---- only the bound names matter
 

@@ -5,6 +5,7 @@ use Rattle.std.specs.Cmp.Lexicographic.{pointwise}
 use Rattle.std.specs.List.{list_any}
 use Rattle.std.proofs.lemmas.Grind.{flat_map-append}
 use Rattle.std.proofs.lemmas.List.{map-append, take_more}
+use Rattle.std.proofs.Math.Bool.{or-false, not-not}
 use Rattle.indexmap.specs.IndexSet.{insert_key}
 use Rattle.asm_syntax.specs.SourceTree.{Name, Item}
 use Rattle.asm_check.specs.Names.{Text, is_text, is_among, text_of}
@@ -18,11 +19,7 @@ use Rattle.asm_check.proofs.Noted.{noted_after}
 use Rattle.asm_check.proofs.Repeats.{repeated_one, at_with_append}
 
 any_one : {X : Type 0} (p : X → Bool) (xs : List X) (x : X) → list_any p (xs ++ x ∷ []) ≡ (list_any p xs || p x)
-any_one p [] x = or_false (p x)
-  where
-    or_false : (b : Bool) → (b || false) ≡ b
-    or_false true = refl
-    or_false false = refl
+any_one p [] x = or-false (p x)
 any_one p (y ∷ ys) x = by_test (p y) (any_one p ys x)
   where
     by_test : (b : Bool) → list_any p (ys ++ x ∷ []) ≡ (list_any p ys || p x) → (b || list_any p (ys ++ x ∷ [])) ≡ ((b || list_any p ys) || p x)
@@ -36,26 +33,18 @@ among_one xs x y = ap (λ ts. is_among ts y) (map-append text_of xs (x ∷ [])) 
 covers : (texts : List Text) (c x : Text) → is_among texts c ≡ true → is_among texts x ≡ (is_among texts x || is_text c x)
 covers texts c x there = by_text (is_text c x) refl
   where
-    same : (b : Bool) → b ≡ (b || false)
-    same true = refl
-    same false = refl
-
     by_text : (b : Bool) → is_text c x ≡ b → is_among texts x ≡ (is_among texts x || b)
     by_text true is =
         let known : is_among texts x ≡ true = subst (λ z. is_among texts z ≡ true) (same_text c x is) there in
         known ∙ sym (ap (λ b. b || true) known)
-    by_text false is = same (is_among texts x)
+    by_text false is = sym (or-false (is_among texts x))
 
 abbrev keys_with : List (Bor (List ℕ)) → Bor (List ℕ) → List (Bor (List ℕ))
 keys_with = insert_key (λ (a b : Bor (List ℕ)). pointwise nat_eq a.now b.now)
 
 module _ (first : Option (ℕ × ℕ)) (xs : List Name) (keys : List (Bor (List ℕ))) (found : Option (ℕ × ℕ)) (x : Name) (key : Bor (List ℕ)) (it : IsSeen first xs keys found) (is : key.now ≡ x.text) where
   there_or_not : (b : Bool) → b ≡ not (list_any (is_key key.now) keys) → is_among (map text_of xs) x.text ≡ not b
-  there_or_not b e = sym (ap not e ∙ twice (list_any (is_key key.now) keys) ∙ it.seen key.now ∙ ap (is_among (map text_of xs)) is)
-    where
-      twice : (c : Bool) → not (not c) ≡ c
-      twice true = refl
-      twice false = refl
+  there_or_not b e = sym (ap not e ∙ not-not (list_any (is_key key.now) keys) ∙ it.seen key.now ∙ ap (is_among (map text_of xs)) is)
 
   -- a name that was seen
   seen_again : (keys' : List (Bor (List ℕ))) (found' : Option (ℕ × ℕ)) → false ≡ not (list_any (is_key key.now) keys) → keys' ≡ keys_with keys key → found' ≡ noted found ((x.at, 8) ∷ [])

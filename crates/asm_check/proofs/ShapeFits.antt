@@ -18,7 +18,7 @@ use Rattle.asm_check.specs.Numbers.{universes_of}
 use Rattle.asm_check.specs.Sizes.{total}
 use Rattle.asm_check.specs.Laws.{SignatureFits}
 use Rattle.asm_check.specs.Shapes.{universe_values, function_given, shape_of}
-use Rattle.asm_check.proofs.ItemLists.{like, like_next}
+use Rattle.asm_check.proofs.ItemLists.{like_next}
 use Rattle.asm_check.proofs.Sizes.{limits_hold}
 use Rattle.asm_check.proofs.Sized.{total_ones, few_universes}
 use Rattle.asm_check.proofs.Valued.{length_values}
@@ -26,6 +26,7 @@ use Rattle.asm_check.proofs.Domains.{each_function, domain_fits}
 use Rattle.asm_check.proofs.TableValues.{table_fits}
 use Rattle.asm_check.proofs.Totals.{locations_few, statics_few}
 use Rattle.asm_check.proofs.Sole.{all_like}
+use Rattle.asm_check.specs.NumberTables.{like}
 
 module _ (spec : Spec) (good : IsWellFormed spec) where
   abbrev values : Declaration → List Value

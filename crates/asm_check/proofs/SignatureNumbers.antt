@@ -10,10 +10,10 @@ use Rattle.asm_check.specs.Faults.{IsWellFormed}
 use Rattle.asm_check.specs.Numbers.{is_element, is_table, universes_of, elements_of, functions_of}
 use Rattle.asm_check.specs.Shapes.{universe_values, shape_of}
 use Rattle.asm_check.specs.Laws.{SignatureNumbers}
-use Rattle.asm_check.proofs.ItemLists.{like}
 use Rattle.asm_check.proofs.ListedDeclarations.{length_elements, element_indexed, length_functions, function_indexed}
 use Rattle.asm_check.proofs.Sized.{all_numbered, few_elements}
 use Rattle.asm_check.proofs.Sole.{all_like}
+use Rattle.asm_check.specs.NumberTables.{like}
 
 module _ (spec : Spec) (good : IsWellFormed spec) where
   elements_all : elements_of spec ≡ like is_element (declarations_from 0 spec.items)

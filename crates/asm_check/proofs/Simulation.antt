@@ -1,26 +1,17 @@
 -- Ways of one graph, as ways of another that it is a picture of.
 use Rattle.std.proofs.Common.{◌≡◌, ℕ, zero, suc, List, [], ◌∷◌, map, refl, sym, ap, subst, inl, inr}
 use Rattle.std.specs.Prelude.{Contains}
+use Rattle.asm_state.proofs.Lists.{Contains-from_map, Contains-map}
 use Rattle.asm_check.specs.Ways.{LeadsTo, at_once, by_way_of, ReachesCycle, IsOnWay}
-use Rattle.asm_check.proofs.Heights.{here, there, none_in, head_or_tail, in_map}
-
--- what stands in a mapped list comes of a member
-pub out_of_map : {X Y : Type 0} (f : X → Y) (xs : List X) (y : Y) → Contains (map f xs) y → (x : X) × Contains xs x × (f x ≡ y)
-out_of_map f [] y c = none_in y c
-out_of_map f (x ∷ xs) y c =
-    elim (head_or_tail (f x) y (map f xs) c) [
-      | inl e ↦ (x, here x xs, e)
-      | inr rest ↦ let it = out_of_map f xs y rest in (it.0, there x it.0 xs it.1, it.2)
-    ]
 
 module _ {A B : Type 0} (next : A → List A) (onward : B → List B) (h : A → B) (IsInside : A → Type 0)
     (same : (a : A) → IsInside a → map h (next a) ≡ onward (h a))
     (closed : (a b : A) → IsInside a → Contains (next a) b → IsInside b) where
   step : (a b : A) → IsInside a → Contains (next a) b → Contains (onward (h a)) (h b)
-  step a b inside c = subst (λ ys. Contains ys (h b)) (same a inside) (in_map h (next a) b c)
+  step a b inside c = subst (λ ys. Contains ys (h b)) (same a inside) (Contains-map h (next a) b c)
 
   back_step : (a : A) (y : B) → IsInside a → Contains (onward (h a)) y → (b : A) × Contains (next a) b × (h b ≡ y)
-  back_step a y inside c = out_of_map h (next a) y (subst (λ ys. Contains ys y) (sym (same a inside)) c)
+  back_step a y inside c = Contains-from_map h (next a) y (subst (λ ys. Contains ys y) (sym (same a inside)) c)
 
   pub leads : {a b : A} → IsInside a → LeadsTo next a b → LeadsTo onward (h a) (h b)
   leads {a = a} {b = b} inside (at_once c) = at_once (step a b inside c)

@@ -4,6 +4,7 @@ use Rattle.std.specs.Prelude.{Contains, filter, sum_by}
 use Rattle.std.proofs.lemmas.List.{length-append}
 use Rattle.std.proofs.lemmas.List.Elements.{Contains-append_left, Contains-append_right}
 use Rattle.std.proofs.lemmas.List.Sums.{sum_by-cons}
+use Rattle.asm_state.proofs.Lists.{Contains-cons_cases, Contains-first, Contains-none}
 use Rattle.asm_state.specs.Universe.{count_between}
 use Rattle.asm_syntax.specs.SourceTree as source
 use Rattle.asm_syntax.specs.SourceTree.{Item, Spec}
@@ -12,10 +13,10 @@ use Rattle.asm_check.specs.Faults.{IsWellFormed}
 use Rattle.asm_check.specs.Limits.{is_universe, size_of}
 use Rattle.asm_check.specs.Listed.{elements_of_item, elements_in}
 use Rattle.asm_check.specs.Sizes.{total}
-use Rattle.asm_check.proofs.Heights.{here, none_in, head_or_tail}
-use Rattle.asm_check.proofs.ItemLists.{element_declarations, like, like_next, elements_dropped, AreNumbered, numbered}
+use Rattle.asm_check.proofs.ItemLists.{element_declarations, like_next, elements_dropped, AreNumbered, numbered}
 use Rattle.asm_check.proofs.Sizes.{limits_hold}
 use Rattle.asm_check.proofs.Sole.{all_count}
+use Rattle.asm_check.specs.NumberTables.{like}
 
 -- what counts one each is how many there are
 pub total_ones : (is_like : Meaning → Bool) (ds : List Declaration) → total is_like (λ m. 1) ds ≡ length (like is_like ds)
@@ -33,8 +34,8 @@ IsSmallItem item = Unit {0}
 
 module _ (spec : Spec) (good : IsWellFormed spec) where
   own_small : (k : ℕ) (item : Item) → size_of spec (Enumeration k) ≡ elements_of_item item → ((d : Declaration) → Contains (declarations_of k item) d → size_of spec d.meaning ≤ 4096) → IsSmallItem item
-  own_small k (source.Enum x xs) is small = let h = small (declares x (Enumeration k)) (here (declares x (Enumeration k)) (element_declarations k xs)) in omega (arith, is, h)
-  own_small k (source.Universe x first last) is small = small (declares x (Range first.value last.value)) (here (declares x (Range first.value last.value)) [])
+  own_small k (source.Enum x xs) is small = let h = small (declares x (Enumeration k)) (Contains-first (declares x (Enumeration k)) (element_declarations k xs)) in omega (arith, is, h)
+  own_small k (source.Universe x first last) is small = small (declares x (Range first.value last.value)) (Contains-first (declares x (Range first.value last.value)) [])
   own_small k (source.Uses x) is small = tt
   own_small k (source.Init x) is small = tt
   own_small k (source.Function x how domain codomain table) is small = tt
@@ -43,9 +44,9 @@ module _ (spec : Spec) (good : IsWellFormed spec) where
 
   small_from : (k first : ℕ) (items : List Item) → AreNumbered (first_declarations spec) k first items → ((d : Declaration) → Contains (declarations_from k items) d → size_of spec d.meaning ≤ 4096)
       → (item : Item) → Contains items item → IsSmallItem item
-  small_from k first [] n small item it = none_in item it
+  small_from k first [] n small item it = absurd (Contains-none item it)
   small_from k first (head ∷ items) n small item it =
-      elim (head_or_tail head item items it) [
+      elim (Contains-cons_cases head items item it) [
         | inl e ↦ subst IsSmallItem e (own_small k head n.1 (λ d among. small d (Contains-append_left (declarations_of k head) (declarations_from (suc k) items) d among)))
         | inr rest ↦ small_from (suc k) (first + elements_of_item head) items n.2 (λ d among. small d (Contains-append_right (declarations_of k head) (declarations_from (suc k) items) d among)) item rest
       ]
@@ -76,7 +77,7 @@ module _ (spec : Spec) (good : IsWellFormed spec) where
   few_from : (k : ℕ) (items : List Item) → ((item : Item) → Contains items item → IsSmallItem item) → elements_in items ≤ 4096 * length (like is_universe (declarations_from k items))
   few_from k [] small = omega arith
   few_from k (item ∷ items) small =
-      let own = own_few k item (small item (here item items)) in
+      let own = own_few k item (small item (Contains-first item items)) in
       let rest = few_from (suc k) items (λ other it. small other (Contains-append_right (item ∷ []) items other it)) in
       let next = universes_next k item items in
       omega (arith, own, rest, next)

@@ -5,12 +5,12 @@ use Rattle.std.proofs.lemmas.Bool.{false≢true}
 use Rattle.std.proofs.lemmas.List.{map-append}
 use Rattle.std.proofs.lemmas.List.Elements.{All-contains, filter-append}
 use Rattle.std.proofs.lemmas.List.Kept.{AllPairs-cons}
-use Rattle.asm_state.proofs.Lists.{All-from_contained, AllPairs-none, AllPairs-head, AllPairs-tail}
+use Rattle.asm_state.proofs.Lists.{All-from_contained, AllPairs-none, AllPairs-head, AllPairs-tail, Contains-first, Contains-later}
 use Rattle.asm_syntax.specs.SourceTree.{Spec}
 use Rattle.asm_check.specs.Names.{Text, Declaration, Meaning, Predeclared, predeclared_names, declares, is_text, is_among, text_of, predeclared, declarations_from, declarations, first_of_each, first_declarations}
 use Rattle.asm_check.specs.Faults.{IsWellFormed, IsRepeated, parameters_of, twice}
 use Rattle.asm_check.specs.Shapes.{texts_of}
-use Rattle.asm_check.proofs.Heights.{here, there, split}
+use Rattle.asm_check.proofs.Heights.{split}
 
 -- two declarations of different names
 abbrev pub IsOther : Declaration → Declaration → Type 0
@@ -39,7 +39,7 @@ same_texts (d ∷ ds) = ap (λ xs. d.name.text ∷ xs) (same_texts ds)
 none_twice : (spec : Spec) → IsWellFormed spec → (before after : List Declaration) (d : Declaration) → declarations spec ≡ before ++ d ∷ after → is_among (texts_of before) d.name.text ≡ false
 none_twice spec good before after d parts =
     elim (is_among (texts_of before) d.name.text) as (λ b. is_among (texts_of before) d.name.text ≡ b → b ≡ false) [
-      | true ↦ λ e. absurd (good d.name.at 8 (twice (map (λ c. c.name) (declarations spec), here (map (λ c. c.name) (declarations spec)) (map parameters_of spec.items), repeated e)))
+      | true ↦ λ e. absurd (good d.name.at 8 (twice (map (λ c. c.name) (declarations spec), Contains-first (map (λ c. c.name) (declarations spec)) (map parameters_of spec.items), repeated e)))
       | false ↦ λ e. refl
     ] refl
   where
@@ -59,9 +59,9 @@ apart spec good = apart_from (declarations spec) (none_twice spec good)
 all_kept : (ds : List Declaration) (seen : List Text) → ((d : Declaration) → Contains ds d → is_among seen d.name.text ≡ false) → AllPairs IsOther ds → first_of_each seen ds ≡ ds
 all_kept [] seen new others = refl
 all_kept (c ∷ ds) seen new others =
-    ap (λ b. cond b (first_of_each seen ds) (c ∷ first_of_each (c.name.text ∷ seen) ds)) (new c (here c ds))
+    ap (λ b. cond b (first_of_each seen ds) (c ∷ first_of_each (c.name.text ∷ seen) ds)) (new c (Contains-first c ds))
     ∙ ap (λ ds. c ∷ ds) (all_kept ds (c.name.text ∷ seen)
-    (λ d it. ap (λ b. b || is_among seen d.name.text) (All-contains (IsOther c) ds d (AllPairs-head IsOther c ds others) it) ∙ new d (there c d ds it))
+    (λ d it. ap (λ b. b || is_among seen d.name.text) (All-contains (IsOther c) ds d (AllPairs-head IsOther c ds others) it) ∙ new d (Contains-later c ds d it))
     (AllPairs-tail IsOther c ds others))
 
 pub all_count : (spec : Spec) → IsWellFormed spec → first_declarations spec ≡ predeclared ++ declarations_from 0 spec.items

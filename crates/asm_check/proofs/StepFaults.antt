@@ -4,6 +4,7 @@ use Rattle.std.specs.Prelude.{Contains, All}
 use Rattle.std.proofs.lemmas.Bool.{false≢true}
 use Rattle.std.proofs.lemmas.List.Elements.{Contains-get_or, Contains-append_cases, All-contains}
 use Rattle.std.proofs.lemmas.Option.{slice_get_within, get_or_from_slice_get}
+use Rattle.asm_state.proofs.Lists.{Contains-cons_cases, Contains-from_map, Contains-map, Contains-none}
 use Rattle.asm_syntax.specs.SourceTree.{Spec}
 use Rattle.asm_check.specs.declared.meaning.Meaning.{Meaning}
 use Rattle.asm_check.specs.declared.meaning.Meaning.TheVariants as code
@@ -17,7 +18,6 @@ use Rattle.asm_check.specs.StepTables.{AreStepsOf, cycle_number, IsCycleAt, IsHi
 use Rattle.asm_check.specs.Tables.{Entry, IsTableOf, declaration_of, meaning_of, text_of_entry, text_at}
 use Rattle.asm_check.specs.Ways.{called, used, LeadsTo, at_once, by_way_of, ReachesCycle, IsOnWay}
 use Rattle.asm_check.proofs.CallsAndUses.{IsRule, is_rule, IsDerived, is_derived, caller, user, callee, usee, all_calls, all_uses}
-use Rattle.asm_check.proofs.Heights.{none_in, head_or_tail, in_map}
 use Rattle.asm_check.proofs.Simulation as simulation
 
 -- ---- all steps of a rule are calls, and those of a derived function uses
@@ -53,9 +53,9 @@ pub got : {X : Type 0} (xs : List X) (n : ℕ) (x : X) → slice_get xs n ≡ So
 got xs n x is = subst (Contains xs) (get_or_from_slice_get xs n x x is) (Contains-get_or xs n x (slice_get_within xs n x is))
 
 pub get_of : {X : Type 0} (xs : List X) (x : X) → Contains xs x → (n : ℕ) × (slice_get xs n ≡ Some x)
-get_of [] x c = none_in x c
+get_of [] x c = absurd (Contains-none x c)
 get_of (y ∷ ys) x c =
-    elim (head_or_tail y x ys c) [
+    elim (Contains-cons_cases y ys x c) [
       | inl e ↦ (0, ap Some e)
       | inr rest ↦ let it = get_of ys x rest in (suc it.0, it.1)
     ]
@@ -144,12 +144,12 @@ module _ (spec : Spec) (entries : List Entry) (lists : List (List ℕ)) (are : A
   module _ (table : IsTableOf spec entries) (known : (n : ℕ) (e : Entry) → slice_get entries n ≡ Some e → declared spec e.0.now ≡ Some (meaning_of e.1.meaning)) where
     -- the declaration of an entry
     stands : (n : ℕ) (e : Entry) → slice_get entries n ≡ Some e → Contains (first_declarations spec) (declaration_of e)
-    stands n e is = subst (λ ds. Contains ds (declaration_of e)) table (in_map declaration_of entries e (got entries n e is))
+    stands n e is = subst (λ ds. Contains ds (declaration_of e)) table (Contains-map declaration_of entries e (got entries n e is))
 
     -- the entry of a declaration
     found : (d : Declaration) → Contains (first_declarations spec) d → (n : ℕ) × (e : Entry) × ((slice_get entries n ≡ Some e) × (declaration_of e ≡ d))
     found d c =
-        let it = simulation.out_of_map declaration_of entries d (subst (λ ds. Contains ds d) (sym table) c) in
+        let it = Contains-from_map declaration_of entries d (subst (λ ds. Contains ds d) (sym table) c) in
         let at = get_of entries it.0 it.1 in
         (at.0, it.0, (at.1, it.2))
 

@@ -4,6 +4,7 @@
 use Rattle.std.proofs.Common.{◌≡◌, ℕ, Bool, true, false, ◌||◌, List, [], ◌∷◌, length, Option, Some, None, refl, sym, ap, subst, ◌∙◌, inl, inr}
 use Rattle.std.specs.Prelude.{Contains, option_map}
 use Rattle.std.proofs.lemmas.Bool.{false≢true}
+use Rattle.asm_state.proofs.Lists.{Contains-cons_cases, Contains-first, Contains-later, Contains-none}
 use Rattle.asm_syntax.specs.SourceTree.{Name, Spec}
 use Rattle.asm_check.specs.Fit.{IsUniverseName, IsElementName, IsCodomainName, IsFitName, IsFitUse, IsFitTarget, IsFitCall, element, controlled, static, derived}
 use Rattle.asm_check.specs.Limits.{is_universe, is_rule}
@@ -13,7 +14,6 @@ use Rattle.asm_check.specs.Numbers.{is_element, is_table, is_derived, all_of, nu
 use Rattle.asm_check.specs.declared.checked.Named.{Named}
 use Rattle.asm_check.specs.declared.checked.Named.TheVariants as number
 use Rattle.asm_check.proofs.Declared.{same_text, text_itself}
-use Rattle.asm_check.proofs.Heights.{here, there, none_in, head_or_tail}
 use Rattle.asm_check.proofs.NamesNumbered.{index_like}
 use Rattle.asm_check.proofs.Sole.{left_false, right_false}
 
@@ -110,13 +110,13 @@ among [] x e = absurd (false≢true e)
 among (y ∷ xs) x e = by_text (is_text y x) refl e (among xs x)
   where
     by_text : (b : Bool) → is_text y x ≡ b → (b || is_among xs x) ≡ true → (is_among xs x ≡ true → Contains xs x) → Contains (y ∷ xs) x
-    by_text true same e rest = subst (Contains (y ∷ xs)) (same_text y x same) (here y xs)
-    by_text false other e rest = there y x xs (rest e)
+    by_text true same e rest = subst (Contains (y ∷ xs)) (same_text y x same) (Contains-first y xs)
+    by_text false other e rest = Contains-later y xs x (rest e)
 
 not_among : (xs : List Text) (x : Text) → is_among xs x ≡ false → ¬ (Contains xs x)
-not_among [] x e c = none_in x c
+not_among [] x e c = absurd (Contains-none x c)
 not_among (y ∷ xs) x e c =
-    elim (head_or_tail y x xs c) [
+    elim (Contains-cons_cases y xs x c) [
       | inl same ↦ absurd (false≢true (sym (left_false (is_text y x) (is_among xs x) e) ∙ subst (λ z. is_text y z ≡ true) same (text_itself y)))
       | inr rest ↦ not_among xs x (right_false (is_text y x) (is_among xs x) e) rest
     ]

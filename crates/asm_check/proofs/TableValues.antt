@@ -20,7 +20,7 @@ use Rattle.asm_state.specs.Signature.{domain_in}
 use Rattle.asm_state.specs.Tables.{is_in, is_list, AreEntriesIn, IsTableOf}
 use Rattle.asm_state.specs.Universe.{element, elements, numbers, count_between, numbers_between}
 use Rattle.asm_state.proofs.Domains.{universe_laws}
-use Rattle.asm_state.proofs.Lists.{All-from_contained, AllPairs-none, AllPairs-map, Contains-flat_map}
+use Rattle.asm_state.proofs.Lists.{All-from_contained, AllPairs-none, AllPairs-map, Contains-flat_map, Contains-cons_cases, Contains-first, Contains-later, Contains-none}
 use Rattle.asm_state.proofs.ValueLaws.{value_laws}
 use Rattle.asm_state.specs.declared.function.FunctionKind.{FunctionKind}
 use Rattle.asm_syntax.specs.declared.term.Literal.{Literal}
@@ -37,7 +37,7 @@ use Rattle.asm_check.specs.Shapes.{index_among, texts_of, domain_by, universe_va
 use Rattle.asm_check.proofs.Declared.{same_text, text_itself}
 use Rattle.asm_check.proofs.Domains.{values_of}
 use Rattle.asm_check.proofs.ElementNumbers.{number_in, number_small, element_at}
-use Rattle.asm_check.proofs.Heights.{here, there, none_in, head_or_tail, split}
+use Rattle.asm_check.proofs.Heights.{split}
 use Rattle.asm_check.proofs.ItemLists.{count_like}
 use Rattle.asm_check.proofs.Looked.{is_named, index_is, at_index, find_kept, first_named, all_known}
 use Rattle.asm_check.proofs.Sole.{left_false, right_false}
@@ -87,24 +87,24 @@ element_among first count n low high =
     (subst (λ v. is_same (element n) v ≡ true) it ((value_laws.same (element n) (element n)).1 refl))
 
 none_of : {X : Type 0} (p : X → Bool) (xs : List X) (x : X) → list_any p xs ≡ false → Contains xs x → p x ≡ false
-none_of p [] x none it = none_in x it
+none_of p [] x none it = absurd (Contains-none x it)
 none_of p (y ∷ xs) x none it =
-    elim (head_or_tail y x xs it) [
+    elim (Contains-cons_cases y xs x it) [
       | inl e ↦ subst (λ z. p z ≡ false) e (left_false (p y) (list_any p xs) none)
       | inr rest ↦ none_of p xs x (right_false (p y) (list_any p xs) none) rest
     ]
 
 all_pass : {X : Type 0} (p : X → Bool) (xs : List X) → ((x : X) → Contains xs x → p x ≡ true) → list_all p xs ≡ true
 all_pass p [] each = refl
-all_pass p (x ∷ xs) each = both (p x) (list_all p xs) (each x (here x xs)) (all_pass p xs (λ y it. each y (there x y xs it)))
+all_pass p (x ∷ xs) each = both (p x) (list_all p xs) (each x (Contains-first x xs)) (all_pass p xs (λ y it. each y (Contains-later x xs y it)))
 
 -- what holds of each element and each one before it
 pairs_from : {X : Type 0} (R : X → X → Type 0) (xs : List X) → ((before after : List X) (x y : X) → xs ≡ before ++ y ∷ after → Contains before x → R x y) → AllPairs R xs
 pairs_from R [] each = AllPairs-none R
 pairs_from R (x ∷ xs) each =
     AllPairs-cons R x xs
-    (All-from_contained (R x) xs (λ y it. let parts = split xs y it in each (x ∷ parts.0) parts.1 x y (ap (λ zs. x ∷ zs) parts.2) (here x parts.0)))
-    (pairs_from R xs (λ before after w y parts it. each (x ∷ before) after w y (ap (λ zs. x ∷ zs) parts) (there x w before it)))
+    (All-from_contained (R x) xs (λ y it. let parts = split xs y it in each (x ∷ parts.0) parts.1 x y (ap (λ zs. x ∷ zs) parts.2) (Contains-first x parts.0)))
+    (pairs_from R xs (λ before after w y parts it. each (x ∷ before) after w y (ap (λ zs. x ∷ zs) parts) (Contains-later x before w it)))
 
 same_member : (n : ℕ) → n < 262_144 → (e : Member) × (element n ≡ value.Element e)
 same_member n below = (record { index = n; in_range = below }, sym (value_laws.element_at n (record { index = n; in_range = below }) refl))
@@ -250,8 +250,8 @@ module _ (spec : Spec) (good : IsWellFormed spec) where
       let first = left_of (is_same (const_value spec c) (const_value spec d)) (is_list (map (const_value spec) cs) (map (const_value spec) ds)) e in
       let rest = right_of (is_same (const_value spec c) (const_value spec d)) (is_list (map (const_value spec) cs) (map (const_value spec) ds)) e in
       both (same_const c d) (same_arguments cs ds)
-      (same_consts c d (known c (here c cs)) (others d (here d ds)) ((value_laws.same (const_value spec c) (const_value spec d)).0 first))
-      (same_lists cs ds (λ a it. known a (there c a cs it)) (λ a it. others a (there d a ds it)) rest)
+      (same_consts c d (known c (Contains-first c cs)) (others d (Contains-first d ds)) ((value_laws.same (const_value spec c) (const_value spec d)).0 first))
+      (same_lists cs ds (λ a it. known a (Contains-later c cs a it)) (λ a it. others a (Contains-later d ds a it)) rest)
 
   -- ---- one table
 
@@ -268,7 +268,7 @@ module _ (spec : Spec) (good : IsWellFormed spec) where
         known_element (declared spec y.text)
         (entry_known e (plain_use AsElement y) stands
         (Contains-append_left (flat_map uses_of_const e.arguments) (uses_of_const e.value) (plain_use AsElement y)
-        (Contains-flat_map uses_of_const e.arguments (source.Element y) (plain_use AsElement y) among (here (plain_use AsElement y) []))))
+        (Contains-flat_map uses_of_const e.arguments (source.Element y) (plain_use AsElement y) among (Contains-first (plain_use AsElement y) []))))
 
     no_wrong : (before after : List Entry) (e : Entry) → entries ≡ before ++ e ∷ after
         → (not (fits_domain spec domain e.arguments) || list_any (λ b. same_arguments b.arguments e.arguments) before) ≡ false
@@ -278,12 +278,12 @@ module _ (spec : Spec) (good : IsWellFormed spec) where
           | true ↦ λ wrong. absurd (good e.at 16 (table_entry (record {
             domain = domain;
             entries = entries;
-            stands = Contains-flat_map table_of spec.items (source.Function x how domain codomain (Some (source.Entries entries))) (domain, entries) it (here (domain, entries) []);
+            stands = Contains-flat_map table_of spec.items (source.Function x how domain codomain (Some (source.Entries entries))) (domain, entries) it (Contains-first (domain, entries) []);
             before = before;
             entry = e;
             after = after;
             parts = parts;
-            known = all_pass (is_known_use spec) (uses_of_entry e) (λ u own. entry_known e u (subst (λ es. Contains es e) (sym parts) (Contains-append_right before (e ∷ after) e (here e after))) own);
+            known = all_pass (is_known_use spec) (uses_of_entry e) (λ u own. entry_known e u (subst (λ es. Contains es e) (sym parts) (Contains-append_right before (e ∷ after) e (Contains-first e after))) own);
             wrong = wrong;
             offset = refl;
           })))
@@ -305,7 +305,7 @@ module _ (spec : Spec) (good : IsWellFormed spec) where
         let other = none_of (λ b. same_arguments b.arguments e.arguments) before b
         (right_false (not (fits_domain spec domain e.arguments)) (list_any (λ b. same_arguments b.arguments e.arguments) before) (no_wrong before after e parts)) among in
         let first = subst (λ es. Contains es b) (sym parts) (Contains-append_left before (e ∷ after) b among) in
-        let second = subst (λ es. Contains es e) (sym parts) (Contains-append_right before (e ∷ after) e (here e after)) in
+        let second = subst (λ es. Contains es e) (sym parts) (Contains-append_right before (e ∷ after) e (Contains-first e after)) in
         elim (is_list (map (const_value spec) b.arguments) (map (const_value spec) e.arguments)) as (λ t. is_list (map (const_value spec) b.arguments) (map (const_value spec) e.arguments) ≡ t → t ≡ false) [
           | true ↦ λ same. absurd (false≢true (sym other ∙ same_lists b.arguments e.arguments (const_known b first) (const_known e second) same))
           | false ↦ λ _. refl

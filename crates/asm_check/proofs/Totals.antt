@@ -5,6 +5,7 @@ use Rattle.std.specs.List.{enumerate_from}
 use Rattle.std.proofs.lemmas.List.{length-append, map-append}
 use Rattle.std.proofs.lemmas.List.Elements.{filter-append}
 use Rattle.std.proofs.lemmas.List.Sums.{sum_by-append, sum_by-cons}
+use Rattle.asm_state.proofs.Lists.{Contains-first, Contains-later}
 use Rattle.asm_state.specs.Fits.{static_lists}
 use Rattle.asm_state.specs.Signature.{domain_in, function_locations}
 use Rattle.asm_state.specs.Tables.{argument_lists}
@@ -20,7 +21,6 @@ use Rattle.asm_check.specs.Numbers.{universes_of}
 use Rattle.asm_check.specs.Shapes.{texts_of, domain_by, function_given}
 use Rattle.asm_check.specs.Sizes.{total}
 use Rattle.asm_check.proofs.Domains.{given_by, values_of, lists_are, short_domain}
-use Rattle.asm_check.proofs.Heights.{here, there}
 use Rattle.asm_check.proofs.ItemLists.{element_declarations}
 use Rattle.asm_check.proofs.Sizes.{limits_hold}
 use Rattle.asm_check.proofs.Sole.{all_count}
@@ -48,7 +48,7 @@ module _ (spec : Spec) (good : IsWellFormed spec) where
       → length (argument_lists (domain_in (values_of spec good) (domain_by (texts_of (universes_of spec)) domain))) ≡ lists_of spec domain
 
   later : (item : Item) (items : List Item) → AreCounted (item ∷ items) → AreCounted items
-  later item items counted x how domain codomain table it = counted x how domain codomain table (there item (source.Function x how domain codomain table) items it)
+  later item items counted x how domain codomain table it = counted x how domain codomain table (Contains-later item items (source.Function x how domain codomain table) it)
 
   held_next : (k : ℕ) (item : Item) (items : List Item) → total is_controlled held (declarations_from k (item ∷ items)) ≡ total is_controlled held (declarations_of k item) + total is_controlled held (declarations_from (suc k) items)
   held_next k item items = total_more is_controlled held (declarations_of k item) (declarations_from (suc k) items)
@@ -76,7 +76,7 @@ module _ (spec : Spec) (good : IsWellFormed spec) where
       let next = held_next k item items in
       let own : total is_controlled held (declarations_of k item) ≡ lists_of spec domain + 1 = omega arith in
       let many = number_laws.of_function f (domain_in (values_of spec good) (domain_by (texts_of (universes_of spec)) domain)) in
-      let is = counted x kind.Controlled domain codomain table (here item items) in
+      let is = counted x kind.Controlled domain codomain table (Contains-first item items) in
       let split = length-append (function_locations (values_of spec good) (f, it)) (flat_map (function_locations (values_of spec good)) (enumerate_from (f + 1) (filter_map (function_given spec) items))) in
       split ∙ omega (arith, rest, next, own, many, is)
   count_locations f k (source.Function x kind.Static domain codomain table ∷ items) counted = count_locations (f + 1) (suc k) items (later (source.Function x kind.Static domain codomain table) items counted)
@@ -105,7 +105,7 @@ module _ (spec : Spec) (good : IsWellFormed spec) where
       let rest = count_statics (suc k) items (later item items counted) in
       let next = static_next k item items in
       let own : total is_static lists (declarations_of k item) ≡ lists_of spec domain = omega arith in
-      let is = counted x kind.Static domain codomain table (here item items) in
+      let is = counted x kind.Static domain codomain table (Contains-first item items) in
       let split = sum_by-cons (static_lists (values_of spec good)) (given_by spec kind.Static domain table) (filter_map (function_given spec) items) in
       split ∙ omega (arith, rest, next, own, is)
   count_statics k (source.Derived x xs t ∷ items) counted = count_statics (suc k) items (later (source.Derived x xs t) items counted)

@@ -6,6 +6,7 @@ use Rattle.std.specs.List.{slice_index_or}
 use Rattle.std.specs.Cmp.Lexicographic.{pointwise}
 use Rattle.std.proofs.lemmas.Option.{get_or_from_slice_get}
 use Rattle.std.proofs.lemmas.Bool.{false_from_ne_true}
+use Rattle.std.proofs.Math.Bool.{or-true}
 use Rattle.asm_state.specs.declared.value.Value.{Value}
 use Rattle.asm_state.specs.Location.{State}
 use Rattle.asm_state.specs.Updates.{UpdateSet, IsConsistent, is_consistent, is_none, none}
@@ -52,10 +53,7 @@ part_goes_on r n rest U s e h k =
 -- a turn, by what it yields
 turn_ends : (U : UpdateSet) → (U ≡ none) ⊎ (¬ (IsConsistent U)) → (is_none U || not (is_consistent U)) ≡ true
 turn_ends U (inl e) = ap (λ b. b || not (is_consistent U)) ((test_laws.emptiness U).1 e)
-turn_ends U (inr h) = ap (λ b. is_none U || not b) (not_true (is_consistent U) (test_laws.consistency U) h) ∙ or_true (is_none U)
-  where
-    or_true : (b : Bool) → (b || true) ≡ true
-    or_true b = grind arith
+turn_ends U (inr h) = ap (λ b. is_none U || not b) (not_true (is_consistent U) (test_laws.consistency U) h) ∙ or-true (is_none U)
 
 turn_last : (r : Result) (n : ℕ) (rest : UpdateSet → Outcome) (U : UpdateSet) → r ≡ Gives U → (U ≡ none) ⊎ (¬ (IsConsistent U)) → (turn_and r n rest).result ≡ Gives U
 turn_last r n rest U e h =

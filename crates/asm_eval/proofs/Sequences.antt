@@ -11,6 +11,7 @@ use Rattle.std.specs.Bool.{Decides}
 use Rattle.std.specs.Prelude.{Result as Returned, Ok, Err, OnOk, IfErr, IsErrAnd, is_some, IfNone, IfSome}
 use Rattle.std.proofs.lemmas.Bool.{false_from_ne_true}
 use Rattle.std.proofs.lemmas.Result.{on_ok_weaker, IfErr-at_err}
+use Rattle.std.proofs.Math.Bool.{or-true}
 use Rattle.asm_state.specs.Location.{Proper, Stray, State}
 use Rattle.asm_state.specs.Signature.{Shape}
 use Rattle.asm_state.specs.Updates.{UpdateSet, IsConsistent, is_consistent, is_none, none, merge, fire, Fault, Clash, Outside, IsFirstFault}
@@ -98,12 +99,9 @@ module _ (o : Outcome) (V : UpdateSet) (rest : UpdateSet → Outcome) (gives : o
   pub last_turn : (V ≡ none) ⊎ (¬ (IsConsistent V)) → turn_and o.result o.instances rest ≡ of_set V o.instances
   last_turn last = ap (λ r. turn_and r o.instances rest) gives ∙ ap turn_at (is_last last)
     where
-      or_true : (b : Bool) → (b || true) ≡ true
-      or_true b = grind arith
-
       is_last : (V ≡ none) ⊎ (¬ (IsConsistent V)) → (is_none V || not (is_consistent V)) ≡ true
       is_last (inl is) = ap (λ b. b || not (is_consistent V)) ((test_laws.emptiness V).1 is)
-      is_last (inr faulty) = ap (λ b. is_none V || not b) (false_by (is_consistent V) (test_laws.consistency V) faulty) ∙ or_true (is_none V)
+      is_last (inr faulty) = ap (λ b. is_none V || not b) (false_by (is_consistent V) (test_laws.consistency V) faulty) ∙ or-true (is_none V)
 
 pub exhausted_part : (o : Outcome) (rest : UpdateSet → Outcome) (q : Path) → o.result ≡ Exhausted q → (part_and o.result o.instances rest).result ≡ Exhausted q
 exhausted_part o rest q is = ap (λ r. (part_and r o.instances rest).result) is

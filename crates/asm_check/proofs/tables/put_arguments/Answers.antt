@@ -1,16 +1,13 @@
 use Rattle.std.proofs.Common.{◌≡◌, Bool, true, false, not, map, refl, ap, ◌∙◌}
+use Rattle.std.proofs.Math.Bool.{not-not}
 use Rattle.asm_syntax.specs.Views.{const_of, entry_of}
 use Rattle.asm_check.specs.EntryArguments.{key}
 use Rattle.asm_check.proofs.EntryArguments.{equal_arguments, found_before, seen_more}
 use Rattle.asm_check.proofs.tables.put_arguments.Goals as goal
 
-not_twice : (b : Bool) → not (not b) ≡ b
-not_twice true = refl
-not_twice false = refl
-
 pub returns-clause-repeated : goal.returns-clause-repeated
 returns-clause-repeated c before seen =
-    ap not c.in_ok-is_new.ensures.added ∙ (not_twice _
+    ap not c.in_ok-is_new.ensures.added ∙ (not-not _
     ∙ found_before _ (λ q v. equal_arguments q.items v.items) before c.args.seen.now.keys c.in_ok-arguments.arguments (map const_of c.args.entry.now.arguments.items) seen
     (c.in_ok-arguments.ensures ∙ ap (λ cs. map key (map const_of cs)) c.deref.ensures.value))
 
