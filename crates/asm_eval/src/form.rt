@@ -339,7 +339,7 @@ fn form_turns<'e, P: Picks>(
     let nothing = Summary::new(alloc, signature.count());
     let before = mem::replace(&mut made.set, nothing);
     let mut so_far = Summary::new(alloc, signature.count());
-    for turn in 0..at.turns {
+    for turn in 0..evaluation.turns {
         form_next(
             alloc,
             evaluation,
