@@ -373,8 +373,7 @@ fn form_next<'e, P: Picks>(
     ensures { FollowsUpon (shape_at evaluation.now) (λ U. outcome_upon evaluation.now U env.now (yields.at made.old.path.items number) (meant rule.now)) so_far.old so_far.new made.old made.new result }
 {
     made.set.clear();
-    let nothing = Summary::new(alloc, evaluation.scene.view.signature.count());
-    let view = View::upon(evaluation.scene.view, mem::replace(so_far, nothing));
+    let view = View::upon(evaluation.scene.view, so_far);
     let inner = Evaluation {
         scene: Scene {
             checked: evaluation.scene.checked,
@@ -384,7 +383,6 @@ fn form_next<'e, P: Picks>(
         turns: evaluation.turns,
     };
     form_part(alloc, &inner, env, rule, number, made)?;
-    *so_far = view.over;
     so_far.then(&made.set)?;
     Ok(())
 }

@@ -315,13 +315,12 @@ form_next-returns g t c =
       formed = λ U stands consistent.
           let shape = (shape_at a.evaluation.now) in
           let v = c.upon-view.result in
-          let given = subst (λ s. Stands shape s U) (sym c.replace.ensures.value) stands in
-          goes_upon shape _ U c.clear.new.self v.over c.then.new.self c.form_part.new.made.set a.made.now.instances c.form_part.new.made.instances
-          (c.clear.ensures.empty shape c.count.ensures.sound c.requires.fits)
-          (subst (λ s. Stands shape s U) (sym c.upon-view.ensures.over) given)
+          goes_upon shape _ U c.clear.new.self a.so_far.now c.then.new.self c.form_part.new.made.set a.made.now.instances c.form_part.new.made.instances
+          (c.clear.ensures.empty shape a.evaluation.now.scene.view.now.sound c.requires.fits)
+          stands
           (c.in_ok-then.ensures.merge shape)
           (forms_same shape _ _ _ _ _ _
-          (ap (λ A. outcome (setting a.evaluation.now) A (environment a.env.now) (at a.made.now.path.items a.number) (meant a.rule.now)) (c.upon-view.ensures.fired U given consistent))
+          (ap (λ A. outcome (setting a.evaluation.now) A (environment a.env.now) (at a.made.now.path.items a.number) (meant a.rule.now)) (c.upon-view.ensures.fired U stands consistent))
           (subst (λ s. Forms s (outcome (setting a.evaluation.now) (shown v) (environment a.env.now) (at a.made.now.path.items a.number) (meant a.rule.now)) c.clear.new.self c.form_part.new.made.set a.made.now.instances c.form_part.new.made.instances) c.upon-view.ensures.signature
           c.in_ok-form_part.ensures.formed));
       exhausted = λ U stands consistent. tt;
