@@ -5,7 +5,6 @@
 --     follows_stopped                              of an error that is handed on
 --     left_to_form, part_is_less                   how far the code has still to go down;  that a part is further down
 --     rule_does, branch_does, rules_do, each_does  what rules of the code do: one, a branch, some beside each other, one for each element
---     candidates_of                                the elements for which a condition of the code holds
 -- A lemma whose name ends in _does says what a form of rule does, by what its parts do, or what a turn of a loop adds to the turns after it.
 use Rattle.std.proofs.Common.{◌≡◌, ℕ, zero, suc, ◌+◌, ◌*◌, ◌≤◌, ◌<◌, Bool, true, false, cond, min, List, [], ◌∷◌, length, map, drop, slice_index_or, ◌%◌, Option, Some, None, Box, Vec, Global, refl, sym, ap, subst, ◌∙◌, arith, add-one}
 use Rattle.std.specs.Prelude.{slice_get, Result, Ok, Err, IsErrAnd}
@@ -32,20 +31,21 @@ use Rattle.asm_check.specs.Ranks.{rule_rank}
 use Rattle.asm_check.specs.declared.checked.Checked.{Checked}
 use Rattle.asm_reader.specs.ScriptLines.{pick}
 use Rattle.asm_reader.specs.declared.picks.Picks.{Ghosts}
+use Rattle.asm_eval.specs.declared.binder.Binder.{Binder}
 use Rattle.asm_eval.specs.declared.evaluation.Evaluation.{Evaluation}
 use Rattle.asm_eval.specs.declared.outcome.Forming.{Forming}
 use Rattle.asm_eval.specs.declared.stopped.Stopped.{Stopped}
 use Rattle.asm_eval.specs.declared.stopped.Stopped.TheVariants as stopped
-use Rattle.asm_eval.specs.declared.view.View.{View}
 use Rattle.asm_eval.specs.Does.{Outcome, nothing, both, counted, parts, in_order, turns_of, each, one_of}
-use Rattle.asm_eval.specs.Evaluated.{setting, state_at, meant, meant_rules, meant_branch, meant_term, meant_terms}
+use Rattle.asm_eval.specs.Evaluated.{setting, state_at, meant, meant_rules, meant_branch, meant_choose, meant_forall, meant_term, meant_terms}
 use Rattle.asm_eval.specs.Formed.{Adds, Forms, Follows, IsStoppedAt, greatest_count}
 use Rattle.asm_eval.specs.Cases.{ScriptedCases, runs, all_run}
+use Rattle.asm_eval.specs.Scenes.{is_candidate, scene_candidates, with_element}
 use Rattle.asm_eval.specs.Setting.{Setting, outcome}
 use Rattle.asm_eval.specs.Program.{Environment, Controlled, declared, with_value}
 use Rattle.asm_eval.specs.Taken.{taken}
-use Rattle.asm_eval.specs.Value.{is_true, values, candidates, universe}
-use Rattle.asm_eval.specs.Valued.{program, shown, term_value, condition, holds_at}
+use Rattle.asm_eval.specs.Value.{is_true, values, universe}
+use Rattle.asm_eval.specs.Valued.{program, term_value, condition}
 use Rattle.asm_eval.specs.Weights.{called_size, rule_size_within}
 use Rattle.asm_eval.specs.Yields.{Path, Gives, Exhausted, at, assigned, beside}
 use Rattle.asm_eval.proofs.Beside.{right_unit}
@@ -214,9 +214,6 @@ none_taken n (w ∷ ws) m other is = cc
 
 -- ---- what the code's rules do
 
-abbrev pub candidates_of : Checked → View → Environment → (x u : tree.Name) → Option Term → List Value
-candidates_of checked view e x u c = candidates (program checked) (shown view) e x u (condition c)
-
 -- rules one after the other, from number k on, and turns from number t on, of which so many are left: in whatever state
 module _ (s : Setting) where
   abbrev pub rules_do_in_order : Environment → Path → ℕ → List Rule → State → Outcome
@@ -240,20 +237,20 @@ module _ {P : Type 0} {picks : Ghosts P} (on : Evaluation P picks) where
   rules_do e p k rs = parts (all_run (program on.scene.checked.now) on.turns (picks.script on.choices.now.script.now) on.choices.now.step (meant_rules rs)) k (state_at on) e p
 
   -- a rule for each element for which a condition holds, from number k on
-  abbrev pub each_does : Environment → Path → tree.Name → Option Term → Rule → ℕ → List Value → Outcome
-  each_does e p x c R k vs = each (λ v n. rule_does (with_value x v e) (at p n) R) (λ v. holds_at on.scene.checked.now on.scene.view.now (with_value x v e) c) k vs
+  abbrev pub each_does : Environment → Path → Binder → Rule → ℕ → List Value → Outcome
+  each_does e p b R k vs = each (λ v n. rule_does (with_element b v e) (at p n) R) (is_candidate on.scene e b) k vs
 
   abbrev assign_does : Environment → Path → syntax.Name → List Term → Term → Outcome
   assign_does e p x ts t = plain_does e p (tree.Assign x.text (meant_terms ts) (meant_term t))
 
-  abbrev forall_does : Environment → Path → tree.Name → tree.Name → Option Term → Rule → Outcome
-  forall_does e p x u c R = plain_does e p (tree.Forall x u (condition c) (meant R))
+  abbrev forall_does : Environment → Path → Binder → Rule → Outcome
+  forall_does e p b R = plain_does e p (meant_forall b R)
 
   abbrev if_does : Environment → Path → Term → Rule → Option (Box Rule Global) → Outcome
   if_does e p c R Q = plain_does e p (tree.If (meant_term c) (meant R) (meant_branch Q))
 
-  abbrev choose_does : Environment → Path → tree.Name → tree.Name → Option Term → Rule → Option (Box Rule Global) → Outcome
-  choose_does e p x u c R Q = plain_does e p (tree.Choose x u (condition c) (meant R) (meant_branch Q))
+  abbrev choose_does : Environment → Path → Binder → Rule → Option (Box Rule Global) → Outcome
+  choose_does e p b R Q = plain_does e p (meant_choose b R Q)
 
   pub cases : ScriptedCases (program on.scene.checked.now) on.turns (picks.script on.choices.now.script.now) on.choices.now.step (rule_rank (spec_of on.scene.checked.now.spec))
   cases = scripted_by_cases (program on.scene.checked.now) (rule_rank (spec_of on.scene.checked.now.spec)) on.turns (picks.script on.choices.now.script.now) on.choices.now.step (rules_ranked (spec_of on.scene.checked.now.spec) on.scene.checked.now.well_formed)
@@ -332,17 +329,17 @@ module _ {P : Type 0} {picks : Ghosts P} (on : Evaluation P picks) where
           → rule_does (with_value x v e) (at p 0) R ≡ plain_does e p (tree.Let x (meant_term t) (meant R))
       let_does x t R v is = ap (λ w. rule_does (with_value x w e) (at p 0) R) is ∙ sym (cases.of_let x (meant_term t) (meant R) (state_at on) e p)
 
-      pub chosen_does : (x u : tree.Name) (c : Option Term) (R : Rule) (Q : Option (Box Rule Global)) (v : Value)
-          → Some v ≡ taken (pick (picks.script on.choices.now.script.now) on.choices.now.step p) (candidates_of on.scene.checked.now on.scene.view.now e x u c) → rule_does (with_value x v e) (at p 0) R ≡ choose_does e p x u c R Q
-      chosen_does x u c R Q v there =
-          some_taken (pick (picks.script on.choices.now.script.now) on.choices.now.step p) (candidates_of on.scene.checked.now on.scene.view.now e x u c) v (λ w. rule_does (with_value x w e) (at p 0) R) (branch_does e (at p 1) Q) there
-          ∙ sym (cases.of_choose x u (condition c) (meant R) (meant_branch Q) (state_at on) e p)
+      pub chosen_does : (b : Binder) (R : Rule) (Q : Option (Box Rule Global)) (v : Value)
+          → Some v ≡ taken (pick (picks.script on.choices.now.script.now) on.choices.now.step p) (scene_candidates on.scene e b) → rule_does (with_element b v e) (at p 0) R ≡ choose_does e p b R Q
+      chosen_does b R Q v there =
+          some_taken (pick (picks.script on.choices.now.script.now) on.choices.now.step p) (scene_candidates on.scene e b) v (λ w. rule_does (with_element b w e) (at p 0) R) (branch_does e (at p 1) Q) there
+          ∙ sym (cases.of_choose b.name.now.text b.over.now.text (condition b.test.now) (meant R) (meant_branch Q) (state_at on) e p)
 
-      pub none_does : (x u : tree.Name) (c : Option Term) (R : Rule) (Q : Option (Box Rule Global))
-          → None ≡ taken (pick (picks.script on.choices.now.script.now) on.choices.now.step p) (candidates_of on.scene.checked.now on.scene.view.now e x u c) → branch_does e (at p 1) Q ≡ choose_does e p x u c R Q
-      none_does x u c R Q there =
-          none_taken (pick (picks.script on.choices.now.script.now) on.choices.now.step p) (candidates_of on.scene.checked.now on.scene.view.now e x u c) (λ w. rule_does (with_value x w e) (at p 0) R) (branch_does e (at p 1) Q) there
-          ∙ sym (cases.of_choose x u (condition c) (meant R) (meant_branch Q) (state_at on) e p)
+      pub none_does : (b : Binder) (R : Rule) (Q : Option (Box Rule Global))
+          → None ≡ taken (pick (picks.script on.choices.now.script.now) on.choices.now.step p) (scene_candidates on.scene e b) → branch_does e (at p 1) Q ≡ choose_does e p b R Q
+      none_does b R Q there =
+          none_taken (pick (picks.script on.choices.now.script.now) on.choices.now.step p) (scene_candidates on.scene e b) (λ w. rule_does (with_element b w e) (at p 0) R) (branch_does e (at p 1) Q) there
+          ∙ sym (cases.of_choose b.name.now.text b.over.now.text (condition b.test.now) (meant R) (meant_branch Q) (state_at on) e p)
 
       -- ---- the loops: what is left of the rules or of the elements, and what the next one adds to it
 
@@ -364,41 +361,41 @@ module _ {P : Type 0} {picks : Ghosts P} (on : Evaluation P picks) where
       pub no_rule_does : (rs : List Rule) (i : ℕ) → length rs ≤ i → nothing ≡ rules_do e p i (drop i rs)
       no_rule_does rs i past = sym (ap (rules_do e p i) (drop_all i rs past))
 
-      pub forall_of : (x u : tree.Name) (c : Option Term) (R : Rule) (vs : List Value) → vs ≡ universe (program on.scene.checked.now) u
-          → each_does e p x c R 0 vs ≡ forall_does e p x u c R
-      forall_of x u c R vs is = ap (each_does e p x c R 0) is ∙ sym (cases.of_forall x u (condition c) (meant R) (state_at on) e p)
+      pub forall_of : (b : Binder) (R : Rule) (vs : List Value) → vs ≡ universe (program on.scene.checked.now) b.over.now.text
+          → each_does e p b R 0 vs ≡ forall_does e p b R
+      forall_of b R vs is = ap (each_does e p b R 0) is ∙ sym (cases.of_forall b.name.now.text b.over.now.text (condition b.test.now) (meant R) (state_at on) e p)
 
-      element_next : (x : tree.Name) (c : Option Term) (R : Rule) (vs : List Value) (i : ℕ) (v : Value) (b : Bool) → slice_get vs i ≡ Some v
-          → b ≡ holds_at on.scene.checked.now on.scene.view.now (with_value x v e) c
-          → cond b (counted (both (rule_does (with_value x v e) (at p i) R) (each_does e p x c R (i + 1) (drop (i + 1) vs)))) (each_does e p x c R (i + 1) (drop (i + 1) vs))
-          ≡ each_does e p x c R i (drop i vs)
-      element_next x c R vs i v b there test =
-          ap (λ b. cond b (counted (both (rule_does (with_value x v e) (at p i) R) (each_does e p x c R (i + 1) (drop (i + 1) vs)))) (each_does e p x c R (i + 1) (drop (i + 1) vs))) test
-          ∙ ap (λ k. cond (holds_at on.scene.checked.now on.scene.view.now (with_value x v e) c) (counted (both (rule_does (with_value x v e) (at p i) R) (each_does e p x c R k (drop (i + 1) vs))))
-          (each_does e p x c R k (drop (i + 1) vs))) (add-one i)
-          ∙ ap (λ w. each_does e p x c R i (w ∷ drop (i + 1) vs)) (sym (get_or_from_slice_get vs i v v there))
-          ∙ sym (at_drop_more (each_does e p x c R i) vs i v (slice_get_within vs i v there))
+      element_next : (b : Binder) (R : Rule) (vs : List Value) (i : ℕ) (v : Value) (so : Bool) → slice_get vs i ≡ Some v
+          → so ≡ is_candidate on.scene e b v
+          → cond so (counted (both (rule_does (with_element b v e) (at p i) R) (each_does e p b R (i + 1) (drop (i + 1) vs)))) (each_does e p b R (i + 1) (drop (i + 1) vs))
+          ≡ each_does e p b R i (drop i vs)
+      element_next b R vs i v so there test =
+          ap (λ so. cond so (counted (both (rule_does (with_element b v e) (at p i) R) (each_does e p b R (i + 1) (drop (i + 1) vs)))) (each_does e p b R (i + 1) (drop (i + 1) vs))) test
+          ∙ ap (λ k. cond (is_candidate on.scene e b v) (counted (both (rule_does (with_element b v e) (at p i) R) (each_does e p b R k (drop (i + 1) vs))))
+          (each_does e p b R k (drop (i + 1) vs))) (add-one i)
+          ∙ ap (λ w. each_does e p b R i (w ∷ drop (i + 1) vs)) (sym (get_or_from_slice_get vs i v v there))
+          ∙ sym (at_drop_more (each_does e p b R i) vs i v (slice_get_within vs i v there))
 
       -- an element for which the condition holds
-      pub element_does : (x : tree.Name) (c : Option Term) (R : Rule) (vs : List Value) (i : ℕ) (v : Value) → slice_get vs i ≡ Some v
-          → true ≡ holds_at on.scene.checked.now on.scene.view.now (with_value x v e) c
-          → counted (both (rule_does (with_value x v e) (at p i) R) (each_does e p x c R (i + 1) (drop (i + 1) vs))) ≡ each_does e p x c R i (drop i vs)
-      element_does x c R vs i v there test = element_next x c R vs i v true there test
+      pub element_does : (b : Binder) (R : Rule) (vs : List Value) (i : ℕ) (v : Value) → slice_get vs i ≡ Some v
+          → true ≡ is_candidate on.scene e b v
+          → counted (both (rule_does (with_element b v e) (at p i) R) (each_does e p b R (i + 1) (drop (i + 1) vs))) ≡ each_does e p b R i (drop i vs)
+      element_does b R vs i v there test = element_next b R vs i v true there test
 
       -- one whose rule is exhausted
-      pub exhausted_element_does : (x : tree.Name) (c : Option Term) (R : Rule) (vs : List Value) (i : ℕ) (v : Value) (q : Path) → slice_get vs i ≡ Some v
-          → true ≡ holds_at on.scene.checked.now on.scene.view.now (with_value x v e) c
-          → (rule_does (with_value x v e) (at p i) R).result ≡ Exhausted q → (each_does e p x c R i (drop i vs)).result ≡ Exhausted q
-      exhausted_element_does x c R vs i v q there test ends =
-          sym (ap (λ o. o.result) (element_does x c R vs i v there test))
-          ∙ ap (λ k. beside (rule_does (with_value x v e) (at p i) R).result (each_does e p x c R k (drop (i + 1) vs)).result) (add-one i)
-          ∙ first_element_first (program on.scene.checked.now) on.turns (picks.script on.choices.now.script.now) on.choices.now.step (state_at on) e p q x (λ w. holds_at on.scene.checked.now on.scene.view.now (with_value x w e) c) i v (drop (i + 1) vs) (meant R) ends
+      pub exhausted_element_does : (b : Binder) (R : Rule) (vs : List Value) (i : ℕ) (v : Value) (q : Path) → slice_get vs i ≡ Some v
+          → true ≡ is_candidate on.scene e b v
+          → (rule_does (with_element b v e) (at p i) R).result ≡ Exhausted q → (each_does e p b R i (drop i vs)).result ≡ Exhausted q
+      exhausted_element_does b R vs i v q there test ends =
+          sym (ap (λ o. o.result) (element_does b R vs i v there test))
+          ∙ ap (λ k. beside (rule_does (with_element b v e) (at p i) R).result (each_does e p b R k (drop (i + 1) vs)).result) (add-one i)
+          ∙ first_element_first (program on.scene.checked.now) on.turns (picks.script on.choices.now.script.now) on.choices.now.step (state_at on) e p q b.name.now.text (is_candidate on.scene e b) i v (drop (i + 1) vs) (meant R) ends
 
       -- one for which it doesn't
-      pub element_passed : (x : tree.Name) (c : Option Term) (R : Rule) (vs : List Value) (i : ℕ) (v : Value) → slice_get vs i ≡ Some v
-          → false ≡ holds_at on.scene.checked.now on.scene.view.now (with_value x v e) c
-          → each_does e p x c R (i + 1) (drop (i + 1) vs) ≡ each_does e p x c R i (drop i vs)
-      element_passed x c R vs i v there test = element_next x c R vs i v false there test
+      pub element_passed : (b : Binder) (R : Rule) (vs : List Value) (i : ℕ) (v : Value) → slice_get vs i ≡ Some v
+          → false ≡ is_candidate on.scene e b v
+          → each_does e p b R (i + 1) (drop (i + 1) vs) ≡ each_does e p b R i (drop i vs)
+      element_passed b R vs i v there test = element_next b R vs i v false there test
 
-      pub no_element_does : (x : tree.Name) (c : Option Term) (R : Rule) (vs : List Value) (i : ℕ) → length vs ≤ i → nothing ≡ each_does e p x c R i (drop i vs)
-      no_element_does x c R vs i past = sym (ap (each_does e p x c R i) (drop_all i vs past))
+      pub no_element_does : (b : Binder) (R : Rule) (vs : List Value) (i : ℕ) → length vs ≤ i → nothing ≡ each_does e p b R i (drop i vs)
+      no_element_does b R vs i past = sym (ap (each_does e p b R i) (drop_all i vs past))

@@ -6,6 +6,7 @@
 --     parts_at, in_order_at      what rules of the code yield, beside and after each other
 --     meant R                    the rule that a rule of the code stands for
 --     meant_term, meant_terms, meant_branch      the same of its parts
+--     meant_forall, meant_choose                 the same of a binder with what it binds a name in
 --     Fits at made               the set that is being formed has the locations of the state
 use Rattle.std.specs.Prelude.{◌≡◌, List, map, Option}
 use Rattle.std.proofs.Common.{Box, Global}
@@ -22,8 +23,9 @@ use Rattle.asm_eval.specs.Cases.{all_run}
 use Rattle.asm_eval.specs.Does.{Outcome, parts, in_order}
 use Rattle.asm_eval.specs.Environments.{environment}
 use Rattle.asm_eval.specs.Setting.{Setting, outcome}
-use Rattle.asm_eval.specs.Valued.{program, shown, branch}
+use Rattle.asm_eval.specs.Valued.{program, shown, branch, condition}
 use Rattle.asm_eval.specs.Yields.{Path}
+use Rattle.asm_eval.specs.declared.binder.Binder.{Binder}
 use Rattle.asm_eval.specs.declared.env.Env.{Env}
 use Rattle.asm_eval.specs.declared.evaluation.Evaluation.{Evaluation}
 use Rattle.asm_eval.specs.declared.outcome.Forming.{Forming}
@@ -42,6 +44,12 @@ meant_term t = plain_term (term_of t)
 
 abbrev pub meant_terms : List Term → tree.Terms
 meant_terms ts = plain_terms (terms_of (map term_of ts))
+
+abbrev pub meant_forall : Binder → Rule → tree.Rule
+meant_forall b R = tree.Forall b.name.now.text b.over.now.text (condition b.test.now) (meant R)
+
+abbrev pub meant_choose : Binder → Rule → Option (Box Rule Global) → tree.Rule
+meant_choose b R Q = tree.Choose b.name.now.text b.over.now.text (condition b.test.now) (meant R) (meant_branch Q)
 
 -- the script is the one by which a `P` answers
 module _ {P : Type 0} {picks : Ghosts P} (at : Evaluation P picks) where

@@ -28,7 +28,7 @@ abbrev pub program : Checked → Program
 program checked = program_of (spec_of checked.spec)
 
 abbrev pub shown : View → State
-shown view = shown_over view.signature.now view.state.now view.below view.over
+shown view = shown_over view.signature.now view.state.now view.below view.over.now
 
 module _ (checked : Checked) (view : View) (e : Environment) where
   abbrev pub term_value : Term → Value

@@ -2,11 +2,11 @@
 ghost use Rattle.std.specs.Prelude.{◌≡◌, filter, IfOk};
 ghost use Rattle.asm_reader.specs.ScriptLines.{pick};
 ghost use Rattle.asm_eval.specs.Environments.{environment};
-ghost use Rattle.asm_eval.specs.Program.{with_value};
-ghost use Rattle.asm_eval.specs.Valued.{program, shown, condition, holds_at};
+ghost use Rattle.asm_eval.specs.Scenes.{is_candidate, scene_candidates};
+ghost use Rattle.asm_eval.specs.Valued.{holds_at};
 ghost use Rattle.asm_eval.specs.Taken.{taken, walk_to};
-ghost use Rattle.asm_eval.specs.Value as spec;
 
+use crate::binder::Binder;
 use crate::env::Env;
 use crate::evaluation::Evaluation;
 use crate::held::{is_true, universe_of};
@@ -14,7 +14,6 @@ use crate::terms::value;
 use asm_reader::Picks;
 use asm_state::universe::Universe;
 use asm_state::value::Value;
-use asm_syntax::name::Name;
 use asm_syntax::term::Term;
 use std::alloc::{AllocError, Global};
 
@@ -62,24 +61,23 @@ fn find_candidate<'e, P: Picks>(
     alloc: Global,
     evaluation: &Evaluation<'_, '_, P>,
     env: &'e Env<'e>,
-    name: &'e Name,
+    binder: &Binder<'e>,
     universe: &Universe,
-    test: &'e Option<Term>,
     number: u64,
 ) -> Result<Walk, AllocError>
-    ensures { IfOk result (λ w. w ≡ walk_to number (filter (λ v. holds_at evaluation.now.scene.checked.now evaluation.now.scene.view.now (with_value name.now.text v (environment env.now)) test.now) universe.now)) }
+    ensures { IfOk result (λ w. w ≡ walk_to number (filter (is_candidate evaluation.now.scene (environment env.now) binder.now) universe.now)) }
 {
-    if test.is_none() {
+    if binder.test.is_none() {
         return Ok(element_at(universe, number));
     }
     let mut met = 0;
     for i in 0..universe.size() {
         let bound = Env::One {
-            name,
+            name: binder.name,
             value: universe.element(i),
             outer: env,
         };
-        if holds(alloc, evaluation, &bound, test)? {
+        if holds(alloc, evaluation, &bound, binder.test)? {
             if met == number {
                 return Ok(Walk::Met(universe.element(i)));
             }
@@ -96,18 +94,16 @@ pub(crate) fn chosen<'e, P: Picks>(
     alloc: Global,
     evaluation: &Evaluation<'_, '_, P>,
     env: &'e Env<'e>,
-    name: &'e Name,
-    over: &Name,
-    test: &'e Option<Term>,
+    binder: &Binder<'e>,
     path: &[u64],
 ) -> Result<Option<Value>, AllocError>
-    ensures { let candidates = spec.candidates (program evaluation.now.scene.checked.now) (shown evaluation.now.scene.view.now) (environment env.now) name.now.text over.now.text (condition test.now) in
-        IfOk result (λ v. v ≡ taken (pick (P.script evaluation.now.choices.now.script.now) evaluation.now.choices.now.step path.now) candidates) }
+    ensures { let number = pick (P.script evaluation.now.choices.now.script.now) evaluation.now.choices.now.step path.now in
+        IfOk result (λ v. v ≡ taken number (scene_candidates evaluation.now.scene (environment env.now) binder.now)) }
 {
-    let Some(universe) = universe_of(evaluation.scene.checked, over) else {
+    let Some(universe) = universe_of(evaluation.scene.checked, binder.over) else {
         return Ok(None);
     };
-    let Walk::Met(first) = find_candidate(alloc, evaluation, env, name, universe, test, 0)? else {
+    let Walk::Met(first) = find_candidate(alloc, evaluation, env, binder, universe, 0)? else {
         return Ok(None);
     };
     let choices = evaluation.choices;
@@ -115,15 +111,14 @@ pub(crate) fn chosen<'e, P: Picks>(
     if number == 0 {
         return Ok(Some(first));
     }
-    match find_candidate(alloc, evaluation, env, name, universe, test, number)? {
+    match find_candidate(alloc, evaluation, env, binder, universe, number)? {
         Walk::Met(value) => Ok(Some(value)),
         Walk::Passed(count) => match find_candidate(
             alloc,
             evaluation,
             env,
-            name,
+            binder,
             universe,
-            test,
             number % count,
         )? {
             Walk::Met(value) => Ok(Some(value)),

@@ -4,12 +4,12 @@ ghost use Rattle.asm_state.specs.Signature.{Shape, count_of};
 ghost use Rattle.asm_state.specs.Updates.{UpdateSet};
 ghost use Rattle.asm_updates.specs.Stands.{Stands};
 ghost use Rattle.asm_syntax.specs.Tree as tree;
-ghost use Rattle.asm_eval.specs.Evaluated.{Fits, shape_at, outcome_at, outcome_upon, parts_at, in_order_at, meant, meant_branch, meant_term, meant_terms};
+ghost use Rattle.asm_eval.specs.Evaluated.{Fits, shape_at, outcome_at, outcome_upon, parts_at, in_order_at, meant, meant_branch, meant_choose, meant_forall, meant_term, meant_terms};
 ghost use Rattle.asm_eval.specs.Formed.{Adds, Follows, FollowsUpon};
-ghost use Rattle.asm_eval.specs.Valued.{condition};
 ghost use Rattle.asm_eval.specs.Yields as yields;
 ghost use Rattle.asm_eval.specs.declared.stopped.Stopped.TheVariants.{Memory};
 
+use crate::binder::Binder;
 use crate::choose::{chosen, holds};
 use crate::env::Env;
 use crate::evaluation::{Evaluation, Scene};
@@ -67,14 +67,29 @@ pub fn form<'e, P: Picks>(
             over,
             test,
             body,
-        } => form_each(alloc, evaluation, env, name, over, test, body, made),
+        } => form_each(
+            alloc,
+            evaluation,
+            env,
+            &Binder { name, over, test },
+            body,
+            made,
+        ),
         Rule::Choose {
             name,
             over,
             test,
             body,
             none,
-        } => form_choose(alloc, evaluation, env, name, over, test, body, none, made),
+        } => form_choose(
+            alloc,
+            evaluation,
+            env,
+            &Binder { name, over, test },
+            body,
+            none,
+            made,
+        ),
         Rule::Call { name, arguments } => form_call(
             alloc,
             evaluation,
@@ -196,26 +211,23 @@ fn form_each<'e, P: Picks>(
     alloc: Global,
     evaluation: &Evaluation<'_, '_, P>,
     env: &'e Env<'e>,
-    name: &'e Name,
-    over: &Name,
-    test: &'e Option<Term>,
+    binder: &Binder<'e>,
     body: &'e Rule,
     made: &mut Forming,
 ) -> Result<(), Stopped>
     requires { Fits evaluation.now made.old }
-    ensures { let R = tree.Forall name.now.text over.now.text (condition test.now) (meant body.now) in
-        Follows (shape_at evaluation.now) (outcome_at evaluation.now env.now made.old.path.items R) made.old made.new result }
+    ensures { Follows (shape_at evaluation.now) (outcome_at evaluation.now env.now made.old.path.items (meant_forall binder.now body.now)) made.old made.new result }
 {
-    let Some(universe) = universe_of(evaluation.scene.checked, over) else {
+    let Some(universe) = universe_of(evaluation.scene.checked, binder.over) else {
         return Ok(());
     };
     for i in 0..universe.size() {
         let bound = Env::One {
-            name,
+            name: binder.name,
             value: universe.element(i),
             outer: env,
         };
-        if holds(alloc, evaluation, &bound, test)? {
+        if holds(alloc, evaluation, &bound, binder.test)? {
             made.instances = made.instances.saturating_add(1);
             form_part(alloc, evaluation, &bound, body, i as u64, made)?;
         }
@@ -229,29 +241,19 @@ fn form_choose<'e, P: Picks>(
     alloc: Global,
     evaluation: &Evaluation<'_, '_, P>,
     env: &'e Env<'e>,
-    name: &'e Name,
-    over: &Name,
-    test: &'e Option<Term>,
+    binder: &Binder<'e>,
     body: &'e Rule,
     none: &'e Option<Box<Rule>>,
     made: &mut Forming,
 ) -> Result<(), Stopped>
     requires { Fits evaluation.now made.old }
-    ensures { let R = tree.Choose name.now.text over.now.text (condition test.now) (meant body.now) (meant_branch none.now) in
+    ensures { let R = meant_choose binder.now body.now none.now in
         Follows (shape_at evaluation.now) (outcome_at evaluation.now env.now made.old.path.items R) made.old made.new result }
 {
-    match chosen(
-        alloc,
-        evaluation,
-        env,
-        name,
-        over,
-        test,
-        made.path.as_slice(),
-    )? {
+    match chosen(alloc, evaluation, env, binder, made.path.as_slice())? {
         Some(value) => {
             let bound = Env::One {
-                name,
+                name: binder.name,
                 value,
                 outer: env,
             };
@@ -373,8 +375,7 @@ fn form_next<'e, P: Picks>(
     ensures { FollowsUpon (shape_at evaluation.now) (λ U. outcome_upon evaluation.now U env.now (yields.at made.old.path.items number) (meant rule.now)) so_far.old so_far.new made.old made.new result }
 {
     made.set.clear();
-    let nothing = Summary::new(alloc, evaluation.scene.view.signature.count());
-    let view = View::upon(evaluation.scene.view, mem::replace(so_far, nothing));
+    let view = View::upon(evaluation.scene.view, so_far);
     let inner = Evaluation {
         scene: Scene {
             checked: evaluation.scene.checked,
@@ -384,7 +385,6 @@ fn form_next<'e, P: Picks>(
         turns: evaluation.turns,
     };
     form_part(alloc, &inner, env, rule, number, made)?;
-    *so_far = view.over;
     so_far.then(&made.set)?;
     Ok(())
 }

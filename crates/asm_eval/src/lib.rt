@@ -2,6 +2,7 @@
 #![tactic(auto)]
 
 pub mod below;
+mod binder;
 mod choose;
 pub mod env;
 pub mod evaluation;

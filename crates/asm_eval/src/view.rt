@@ -18,27 +18,28 @@ use asm_state::value::Value;
 use asm_updates::summary::Summary;
 
 /// A state with sets of updates over it, read as the state in which the sets have been fired one after the other.
-#[derive(Drop)]
+#[derive(Clone, Copy)]
 pub struct View<'a> {
     pub signature: &'a Signature,
     pub state: &'a State,
     /// The sets that are fired before this view's own.
     pub below: Below<'a>,
-    pub over: Summary,
+    /// The view's own set, which is fired last.
+    pub over: &'a Summary,
     ghost whole: { length state.now ≡ count_of signature.now },
-    ghost counted: { over.count ≡ count_of signature.now },
+    ghost counted: { over.now.count ≡ count_of signature.now },
     ghost sound: { IsSound signature.now },
 }
 
 impl<'a> View<'a> {
     /// The state with the set over it.
-    pub fn new(signature: &'a Signature, state: &'a State, over: Summary) -> View<'a>
+    pub fn new(signature: &'a Signature, state: &'a State, over: &'a Summary) -> View<'a>
         requires whole { length state.now ≡ count_of signature.now }
-        requires counted { over.count ≡ count_of signature.now }
-        ensures parts { (result.signature.now ≡ signature.now) × (result.state.now ≡ state.now) × (result.over ≡ over) }
+        requires counted { over.now.count ≡ count_of signature.now }
+        ensures parts { (result.signature.now ≡ signature.now) × (result.state.now ≡ state.now) × (result.over.now ≡ over.now) }
         ensures below { result.below ≡ Nothing }
-        ensures fired { (U : UpdateSet) → Stands signature.now over U → IsConsistent U →
-            shown_over result.signature.now result.state.now result.below result.over ≡ fire (state_of signature.now state.now) U }
+        ensures fired { (U : UpdateSet) → Stands signature.now over.now U → IsConsistent U →
+            shown_over result.signature.now result.state.now result.below result.over.now ≡ fire (state_of signature.now state.now) U }
     {
         // The calls say that no universe has a value twice, and that each entry is of a location below the count.
         let _count = signature.count();
@@ -52,15 +53,15 @@ impl<'a> View<'a> {
     }
 
     /// What another view shows, with the set over it. Nothing is copied.
-    pub fn upon(lower: &'a View<'a>, over: Summary) -> View<'a>
-        requires { over.count ≡ count_of lower.now.signature.now }
-        ensures parts { (result.signature.now ≡ lower.now.signature.now) × (result.state.now ≡ lower.now.state.now) × (result.over ≡ over) }
+    pub fn upon(lower: &'a View<'a>, over: &'a Summary) -> View<'a>
+        requires { over.now.count ≡ count_of lower.now.signature.now }
+        ensures parts { (result.signature.now ≡ lower.now.signature.now) × (result.state.now ≡ lower.now.state.now) × (result.over.now ≡ over.now) }
         ensures signature { result.signature.now ≡ lower.now.signature.now }
-        ensures over { result.over ≡ over }
-        ensures below { IsUpon result.below lower.now.over lower.now.below }
-        ensures fired { (U : UpdateSet) → Stands lower.now.signature.now over U → IsConsistent U →
-            shown_over result.signature.now result.state.now result.below result.over
-            ≡ fire (shown_over lower.now.signature.now lower.now.state.now lower.now.below lower.now.over) U }
+        ensures over { result.over.now ≡ over.now }
+        ensures below { IsUpon result.below lower.now.over.now lower.now.below }
+        ensures fired { (U : UpdateSet) → Stands lower.now.signature.now over.now U → IsConsistent U →
+            shown_over result.signature.now result.state.now result.below result.over.now
+            ≡ fire (shown_over lower.now.signature.now lower.now.state.now lower.now.below lower.now.over.now) U }
     {
         // The call says that each entry is of a location below the count.
         let _len = over.len();
@@ -68,7 +69,7 @@ impl<'a> View<'a> {
             signature: lower.signature,
             state: lower.state,
             below: Below::Set {
-                over: &lower.over,
+                over: lower.over,
                 below: &lower.below,
             },
             over,
@@ -78,9 +79,9 @@ impl<'a> View<'a> {
     /// What the view shows at the location with this number.
     pub fn content(&self, n: usize) -> Value
         requires { n < count_of self.now.signature.now }
-        ensures kept { result ≡ overwritten (entry self.now.over n) (content_below self.now.below n (slice_index_or self.now.state.now n Undef)) }
+        ensures kept { result ≡ overwritten (entry self.now.over.now n) (content_below self.now.below n (slice_index_or self.now.state.now n Undef)) }
         ensures shown { let l = location_at self.now.signature.now n in
-            IsTrue (is_proper l) → result ≡ shown_over self.now.signature.now self.now.state.now self.now.below self.now.over l }
+            IsTrue (is_proper l) → result ≡ shown_over self.now.signature.now self.now.state.now self.now.below self.now.over.now l }
     {
         self.kept(n)
     }
@@ -88,7 +89,7 @@ impl<'a> View<'a> {
     /// What the last of the sets that names this number has there, or else the state.
     fn kept(&self, n: usize) -> Value
         requires { n < count_of self.now.signature.now }
-        ensures { result ≡ overwritten (entry self.now.over n) (content_below self.now.below n (slice_index_or self.now.state.now n Undef)) }
+        ensures { result ≡ overwritten (entry self.now.over.now n) (content_below self.now.below n (slice_index_or self.now.state.now n Undef)) }
     {
         if let Some((value, _)) = self.over.get(n) {
             return value;
@@ -104,7 +105,7 @@ impl<'a> View<'a> {
     pub fn read(&self, f: usize, arguments: &[Value]) -> Value
         requires { HasKind Controlled self.now.signature.now f }
         ensures { let at = location_in f (domain_of self.now.signature.now f) arguments.now in
-            result ≡ read (shown_over self.now.signature.now self.now.state.now self.now.below self.now.over) at }
+            result ≡ read (shown_over self.now.signature.now self.now.state.now self.now.below self.now.over.now) at }
     {
         match self.signature.proper_number(f, arguments) {
             None => Value::Undef,

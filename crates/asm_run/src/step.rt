@@ -42,7 +42,7 @@ fn form_main<'a, P: Picks>(
     made.path.clear();
     let signature = checked.signature();
     let nothing = Summary::new(alloc, signature.count());
-    let view = View::new(signature, state, nothing);
+    let view = View::new(signature, state, &nothing);
     let env = Env::new();
     let at = Evaluation {
         scene: Scene {

@@ -45,7 +45,7 @@ fn yielded(alloc: Global, body: &str) -> Result<(Outcome, u64), Fail> {
     let signature = checked.signature();
     let state = State::initial(alloc, signature)?;
     let nothing = Summary::new(alloc, signature.count());
-    let view = View::new(signature, &state, nothing);
+    let view = View::new(signature, &state, &nothing);
     let env = Env::new();
     let picks = Counting {
         asked: Cell::new(0),

@@ -2,20 +2,19 @@ use Rattle.std.proofs.Common.{◌≡◌, Some, None, rules, sym, ap, ◌∙◌, 
 use Rattle.std.proofs.lemmas.Bool.{false≢true}
 use Rattle.asm_state.specs.Updates.{IsConsistent, none}
 use Rattle.asm_updates.specs.Entries.{Entries}
-use Rattle.asm_updates.specs.Stands.{Stands}
 use Rattle.asm_reader.specs.ScriptLines.{pick}
 use Rattle.asm_eval.specs.Does.{Outcome}
 use Rattle.asm_eval.specs.Environments.{environment}
 use Rattle.asm_eval.specs.Evaluated.{setting, shape_at, state_at, meant, meant_terms}
 use Rattle.asm_eval.specs.Formed.{Forms}
-use Rattle.asm_eval.specs.Program.{with_value}
+use Rattle.asm_eval.specs.Scenes.{scene_candidates, with_element}
 use Rattle.asm_eval.specs.Setting.{outcome}
 use Rattle.asm_eval.specs.Taken.{taken}
 use Rattle.asm_eval.specs.Value.{is_true}
 use Rattle.asm_eval.specs.Valued.{shown}
 use Rattle.asm_eval.specs.Yields.{at, Exhausted}
 use Rattle.asm_eval.proofs.CalledRules.{call_is_less, called_does, rule_number, not_called_does}
-use Rattle.asm_eval.proofs.FormedRules.{follows_same, follows_nothing, follows_both, follows_counted, follows_stopped, forms_same, in_body, part_is_less, rule_does, candidates_of, skip_does, left_out_does, par_does, first_does, other_does, let_does, chosen_does, none_does, next_rule_does, exhausted_rule_does, no_rule_does, forall_of, element_does, exhausted_element_does, element_passed, no_element_does, seq_does, iterate_does, rules_do_in_order, turns_do}
+use Rattle.asm_eval.proofs.FormedRules.{follows_same, follows_nothing, follows_both, follows_counted, follows_stopped, forms_same, in_body, part_is_less, rule_does, skip_does, left_out_does, par_does, first_does, other_does, let_does, chosen_does, none_does, next_rule_does, exhausted_rule_does, no_rule_does, forall_of, element_does, exhausted_element_does, element_passed, no_element_does, seq_does, iterate_does, rules_do_in_order, turns_do}
 use Rattle.asm_eval.proofs.Sequences.{begins, goes_upon, no_fault_found, fault_found, stopped_for_memory}
 use Rattle.asm_eval.proofs.OrderedRules.{part_goes_on, part_ends, part_stops, parts_end, turn_goes_on, turn_ends, turn_stops, turns_stop}
 use Rattle.asm_eval.proofs.form.+form.Goals as goal
@@ -110,7 +109,7 @@ pub form_each-returns-in_default : goal.form_each-returns-in_default
 form_each-returns-in_default g t c =
     let a = c.args in
     follows_nothing (shape_at a.evaluation.now) tt _ a.made.now
-    (forall_of a.evaluation.now (environment a.env.now) a.made.now.path.items a.name.now.text a.over.now.text a.test.now a.body.now _ (sym c.in_default.ensures.none))
+    (forall_of a.evaluation.now (environment a.env.now) a.made.now.path.items a.binder.now a.body.now _ (sym c.in_default.ensures.none))
 
 pub form_each-loop-i-preserved : goal.form_each-loop-i-preserved
 form_each-loop-i-preserved g t c =
@@ -121,17 +120,17 @@ form_each-loop-i-preserved g t c =
         same_count = w.in_ok-form_part.ensures.count ∙ l.invariant.same_count;
         same_path = w.in_ok-form_part.ensures.path ∙ l.invariant.same_path;
         follows = λ new r rest. l.invariant.follows new r (follows_same (shape_at a.evaluation.now) r _ _ _ _
-            (element_does a.evaluation.now (environment a.env.now) a.made.now.path.items a.name.now.text a.test.now a.body.now c.in-Some.universe.now l.i c.element.result c.element.ensures (sym w.if-branch.true ∙ c.in_ok-holds.ensures))
+            (element_does a.evaluation.now (environment a.env.now) a.made.now.path.items a.binder.now a.body.now c.in-Some.universe.now l.i c.element.result c.element.ensures (sym w.if-branch.true ∙ c.in_ok-holds.ensures))
             (follows_counted (shape_at a.evaluation.now) r _ _ _ _ refl refl w.saturating_add-made.ensures
             (follows_both (shape_at a.evaluation.now) tt r _ _ _ _ _
-            (follows_same (shape_at a.evaluation.now) _ _ _ _ _ (ap (λ q. rule_does a.evaluation.now (with_value a.name.now.text c.element.result (environment a.env.now)) (at q l.i) a.body.now) l.invariant.same_path) w.in_ok-form_part.ensures)
+            (follows_same (shape_at a.evaluation.now) _ _ _ _ _ (ap (λ q. rule_does a.evaluation.now (with_element a.binder.now c.element.result (environment a.env.now)) (at q l.i) a.body.now) l.invariant.same_path) w.in_ok-form_part.ensures)
             rest)));
       })
       | form_each-else-branch w ↦ rw w.made-is (record {
         same_count = l.invariant.same_count;
         same_path = l.invariant.same_path;
         follows = λ new r rest. l.invariant.follows new r (follows_same (shape_at a.evaluation.now) r _ _ _ _
-            (element_passed a.evaluation.now (environment a.env.now) a.made.now.path.items a.name.now.text a.test.now a.body.now c.in-Some.universe.now l.i c.element.result c.element.ensures (sym w.if-branch.false ∙ c.in_ok-holds.ensures))
+            (element_passed a.evaluation.now (environment a.env.now) a.made.now.path.items a.binder.now a.body.now c.in-Some.universe.now l.i c.element.result c.element.ensures (sym w.if-branch.false ∙ c.in_ok-holds.ensures))
             rest);
       })
     ]
@@ -140,38 +139,38 @@ pub form_each-returns : goal.form_each-returns
 form_each-returns g t c =
     let a = c.args in
     let l = c.loop-i in
-    follows_same (shape_at a.evaluation.now) _ _ _ _ _ (forall_of a.evaluation.now (environment a.env.now) a.made.now.path.items a.name.now.text a.over.now.text a.test.now a.body.now c.in-Some.universe.now c.in-Some.ensures.some)
+    follows_same (shape_at a.evaluation.now) _ _ _ _ _ (forall_of a.evaluation.now (environment a.env.now) a.made.now.path.items a.binder.now a.body.now c.in-Some.universe.now c.in-Some.ensures.some)
     (l.invariant.follows _ _ (follows_nothing (shape_at a.evaluation.now) tt _ _
-    (no_element_does a.evaluation.now (environment a.env.now) a.made.now.path.items a.name.now.text a.test.now a.body.now c.in-Some.universe.now l.i (omega arith))))
+    (no_element_does a.evaluation.now (environment a.env.now) a.made.now.path.items a.binder.now a.body.now c.in-Some.universe.now l.i (omega arith))))
 
 pub form_each-returns-in_err-form_part : goal.form_each-returns-in_err-form_part
 form_each-returns-in_err-form_part g t c =
     let a = c.args in
     let l = c.loop-i in
     let residual = c.from_residual-in_err-form_part in
-    follows_same (shape_at a.evaluation.now) _ _ _ _ _ (forall_of a.evaluation.now (environment a.env.now) a.made.now.path.items a.name.now.text a.over.now.text a.test.now a.body.now c.in-Some.universe.now c.in-Some.ensures.some)
+    follows_same (shape_at a.evaluation.now) _ _ _ _ _ (forall_of a.evaluation.now (environment a.env.now) a.made.now.path.items a.binder.now a.body.now c.in-Some.universe.now c.in-Some.ensures.some)
     (l.invariant.follows _ _ (follows_stopped (shape_at a.evaluation.now) c.form_part.result residual.result c.in_err-form_part.field-0.0 _ _ _ _ _ refl c.in_err-form_part.was residual.ensures.1
-    (λ last ends. exhausted_element_does a.evaluation.now (environment a.env.now) a.made.now.path.items a.name.now.text a.test.now a.body.now c.in-Some.universe.now l.i c.element.result last c.element.ensures (sym c.if-branch.true ∙ c.in_ok-holds.ensures)
-    (sym (ap (λ q. (rule_does a.evaluation.now (with_value a.name.now.text c.element.result (environment a.env.now)) (at q l.i) a.body.now).result) l.invariant.same_path) ∙ ends))
+    (λ last ends. exhausted_element_does a.evaluation.now (environment a.env.now) a.made.now.path.items a.binder.now a.body.now c.in-Some.universe.now l.i c.element.result last c.element.ensures (sym c.if-branch.true ∙ c.in_ok-holds.ensures)
+    (sym (ap (λ q. (rule_does a.evaluation.now (with_element a.binder.now c.element.result (environment a.env.now)) (at q l.i) a.body.now).result) l.invariant.same_path) ∙ ends))
     c.form_part.ensures))
 
 pub form_choose-returns-in-Some : goal.form_choose-returns-in-Some
 form_choose-returns-in-Some g t c =
     let a = c.args in
-    let candidates = candidates_of a.evaluation.now.scene.checked.now a.evaluation.now.scene.view.now (environment a.env.now) a.name.now.text a.over.now.text a.test.now in
+    let candidates = scene_candidates a.evaluation.now.scene (environment a.env.now) a.binder.now in
     let s = setting a.evaluation.now in
     follows_same (shape_at a.evaluation.now) c.form_part.result _ _ _ _
-    (chosen_does a.evaluation.now (environment a.env.now) a.made.now.path.items a.name.now.text a.over.now.text a.test.now a.body.now a.none.now c.in-Some.value
+    (chosen_does a.evaluation.now (environment a.env.now) a.made.now.path.items a.binder.now a.body.now a.none.now c.in-Some.value
     (sym c.in-Some.is ∙ c.in_ok-value.ensures ∙ ap (λ q. taken (pick s.script s.step q) candidates) c.as_slice.ensures.value))
     c.form_part.ensures
 
 pub form_choose-returns-in-None : goal.form_choose-returns-in-None
 form_choose-returns-in-None g t c =
     let a = c.args in
-    let candidates = candidates_of a.evaluation.now.scene.checked.now a.evaluation.now.scene.view.now (environment a.env.now) a.name.now.text a.over.now.text a.test.now in
+    let candidates = scene_candidates a.evaluation.now.scene (environment a.env.now) a.binder.now in
     let s = setting a.evaluation.now in
     follows_same (shape_at a.evaluation.now) c.form_other.result _ _ _ _
-    (none_does a.evaluation.now (environment a.env.now) a.made.now.path.items a.name.now.text a.over.now.text a.test.now a.body.now a.none.now
+    (none_does a.evaluation.now (environment a.env.now) a.made.now.path.items a.binder.now a.body.now a.none.now
     (sym c.in-None.is ∙ c.in_ok-value.ensures ∙ ap (λ q. taken (pick s.script s.step q) candidates) c.as_slice.ensures.value))
     c.form_other.ensures
 
@@ -315,13 +314,12 @@ form_next-returns g t c =
       formed = λ U stands consistent.
           let shape = (shape_at a.evaluation.now) in
           let v = c.upon-view.result in
-          let given = subst (λ s. Stands shape s U) (sym c.replace.ensures.value) stands in
-          goes_upon shape _ U c.clear.new.self v.over c.then.new.self c.form_part.new.made.set a.made.now.instances c.form_part.new.made.instances
-          (c.clear.ensures.empty shape c.count.ensures.sound c.requires.fits)
-          (subst (λ s. Stands shape s U) (sym c.upon-view.ensures.over) given)
+          goes_upon shape _ U c.clear.new.self a.so_far.now c.then.new.self c.form_part.new.made.set a.made.now.instances c.form_part.new.made.instances
+          (c.clear.ensures.empty shape a.evaluation.now.scene.view.now.sound c.requires.fits)
+          stands
           (c.in_ok-then.ensures.merge shape)
           (forms_same shape _ _ _ _ _ _
-          (ap (λ A. outcome (setting a.evaluation.now) A (environment a.env.now) (at a.made.now.path.items a.number) (meant a.rule.now)) (c.upon-view.ensures.fired U given consistent))
+          (ap (λ A. outcome (setting a.evaluation.now) A (environment a.env.now) (at a.made.now.path.items a.number) (meant a.rule.now)) (c.upon-view.ensures.fired U stands consistent))
           (subst (λ s. Forms s (outcome (setting a.evaluation.now) (shown v) (environment a.env.now) (at a.made.now.path.items a.number) (meant a.rule.now)) c.clear.new.self c.form_part.new.made.set a.made.now.instances c.form_part.new.made.instances) c.upon-view.ensures.signature
           c.in_ok-form_part.ensures.formed));
       exhausted = λ U stands consistent. tt;

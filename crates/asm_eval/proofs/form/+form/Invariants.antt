@@ -5,9 +5,8 @@ use Rattle.asm_syntax.specs.Tree as tree
 use Rattle.asm_eval.specs.declared.outcome.Forming.{Forming}
 use Rattle.asm_eval.specs.declared.stopped.Stopped.{Stopped}
 use Rattle.asm_eval.specs.Environments.{environment}
-use Rattle.asm_eval.specs.Evaluated.{setting, shape_at, state_at, meant, meant_rules, meant_branch, meant_term, meant_terms}
+use Rattle.asm_eval.specs.Evaluated.{setting, shape_at, state_at, meant, meant_rules, meant_branch, meant_choose, meant_forall, meant_term, meant_terms}
 use Rattle.asm_eval.specs.Formed.{Follows}
-use Rattle.asm_eval.specs.Valued.{condition}
 use Rattle.asm_eval.proofs.FormedRules.{left_to_form, rules_do, each_does, rules_do_in_order, turns_do}
 use Rattle.asm_eval.proofs.Sequences.{IsUnderway}
 use Rattle.asm_eval.proofs.form.+form.Given as goal
@@ -33,10 +32,10 @@ abbrev pub decreases-form_all : goal.decreases-form_all
 decreases-form_all g l = left_to_form l.evaluation.now.scene.checked.now 0 (tree.Par (meant_rules l.rules.now))
 
 abbrev pub decreases-form_each : goal.decreases-form_each
-decreases-form_each g l = left_to_form l.evaluation.now.scene.checked.now 0 (tree.Forall l.name.now.text l.over.now.text (condition l.test.now) (meant l.body.now))
+decreases-form_each g l = left_to_form l.evaluation.now.scene.checked.now 0 (meant_forall l.binder.now l.body.now)
 
 abbrev pub decreases-form_choose : goal.decreases-form_choose
-decreases-form_choose g l = left_to_form l.evaluation.now.scene.checked.now 0 (tree.Choose l.name.now.text l.over.now.text (condition l.test.now) (meant l.body.now) (meant_branch l.none.now))
+decreases-form_choose g l = left_to_form l.evaluation.now.scene.checked.now 0 (meant_choose l.binder.now l.body.now l.none.now)
 
 abbrev pub decreases-form_call : goal.decreases-form_call
 decreases-form_call g l = left_to_form l.evaluation.now.scene.checked.now 0 (tree.Call l.name.now.text (meant_terms l.arguments.now))
@@ -68,8 +67,8 @@ invariant-form_each-loop-i g l = record {
   same_count : l.made.set.count ≡ l.initial.made.set.count;
   same_path : l.made.path.items ≡ l.initial.made.path.items;
   follows : (new : Forming) (r : Result (Unit {0}) Stopped)
-      → Follows (shape_at l.evaluation) (each_does l.evaluation (environment l.env) l.initial.made.path.items l.name.text l.test l.body l.i (drop l.i l.universe)) l.made new r
-      → Follows (shape_at l.evaluation) (each_does l.evaluation (environment l.env) l.initial.made.path.items l.name.text l.test l.body 0 l.universe) l.initial.made new r;
+      → Follows (shape_at l.evaluation) (each_does l.evaluation (environment l.env) l.initial.made.path.items l.binder l.body l.i (drop l.i l.universe)) l.made new r
+      → Follows (shape_at l.evaluation) (each_does l.evaluation (environment l.env) l.initial.made.path.items l.binder l.body 0 l.universe) l.initial.made new r;
 }
 
 -- the sets of the parts so far, and what is left of the parts

@@ -9,4 +9,4 @@ returns-clause-shown c = λ proper.
     let view = c.args.self.now in
     let shape = view.signature.now in
     c.kept.ensures
-    ∙ shown_at shape view.state.now view.below view.over (location_at shape c.args.n) c.args.n (sym (number_laws.number shape c.args.n view.sound c.requires)) proper
+    ∙ shown_at shape view.state.now view.below view.over.now (location_at shape c.args.n) c.args.n (sym (number_laws.number shape c.args.n view.sound c.requires)) proper

@@ -4,4 +4,4 @@ use Rattle.asm_eval.proofs.view.View.new.Goals as goal
 
 pub returns-clause-fired : goal.returns-clause-fired
 returns-clause-fired c = λ U stands consistent.
-    seen_fired c.args.signature.now (state_of c.args.signature.now c.args.state.now) c.args.over U stands c.len-len.ensures.sound consistent
+    seen_fired c.args.signature.now (state_of c.args.signature.now c.args.state.now) c.args.over.now U stands c.len-len.ensures.sound consistent
