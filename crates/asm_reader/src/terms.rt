@@ -174,7 +174,6 @@ pub fn applied(
 
 /// A bound name and what it ranges over behind the one word, and a term behind the other.
 #[cycle(terms)]
-#[inline(never)]
 #[tactic(auto, unfolding(crate::specs::TermReading::quantified_at))]
 fn quantified(
     alloc: Global,
@@ -194,9 +193,39 @@ fn quantified(
     Ok((name, over, test))
 }
 
+#[cycle(terms)]
+#[inline(never)]
+#[tactic(auto, unfolding(crate::specs::TermReading::exists_at))]
+fn exists(
+    alloc: Global,
+    text: &[u8],
+    tokens: &mut Cursor<'_>,
+    levels: usize,
+) -> Result<Term, Refused<ReadError>>
+    ensures { Reads term_of (reading.exists_at text.now (reading.term_at text.now levels) tokens.old.rest.now) result tokens.new.rest.now }
+{
+    let (name, over, test) = quantified(alloc, text, tokens, levels, Word::Exists, Word::With)?;
+    Ok(Term::Exists { name, over, test })
+}
+
+#[cycle(terms)]
+#[inline(never)]
+#[tactic(auto, unfolding(crate::specs::TermReading::every_at))]
+fn every(
+    alloc: Global,
+    text: &[u8],
+    tokens: &mut Cursor<'_>,
+    levels: usize,
+) -> Result<Term, Refused<ReadError>>
+    ensures { Reads term_of (reading.every_at text.now (reading.term_at text.now levels) tokens.old.rest.now) result tokens.new.rest.now }
+{
+    let (name, over, test) = quantified(alloc, text, tokens, levels, Word::Forall, Word::Holds)?;
+    Ok(Term::Every { name, over, test })
+}
+
 /// What stands in parentheses.
 #[cycle(terms)]
-#[tactic(auto, unfolding(crate::specs::TermReading::inner_at, crate::specs::TermReading::exists_at, crate::specs::TermReading::every_at))]
+#[tactic(auto, unfolding(crate::specs::TermReading::inner_at))]
 fn inner(
     alloc: Global,
     text: &[u8],
@@ -206,19 +235,10 @@ fn inner(
     ensures { Reads term_of (reading.inner_at text.now (reading.term_at text.now levels) tokens.old.rest.now) result tokens.new.rest.now }
 {
     if tokens.sees(Kind::Word(Word::Exists)) {
-        let (name, over, test) = quantified(alloc, text, tokens, levels, Word::Exists, Word::With)?;
-        return Ok(Term::Exists { name, over, test });
+        return exists(alloc, text, tokens, levels);
     }
     if tokens.sees(Kind::Word(Word::Forall)) {
-        let (name, over, test) = quantified(
-            alloc,
-            text,
-            tokens,
-            levels,
-            Word::Forall,
-            Word::Holds,
-        )?;
-        return Ok(Term::Every { name, over, test });
+        return every(alloc, text, tokens, levels);
     }
     term(alloc, text, tokens, levels)
 }

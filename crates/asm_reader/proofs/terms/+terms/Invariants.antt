@@ -61,8 +61,14 @@ decreases-terms l = l.levels * 30 + 26
 abbrev pub decreases-quantified : goal.decreases-quantified
 decreases-quantified l = l.levels * 30 + 26
 
+abbrev pub decreases-exists : goal.decreases-exists
+decreases-exists l = l.levels * 30 + 27
+
+abbrev pub decreases-every : goal.decreases-every
+decreases-every l = l.levels * 30 + 27
+
 abbrev pub decreases-inner : goal.decreases-inner
-decreases-inner l = l.levels * 30 + 27
+decreases-inner l = l.levels * 30 + 28
 
 abbrev pub invariant-terms-loop-alloc : goal.invariant-terms-loop-alloc
 invariant-terms-loop-alloc l =
