@@ -3,12 +3,12 @@ ghost use Rattle.std.specs.Prelude.{IfOk};
 ghost use Rattle.asm_syntax.specs.Views.{spec_of};
 ghost use Rattle.asm_check.specs.NumberTables.{IsInRange};
 
-use asm_check::{Checked, Named, check};
-use asm_reader::read;
+use crate::text::checked_of;
+use asm_check::{Checked, Named};
 use asm_syntax::name::Text;
 use asm_syntax::rule::Rule;
 use asm_syntax::term::Term;
-use std::alloc::Global;
+use std::alloc::{AllocError, Global};
 use std::test::Fail;
 
 const TEXT: &[u8] =
@@ -16,72 +16,100 @@ const TEXT: &[u8] =
 function static g : E * U initially { (b, 3) -> 7 } derived d(x) = x + 1 rule M = r(d(1)) rule r(p) = f(p) := b";
 
 /// What a name of a checked specification stands for.
-fn named(alloc: Global, checked: &Checked, name: &str) -> Result<Option<Named>, Fail>
+fn named(alloc: Global, checked: &Checked, name: &str) -> Result<Option<Named>, AllocError>
     ensures { IfOk result (IsInRange (spec_of checked.now.spec)) }
 {
     let text = Text::new(alloc, name.as_bytes())?;
     Ok(checked.named(&text))
 }
 
-fn checked(alloc: Global) -> Result<Checked, Fail> {
-    let spec = read(alloc, TEXT)?;
-    Ok(check(alloc, spec)?)
+static NAMES: [(&str, Option<Named>); 12] = [
+    ("E", Some(Named::Universe(0))),
+    ("U", Some(Named::Universe(1))),
+    ("a", Some(Named::Element(0))),
+    ("b", Some(Named::Element(1))),
+    ("f", Some(Named::Function(0))),
+    ("g", Some(Named::Function(1))),
+    ("d", Some(Named::Derived(0))),
+    ("M", Some(Named::Rule(0))),
+    ("r", Some(Named::Rule(1))),
+    ("NUMBER", None),
+    ("p", None),
+    ("T", None),
+];
+
+/// The first name of the table that stands for something else.
+fn first_wrong_name(alloc: Global, checked: &Checked) -> Result<Option<&'static str>, AllocError> {
+    for (name, number) in &NAMES {
+        if named(alloc, checked, name)? != *number {
+            return Ok(Some(*name));
+        }
+    }
+    Ok(None)
+}
+
+/// Whether the names of a specification stand for their numbers, that of the whole for none, and its main rule is the first.
+fn numbers_names(alloc: Global) -> Result<bool, Fail> {
+    let checked = checked_of(alloc, TEXT)?;
+    let first_wrong = first_wrong_name(alloc, &checked)?;
+    Ok(first_wrong == None && checked.named(&checked.spec.name.text) == None && checked.main() == 0)
 }
 
 #[test]
 fn names_stand_for_numbers(rt: HostRuntime) -> Result<(), Fail> {
-    let checked = checked(rt.alloc())?;
-    for (name, number) in [
-        ("E", Some(Named::Universe(0))),
-        ("U", Some(Named::Universe(1))),
-        ("a", Some(Named::Element(0))),
-        ("b", Some(Named::Element(1))),
-        ("f", Some(Named::Function(0))),
-        ("g", Some(Named::Function(1))),
-        ("d", Some(Named::Derived(0))),
-        ("M", Some(Named::Rule(0))),
-        ("r", Some(Named::Rule(1))),
-        ("NUMBER", None),
-        ("p", None),
-        ("T", None),
-    ] {
-        assert!(rt; named(rt.alloc(), &checked, name)? == number);
-    }
-    assert!(rt; checked.named(&checked.spec.name.text) == None);
-    assert_eq!(rt; checked.main(), 0);
+    assert!(rt; numbers_names(rt.alloc())?);
     Ok(())
+}
+
+/// Whether a function or an element has this name by the number that the name stands for.
+fn is_named_again(alloc: Global, checked: &Checked, name: &str) -> Result<bool, AllocError> {
+    match named(alloc, checked, name)? {
+        Some(Named::Function(f)) => Ok(checked.function_name(f) == name.as_bytes()),
+        Some(Named::Element(e)) => Ok(checked.element_name(e) == name.as_bytes()),
+        _ => Ok(false),
+    }
+}
+
+/// Whether a rule has one parameter and assigns, or a derived function has one and is a chain.
+fn has_its_body(alloc: Global, checked: &Checked, name: &str) -> Result<bool, AllocError> {
+    match named(alloc, checked, name)? {
+        Some(Named::Rule(r)) => {
+            let (parameters, body) = checked.rule(r);
+            Ok(parameters.len() == 1 && matches!(body, Rule::Assign { .. }))
+        }
+        Some(Named::Derived(d)) => {
+            let (parameters, body) = checked.derived(d);
+            Ok(parameters.len() == 1 && matches!(body, Term::Chain { .. }))
+        }
+        _ => Ok(false),
+    }
+}
+
+/// Whether the numbers that names stand for lead back to the names, and to their bodies.
+fn leads_back(alloc: Global) -> Result<bool, Fail> {
+    let checked = checked_of(alloc, TEXT)?;
+    Ok(
+        is_named_again(alloc, &checked, "g")?
+            && is_named_again(alloc, &checked, "b")?
+            && has_its_body(alloc, &checked, "r")?
+            && has_its_body(alloc, &checked, "d")?,
+    )
 }
 
 #[test]
 fn numbers_lead_to_names_and_bodies(rt: HostRuntime) -> Result<(), Fail> {
-    let checked = checked(rt.alloc())?;
-    let (Some(Named::Function(g)), Some(Named::Element(b))) = (
-        named(rt.alloc(), &checked, "g")?,
-        named(rt.alloc(), &checked, "b")?,
-    ) else {
-        return Err(Fail::from("other kinds of names"));
-    };
-    assert!(rt; checked.function_name(g) == b"g".as_slice());
-    assert!(rt; checked.element_name(b) == b"b".as_slice());
-    let (Some(Named::Rule(r)), Some(Named::Derived(d))) = (
-        named(rt.alloc(), &checked, "r")?,
-        named(rt.alloc(), &checked, "d")?,
-    ) else {
-        return Err(Fail::from("other kinds of bodies"));
-    };
-    let (parameters, body) = checked.rule(r);
-    assert_eq!(rt; parameters.len(), 1);
-    assert!(rt; matches!(body, Rule::Assign { .. }));
-    let (parameters, body) = checked.derived(d);
-    assert_eq!(rt; parameters.len(), 1);
-    assert!(rt; matches!(body, Term::Chain { .. }));
+    assert!(rt; leads_back(rt.alloc())?);
     Ok(())
+}
+
+/// Whether the signature has all functions, and all locations.
+fn has_all(alloc: Global) -> Result<bool, Fail> {
+    let checked = checked_of(alloc, TEXT)?;
+    Ok(checked.signature().functions() == 2 && checked.signature().count() == 5)
 }
 
 #[test]
 fn the_signature_has_all_functions_and_locations(rt: HostRuntime) -> Result<(), Fail> {
-    let checked = checked(rt.alloc())?;
-    assert_eq!(rt; checked.signature().functions(), 2);
-    assert_eq!(rt; checked.signature().count(), 5);
+    assert!(rt; has_all(rt.alloc())?);
     Ok(())
 }

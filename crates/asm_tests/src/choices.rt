@@ -1,16 +1,15 @@
 //! What rules yield in the initial state, and how often a `choose` asks for its number.
 ghost use Rattle.std.specs.Prelude.{[]};
 
-use asm_check::check;
+use crate::plain::{Entry, FIVE, ONE, Plain, TWO, has_entries};
+use crate::text::checked_of;
+use asm_check::Checked;
 use asm_eval::whole::whole;
 use asm_eval::{Choices, Env, Outcome, View};
-use asm_reader::{Picks, read};
-use asm_state::element::Element;
-use asm_state::number::Number;
+use asm_reader::Picks;
 use asm_state::state::State;
-use asm_state::value::Value;
 use asm_updates::summary::Summary;
-use std::alloc::Global;
+use std::alloc::{AllocError, Global};
 use std::cell::Cell;
 use std::test::Fail;
 
@@ -35,26 +34,35 @@ enum Color = { red, green, blue } universe Idx = 0 .. 2 universe Empty = 1 .. 0 
 function controlled c : Idx function controlled x \
 rule Pick(n) = choose i in Idx do x := i endchoose rule M = ";
 
-/// What a main rule with this body yields at the empty path in the initial state, and how often it asks.
-fn yielded(alloc: Global, body: &str) -> Result<(Outcome, u64), Fail> {
+/// The specification with a main rule with this body.
+fn specification(alloc: Global, body: &str) -> Result<Checked, Fail> {
     let mut text = String::from_str(alloc, BEFORE)?;
     text.push_str(body)?;
-    let spec = read(alloc, text.as_bytes())?;
-    let checked = check(alloc, spec)?;
+    checked_of(alloc, text.as_bytes())
+}
+
+/// What the main rule yields at the empty path in the initial state.
+fn outcome_of(alloc: Global, checked: &Checked, picks: &Counting) -> Result<Outcome, AllocError> {
     let (_parameters, main) = checked.rule(checked.main());
     let signature = checked.signature();
     let state = State::initial(alloc, signature)?;
     let nothing = Summary::new(alloc, signature.count());
     let view = View::new(signature, &state, &nothing);
     let env = Env::new();
+    let choices = Choices {
+        script: picks,
+        step: 1,
+    };
+    whole(alloc, checked, &view, &env, main, &choices, &[], 1000)
+}
+
+/// What a main rule with this body yields, and how often it asks.
+fn yielded(alloc: Global, body: &str) -> Result<(Outcome, u64), Fail> {
+    let checked = specification(alloc, body)?;
     let picks = Counting {
         asked: Cell::new(0),
     };
-    let choices = Choices {
-        script: &picks,
-        step: 1,
-    };
-    let outcome = whole(alloc, &checked, &view, &env, main, &choices, &[], 1000)?;
+    let outcome = outcome_of(alloc, &checked, &picks)?;
     Ok((outcome, picks.asked.get()))
 }
 
@@ -130,11 +138,16 @@ static ASKING: [(&str, u64); 23] = [
     ("seq Pick(x) Pick(x + 1) endseq", 2),
 ];
 
+/// How often a body asks.
+fn asked(alloc: Global, body: &str) -> Result<u64, Fail> {
+    let (_outcome, asked) = yielded(alloc, body)?;
+    Ok(asked)
+}
+
 #[test]
 fn a_choose_with_candidates_asks_once(rt: HostRuntime) -> Result<(), Fail> {
     for (body, times) in &ASKING {
-        let (_outcome, asked) = yielded(rt.alloc(), body)?;
-        assert_eq!(rt; asked, *times, "{body}");
+        assert!(rt; asked(rt.alloc(), body)? == *times, "{body}");
     }
     Ok(())
 }
@@ -147,76 +160,97 @@ choose k in Color with false do skip ifnone forall i in Idx do if i = 2 then c(i
 skip \
 endpar";
 
+/// Each location twice, and the stray one of `c`.
+const CLASHES: &str = "forall i in Idx do par x := i c(i + 1) := i endpar endforall";
+
+/// A sequence that yields one set.
+const SEQUENCE: &str = "seq x := 1 forall i in Idx with i <= x do c(i) := x + i endforall \
+iterate if x < 5 then x := x + 2 endif enditerate endseq";
+
+/// A body, how often it asks, the number of its instances, and its set.
+type Yielded = (&'static str, u64, u64, &'static [Entry]);
+
+static YIELDED: [Yielded; 3] = [
+    (
+        ALL,
+        1,
+        5,
+        // The stray location of `c` stands between.
+        &[
+            (0, FIVE, FIVE),
+            (1, Plain::Number(6), Plain::Number(6)),
+            (2, Plain::True, Plain::True),
+            (4, Plain::Element(1), Plain::Element(1)),
+        ],
+    ),
+    (
+        CLASHES,
+        0,
+        3,
+        &[
+            (1, Plain::Number(0), Plain::Number(0)),
+            (2, ONE, ONE),
+            (3, TWO, TWO),
+            (4, Plain::Number(0), TWO),
+        ],
+    ),
+    (
+        SEQUENCE,
+        0,
+        2,
+        &[(0, ONE, ONE), (1, TWO, TWO), (4, FIVE, FIVE)],
+    ),
+];
+
+/// Whether an outcome is a set, and has these instances and entries.
+fn is_set(outcome: Outcome, instances: u64, entries: &[Entry]) -> bool {
+    match outcome {
+        Outcome::Set {
+            set,
+            instances: found,
+        } => found == instances && has_entries(&set, entries),
+        Outcome::Exhausted(_) => false,
+    }
+}
+
+/// Whether a body asks so often, and yields the set with these instances and entries.
+fn yields(alloc: Global, row: &Yielded) -> Result<bool, Fail> {
+    let (body, times, instances, entries) = row;
+    let (outcome, asked) = yielded(alloc, body)?;
+    Ok(asked == *times && is_set(outcome, *instances, entries))
+}
+
 #[test]
 fn a_rule_yields_its_set_and_its_instances(rt: HostRuntime) -> Result<(), Fail> {
-    let (outcome, asked) = yielded(rt.alloc(), ALL)?;
-    let Outcome::Set { set, instances } = outcome else {
-        return Err(Fail::from("no set"));
-    };
-    assert_eq!(rt; asked, 1);
-    assert_eq!(rt; instances, 5);
-    let five = Value::Number(Number { value: 5 });
-    let six = Value::Number(Number { value: 6 });
-    let green = Value::Element(Element { index: 1 });
-    assert_eq!(rt; set.len(), 4);
-    assert!(rt; set.get(0) == Some((five, five)));
-    assert!(rt; set.get(1) == Some((six, six)));
-    assert!(rt; set.get(2) == Some((Value::Truth(true), Value::Truth(true))));
-    // The stray location of `c` stands between.
-    assert!(rt; set.get(4) == Some((green, green)));
+    for row in &YIELDED {
+        assert!(rt; yields(rt.alloc(), row)?);
+    }
     Ok(())
 }
 
-#[test]
-fn a_clash_and_a_stray_location_stand_in_the_set(rt: HostRuntime) -> Result<(), Fail> {
-    let body = "forall i in Idx do par x := i c(i + 1) := i endpar endforall";
-    let (outcome, asked) = yielded(rt.alloc(), body)?;
-    let Outcome::Set { set, instances } = outcome else {
-        return Err(Fail::from("no set"));
-    };
-    assert_eq!(rt; asked, 0);
-    assert_eq!(rt; instances, 3);
-    let zero = Value::Number(Number { value: 0 });
-    let one = Value::Number(Number { value: 1 });
-    let two = Value::Number(Number { value: 2 });
-    assert_eq!(rt; set.len(), 4);
-    assert!(rt; set.get(1) == Some((zero, zero)));
-    assert!(rt; set.get(2) == Some((one, one)));
-    assert!(rt; set.get(3) == Some((two, two)));
-    assert!(rt; set.get(4) == Some((zero, two)));
-    Ok(())
+/// An iteration without end, behind other parts.
+const EXHAUSTED: &str =
+    "par skip seq x := 0 forall i in Idx with i > 0 do iterate c(i) := 1 enditerate endforall endseq \
+par x := 1 x := 2 endpar endpar";
+
+/// Whether an outcome is exhausted, at this path.
+fn is_exhausted(outcome: Outcome, numbers: &[u64]) -> bool {
+    match outcome {
+        Outcome::Set { .. } => false,
+        Outcome::Exhausted(path) => {
+            path.as_slice() == numbers && path.into_vec().as_slice() == numbers
+        }
+    }
 }
 
-#[test]
-fn a_sequence_yields_one_set(rt: HostRuntime) -> Result<(), Fail> {
-    let body =
-        "seq x := 1 forall i in Idx with i <= x do c(i) := x + i endforall iterate if x < 5 then x := x + 2 endif enditerate endseq";
-    let (outcome, asked) = yielded(rt.alloc(), body)?;
-    let Outcome::Set { set, instances } = outcome else {
-        return Err(Fail::from("no set"));
-    };
-    assert_eq!(rt; asked, 0);
-    assert_eq!(rt; instances, 2);
-    let one = Value::Number(Number { value: 1 });
-    let two = Value::Number(Number { value: 2 });
-    let five = Value::Number(Number { value: 5 });
-    assert_eq!(rt; set.len(), 3);
-    assert!(rt; set.get(0) == Some((one, one)));
-    assert!(rt; set.get(1) == Some((two, two)));
-    assert!(rt; set.get(4) == Some((five, five)));
-    Ok(())
+/// Whether that rule is exhausted at its first iteration, and asks for no number.
+fn exhausts(alloc: Global) -> Result<bool, Fail> {
+    let (outcome, asked) = yielded(alloc, EXHAUSTED)?;
+    Ok(asked == 0 && is_exhausted(outcome, &[1, 1, 1]))
 }
 
 #[test]
 fn an_exhausted_rule_yields_its_path(rt: HostRuntime) -> Result<(), Fail> {
-    let body =
-        "par skip seq x := 0 forall i in Idx with i > 0 do iterate c(i) := 1 enditerate endforall endseq par x := 1 x := 2 endpar endpar";
-    let (outcome, asked) = yielded(rt.alloc(), body)?;
-    let Outcome::Exhausted(path) = outcome else {
-        return Err(Fail::from("a set"));
-    };
-    assert_eq!(rt; asked, 0);
-    assert!(rt; path.as_slice() == [1, 1, 1].as_slice());
-    assert!(rt; path.into_vec().as_slice() == [1, 1, 1].as_slice());
+    assert!(rt; exhausts(rt.alloc())?);
     Ok(())
 }

@@ -6,12 +6,16 @@ mod checking;
 #[cfg(test)]
 mod choices;
 #[cfg(test)]
-mod reader;
+mod plain;
 #[cfg(test)]
 mod runs;
 #[cfg(test)]
 mod state;
 #[cfg(test)]
 mod syntax;
+#[cfg(test)]
+mod text;
+#[cfg(test)]
+mod two;
 #[cfg(test)]
 mod updates;

@@ -1,9 +1,9 @@
 //! Values, universes and signatures: codes, positions, limits, locations by number, and the contents and values at the beginning.
 ghost use Rattle.std.specs.Prelude.{◌≡◌, IfOk};
 
+use crate::plain::{Plain, has_contents, value, values_of};
 use asm_state::arguments::Arguments;
 use asm_state::domain::Domain;
-use asm_state::element::Element;
 use asm_state::entries::Entries;
 use asm_state::function::{Function, FunctionKind, Table};
 use asm_state::limits::fits;
@@ -22,24 +22,12 @@ mod universes;
 mod values;
 
 /// A list of arguments with the value that a table gives it.
-type Row<'a> = (&'a [Value], Value);
-
-fn number(value: u16) -> Value {
-    Value::Number(Number {
-        value: i64::from(value),
-    })
-}
-
-fn element(index: u16) -> Value {
-    Value::Element(Element {
-        index: u32::from(index),
-    })
-}
+type Row = (&'static [Plain], Plain);
 
 fn table_of(alloc: Global, rows: &[Row]) -> Result<Table, AllocError> {
     let mut entries = Vec::new(alloc);
-    for (arguments, value) in rows {
-        entries.push((Arguments::new(arguments.to_vec(alloc)?), *value))?;
+    for (arguments, given) in rows {
+        entries.push((Arguments::new(values_of(alloc, arguments)?), value(*given)))?;
     }
     Ok(Table::Entries(Entries::new(entries)))
 }
@@ -113,7 +101,7 @@ fn is_proper(
         Location::Proper {
             function,
             arguments: found,
-        } => Ok(function == f && found.as_slice() == arguments),
+        } => Ok(function == f && found.as_slice() == arguments && signature.stray(n) == None),
         Location::Stray { .. } => Ok(false),
     }
 }

@@ -1,7 +1,7 @@
 //! Tokens of texts, and faults of their bytes.
 use asm_syntax::name::Text;
 use asm_syntax::{Kind, LexError, Refused, Symbol, Token, Word, tokens};
-use std::alloc::Global;
+use std::alloc::{AllocError, Global};
 use std::test::Fail;
 
 /// Whether the text has just these tokens.
@@ -88,37 +88,43 @@ fn faults(rt: HostRuntime) -> Result<(), Fail> {
     Ok(())
 }
 
+/// Whether a text is told from another by its bytes, and its copy isn't.
+fn compares_bytes(alloc: Global) -> Result<bool, AllocError> {
+    let text = Text::new(alloc, b"temperature")?;
+    let same = text.copy(alloc)?;
+    let other = Text::new(alloc, b"temperaturf")?;
+    let is_same = text.is(&same) && text == same && text.key() == same.key();
+    let is_other = !text.is(&other) && text != other && text.key() != other.key();
+    Ok(is_same && is_other && same.as_bytes() == b"temperature".as_slice())
+}
+
 #[test]
 fn texts_are_compared_by_their_bytes(rt: HostRuntime) -> Result<(), Fail> {
-    let text = Text::new(rt.alloc(), b"temperature")?;
-    let same = text.copy(rt.alloc())?;
-    let other = Text::new(rt.alloc(), b"temperaturf")?;
-    assert!(rt; text.is(&same));
-    assert!(rt; text == same);
-    assert_eq!(rt; text.key(), same.key());
-    assert!(rt; !text.is(&other));
-    assert!(rt; text != other);
-    assert!(rt; text.key() != other.key());
-    assert!(rt; same.as_bytes() == b"temperature".as_slice());
+    assert!(rt; compares_bytes(rt.alloc())?);
     Ok(())
+}
+
+static TEXTS: [&[u8]; 7] = [
+    b"",
+    b"\0",
+    b"\0\0",
+    b"pressure",
+    b"pressurf",
+    b"qressure",
+    b"pressures",
+];
+
+fn is_same(alloc: Global, bytes: &[u8], others: &[u8]) -> Result<bool, AllocError> {
+    let text = Text::new(alloc, bytes)?;
+    let other = Text::new(alloc, others)?;
+    Ok(text.is(&other))
 }
 
 #[test]
 fn short_texts_are_compared_by_their_keys(rt: HostRuntime) -> Result<(), Fail> {
-    let texts: [&[u8]; 7] = [
-        b"",
-        b"\0",
-        b"\0\0",
-        b"pressure",
-        b"pressurf",
-        b"qressure",
-        b"pressures",
-    ];
-    for (i, bytes) in texts.iter().enumerate() {
-        for (k, others) in texts.iter().enumerate() {
-            let text = Text::new(rt.alloc(), bytes)?;
-            let other = Text::new(rt.alloc(), others)?;
-            assert_eq!(rt; text.is(&other), i == k);
+    for (i, bytes) in TEXTS.iter().enumerate() {
+        for (k, others) in TEXTS.iter().enumerate() {
+            assert!(rt; is_same(rt.alloc(), bytes, others)? == (i == k), "{i} {k}");
         }
     }
     Ok(())

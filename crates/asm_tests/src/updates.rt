@@ -1,90 +1,104 @@
 //! Summaries: their entries, unions, merges and order, and what a refusal leaves.
 ghost use Rattle.std.specs.Prelude.{◌≡◌, ◌<◌, IfOk};
 
-use asm_state::number::Number;
-use asm_state::value::Value;
+use crate::plain::{
+    Entry, FIVE, FOUR, NOTHING, ONE, Plain, THREE, TWO, has_contents, has_entries, summary_of,
+    value,
+};
 use asm_updates::summary::Summary;
 use std::alloc::{AllocError, Global};
 use std::test::Fail;
 
 mod faults;
+mod refusals;
 
 const LOCATIONS: usize = 64;
 
-const ONE: Value = Value::Number(Number { value: 1 });
+static EARLIER: [Entry; 2] = [(1, TWO, TWO), (0, ONE, ONE)];
 
-const TWO: Value = Value::Number(Number { value: 2 });
+static LATER: [Entry; 2] = [(2, THREE, FOUR), (1, FIVE, FIVE)];
 
-const THREE: Value = Value::Number(Number { value: 3 });
+static MERGED: [Entry; 3] = [(0, ONE, ONE), (1, FIVE, FIVE), (2, THREE, FOUR)];
 
-const FOUR: Value = Value::Number(Number { value: 4 });
+static UNITED: [Entry; 3] = [(0, ONE, ONE), (1, TWO, FIVE), (2, THREE, FOUR)];
 
-const FIVE: Value = Value::Number(Number { value: 5 });
-
-/// The summary {0: (1, 1), 1: (2, 2)}.
 fn earlier(alloc: Global) -> Result<Summary, AllocError>
     ensures { IfOk result (λ s. s.count ≡ LOCATIONS) }
 {
-    let mut summary = Summary::new(alloc, LOCATIONS);
-    summary.add(1, TWO, TWO)?;
-    summary.add(0, ONE, ONE)?;
-    Ok(summary)
+    summary_of(alloc, LOCATIONS, &EARLIER)
 }
 
-/// The summary {1: (5, 5), 2: (3, 4)}.
 fn later(alloc: Global) -> Result<Summary, AllocError>
     ensures { IfOk result (λ s. s.count ≡ LOCATIONS) }
 {
-    let mut summary = Summary::new(alloc, LOCATIONS);
-    summary.add(2, THREE, FOUR)?;
-    summary.add(1, FIVE, FIVE)?;
-    Ok(summary)
+    summary_of(alloc, LOCATIONS, &LATER)
+}
+
+/// Whether the later set overrides the earlier one.
+fn merges(alloc: Global) -> Result<bool, AllocError> {
+    let mut summary = earlier(alloc)?;
+    summary.then(&later(alloc)?)?;
+    Ok(has_entries(&summary, &MERGED))
 }
 
 #[test]
 fn turbo_merge(rt: HostRuntime) -> Result<(), Fail> {
-    let mut summary = earlier(rt.alloc())?;
-    summary.then(&later(rt.alloc())?)?;
-    assert_eq!(rt; summary.len(), 3);
-    assert!(rt; summary.get(0) == Some((ONE, ONE)));
-    assert!(rt; summary.get(1) == Some((FIVE, FIVE)));
-    assert!(rt; summary.get(2) == Some((THREE, FOUR)));
-    assert!(rt; summary.get(3) == None);
+    assert!(rt; merges(rt.alloc())?);
     Ok(())
+}
+
+/// Whether the entries of a summary stand in this order.
+fn has_in_order(summary: &Summary, entries: &[Entry]) -> bool {
+    if summary.len() != entries.len() {
+        return false;
+    }
+    for (i, (n, low, high)) in entries.iter().enumerate() {
+        if summary.entry_at(i) != (*n, value(*low), value(*high)) {
+            return false;
+        }
+    }
+    true
+}
+
+/// Whether a union is in order once it is sorted.
+fn sorts(alloc: Global) -> Result<bool, AllocError> {
+    let mut summary = later(alloc)?;
+    summary.union(&earlier(alloc)?)?;
+    summary.sort()?;
+    Ok(has_in_order(&summary, &UNITED))
 }
 
 #[test]
 fn entries_rise_once_they_are_sorted(rt: HostRuntime) -> Result<(), Fail> {
-    let mut summary = later(rt.alloc())?;
-    summary.union(&earlier(rt.alloc())?)?;
-    summary.sort()?;
-    assert_eq!(rt; summary.len(), 3);
-    assert!(rt; summary.entry_at(0) == (0, ONE, ONE));
-    assert!(rt; summary.entry_at(1) == (1, TWO, FIVE));
-    assert!(rt; summary.entry_at(2) == (2, THREE, FOUR));
+    assert!(rt; sorts(rt.alloc())?);
     Ok(())
+}
+
+/// Whether a union has the values of both sets where both have some.
+fn unites(alloc: Global) -> Result<bool, AllocError> {
+    let mut summary = earlier(alloc)?;
+    summary.union(&later(alloc)?)?;
+    Ok(has_entries(&summary, &UNITED))
 }
 
 #[test]
 fn a_union_has_both_values(rt: HostRuntime) -> Result<(), Fail> {
-    let mut summary = earlier(rt.alloc())?;
-    summary.union(&later(rt.alloc())?)?;
-    assert!(rt; summary.get(0) == Some((ONE, ONE)));
-    assert!(rt; summary.get(1) == Some((TWO, FIVE)));
-    assert!(rt; summary.get(2) == Some((THREE, FOUR)));
+    assert!(rt; unites(rt.alloc())?);
     Ok(())
+}
+
+/// Whether a copy has the entries, and keeps them where the set that was copied is cleared.
+fn copies(alloc: Global) -> Result<bool, AllocError> {
+    let mut summary = later(alloc)?;
+    let copy = summary.copy(alloc)?;
+    let is_full = !copy.is_empty() && has_entries(&copy, &LATER);
+    summary.clear();
+    Ok(is_full && summary.is_empty() && !copy.is_empty() && has_entries(&copy, &LATER))
 }
 
 #[test]
 fn a_copy_has_the_same_entries(rt: HostRuntime) -> Result<(), Fail> {
-    let mut summary = later(rt.alloc())?;
-    let copy = summary.copy(rt.alloc())?;
-    assert!(rt; !copy.is_empty());
-    assert!(rt; copy.get(1) == Some((FIVE, FIVE)));
-    assert!(rt; copy.get(2) == Some((THREE, FOUR)));
-    summary.clear();
-    assert!(rt; summary.is_empty());
-    assert!(rt; !copy.is_empty());
+    assert!(rt; copies(rt.alloc())?);
     Ok(())
 }
 
@@ -92,9 +106,10 @@ fn a_copy_has_the_same_entries(rt: HostRuntime) -> Result<(), Fail> {
 fn evens(alloc: Global) -> Result<Summary, AllocError>
     ensures { IfOk result (λ s. s.count ≡ LOCATIONS) }
 {
+    let one = value(ONE);
     let mut summary = Summary::new(alloc, LOCATIONS);
     for i in 0..32 {
-        summary.add(2 * i, ONE, ONE)?;
+        summary.add(2 * i, one, one)?;
     }
     Ok(summary)
 }
@@ -103,100 +118,52 @@ fn evens(alloc: Global) -> Result<Summary, AllocError>
 fn thirds(alloc: Global) -> Result<Summary, AllocError>
     ensures { IfOk result (λ s. s.count ≡ LOCATIONS) }
 {
+    let two = value(TWO);
     let mut summary = Summary::new(alloc, LOCATIONS);
     for i in 0..22 {
-        summary.add(63 - 3 * i, TWO, TWO)?;
+        summary.add(63 - 3 * i, two, two)?;
     }
     Ok(summary)
 }
 
-#[test]
-fn large_sets_are_united(rt: HostRuntime) -> Result<(), Fail> {
-    let mut summary = evens(rt.alloc())?;
-    summary.union(&thirds(rt.alloc())?)?;
-    assert_eq!(rt; summary.len(), 43);
+/// Whether a summary has 1 at the even locations, 2 at every third one, and these values where both are.
+fn has_evens_and_thirds(summary: &Summary, both: (Plain, Plain)) -> bool {
     for n in 0..LOCATIONS {
         let expected = match (n % 2, n % 3) {
-            (0, 0) => Some((ONE, TWO)),
+            (0, 0) => Some(both),
             (0, _) => Some((ONE, ONE)),
             (_, 0) => Some((TWO, TWO)),
             _ => None,
         };
-        assert!(rt; summary.get(n) == expected);
+        if summary.get(n) != expected.map(|(low, high)| (value(low), value(high))) {
+            return false;
+        }
     }
+    summary.len() == 43
+}
+
+/// Whether the union of two sets with many entries has those of both.
+fn unites_many(alloc: Global) -> Result<bool, AllocError> {
+    let mut summary = evens(alloc)?;
+    summary.union(&thirds(alloc)?)?;
+    Ok(has_evens_and_thirds(&summary, (ONE, TWO)))
+}
+
+#[test]
+fn large_sets_are_united(rt: HostRuntime) -> Result<(), Fail> {
+    assert!(rt; unites_many(rt.alloc())?);
     Ok(())
+}
+
+/// Whether a set with many entries overrides another.
+fn merges_many(alloc: Global) -> Result<bool, AllocError> {
+    let mut summary = evens(alloc)?;
+    summary.then(&thirds(alloc)?)?;
+    Ok(has_evens_and_thirds(&summary, (TWO, TWO)))
 }
 
 #[test]
 fn large_sets_are_merged(rt: HostRuntime) -> Result<(), Fail> {
-    let mut summary = evens(rt.alloc())?;
-    summary.then(&thirds(rt.alloc())?)?;
-    assert_eq!(rt; summary.len(), 43);
-    for n in 0..LOCATIONS {
-        let expected = match (n % 2, n % 3) {
-            (_, 0) => Some((TWO, TWO)),
-            (0, _) => Some((ONE, ONE)),
-            _ => None,
-        };
-        assert!(rt; summary.get(n) == expected);
-    }
-    Ok(())
-}
-
-/// Whether two summaries have the same entries.
-fn are_alike(a: &Summary, b: &Summary) -> bool {
-    for n in 0..LOCATIONS {
-        if a.get(n) != b.get(n) {
-            return false;
-        }
-    }
-    a.len() == b.len()
-}
-
-/// Adds a location. The answer is whether it is there, or a refusal left the entries as they were.
-fn adds_or_leaves(alloc: Global, summary: &mut Summary, n: usize) -> Result<bool, AllocError>
-    requires { n < summary.old.count }
-    ensures { summary.new.count ≡ summary.old.count }
-{
-    let before = summary.copy(alloc)?;
-    let added = summary.add(n, ONE, TWO);
-    Ok(added.is_ok() || are_alike(summary, &before))
-}
-
-// The next tests say more where memory is refused: `rt try --test --fail-alloc N`.
-
-#[test]
-fn a_refused_add_leaves_the_entries(rt: HostRuntime) -> Result<(), Fail> {
-    let mut summary = Summary::new(rt.alloc(), LOCATIONS);
-    for n in 0..8 {
-        assert!(rt; adds_or_leaves(rt.alloc(), &mut summary, n)?);
-    }
-    Ok(())
-}
-
-#[test]
-fn a_refused_union_leaves_the_entries(rt: HostRuntime) -> Result<(), Fail> {
-    let mut summary = earlier(rt.alloc())?;
-    let before = summary.copy(rt.alloc())?;
-    let united = summary.union(&evens(rt.alloc())?);
-    assert!(rt; united.is_ok() || are_alike(&summary, &before));
-    Ok(())
-}
-
-#[test]
-fn a_refused_merge_leaves_the_entries(rt: HostRuntime) -> Result<(), Fail> {
-    let mut summary = earlier(rt.alloc())?;
-    let before = summary.copy(rt.alloc())?;
-    let merged = summary.then(&evens(rt.alloc())?);
-    assert!(rt; merged.is_ok() || are_alike(&summary, &before));
-    Ok(())
-}
-
-#[test]
-fn a_refused_sort_leaves_the_entries(rt: HostRuntime) -> Result<(), Fail> {
-    let mut summary = later(rt.alloc())?;
-    let before = summary.copy(rt.alloc())?;
-    let sorted = summary.sort();
-    assert!(rt; sorted.is_ok() || are_alike(&summary, &before));
+    assert!(rt; merges_many(rt.alloc())?);
     Ok(())
 }

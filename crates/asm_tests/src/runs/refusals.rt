@@ -20,7 +20,7 @@ fn refusals_have_words(rt: HostRuntime) -> Result<(), Fail> {
         (RunError::Memory, "memory ran out"),
         (RunError::Write, "the trace could not be written"),
     ] {
-        assert_eq!(rt; format!(in rt.alloc(); "{refusal}")?.as_str(), words);
+        assert!(rt; format!(in rt.alloc(); "{refusal}")?.as_str() == words);
     }
     Ok(())
 }

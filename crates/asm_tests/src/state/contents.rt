@@ -2,17 +2,14 @@
 use super::*;
 use asm_state::state::State;
 
-const TRUE: Value = Value::Truth(true);
-
-#[test]
-fn initial_contents(rt: HostRuntime) -> Result<(), Fail> {
-    let alloc = rt.alloc();
+/// A function with a table over the numbers from 0 to 2, and one with the same value for each of them.
+fn controlled_functions(alloc: Global) -> Result<Signature, Fail> {
     let universes = vec![in alloc; Universe::range(Number { value: 0 }, Number { value: 2 })]?;
     let table = table_of(
         alloc,
         &[
-            ([number(1)].as_slice(), number(5)),
-            ([number(0)].as_slice(), TRUE),
+            (&[Plain::Number(1)], Plain::Number(5)),
+            (&[Plain::Number(0)], Plain::True),
         ],
     )?;
     let functions = vec![in alloc;
@@ -21,35 +18,49 @@ fn initial_contents(rt: HostRuntime) -> Result<(), Fail> {
             alloc,
             FunctionKind::Controlled,
             &[0],
-            Table::Same(number(7))
+            Table::Same(value(Plain::Number(7)))
         )?,
     ]?;
-    let signature = signature_of(alloc, universes, functions)?;
-    assert_eq!(rt; signature.count(), 8);
-    let contents = [
-        TRUE,
-        number(5),
-        Value::Undef,
-        Value::Undef,
-        number(7),
-        number(7),
-        number(7),
-        Value::Undef,
-    ];
+    signature_of(alloc, universes, functions)
+}
+
+static CONTENTS: [Plain; 8] = [
+    Plain::True,
+    Plain::Number(5),
+    Plain::Undef,
+    Plain::Undef,
+    Plain::Number(7),
+    Plain::Number(7),
+    Plain::Number(7),
+    Plain::Undef,
+];
+
+/// Whether the initial state and a copy of it have the contents of the tables, and stray locations are told.
+fn begins_with_tables(alloc: Global) -> Result<bool, Fail> {
+    let signature = controlled_functions(alloc)?;
     let state = State::initial(alloc, &signature)?;
     let copy = state.copy(alloc)?;
-    for n in 0..8 {
-        assert!(rt; state.content(n) == contents[n], "{n}");
-        assert!(rt; copy.content(n) == contents[n], "{n}");
-    }
-    assert_eq!(rt; signature.stray(3), Some(0));
-    assert_eq!(rt; signature.stray(7), Some(1));
-    Ok(())
+    let (first, last) = (
+        is_stray(alloc, &signature, 3, 0)?,
+        is_stray(alloc, &signature, 7, 1)?,
+    );
+    Ok(
+        first
+            && last
+            && has_contents(&signature, &state, &CONTENTS)
+            && has_contents(&signature, &copy, &CONTENTS),
+    )
 }
 
 #[test]
-fn values_of_static_functions(rt: HostRuntime) -> Result<(), Fail> {
-    let alloc = rt.alloc();
+fn initial_contents(rt: HostRuntime) -> Result<(), Fail> {
+    assert!(rt; begins_with_tables(rt.alloc())?);
+    Ok(())
+}
+
+/// The static functions 0, the same everywhere on the numbers from 0 to 2, and 2, with a table over them and two elements.
+/// Between them stands a controlled one.
+fn static_functions(alloc: Global) -> Result<Signature, Fail> {
     let universes = vec![in alloc;
         Universe::range(Number { value: 0 }, Number { value: 2 }),
         Universe::elements(3, 2),
@@ -57,41 +68,86 @@ fn values_of_static_functions(rt: HostRuntime) -> Result<(), Fail> {
     let table = table_of(
         alloc,
         &[
-            ([number(1), element(4)].as_slice(), number(8)),
-            ([number(2), element(3)].as_slice(), TRUE),
+            (&[Plain::Number(1), Plain::Element(4)], Plain::Number(8)),
+            (&[Plain::Number(2), Plain::Element(3)], Plain::True),
         ],
     )?;
     let functions = vec![in alloc;
-        function_of(alloc, FunctionKind::Static, &[0], Table::Same(number(9)))?,
-        function_of(alloc, FunctionKind::Controlled, &[], Table::Same(number(1)))?,
+        function_of(
+            alloc,
+            FunctionKind::Static,
+            &[0],
+            Table::Same(value(Plain::Number(9)))
+        )?,
+        function_of(
+            alloc,
+            FunctionKind::Controlled,
+            &[],
+            Table::Same(value(Plain::Number(1)))
+        )?,
         function_of(alloc, FunctionKind::Static, &[0, 1], table)?,
     ]?;
-    let signature = signature_of(alloc, universes, functions)?;
-    assert_eq!(rt; signature.count(), 2);
-    let cases: [(usize, &[Value], Value); 14] = [
-        (0, &[number(0)], number(9)),
-        (0, &[number(2)], number(9)),
-        (0, &[number(3)], Value::Undef),
-        (0, &[], Value::Undef),
-        (2, &[number(1), element(4)], number(8)),
-        (2, &[number(2), element(3)], TRUE),
-        (2, &[number(1), element(3)], Value::Undef),
-        (2, &[number(2), element(4)], Value::Undef),
-        (2, &[number(3), element(3)], Value::Undef),
-        (2, &[number(1), element(5)], Value::Undef),
-        (2, &[element(4), number(1)], Value::Undef),
-        (2, &[number(1)], Value::Undef),
-        (2, &[], Value::Undef),
-        (2, &[number(1), element(4), number(1)], Value::Undef),
-    ];
-    for (f, arguments, value) in cases {
-        assert!(rt;
-            given(&signature, f, arguments) == Some(value),
-            "{f} {arguments:?}"
-        );
+    signature_of(alloc, universes, functions)
+}
+
+static VALUES: [(usize, &[Plain], Plain); 14] = [
+    (0, &[Plain::Number(0)], Plain::Number(9)),
+    (0, &[Plain::Number(2)], Plain::Number(9)),
+    (0, &[Plain::Number(3)], Plain::Undef),
+    (0, &[], Plain::Undef),
+    (2, &[Plain::Number(1), Plain::Element(4)], Plain::Number(8)),
+    (2, &[Plain::Number(2), Plain::Element(3)], Plain::True),
+    (2, &[Plain::Number(1), Plain::Element(3)], Plain::Undef),
+    (2, &[Plain::Number(2), Plain::Element(4)], Plain::Undef),
+    (2, &[Plain::Number(3), Plain::Element(3)], Plain::Undef),
+    (2, &[Plain::Number(1), Plain::Element(5)], Plain::Undef),
+    (2, &[Plain::Element(4), Plain::Number(1)], Plain::Undef),
+    (2, &[Plain::Number(1)], Plain::Undef),
+    (2, &[], Plain::Undef),
+    (
+        2,
+        &[Plain::Number(1), Plain::Element(4), Plain::Number(1)],
+        Plain::Undef,
+    ),
+];
+
+/// Whether a static function has this value for these arguments.
+fn gives(
+    alloc: Global,
+    signature: &Signature,
+    f: usize,
+    arguments: &[Plain],
+    wanted: Plain,
+) -> Result<bool, AllocError> {
+    let arguments = values_of(alloc, arguments)?;
+    Ok(given(signature, f, arguments.as_slice()) == Some(value(wanted)))
+}
+
+/// The number of the first row of the table that doesn't hold.
+fn first_wrong_value(alloc: Global, signature: &Signature) -> Result<Option<usize>, AllocError> {
+    for (i, (f, arguments, wanted)) in VALUES.iter().enumerate() {
+        if !gives(alloc, signature, *f, arguments, *wanted)? {
+            return Ok(Some(i));
+        }
     }
-    assert!(rt; given(&signature, 1, &[]) == None);
-    assert_eq!(rt; number_of(&signature, 1, &[]), Some(0));
-    assert_eq!(rt; number_of(&signature, 2, &[]), None);
+    Ok(None)
+}
+
+/// Whether static functions have the values of their tables, and a controlled one has none but a location.
+fn gives_values(alloc: Global) -> Result<bool, Fail> {
+    let signature = static_functions(alloc)?;
+    let first_wrong = first_wrong_value(alloc, &signature)?;
+    Ok(
+        first_wrong == None
+            && signature.count() == 2
+            && given(&signature, 1, &[]) == None
+            && number_of(&signature, 1, &[]) == Some(0)
+            && number_of(&signature, 2, &[]) == None,
+    )
+}
+
+#[test]
+fn values_of_static_functions(rt: HostRuntime) -> Result<(), Fail> {
+    assert!(rt; gives_values(rt.alloc())?);
     Ok(())
 }

@@ -85,20 +85,38 @@ fn push_functions(
     Ok(())
 }
 
-#[test]
-fn as_many_locations_and_lists_as_fit(rt: HostRuntime) -> Result<(), Fail> {
-    let alloc = rt.alloc();
+/// Whether functions of one kind over these domains fit.
+fn domains_fit(
+    alloc: Global,
+    kind: FunctionKind,
+    domains: &[&[usize]],
+) -> Result<bool, AllocError> {
     let universes = universes_of(alloc)?;
-    for (domains, expected) in CONTROLLED {
-        let mut functions = Vec::new(alloc);
-        push_functions(alloc, FunctionKind::Controlled, domains, &mut functions)?;
-        assert_eq!(rt; fits(&universes, &functions), expected, "{domains:?}");
+    let mut functions = Vec::new(alloc);
+    push_functions(alloc, kind, domains, &mut functions)?;
+    Ok(fits(&universes, &functions))
+}
+
+#[test]
+fn as_many_locations_as_fit(rt: HostRuntime) -> Result<(), Fail> {
+    for (domains, expected) in &CONTROLLED {
+        let fit = domains_fit(rt.alloc(), FunctionKind::Controlled, domains)?;
+        assert!(rt; fit == *expected, "{domains:?}");
     }
-    for (domains, expected) in STATIC {
-        let mut functions = Vec::new(alloc);
-        push_functions(alloc, FunctionKind::Static, domains, &mut functions)?;
-        assert_eq!(rt; fits(&universes, &functions), expected, "{domains:?}");
+    Ok(())
+}
+
+#[test]
+fn as_many_lists_as_fit(rt: HostRuntime) -> Result<(), Fail> {
+    for (domains, expected) in &STATIC {
+        let fit = domains_fit(rt.alloc(), FunctionKind::Static, domains)?;
+        assert!(rt; fit == *expected, "{domains:?}");
     }
+    Ok(())
+}
+
+/// The signature of four functions with all locations, and four with all argument lists.
+fn greatest_signature(alloc: Global) -> Result<Signature, Fail> {
     let mut functions = Vec::new(alloc);
     push_functions(
         alloc,
@@ -112,37 +130,57 @@ fn as_many_locations_and_lists_as_fit(rt: HostRuntime) -> Result<(), Fail> {
         &[&[1], &[1], &[1], &[1]],
         &mut functions,
     )?;
-    let signature = signature_of(alloc, universes, functions)?;
-    assert_eq!(rt; signature.count(), 16_384);
-    assert_eq!(rt; number_of(&signature, 3, &[element(4094)]), Some(16_382));
-    assert!(rt; is_stray(alloc, &signature, 16_383, 3)?);
-    assert!(rt; given(&signature, 7, &[element(4095)]) == Some(Value::Undef));
+    signature_of(alloc, universes_of(alloc)?, functions)
+}
+
+/// Whether that signature has its last location, its last stray one and its last list.
+fn reaches_its_ends(alloc: Global) -> Result<bool, Fail> {
+    let signature = greatest_signature(alloc)?;
+    let is_stray = is_stray(alloc, &signature, 16_383, 3)?;
+    let (location, list) = (value(Plain::Element(4094)), value(Plain::Element(4095)));
+    Ok(
+        is_stray
+            && signature.count() == 16_384
+            && number_of(&signature, 3, &[location]) == Some(16_382)
+            && given(&signature, 7, &[list]) == Some(Value::Undef),
+    )
+}
+
+#[test]
+fn the_last_location_and_list(rt: HostRuntime) -> Result<(), Fail> {
+    assert!(rt; reaches_its_ends(rt.alloc())?);
     Ok(())
+}
+
+/// Whether so many universes fit.
+fn universes_fit(alloc: Global, count: usize) -> Result<bool, AllocError> {
+    let mut universes = Vec::new(alloc);
+    for _ in 0..count {
+        universes.push(Universe::elements(0, 1))?;
+    }
+    Ok(fits(&universes, &[]))
 }
 
 #[test]
 fn as_many_universes_as_fit(rt: HostRuntime) -> Result<(), Fail> {
-    let alloc = rt.alloc();
-    let mut universes = Vec::new(alloc);
-    for _ in 0..64 {
-        universes.push(Universe::elements(0, 1))?;
-    }
-    assert!(rt; fits(&universes, &[]));
-    universes.push(Universe::elements(0, 1))?;
-    assert!(rt; !fits(&universes, &[]));
+    assert!(rt; universes_fit(rt.alloc(), 64)?);
+    assert!(rt; !universes_fit(rt.alloc(), 65)?);
     Ok(())
+}
+
+/// Whether so many functions fit.
+fn functions_fit(alloc: Global, count: usize) -> Result<bool, AllocError> {
+    let mut functions = Vec::new(alloc);
+    for _ in 0..count {
+        push_functions(alloc, FunctionKind::Static, &[&[]], &mut functions)?;
+    }
+    Ok(fits(&[], &functions))
 }
 
 #[test]
 fn as_many_functions_as_fit(rt: HostRuntime) -> Result<(), Fail> {
-    let alloc = rt.alloc();
-    let mut functions = Vec::new(alloc);
-    for _ in 0..256 {
-        push_functions(alloc, FunctionKind::Static, &[&[]], &mut functions)?;
-    }
-    assert!(rt; fits(&[], &functions));
-    push_functions(alloc, FunctionKind::Static, &[&[]], &mut functions)?;
-    assert!(rt; !fits(&[], &functions));
+    assert!(rt; functions_fit(rt.alloc(), 256)?);
+    assert!(rt; !functions_fit(rt.alloc(), 257)?);
     Ok(())
 }
 
@@ -152,9 +190,9 @@ fn table_fits(alloc: Global, lists: &[&[u16]]) -> Result<bool, AllocError> {
     for list in lists {
         let mut arguments = Vec::new(alloc);
         for argument in *list {
-            arguments.push(number(*argument))?;
+            arguments.push(value(Plain::Number(*argument)))?;
         }
-        entries.push((Arguments::new(arguments), number(5)))?;
+        entries.push((Arguments::new(arguments), value(Plain::Number(5))))?;
     }
     let table = Table::Entries(Entries::new(entries));
     let universes = vec![in alloc; Universe::range(Number { value: 0 }, Number { value: 2 })]?;
@@ -164,8 +202,8 @@ fn table_fits(alloc: Global, lists: &[&[u16]]) -> Result<bool, AllocError> {
 
 #[test]
 fn tables_with_entries_in_the_domain_and_apart(rt: HostRuntime) -> Result<(), Fail> {
-    for (lists, expected) in TABLES {
-        assert_eq!(rt; table_fits(rt.alloc(), lists)?, expected, "{lists:?}");
+    for (lists, expected) in &TABLES {
+        assert!(rt; table_fits(rt.alloc(), lists)? == *expected, "{lists:?}");
     }
     Ok(())
 }
