@@ -23,7 +23,7 @@ elif is_released; then
     fi
     exec "$released" "$@"
 else
-    echo "asm: the release is of other sources, so the program is proved and built, which takes 30 to 40 minutes where nothing is proved yet" >&2
+    echo "asm: the release is of other sources, so the program is proved and built, which takes 15 to 40 minutes where nothing is proved yet" >&2
     "$root/build" --here </dev/null
     exec "$built" "$@"
 fi
