@@ -70,26 +70,26 @@ fn work_lanes<
     let half = hands.len() / 2;
     let others = hands.split_off(half)?;
     let next = first + half;
-    let front = move || -> Result<Vec<Worker<H, O>>, AllocError>
+    let here = move || -> Result<Vec<Worker<H, O>>, AllocError>
         requires { IsSync R.row × IsSync J.row × IsSync G.row × IsSend H.row × IsSend O.row × (0 < vec_len hands) × (first + vec_len hands ≤ lanes)
             × ((n : ℕ) → n < count → J.has_task job.now n) × All (J.takes_hand job.now) hands.items }
         ensures { IfOk result (λ ws. HasLanes lanes count first (vec_len hands) (tasks_by ws.items) × All (λ w. J.takes_hand job.entry.now w.hand) ws.items
             × AllHaveDone (IsRun (J.takes_hand job.entry.now) (J.runs job.entry.now)) hands.items ws.items) }
     { work_lanes(rt, alloc, first, lanes, count, job, hands, gate) };
-    let back = move || -> Result<Vec<Worker<H, O>>, AllocError>
+    let there = move || -> Result<Vec<Worker<H, O>>, AllocError>
         requires { IsSync R.row × IsSync J.row × IsSync G.row × IsSend H.row × IsSend O.row × (0 < vec_len others) × (next + vec_len others ≤ lanes)
             × ((n : ℕ) → n < count → J.has_task job.now n) × All (J.takes_hand job.now) others.items }
         ensures { IfOk result (λ ws. HasLanes lanes count next (vec_len others) (tasks_by ws.items) × All (λ w. J.takes_hand job.entry.now w.hand) ws.items
             × AllHaveDone (IsRun (J.takes_hand job.entry.now) (J.runs job.entry.now)) others.items ws.items) }
     { work_lanes(rt, alloc, next, lanes, count, job, others, gate) };
-    let (these, those) = join(rt, front, back);
+    let (those, these) = join(rt, there, here);
     let mut workers = these?;
     let mut more = those?;
     workers.append(&mut more)?;
     Ok(workers)
 }
 
-/// Works all lanes. Only those that have tasks are worked by threads, and the caller's own thread works the first.
+/// Works all lanes, one for each hand. No thread is started for a lane that has no task.
 fn work_all<
     R: Threads + Sync,
     H: Send + Drop,
@@ -120,10 +120,11 @@ fn work_all<
     Ok(workers)
 }
 
-/// Runs each task below the count once, in as many lanes as there are hands. The task `n` lies in the lane `n % lanes`,
-/// and a lane's tasks are run in rising order, with its hand.
+/// Runs each task below the count once, by as many workers as there are hands. The task `n` is run by the worker of the
+/// lane `n % lanes`, and a worker runs its tasks in rising order.
 ///
-/// The caller's own thread works the first lane, and each other lane that has tasks has a thread of its own.
+/// The caller's own thread works the first lane, and each other lane that has tasks has a thread of its own. Where no
+/// thread can be made, the one that asked for it works its lanes too. Places for all outs are made before any task is run.
 pub fn work<
     R: Threads + Sync,
     J: Job<Hand = H, Out = O> + Sync,
