@@ -1,0 +1,55 @@
+-- Tasks in lanes, and what workers have done. Task n lies in lane n % lanes.
+--     HasEachOnce     a list has the numbers below a count, each once, and no other
+--     HasLanes        a list has the tasks of some lanes next to each other, each once, and no other
+--     HasDone         what a worker has done leads from its first hand to its last
+--     StandIn         each out stands in its task's place
+use Rattle.std.specs.Prelude.{◌≡◌, ℕ, ◌+◌, ◌%◌, ◌==◌, Bool, List, [], ◌∷◌, map, nat_lt, nat_le, if◌then◌else◌, ◌&&◌, Some, Option, slice_set}
+use Rattle.std.specs.List.{FoldsTo, AllZip, All, flat_map, slice_get}
+use Rattle.asm_pool.specs.declared.lane.Done.{Done}
+use Rattle.asm_pool.specs.declared.lane.Worker.{Worker}
+
+-- how often a number stands in a list
+abbrev pub times : ℕ → List ℕ → ℕ
+times n [] = 0
+times n (task ∷ tasks) = (if task == n then 1 else 0) + times n tasks
+
+-- the numbers below the count, each once, and no other
+abbrev pub HasEachOnce : ℕ → List ℕ → Type 0
+HasEachOnce count tasks = (n : ℕ) → times n tasks ≡ (if nat_lt n count then 1 else 0)
+
+-- a task lies below the count, in one of the lanes from first to before first + few
+abbrev pub is_in_lanes : ℕ → ℕ → ℕ → ℕ → ℕ → Bool
+is_in_lanes lanes count first few n = nat_lt n count && (nat_le first (n % lanes) && nat_lt (n % lanes) (first + few))
+
+-- the tasks of the lanes from first to before first + few, each once, and no other
+abbrev pub HasLanes : ℕ → ℕ → ℕ → ℕ → List ℕ → Type 0
+HasLanes lanes count first few tasks = (n : ℕ) → times n tasks ≡ (if is_in_lanes lanes count first few n then 1 else 0)
+
+module _ {Out : Type 0} where
+  abbrev pub tasks_of : List (Done Out) → List ℕ
+  tasks_of done = map (λ (d : Done Out). d.task) done
+
+  -- the outs, each put in its task's place
+  abbrev pub placed : List (Option Out) → List (Done Out) → List (Option Out)
+  placed places [] = places
+  placed places (d ∷ ds) = placed (slice_set places d.task (Some d.out)) ds
+
+  -- each out stands in its task's place
+  abbrev pub StandIn : List Out → List (Done Out) → Type 0
+  StandIn outs done = All (λ d. slice_get outs d.task ≡ Some d.out) done
+
+module _ {Hand Out : Type 0} where
+  -- the hand after one run of each task, in order, each with its out as the answer
+  abbrev pub HasDone : (ℕ → Hand → Out → Hand → Type 0) → Hand → List (Done Out) → Hand → Type 0
+  HasDone runs = FoldsTo (λ before d after. runs d.task before d.out after)
+
+  -- what all workers have done
+  abbrev pub done_by : List (Worker Hand Out) → List (Done Out)
+  done_by workers = flat_map (λ (w : Worker Hand Out). w.done.items) workers
+
+  abbrev pub tasks_by : List (Worker Hand Out) → List ℕ
+  tasks_by workers = tasks_of (done_by workers)
+
+  -- each worker began with the hand at its place
+  abbrev pub AllHaveDone : (ℕ → Hand → Out → Hand → Type 0) → List Hand → List (Worker Hand Out) → Type 0
+  AllHaveDone runs = AllZip (λ hand w. HasDone runs hand w.done.items w.hand)
