@@ -25,7 +25,12 @@ static UNITED: [Entry; 3] = [(0, ONE, ONE), (1, TWO, FIVE), (2, THREE, FOUR)];
 
 static LAST: [Entry; 2] = [(3, ONE, ONE), (2, FIVE, FIVE)];
 
-static GATHERED: [Entry; 4] = [(0, ONE, ONE), (1, TWO, FIVE), (2, THREE, FIVE), (3, ONE, ONE)];
+static GATHERED: [Entry; 4] = [
+    (0, ONE, ONE),
+    (1, TWO, FIVE),
+    (2, THREE, FIVE),
+    (3, ONE, ONE),
+];
 
 fn earlier(alloc: Global) -> Result<Summary, AllocError>
     ensures { IfOk result (λ s. s.count ≡ LOCATIONS) }
