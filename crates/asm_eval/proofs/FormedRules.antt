@@ -18,7 +18,7 @@ use Rattle.asm_state.specs.Tables.{location_in}
 use Rattle.asm_state.specs.Updates.{UpdateSet, none, one, together}
 use Rattle.asm_state.proofs.Algebra.{union_laws}
 use Rattle.asm_updates.specs.Entries.{Entries}
-use Rattle.asm_updates.specs.Stands.{Stands}
+use Rattle.asm_updates.specs.Stands.{Stands, Adds}
 use Rattle.asm_syntax.specs.declared.name.Name as syntax
 use Rattle.asm_syntax.specs.declared.term.Term.{Term}
 use Rattle.asm_syntax.specs.declared.rule.Rule.{Rule}
@@ -38,7 +38,7 @@ use Rattle.asm_eval.specs.declared.stopped.Stopped.{Stopped}
 use Rattle.asm_eval.specs.declared.stopped.Stopped.TheVariants as stopped
 use Rattle.asm_eval.specs.Does.{Outcome, nothing, both, counted, parts, in_order, turns_of, each, one_of}
 use Rattle.asm_eval.specs.Evaluated.{setting, state_at, meant, meant_rules, meant_branch, meant_choose, meant_forall, meant_term, meant_terms}
-use Rattle.asm_eval.specs.Formed.{Adds, Forms, Follows, IsStoppedAt, greatest_count}
+use Rattle.asm_eval.specs.Formed.{Forms, Follows, IsStoppedAt, greatest_count}
 use Rattle.asm_eval.specs.Cases.{ScriptedCases, runs, all_run}
 use Rattle.asm_eval.specs.Scenes.{is_candidate, scene_candidates, with_element}
 use Rattle.asm_eval.specs.Setting.{Setting, outcome}

@@ -10,12 +10,12 @@ use Rattle.asm_state.specs.Location.{State}
 use Rattle.asm_state.specs.Signature.{Shape}
 use Rattle.asm_state.specs.Updates.{UpdateSet, IsConsistent, none, fire}
 use Rattle.asm_updates.specs.Entries.{Entries}
-use Rattle.asm_updates.specs.Stands.{Stands}
+use Rattle.asm_updates.specs.Stands.{Stands, Adds}
 use Rattle.asm_syntax.specs.declared.rule.Rule.{Rule}
 use Rattle.asm_eval.specs.Does.{Outcome, part_and, turn_and}
 use Rattle.asm_eval.specs.Evaluated.{meant}
 use Rattle.asm_eval.specs.Setting.{Setting, outcome}
-use Rattle.asm_eval.specs.Formed.{Adds, Forms, GoesOn, IsStoppedAt}
+use Rattle.asm_eval.specs.Formed.{Forms, GoesOn, IsStoppedAt}
 use Rattle.asm_eval.specs.Program.{Environment}
 use Rattle.asm_eval.specs.Yields.{Path, Exhausted, at}
 use Rattle.asm_eval.specs.declared.stopped.Stopped.{Stopped}

@@ -22,10 +22,10 @@ use Rattle.asm_state.proofs.Updates.{test_laws}
 use Rattle.asm_state.proofs.Summaries.{fire_laws}
 use Rattle.asm_updates.specs.Entries.{Entries}
 use Rattle.asm_updates.specs.Faults.{fault_of}
-use Rattle.asm_updates.specs.Stands.{Stands}
+use Rattle.asm_updates.specs.Stands.{Stands, Adds}
 use Rattle.asm_updates.specs.declared.fault.Fault.{Fault as NumberedFault}
 use Rattle.asm_eval.specs.Does.{Outcome, nothing, following, part_and, turn_and}
-use Rattle.asm_eval.specs.Formed.{Adds, Forms, GoesOn, IsStoppedAt, greatest_count}
+use Rattle.asm_eval.specs.Formed.{Forms, GoesOn, IsStoppedAt, greatest_count}
 use Rattle.asm_eval.specs.Yields.{Path, Result, Gives, Exhausted, after}
 use Rattle.asm_eval.specs.declared.stopped.Stopped.{Stopped}
 use Rattle.asm_eval.specs.declared.stopped.Stopped.TheVariants as stopped

@@ -1,5 +1,4 @@
 -- What forming a rule's outcome does to a summary and to a number of instances.
---     Adds        a set is added to whatever the summary stands for
 --     Forms       an outcome that gives a set: its set is added, and its instances are counted
 --     IsSet       a summary and a number are the set and the instances of an outcome that gives a set
 --     IsFormed    an outcome of the code is one of the definitions
@@ -10,9 +9,9 @@
 --     FollowsUpon the same of a part of a sequence
 use Rattle.std.specs.Prelude.{◌≡◌, ℕ, ◌+◌, min, Result, OnOk, IfErr}
 use Rattle.asm_state.specs.Signature.{Shape, count_of}
-use Rattle.asm_state.specs.Updates.{UpdateSet, IsConsistent, together, merge}
+use Rattle.asm_state.specs.Updates.{UpdateSet, IsConsistent, merge}
 use Rattle.asm_updates.specs.Entries.{Entries}
-use Rattle.asm_updates.specs.Stands.{Stands}
+use Rattle.asm_updates.specs.Stands.{Stands, Adds}
 use Rattle.asm_eval.specs.Yields.{Path, Gives, Exhausted}
 use Rattle.asm_eval.specs.Does as does
 use Rattle.asm_eval.specs.declared.outcome.Forming.{Forming}
@@ -20,10 +19,6 @@ use Rattle.asm_eval.specs.declared.outcome.Outcome.{Outcome}
 use Rattle.asm_eval.specs.declared.outcome.Outcome.TheVariants.{Set, Exhausted as ExhaustedAt}
 use Rattle.asm_eval.specs.declared.stopped.Stopped.{Stopped}
 use Rattle.asm_eval.specs.declared.stopped.Stopped.TheVariants as stopped
-
--- the set V is added to whatever the summary stands for
-abbrev pub Adds : Shape → (V : UpdateSet) → (old new : Entries) → Type 0
-Adds shape V old new = (U : UpdateSet) → Stands shape old U → Stands shape new (together U V)
 
 -- the number of instances is cut off where it doesn't fit 64 bits
 abbrev pub greatest_count : ℕ

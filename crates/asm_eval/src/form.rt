@@ -2,10 +2,10 @@
 ghost use Rattle.std.specs.Prelude.{◌≡◌, OnOk, IfErr};
 ghost use Rattle.asm_state.specs.Signature.{Shape, count_of};
 ghost use Rattle.asm_state.specs.Updates.{UpdateSet};
-ghost use Rattle.asm_updates.specs.Stands.{Stands};
+ghost use Rattle.asm_updates.specs.Stands.{Stands, Adds};
 ghost use Rattle.asm_syntax.specs.Tree as tree;
 ghost use Rattle.asm_eval.specs.Evaluated.{Fits, shape_at, outcome_at, outcome_upon, parts_at, in_order_at, meant, meant_branch, meant_choose, meant_forall, meant_term, meant_terms};
-ghost use Rattle.asm_eval.specs.Formed.{Adds, Follows, FollowsUpon};
+ghost use Rattle.asm_eval.specs.Formed.{Follows, FollowsUpon};
 ghost use Rattle.asm_eval.specs.Yields as yields;
 ghost use Rattle.asm_eval.specs.declared.stopped.Stopped.TheVariants.{Memory};
 

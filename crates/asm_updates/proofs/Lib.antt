@@ -6,4 +6,5 @@ pub mod Orders
 pub mod SomeSet
 pub mod Standing
 pub mod StandingLaws
+pub mod Together
 pub mod Widened

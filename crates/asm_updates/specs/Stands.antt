@@ -1,8 +1,10 @@
 -- The update sets that a summary stands for.
+--     Stands shape s U       the summary stands for U
+--     Adds shape V old new   the set V is added to whatever a summary stands for
 use Rattle.std.specs.Prelude.{◌≡◌, ℕ, ◌<◌}
 use Rattle.asm_state.specs.Location.{Location}
 use Rattle.asm_state.specs.Signature.{Shape, IsSound, count_of, location_at, IsLocationOf}
-use Rattle.asm_state.specs.Updates.{UpdateSet, Names, range_at}
+use Rattle.asm_state.specs.Updates.{UpdateSet, Names, together, range_at}
 use Rattle.asm_updates.specs.Entries.{Entries, entry}
 
 -- a summary has the range of each location in the set, and the set names locations of the shape alone, whose universes
@@ -12,3 +14,6 @@ pub record Stands (shape : Shape) (summary : Entries) (U : UpdateSet) : Type 0 w
   pub has_count : summary.count ≡ count_of shape
   pub has_ranges : (n : ℕ) → n < count_of shape → entry summary n ≡ range_at U (location_at shape n)
   pub names_within : (l : Location) → Names U l → IsLocationOf shape l
+
+abbrev pub Adds : Shape → (V : UpdateSet) → (old new : Entries) → Type 0
+Adds shape V old new = (U : UpdateSet) → Stands shape old U → Stands shape new (together U V)

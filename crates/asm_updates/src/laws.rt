@@ -1,7 +1,18 @@
-//! Laws of summaries.
+//! Laws of summaries, and of many together.
 ghost use Rattle.asm_updates.specs.StandingLaws.{StandingLaws};
+ghost use Rattle.asm_updates.specs.TogetherLaws.{UnitedLaws, TogetherLaws};
 
 /// Which sets a summary stands for is said by its entries alone.
 pub fn standing_laws()
     ensures { StandingLaws }
+{}
+
+/// The union of many sets is that of its parts, in any order.
+pub fn united_laws()
+    ensures { UnitedLaws }
+{}
+
+/// What is added to each of some summaries is added to what they stand for together.
+pub fn together_laws()
+    ensures { TogetherLaws }
 {}

@@ -2,6 +2,7 @@
 #![tactic(auto)]
 
 pub mod fault;
+pub mod hands;
 pub mod laws;
 mod ranges;
 pub mod summary;
