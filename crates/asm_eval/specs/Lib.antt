@@ -22,3 +22,4 @@ pub mod Evaluated
 pub mod Scenes
 pub mod ExhaustedLaws
 pub mod InitialLaws
+pub mod Pieces
