@@ -14,11 +14,13 @@ pub mod open;
 pub mod outcome;
 pub mod path;
 pub mod piece;
+pub mod regions;
 pub mod stopped;
 mod target;
 mod terms;
 pub mod value;
 pub mod view;
+pub mod walk;
 pub mod whole;
 pub mod whole_piece;
 
