@@ -8,6 +8,7 @@ pub mod env;
 pub mod evaluation;
 mod find;
 pub mod form;
+mod from_nothing;
 mod held;
 pub mod laws;
 pub mod open;
