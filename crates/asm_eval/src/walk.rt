@@ -1,10 +1,11 @@
 //! The outcome of a rule whose regions are worked by others.
-ghost use Rattle.std.specs.Prelude.{◌≡◌, IfOk};
+ghost use Rattle.std.specs.Prelude.{◌≡◌, true, IfOk};
 ghost use Rattle.asm_state.specs.Signature.{count_of};
 ghost use Rattle.asm_syntax.specs.PlainTree as plain;
 ghost use Rattle.asm_syntax.specs.Tree as tree;
 ghost use Rattle.asm_syntax.specs.Views.{spec_of, rule_of};
 ghost use Rattle.asm_check.specs.Shapes.{shape_of};
+ghost use Rattle.asm_eval.specs.Beneath.{has_one_beneath};
 ghost use Rattle.asm_eval.specs.Does.{does};
 ghost use Rattle.asm_eval.specs.Environments.{environment};
 ghost use Rattle.asm_eval.specs.Evaluated.{Fits, shape_at, outcome_at, outcome_upon, in_order_at, meant};
@@ -12,6 +13,7 @@ ghost use Rattle.asm_eval.specs.Formed.{Follows, FollowsUpon, IsFormed};
 ghost use Rattle.asm_eval.specs.Valued.{program, shown};
 ghost use Rattle.asm_eval.specs.Yields as yields;
 
+use crate::beneath::beneath;
 use crate::env::Env;
 use crate::evaluation::{Choices, Evaluation, Scene};
 use crate::form::{form, put_back};
@@ -68,10 +70,45 @@ pub fn form_by_regions<'e, X: Regions, P: Picks>(
     ensures { Follows (shape_at evaluation.now) (outcome_at evaluation.now env.now made.old.path.items (meant rule.now)) made.old made.new result }
 {
     match rule {
-        Rule::Par(_) | Rule::Forall { .. } => regions.form_region(alloc, evaluation, env, rule, made),
-        Rule::Seq(rules) => walk_in_order(alloc, regions, evaluation, env, rules.as_slice(), made),
+        Rule::Skip | Rule::Assign { .. } => form(alloc, evaluation, env, rule, made),
+        Rule::Par(_) | Rule::Forall { .. } => {
+            regions.form_region(alloc, evaluation, env, rule, made)
+        }
+        Rule::Seq(rules) => {
+            walk_in_order(alloc, regions, evaluation, env, rules.as_slice(), made)
+        }
         Rule::Iterate(body) => walk_turns(alloc, regions, evaluation, env, body, made),
-        _ => form(alloc, evaluation, env, rule, made),
+        Rule::If { .. } | Rule::Let { .. } | Rule::Choose { .. } | Rule::Call { .. } => {
+            walk_beneath(alloc, regions, evaluation, env, rule, made)
+        }
+    }
+}
+
+/// Forms the one rule beneath an `if`, a `let`, a `choose` or a call, if there is one.
+#[cycle(walk)]
+fn walk_beneath<'e, X: Regions, P: Picks>(
+    alloc: Global,
+    regions: &mut X,
+    evaluation: &Evaluation<'_, '_, P>,
+    env: &'e Env<'e>,
+    rule: &'e Rule,
+    made: &mut Forming,
+) -> Result<(), Stopped>
+    requires fits { Fits evaluation.now made.old }
+    requires one { has_one_beneath (meant rule.now) ≡ true }
+    ensures { Follows (shape_at evaluation.now) (outcome_at evaluation.now env.now made.old.path.items (meant rule.now)) made.old made.new result }
+{
+    match beneath(alloc, &*evaluation, &*env, &*rule, made.path.as_slice())? {
+        Some(below) => walk_part(
+            alloc,
+            regions,
+            evaluation,
+            &below.env,
+            below.rule,
+            below.number,
+            made,
+        ),
+        None => Ok(()),
     }
 }
 

@@ -15,6 +15,9 @@ decreases-form_by_regions g l = left_to_form l.evaluation.now.scene.checked.now 
 abbrev pub decreases-walk_part : goal.decreases-walk_part
 decreases-walk_part g l = left_to_form l.evaluation.now.scene.checked.now 2 (meant l.rule.now)
 
+abbrev pub decreases-walk_beneath : goal.decreases-walk_beneath
+decreases-walk_beneath g l = left_to_form l.evaluation.now.scene.checked.now 0 (meant l.rule.now)
+
 abbrev pub decreases-walk_in_order : goal.decreases-walk_in_order
 decreases-walk_in_order g l = left_to_form l.evaluation.now.scene.checked.now 0 (tree.Seq (meant_rules l.rules.now))
 
