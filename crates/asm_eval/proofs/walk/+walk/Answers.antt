@@ -1,28 +1,60 @@
-use Rattle.std.proofs.Common.{◌≡◌, rules, sym, ap, ◌∙◌, arith, ◌-◌, ◌⊎◌, inl, inr, refl, subst}
+use Rattle.std.proofs.Common.{◌≡◌, ◌<◌, Option, Some, None, rules, sym, ap, ◌∙◌, arith, ◌-◌, ◌⊎◌, inl, inr, refl, subst}
+use Rattle.std.specs.Prelude.{IfSome}
 use Rattle.std.proofs.lemmas.Bool.{false≢true}
 use Rattle.asm_state.specs.Updates.{IsConsistent, none}
 use Rattle.asm_updates.specs.Entries.{Entries}
-use Rattle.asm_eval.specs.Does.{Outcome}
+use Rattle.asm_syntax.specs.Tree as tree
+use Rattle.asm_reader.specs.declared.picks.Picks.{Ghosts}
+use Rattle.asm_eval.specs.declared.beneath.Descent.{Descent}
+use Rattle.asm_eval.specs.declared.env.Env.{Env}
+use Rattle.asm_eval.specs.declared.evaluation.Evaluation.{Evaluation}
+use Rattle.asm_eval.specs.Beneath.{IsBeneath, beneath_does}
+use Rattle.asm_eval.specs.Does.{Outcome, nothing}
 use Rattle.asm_eval.specs.Environments.{environment}
-use Rattle.asm_eval.specs.Evaluated.{setting, shape_at, state_at, meant}
+use Rattle.asm_eval.specs.Evaluated.{setting, shape_at, state_at, outcome_at, meant}
 use Rattle.asm_eval.specs.Formed.{Forms}
 use Rattle.asm_eval.specs.Setting.{outcome}
 use Rattle.asm_eval.specs.Valued.{shown}
-use Rattle.asm_eval.specs.Yields.{at, Exhausted}
-use Rattle.asm_eval.proofs.FormedRules.{follows_same, forms_same, in_body, part_is_less, seq_does, iterate_does, rules_do_in_order, turns_do}
+use Rattle.asm_eval.specs.Weights.{rule_weight}
+use Rattle.asm_eval.specs.Yields.{Path, at, Exhausted}
+use Rattle.asm_eval.proofs.BeneathRules.{weighs_less}
+use Rattle.asm_eval.proofs.FormedRules.{follows_same, follows_nothing, forms_same, in_body, part_is_less, seq_does, iterate_does, rules_do_in_order, turns_do}
 use Rattle.asm_eval.proofs.Sequences.{begins, goes_upon, no_fault_found, fault_found, stopped_for_memory}
 use Rattle.asm_eval.proofs.OrderedRules.{part_goes_on, part_ends, part_stops, parts_end, turn_goes_on, turn_ends, turn_stops, turns_stop}
 use Rattle.asm_eval.proofs.walk.+walk.Goals as goal
 use Rattle.asm_eval.proofs.walk.+walk.Goals.{walk_turns-then-is_empty-via-then-is_empty, walk_turns-then-is_empty-via-else-is_empty+then-is_some}
 
+-- ---- the one rule beneath
+
+module _ {P : Type 0} {picks : Ghosts P} (on : Evaluation P picks) (e : Env) (p q : Path) (R : tree.Rule) (below : Option Descent)
+    (at_path : q ≡ p) (is : IsBeneath on e q R below) where
+  less_at : (d : Descent) → below ≡ Some d → rule_weight (setting on).program (meant d.rule.now) < rule_weight (setting on).program R
+  less_at d some = subst (λ it. IfSome it (λ d. rule_weight (setting on).program (meant d.rule.now) < rule_weight (setting on).program R)) some is.less
+
+  nothing_beneath : below ≡ None → nothing ≡ outcome_at on e p R
+  nothing_beneath none = sym (ap (λ p. outcome_at on e p R) (sym at_path) ∙ is.does ∙ ap (beneath_does on q) none)
+
+pub walk_beneath-walk_part-requires : goal.walk_beneath-walk_part-requires
+walk_beneath-walk_part-requires g t c κs within =
+    let a = c.args in
+    let less = weighs_less a.evaluation.now.scene.checked.now (meant c.in-Some.below.rule.now) (meant a.rule.now)
+        (less_at a.evaluation.now a.env.now a.made.now.path.items c.as_slice.result.now (meant a.rule.now) _ c.as_slice.ensures.value (c.in_ok-below.ensures c.requires.one) c.in-Some.below c.in-Some.is) in
+    (omega (arith, c.decreases, less), (search rules, (search rules, c.requires.fits)))
+
+pub walk_beneath-returns-in-None : goal.walk_beneath-returns-in-None
+walk_beneath-returns-in-None g t c =
+    let a = c.args in
+    follows_nothing (shape_at a.evaluation.now) tt _ a.made.now
+    (nothing_beneath a.evaluation.now a.env.now a.made.now.path.items c.as_slice.result.now (meant a.rule.now) _ c.as_slice.ensures.value (c.in_ok-below.ensures c.requires.one) c.in-None.is)
+
+-- ---- sequences
+
 pub form_by_regions-returns-in-Seq : goal.form_by_regions-returns-in-Seq
 form_by_regions-returns-in-Seq g t c =
     let a = c.args in
     follows_same (shape_at a.evaluation.now) c.walk_in_order.result _ _ _ _
-    (seq_does a.evaluation.now (environment a.env.now) a.made.now.path.items a.rule.now c.in-Seq.rules c.as_slice-in-Seq.result.now c.in-Seq.is c.as_slice-in-Seq.ensures.value)
+    (seq_does a.evaluation.now (environment a.env.now) a.made.now.path.items a.rule.now c.in-Seq.rules c.as_slice.result.now c.in-Seq.is c.as_slice.ensures.value)
     c.walk_in_order.ensures
-
--- ---- sequences
 
 pub walk_in_order-loop-i-init : goal.walk_in_order-loop-i-init
 walk_in_order-loop-i-init g t c =
@@ -43,7 +75,7 @@ walk_in_order-walk_next-requires g t c κs within =
     let l = c.loop-i in
     let less = part_is_less (in_body a.evaluation.now.scene.checked.now) a.rules.now l.i c.index-rules-i.result c.loop-i-test.true c.index-rules-i.is in
     let alone = l.invariant.same_count ∙ ap (λ (s : Entries). s.count) c.replace-before.ensures.after ∙ c.new-nothing.ensures.count ∙ c.count.ensures.count in
-    (omega (arith, c.decreases, less), (search rules, (alone, l.invariant.counted)))
+    (omega (arith, c.decreases, less), (search rules, (search rules, (alone, l.invariant.counted))))
 
 pub walk_in_order-loop-i-preserved : goal.walk_in_order-loop-i-preserved
 walk_in_order-loop-i-preserved g t c =
