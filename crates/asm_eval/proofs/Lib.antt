@@ -24,6 +24,7 @@ pub mod NumberedValues
 pub mod Targets
 pub mod Candidates
 pub mod FormedRules
+pub mod FromNothing
 pub mod CalledRules
 pub mod Sequences
 pub mod NestedPaths
@@ -33,3 +34,4 @@ pub mod ExhaustedLaws
 pub mod Initial
 pub mod Examples
 pub mod SpecificationRuns
+pub mod BeneathRules

@@ -22,3 +22,5 @@ pub mod Evaluated
 pub mod Scenes
 pub mod ExhaustedLaws
 pub mod InitialLaws
+pub mod Pieces
+pub mod Beneath

@@ -390,7 +390,7 @@ fn form_next<'e, P: Picks>(
 }
 
 /// Puts back the set that was formed before a sequence, with the sequence's set added.
-fn put_back(before: Summary, so_far: &Summary, made: &mut Forming) -> Result<(), Stopped>
+pub(crate) fn put_back(before: Summary, so_far: &Summary, made: &mut Forming) -> Result<(), Stopped>
     requires { so_far.now.count ≡ before.count }
     ensures count { made.new.set.count ≡ before.count }
     ensures path { made.new.path.items ≡ made.old.path.items }

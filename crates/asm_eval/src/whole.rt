@@ -11,14 +11,12 @@ ghost use Rattle.asm_eval.specs.Formed.{IsFormed};
 use crate::env::Env;
 use crate::evaluation::{Choices, Evaluation, Scene};
 use crate::form::form;
-use crate::outcome::{Forming, Outcome};
-use crate::path::Path;
-use crate::stopped::Stopped;
+use crate::from_nothing::{nothing_formed, outcome_of};
+use crate::outcome::Outcome;
 use crate::view::View;
 use asm_check::Checked;
 use asm_reader::Picks;
 use asm_syntax::rule::Rule;
-use asm_updates::summary::Summary;
 use std::alloc::{AllocError, Global};
 
 /// What the rule yields at this path, in the state that the view shows, under the environment and these choices, all of it on this
@@ -37,22 +35,12 @@ pub fn whole<'a, 'e, P: Picks>(
     ensures { let o = does (program checked.now) turns (P.script choices.now.script.now) choices.now.step (shown view.now) (environment env.now) path.now (plain.plain_rule (rule_of rule.now)) in
         IfOk result (IsFormed view.now.signature.now o) }
 {
-    let mut made = Forming {
-        set: Summary::new(alloc, view.signature.count()),
-        instances: 0,
-        path: path.to_vec(alloc)?,
-    };
+    let mut made = nothing_formed(alloc, view.signature, path)?;
     let evaluation = Evaluation {
         scene: Scene { checked, view },
         choices,
         turns,
     };
-    match form(alloc, &evaluation, env, rule, &mut made) {
-        Ok(()) => Ok(Outcome::Set {
-            set: made.set,
-            instances: made.instances,
-        }),
-        Err(Stopped::Exhausted) => Ok(Outcome::Exhausted(Path::new(made.path))),
-        Err(Stopped::Memory) => Err(AllocError),
-    }
+    let formed = form(alloc, &evaluation, env, rule, &mut made);
+    outcome_of(made, formed)
 }

@@ -1,33 +1,18 @@
-use Rattle.std.proofs.Common.{◌≡◌, ℕ, ◌+◌, List, min, ap, subst, ◌∙◌, arith}
-use Rattle.asm_state.specs.Signature.{Shape, count_of}
-use Rattle.asm_state.specs.Updates.{none}
-use Rattle.asm_state.proofs.Algebra.{union_laws}
-use Rattle.asm_updates.specs.Entries.{Entries}
-use Rattle.asm_updates.specs.Stands.{Stands}
+use Rattle.std.proofs.Common.{List, ℕ}
 use Rattle.asm_syntax.specs.PlainTree as plain
 use Rattle.asm_syntax.specs.Views.{rule_of}
-use Rattle.asm_eval.specs.Does.{Outcome, does}
+use Rattle.asm_eval.specs.Does.{does}
 use Rattle.asm_eval.specs.Environments.{environment}
 use Rattle.asm_eval.specs.Valued.{program, shown}
-use Rattle.asm_eval.specs.Formed.{Forms, IsSet, greatest_count}
+use Rattle.asm_eval.proofs.FromNothing.{set_from_nothing, stopped_from_nothing}
 use Rattle.asm_eval.proofs.whole.whole.Goals as goal
 
--- what is formed from nothing is the outcome's set and its instances
-formed_from_none : (shape : Shape) (o : Outcome) (empty new : Entries) (n : ℕ) → Stands shape empty none → new.count ≡ count_of shape → Forms shape o empty new 0 n → IsSet shape o new n
-formed_from_none shape o empty new n nothing count formed = record {
-  set = formed.set;
-  gives = formed.gives;
-  count = count;
-  stands = subst (Stands shape new) (union_laws.unit formed.set) (formed.adds none nothing);
-  counts = let all : 0 + o.instances ≡ o.instances = omega arith in formed.counts ∙ ap (λ m. min m greatest_count) all;
-}
-
-pub returns-in-Ok : goal.returns-in-Ok
-returns-in-Ok g c =
+pub returns : goal.returns
+returns g c =
     let a = c.args in
-    let shape : Shape = a.view.now.signature.now in
+    let shape = a.view.now.signature.now in
     let o = λ (p : List ℕ). does (program a.checked.now) a.turns (g.P.Picks.script a.choices.now.script.now) a.choices.now.step (shown a.view.now) (environment a.env.now) p (plain.plain_rule (rule_of a.rule.now)) in
-    let at_path : c.in_ok-to_vec.field-0.items ≡ a.path.now = c.in_ok-to_vec.ensures.items_if_clones_equal (λ x y h. h) in
-    formed_from_none shape (o a.path.now) c.new.result c.form.new.made.set c.form.new.made.instances
-    (c.new.ensures.empty shape c.count.ensures.sound c.count.ensures.count) (c.in-Ok.ensures.count ∙ c.new.ensures.count ∙ c.count.ensures.count)
-    (subst (λ p. Forms shape (o p) c.new.result c.form.new.made.set 0 c.form.new.made.instances) at_path c.in-Ok.ensures.formed)
+    let begun = c.in_ok-made.ensures in
+    c.outcome_of.ensures shape (o a.path.now)
+    (set_from_nothing shape o a.path.now c.in_ok-made.made c.form.new.made c.form.result begun.set begun.count begun.instances begun.path c.form.ensures)
+    (stopped_from_nothing shape o a.path.now c.in_ok-made.made c.form.new.made c.form.result begun.set begun.count begun.instances begun.path c.form.ensures)

@@ -1,0 +1,236 @@
+//! The outcome of a rule whose regions are worked by others.
+ghost use Rattle.std.specs.Prelude.{◌≡◌, true, IfOk};
+ghost use Rattle.asm_state.specs.Signature.{count_of};
+ghost use Rattle.asm_syntax.specs.PlainTree as plain;
+ghost use Rattle.asm_syntax.specs.Tree as tree;
+ghost use Rattle.asm_syntax.specs.Views.{spec_of, rule_of};
+ghost use Rattle.asm_check.specs.Shapes.{shape_of};
+ghost use Rattle.asm_eval.specs.Beneath.{has_one_beneath};
+ghost use Rattle.asm_eval.specs.Does.{does};
+ghost use Rattle.asm_eval.specs.Environments.{environment};
+ghost use Rattle.asm_eval.specs.Evaluated.{Fits, shape_at, outcome_at, outcome_upon, in_order_at, meant};
+ghost use Rattle.asm_eval.specs.Formed.{Follows, FollowsUpon, IsFormed};
+ghost use Rattle.asm_eval.specs.Valued.{program, shown};
+ghost use Rattle.asm_eval.specs.Yields as yields;
+
+use crate::beneath::beneath;
+use crate::env::Env;
+use crate::evaluation::{Choices, Evaluation, Scene};
+use crate::form::{form, put_back};
+use crate::from_nothing::{nothing_formed, outcome_of};
+use crate::outcome::{Forming, Outcome};
+use crate::regions::Regions;
+use crate::stopped::Stopped;
+use crate::view::View;
+use asm_check::Checked;
+use asm_reader::Picks;
+use asm_syntax::rule::Rule;
+use asm_updates::summary::Summary;
+use std::alloc::{AllocError, Global};
+use std::mem;
+
+/// What the rule yields at this path, in the state that the view shows, under the environment and these choices. Each region that isn't
+/// within another is worked by `regions`, and the rest on this thread.
+pub fn outcome<'a, 'e, X: Regions, P: Picks>(
+    alloc: Global,
+    regions: &mut X,
+    checked: &'a Checked,
+    view: &'a View<'_>,
+    env: &'e Env<'e>,
+    rule: &'e Rule,
+    choices: &'a Choices<'a, P>,
+    path: &[u64],
+    turns: u32,
+) -> Result<Outcome, AllocError>
+    requires { view.now.signature.now ≡ shape_of (spec_of checked.now.spec) }
+    ensures { let o = does (program checked.now) turns (P.script choices.now.script.now) choices.now.step (shown view.now) (environment env.now) path.now (plain.plain_rule (rule_of rule.now)) in
+        IfOk result (IsFormed view.now.signature.now o) }
+{
+    let mut made = nothing_formed(alloc, view.signature, path)?;
+    let evaluation = Evaluation {
+        scene: Scene { checked, view },
+        choices,
+        turns,
+    };
+    let formed = form_by_regions(alloc, regions, &evaluation, env, rule, &mut made);
+    outcome_of(made, formed)
+}
+
+/// Forms what the rule yields, as `form` does, with its regions worked by `regions`.
+#[cycle(walk)]
+pub fn form_by_regions<'e, X: Regions, P: Picks>(
+    alloc: Global,
+    regions: &mut X,
+    evaluation: &Evaluation<'_, '_, P>,
+    env: &'e Env<'e>,
+    rule: &'e Rule,
+    made: &mut Forming,
+) -> Result<(), Stopped>
+    requires { Fits evaluation.now made.old }
+    ensures { Follows (shape_at evaluation.now) (outcome_at evaluation.now env.now made.old.path.items (meant rule.now)) made.old made.new result }
+{
+    match rule {
+        Rule::Skip | Rule::Assign { .. } => form(alloc, evaluation, env, rule, made),
+        Rule::Par(_) | Rule::Forall { .. } => {
+            regions.form_region(alloc, evaluation, env, rule, made)
+        }
+        Rule::Seq(rules) => {
+            walk_in_order(alloc, regions, evaluation, env, rules.as_slice(), made)
+        }
+        Rule::Iterate(body) => walk_turns(alloc, regions, evaluation, env, body, made),
+        Rule::If { .. } | Rule::Let { .. } | Rule::Choose { .. } | Rule::Call { .. } => {
+            walk_beneath(alloc, regions, evaluation, env, rule, made)
+        }
+    }
+}
+
+/// Forms the one rule beneath an `if`, a `let`, a `choose` or a call, if there is one.
+#[cycle(walk)]
+fn walk_beneath<'e, X: Regions, P: Picks>(
+    alloc: Global,
+    regions: &mut X,
+    evaluation: &Evaluation<'_, '_, P>,
+    env: &'e Env<'e>,
+    rule: &'e Rule,
+    made: &mut Forming,
+) -> Result<(), Stopped>
+    requires fits { Fits evaluation.now made.old }
+    requires one { has_one_beneath (meant rule.now) ≡ true }
+    ensures { Follows (shape_at evaluation.now) (outcome_at evaluation.now env.now made.old.path.items (meant rule.now)) made.old made.new result }
+{
+    match beneath(alloc, &*evaluation, &*env, &*rule, made.path.as_slice())? {
+        Some(below) => walk_part(
+            alloc,
+            regions,
+            evaluation,
+            &below.env,
+            below.rule,
+            below.number,
+            made,
+        ),
+        None => Ok(()),
+    }
+}
+
+/// Forms the parts that stand one after the other, up to the first whose set is faulty.
+#[cycle(walk)]
+fn walk_in_order<'e, X: Regions, P: Picks>(
+    alloc: Global,
+    regions: &mut X,
+    evaluation: &Evaluation<'_, '_, P>,
+    env: &'e Env<'e>,
+    rules: &'e [Rule],
+    made: &mut Forming,
+) -> Result<(), Stopped>
+    requires { Fits evaluation.now made.old }
+    ensures { Follows (shape_at evaluation.now) (in_order_at evaluation.now env.now made.old.path.items rules.now) made.old made.new result }
+{
+    let signature = evaluation.scene.view.signature;
+    let nothing = Summary::new(alloc, signature.count());
+    let before = mem::replace(&mut made.set, nothing);
+    let mut so_far = Summary::new(alloc, signature.count());
+    for i in 0..rules.len() {
+        walk_next(
+            alloc,
+            regions,
+            evaluation,
+            env,
+            &rules[i],
+            i as u64,
+            &mut so_far,
+            made,
+        )?;
+        if made.set.first_fault(signature).is_some() {
+            return put_back(before, &so_far, made);
+        }
+    }
+    put_back(before, &so_far, made)
+}
+
+/// Forms turns of the body one after the other, up to the first whose set is empty or faulty.
+#[cycle(walk)]
+fn walk_turns<'e, X: Regions, P: Picks>(
+    alloc: Global,
+    regions: &mut X,
+    evaluation: &Evaluation<'_, '_, P>,
+    env: &'e Env<'e>,
+    body: &'e Rule,
+    made: &mut Forming,
+) -> Result<(), Stopped>
+    requires { Fits evaluation.now made.old }
+    ensures { let R = tree.Iterate (meant body.now) in
+        Follows (shape_at evaluation.now) (outcome_at evaluation.now env.now made.old.path.items R) made.old made.new result }
+{
+    let signature = evaluation.scene.view.signature;
+    let nothing = Summary::new(alloc, signature.count());
+    let before = mem::replace(&mut made.set, nothing);
+    let mut so_far = Summary::new(alloc, signature.count());
+    for turn in 0..evaluation.turns {
+        walk_next(
+            alloc,
+            regions,
+            evaluation,
+            env,
+            body,
+            u64::from(turn),
+            &mut so_far,
+            made,
+        )?;
+        if made.set.is_empty() || made.set.first_fault(signature).is_some() {
+            return put_back(before, &so_far, made);
+        }
+    }
+    Err(Stopped::Exhausted)
+}
+
+/// Forms the part with this number in the state in which the set so far has been fired, in place of what was formed before, and goes on
+/// with it.
+#[cycle(walk)]
+fn walk_next<'e, X: Regions, P: Picks>(
+    alloc: Global,
+    regions: &mut X,
+    evaluation: &Evaluation<'_, '_, P>,
+    env: &'e Env<'e>,
+    rule: &'e Rule,
+    number: u64,
+    so_far: &mut Summary,
+    made: &mut Forming,
+) -> Result<(), Stopped>
+    requires fits { Fits evaluation.now made.old }
+    requires so_far { so_far.old.count ≡ count_of (shape_at evaluation.now) }
+    ensures { FollowsUpon (shape_at evaluation.now) (λ U. outcome_upon evaluation.now U env.now (yields.at made.old.path.items number) (meant rule.now)) so_far.old so_far.new made.old made.new result }
+{
+    made.set.clear();
+    let view = View::upon(evaluation.scene.view, so_far);
+    let inner = Evaluation {
+        scene: Scene {
+            checked: evaluation.scene.checked,
+            view: &view,
+        },
+        choices: evaluation.choices,
+        turns: evaluation.turns,
+    };
+    walk_part(alloc, regions, &inner, env, rule, number, made)?;
+    so_far.then(&made.set)?;
+    Ok(())
+}
+
+/// Forms the part with this number.
+#[cycle(walk)]
+fn walk_part<'e, X: Regions, P: Picks>(
+    alloc: Global,
+    regions: &mut X,
+    evaluation: &Evaluation<'_, '_, P>,
+    env: &'e Env<'e>,
+    rule: &'e Rule,
+    number: u64,
+    made: &mut Forming,
+) -> Result<(), Stopped>
+    requires { Fits evaluation.now made.old }
+    ensures { Follows (shape_at evaluation.now) (outcome_at evaluation.now env.now (yields.at made.old.path.items number) (meant rule.now)) made.old made.new result }
+{
+    made.path.push(number)?;
+    form_by_regions(alloc, regions, evaluation, env, rule, made)?;
+    made.path.pop();
+    Ok(())
+}
