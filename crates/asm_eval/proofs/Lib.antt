@@ -24,12 +24,15 @@ pub mod NumberedValues
 pub mod Targets
 pub mod Candidates
 pub mod FormedRules
+pub mod Spans
+pub mod Spanned
 pub mod CalledRules
 pub mod Sequences
 pub mod NestedPaths
 pub mod OrderedRules
 pub mod ExhaustedPaths
 pub mod ExhaustedLaws
+pub mod OpeningLaws
 pub mod Initial
 pub mod Examples
 pub mod SpecificationRuns

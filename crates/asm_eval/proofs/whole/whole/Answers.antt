@@ -1,26 +1,13 @@
-use Rattle.std.proofs.Common.{◌≡◌, ℕ, ◌+◌, List, min, ap, subst, ◌∙◌, arith}
-use Rattle.asm_state.specs.Signature.{Shape, count_of}
-use Rattle.asm_state.specs.Updates.{none}
-use Rattle.asm_state.proofs.Algebra.{union_laws}
-use Rattle.asm_updates.specs.Entries.{Entries}
-use Rattle.asm_updates.specs.Stands.{Stands}
+use Rattle.std.proofs.Common.{◌≡◌, ℕ, List, subst, ◌∙◌}
+use Rattle.asm_state.specs.Signature.{Shape}
 use Rattle.asm_syntax.specs.PlainTree as plain
 use Rattle.asm_syntax.specs.Views.{rule_of}
-use Rattle.asm_eval.specs.Does.{Outcome, does}
+use Rattle.asm_eval.specs.Does.{does}
 use Rattle.asm_eval.specs.Environments.{environment}
 use Rattle.asm_eval.specs.Valued.{program, shown}
-use Rattle.asm_eval.specs.Formed.{Forms, IsSet, greatest_count}
+use Rattle.asm_eval.specs.Formed.{Forms}
+use Rattle.asm_eval.proofs.FormedRules.{formed_from_none}
 use Rattle.asm_eval.proofs.whole.whole.Goals as goal
-
--- what is formed from nothing is the outcome's set and its instances
-formed_from_none : (shape : Shape) (o : Outcome) (empty new : Entries) (n : ℕ) → Stands shape empty none → new.count ≡ count_of shape → Forms shape o empty new 0 n → IsSet shape o new n
-formed_from_none shape o empty new n nothing count formed = record {
-  set = formed.set;
-  gives = formed.gives;
-  count = count;
-  stands = subst (Stands shape new) (union_laws.unit formed.set) (formed.adds none nothing);
-  counts = let all : 0 + o.instances ≡ o.instances = omega arith in formed.counts ∙ ap (λ m. min m greatest_count) all;
-}
 
 pub returns-in-Ok : goal.returns-in-Ok
 returns-in-Ok g c =
