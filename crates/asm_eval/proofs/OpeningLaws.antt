@@ -1,10 +1,10 @@
 -- What outcomes beside each other give, where they are exhausted, and how many instances they have.
-use Rattle.std.proofs.Common.{◌≡◌, ℕ, zero, suc, ◌+◌, ◌<◌, List, [], ◌∷◌, ◌++◌, length, map, sum, slice_index_or, All, refl, sym, ap, subst, ◌∙◌, arith, ◌⊎◌, inl, inr}
+use Rattle.std.proofs.Common.{◌≡◌, ℕ, zero, suc, ◌+◌, ◌<◌, List, [], ◌∷◌, ◌++◌, length, map, sum, slice_index_or, All, refl, sym, ap, subst, ◌∙◌, arith, inl, inr}
 use Rattle.std.proofs.lemmas.List.{map-append}
 use Rattle.std.proofs.lemmas.List.Sums.{sum-map, sum_by-cons}
 use Rattle.std.specs.List.{Any}
 use Rattle.asm_state.specs.Updates.{UpdateSet, together}
-use Rattle.asm_eval.specs.Does.{Outcome, nothing, both}
+use Rattle.asm_eval.specs.Does.{Outcome, both}
 use Rattle.asm_eval.specs.ExhaustedLaws.{IsFrom, IsUpTo}
 use Rattle.asm_eval.specs.OpeningLaws.{union, IsUnion, IsFirstOf, IsMadeOf, OpeningLaws, PiecesLaws}
 use Rattle.asm_eval.specs.Pieces.{counting, all_both, piece_does}

@@ -18,7 +18,7 @@ use Rattle.asm_syntax.specs.declared.rule.Rule.TheOpen as open_rule
 use Rattle.asm_syntax.specs.declared.rule.Rule.TheViews.{roll-Rule, out-Rule}
 use Rattle.asm_syntax.specs.declared.rule.Rule.TheVariants as rule
 use Rattle.asm_state.specs.Location.{State}
-use Rattle.asm_eval.specs.Does.{Outcome, nothing}
+use Rattle.asm_eval.specs.Does.{nothing}
 use Rattle.asm_eval.specs.Evaluated.{meant}
 use Rattle.asm_eval.specs.Pieces.{IsPartOf, IsInterval, part_does, span_does}
 use Rattle.asm_eval.specs.Program.{Program, Environment, with_value}

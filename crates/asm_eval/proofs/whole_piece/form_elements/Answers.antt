@@ -1,4 +1,4 @@
-use Rattle.std.proofs.Common.{◌≡◌, ◌∙◌, ◌≤◌, ap, sym, subst, length, arith}
+use Rattle.std.proofs.Common.{◌∙◌, ap, sym, subst, length, arith}
 use Rattle.asm_syntax.specs.Tree as tree
 use Rattle.asm_syntax.specs.declared.rule.Rule.{Rule}
 use Rattle.asm_eval.specs.Environments.{environment}

@@ -1,8 +1,7 @@
 use Rattle.std.proofs.Common.{◌≡◌, ◌∙◌, ◌++◌, List, ℕ, ap, subst}
 use Rattle.asm_eval.specs.Environments.{environment}
 use Rattle.asm_eval.specs.Evaluated.{setting, shape_at, state_at, meant}
-use Rattle.asm_eval.specs.Formed.{Follows}
-use Rattle.asm_eval.specs.Pieces.{IsPartOf, piece_does, span_does}
+use Rattle.asm_eval.specs.Pieces.{IsPartOf, span_does}
 use Rattle.asm_eval.specs.Setting.{outcome}
 use Rattle.asm_eval.proofs.FormedRules.{follows_same}
 use Rattle.asm_eval.proofs.Spanned.{is_whole, is_span}
