@@ -37,7 +37,7 @@ equal_from Greater e f = absurd (false≢true (sym e))
 pub up_to_itself : (p : Path) → IsUpTo p p
 up_to_itself p = ap is_gt (tied_itself nat_list_cmp_total p)
 
-up_to_both : (p q : Path) → IsUpTo p q → IsUpTo q p → p ≡ q
+pub up_to_both : (p q : Path) → IsUpTo p q → IsUpTo q p → p ≡ q
 up_to_both p q h k =
     slice_cmp-IsAntisymmetric nat_cmp-IsAntisymmetric p q
     (equal_from (slice_cmp nat_cmp p q) h (ap is_gt (sym (nat_list_cmp_total.antisymm q p)) ∙ k))

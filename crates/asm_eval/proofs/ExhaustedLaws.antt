@@ -8,7 +8,7 @@ use Rattle.asm_eval.proofs.ExhaustedPaths.{first_part_first, first_element_first
 
 -- ---- of two
 
-one_of_both : (q : Path) (r s : Result) → beside r s ≡ Exhausted q → (r ≡ Exhausted q) ⊎ (s ≡ Exhausted q)
+pub one_of_both : (q : Path) (r s : Result) → beside r s ≡ Exhausted q → (r ≡ Exhausted q) ⊎ (s ≡ Exhausted q)
 one_of_both q (Gives U) (Gives V) e = cc
 one_of_both q (Gives U) (Exhausted s) e = inr e
 one_of_both q (Exhausted r) (Gives V) e = inl e
@@ -18,18 +18,18 @@ one_of_both q (Exhausted r) (Exhausted s) e =
       | inr is ↦ inr (ap Exhausted (sym is) ∙ e)
     ]
 
-from_both : (q : Path) (r s : Result) → IsFrom q (beside r s) → IsFrom q r × IsFrom q s
+pub from_both : (q : Path) (r s : Result) → IsFrom q (beside r s) → IsFrom q r × IsFrom q s
 from_both q (Gives U) (Gives V) h = (tt, tt)
 from_both q (Gives U) (Exhausted s) h = (tt, h)
 from_both q (Exhausted r) (Gives V) h = (h, tt)
 from_both q (Exhausted r) (Exhausted s) h =
     (chain q (first_path r s) r h (first_is r s).first, chain q (first_path r s) s h (first_is r s).second)
 
-exhausted_first : (p : Path) (s : Result) → (q : Path) × (beside (Exhausted p) s ≡ Exhausted q)
+pub exhausted_first : (p : Path) (s : Result) → (q : Path) × (beside (Exhausted p) s ≡ Exhausted q)
 exhausted_first p (Gives V) = (p, refl)
 exhausted_first p (Exhausted s) = (first_path p s, refl)
 
-exhausted_later : (p : Path) (r : Result) → (q : Path) × (beside r (Exhausted p) ≡ Exhausted q)
+pub exhausted_later : (p : Path) (r : Result) → (q : Path) × (beside r (Exhausted p) ≡ Exhausted q)
 exhausted_later p (Gives U) = (p, refl)
 exhausted_later p (Exhausted r) = (first_path r p, refl)
 

@@ -25,12 +25,15 @@ pub mod Targets
 pub mod Candidates
 pub mod FormedRules
 pub mod FromNothing
+pub mod Spans
+pub mod Spanned
 pub mod CalledRules
 pub mod Sequences
 pub mod NestedPaths
 pub mod OrderedRules
 pub mod ExhaustedPaths
 pub mod ExhaustedLaws
+pub mod OpeningLaws
 pub mod Initial
 pub mod Examples
 pub mod SpecificationRuns

@@ -24,3 +24,4 @@ pub mod ExhaustedLaws
 pub mod InitialLaws
 pub mod Pieces
 pub mod Beneath
+pub mod OpeningLaws

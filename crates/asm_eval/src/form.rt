@@ -1,15 +1,18 @@
 //! The outcome of a rule, formed in place.
-ghost use Rattle.std.specs.Prelude.{◌≡◌, OnOk, IfErr};
+ghost use Rattle.std.specs.Prelude.{◌≡◌, ◌≤◌, length, OnOk, IfErr};
 ghost use Rattle.asm_state.specs.Signature.{Shape, count_of};
 ghost use Rattle.asm_state.specs.Updates.{UpdateSet};
 ghost use Rattle.asm_updates.specs.Stands.{Stands, Adds};
 ghost use Rattle.asm_syntax.specs.Tree as tree;
-ghost use Rattle.asm_eval.specs.Evaluated.{Fits, shape_at, outcome_at, outcome_upon, parts_at, in_order_at, meant, meant_branch, meant_choose, meant_forall, meant_term, meant_terms};
+ghost use Rattle.asm_eval.specs.Environments.{environment};
+ghost use Rattle.asm_eval.specs.Evaluated.{Fits, setting, shape_at, state_at, outcome_at, outcome_upon, parts_at, in_order_at, meant, meant_branch, meant_choose, meant_forall, meant_term, meant_terms};
 ghost use Rattle.asm_eval.specs.Formed.{Follows, FollowsUpon};
+ghost use Rattle.asm_eval.specs.Pieces.{span_does};
+ghost use Rattle.asm_eval.specs.Value as spec;
 ghost use Rattle.asm_eval.specs.Yields as yields;
 ghost use Rattle.asm_eval.specs.declared.stopped.Stopped.TheVariants.{Memory};
 
-use crate::binder::Binder;
+use crate::binder::{Binder, Interval};
 use crate::choose::{chosen, holds};
 use crate::env::Env;
 use crate::evaluation::{Evaluation, Scene};
@@ -205,7 +208,7 @@ fn form_all<'e, P: Picks>(
     Ok(())
 }
 
-/// Forms the body for each element for which the condition holds. An element's number is its path in the universe.
+/// Forms the body for each element for which the condition holds.
 #[cycle(form)]
 fn form_each<'e, P: Picks>(
     alloc: Global,
@@ -221,10 +224,36 @@ fn form_each<'e, P: Picks>(
     let Some(universe) = universe_of(evaluation.scene.checked, binder.over) else {
         return Ok(());
     };
-    for i in 0..universe.size() {
+    let all = Interval {
+        universe,
+        from: 0,
+        to: universe.size(),
+    };
+    form_span(alloc, evaluation, env, binder, &all, body, made)
+}
+
+/// Forms the body for each element of an interval for which the condition holds. An element's number is its position in the universe.
+#[cycle(form)]
+pub(crate) fn form_span<'e, P: Picks>(
+    alloc: Global,
+    evaluation: &Evaluation<'_, '_, P>,
+    env: &'e Env<'e>,
+    binder: &Binder<'e>,
+    interval: &Interval<'_>,
+    body: &'e Rule,
+    made: &mut Forming,
+) -> Result<(), Stopped>
+    requires fits { Fits evaluation.now made.old }
+    requires universe { interval.now.universe.now ≡ spec.universe (setting evaluation.now).program binder.now.over.now.text }
+    requires within { interval.now.to ≤ length interval.now.universe.now }
+    ensures { let R = meant_forall binder.now body.now in
+        let o = span_does (setting evaluation.now) (state_at evaluation.now) (environment env.now) made.old.path.items R interval.now.from interval.now.to in
+        Follows (shape_at evaluation.now) o made.old made.new result }
+{
+    for i in interval.from..interval.to {
         let bound = Env::One {
             name: binder.name,
-            value: universe.element(i),
+            value: interval.universe.element(i),
             outer: env,
         };
         if holds(alloc, evaluation, &bound, binder.test)? {

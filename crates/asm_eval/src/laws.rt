@@ -6,6 +6,7 @@ ghost use Rattle.asm_eval.specs.TermCases.{ValuedByCases};
 ghost use Rattle.asm_eval.specs.Declarations.{ProgramDeclares};
 ghost use Rattle.asm_eval.specs.InitialLaws.{InitialLaws};
 ghost use Rattle.asm_eval.specs.ExhaustedLaws.{ExhaustedLaws};
+ghost use Rattle.asm_eval.specs.OpeningLaws.{OpeningLaws, PiecesLaws};
 ghost use Rattle.asm_eval.specs.Run.{ScriptedRuns, FreeRuns};
 ghost use Rattle.asm_eval.specs.SpecificationLaw.{SpecificationsAreRanked, SpecificationRunsAreFree, SpecificationRunsHaveScripts};
 ghost use Rattle.asm_eval.specs.Splits.{BesideLaws, SplitLaws};
@@ -61,6 +62,18 @@ pub fn beside_laws()
 /// The parts of a `par`, and the elements of a `forall`, may be cut into intervals.
 pub fn split_laws()
     ensures { SplitLaws }
+{}
+
+/// Opening a piece loses nothing: its set is the union of those of the pieces that it is opened to,
+/// it is exhausted where one of them is, at the least of their paths, and its instances are theirs
+/// and those that were counted in opening it.
+pub fn opening_laws()
+    ensures { OpeningLaws }
+{}
+
+/// What pieces do beside each other: none of them, one, and two lists of them.
+pub fn pieces_laws()
+    ensures { PiecesLaws }
 {}
 
 /// The weight of a term falls on the way of its evaluation.

@@ -14,11 +14,12 @@ use Rattle.asm_eval.specs.Value.{is_true}
 use Rattle.asm_eval.specs.Valued.{shown}
 use Rattle.asm_eval.specs.Yields.{at, Exhausted}
 use Rattle.asm_eval.proofs.CalledRules.{call_is_less, called_does, rule_number, not_called_does}
-use Rattle.asm_eval.proofs.FormedRules.{follows_same, follows_nothing, follows_both, follows_counted, follows_stopped, forms_same, in_body, part_is_less, rule_does, skip_does, left_out_does, par_does, first_does, other_does, let_does, chosen_does, none_does, next_rule_does, exhausted_rule_does, no_rule_does, forall_of, element_does, exhausted_element_does, element_passed, no_element_does, seq_does, iterate_does, rules_do_in_order, turns_do}
+use Rattle.asm_eval.proofs.FormedRules.{follows_same, follows_nothing, follows_both, follows_counted, follows_stopped, forms_same, in_body, part_is_less, rule_does, skip_does, left_out_does, par_does, first_does, other_does, let_does, chosen_does, none_does, next_rule_does, exhausted_rule_does, no_rule_does, forall_of, seq_does, iterate_does, rules_do_in_order, turns_do}
 use Rattle.asm_eval.proofs.Sequences.{begins, goes_upon, no_fault_found, fault_found, stopped_for_memory}
+use Rattle.asm_eval.proofs.Spans.{span_left, span_of_all, span_element_does, span_passed_does, span_exhausted_does, span_end_does}
 use Rattle.asm_eval.proofs.OrderedRules.{part_goes_on, part_ends, part_stops, parts_end, turn_goes_on, turn_ends, turn_stops, turns_stop}
 use Rattle.asm_eval.proofs.form.+form.Goals as goal
-use Rattle.asm_eval.proofs.form.+form.Goals.{form_each-then-branch+in_ok-form_part, form_each-else-branch, form_turns-then-is_empty-via-then-is_empty, form_turns-then-is_empty-via-else-is_empty+then-is_some}
+use Rattle.asm_eval.proofs.form.+form.Goals.{form_span-then-branch+in_ok-form_part, form_span-else-branch, form_turns-then-is_empty-via-then-is_empty, form_turns-then-is_empty-via-else-is_empty+then-is_some}
 
 pub form-returns-in-Skip : goal.form-returns-in-Skip
 form-returns-in-Skip g t c =
@@ -111,46 +112,62 @@ form_each-returns-in_default g t c =
     follows_nothing (shape_at a.evaluation.now) tt _ a.made.now
     (forall_of a.evaluation.now (environment a.env.now) a.made.now.path.items a.binder.now a.body.now _ (sym c.in_default.ensures.none))
 
-pub form_each-loop-i-preserved : goal.form_each-loop-i-preserved
-form_each-loop-i-preserved g t c =
+pub form_each-form_span-requires : goal.form_each-form_span-requires
+form_each-form_span-requires g t c κs within = (omega (arith, c.decreases), (search rules, (c.requires, (c.in-Some.ensures.some, omega arith))))
+
+pub form_each-returns : goal.form_each-returns
+form_each-returns g t c =
+    let a = c.args in
+    follows_same (shape_at a.evaluation.now) c.form_span.result _ _ _ _
+    (span_of_all a.evaluation.now (environment a.env.now) a.made.now.path.items a.binder.now a.body.now c.size.result c.in-Some.universe.now c.size.ensures.size c.in-Some.ensures.some)
+    c.form_span.ensures
+
+pub form_span-loop-i-preserved : goal.form_span-loop-i-preserved
+form_span-loop-i-preserved g t c =
     let a = c.args in
     let l = c.loop-i in
+    let interval = a.interval.now in
+    let test = c.loop-i-test.true in
     elim c.if-branch.branch [
-      | form_each-then-branch+in_ok-form_part w ↦ rw w.made-is (record {
+      | form_span-then-branch+in_ok-form_part w ↦ rw w.made-is (record {
         same_count = w.in_ok-form_part.ensures.count ∙ l.invariant.same_count;
         same_path = w.in_ok-form_part.ensures.path ∙ l.invariant.same_path;
         follows = λ new r rest. l.invariant.follows new r (follows_same (shape_at a.evaluation.now) r _ _ _ _
-            (element_does a.evaluation.now (environment a.env.now) a.made.now.path.items a.binder.now a.body.now c.in-Some.universe.now l.i c.element.result c.element.ensures (sym w.if-branch.true ∙ c.in_ok-holds.ensures))
+            (span_element_does a.evaluation.now (environment a.env.now) a.made.now.path.items a.binder.now a.body.now interval.to interval.universe.now l.i c.element.result test c.element.ensures (sym w.if-branch.true ∙ c.in_ok-holds.ensures))
             (follows_counted (shape_at a.evaluation.now) r _ _ _ _ refl refl w.saturating_add-made.ensures
             (follows_both (shape_at a.evaluation.now) tt r _ _ _ _ _
             (follows_same (shape_at a.evaluation.now) _ _ _ _ _ (ap (λ q. rule_does a.evaluation.now (with_element a.binder.now c.element.result (environment a.env.now)) (at q l.i) a.body.now) l.invariant.same_path) w.in_ok-form_part.ensures)
             rest)));
       })
-      | form_each-else-branch w ↦ rw w.made-is (record {
+      | form_span-else-branch w ↦ rw w.made-is (record {
         same_count = l.invariant.same_count;
         same_path = l.invariant.same_path;
         follows = λ new r rest. l.invariant.follows new r (follows_same (shape_at a.evaluation.now) r _ _ _ _
-            (element_passed a.evaluation.now (environment a.env.now) a.made.now.path.items a.binder.now a.body.now c.in-Some.universe.now l.i c.element.result c.element.ensures (sym w.if-branch.false ∙ c.in_ok-holds.ensures))
+            (span_passed_does a.evaluation.now (environment a.env.now) a.made.now.path.items a.binder.now a.body.now interval.to interval.universe.now l.i c.element.result test c.element.ensures (sym w.if-branch.false ∙ c.in_ok-holds.ensures))
             rest);
       })
     ]
 
-pub form_each-returns : goal.form_each-returns
-form_each-returns g t c =
+pub form_span-returns : goal.form_span-returns
+form_span-returns g t c =
     let a = c.args in
     let l = c.loop-i in
-    follows_same (shape_at a.evaluation.now) _ _ _ _ _ (forall_of a.evaluation.now (environment a.env.now) a.made.now.path.items a.binder.now a.body.now c.in-Some.universe.now c.in-Some.ensures.some)
+    let interval = a.interval.now in
+    follows_same (shape_at a.evaluation.now) _ _ _ _ _
+    (ap (λ vs. span_left a.evaluation.now (environment a.env.now) a.made.now.path.items a.binder.now a.body.now interval.to vs interval.from) c.requires.universe)
     (l.invariant.follows _ _ (follows_nothing (shape_at a.evaluation.now) tt _ _
-    (no_element_does a.evaluation.now (environment a.env.now) a.made.now.path.items a.binder.now a.body.now c.in-Some.universe.now l.i (omega arith))))
+    (span_end_does a.evaluation.now (environment a.env.now) a.made.now.path.items a.binder.now a.body.now interval.to interval.universe.now l.i (omega arith))))
 
-pub form_each-returns-in_err-form_part : goal.form_each-returns-in_err-form_part
-form_each-returns-in_err-form_part g t c =
+pub form_span-returns-in_err-form_part : goal.form_span-returns-in_err-form_part
+form_span-returns-in_err-form_part g t c =
     let a = c.args in
     let l = c.loop-i in
+    let interval = a.interval.now in
     let residual = c.from_residual-in_err-form_part in
-    follows_same (shape_at a.evaluation.now) _ _ _ _ _ (forall_of a.evaluation.now (environment a.env.now) a.made.now.path.items a.binder.now a.body.now c.in-Some.universe.now c.in-Some.ensures.some)
+    follows_same (shape_at a.evaluation.now) _ _ _ _ _
+    (ap (λ vs. span_left a.evaluation.now (environment a.env.now) a.made.now.path.items a.binder.now a.body.now interval.to vs interval.from) c.requires.universe)
     (l.invariant.follows _ _ (follows_stopped (shape_at a.evaluation.now) c.form_part.result residual.result c.in_err-form_part.field-0.0 _ _ _ _ _ refl c.in_err-form_part.was residual.ensures.1
-    (λ last ends. exhausted_element_does a.evaluation.now (environment a.env.now) a.made.now.path.items a.binder.now a.body.now c.in-Some.universe.now l.i c.element.result last c.element.ensures (sym c.if-branch.true ∙ c.in_ok-holds.ensures)
+    (λ last ends. span_exhausted_does a.evaluation.now (environment a.env.now) a.made.now.path.items a.binder.now a.body.now interval.to interval.universe.now l.i c.element.result last c.loop-i-test.true c.element.ensures (sym c.if-branch.true ∙ c.in_ok-holds.ensures)
     (sym (ap (λ q. (rule_does a.evaluation.now (with_element a.binder.now c.element.result (environment a.env.now)) (at q l.i) a.body.now).result) l.invariant.same_path) ∙ ends))
     c.form_part.ensures))
 

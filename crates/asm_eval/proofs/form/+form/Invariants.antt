@@ -7,8 +7,9 @@ use Rattle.asm_eval.specs.declared.stopped.Stopped.{Stopped}
 use Rattle.asm_eval.specs.Environments.{environment}
 use Rattle.asm_eval.specs.Evaluated.{setting, shape_at, state_at, meant, meant_rules, meant_branch, meant_choose, meant_forall, meant_term, meant_terms}
 use Rattle.asm_eval.specs.Formed.{Follows}
-use Rattle.asm_eval.proofs.FormedRules.{left_to_form, rules_do, each_does, rules_do_in_order, turns_do}
+use Rattle.asm_eval.proofs.FormedRules.{left_to_form, rules_do, rules_do_in_order, turns_do}
 use Rattle.asm_eval.proofs.Sequences.{IsUnderway}
+use Rattle.asm_eval.proofs.Spans.{span_left}
 use Rattle.asm_eval.proofs.form.+form.Given as goal
 
 -- ---- that it ends: each goes by the rule that it forms
@@ -33,6 +34,9 @@ decreases-form_all g l = left_to_form l.evaluation.now.scene.checked.now 0 (tree
 
 abbrev pub decreases-form_each : goal.decreases-form_each
 decreases-form_each g l = left_to_form l.evaluation.now.scene.checked.now 0 (meant_forall l.binder.now l.body.now)
+
+abbrev pub decreases-form_span : goal.decreases-form_span
+decreases-form_span g l = left_to_form l.evaluation.now.scene.checked.now 3 (meant l.body.now)
 
 abbrev pub decreases-form_choose : goal.decreases-form_choose
 decreases-form_choose g l = left_to_form l.evaluation.now.scene.checked.now 0 (meant_choose l.binder.now l.body.now l.none.now)
@@ -61,14 +65,14 @@ invariant-form_all-loop-i g l = record {
       → Follows (shape_at l.evaluation) (rules_do l.evaluation (environment l.env) l.initial.made.path.items 0 l.rules) l.initial.made new r;
 }
 
--- the same of the elements
-abbrev pub invariant-form_each-loop-i : goal.invariant-form_each-loop-i
-invariant-form_each-loop-i g l = record {
+-- the same of the elements of an interval
+abbrev pub invariant-form_span-loop-i : goal.invariant-form_span-loop-i
+invariant-form_span-loop-i g l = record {
   same_count : l.made.set.count ≡ l.initial.made.set.count;
   same_path : l.made.path.items ≡ l.initial.made.path.items;
   follows : (new : Forming) (r : Result (Unit {0}) Stopped)
-      → Follows (shape_at l.evaluation) (each_does l.evaluation (environment l.env) l.initial.made.path.items l.binder l.body l.i (drop l.i l.universe)) l.made new r
-      → Follows (shape_at l.evaluation) (each_does l.evaluation (environment l.env) l.initial.made.path.items l.binder l.body 0 l.universe) l.initial.made new r;
+      → Follows (shape_at l.evaluation) (span_left l.evaluation (environment l.env) l.initial.made.path.items l.binder l.body l.interval.to l.interval.universe.now l.i) l.made new r
+      → Follows (shape_at l.evaluation) (span_left l.evaluation (environment l.env) l.initial.made.path.items l.binder l.body l.interval.to l.interval.universe.now l.interval.from) l.initial.made new r;
 }
 
 -- the sets of the parts so far, and what is left of the parts

@@ -1,0 +1,19 @@
+use Rattle.std.proofs.Common.{◌∙◌}
+use Rattle.std.proofs.lemmas.Result.{on_ok_weaker}
+use Rattle.asm_eval.specs.Evaluated.{setting, shape_at, state_at}
+use Rattle.asm_eval.specs.Pieces.{piece_does}
+use Rattle.asm_eval.proofs.FromNothing.{formed_from_nothing}
+use Rattle.asm_eval.proofs.whole_piece.whole_piece.Goals as goal
+
+pub returns : goal.returns
+returns g c =
+    let a = c.args in
+    let shape = shape_at a.evaluation.now in
+    let o = piece_does (setting a.evaluation.now) (state_at a.evaluation.now) a.piece.now in
+    let begun = c.in_ok-made.ensures in
+    let made = c.form_piece.new.made in
+    c.outcome_of.ensures shape o
+    (on_ok_weaker c.form_piece.result
+    (λ formed. formed_from_nothing shape o c.in_ok-made.made.set made.set c.in_ok-made.made.instances made.instances begun.set begun.instances (c.form_piece.ensures.count ∙ begun.count) formed)
+    c.form_piece.ensures.formed)
+    c.form_piece.ensures.exhausted
