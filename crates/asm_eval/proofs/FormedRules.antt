@@ -95,8 +95,6 @@ module _ (shape : Shape) where
     counts = formed.counts ∙ ap (λ m. min (m + o.instances) greatest_count) is ∙ count_twice before 1 o.instances greatest_count;
   }
 
-  -- what is formed from nothing is the outcome's set and its instances
-
 -- ---- where it stopped
 
 -- what is exhausted together is exhausted at the same path
