@@ -47,6 +47,7 @@ pub mod Searching
 pub mod Seen
 pub mod Settled
 pub mod ShapeFits
+pub mod SharedParts
 pub mod SignatureNumbers
 pub mod Simulation
 pub mod Sized

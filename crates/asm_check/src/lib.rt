@@ -19,6 +19,7 @@ mod numbering;
 mod roles;
 mod search;
 mod shape;
+pub mod shared;
 mod starts;
 mod steps;
 mod tables;
