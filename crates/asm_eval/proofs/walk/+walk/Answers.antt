@@ -38,7 +38,7 @@ pub walk_beneath-walk_part-requires : goal.walk_beneath-walk_part-requires
 walk_beneath-walk_part-requires g t c κs within =
     let a = c.args in
     let less = weighs_less a.evaluation.now.scene.checked.now (meant c.in-Some.below.rule.now) (meant a.rule.now)
-        (less_at a.evaluation.now a.env.now a.made.now.path.items c.as_slice.result.now (meant a.rule.now) _ c.as_slice.ensures.value (c.in_ok-below.ensures c.requires.one) c.in-Some.below c.in-Some.is) in
+    (less_at a.evaluation.now a.env.now a.made.now.path.items c.as_slice.result.now (meant a.rule.now) _ c.as_slice.ensures.value (c.in_ok-below.ensures c.requires.one) c.in-Some.below c.in-Some.is) in
     (omega (arith, c.decreases, less), (search rules, (search rules, c.requires.fits)))
 
 pub walk_beneath-returns-in-None : goal.walk_beneath-returns-in-None
