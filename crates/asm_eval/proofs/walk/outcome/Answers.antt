@@ -14,5 +14,5 @@ returns g c =
     let o = λ (p : List ℕ). does (program a.checked.now) a.turns (g.P.Picks.script a.choices.now.script.now) a.choices.now.step (shown a.view.now) (environment a.env.now) p (plain.plain_rule (rule_of a.rule.now)) in
     let begun = c.in_ok-made.ensures in
     c.outcome_of.ensures shape (o a.path.now)
-    (set_from_nothing shape o a.path.now c.in_ok-made.made c.form_by_regions.new.made c.form_by_regions.result begun.set begun.count begun.instances begun.path c.form_by_regions.ensures)
-    (stopped_from_nothing shape o a.path.now c.in_ok-made.made c.form_by_regions.new.made c.form_by_regions.result begun.set begun.count begun.instances begun.path c.form_by_regions.ensures)
+    (set_from_nothing shape o a.path.now c.in_ok-made.made c.form_by_regions-formed.new.made c.form_by_regions-formed.result begun.set begun.count begun.instances begun.path c.form_by_regions-formed.ensures)
+    (stopped_from_nothing shape o a.path.now c.in_ok-made.made c.form_by_regions-formed.new.made c.form_by_regions-formed.result begun.set begun.count begun.instances begun.path c.form_by_regions-formed.ensures)
