@@ -3,6 +3,7 @@ ghost use Rattle.std.specs.Prelude.{◌≡◌, IfOk, IfErr, IfSome, IfNone, OnOk
 ghost use Rattle.asm_syntax.specs.Views.{spec_of};
 ghost use Rattle.asm_check.specs.Shapes.{shape_of};
 ghost use Rattle.asm_eval.specs.Formed.{IsSet, IsStoppedAt};
+ghost use Rattle.asm_run.specs.Machine.{HasMainRule};
 ghost use Rattle.asm_run.specs.Step.{AreSized, IsFired, IsStopped, main_outcome};
 
 use crate::machine::Machine;
@@ -25,7 +26,8 @@ fn form_main<'a, X: Regions, P: Picks>(
     state: &State,
     made: &mut Forming,
 ) -> Result<(), Stopped>
-    requires { AreSized (spec_of machine.now.checked.now.spec) state.now made.old.set.count }
+    requires sized { AreSized (spec_of machine.now.checked.now.spec) state.now made.old.set.count }
+    requires main { HasMainRule machine.now }
     ensures count { made.new.set.count ≡ made.old.set.count }
     ensures formed { let o = main_outcome (spec_of machine.now.checked.now.spec) machine.now.turns (P.script choices.now.script.now) choices.now.step state.now in
         OnOk result (IsSet (shape_of (spec_of machine.now.checked.now.spec)) o made.new.set made.new.instances) }
@@ -69,7 +71,8 @@ pub fn make_step<X: Regions, P: Picks>(
     made: &mut Forming,
     text: &mut Vec<u8>,
 ) -> Result<Option<Stop>, AllocError>
-    requires { AreSized (spec_of machine.now.checked.now.spec) state.old made.old.set.count }
+    requires sized { AreSized (spec_of machine.now.checked.now.spec) state.old made.old.set.count }
+    requires main { HasMainRule machine.now }
     ensures sized { OnOk result (AreSized (spec_of machine.now.checked.now.spec) state.new made.new.set.count) }
     ensures fired { IfOk result (λ stop. IfNone stop (IsFired (spec_of machine.now.checked.now.spec) machine.now.turns (P.script choices.now.script.now) choices.now.step state.old state.new text.new.items)) }
     ensures stopped { IfOk result (λ stop. IfSome stop (IsStopped (spec_of machine.now.checked.now.spec) machine.now.turns (P.script choices.now.script.now) choices.now.step state.old state.new made.new.path.items)) }

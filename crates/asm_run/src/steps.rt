@@ -2,6 +2,7 @@
 ghost use Rattle.std.specs.Prelude.{◌≡◌, false};
 ghost use Rattle.asm_syntax.specs.Views.{spec_of};
 ghost use Rattle.asm_run.specs.Headline.{book_run};
+ghost use Rattle.asm_run.specs.Machine.{HasMainRule};
 ghost use Rattle.asm_run.specs.Reached.{Runs};
 ghost use Rattle.asm_run.specs.Written.{names_in, locations_in};
 
@@ -28,7 +29,8 @@ pub fn run_steps<X: Regions, S: Sink, P: Picks>(
     steps: u32,
     out: &mut S,
 ) -> Result<End, RunError>
-    requires { S.has_failed out.old ≡ false }
+    requires open { S.has_failed out.old ≡ false }
+    requires main { HasMainRule machine.now }
     ensures { let s = spec_of machine.now.checked.now.spec in
         Runs (names_in s) (locations_in s) (S.bytes out.old) (S.bytes out.new) (S.has_failed out.new) (book_run s machine.now.turns (P.script script.now) steps) result }
 {

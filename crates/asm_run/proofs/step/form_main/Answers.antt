@@ -23,14 +23,14 @@ returns-clause-formed g c =
     let e = environment c.new-env.result in
     let p = c.clear-2.new.self.items in
     let R = plain_rule (rule_of c.args.machine.now.main.now) in
-    let counted = c.requires.set_fits ∙ ap count_of (sym shaped) in
+    let counted = c.requires.sized.set_fits ∙ ap count_of (sym shaped) in
     let o : Outcome = does (program_of s) c.args.machine.now.turns script step A e p R in
     on_ok_weaker c.form_by_regions.result
     (λ forms. formed_alone s shape c.args.machine.now.turns script step c.args.state.now A nothing c.clear.new.self c.form_by_regions.new.made.set 0 c.form_by_regions.new.made.instances e p R shaped
     c.new-view.ensures.fired
     (c.new-nothing.ensures.empty shape c.count.ensures.sound c.count.ensures.count)
     (c.clear.ensures.empty shape c.count.ensures.sound counted)
-    refl c.new-env.ensures c.clear-2.ensures.items c.args.machine.now.is_main
+    refl c.new-env.ensures c.clear-2.ensures.items c.requires.main
     (subst (λ v. Forms v o c.clear.new.self c.form_by_regions.new.made.set 0 c.form_by_regions.new.made.instances) c.new-view.ensures.parts.0 forms))
     c.form_by_regions.ensures.formed
 
@@ -42,5 +42,5 @@ returns-clause-exhausted g c =
     stopped_alone c.form_by_regions.result _ _ c.form_by_regions.new.made.path.items
     (outcome_alone s shape c.args.machine.now.turns script c.args.choices.now.step c.args.state.now (shown c.new-view.result) c.new-nothing.result (environment c.new-env.result)
     c.clear-2.new.self.items (plain_rule (rule_of c.args.machine.now.main.now)) c.signature-signature.ensures c.new-view.ensures.fired
-    (c.new-nothing.ensures.empty shape c.count.ensures.sound c.count.ensures.count) c.new-env.ensures c.clear-2.ensures.items c.args.machine.now.is_main)
+    (c.new-nothing.ensures.empty shape c.count.ensures.sound c.count.ensures.count) c.new-env.ensures c.clear-2.ensures.items c.requires.main)
     c.form_by_regions.ensures.exhausted

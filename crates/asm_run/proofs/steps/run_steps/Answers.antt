@@ -13,13 +13,13 @@ loop-done-init g c =
       contents_fit = rw shaped at c.in_ok-state.ensures.whole;
       set_fits = rw shaped at (c.new.ensures.count ∙ c.count.ensures.count);
     })
-    (rw shaped at c.in_ok-state.ensures.initial) c.requires
+    (rw shaped at c.in_ok-state.ensures.initial) c.requires.open
 
 pub returns-in_err-state : goal.returns-in_err-state
 returns-in_err-state g c =
     let p = err_from_is_err_and c.from_residual.result c.from_residual.ensures.1 in
     rw (p.1, p.2)
-    (none_begun (spec_of c.args.machine.now.checked.now.spec) c.args.machine.now.turns (g.P.Picks.script c.args.script.now) c.args.steps (g.S.Sink.bytes c.args.out.now) (g.S.Sink.has_failed c.args.out.now) c.requires)
+    (none_begun (spec_of c.args.machine.now.checked.now.spec) c.args.machine.now.turns (g.P.Picks.script c.args.script.now) c.args.steps (g.S.Sink.bytes c.args.out.now) (g.S.Sink.has_failed c.args.out.now) c.requires.open)
 
 pub returns-in_err-stop : goal.returns-in_err-stop
 returns-in_err-stop g c =
