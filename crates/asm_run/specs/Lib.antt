@@ -10,3 +10,4 @@ pub mod Exclusion
 pub mod Step
 pub mod Reached
 pub mod Ends
+pub mod Machine

@@ -7,6 +7,7 @@ mod finish;
 pub mod laws;
 pub mod limits;
 mod locations;
+mod machine;
 pub mod run;
 pub mod sink;
 mod step;

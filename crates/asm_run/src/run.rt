@@ -9,9 +9,11 @@ ghost use Rattle.asm_run.specs.declared.error.RunError.TheVariants.{Read, Memory
 use crate::end::End;
 use crate::error::RunError;
 use crate::limits::Limits;
+use crate::machine::Machine;
 use crate::sink::Sink;
 use crate::steps::run_steps;
 use asm_check::check;
+use asm_eval::regions::Plain;
 use asm_reader::{read, read_script};
 use std::alloc::Global;
 use std::thread::Threads;
@@ -48,5 +50,10 @@ pub fn run<R: Threads, S: Sink>(
         return Err(RunError::Limits);
     }
     let (_parameters, main) = checked.rule(checked.main());
-    run_steps(alloc, &checked, main, &script, limits, out)
+    let machine = Machine {
+        checked: &checked,
+        main,
+        turns: limits.turns,
+    };
+    run_steps(alloc, &mut Plain, &machine, &script, limits.steps, out)
 }

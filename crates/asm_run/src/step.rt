@@ -1,58 +1,55 @@
 //! One step of a run.
 ghost use Rattle.std.specs.Prelude.{◌≡◌, IfOk, IfErr, IfSome, IfNone, OnOk};
-ghost use Rattle.asm_syntax.specs.PlainTree.{plain_rule};
-ghost use Rattle.asm_syntax.specs.Views.{spec_of, rule_of};
-ghost use Rattle.asm_check.specs.Faults.{inits};
+ghost use Rattle.asm_syntax.specs.Views.{spec_of};
 ghost use Rattle.asm_check.specs.Shapes.{shape_of};
-ghost use Rattle.asm_eval.specs.Declarations.{main_rule};
 ghost use Rattle.asm_eval.specs.Formed.{IsSet, IsStoppedAt};
+ghost use Rattle.asm_run.specs.Machine.{HasMainRule};
 ghost use Rattle.asm_run.specs.Step.{AreSized, IsFired, IsStopped, main_outcome};
 
+use crate::machine::Machine;
 use crate::trace::push_step;
-use asm_check::Checked;
-use asm_eval::form::form;
+use asm_eval::regions::Regions;
+use asm_eval::walk::form_by_regions;
 use asm_eval::{Choices, Env, Evaluation, Forming, Scene, Stopped, View};
 use asm_reader::Picks;
 use asm_state::state::State;
-use asm_syntax::rule::Rule;
 use asm_updates::fault::Fault;
 use asm_updates::summary::Summary;
 use std::alloc::{AllocError, Global};
 
 /// Forms what the main rule yields, in place of what was formed before.
-fn form_main<'a, P: Picks>(
+fn form_main<'a, X: Regions, P: Picks>(
     alloc: Global,
-    checked: &'a Checked,
-    main: &Rule,
+    regions: &mut X,
+    machine: &Machine<'a>,
     choices: &'a Choices<'a, P>,
-    turns: u32,
     state: &State,
     made: &mut Forming,
 ) -> Result<(), Stopped>
-    requires sized { AreSized (spec_of checked.now.spec) state.now made.old.set.count }
-    requires main { plain_rule (rule_of main.now) ≡ main_rule (spec_of checked.now.spec) (inits (spec_of checked.now.spec)) }
+    requires sized { AreSized (spec_of machine.now.checked.now.spec) state.now made.old.set.count }
+    requires main { HasMainRule machine.now }
     ensures count { made.new.set.count ≡ made.old.set.count }
-    ensures formed { let o = main_outcome (spec_of checked.now.spec) turns (P.script choices.now.script.now) choices.now.step state.now in
-        OnOk result (IsSet (shape_of (spec_of checked.now.spec)) o made.new.set made.new.instances) }
-    ensures exhausted { let o = main_outcome (spec_of checked.now.spec) turns (P.script choices.now.script.now) choices.now.step state.now in
+    ensures formed { let o = main_outcome (spec_of machine.now.checked.now.spec) machine.now.turns (P.script choices.now.script.now) choices.now.step state.now in
+        OnOk result (IsSet (shape_of (spec_of machine.now.checked.now.spec)) o made.new.set made.new.instances) }
+    ensures exhausted { let o = main_outcome (spec_of machine.now.checked.now.spec) machine.now.turns (P.script choices.now.script.now) choices.now.step state.now in
         IfErr result (IsStoppedAt o made.new.path.items) }
 {
     made.set.clear();
     made.instances = 0;
     made.path.clear();
-    let signature = checked.signature();
+    let signature = machine.checked.signature();
     let nothing = Summary::new(alloc, signature.count());
     let view = View::new(signature, state, &nothing);
     let env = Env::new();
     let at = Evaluation {
         scene: Scene {
-            checked,
+            checked: machine.checked,
             view: &view,
         },
         choices,
-        turns,
+        turns: machine.turns,
     };
-    form(alloc, &at, &env, main, made)
+    form_by_regions(alloc, regions, &at, &env, machine.main, made)
 }
 
 /// Why a run ends at a step.
@@ -65,28 +62,27 @@ pub enum Stop {
 }
 
 /// Forms the set of a step. Fires it and puts the text of the step in place of what was there, or answers why the run ends.
-pub fn make_step<P: Picks>(
+pub fn make_step<X: Regions, P: Picks>(
     alloc: Global,
-    checked: &Checked,
-    main: &Rule,
+    regions: &mut X,
+    machine: &Machine<'_>,
     choices: &Choices<'_, P>,
-    turns: u32,
     state: &mut State,
     made: &mut Forming,
     text: &mut Vec<u8>,
 ) -> Result<Option<Stop>, AllocError>
-    requires sized { AreSized (spec_of checked.now.spec) state.old made.old.set.count }
-    requires main { plain_rule (rule_of main.now) ≡ main_rule (spec_of checked.now.spec) (inits (spec_of checked.now.spec)) }
-    ensures sized { OnOk result (AreSized (spec_of checked.now.spec) state.new made.new.set.count) }
-    ensures fired { IfOk result (λ stop. IfNone stop (IsFired (spec_of checked.now.spec) turns (P.script choices.now.script.now) choices.now.step state.old state.new text.new.items)) }
-    ensures stopped { IfOk result (λ stop. IfSome stop (IsStopped (spec_of checked.now.spec) turns (P.script choices.now.script.now) choices.now.step state.old state.new made.new.path.items)) }
+    requires sized { AreSized (spec_of machine.now.checked.now.spec) state.old made.old.set.count }
+    requires main { HasMainRule machine.now }
+    ensures sized { OnOk result (AreSized (spec_of machine.now.checked.now.spec) state.new made.new.set.count) }
+    ensures fired { IfOk result (λ stop. IfNone stop (IsFired (spec_of machine.now.checked.now.spec) machine.now.turns (P.script choices.now.script.now) choices.now.step state.old state.new text.new.items)) }
+    ensures stopped { IfOk result (λ stop. IfSome stop (IsStopped (spec_of machine.now.checked.now.spec) machine.now.turns (P.script choices.now.script.now) choices.now.step state.old state.new made.new.path.items)) }
 {
-    match form_main(alloc, checked, main, choices, turns, state, made) {
+    match form_main(alloc, regions, machine, choices, state, made) {
         Ok(()) => {}
         Err(Stopped::Exhausted) => return Ok(Some(Stop::Exhausted)),
         Err(Stopped::Memory) => return Err(AllocError),
     }
-    if let Some(fault) = made.set.first_fault(checked.signature()) {
+    if let Some(fault) = made.set.first_fault(machine.checked.signature()) {
         return Ok(Some(Stop::Fault(fault)));
     }
     made.set.sort()?;
@@ -94,7 +90,7 @@ pub fn make_step<P: Picks>(
     push_step(
         alloc,
         text,
-        checked,
+        machine.checked,
         choices.step,
         made.instances,
         &made.set,

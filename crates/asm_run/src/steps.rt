@@ -1,42 +1,40 @@
 //! The steps of a run, one after the other.
 ghost use Rattle.std.specs.Prelude.{◌≡◌, false};
-ghost use Rattle.asm_syntax.specs.PlainTree.{plain_rule};
-ghost use Rattle.asm_syntax.specs.Views.{spec_of, rule_of};
-ghost use Rattle.asm_check.specs.Faults.{inits};
-ghost use Rattle.asm_eval.specs.Declarations.{main_rule};
+ghost use Rattle.asm_syntax.specs.Views.{spec_of};
 ghost use Rattle.asm_run.specs.Headline.{book_run};
+ghost use Rattle.asm_run.specs.Machine.{HasMainRule};
 ghost use Rattle.asm_run.specs.Reached.{Runs};
 ghost use Rattle.asm_run.specs.Written.{names_in, locations_in};
 
 use crate::end::End;
 use crate::error::RunError;
 use crate::finish::{finish_at_limit, finish_at_stop};
-use crate::limits::Limits;
+use crate::machine::Machine;
 use crate::sink::Sink;
 use crate::step::make_step;
 use crate::write_all::write_all;
-use asm_check::Checked;
+use asm_eval::regions::Regions;
 use asm_eval::{Choices, Forming};
 use asm_reader::Picks;
 use asm_state::state::State;
-use asm_syntax::rule::Rule;
 use asm_updates::summary::Summary;
 use std::alloc::Global;
 
-/// Makes the steps under the script, and writes each one's text when it is whole.
-pub fn run_steps<S: Sink, P: Picks>(
+/// Makes so many steps under the script, and writes each one's text when it is whole.
+pub fn run_steps<X: Regions, S: Sink, P: Picks>(
     alloc: Global,
-    checked: &Checked,
-    main: &Rule,
+    regions: &mut X,
+    machine: &Machine<'_>,
     script: &P,
-    limits: &Limits,
+    steps: u32,
     out: &mut S,
 ) -> Result<End, RunError>
     requires open { S.has_failed out.old ≡ false }
-    requires main { plain_rule (rule_of main.now) ≡ main_rule (spec_of checked.now.spec) (inits (spec_of checked.now.spec)) }
-    ensures { let s = spec_of checked.now.spec in
-        Runs (names_in s) (locations_in s) (S.bytes out.old) (S.bytes out.new) (S.has_failed out.new) (book_run s limits.now.turns (P.script script.now) limits.now.steps) result }
+    requires main { HasMainRule machine.now }
+    ensures { let s = spec_of machine.now.checked.now.spec in
+        Runs (names_in s) (locations_in s) (S.bytes out.old) (S.bytes out.new) (S.has_failed out.new) (book_run s machine.now.turns (P.script script.now) steps) result }
 {
+    let checked = machine.checked;
     let signature = checked.signature();
     let mut state = State::initial(alloc, signature)?;
     let mut made = Forming {
@@ -45,20 +43,13 @@ pub fn run_steps<S: Sink, P: Picks>(
         path: Vec::new(alloc),
     };
     let mut text = Vec::new(alloc);
-    for done in 0..limits.steps {
+    for done in 0..steps {
         let choices = Choices {
             script,
             step: u64::from(done) + 1,
         };
         let stop = make_step(
-            alloc,
-            checked,
-            main,
-            &choices,
-            limits.turns,
-            &mut state,
-            &mut made,
-            &mut text,
+            alloc, regions, machine, &choices, &mut state, &mut made, &mut text,
         )?;
         if let Some(stop) = stop {
             let path = made.path.as_slice();

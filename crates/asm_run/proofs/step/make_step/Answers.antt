@@ -14,21 +14,21 @@ use Rattle.asm_run.proofs.step.make_step.Goals as goal
 
 pub returns-in-Some-clause-stopped : goal.returns-in-Some-clause-stopped
 returns-in-Some-clause-stopped g c =
-    let s = spec_of c.args.checked.now.spec in
+    let s = spec_of c.args.machine.now.checked.now.spec in
     let made = c.form_main.new.made in
-    let o : Outcome = main_outcome s c.args.turns (g.P.Picks.script c.args.choices.now.script.now) c.args.choices.now.step c.args.state.now in
+    let o : Outcome = main_outcome s c.args.machine.now.turns (g.P.Picks.script c.args.choices.now.script.now) c.args.choices.now.step c.args.state.now in
     let formed : IsSet (shape_of s) o made.set made.instances = subst (λ r. OnOk r (IsSet (shape_of s) o made.set made.instances)) c.in-Ok.is c.form_main.ensures.formed in
     let U : UpdateSet = formed.set in
     let first = rw c.signature.ensures at (c.in-Some.ensures.first U (subst (λ v. Stands v made.set U) (sym c.signature.ensures) formed.stands)) in
-    (record { set = U; gives = formed.gives; is_first = first; below = fault_below s made.set U c.in-Some.fault c.args.checked.now.well_formed formed.stands first }, refl)
+    (record { set = U; gives = formed.gives; is_first = first; below = fault_below s made.set U c.in-Some.fault c.args.machine.now.checked.now.well_formed formed.stands first }, refl)
 
 pub returns-clause-fired : goal.returns-clause-fired
 returns-clause-fired g c =
-    let s = spec_of c.args.checked.now.spec in
-    let good = c.args.checked.now.well_formed in
+    let s = spec_of c.args.machine.now.checked.now.spec in
+    let good = c.args.machine.now.checked.now.well_formed in
     let step = c.args.choices.now.step in
     let made = c.form_main.new.made in
-    let o : Outcome = main_outcome s c.args.turns (g.P.Picks.script c.args.choices.now.script.now) step c.args.state.now in
+    let o : Outcome = main_outcome s c.args.machine.now.turns (g.P.Picks.script c.args.choices.now.script.now) step c.args.state.now in
     let formed : IsSet (shape_of s) o made.set made.instances = subst (λ r. OnOk r (IsSet (shape_of s) o made.set made.instances)) c.in-Ok.is c.form_main.ensures.formed in
     let U : UpdateSet = formed.set in
     let sorted : Stands (shape_of s) c.sort.new.self U = standing_laws.alike (shape_of s) made.set c.sort.new.self U c.in_ok-sort.ensures.count c.in_ok-sort.ensures.entries formed.stands in
