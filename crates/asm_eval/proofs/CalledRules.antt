@@ -78,7 +78,7 @@ module _ (program : Program) (body : tree.Rule → ℕ) where
     sizes_are tree.no_rules = refl
     sizes_are (tree.rule_then P Ps) = λ i. size_is P i + sizes_are Ps i
 
-weight_is : (checked : Checked) (R : tree.Rule) → rules_in (in_body checked) R ≡ rule_weight (program checked) R
+pub weight_is : (checked : Checked) (R : tree.Rule) → rules_in (in_body checked) R ≡ rule_weight (program checked) R
 weight_is checked R = size_is (program checked) (rule_size_within (program checked) 16) R ∙ sym (rule_within (program checked) R)
 
 pub call_is_less : (checked : Checked) (f : tree.Name) (ts : tree.Terms) (r : ℕ) (xs : List syntax.Name) (R : Rule) → named (spec_of checked.spec) f ≡ Some (number.Rule r)

@@ -33,3 +33,4 @@ pub mod ExhaustedLaws
 pub mod Initial
 pub mod Examples
 pub mod SpecificationRuns
+pub mod BeneathRules

@@ -23,3 +23,4 @@ pub mod Scenes
 pub mod ExhaustedLaws
 pub mod InitialLaws
 pub mod Pieces
+pub mod Beneath

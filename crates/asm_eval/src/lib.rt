@@ -2,6 +2,7 @@
 #![tactic(auto)]
 
 pub mod below;
+mod beneath;
 mod binder;
 mod choose;
 pub mod env;

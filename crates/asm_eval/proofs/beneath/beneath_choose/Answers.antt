@@ -1,0 +1,38 @@
+use Rattle.std.proofs.Common.{◌∙◌, ap, sym, refl, rules, ◌≡◌, None}
+use Rattle.asm_reader.specs.ScriptLines.{pick}
+use Rattle.asm_eval.specs.Environments.{environment}
+use Rattle.asm_eval.specs.Evaluated.{setting, meant, meant_branch}
+use Rattle.asm_eval.specs.Scenes.{scene_candidates}
+use Rattle.asm_eval.specs.Taken.{taken}
+use Rattle.asm_eval.specs.Valued.{condition}
+use Rattle.asm_eval.specs.Yields.{at}
+use Rattle.asm_eval.proofs.BeneathRules.{some_beneath, weights_fall}
+use Rattle.asm_eval.proofs.FormedRules.{chosen_does, none_does, left_out_does}
+use Rattle.asm_eval.proofs.beneath.beneath_choose.Goals as goal
+
+pub returns-in-Some : goal.returns-in-Some
+returns-in-Some g c =
+    let a = c.args in
+    let b = a.binder.now in
+    some_beneath a.evaluation.now a.env.now a.path.now _ (meant a.body.now) _ refl
+    (chosen_does a.evaluation.now (environment a.env.now) a.path.now a.binder.now a.body.now a.none.now c.in-Some.value (sym c.in-Some.is ∙ c.in_ok-value.ensures))
+    ((weights_fall a.evaluation.now.scene.checked.now).at_choose b.name.now.text b.over.now.text (condition b.test.now) (meant a.body.now) (meant_branch a.none.now))
+
+pub returns-in-Some-none : goal.returns-in-Some-none
+returns-in-Some-none g c =
+    let a = c.args in
+    let b = a.binder.now in
+    let nothing_there : None ≡ c.in_ok-value.field-0 = search rules in
+    some_beneath a.evaluation.now a.env.now a.path.now _ (meant_branch a.none.now) _ (ap meant c.deref.ensures ∙ sym (ap meant_branch c.in-Some-none.is))
+    (none_does a.evaluation.now (environment a.env.now) a.path.now a.binder.now a.body.now a.none.now (nothing_there ∙ c.in_ok-value.ensures))
+    ((weights_fall a.evaluation.now.scene.checked.now).at_ifnone b.name.now.text b.over.now.text (condition b.test.now) (meant a.body.now) (meant_branch a.none.now))
+
+pub returns-in-None : goal.returns-in-None
+returns-in-None g c =
+    let a = c.args in
+    let nothing_there : None ≡ c.in_ok-value.field-0 = search rules in
+    record {
+      does = sym (left_out_does a.evaluation.now (environment a.env.now) (at a.path.now 1) a.none.now c.in-None.is
+          ∙ none_does a.evaluation.now (environment a.env.now) a.path.now a.binder.now a.body.now a.none.now (nothing_there ∙ c.in_ok-value.ensures));
+      less = tt;
+    }
