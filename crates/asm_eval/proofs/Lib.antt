@@ -34,3 +34,4 @@ pub mod Initial
 pub mod Examples
 pub mod SpecificationRuns
 pub mod BeneathRules
+pub mod OpenedPieces
