@@ -131,8 +131,9 @@ fn open_beneath<'a, P: Picks>(
     piece: &'a Piece<'a>,
 ) -> Result<Opened<'a>, AllocError>
     requires { has_one_beneath (meant piece.now.rule.now) ≡ true }
-    ensures { let o = outcome (setting evaluation.now) (state_at evaluation.now) (environment piece.now.env) piece.now.path (meant piece.now.rule.now) in
-        (cut : ℕ) → IfOk result (OpensTo (setting evaluation.now) (state_at evaluation.now) cut false o) }
+    ensures { let R = meant piece.now.rule.now in
+        let o = outcome (setting evaluation.now) (state_at evaluation.now) (environment piece.now.env) piece.now.path R in
+        (cut : ℕ) → IfOk result (OpensTo (setting evaluation.now) (state_at evaluation.now) cut (is_closed R) o) }
 {
     let path = piece.path.as_slice();
     let mut pieces = Vec::new(alloc);

@@ -63,10 +63,12 @@ returns g c = λ cut.
     let l = c.loop-i in
     let f = piece_does (setting a.evaluation.now) (state_at a.evaluation.now) in
     let m = λ (v : Value) (k : ℕ). rule_does a.evaluation.now (with_element a.binder.now v (environment a.piece.now.env)) (at a.piece.now.path k) a.body.now in
-    let test = is_candidate a.evaluation.now.scene (environment a.piece.now.env) a.binder.now in
-    (refl, record {
-      loses_nothing = ap (λ vs. each m test a.from (between a.from a.to vs)) (sym c.in-Some.ensures.some)
-          ∙ bodies_end f m test a.to c.in-Some.universe.now l.i l.instances l.pieces.items _ (omega (arith, c.loop-i-test.false)) l.invariant.does;
-      are_pieces = l.invariant.are_pieces;
-      are_cut = l.invariant.are_cut cut;
-    })
+    let test = is_candidate a.evaluation.now.scene (environment a.piece.now.env) a.binder.now in (
+      refl,
+      record {
+        loses_nothing = ap (λ vs. each m test a.from (between a.from a.to vs)) (sym c.in-Some.ensures.some)
+            ∙ bodies_end f m test a.to c.in-Some.universe.now l.i l.instances l.pieces.items _ (omega (arith, c.loop-i-test.false)) l.invariant.does;
+        are_pieces = l.invariant.are_pieces;
+        are_cut = l.invariant.are_cut cut;
+      },
+    )

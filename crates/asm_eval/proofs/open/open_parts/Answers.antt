@@ -40,11 +40,13 @@ loop-i-preserved c =
 pub returns : goal.returns
 returns c = λ s A cut.
     let a = c.args in
-    let l = c.loop-i in
-    (refl, record {
-      loses_nothing = sym (l.invariant.does s A)
-          ∙ ap (both (pieces_do s A l.pieces.items)) (no_part s A (environment a.env.now) a.path.now a.rules.now l.i (omega (arith, c.loop-i-test.false)))
-          ∙ beside_laws.last_unit (pieces_do s A l.pieces.items) ∙ sym (counting_none (pieces_do s A l.pieces.items));
-      are_pieces = l.invariant.are_pieces s.program;
-      are_cut = l.invariant.are_cut cut;
-    })
+    let l = c.loop-i in (
+      refl,
+      record {
+        loses_nothing = sym (l.invariant.does s A)
+            ∙ ap (both (pieces_do s A l.pieces.items)) (no_part s A (environment a.env.now) a.path.now a.rules.now l.i (omega (arith, c.loop-i-test.false)))
+            ∙ beside_laws.last_unit (pieces_do s A l.pieces.items) ∙ sym (counting_none (pieces_do s A l.pieces.items));
+        are_pieces = l.invariant.are_pieces s.program;
+        are_cut = l.invariant.are_cut cut;
+      },
+    )

@@ -56,11 +56,13 @@ loop-next-preserved c =
 pub returns : goal.returns
 returns c = λ s A is.
     let a = c.args in
-    let l = c.loop-next in
-    (refl, record {
-      loses_nothing = sym (l.invariant.does s A is)
-          ∙ ap (both (pieces_do s A l.pieces.items)) (span_none s A (environment a.piece.now.env) a.piece.now.path (meant a.piece.now.rule.now) l.next a.to (omega (arith, c.loop-next-test.false)))
-          ∙ beside_laws.last_unit (pieces_do s A l.pieces.items) ∙ sym (counting_none (pieces_do s A l.pieces.items));
-      are_pieces = l.invariant.are_pieces s is;
-      are_cut = l.invariant.are_cut;
-    })
+    let l = c.loop-next in (
+      refl,
+      record {
+        loses_nothing = sym (l.invariant.does s A is)
+            ∙ ap (both (pieces_do s A l.pieces.items)) (span_none s A (environment a.piece.now.env) a.piece.now.path (meant a.piece.now.rule.now) l.next a.to (omega (arith, c.loop-next-test.false)))
+            ∙ beside_laws.last_unit (pieces_do s A l.pieces.items) ∙ sym (counting_none (pieces_do s A l.pieces.items));
+        are_pieces = l.invariant.are_pieces s is;
+        are_cut = l.invariant.are_cut;
+      },
+    )
