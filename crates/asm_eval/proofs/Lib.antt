@@ -38,3 +38,4 @@ pub mod Initial
 pub mod Examples
 pub mod SpecificationRuns
 pub mod BeneathRules
+pub mod OpenedPieces

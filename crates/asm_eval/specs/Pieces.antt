@@ -96,11 +96,10 @@ module _ (s : Setting) (A : State) (cut : ℕ) where
     pub are_pieces : All (IsPiece s.program) pieces
     pub are_cut : All (IsCut cut) pieces
 
-  -- what something that does o is opened to
-  abbrev pub OpensTo : Outcome → Opened → Type 0
-  OpensTo o (opened.Pieces pieces n) = AreParts o pieces.items n
-  OpensTo o opened.Closed = ⊥
+  -- what something that does o is opened to: it is closed or it isn't
+  abbrev pub OpensTo : (closed : Bool) → Outcome → Opened → Type 0
+  OpensTo closed o (opened.Pieces pieces n) = (closed ≡ false) × AreParts o pieces.items n
+  OpensTo closed o opened.Closed = closed ≡ true
 
   abbrev pub Opens : Piece → Opened → Type 0
-  Opens piece (opened.Pieces pieces n) = (is_closed_part (meant piece.rule.now) piece.part ≡ false) × AreParts (piece_does s A piece) pieces.items n
-  Opens piece opened.Closed = is_closed_part (meant piece.rule.now) piece.part ≡ true
+  Opens piece = OpensTo (is_closed_part (meant piece.rule.now) piece.part) (piece_does s A piece)
