@@ -31,7 +31,7 @@ use std::mem;
 
 /// What the rule yields at this path, in the state that the view shows, under the environment and these choices. Each region that isn't
 /// within another is worked by `regions`, and the rest on this thread.
-pub fn outcome<'a, 'e, X: Regions, P: Picks>(
+pub fn outcome<'a, 'e, X: Regions, P: Picks + Sync>(
     alloc: Global,
     regions: &mut X,
     checked: &'a Checked,
@@ -58,7 +58,7 @@ pub fn outcome<'a, 'e, X: Regions, P: Picks>(
 
 /// Forms what the rule yields, as `form` does, with its regions worked by `regions`.
 #[cycle(walk)]
-pub fn form_by_regions<'e, X: Regions, P: Picks>(
+pub fn form_by_regions<'e, X: Regions, P: Picks + Sync>(
     alloc: Global,
     regions: &mut X,
     evaluation: &Evaluation<'_, '_, P>,
@@ -86,7 +86,7 @@ pub fn form_by_regions<'e, X: Regions, P: Picks>(
 
 /// Forms the one rule beneath an `if`, a `let`, a `choose` or a call, if there is one.
 #[cycle(walk)]
-fn walk_beneath<'e, X: Regions, P: Picks>(
+fn walk_beneath<'e, X: Regions, P: Picks + Sync>(
     alloc: Global,
     regions: &mut X,
     evaluation: &Evaluation<'_, '_, P>,
@@ -114,7 +114,7 @@ fn walk_beneath<'e, X: Regions, P: Picks>(
 
 /// Forms the parts that stand one after the other, up to the first whose set is faulty.
 #[cycle(walk)]
-fn walk_in_order<'e, X: Regions, P: Picks>(
+fn walk_in_order<'e, X: Regions, P: Picks + Sync>(
     alloc: Global,
     regions: &mut X,
     evaluation: &Evaluation<'_, '_, P>,
@@ -149,7 +149,7 @@ fn walk_in_order<'e, X: Regions, P: Picks>(
 
 /// Forms turns of the body one after the other, up to the first whose set is empty or faulty.
 #[cycle(walk)]
-fn walk_turns<'e, X: Regions, P: Picks>(
+fn walk_turns<'e, X: Regions, P: Picks + Sync>(
     alloc: Global,
     regions: &mut X,
     evaluation: &Evaluation<'_, '_, P>,
@@ -186,7 +186,7 @@ fn walk_turns<'e, X: Regions, P: Picks>(
 /// Forms the part with this number in the state in which the set so far has been fired, in place of what was formed before, and goes on
 /// with it.
 #[cycle(walk)]
-fn walk_next<'e, X: Regions, P: Picks>(
+fn walk_next<'e, X: Regions, P: Picks + Sync>(
     alloc: Global,
     regions: &mut X,
     evaluation: &Evaluation<'_, '_, P>,
@@ -217,7 +217,7 @@ fn walk_next<'e, X: Regions, P: Picks>(
 
 /// Forms the part with this number.
 #[cycle(walk)]
-fn walk_part<'e, X: Regions, P: Picks>(
+fn walk_part<'e, X: Regions, P: Picks + Sync>(
     alloc: Global,
     regions: &mut X,
     evaluation: &Evaluation<'_, '_, P>,

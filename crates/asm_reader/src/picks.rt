@@ -3,7 +3,7 @@ ghost use Rattle.std.specs.Prelude.{◌≡◌};
 ghost use Rattle.asm_reader.specs.ScriptLines.{Script, pick};
 
 /// Answers as a script does.
-pub trait Picks: Sync {
+pub trait Picks {
     // The script by which it answers.
     ghost script: { Self → Script };
 

@@ -18,7 +18,7 @@ use asm_updates::summary::Summary;
 use std::alloc::{AllocError, Global};
 
 /// Forms what the main rule yields, in place of what was formed before.
-fn form_main<'a, X: Regions, P: Picks>(
+fn form_main<'a, X: Regions, P: Picks + Sync>(
     alloc: Global,
     regions: &mut X,
     machine: &Machine<'a>,
@@ -62,7 +62,7 @@ pub enum Stop {
 }
 
 /// Forms the set of a step. Fires it and puts the text of the step in place of what was there, or answers why the run ends.
-pub fn make_step<X: Regions, P: Picks>(
+pub fn make_step<X: Regions, P: Picks + Sync>(
     alloc: Global,
     regions: &mut X,
     machine: &Machine<'_>,

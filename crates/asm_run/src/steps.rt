@@ -21,7 +21,7 @@ use asm_updates::summary::Summary;
 use std::alloc::Global;
 
 /// Makes so many steps under the script, and writes each one's text when it is whole.
-pub fn run_steps<X: Regions, S: Sink, P: Picks>(
+pub fn run_steps<X: Regions, S: Sink, P: Picks + Sync>(
     alloc: Global,
     regions: &mut X,
     machine: &Machine<'_>,

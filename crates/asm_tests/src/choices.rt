@@ -4,38 +4,47 @@ ghost use Rattle.std.specs.Prelude.{[]};
 use crate::plain::{Entry, FIVE, ONE, Plain, TWO, has_entries};
 use crate::text::checked_of;
 use asm_check::Checked;
-use asm_eval::whole::whole;
+use asm_eval::regions::Plain;
+use asm_eval::walk::outcome;
 use asm_eval::{Choices, Env, Outcome, View};
 use asm_reader::Picks;
 use asm_state::state::State;
 use asm_updates::summary::Summary;
 use std::alloc::{AllocError, Global};
-use std::cell::Cell;
+use std::sync::atomic::{AtomicU64, Ordering};
 use std::test::Fail;
 
 /// Answers 0 as a script without lines does, and counts how often it is asked.
 #[derive(Drop)]
-struct Counting {
-    asked: Cell<u64>,
+pub struct Counting {
+    asked: AtomicU64,
+}
+
+impl Counting {
+    pub fn new() -> Counting {
+        Counting {
+            asked: AtomicU64::new(0),
+        }
+    }
 }
 
 impl Picks for Counting {
     ghost script = { λ _. [] };
 
     fn pick(&self, _step: u64, _path: &[u64]) -> u64 {
-        self.asked.set(self.asked.get().saturating_add(1));
+        self.asked.fetch_add(1, Ordering::SeqCst);
         0
     }
 }
 
 /// What stands before the main rule's body.
 const BEFORE: &str = "CoreASM T init M \
-enum Color = { red, green, blue } universe Idx = 0 .. 2 universe Empty = 1 .. 0 \
+enum Color = { red, green, blue } enum Two = { one, two } universe Idx = 0 .. 2 universe Empty = 1 .. 0 \
 function controlled c : Idx function controlled x \
 rule Pick(n) = choose i in Idx do x := i endchoose rule M = ";
 
 /// The specification with a main rule with this body.
-fn specification(alloc: Global, body: &str) -> Result<Checked, Fail> {
+pub fn specification(alloc: Global, body: &str) -> Result<Checked, Fail> {
     let mut text = String::from_str(alloc, BEFORE)?;
     text.push_str(body)?;
     checked_of(alloc, text.as_bytes())
@@ -53,17 +62,25 @@ fn outcome_of(alloc: Global, checked: &Checked, picks: &Counting) -> Result<Outc
         script: picks,
         step: 1,
     };
-    whole(alloc, checked, &view, &env, main, &choices, &[], 1000)
+    outcome(
+        alloc,
+        &mut Plain,
+        checked,
+        &view,
+        &env,
+        main,
+        &choices,
+        &[],
+        1000,
+    )
 }
 
 /// What a main rule with this body yields, and how often it asks.
 fn yielded(alloc: Global, body: &str) -> Result<(Outcome, u64), Fail> {
     let checked = specification(alloc, body)?;
-    let picks = Counting {
-        asked: Cell::new(0),
-    };
+    let picks = Counting::new();
     let outcome = outcome_of(alloc, &checked, &picks)?;
-    Ok((outcome, picks.asked.get()))
+    Ok((outcome, picks.asked.load(Ordering::SeqCst)))
 }
 
 /// Bodies, and how often they ask.
@@ -203,7 +220,7 @@ static YIELDED: [Yielded; 3] = [
 ];
 
 /// Whether an outcome is a set, and has these instances and entries.
-fn is_set(outcome: Outcome, instances: u64, entries: &[Entry]) -> bool {
+pub fn is_set(outcome: Outcome, instances: u64, entries: &[Entry]) -> bool {
     match outcome {
         Outcome::Set {
             set,

@@ -6,6 +6,8 @@ mod checking;
 #[cfg(test)]
 mod choices;
 #[cfg(test)]
+mod pieces;
+#[cfg(test)]
 mod plain;
 #[cfg(test)]
 mod runs;

@@ -1,0 +1,140 @@
+//! Pieces of a region: what they are opened to, and what they yield whole.
+use crate::choices::{Counting, is_set, specification};
+use crate::plain::{Entry, ONE, TWO};
+use asm_check::Checked;
+use asm_eval::open::open_piece;
+use asm_eval::regions::Plain;
+use asm_eval::walk::outcome;
+use asm_eval::whole::whole;
+use asm_eval::whole_piece::whole_piece;
+use asm_eval::{Choices, Env, Evaluation, Opened, Outcome, Part, Path, Piece, Scene, View};
+use asm_state::state::State;
+use asm_updates::summary::Summary;
+use std::alloc::{AllocError, Global};
+use std::test::Fail;
+
+/// How many pieces something is opened to, and how many elements are counted in opening it.
+type Parts = (usize, u64);
+
+/// How many parts all of the main rule is opened to, in the initial state. None: it is closed.
+fn opened(alloc: Global, checked: &Checked, cut: usize) -> Result<Option<Parts>, AllocError>
+    requires { 0 < cut }
+{
+    let (_parameters, main) = checked.rule(checked.main());
+    let signature = checked.signature();
+    let state = State::initial(alloc, signature)?;
+    let nothing = Summary::new(alloc, signature.count());
+    let view = View::new(signature, &state, &nothing);
+    let picks = Counting::new();
+    let choices = Choices {
+        script: &picks,
+        step: 1,
+    };
+    let evaluation = Evaluation {
+        scene: Scene {
+            checked,
+            view: &view,
+        },
+        choices: &choices,
+        turns: 1000,
+    };
+    let piece = Piece {
+        rule: main,
+        env: Env::new(),
+        path: Path::new(Vec::new(alloc)),
+        part: Part::Whole,
+    };
+    match open_piece(alloc, &evaluation, &piece, cut)? {
+        Opened::Pieces { pieces, instances } => Ok(Some((pieces.len(), instances))),
+        Opened::Closed => Ok(None),
+    }
+}
+
+/// Bodies, and what each is opened to where two elements are one piece.
+static OPENED: [(&str, Option<Parts>); 12] = [
+    ("skip", None),
+    ("x := 1", None),
+    ("seq skip skip endseq", None),
+    ("iterate skip enditerate", None),
+    ("par skip skip skip endpar", Some((3, 0))),
+    ("forall i in Idx do skip endforall", Some((2, 0))),
+    (
+        "forall k in Two with k = two do skip endforall",
+        Some((1, 1)),
+    ),
+    ("if true then skip endif", Some((1, 0))),
+    ("if false then skip endif", Some((0, 0))),
+    ("let v = 1 in skip endlet", Some((1, 0))),
+    ("choose i in Empty do skip endchoose", Some((0, 0))),
+    ("Pick(1)", Some((1, 0))),
+];
+
+#[test]
+fn each_kind_of_rule_is_opened_or_closed(rt: HostRuntime) -> Result<(), Fail> {
+    for (body, parts) in &OPENED {
+        let checked = specification(rt.alloc(), body)?;
+        assert!(rt; opened(rt.alloc(), &checked, 2)? == *parts, "{body}");
+    }
+    Ok(())
+}
+
+/// The outcomes of the main rule in the initial state: as a piece, as a whole, and with its regions worked by themselves.
+fn outcomes(alloc: Global, checked: &Checked) -> Result<(Outcome, Outcome, Outcome), AllocError> {
+    let (_parameters, main) = checked.rule(checked.main());
+    let signature = checked.signature();
+    let state = State::initial(alloc, signature)?;
+    let nothing = Summary::new(alloc, signature.count());
+    let view = View::new(signature, &state, &nothing);
+    let picks = Counting::new();
+    let choices = Choices {
+        script: &picks,
+        step: 1,
+    };
+    let env = Env::new();
+    let evaluation = Evaluation {
+        scene: Scene {
+            checked,
+            view: &view,
+        },
+        choices: &choices,
+        turns: 1000,
+    };
+    let piece = Piece {
+        rule: main,
+        env,
+        path: Path::new(Vec::new(alloc)),
+        part: Part::Whole,
+    };
+    Ok((
+        whole_piece(alloc, &evaluation, &piece)?,
+        whole(alloc, checked, &view, &env, main, &choices, &[], 1000)?,
+        outcome(
+            alloc,
+            &mut Plain,
+            checked,
+            &view,
+            &env,
+            main,
+            &choices,
+            &[],
+            1000,
+        )?,
+    ))
+}
+
+/// Two regions in a sequence.
+const REGIONS: &str =
+    "seq forall i in Idx with i < 2 do c(i) := i + 1 endforall par x := c(0) skip endpar endseq";
+
+/// The set of that, whose two instances are those of the `forall`.
+const SET: [Entry; 3] = [(0, ONE, ONE), (1, TWO, TWO), (4, ONE, ONE)];
+
+#[test]
+fn a_piece_yields_what_its_rule_yields(rt: HostRuntime) -> Result<(), Fail> {
+    let checked = specification(rt.alloc(), REGIONS)?;
+    let (piece, whole, regions) = outcomes(rt.alloc(), &checked)?;
+    assert!(rt; is_set(piece, 2, &SET));
+    assert!(rt; is_set(whole, 2, &SET));
+    assert!(rt; is_set(regions, 2, &SET));
+    Ok(())
+}

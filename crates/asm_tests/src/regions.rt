@@ -1,4 +1,0 @@
-//! Regions that workers share, and that workers meet in them.
-mod meetings;
-mod questions;
-mod runs;
