@@ -11,9 +11,9 @@ returns g c =
     let shape = shape_at a.evaluation.now in
     let o = piece_does (setting a.evaluation.now) (state_at a.evaluation.now) a.piece.now in
     let begun = c.in_ok-made.ensures in
-    let made = c.form_piece.new.made in
+    let made = c.form_piece-formed.new.made in
     c.outcome_of.ensures shape o
-    (on_ok_weaker c.form_piece.result
-    (λ formed. formed_from_nothing shape o c.in_ok-made.made.set made.set c.in_ok-made.made.instances made.instances begun.set begun.instances (c.form_piece.ensures.count ∙ begun.count) formed)
-    c.form_piece.ensures.formed)
-    c.form_piece.ensures.exhausted
+    (on_ok_weaker c.form_piece-formed.result
+    (λ formed. formed_from_nothing shape o c.in_ok-made.made.set made.set c.in_ok-made.made.instances made.instances begun.set begun.instances (c.form_piece-formed.ensures.count ∙ begun.count) formed)
+    c.form_piece-formed.ensures.formed)
+    c.form_piece-formed.ensures.exhausted
