@@ -1,5 +1,5 @@
 -- What comes of forming an outcome that begins with nothing: its set and its instances, or the path where it is exhausted.
-use Rattle.std.proofs.Common.{◌≡◌, ℕ, ◌+◌, List, min, ap, subst, ◌∙◌, arith}
+use Rattle.std.proofs.Common.{◌≡◌, ℕ, ◌+◌, min, ap, subst, ◌∙◌, arith}
 use Rattle.std.specs.Prelude.{Result, OnOk, IfErr}
 use Rattle.std.proofs.lemmas.Result.{on_ok_weaker}
 use Rattle.asm_state.specs.Signature.{Shape, count_of}
