@@ -1,9 +1,6 @@
 use Rattle.std.proofs.Common.{◌∙◌, ap, sym, refl, rules, ◌≡◌, None}
-use Rattle.asm_reader.specs.ScriptLines.{pick}
 use Rattle.asm_eval.specs.Environments.{environment}
-use Rattle.asm_eval.specs.Evaluated.{setting, meant, meant_branch}
-use Rattle.asm_eval.specs.Scenes.{scene_candidates}
-use Rattle.asm_eval.specs.Taken.{taken}
+use Rattle.asm_eval.specs.Evaluated.{meant, meant_branch}
 use Rattle.asm_eval.specs.Valued.{condition}
 use Rattle.asm_eval.specs.Yields.{at}
 use Rattle.asm_eval.proofs.BeneathRules.{some_beneath, weights_fall}
