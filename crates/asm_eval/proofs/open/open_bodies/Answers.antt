@@ -1,10 +1,10 @@
-use Rattle.std.proofs.Common.{◌≡◌, ◌∙◌, ◌≤◌, ℕ, ap, sym, subst, All, arith, refl}
+use Rattle.std.proofs.Common.{◌∙◌, ℕ, ap, sym, subst, All, arith, refl}
 use Rattle.std.proofs.lemmas.List.Elements.{All-nil}
 use Rattle.asm_state.specs.declared.value.Value.{Value}
 use Rattle.asm_eval.specs.Does.{each}
 use Rattle.asm_eval.specs.Environments.{environment}
 use Rattle.asm_eval.specs.Evaluated.{setting, state_at}
-use Rattle.asm_eval.specs.Pieces.{piece_does, pieces_do, IsPiece, IsCut, between}
+use Rattle.asm_eval.specs.Pieces.{piece_does, IsPiece, IsCut, between}
 use Rattle.asm_eval.specs.Scenes.{with_element, is_candidate}
 use Rattle.asm_eval.specs.Yields.{at}
 use Rattle.asm_eval.proofs.FormedRules.{rule_does}

@@ -1,7 +1,7 @@
 use Rattle.std.proofs.Common.{◌∙◌, ap, refl}
 use Rattle.asm_eval.specs.Environments.{environment}
-use Rattle.asm_eval.specs.Evaluated.{setting, state_at, meant, outcome_at}
-use Rattle.asm_eval.specs.Pieces.{is_closed, span_does}
+use Rattle.asm_eval.specs.Evaluated.{setting, state_at, meant}
+use Rattle.asm_eval.specs.Pieces.{is_closed}
 use Rattle.asm_eval.specs.Yields.{Path}
 use Rattle.asm_eval.specs.Valued.{condition}
 use Rattle.asm_eval.proofs.FormedRules.{par_does, rules_do}

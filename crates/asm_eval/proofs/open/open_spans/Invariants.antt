@@ -1,4 +1,4 @@
-use Rattle.std.proofs.Common.{◌≡◌, ℕ, ◌-◌, ◌≤◌, All}
+use Rattle.std.proofs.Common.{◌≡◌, ◌-◌, ◌≤◌, All}
 use Rattle.asm_state.specs.Location.{State}
 use Rattle.asm_eval.specs.Does.{both}
 use Rattle.asm_eval.specs.Environments.{environment}
