@@ -33,7 +33,7 @@ returns-in_err-script-clause-refused g c =
     rw (p.1, p.2) (refused_script c.args.spec.now c.args.script.now limits.steps limits.turns limits.workers limits.cut limits.rounds (g.S.Sink.bytes c.args.out.now) tree accepted c.in_err-script.field-0.0 c.in_err-script.ensures.refused)
 
 pub run_steps-requires-clause-main : goal.run_steps-requires-clause-main
-run_steps-requires-clause-main g c =
+run_steps-requires-clause-main g c κs within =
     let one = c.main.ensures.one in
     main_is (spec_of c.in_ok-checked.checked.spec) one.0 c.main.result _ _ one.1 (c.main.ensures.main one.0 one.1) c.rule.ensures
 
