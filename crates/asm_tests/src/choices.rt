@@ -4,9 +4,8 @@ ghost use Rattle.std.specs.Prelude.{[]};
 use crate::plain::{Entry, FIVE, ONE, Plain, TWO, has_entries};
 use crate::text::checked_of;
 use asm_check::Checked;
-use asm_eval::regions::Plain;
 use asm_eval::walk::outcome;
-use asm_eval::{Choices, Env, Outcome, View};
+use asm_eval::{Choices, Env, Outcome, View, regions};
 use asm_reader::Picks;
 use asm_state::state::State;
 use asm_updates::summary::Summary;
@@ -64,7 +63,7 @@ fn outcome_of(alloc: Global, checked: &Checked, picks: &Counting) -> Result<Outc
     };
     outcome(
         alloc,
-        &mut Plain,
+        &mut regions::Plain,
         checked,
         &view,
         &env,

@@ -16,10 +16,8 @@ use std::test::Fail;
 /// How many pieces something is opened to, and how many elements are counted in opening it.
 type Parts = (usize, u64);
 
-/// How many parts all of the main rule is opened to, in the initial state. None: it is closed.
-fn opened(alloc: Global, checked: &Checked, cut: usize) -> Result<Option<Parts>, AllocError>
-    requires { 0 < cut }
-{
+/// How many parts all of the main rule is opened to, in the initial state, where two elements are one piece. None: it is closed.
+fn opened(alloc: Global, checked: &Checked) -> Result<Option<Parts>, AllocError> {
     let (_parameters, main) = checked.rule(checked.main());
     let signature = checked.signature();
     let state = State::initial(alloc, signature)?;
@@ -44,13 +42,13 @@ fn opened(alloc: Global, checked: &Checked, cut: usize) -> Result<Option<Parts>,
         path: Path::new(Vec::new(alloc)),
         part: Part::Whole,
     };
-    match open_piece(alloc, &evaluation, &piece, cut)? {
+    match open_piece(alloc, &evaluation, &piece, 2)? {
         Opened::Pieces { pieces, instances } => Ok(Some((pieces.len(), instances))),
         Opened::Closed => Ok(None),
     }
 }
 
-/// Bodies, and what each is opened to where two elements are one piece.
+/// Bodies, and what each is opened to.
 static OPENED: [(&str, Option<Parts>); 12] = [
     ("skip", None),
     ("x := 1", None),
@@ -73,7 +71,7 @@ static OPENED: [(&str, Option<Parts>); 12] = [
 fn each_kind_of_rule_is_opened_or_closed(rt: HostRuntime) -> Result<(), Fail> {
     for (body, parts) in &OPENED {
         let checked = specification(rt.alloc(), body)?;
-        assert!(rt; opened(rt.alloc(), &checked, 2)? == *parts, "{body}");
+        assert!(rt; opened(rt.alloc(), &checked)? == *parts, "{body}");
     }
     Ok(())
 }
