@@ -1,4 +1,8 @@
 //! Pieces of a region: what they are opened to, and what they yield whole.
+ghost use Rattle.std.specs.Prelude.{◌≡◌};
+ghost use Rattle.asm_syntax.specs.Views.{spec_of};
+ghost use Rattle.asm_check.specs.Shapes.{shape_of};
+
 use crate::choices::{Counting, is_set, specification};
 use crate::plain::{Entry, ONE, TWO};
 use asm_check::Checked;
@@ -16,24 +20,19 @@ use std::test::Fail;
 /// How many pieces something is opened to, and how many elements are counted in opening it.
 type Parts = (usize, u64);
 
-/// How many parts all of the main rule is opened to, in the initial state, where two elements are one piece. None: it is closed.
-fn opened(alloc: Global, checked: &Checked) -> Result<Option<Parts>, AllocError> {
+/// How many parts all of the main rule is opened to, where two elements are one piece. None: it is closed.
+fn opened_in<'a>(
+    alloc: Global,
+    checked: &'a Checked,
+    view: &'a View<'_>,
+    choices: &'a Choices<'a, Counting>,
+) -> Result<Option<Parts>, AllocError>
+    requires { view.now.signature.now ≡ shape_of (spec_of checked.now.spec) }
+{
     let (_parameters, main) = checked.rule(checked.main());
-    let signature = checked.signature();
-    let state = State::initial(alloc, signature)?;
-    let nothing = Summary::new(alloc, signature.count());
-    let view = View::new(signature, &state, &nothing);
-    let picks = Counting::new();
-    let choices = Choices {
-        script: &picks,
-        step: 1,
-    };
     let evaluation = Evaluation {
-        scene: Scene {
-            checked,
-            view: &view,
-        },
-        choices: &choices,
+        scene: Scene { checked, view },
+        choices,
         turns: 1000,
     };
     let piece = Piece {
@@ -46,6 +45,20 @@ fn opened(alloc: Global, checked: &Checked) -> Result<Option<Parts>, AllocError>
         Opened::Pieces { pieces, instances } => Ok(Some((pieces.len(), instances))),
         Opened::Closed => Ok(None),
     }
+}
+
+/// That in the initial state.
+fn opened(alloc: Global, checked: &Checked) -> Result<Option<Parts>, AllocError> {
+    let signature = checked.signature();
+    let state = State::initial(alloc, signature)?;
+    let nothing = Summary::new(alloc, signature.count());
+    let view = View::new(signature, &state, &nothing);
+    let picks = Counting::new();
+    let choices = Choices {
+        script: &picks,
+        step: 1,
+    };
+    opened_in(alloc, checked, &view, &choices)
 }
 
 /// Bodies, and what each is opened to.
@@ -76,7 +89,31 @@ fn each_kind_of_rule_is_opened_or_closed(rt: HostRuntime) -> Result<(), Fail> {
     Ok(())
 }
 
-/// The outcomes of the main rule in the initial state: as a piece, as a whole, and with its regions worked by themselves.
+/// What all of the main rule yields as a piece.
+fn piece_in<'a>(
+    alloc: Global,
+    checked: &'a Checked,
+    view: &'a View<'_>,
+    choices: &'a Choices<'a, Counting>,
+) -> Result<Outcome, AllocError>
+    requires { view.now.signature.now ≡ shape_of (spec_of checked.now.spec) }
+{
+    let (_parameters, main) = checked.rule(checked.main());
+    let evaluation = Evaluation {
+        scene: Scene { checked, view },
+        choices,
+        turns: 1000,
+    };
+    let piece = Piece {
+        rule: main,
+        env: Env::new(),
+        path: Path::new(Vec::new(alloc)),
+        part: Part::Whole,
+    };
+    whole_piece(alloc, &evaluation, &piece)
+}
+
+/// The outcomes of the main rule in the initial state: as a piece, as a whole, and with its regions evaluated by themselves.
 fn outcomes(alloc: Global, checked: &Checked) -> Result<(Outcome, Outcome, Outcome), AllocError> {
     let (_parameters, main) = checked.rule(checked.main());
     let signature = checked.signature();
@@ -89,35 +126,20 @@ fn outcomes(alloc: Global, checked: &Checked) -> Result<(Outcome, Outcome, Outco
         step: 1,
     };
     let env = Env::new();
-    let evaluation = Evaluation {
-        scene: Scene {
-            checked,
-            view: &view,
-        },
-        choices: &choices,
-        turns: 1000,
-    };
-    let piece = Piece {
-        rule: main,
-        env,
-        path: Path::new(Vec::new(alloc)),
-        part: Part::Whole,
-    };
-    Ok((
-        whole_piece(alloc, &evaluation, &piece)?,
-        whole(alloc, checked, &view, &env, main, &choices, &[], 1000)?,
-        outcome(
-            alloc,
-            &mut Plain,
-            checked,
-            &view,
-            &env,
-            main,
-            &choices,
-            &[],
-            1000,
-        )?,
-    ))
+    let piece = piece_in(alloc, checked, &view, &choices)?;
+    let rule = whole(alloc, checked, &view, &env, main, &choices, &[], 1000)?;
+    let regions = outcome(
+        alloc,
+        &mut Plain,
+        checked,
+        &view,
+        &env,
+        main,
+        &choices,
+        &[],
+        1000,
+    )?;
+    Ok((piece, rule, regions))
 }
 
 /// Two regions in a sequence.
