@@ -65,7 +65,7 @@ impl Setting {
 
 /// What is expected of the run of a case and what is found, both in full: how the run ends or is refused, and behind this line what is
 /// written.
-pub fn answers<R: Threads>(
+pub fn answers<R: Threads + Sync>(
     rt: &R,
     alloc: Global,
     header: &str,
@@ -90,7 +90,7 @@ fn unfit(alloc: Global, missing: &str) -> Result<(String, String), AllocError> {
 }
 
 /// How the run ends, or why it is refused, and what is written.
-fn found<R: Threads>(
+fn found<R: Threads + Sync>(
     rt: &R,
     alloc: Global,
     parts: &Parts,

@@ -31,7 +31,7 @@ impl<'a> Case<'a> {
     }
 
     /// What is expected and what is found, both in full.
-    fn answers<R: Threads>(&self, rt: &R, alloc: Global) -> Result<(String, String), AllocError> {
+    fn answers<R: Threads + Sync>(&self, rt: &R, alloc: Global) -> Result<(String, String), AllocError> {
         if self.wanted.starts_with("run") {
             return run::answers(rt, alloc, self.wanted, self.text);
         }
@@ -47,7 +47,7 @@ impl<'a> Case<'a> {
 }
 
 /// Writes each case of the table where something else is found than is expected, and how many there are of both.
-pub fn compare<R: Threads, W: Write>(
+pub fn compare<R: Threads + Sync, W: Write>(
     rt: &R,
     alloc: Global,
     table: &str,

@@ -29,6 +29,7 @@ pub mod Spans
 pub mod Spanned
 pub mod CalledRules
 pub mod Sequences
+pub mod SharedParts
 pub mod NestedPaths
 pub mod OrderedRules
 pub mod ExhaustedPaths

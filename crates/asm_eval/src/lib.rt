@@ -17,6 +17,7 @@ pub mod outcome;
 pub mod path;
 pub mod piece;
 pub mod regions;
+pub mod shared;
 pub mod stopped;
 mod target;
 mod terms;

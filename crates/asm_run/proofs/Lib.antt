@@ -9,6 +9,10 @@ pub mod Pieces
 pub mod Ranges
 mod Reached
 pub mod Running
+pub mod Answered
+pub mod Hands
+pub mod RoundLaw
+pub mod Crossing
 pub mod ProperLocations
 mod RunOrRefusal
 pub mod SortedLines

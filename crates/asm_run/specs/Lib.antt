@@ -9,5 +9,6 @@ pub mod Headline
 pub mod Exclusion
 pub mod Step
 pub mod Reached
+pub mod Rounds
 pub mod Ends
 pub mod Machine

@@ -4,10 +4,15 @@
 pub mod end;
 pub mod error;
 mod finish;
+mod job;
 pub mod laws;
 pub mod limits;
 mod locations;
 mod machine;
+mod made;
+pub mod pooled;
+mod region;
+mod rounds;
 pub mod run;
 pub mod sink;
 mod step;

@@ -10,10 +10,11 @@ use crate::end::End;
 use crate::error::RunError;
 use crate::limits::Limits;
 use crate::machine::Machine;
+use crate::pooled::Pooled;
 use crate::sink::Sink;
 use crate::steps::run_steps;
 use asm_check::check;
-use asm_eval::regions::Plain;
+use asm_pool::{Gate, NoGate};
 use asm_reader::{read, read_script};
 use std::alloc::Global;
 use std::thread::Threads;
@@ -21,10 +22,37 @@ use std::thread::Threads;
 /// Runs the specification with this text, and writes its trace: the text of each step when it is whole, and then the last lines.
 ///
 /// A text that is no specification is refused, and so are a specification with a fault, a text that is no script, and limits out of their
-/// ranges; then nothing is written. No thread is started yet.
-pub fn run<R: Threads, S: Sink>(
-    _rt: &R,
+/// ranges; then nothing is written. With one worker no thread is started, and with more each `par` and `forall` that isn't within another is
+/// worked by them; a thread that was started has ended when the call returns.
+pub fn run<R: Threads + Sync, S: Sink>(
+    rt: &R,
     alloc: Global,
+    spec: &[u8],
+    script: &[u8],
+    limits: &Limits,
+    out: &mut S,
+) -> Result<End, RunError>
+    requires { S.has_failed out.old ≡ false }
+    // The bytes grew by the trace of the book's run, and by nothing else.
+    ensures done { IfOk result (IsDone spec.now script.now limits.now.steps limits.now.turns limits.now.workers limits.now.cut limits.now.rounds (S.bytes out.old) (S.bytes out.new)) }
+    // What a refusal says of the text, of the script, of the limits, and of what was written. Those of texts and limits exclude one another,
+    // and a run (`laws`).
+    ensures refused { IfErr result (Explains spec.now script.now limits.now.steps limits.now.turns limits.now.workers limits.now.cut limits.now.rounds (S.bytes out.old) (S.bytes out.new)) }
+    // A text that is too long is refused as that, whatever memory there is.
+    ensures too_long { 1_048_576 < length spec.now → result ≡ Err (Read (Lex TooLong)) }
+    // Memory is asked for where the text has a first token, and nowhere before.
+    ensures memory { IfErr result (λ e. e ≡ Memory → HasFirstToken spec.now) }
+    // The sink failed just where that is the answer.
+    ensures failed { IsTrue (S.has_failed out.new) ↔ (result ≡ Err Write) }
+{
+    run_gated(rt, alloc, &NoGate, spec, script, limits, out)
+}
+
+/// Runs the specification as `run` does, and the workers call the gate before and after each of their tasks.
+pub fn run_gated<R: Threads + Sync, G: Gate + Sync, S: Sink>(
+    rt: &R,
+    alloc: Global,
+    gate: &G,
     spec: &[u8],
     script: &[u8],
     limits: &Limits,
@@ -55,5 +83,6 @@ pub fn run<R: Threads, S: Sink>(
         main,
         turns: limits.turns,
     };
-    run_steps(alloc, &mut Plain, &machine, &script, limits.steps, out)
+    let mut regions = Pooled::new(rt, limits, gate);
+    run_steps(alloc, &mut regions, &machine, &script, limits.steps, out)
 }

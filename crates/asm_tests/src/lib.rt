@@ -10,6 +10,8 @@ mod pieces;
 #[cfg(test)]
 mod plain;
 #[cfg(test)]
+mod regions;
+#[cfg(test)]
 mod runs;
 #[cfg(test)]
 mod state;

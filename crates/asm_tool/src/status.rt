@@ -26,7 +26,7 @@ const MOST_BYTES: u64 = 1_048_577;
 /// Runs the specification of the file that the words name, or of the input where they name none, and writes its trace to `out` and
 /// the line of a fault to `err`. The words are those behind the program's name.
 pub fn status<
-    R: Threads + AllocGlobal,
+    R: Threads + Sync + AllocGlobal,
     F: Folder,
     S: AsStr,
     I: Read + Drop,
@@ -64,7 +64,7 @@ pub fn refusal<E: Write>(fault: &Fault, err: &mut E) -> u8
 }
 
 /// The end of the run, once its whole trace is written. The words come first, then the text, then the script.
-fn end<R: Threads + AllocGlobal, F: Folder, S: AsStr, I: Read + Drop, O: Write + Finish>(
+fn end<R: Threads + Sync + AllocGlobal, F: Folder, S: AsStr, I: Read + Drop, O: Write + Finish>(
     rt: &R,
     folder: &F,
     words: &[S],
@@ -91,7 +91,7 @@ fn end<R: Threads + AllocGlobal, F: Folder, S: AsStr, I: Read + Drop, O: Write +
 }
 
 /// The end of the run of this text with this script, once its whole trace is written.
-fn written<R: Threads, O: Write + Finish>(
+fn written<R: Threads + Sync, O: Write + Finish>(
     rt: &R,
     alloc: Global,
     text: &[u8],

@@ -43,7 +43,7 @@ struct Shown {
 }
 
 /// The status that the program ends with over these files, this reader and these writers.
-fn status_by<R: Threads + Files + AllocGlobal, I: Read + Drop, O: Write + Drop, E: Write>(
+fn status_by<R: Threads + Sync + Files + AllocGlobal, I: Read + Drop, O: Write + Drop, E: Write>(
     rt: &R,
     words: &[&str],
     input: I,
@@ -57,7 +57,7 @@ fn status_by<R: Threads + Files + AllocGlobal, I: Read + Drop, O: Write + Drop, 
 }
 
 /// What the program shows where both writers take everything.
-fn shown_by<R: Threads + Files + AllocGlobal, I: Read + Drop>(
+fn shown_by<R: Threads + Sync + Files + AllocGlobal, I: Read + Drop>(
     rt: &R,
     words: &[&str],
     input: I,

@@ -7,7 +7,7 @@ use Rattle.asm_run.specs.Limits.{are_in_range}
 use Rattle.asm_run.proofs.FirstTokens.{first_token, memory_read, memory_later}
 use Rattle.asm_run.proofs.MainRule.{main_is}
 use Rattle.asm_run.proofs.Whole.{refused_text, refused_tree, refused_script, whole}
-use Rattle.asm_run.proofs.run.run.Goals as goal
+use Rattle.asm_run.proofs.run.run_gated.Goals as goal
 
 pub returns-in_err-tree-clause-refused : goal.returns-in_err-tree-clause-refused
 returns-in_err-tree-clause-refused g c =

@@ -1,0 +1,278 @@
+-- What a round does.
+use Rattle.std.proofs.Common.{◌≡◌, ℕ, zero, suc, ◌+◌, ◌<◌, List, [], ◌∷◌, ◌++◌, Option, Some, None, All, min, length, map, refl, sym, ap, subst, ◌∙◌, arith, add-one}
+use Rattle.std.specs.Prelude.{slice_get, IsOk, IfNone}
+use Rattle.std.specs.List.{range_with_len, concat}
+use Rattle.std.specs.List.Sorted.{IsPermutation}
+use Rattle.std.proofs.lemmas.List.{map-append}
+use Rattle.std.proofs.lemmas.List.Elements.{All-nil, All-append}
+use Rattle.std.proofs.lemmas.Option.{slice_get_within}
+use Rattle.asm_state.specs.Location.{State}
+use Rattle.asm_state.specs.Signature.{Shape}
+use Rattle.asm_state.specs.Updates.{UpdateSet, none, together}
+use Rattle.asm_state.proofs.Algebra.{union_laws}
+use Rattle.asm_updates.specs.Entries.{Entries}
+use Rattle.asm_updates.specs.Stands.{Adds}
+use Rattle.asm_updates.specs.Together.{StandTogether, united}
+use Rattle.asm_eval.specs.declared.piece.Piece.{Piece}
+use Rattle.asm_eval.specs.Does.{Outcome, nothing, both}
+use Rattle.asm_eval.specs.Formed.{greatest_count}
+use Rattle.asm_eval.specs.Pieces.{IsPiece, counting, all_both, piece_does, pieces_do}
+use Rattle.asm_eval.specs.Program.{Program}
+use Rattle.asm_eval.specs.Setting.{Setting}
+use Rattle.asm_eval.specs.Yields.{Path, Gives, Exhausted, beside, first_path}
+use Rattle.asm_eval.proofs.Beside.{beside_laws}
+use Rattle.asm_pool.specs.Pool.{RunsTask, RunsLists}
+use Rattle.asm_run.specs.Rounds.{set_of, news, tally, first_of, least, Answered, answers, Reads, Holds, IsLeft, Tells, added, IsWorked, RunsPiece, IsRound}
+use Rattle.asm_run.specs.declared.job.RegionOut.{RegionOut}
+use Rattle.asm_run.specs.declared.job.RegionOut.TheVariants as region
+use Rattle.asm_run.proofs.Answered.{Runs, answered_at, as_many_answers, lists_answer}
+use Rattle.asm_run.proofs.Hands.{hands_add}
+
+-- ---- outcomes beside each other
+
+-- the middle two of four change places
+exchange : (a b c d : Outcome) → both (both a b) (both c d) ≡ both (both a c) (both b d)
+exchange a b c d =
+    beside_laws.group a b (both c d)
+    ∙ ap (both a) (sym (beside_laws.group b c d) ∙ ap (λ o. both o d) (beside_laws.swap b c) ∙ beside_laws.group c b d)
+    ∙ sym (beside_laws.group a c (both b d))
+
+same_outcome : (o q : Outcome) → o.result ≡ q.result → o.instances ≡ q.instances → o ≡ q
+same_outcome o q e f i = record { result = e i; instances = f i }
+
+counting_is : (k : ℕ) (o : Outcome) → counting k o ≡ both (counting k nothing) o
+counting_is k o = same_outcome (counting k o) (both (counting k nothing) o) (ap (λ (x : Outcome). x.result) (sym (beside_laws.first_unit o))) (omega arith)
+
+all_both-append : (os qs : List Outcome) → all_both (os ++ qs) ≡ both (all_both os) (all_both qs)
+all_both-append [] qs = sym (beside_laws.first_unit (all_both qs))
+all_both-append (o ∷ os) qs = ap (both o) (all_both-append os qs) ∙ sym (beside_laws.group o (all_both os) (all_both qs))
+
+right_unit : (U : UpdateSet) → together U none ≡ U
+right_unit U = union_laws.swap U none ∙ union_laws.unit U
+
+-- where the numbers of a list are counted from one more
+united_on : (f : ℕ → UpdateSet) (a n : ℕ) → united f (range_with_len (a + 1) n) ≡ united (λ k. f (suc k)) (range_with_len a n)
+united_on f a zero = refl
+united_on f a (suc n) = ap (λ k. together (f k) (united f (range_with_len (a + 1 + 1) n))) (add-one a) ∙ ap (together (f (suc a))) (united_on f (a + 1) n)
+
+-- ---- what is left for the rounds behind
+
+-- what each answer of a list says
+abbrev EachLeft : Program → Option ℕ → List RegionOut → Type 0
+EachLeft program cut [] = Unit {0}
+EachLeft program cut (out ∷ outs) = IsLeft program cut out × EachLeft program cut outs
+
+are_pieces : (program : Program) (cut : Option ℕ) (outs : List RegionOut) → EachLeft program cut outs → All (IsPiece program) (news outs)
+are_pieces program cut [] left = All-nil (IsPiece program)
+are_pieces program (Some cut) (region.Pieces pieces n ∷ outs) left = All-append (IsPiece program) pieces.items (news outs) left.0 (are_pieces program (Some cut) outs left.1)
+are_pieces program None (region.Pieces pieces n ∷ outs) left = absurd left.0
+are_pieces program cut (region.Done n ∷ outs) left = are_pieces program cut outs left.1
+are_pieces program cut (region.Exhausted p ∷ outs) left = are_pieces program cut outs left.1
+
+none_left : (program : Program) (outs : List RegionOut) → EachLeft program None outs → news outs ≡ []
+none_left program [] left = refl
+none_left program (region.Pieces pieces n ∷ outs) left = absurd left.0
+none_left program (region.Done n ∷ outs) left = none_left program outs left.1
+none_left program (region.Exhausted p ∷ outs) left = none_left program outs left.1
+
+-- ---- one answer, and one list of them
+
+tally_cons : (n : ℕ) (out : RegionOut) (outs : List RegionOut) → tally n (out ∷ outs) ≡ tally (tally n (out ∷ [])) outs
+tally_cons n (region.Pieces pieces k) outs = refl
+tally_cons n (region.Done k) outs = refl
+tally_cons n (region.Exhausted q) outs = refl
+
+least_cons : (at : Option Path) (out : RegionOut) (outs : List RegionOut) → least at (out ∷ outs) ≡ least (least at (out ∷ [])) outs
+least_cons at (region.Pieces pieces k) outs = refl
+least_cons at (region.Done k) outs = refl
+least_cons at (region.Exhausted q) outs = refl
+
+module _ (s : Setting) (A : State) where
+  abbrev f : Piece → Outcome
+  f = piece_does s A
+
+  abbrev does : List Piece → Outcome
+  does = pieces_do s A
+
+  abbrev tells : Outcome → RegionOut → Type 0
+  tells = Tells s A
+
+  abbrev adds : Outcome → RegionOut → UpdateSet
+  adds = added s A
+
+  does-append : (ps qs : List Piece) → does (ps ++ qs) ≡ both (does ps) (does qs)
+  does-append ps qs = ap all_both (map-append f ps qs) ∙ all_both-append (map f ps) (map f qs)
+
+  -- what a task did itself, and what is left of its piece
+  abbrev done : Outcome → RegionOut → Outcome
+  done o (region.Pieces pieces k) = counting k nothing
+  done o (region.Done k) = o
+  done o (region.Exhausted q) = o
+
+  abbrev rest : RegionOut → Outcome
+  rest (region.Pieces pieces k) = does pieces.items
+  rest (region.Done k) = nothing
+  rest (region.Exhausted q) = nothing
+
+  abbrev EachTells : List Piece → List RegionOut → Type 0
+  EachTells [] [] = Unit {0}
+  EachTells (p ∷ ps) (out ∷ outs) = tells (f p) out × EachTells ps outs
+  EachTells _ _ = ⊥
+
+  abbrev dones : List Piece → List RegionOut → Outcome
+  dones (p ∷ ps) (out ∷ outs) = both (done (f p) out) (dones ps outs)
+  dones _ _ = nothing
+
+  abbrev adds_at : List Piece → List RegionOut → ℕ → UpdateSet
+  adds_at (p ∷ ps) (out ∷ outs) zero = adds (f p) out
+  adds_at (p ∷ ps) (out ∷ outs) (suc n) = adds_at ps outs n
+  adds_at _ _ n = none
+
+  abbrev all_add : List Piece → List RegionOut → UpdateSet
+  all_add (p ∷ ps) (out ∷ outs) = together (adds (f p) out) (all_add ps outs)
+  all_add _ _ = none
+
+  each_tells : (ps : List Piece) (outs : List RegionOut) → length outs ≡ length ps
+      → ((n : ℕ) (p : Piece) (out : RegionOut) → slice_get ps n ≡ Some p → slice_get outs n ≡ Some out → tells (f p) out) → EachTells ps outs
+  each_tells [] [] long told = tt
+  each_tells [] (out ∷ outs) long told = absurd (omega (arith, long))
+  each_tells (p ∷ ps) [] long told = absurd (omega (arith, long))
+  each_tells (p ∷ ps) (out ∷ outs) long told = (told 0 p out refl refl, each_tells ps outs (omega (arith, long)) (λ n. told (suc n)))
+
+  each_left : (cut : Option ℕ) (ps : List Piece) (outs : List RegionOut) → length outs ≡ length ps
+      → ((n : ℕ) (p : Piece) (out : RegionOut) → slice_get ps n ≡ Some p → slice_get outs n ≡ Some out → IsLeft s.program cut out) → EachLeft s.program cut outs
+  each_left cut [] [] long told = tt
+  each_left cut [] (out ∷ outs) long told = absurd (omega (arith, long))
+  each_left cut (p ∷ ps) [] long told = absurd (omega (arith, long))
+  each_left cut (p ∷ ps) (out ∷ outs) long told = (told 0 p out refl refl, each_left cut ps outs (omega (arith, long)) (λ n. told (suc n)))
+
+  all_added : (ps : List Piece) (outs : List RegionOut) → length outs ≡ length ps → united (adds_at ps outs) (range_with_len 0 (length ps)) ≡ all_add ps outs
+  all_added [] [] long = refl
+  all_added [] (out ∷ outs) long = absurd (omega (arith, long))
+  all_added (p ∷ ps) [] long = absurd (omega (arith, long))
+  all_added (p ∷ ps) (out ∷ outs) long =
+      ap (together (adds (f p) out)) (united_on (adds_at (p ∷ ps) (out ∷ outs)) 0 (length ps) ∙ all_added ps outs (omega (arith, long)))
+
+  -- ---- nothing is lost
+
+  piece_is : (o : Outcome) (out : RegionOut) → tells o out → o ≡ both (done o out) (rest out)
+  piece_is o (region.Pieces pieces k) is = is ∙ counting_is k (does pieces.items)
+  piece_is o (region.Done k) is = sym (beside_laws.last_unit o)
+  piece_is o (region.Exhausted q) is = sym (beside_laws.last_unit o)
+
+  news_cons : (out : RegionOut) (outs : List RegionOut) → does (news (out ∷ outs)) ≡ both (rest out) (does (news outs))
+  news_cons (region.Pieces pieces k) outs = does-append pieces.items (news outs)
+  news_cons (region.Done k) outs = sym (beside_laws.first_unit (does (news outs)))
+  news_cons (region.Exhausted q) outs = sym (beside_laws.first_unit (does (news outs)))
+
+  pieces_are : (ps : List Piece) (outs : List RegionOut) → EachTells ps outs → does ps ≡ both (dones ps outs) (does (news outs))
+  pieces_are [] [] told = sym (beside_laws.first_unit nothing)
+  pieces_are [] (out ∷ outs) told = absurd told
+  pieces_are (p ∷ ps) [] told = absurd told
+  pieces_are (p ∷ ps) (out ∷ outs) told =
+      ap (λ o. both o (does ps)) (piece_is (f p) out told.0) ∙ ap (both (both (done (f p) out) (rest out))) (pieces_are ps outs told.1)
+      ∙ exchange (done (f p) out) (rest out) (dones ps outs) (does (news outs))
+      ∙ ap (both (both (done (f p) out) (dones ps outs))) (sym (news_cons out outs))
+
+  -- ---- what is held
+
+  one_read : (q o : Outcome) (U : UpdateSet) (n : ℕ) (at : Option Path) (out : RegionOut) → tells o out → Reads q U n at
+      → Reads (both q (done o out)) (together U (adds o out)) (tally n (out ∷ [])) (least at (out ∷ []))
+  one_read q o U n None (region.Pieces pieces k) told (is, count) = (ap (λ r. beside r (Gives none)) is, omega (arith, count))
+  one_read q o U n None (region.Done k) (gives, counts) (is, count) = (ap (λ r. beside r o.result) is ∙ ap (beside (Gives U)) gives, omega (arith, count, counts))
+  one_read q o U n None (region.Exhausted r) told (is, count) = ap (λ s. beside s o.result) is ∙ ap (beside (Gives U)) told
+  one_read q o U n (Some p) (region.Pieces pieces k) told is = ap (λ r. beside r (Gives none)) is
+  one_read q o U n (Some p) (region.Done k) (gives, counts) is = ap (λ r. beside r o.result) is ∙ ap (beside (Exhausted p)) gives
+  one_read q o U n (Some p) (region.Exhausted r) told is = ap (λ s. beside s o.result) is ∙ ap (beside (Exhausted p)) told
+
+  all_read : (ps : List Piece) (outs : List RegionOut) (q : Outcome) (U : UpdateSet) (n : ℕ) (at : Option Path) → EachTells ps outs → Reads q U n at
+      → Reads (both q (dones ps outs)) (together U (all_add ps outs)) (tally n outs) (least at outs)
+  all_read [] [] q U n at told reads = subst (λ o. Reads o (together U none) n at) (sym (beside_laws.last_unit q)) (subst (λ X. Reads q X n at) (sym (right_unit U)) reads)
+  all_read [] (out ∷ outs) q U n at told reads = absurd told
+  all_read (p ∷ ps) [] q U n at told reads = absurd told
+  all_read (p ∷ ps) (out ∷ outs) q U n at told reads =
+      let others = all_read ps outs (both q (done (f p) out)) (together U (adds (f p) out)) (tally n (out ∷ [])) (least at (out ∷ [])) told.1 (one_read q (f p) U n at out told.0 reads) in
+      let o = both (both q (done (f p) out)) (dones ps outs) in
+      let V = together (together U (adds (f p) out)) (all_add ps outs) in
+      subst (λ x. Reads x (together U (all_add (p ∷ ps) (out ∷ outs))) (tally n (out ∷ outs)) (least at (out ∷ outs))) (beside_laws.group q (done (f p) out) (dones ps outs))
+      (subst (λ X. Reads o X (tally n (out ∷ outs)) (least at (out ∷ outs))) (union_laws.group U (adds (f p) out) (all_add ps outs))
+      (subst (λ k. Reads o V k (least at (out ∷ outs))) (sym (tally_cons n out outs))
+      (subst (λ m. Reads o V (tally (tally n (out ∷ [])) outs) m) (sym (least_cons at out outs)) others)))
+
+  -- ---- the sets that tasks add to hands
+
+  adds_there : (ps : List Piece) (outs : List RegionOut) (n : ℕ) (p : Piece) (out : RegionOut) → slice_get ps n ≡ Some p → slice_get outs n ≡ Some out → adds (f p) out ≡ adds_at ps outs n
+  adds_there [] outs n p out at there = cc
+  adds_there (x ∷ ps) [] n p out at there = cc
+  adds_there (x ∷ ps) (y ∷ outs) zero p out at there =
+      let e : x ≡ p = cc in let h : y ≡ out = cc in ap (λ (z : Piece × RegionOut). adds (f z.0) z.1) (sym (λ i. (e i, h i)))
+  adds_there (x ∷ ps) (y ∷ outs) (suc n) p out at there = adds_there ps outs n p out at there
+
+  piece_there : (ps : List Piece) (n : ℕ) → n < length ps → (p : Piece) × (slice_get ps n ≡ Some p)
+  piece_there [] n low = absurd (omega (arith, low))
+  piece_there (p ∷ ps) zero low = (p, refl)
+  piece_there (p ∷ ps) (suc n) low = piece_there ps n (omega (arith, low))
+
+  run_adds : (shape : Shape) (cut : Option ℕ) (ps : List Piece) (outs : List RegionOut) → length outs ≡ length ps
+      → (n : ℕ) (before after : Entries) (out : RegionOut) → slice_get outs n ≡ Some out → RunsPiece s A shape cut ps n before out after
+      → Adds shape (adds_at ps outs n) before after
+  run_adds shape cut ps outs long n before after out there did =
+      let some = piece_there ps n (omega (arith, long, slice_get_within outs n out there)) in
+      subst (λ V. Adds shape V before after) (adds_there ps outs n some.0 out some.1 there) (did some.0 some.1).adds
+
+  -- ---- the round
+
+  module _ (shape : Shape) (takes : Entries → Type 0) (cut : Option ℕ) (pieces : List Piece) (outs : List Answered) (long : length outs ≡ length pieces) (ok : All IsOk outs)
+      (each : (n : ℕ) → n < length pieces → (before : Entries) × (after : Entries) × RunsTask takes (Runs (RunsPiece s A shape cut pieces)) outs before n after) where
+    abbrev as_long : length (answers outs) ≡ length pieces
+    as_long = as_many_answers outs ∙ long
+
+    worked_at : (n : ℕ) (p : Piece) (out : RegionOut) → slice_get pieces n ≡ Some p → slice_get (answers outs) n ≡ Some out
+        → (before : Entries) × (after : Entries) × IsWorked s A shape cut (f p) before out after
+    worked_at n p out at there =
+        let (before, after, did) = answered_at (RunsPiece s A shape cut pieces) takes outs ok (length pieces) long each n out there in
+        (before, after, did p at)
+
+    left : EachLeft s.program cut (answers outs)
+    left = each_left cut pieces (answers outs) as_long (λ n p out at there. (worked_at n p out at there).2.left)
+
+    pub new_are_pieces : All (IsPiece s.program) (news (answers outs))
+    new_are_pieces = are_pieces s.program cut (answers outs) left
+
+    pub round_law : (q : Outcome) (hands others : List Entries) (lists : List (List ℕ)) (instances : ℕ) (at : Option Path)
+        → IsPermutation (range_with_len 0 (length pieces)) (concat lists) → RunsLists takes (Runs (RunsPiece s A shape cut pieces)) outs hands lists others
+        → Holds shape q hands instances at → IsRound s A shape q pieces (news (answers outs)) others (tally instances (answers outs)) (least at (answers outs))
+    round_law q hands others lists instances at once did held =
+        let given = answers outs in
+        let all = each_tells pieces given as_long (λ n p out here there. (worked_at n p out here there).2.tells) in
+        record {
+          done = both q (dones pieces given);
+          loses_nothing = ap (both q) (pieces_are pieces given all) ∙ sym (beside_laws.group q (dones pieces given) (does (news given)));
+          holds = record {
+            set = together held.set (all_add pieces given);
+            stand = subst (λ V. StandTogether shape others (together held.set V)) (all_added pieces given as_long)
+                (hands_add shape takes (RunsPiece s A shape cut pieces) given (adds_at pieces given) (run_adds shape cut pieces given as_long)
+                (length pieces) hands others lists held.set once (lists_answer (RunsPiece s A shape cut pieces) takes outs ok hands others lists did) held.stand);
+            reads = all_read pieces given q held.set instances at all held.reads;
+          };
+        }
+
+  pub nothing_left : (shape : Shape) (takes : Entries → Type 0) (cut : Option ℕ) (pieces : List Piece) (outs : List Answered) → length outs ≡ length pieces → All IsOk outs
+      → ((n : ℕ) → n < length pieces → (before : Entries) × (after : Entries) × RunsTask takes (Runs (RunsPiece s A shape cut pieces)) outs before n after)
+      → IfNone cut (news (answers outs) ≡ [])
+  nothing_left shape takes None pieces outs long ok each = none_left s.program (answers outs) (left shape takes None pieces outs long ok each)
+  nothing_left shape takes (Some cut) pieces outs long ok each = tt
+
+  -- ---- the rounds
+
+  -- where no piece is left
+  pub held_before_none : (shape : Shape) (o : Outcome) (pieces : List Piece) (hands : List Entries) (instances : ℕ) (at : Option Path) → pieces ≡ []
+      → Holds shape o hands instances at → Holds shape (both o (does pieces)) hands instances at
+  held_before_none shape o pieces hands instances at none held =
+      subst (λ x. Holds shape x hands instances at) (sym (ap (λ ps. both o (does ps)) none ∙ beside_laws.last_unit o)) held
+
+  -- what a round leaves, and what is held behind it
+  pub held_through : (shape : Shape) (o : Outcome) (pieces next : List Piece) (hands others : List Entries) (n k : ℕ) (at then : Option Path) → IsRound s A shape o pieces next hands n at
+      → ((q : Outcome) → Holds shape q hands n at → Holds shape (both q (does next)) others k then) → Holds shape (both o (does pieces)) others k then
+  held_through shape o pieces next hands others n k at then round behind =
+      subst (λ x. Holds shape x others k then) (sym round.loses_nothing) (behind round.done round.holds)

@@ -1,0 +1,148 @@
+//! Regions worked by many workers.
+ghost use Rattle.std.specs.Prelude.{◌≡◌, ◌<◌, ◌≤◌, IfOk, IsTrue};
+ghost use Rattle.asm_syntax.specs.PlainTree as plain;
+ghost use Rattle.asm_syntax.specs.Views.{spec_of, rule_of};
+ghost use Rattle.asm_check.specs.Shapes.{shape_of};
+ghost use Rattle.asm_eval.specs.Does.{does};
+ghost use Rattle.asm_eval.specs.Environments.{environment};
+ghost use Rattle.asm_eval.specs.Formed.{IsFormed};
+ghost use Rattle.asm_eval.specs.Valued.{program, shown};
+ghost use Rattle.asm_run.specs.Limits.{are_in_range};
+
+use crate::limits::Limits;
+use crate::made::add_set;
+use crate::region::work_region;
+use crate::rounds::Region;
+use asm_check::Checked;
+use asm_eval::form::form;
+use asm_eval::regions::Regions;
+use asm_eval::whole::whole;
+use asm_eval::{
+    Choices, Env, Evaluation, Forming, Outcome, Part, Path, Piece, Scene, Stopped, View,
+};
+use asm_pool::{Gate, PoolError};
+use asm_reader::Picks;
+use asm_syntax::rule::Rule;
+use std::alloc::{AllocError, Global};
+use std::thread::Threads;
+
+/// Works a region in fixed shares: in so many rounds it is cut into pieces, which the workers share.
+#[derive(Drop)]
+pub struct Pooled<'r, R, G> {
+    rt: &'r R,
+    gate: &'r G,
+    lanes: usize,
+    cut: usize,
+    rounds: u32,
+    ghost in_range: { (0 < lanes) × (lanes ≤ 32) × (0 < cut) },
+}
+
+impl<'r, R: Threads + Sync, G: Gate + Sync> Pooled<'r, R, G> {
+    /// As many workers, elements of a piece and rounds as the limits say.
+    pub fn new(rt: &'r R, limits: &Limits, gate: &'r G) -> Pooled<'r, R, G>
+        requires { IsTrue (are_in_range limits.now.steps limits.now.turns limits.now.workers limits.now.cut limits.now.rounds) }
+    {
+        Pooled {
+            rt,
+            gate,
+            lanes: limits.workers as usize,
+            cut: limits.cut as usize,
+            rounds: limits.rounds,
+        }
+    }
+
+    /// What the rule yields at this path, in the state that the view shows, under the environment and these choices, by rounds of workers.
+    fn work<'a, 'e, P: Picks + Sync>(
+        &self,
+        alloc: Global,
+        checked: &'a Checked,
+        view: &'a View<'_>,
+        env: &'e Env<'e>,
+        rule: &'e Rule,
+        choices: &'a Choices<'a, P>,
+        path: &[u64],
+        turns: u32,
+    ) -> Result<Outcome, AllocError>
+        requires { view.now.signature.now ≡ shape_of (spec_of checked.now.spec) }
+        ensures { let o = does (program checked.now) turns (P.script choices.now.script.now) choices.now.step (shown view.now) (environment env.now) path.now (plain.plain_rule (rule_of rule.now)) in
+            IfOk result (IsFormed view.now.signature.now o) }
+    {
+        let evaluation = Evaluation {
+            scene: Scene { checked, view },
+            choices,
+            turns,
+        };
+        let region = Region {
+            evaluation: &evaluation,
+            lanes: self.lanes,
+            cut: self.cut,
+        };
+        let mut pieces = Vec::with_capacity(alloc, 1)?;
+        pieces.push(Piece {
+            rule,
+            env: *env,
+            path: Path::new(path.to_vec(alloc)?),
+            part: Part::Whole,
+        })?;
+        match work_region(
+            self.rt,
+            alloc,
+            &region,
+            self.rounds,
+            pieces.as_slice(),
+            self.gate,
+        ) {
+            Ok(outcome) => Ok(outcome),
+            Err(PoolError::Memory) => Err(AllocError),
+        }
+    }
+}
+
+impl<'r, R: Threads + Sync, G: Gate + Sync> Regions for Pooled<'r, R, G> {
+    fn region<'a, 'e, P: Picks + Sync>(
+        &mut self,
+        alloc: Global,
+        checked: &'a Checked,
+        view: &'a View<'_>,
+        env: &'e Env<'e>,
+        rule: &'e Rule,
+        choices: &'a Choices<'a, P>,
+        path: &[u64],
+        turns: u32,
+    ) -> Result<Outcome, AllocError> {
+        if self.lanes == 1 {
+            return whole(alloc, checked, view, env, rule, choices, path, turns);
+        }
+        self.work(alloc, checked, view, env, rule, choices, path, turns)
+    }
+
+    fn form_region<'e, P: Picks + Sync>(
+        &mut self,
+        alloc: Global,
+        evaluation: &Evaluation<'_, '_, P>,
+        env: &'e Env<'e>,
+        rule: &'e Rule,
+        made: &mut Forming,
+    ) -> Result<(), Stopped> {
+        if self.lanes == 1 {
+            return form(alloc, evaluation, env, rule, made);
+        }
+        let outcome = self.work(
+            alloc,
+            evaluation.scene.checked,
+            evaluation.scene.view,
+            env,
+            rule,
+            evaluation.choices,
+            made.path.as_slice(),
+            evaluation.turns,
+        )?;
+        match outcome {
+            Outcome::Set { set, instances } => add_set(made, set, instances),
+            Outcome::Exhausted(path) => {
+                made.path = path.into_vec();
+                Err(Stopped::Exhausted)
+            }
+        }
+    }
+}

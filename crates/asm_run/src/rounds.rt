@@ -1,0 +1,191 @@
+//! Rounds over the pieces of a region.
+ghost use Rattle.std.specs.Prelude.{◌≡◌, ℕ, ◌<◌, ◌≤◌, [], All, IfNone, IfOk, IfSome, IsOk, OnOk, length, vec_len};
+ghost use Rattle.asm_state.specs.Signature.{count_of};
+ghost use Rattle.asm_eval.specs.Does as does;
+ghost use Rattle.asm_eval.specs.Evaluated.{setting, shape_at, state_at};
+ghost use Rattle.asm_eval.specs.Pieces.{IsPiece, pieces_do};
+ghost use Rattle.asm_run.specs.Rounds.{Holds, IsRound, answers, first_of, least, news, tally};
+
+use crate::job::{RegionJob, RegionOut};
+use asm_check::shared::checked_is_shared;
+use asm_eval::shared::views_and_pieces_are_shared;
+use asm_eval::{Evaluation, Path, Piece};
+use asm_pool::{Gate, PoolError, work};
+use asm_reader::Picks;
+use asm_updates::summary::Summary;
+use std::alloc::{AllocError, Global};
+use std::thread::Threads;
+
+/// The least of the paths.
+fn first(known: Option<Path>, path: Path) -> Path
+    ensures { result ≡ first_of known path }
+{
+    match known {
+        None => path,
+        Some(before) => {
+            if path.as_slice().cmp(before.as_slice()).is_lt() {
+                path
+            } else {
+                before
+            }
+        }
+    }
+}
+
+/// What the tasks of a round answered, put together.
+#[derive(Drop)]
+struct Collected<'a> {
+    next: Vec<Piece<'a>>,
+    instances: u64,
+    exhausted: Option<Path>,
+}
+
+/// Puts the answers of a round together, in the order of the tasks.
+fn collect<'a>(
+    alloc: Global,
+    outs: Vec<Result<RegionOut<'a>, AllocError>>,
+    instances: u64,
+    exhausted: Option<Path>,
+) -> Result<Collected<'a>, AllocError>
+    ensures ok { OnOk result (All IsOk outs.entry.items) }
+    ensures next { IfOk result (λ c. c.next.items ≡ news (answers outs.entry.items)) }
+    ensures instances { IfOk result (λ c. c.instances ≡ tally instances (answers outs.entry.items)) }
+    ensures exhausted { IfOk result (λ c. c.exhausted ≡ least exhausted (answers outs.entry.items)) }
+{
+    let mut next = Vec::new(alloc);
+    let mut counted = instances;
+    let mut least = exhausted;
+    for out in outs {
+        match out? {
+            RegionOut::Pieces {
+                mut pieces,
+                instances: more,
+            } => {
+                next.append(&mut pieces)?;
+                counted = counted.saturating_add(more);
+            }
+            RegionOut::Done(more) => counted = counted.saturating_add(more),
+            RegionOut::Exhausted(path) => least = Some(first(least, path)),
+        }
+    }
+    Ok(Collected {
+        next,
+        instances: counted,
+        exhausted: least,
+    })
+}
+
+/// What the rounds so far have formed.
+#[derive(Drop)]
+pub(crate) struct SoFar {
+    /// The set, of which each worker has a part.
+    pub hands: Vec<Summary>,
+    /// Cut off where the number doesn't fit.
+    pub instances: u64,
+    /// The least path at which a piece is exhausted.
+    pub exhausted: Option<Path>,
+}
+
+/// What stays the same over the rounds of a region.
+#[derive(Drop)]
+pub(crate) struct Region<'a, P: Picks> {
+    pub evaluation: &'a Evaluation<'a, 'a, P>,
+    pub lanes: usize,
+    pub cut: usize,
+    pub ghost in_range: { (0 < lanes) × (lanes ≤ 32) × (0 < cut) },
+}
+
+/// What a round leaves: the pieces that are still to be worked, and what was formed.
+#[derive(Drop)]
+struct Round<'a> {
+    next: Vec<Piece<'a>>,
+    so_far: SoFar,
+}
+
+/// Opens the pieces, or works them whole, each once. The new pieces borrow from them.
+fn work_round<'a, R: Threads + Sync, G: Gate + Sync, P: Picks + Sync>(
+    rt: &R,
+    alloc: Global,
+    region: &Region<'a, P>,
+    cut: Option<usize>,
+    pieces: &'a [Piece<'a>],
+    so_far: SoFar,
+    gate: &G,
+) -> Result<Round<'a>, PoolError>
+    requires pieces { All (IsPiece (setting region.now.evaluation.now).program) pieces.now }
+    requires cut { IfSome cut (λ k. 0 < k) }
+    requires hands { vec_len so_far.hands ≡ region.now.lanes }
+    requires fit { All (λ s. s.count ≡ count_of (shape_at region.now.evaluation.now)) so_far.hands.items }
+    ensures pieces { IfOk result (λ r. All (IsPiece (setting region.now.evaluation.now).program) r.next.items) }
+    ensures whole { IfOk result (λ r. IfNone cut (r.next.items ≡ [])) }
+    ensures hands { IfOk result (λ r. vec_len r.so_far.hands ≡ region.now.lanes) }
+    ensures fit { IfOk result (λ r. All (λ s. s.count ≡ count_of (shape_at region.now.evaluation.now)) r.so_far.hands.items) }
+    ensures holds { let at = region.now.evaluation.now in IfOk result (λ r. (o : does.Outcome) → Holds (shape_at at) o so_far.hands.items so_far.instances so_far.exhausted
+        → IsRound (setting at) (state_at at) (shape_at at) o pieces.now r.next.items r.so_far.hands.items r.so_far.instances r.so_far.exhausted) }
+{
+    checked_is_shared();
+    views_and_pieces_are_shared();
+    let job = RegionJob {
+        alloc,
+        evaluation: region.evaluation,
+        pieces,
+        cut,
+    };
+    let worked = work(
+        rt,
+        alloc,
+        region.lanes,
+        pieces.len(),
+        &job,
+        so_far.hands,
+        gate,
+    )?;
+    let all = collect(alloc, worked.outs, so_far.instances, so_far.exhausted)?;
+    Ok(Round {
+        next: all.next,
+        so_far: SoFar {
+            hands: worked.hands,
+            instances: all.instances,
+            exhausted: all.exhausted,
+        },
+    })
+}
+
+/// Works the pieces in so many rounds of opening, and one more in which what is left is worked whole. The pieces of a round borrow
+/// the frames of those of the round before.
+#[cycle(rounds)]
+pub(crate) fn work_rounds<'a, R: Threads + Sync, G: Gate + Sync, P: Picks + Sync>(
+    rt: &R,
+    alloc: Global,
+    region: &Region<'a, P>,
+    left: u32,
+    pieces: &'a [Piece<'a>],
+    so_far: SoFar,
+    gate: &G,
+) -> Result<SoFar, PoolError>
+    requires pieces { All (IsPiece (setting region.now.evaluation.now).program) pieces.now }
+    requires hands { vec_len so_far.hands ≡ region.now.lanes }
+    requires fit { All (λ s. s.count ≡ count_of (shape_at region.now.evaluation.now)) so_far.hands.items }
+    ensures fit { IfOk result (λ r. All (λ s. s.count ≡ count_of (shape_at region.now.evaluation.now)) r.hands.items) }
+    ensures holds { let at = region.now.evaluation.now in IfOk result (λ r. (o : does.Outcome) → Holds (shape_at at) o so_far.hands.items so_far.instances so_far.exhausted
+        → Holds (shape_at at) (does.both o (pieces_do (setting at) (state_at at) pieces.now)) r.hands.items r.instances r.exhausted) }
+{
+    if pieces.is_empty() {
+        return Ok(so_far);
+    }
+    if left == 0 {
+        let last = work_round(rt, alloc, region, None, pieces, so_far, gate)?;
+        return Ok(last.so_far);
+    }
+    let cut = Some(region.cut);
+    let Round { next, so_far } = work_round(rt, alloc, region, cut, pieces, so_far, gate)?;
+    work_rounds(
+        rt,
+        alloc,
+        &*region,
+        left - 1,
+        next.as_slice(),
+        so_far,
+        gate,
+    )
+}

@@ -1,0 +1,4 @@
+//! Regions that workers share, and that workers meet in them.
+mod meetings;
+mod questions;
+mod runs;

@@ -1,0 +1,103 @@
+//! Two workers ask which candidates are taken.
+ghost use Rattle.std.specs.Prelude.{[]};
+
+use super::meetings::Meeting;
+use crate::plain::{Entry, Plain, has_entries};
+use crate::text::checked_of;
+use asm_check::Checked;
+use asm_eval::walk::outcome;
+use asm_eval::{Choices, Env, Outcome, View};
+use asm_pool::NoGate;
+use asm_reader::Picks;
+use asm_run::limits::Limits;
+use asm_run::pooled::Pooled;
+use asm_state::state::State;
+use asm_updates::summary::Summary;
+use std::alloc::AllocError;
+use std::test::Fail;
+use std::thread::Threads;
+
+/// Answers 0, and holds the question at each of two paths until that at the other is asked.
+#[derive(Drop)]
+struct Holding {
+    meeting: Meeting,
+}
+
+impl Picks for Holding {
+    ghost script = { λ _. [] };
+
+    fn pick(&self, _step: u64, path: &[u64]) -> u64 {
+        if path == [0].as_slice() {
+            self.meeting.first_comes();
+        } else if path == [1].as_slice() {
+            self.meeting.second_comes();
+        }
+        0
+    }
+}
+
+const TWO_QUESTIONS: &str = "CoreASM T init M enum Color = { red, green } \
+function controlled c function controlled d \
+rule M = par choose k in Color do c := k endchoose choose k in Color do d := k endchoose endpar";
+
+const LIMITS: Limits = Limits {
+    steps: 1,
+    turns: 1000,
+    workers: 2,
+    cut: 64,
+    rounds: 1,
+};
+
+/// What the main rule yields in the initial state, its regions worked by two workers.
+fn outcome_of<R: Threads + Sync + AllocGlobal>(
+    rt: &R,
+    checked: &Checked,
+    picks: &Holding,
+) -> Result<Outcome, AllocError> {
+    let alloc = rt.alloc();
+    let (_parameters, main) = checked.rule(checked.main());
+    let signature = checked.signature();
+    let state = State::initial(alloc, signature)?;
+    let nothing = Summary::new(alloc, signature.count());
+    let view = View::new(signature, &state, &nothing);
+    let env = Env::new();
+    let choices = Choices {
+        script: picks,
+        step: 1,
+    };
+    let mut regions = Pooled::new(rt, &LIMITS, &NoGate);
+    outcome(
+        alloc,
+        &mut regions,
+        checked,
+        &view,
+        &env,
+        main,
+        &choices,
+        &[],
+        1000,
+    )
+}
+
+/// The first colour, at each of the two locations that aren't stray.
+const RED_TWICE: [Entry; 2] = [
+    (0, Plain::Element(0), Plain::Element(0)),
+    (2, Plain::Element(0), Plain::Element(0)),
+];
+
+#[test]
+fn picks_meet(rt: HostRuntime) -> Result<(), Fail> {
+    let checked = checked_of(rt.alloc(), TWO_QUESTIONS.as_bytes())?;
+    let picks = Holding {
+        meeting: Meeting::new(),
+    };
+    let outcome = outcome_of(&rt, &checked, &picks)?;
+    assert!(rt; picks.meeting.happened_once());
+    match outcome {
+        Outcome::Set { set, instances } => {
+            assert!(rt; instances == 0 && has_entries(&set, &RED_TWICE));
+        }
+        Outcome::Exhausted(_) => assert!(rt; false),
+    }
+    Ok(())
+}

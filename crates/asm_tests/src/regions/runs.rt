@@ -1,0 +1,81 @@
+//! Two workers make one step of a run.
+use asm_pool::Gate;
+use asm_run::end::End;
+use asm_run::limits::Limits;
+use asm_run::run::run_gated;
+use asm_run::through::Through;
+use std::sync::atomic::{AtomicBool, AtomicU64, Ordering};
+use std::test::Fail;
+
+const MOST_TURNS: u32 = 100_000_000;
+
+/// Holds task 1 until task 0 is taken a second time, and that taking until task 1 is taken. The first round has task 0 alone.
+#[derive(Drop)]
+struct Second {
+    zero_taken: AtomicU64,
+    one_taken: AtomicU64,
+    done: AtomicU64,
+    late: AtomicBool,
+}
+
+impl Second {
+    fn wait_for(&self, other: &AtomicU64, times: u64) {
+        for _ in 0..MOST_TURNS {
+            if other.load(Ordering::SeqCst) >= times {
+                return;
+            }
+        }
+        self.late.store(true, Ordering::SeqCst);
+    }
+}
+
+impl Gate for Second {
+    fn taken(&self, n: usize) {
+        if n == 0 {
+            let before = self.zero_taken.fetch_add(1, Ordering::SeqCst);
+            if before == 1 {
+                self.wait_for(&self.one_taken, 1);
+            }
+        } else if n == 1 {
+            self.one_taken.fetch_add(1, Ordering::SeqCst);
+            self.wait_for(&self.zero_taken, 2);
+        }
+    }
+
+    fn done(&self, _n: usize) {
+        self.done.fetch_add(1, Ordering::SeqCst);
+    }
+}
+
+const SWAP: &[u8] =
+    b"CoreASM T\ninit M\nfunction controlled a initially 1\nfunction controlled b initially 2\n\
+rule M = par a := b b := a endpar\n";
+
+const SWAPPED: &[u8] = b"step 1 instances 0\na := 2\nb := 1\nend limit\nstate\na = 2\nb = 1\n";
+
+const LIMITS: Limits = Limits {
+    steps: 1,
+    turns: 1000,
+    workers: 2,
+    cut: 64,
+    rounds: 1,
+};
+
+#[test]
+fn run_meets(rt: HostRuntime) -> Result<(), Fail> {
+    let gate = Second {
+        zero_taken: AtomicU64::new(0),
+        one_taken: AtomicU64::new(0),
+        done: AtomicU64::new(0),
+        late: AtomicBool::new(false),
+    };
+    let mut out = Through::new(Vec::new(rt.alloc()));
+    let end = run_gated(&rt, rt.alloc(), &gate, SWAP, b"", &LIMITS, &mut out)?;
+    assert!(rt; end == End::Limit);
+    assert!(rt; !gate.late.load(Ordering::SeqCst));
+    assert!(rt; gate.zero_taken.load(Ordering::SeqCst) == 2);
+    assert!(rt; gate.one_taken.load(Ordering::SeqCst) == 1);
+    assert!(rt; gate.done.load(Ordering::SeqCst) == 3);
+    assert!(rt; out.into_inner().as_slice() == SWAPPED);
+    Ok(())
+}
