@@ -1,6 +1,7 @@
 //! Runs of specifications, from the bytes of their texts to the bytes of their traces.
 #![tactic(auto)]
 
+mod add_set;
 pub mod end;
 pub mod error;
 mod finish;
@@ -9,7 +10,6 @@ pub mod laws;
 pub mod limits;
 mod locations;
 mod machine;
-mod made;
 pub mod pooled;
 mod region;
 mod rounds;

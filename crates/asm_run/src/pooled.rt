@@ -9,8 +9,8 @@ ghost use Rattle.asm_eval.specs.Formed.{IsFormed};
 ghost use Rattle.asm_eval.specs.Valued.{program, shown};
 ghost use Rattle.asm_run.specs.Limits.{are_in_range};
 
+use crate::add_set::add_set;
 use crate::limits::Limits;
-use crate::made::add_set;
 use crate::region::work_region;
 use crate::rounds::Region;
 use asm_check::Checked;

@@ -179,13 +179,5 @@ pub(crate) fn work_rounds<'a, R: Threads + Sync, G: Gate + Sync, P: Picks + Sync
     }
     let cut = Some(region.cut);
     let Round { next, so_far } = work_round(rt, alloc, region, cut, pieces, so_far, gate)?;
-    work_rounds(
-        rt,
-        alloc,
-        &*region,
-        left - 1,
-        next.as_slice(),
-        so_far,
-        gate,
-    )
+    work_rounds(rt, alloc, &*region, left - 1, next.as_slice(), so_far, gate)
 }

@@ -12,11 +12,11 @@ pub(crate) fn add_set(made: &mut Forming, set: Summary, instances: u64) -> Resul
     requires { set.count ≡ made.old.set.count }
     ensures { (shape : Shape) (o : does.Outcome) → IsSet shape o set instances → Follows shape o made.old made.new result }
 {
+    made.instances = made.instances.saturating_add(instances);
     if made.set.is_empty() {
         made.set = set;
-    } else {
-        made.set.union(&set)?;
+        return Ok(());
     }
-    made.instances = made.instances.saturating_add(instances);
+    made.set.union(&set)?;
     Ok(())
 }
