@@ -4,3 +4,4 @@ mod outcomes;
 mod questions;
 mod rows;
 mod runs;
+mod upon;
