@@ -1,24 +1,31 @@
-/* Loaded before the C library: refuses one request for memory, the one whose number REFUSE has, counted from 1, and at the end
-   writes into the file REQUESTS how many there were. */
+/* Loaded before the C library: refuses one request for memory, and at the end writes into the file REQUESTS how many there were.
+   REFUSE has the number of the refused request, counted from 1, among those of the thread that the program begins with, and
+   REFUSE_STARTED among those of all the threads that it starts. REQUESTS gets the one count and the other. */
 #define _GNU_SOURCE
 #include <dlfcn.h>
 #include <errno.h>
+#include <stdatomic.h>
 #include <stdio.h>
 #include <stdlib.h>
+#include <sys/syscall.h>
+#include <unistd.h>
 
-static long requests = 0;
+static atomic_long first = 0;
+static atomic_long started = 0;
 
 static int is_refused(void) {
-    const char *number = getenv("REFUSE");
-    return number && ++requests == atol(number);
+    int is_first = syscall(SYS_gettid) == syscall(SYS_getpid);
+    const char *number = getenv(is_first ? "REFUSE" : "REFUSE_STARTED");
+    long before = atomic_fetch_add(is_first ? &first : &started, 1);
+    return number && before + 1 == atol(number);
 }
 
 __attribute__((destructor)) static void tell(void) {
     const char *name = getenv("REQUESTS");
-    long counted = requests;
+    long of_first = first, of_started = started;
     FILE *file = name ? fopen(name, "w") : NULL;
     if (file) {
-        fprintf(file, "%ld\n", counted);
+        fprintf(file, "%ld %ld\n", of_first, of_started);
         fclose(file);
     }
 }
@@ -32,6 +39,12 @@ void *malloc(size_t size) {
     static void *(*next)(size_t);
     if (!next) next = (void *(*)(size_t))dlsym(RTLD_NEXT, "malloc");
     return is_refused() ? refused() : next(size);
+}
+
+void *calloc(size_t count, size_t size) {
+    static void *(*next)(size_t, size_t);
+    if (!next) next = (void *(*)(size_t, size_t))dlsym(RTLD_NEXT, "calloc");
+    return is_refused() ? refused() : next(count, size);
 }
 
 void *realloc(void *at, size_t size) {

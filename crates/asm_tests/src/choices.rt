@@ -4,6 +4,7 @@ ghost use Rattle.std.specs.Prelude.{[]};
 use crate::plain::{Entry, FIVE, ONE, Plain, TWO, has_entries};
 use crate::text::checked_of;
 use asm_check::Checked;
+use asm_eval::regions::Regions;
 use asm_eval::walk::outcome;
 use asm_eval::{Choices, Env, Outcome, View, regions};
 use asm_reader::Picks;
@@ -24,6 +25,11 @@ impl Counting {
         Counting {
             asked: AtomicU64::new(0),
         }
+    }
+
+    /// How often it was asked.
+    pub fn times(&self) -> u64 {
+        self.asked.load(Ordering::SeqCst)
     }
 }
 
@@ -49,8 +55,14 @@ pub fn specification(alloc: Global, body: &str) -> Result<Checked, Fail> {
     checked_of(alloc, text.as_bytes())
 }
 
-/// What the main rule yields at the empty path in the initial state.
-fn outcome_of(alloc: Global, checked: &Checked, picks: &Counting) -> Result<Outcome, AllocError> {
+/// What the main rule yields at the empty path in the initial state, its regions worked so, where an `iterate` has this limit of turns.
+pub fn outcome_of<X: Regions>(
+    alloc: Global,
+    regions: &mut X,
+    checked: &Checked,
+    picks: &Counting,
+    turns: u32,
+) -> Result<Outcome, AllocError> {
     let (_parameters, main) = checked.rule(checked.main());
     let signature = checked.signature();
     let state = State::initial(alloc, signature)?;
@@ -63,14 +75,14 @@ fn outcome_of(alloc: Global, checked: &Checked, picks: &Counting) -> Result<Outc
     };
     outcome(
         alloc,
-        &mut regions::Plain,
+        regions,
         checked,
         &view,
         &env,
         main,
         &choices,
         &[],
-        1000,
+        turns,
     )
 }
 
@@ -78,12 +90,12 @@ fn outcome_of(alloc: Global, checked: &Checked, picks: &Counting) -> Result<Outc
 fn yielded(alloc: Global, body: &str) -> Result<(Outcome, u64), Fail> {
     let checked = specification(alloc, body)?;
     let picks = Counting::new();
-    let outcome = outcome_of(alloc, &checked, &picks)?;
-    Ok((outcome, picks.asked.load(Ordering::SeqCst)))
+    let outcome = outcome_of(alloc, &mut regions::Plain, &checked, &picks, 1000)?;
+    Ok((outcome, picks.times()))
 }
 
 /// Bodies, and how often they ask.
-static ASKING: [(&str, u64); 23] = [
+pub static ASKING: [(&str, u64); 23] = [
     ("skip", 0),
     ("choose k in Color do skip endchoose", 1),
     ("choose k in Color with k != red do skip endchoose", 1),
@@ -184,9 +196,9 @@ const SEQUENCE: &str = "seq x := 1 forall i in Idx with i <= x do c(i) := x + i 
 iterate if x < 5 then x := x + 2 endif enditerate endseq";
 
 /// A body, how often it asks, the number of its instances, and its set.
-type Yielded = (&'static str, u64, u64, &'static [Entry]);
+pub type Yielded = (&'static str, u64, u64, &'static [Entry]);
 
-static YIELDED: [Yielded; 3] = [
+pub static YIELDED: [Yielded; 3] = [
     (
         ALL,
         1,
@@ -250,7 +262,7 @@ const EXHAUSTED: &str =
 par x := 1 x := 2 endpar endpar";
 
 /// Whether an outcome is exhausted, at this path.
-fn is_exhausted(outcome: Outcome, numbers: &[u64]) -> bool {
+pub fn is_exhausted(outcome: Outcome, numbers: &[u64]) -> bool {
     match outcome {
         Outcome::Set { .. } => false,
         Outcome::Exhausted(path) => {

@@ -14,6 +14,7 @@ use asm_run::pooled::Pooled;
 use asm_state::state::State;
 use asm_updates::summary::Summary;
 use std::alloc::AllocError;
+use std::sync::atomic::{AtomicU64, Ordering};
 use std::test::Fail;
 use std::thread::Threads;
 
@@ -21,6 +22,7 @@ use std::thread::Threads;
 #[derive(Drop)]
 struct Holding {
     meeting: Meeting,
+    elsewhere: AtomicU64,
 }
 
 impl Picks for Holding {
@@ -31,6 +33,8 @@ impl Picks for Holding {
             self.meeting.first_comes();
         } else if path == [1].as_slice() {
             self.meeting.second_comes();
+        } else {
+            self.elsewhere.fetch_add(1, Ordering::SeqCst);
         }
         0
     }
@@ -90,9 +94,11 @@ fn picks_meet(rt: HostRuntime) -> Result<(), Fail> {
     let checked = checked_of(rt.alloc(), TWO_QUESTIONS.as_bytes())?;
     let picks = Holding {
         meeting: Meeting::new(),
+        elsewhere: AtomicU64::new(0),
     };
     let outcome = outcome_of(&rt, &checked, &picks)?;
     assert!(rt; picks.meeting.happened_once());
+    assert!(rt; picks.elsewhere.load(Ordering::SeqCst) == 0);
     match outcome {
         Outcome::Set { set, instances } => {
             assert!(rt; instances == 0 && has_entries(&set, &RED_TWICE));

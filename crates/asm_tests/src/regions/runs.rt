@@ -1,11 +1,13 @@
 //! Two workers make one step of a run.
 use asm_pool::Gate;
 use asm_run::end::End;
+use asm_run::error::RunError;
 use asm_run::limits::Limits;
 use asm_run::run::run_gated;
 use asm_run::through::Through;
 use std::sync::atomic::{AtomicBool, AtomicU64, Ordering};
 use std::test::Fail;
+use std::thread::Threads;
 
 const MOST_TURNS: u32 = 100_000_000;
 
@@ -19,6 +21,23 @@ struct Second {
 }
 
 impl Second {
+    fn new() -> Second {
+        Second {
+            zero_taken: AtomicU64::new(0),
+            one_taken: AtomicU64::new(0),
+            done: AtomicU64::new(0),
+            late: AtomicBool::new(false),
+        }
+    }
+
+    /// Whether three tasks were done, two of them at the same time, and none was held in vain.
+    fn has_happened(&self) -> bool {
+        self.zero_taken.load(Ordering::SeqCst) == 2
+            && self.one_taken.load(Ordering::SeqCst) == 1
+            && self.done.load(Ordering::SeqCst) == 3
+            && !self.late.load(Ordering::SeqCst)
+    }
+
     fn wait_for(&self, other: &AtomicU64, times: u64) {
         for _ in 0..MOST_TURNS {
             if other.load(Ordering::SeqCst) >= times {
@@ -53,6 +72,11 @@ rule M = par a := b b := a endpar\n";
 
 const SWAPPED: &[u8] = b"step 1 instances 0\na := 2\nb := 1\nend limit\nstate\na = 2\nb = 1\n";
 
+const CLASH: &[u8] =
+    b"CoreASM T\ninit M\nfunction controlled a initially 1\nrule M = par a := 3 a := 2 endpar\n";
+
+const CLASHED: &[u8] = b"end clash step 1 a least 2 greatest 3\nstate\na = 1\n";
+
 const LIMITS: Limits = Limits {
     steps: 1,
     turns: 1000,
@@ -61,21 +85,27 @@ const LIMITS: Limits = Limits {
     rounds: 1,
 };
 
+/// Whether two workers make the step at the same time, and the run ends so with this trace.
+fn is_shared<R: Threads + Sync + AllocGlobal>(
+    rt: &R,
+    text: &[u8],
+    end: End,
+    trace: &[u8],
+) -> Result<bool, RunError> {
+    let gate = Second::new();
+    let mut out = Through::new(Vec::new(rt.alloc()));
+    let ended = run_gated(rt, rt.alloc(), &gate, text, b"", &LIMITS, &mut out)?;
+    Ok(ended == end && out.into_inner().as_slice() == trace && gate.has_happened())
+}
+
 #[test]
 fn run_meets(rt: HostRuntime) -> Result<(), Fail> {
-    let gate = Second {
-        zero_taken: AtomicU64::new(0),
-        one_taken: AtomicU64::new(0),
-        done: AtomicU64::new(0),
-        late: AtomicBool::new(false),
-    };
-    let mut out = Through::new(Vec::new(rt.alloc()));
-    let end = run_gated(&rt, rt.alloc(), &gate, SWAP, b"", &LIMITS, &mut out)?;
-    assert!(rt; end == End::Limit);
-    assert!(rt; !gate.late.load(Ordering::SeqCst));
-    assert!(rt; gate.zero_taken.load(Ordering::SeqCst) == 2);
-    assert!(rt; gate.one_taken.load(Ordering::SeqCst) == 1);
-    assert!(rt; gate.done.load(Ordering::SeqCst) == 3);
-    assert!(rt; out.into_inner().as_slice() == SWAPPED);
+    assert!(rt; is_shared(&rt, SWAP, End::Limit, SWAPPED)?);
+    Ok(())
+}
+
+#[test]
+fn updates_of_two_workers_clash(rt: HostRuntime) -> Result<(), Fail> {
+    assert!(rt; is_shared(&rt, CLASH, End::Clash, CLASHED)?);
     Ok(())
 }

@@ -1,0 +1,232 @@
+//! What rules yield where workers share their regions.
+use crate::choices::{
+    ASKING, Counting, YIELDED, Yielded, is_exhausted, is_set, outcome_of, specification,
+};
+use crate::plain::{FIVE, ONE, Plain, TWO};
+use asm_check::Checked;
+use asm_eval::regions::Regions;
+use asm_eval::{Choices, Env, Outcome, View};
+use asm_pool::NoGate;
+use asm_run::limits::Limits;
+use asm_run::pooled::Pooled;
+use asm_state::state::State;
+use asm_updates::summary::Summary;
+use std::alloc::{AllocError, Global};
+use std::test::Fail;
+use std::thread::Threads;
+
+/// So regions are cut and shared.
+static CUTTINGS: [Limits; 3] = [
+    Limits {
+        steps: 1,
+        turns: 3,
+        workers: 2,
+        cut: 1,
+        rounds: 1,
+    },
+    Limits {
+        steps: 1,
+        turns: 3,
+        workers: 3,
+        cut: 2,
+        rounds: 3,
+    },
+    Limits {
+        steps: 1,
+        turns: 3,
+        workers: 32,
+        cut: 1,
+        rounds: 64,
+    },
+];
+
+/// What a main rule with this body yields where workers share its regions so, and how often it asks.
+fn yielded<R: Threads + Sync + AllocGlobal>(
+    rt: &R,
+    limits: &Limits,
+    body: &str,
+) -> Result<(Outcome, u64), Fail> {
+    if !limits.are_in_range() {
+        return Err(Fail::new("a limit is out of its range"));
+    }
+    let checked = specification(rt.alloc(), body)?;
+    let picks = Counting::new();
+    let mut regions = Pooled::new(rt, limits, &NoGate);
+    let outcome = outcome_of(rt.alloc(), &mut regions, &checked, &picks, limits.turns)?;
+    Ok((outcome, picks.times()))
+}
+
+/// What the main rule yields in the initial state, as one region.
+fn region_of<X: Regions>(
+    alloc: Global,
+    regions: &mut X,
+    checked: &Checked,
+    turns: u32,
+) -> Result<Outcome, AllocError> {
+    let (_parameters, main) = checked.rule(checked.main());
+    let signature = checked.signature();
+    let state = State::initial(alloc, signature)?;
+    let nothing = Summary::new(alloc, signature.count());
+    let view = View::new(signature, &state, &nothing);
+    let env = Env::new();
+    let picks = Counting::new();
+    let choices = Choices {
+        script: &picks,
+        step: 1,
+    };
+    regions.region(alloc, checked, &view, &env, main, &choices, &[], turns)
+}
+
+/// Whether workers that share so yield the set with these instances and entries, and ask so often.
+fn yields<R: Threads + Sync + AllocGlobal>(
+    rt: &R,
+    limits: &Limits,
+    row: &Yielded,
+) -> Result<bool, Fail> {
+    let (body, times, instances, entries) = row;
+    let (outcome, asked) = yielded(rt, limits, body)?;
+    Ok(asked == *times && is_set(outcome, *instances, entries))
+}
+
+#[test]
+fn workers_yield_what_one_thread_does(rt: HostRuntime) -> Result<(), Fail> {
+    for limits in &CUTTINGS {
+        for row in &YIELDED {
+            assert!(rt; yields(&rt, limits, row)?, "{limits:?}");
+        }
+    }
+    Ok(())
+}
+
+#[test]
+fn workers_ask_each_question_once(rt: HostRuntime) -> Result<(), Fail> {
+    for (body, times) in &ASKING {
+        let (_outcome, asked) = yielded(&rt, &CUTTINGS[1], body)?;
+        assert!(rt; asked == *times, "{body}");
+    }
+    Ok(())
+}
+
+/// Rules with regions behind others and within others, and with updates of pieces that clash.
+static SHARED: [Yielded; 8] = [
+    // A region beneath a sequence that is within a region: a worker forms it whole.
+    (
+        "par seq x := 2 forall i in Idx do c(i) := x endforall endseq skip endpar",
+        0,
+        3,
+        &[(0, TWO, TWO), (1, TWO, TWO), (2, TWO, TWO), (4, TWO, TWO)],
+    ),
+    // Regions that stand behind others, and see what those yield.
+    (
+        "seq x := 1 if x = 1 then forall i in Idx with i >= x do c(i) := i endforall endif endseq",
+        0,
+        2,
+        &[(1, ONE, ONE), (2, TWO, TWO), (4, ONE, ONE)],
+    ),
+    (
+        "seq forall i in Idx do c(i) := i endforall par x := c(2) c(0) := 5 endpar endseq",
+        0,
+        3,
+        &[(0, FIVE, FIVE), (1, ONE, ONE), (2, TWO, TWO), (4, TWO, TWO)],
+    ),
+    (
+        "seq x := 0 iterate if x < 2 then par x := x + 1 \
+forall i in Idx with i <= x do c(i) := x + 1 endforall endpar endif enditerate endseq",
+        0,
+        3,
+        &[(0, TWO, TWO), (1, TWO, TWO), (4, TWO, TWO)],
+    ),
+    (
+        "choose k in Idx with k > 0 do par c(k) := k x := k endpar endchoose",
+        1,
+        0,
+        &[(1, ONE, ONE), (4, ONE, ONE)],
+    ),
+    // Updates that clash, of pieces beside each other. A sequence ends with them.
+    ("par x := 2 x := 1 endpar", 0, 0, &[(4, ONE, TWO)]),
+    (
+        "forall i in Idx do x := i endforall",
+        0,
+        3,
+        &[(4, Plain::Number(0), TWO)],
+    ),
+    (
+        "seq par x := 1 x := 2 endpar forall i in Idx do c(i) := i endforall endseq",
+        0,
+        0,
+        &[(4, ONE, TWO)],
+    ),
+];
+
+#[test]
+fn regions_are_shared_behind_others_and_within_them(rt: HostRuntime) -> Result<(), Fail> {
+    for limits in &CUTTINGS {
+        for row in &SHARED {
+            assert!(rt; yields(&rt, limits, row)?, "{limits:?}");
+        }
+    }
+    Ok(())
+}
+
+/// Whether the rule of this row yields the same as one region.
+fn is_one_region<R: Threads + Sync + AllocGlobal>(
+    rt: &R,
+    limits: &Limits,
+    row: &Yielded,
+) -> Result<bool, Fail> {
+    if !limits.are_in_range() {
+        return Err(Fail::new("a limit is out of its range"));
+    }
+    let (body, _times, instances, entries) = row;
+    let checked = specification(rt.alloc(), body)?;
+    let mut regions = Pooled::new(rt, limits, &NoGate);
+    let outcome = region_of(rt.alloc(), &mut regions, &checked, limits.turns)?;
+    Ok(is_set(outcome, *instances, entries))
+}
+
+#[test]
+fn each_rule_is_worked_as_one_region(rt: HostRuntime) -> Result<(), Fail> {
+    for limits in &CUTTINGS {
+        for row in &SHARED {
+            assert!(rt; is_one_region(&rt, limits, row)?, "{limits:?}");
+        }
+    }
+    Ok(())
+}
+
+/// Bodies, and the path at which each is exhausted: the least one, wherever the others stand. Where work is cut in several rounds, the
+/// deeper ones are met later.
+static EXHAUSTED: [(&str, &[u64]); 5] = [
+    (
+        "par par iterate x := 1 enditerate endpar iterate x := 2 enditerate endpar",
+        &[0, 0],
+    ),
+    (
+        "forall i in Idx do if i = 2 then iterate x := 1 enditerate \
+else par par iterate x := 2 enditerate endpar endpar endif endforall",
+        &[0, 1, 0, 0],
+    ),
+    (
+        "forall i in Idx with i > 0 do par iterate c(i) := 1 enditerate endpar endforall",
+        &[1, 0],
+    ),
+    (
+        "par par x := 1 x := 2 endpar iterate x := 1 enditerate endpar",
+        &[1],
+    ),
+    (
+        "seq x := 0 par skip par iterate x := x + 1 enditerate endpar iterate x := 0 enditerate endpar endseq",
+        &[1, 1, 0],
+    ),
+];
+
+#[test]
+fn the_least_exhausted_path_is_answered(rt: HostRuntime) -> Result<(), Fail> {
+    for limits in &CUTTINGS {
+        for (body, path) in &EXHAUSTED {
+            let (outcome, _asked) = yielded(&rt, limits, body)?;
+            assert!(rt; is_exhausted(outcome, path), "{body}");
+        }
+    }
+    Ok(())
+}
