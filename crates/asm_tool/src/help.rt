@@ -13,9 +13,9 @@ pub const TURNS: &str = "So many turns exhaust an iterate: 1 to 1000000";
 
 pub const WORKERS: &str = "At most so many workers share a step: 1 to 32";
 
-pub const CUT: &str = "So many elements of a forall are one piece of work: 1 to 4096";
+pub const CUT: &str = "At most so many elements of a forall are one piece of work: 1 to 4096";
 
-pub const ROUNDS: &str = "So many times a step's work is cut into pieces: 0 to 64";
+pub const ROUNDS: &str = "At most so many times work is cut into pieces: 0 to 64";
 
 /// What stands below the options.
 pub const AFTER: &str = "\
@@ -39,7 +39,8 @@ A path is made of the numbers of parts, from 0, on the way from the main rule's 
 `-`; the trace says `place` before one. The number says which candidate is taken, from 0, modulo how
 many there are. Where there is no line, the first candidate is taken.
 
-Workers, cut and rounds are about speed alone: the trace is the same for all of them.
+Workers, cut and rounds are about speed alone: the trace is the same for all of them. Workers share
+each par and forall that stands in no other one; one worker starts no thread and cuts nothing.
 
 Status:
   0  all steps were made
