@@ -23,5 +23,6 @@ pub mod Scenes
 pub mod ExhaustedLaws
 pub mod InitialLaws
 pub mod Pieces
+pub mod Regions
 pub mod Beneath
 pub mod OpeningLaws

@@ -16,7 +16,6 @@ pub mod open;
 pub mod outcome;
 pub mod path;
 pub mod piece;
-pub mod regions;
 pub mod shared;
 pub mod stopped;
 mod target;

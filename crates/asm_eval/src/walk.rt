@@ -1,4 +1,4 @@
-//! The outcome of a rule whose regions are worked by others.
+//! The outcome of a rule whose regions are formed by a function that is handed in.
 ghost use Rattle.std.specs.Prelude.{◌≡◌, true, IfOk};
 ghost use Rattle.asm_state.specs.Signature.{count_of};
 ghost use Rattle.asm_syntax.specs.PlainTree as plain;
@@ -8,8 +8,10 @@ ghost use Rattle.asm_check.specs.Shapes.{shape_of};
 ghost use Rattle.asm_eval.specs.Beneath.{has_one_beneath};
 ghost use Rattle.asm_eval.specs.Does.{does};
 ghost use Rattle.asm_eval.specs.Environments.{environment};
-ghost use Rattle.asm_eval.specs.Evaluated.{Fits, shape_at, outcome_at, outcome_upon, in_order_at, meant};
+ghost use Rattle.asm_eval.specs.Evaluated.{Fits, setting, shape_at, outcome_at, outcome_upon, in_order_at, meant};
 ghost use Rattle.asm_eval.specs.Formed.{Follows, FollowsUpon, IsFormed};
+ghost use Rattle.asm_eval.specs.Regions.{TakesRegions, FormsRegions};
+ghost use Rattle.asm_eval.specs.Setting.{setting_with};
 ghost use Rattle.asm_eval.specs.Valued.{program, shown};
 ghost use Rattle.asm_eval.specs.Yields as yields;
 
@@ -19,7 +21,6 @@ use crate::evaluation::{Choices, Evaluation, Scene};
 use crate::form::{form, put_back};
 use crate::from_nothing::{nothing_formed, outcome_of};
 use crate::outcome::{Forming, Outcome};
-use crate::regions::Regions;
 use crate::stopped::Stopped;
 use crate::view::View;
 use asm_check::Checked;
@@ -29,11 +30,16 @@ use asm_updates::summary::Summary;
 use std::alloc::{AllocError, Global};
 use std::mem;
 
-/// What the rule yields at this path, in the state that the view shows, under the environment and these choices. Each region that isn't
-/// within another is worked by `regions`, and the rest on this thread.
-pub fn outcome<'a, 'e, X: Regions, P: Picks + Sync>(
+/// What the rule yields at this path, in the state that the view shows, under the environment and these choices. Each region (a `par` or a
+/// `forall` that stands under no other) is formed by `regions`, which may share its work, and the rest on this thread.
+pub fn outcome<
+    'a,
+    'e,
+    P: Picks,
+    F: Fn(Global, &View<'_>, &Env<'_>, &Rule, &mut Forming) -> Result<(), Stopped>,
+>(
     alloc: Global,
-    regions: &mut X,
+    regions: &F,
     checked: &'a Checked,
     view: &'a View<'_>,
     env: &'e Env<'e>,
@@ -42,7 +48,9 @@ pub fn outcome<'a, 'e, X: Regions, P: Picks + Sync>(
     path: &[u64],
     turns: u32,
 ) -> Result<Outcome, AllocError>
-    requires { view.now.signature.now ≡ shape_of (spec_of checked.now.spec) }
+    requires shaped { view.now.signature.now ≡ shape_of (spec_of checked.now.spec) }
+    requires callable { TakesRegions checked.now (F.pre regions.now) }
+    requires meets { FormsRegions (setting_with (program checked.now) turns (P.script choices.now.script.now) choices.now.step) (F.post regions.now) }
     ensures { let o = does (program checked.now) turns (P.script choices.now.script.now) choices.now.step (shown view.now) (environment env.now) path.now (plain.plain_rule (rule_of rule.now)) in
         IfOk result (IsFormed view.now.signature.now o) }
 {
@@ -56,24 +64,34 @@ pub fn outcome<'a, 'e, X: Regions, P: Picks + Sync>(
     outcome_of(made, formed)
 }
 
-/// Forms what the rule yields, as `form` does, with its regions worked by `regions`.
+/// Forms what the rule yields, as `form` does, with its regions formed by `regions`.
 #[cycle(walk)]
-pub fn form_by_regions<'e, X: Regions, P: Picks + Sync>(
+pub fn form_by_regions<
+    'e,
+    P: Picks,
+    F: Fn(Global, &View<'_>, &Env<'_>, &Rule, &mut Forming) -> Result<(), Stopped>,
+>(
     alloc: Global,
-    regions: &mut X,
+    regions: &F,
     evaluation: &Evaluation<'_, '_, P>,
     env: &'e Env<'e>,
     rule: &'e Rule,
     made: &mut Forming,
 ) -> Result<(), Stopped>
-    requires { Fits evaluation.now made.old }
+    requires fits { Fits evaluation.now made.old }
+    requires callable { TakesRegions evaluation.now.scene.checked.now (F.pre regions.now) }
+    requires meets { FormsRegions (setting evaluation.now) (F.post regions.now) }
     ensures { Follows (shape_at evaluation.now) (outcome_at evaluation.now env.now made.old.path.items (meant rule.now)) made.old made.new result }
 {
     match rule {
         Rule::Skip | Rule::Assign { .. } => form(alloc, evaluation, env, rule, made),
-        Rule::Par(_) | Rule::Forall { .. } => {
-            regions.form_region(alloc, evaluation, env, rule, made)
-        }
+        Rule::Par(_) | Rule::Forall { .. } => regions(
+            alloc,
+            evaluation.scene.view,
+            env,
+            rule,
+            made,
+        ),
         Rule::Seq(rules) => {
             walk_in_order(alloc, regions, evaluation, env, rules.as_slice(), made)
         }
@@ -86,15 +104,21 @@ pub fn form_by_regions<'e, X: Regions, P: Picks + Sync>(
 
 /// Forms the one rule beneath an `if`, a `let`, a `choose` or a call, if there is one.
 #[cycle(walk)]
-fn walk_beneath<'e, X: Regions, P: Picks + Sync>(
+fn walk_beneath<
+    'e,
+    P: Picks,
+    F: Fn(Global, &View<'_>, &Env<'_>, &Rule, &mut Forming) -> Result<(), Stopped>,
+>(
     alloc: Global,
-    regions: &mut X,
+    regions: &F,
     evaluation: &Evaluation<'_, '_, P>,
     env: &'e Env<'e>,
     rule: &'e Rule,
     made: &mut Forming,
 ) -> Result<(), Stopped>
     requires fits { Fits evaluation.now made.old }
+    requires callable { TakesRegions evaluation.now.scene.checked.now (F.pre regions.now) }
+    requires meets { FormsRegions (setting evaluation.now) (F.post regions.now) }
     requires one { has_one_beneath (meant rule.now) ≡ true }
     ensures { Follows (shape_at evaluation.now) (outcome_at evaluation.now env.now made.old.path.items (meant rule.now)) made.old made.new result }
 {
@@ -114,15 +138,21 @@ fn walk_beneath<'e, X: Regions, P: Picks + Sync>(
 
 /// Forms the parts that stand one after the other, up to the first whose set is faulty.
 #[cycle(walk)]
-fn walk_in_order<'e, X: Regions, P: Picks + Sync>(
+fn walk_in_order<
+    'e,
+    P: Picks,
+    F: Fn(Global, &View<'_>, &Env<'_>, &Rule, &mut Forming) -> Result<(), Stopped>,
+>(
     alloc: Global,
-    regions: &mut X,
+    regions: &F,
     evaluation: &Evaluation<'_, '_, P>,
     env: &'e Env<'e>,
     rules: &'e [Rule],
     made: &mut Forming,
 ) -> Result<(), Stopped>
-    requires { Fits evaluation.now made.old }
+    requires fits { Fits evaluation.now made.old }
+    requires callable { TakesRegions evaluation.now.scene.checked.now (F.pre regions.now) }
+    requires meets { FormsRegions (setting evaluation.now) (F.post regions.now) }
     ensures { Follows (shape_at evaluation.now) (in_order_at evaluation.now env.now made.old.path.items rules.now) made.old made.new result }
 {
     let signature = evaluation.scene.view.signature;
@@ -149,15 +179,21 @@ fn walk_in_order<'e, X: Regions, P: Picks + Sync>(
 
 /// Forms turns of the body one after the other, up to the first whose set is empty or faulty.
 #[cycle(walk)]
-fn walk_turns<'e, X: Regions, P: Picks + Sync>(
+fn walk_turns<
+    'e,
+    P: Picks,
+    F: Fn(Global, &View<'_>, &Env<'_>, &Rule, &mut Forming) -> Result<(), Stopped>,
+>(
     alloc: Global,
-    regions: &mut X,
+    regions: &F,
     evaluation: &Evaluation<'_, '_, P>,
     env: &'e Env<'e>,
     body: &'e Rule,
     made: &mut Forming,
 ) -> Result<(), Stopped>
-    requires { Fits evaluation.now made.old }
+    requires fits { Fits evaluation.now made.old }
+    requires callable { TakesRegions evaluation.now.scene.checked.now (F.pre regions.now) }
+    requires meets { FormsRegions (setting evaluation.now) (F.post regions.now) }
     ensures { let R = tree.Iterate (meant body.now) in
         Follows (shape_at evaluation.now) (outcome_at evaluation.now env.now made.old.path.items R) made.old made.new result }
 {
@@ -186,9 +222,13 @@ fn walk_turns<'e, X: Regions, P: Picks + Sync>(
 /// Forms the part with this number in the state in which the set so far has been fired, in place of what was formed before, and goes on
 /// with it.
 #[cycle(walk)]
-fn walk_next<'e, X: Regions, P: Picks + Sync>(
+fn walk_next<
+    'e,
+    P: Picks,
+    F: Fn(Global, &View<'_>, &Env<'_>, &Rule, &mut Forming) -> Result<(), Stopped>,
+>(
     alloc: Global,
-    regions: &mut X,
+    regions: &F,
     evaluation: &Evaluation<'_, '_, P>,
     env: &'e Env<'e>,
     rule: &'e Rule,
@@ -197,6 +237,8 @@ fn walk_next<'e, X: Regions, P: Picks + Sync>(
     made: &mut Forming,
 ) -> Result<(), Stopped>
     requires fits { Fits evaluation.now made.old }
+    requires callable { TakesRegions evaluation.now.scene.checked.now (F.pre regions.now) }
+    requires meets { FormsRegions (setting evaluation.now) (F.post regions.now) }
     requires so_far { so_far.old.count ≡ count_of (shape_at evaluation.now) }
     ensures { FollowsUpon (shape_at evaluation.now) (λ U. outcome_upon evaluation.now U env.now (yields.at made.old.path.items number) (meant rule.now)) so_far.old so_far.new made.old made.new result }
 {
@@ -217,16 +259,22 @@ fn walk_next<'e, X: Regions, P: Picks + Sync>(
 
 /// Forms the part with this number.
 #[cycle(walk)]
-fn walk_part<'e, X: Regions, P: Picks + Sync>(
+fn walk_part<
+    'e,
+    P: Picks,
+    F: Fn(Global, &View<'_>, &Env<'_>, &Rule, &mut Forming) -> Result<(), Stopped>,
+>(
     alloc: Global,
-    regions: &mut X,
+    regions: &F,
     evaluation: &Evaluation<'_, '_, P>,
     env: &'e Env<'e>,
     rule: &'e Rule,
     number: u64,
     made: &mut Forming,
 ) -> Result<(), Stopped>
-    requires { Fits evaluation.now made.old }
+    requires fits { Fits evaluation.now made.old }
+    requires callable { TakesRegions evaluation.now.scene.checked.now (F.pre regions.now) }
+    requires meets { FormsRegions (setting evaluation.now) (F.post regions.now) }
     ensures { Follows (shape_at evaluation.now) (outcome_at evaluation.now env.now (yields.at made.old.path.items number) (meant rule.now)) made.old made.new result }
 {
     made.path.push(number)?;

@@ -2,10 +2,12 @@
 ghost use Rattle.std.specs.Prelude.{◌≡◌, ◌<◌, ◌≤◌, IfOk, IsTrue};
 ghost use Rattle.asm_syntax.specs.PlainTree as plain;
 ghost use Rattle.asm_syntax.specs.Views.{spec_of, rule_of};
+ghost use Rattle.asm_state.specs.Signature.{count_of};
 ghost use Rattle.asm_check.specs.Shapes.{shape_of};
 ghost use Rattle.asm_eval.specs.Does.{does};
 ghost use Rattle.asm_eval.specs.Environments.{environment};
-ghost use Rattle.asm_eval.specs.Formed.{IsFormed};
+ghost use Rattle.asm_eval.specs.Evaluated.{Fits, meant, outcome_at, shape_at};
+ghost use Rattle.asm_eval.specs.Formed.{Follows, IsFormed};
 ghost use Rattle.asm_eval.specs.Valued.{program, shown};
 ghost use Rattle.asm_run.specs.Limits.{are_in_range};
 
@@ -15,10 +17,9 @@ use crate::region::work_region;
 use crate::rounds::Region;
 use asm_check::Checked;
 use asm_eval::form::form;
-use asm_eval::regions::Regions;
 use asm_eval::whole::whole;
 use asm_eval::{
-    Choices, Env, Evaluation, Forming, Outcome, Part, Path, Piece, Scene, Stopped, View,
+    Choices, Env, Evaluation, Forming, Outcome, Part, Path, Piece, Scene, Stopped, View, walk,
 };
 use asm_pool::{Gate, PoolError};
 use asm_reader::Picks;
@@ -48,6 +49,127 @@ impl<'r, R: Threads + Sync, G: Gate + Sync> Pooled<'r, R, G> {
             lanes: limits.workers as usize,
             cut: limits.cut as usize,
             rounds: limits.rounds,
+        }
+    }
+
+    /// What the rule yields at this path, in the state that the view shows, under the environment and these choices: the rule is one region,
+    /// which the workers share.
+    pub fn region<'a, 'e, P: Picks + Sync>(
+        &self,
+        alloc: Global,
+        checked: &'a Checked,
+        view: &'a View<'_>,
+        env: &'e Env<'e>,
+        rule: &'e Rule,
+        choices: &'a Choices<'a, P>,
+        path: &[u64],
+        turns: u32,
+    ) -> Result<Outcome, AllocError>
+        requires { view.now.signature.now ≡ shape_of (spec_of checked.now.spec) }
+        ensures { let o = does (program checked.now) turns (P.script choices.now.script.now) choices.now.step (shown view.now) (environment env.now) path.now (plain.plain_rule (rule_of rule.now)) in
+            IfOk result (IsFormed view.now.signature.now o) }
+    {
+        if self.lanes == 1 {
+            return whole(alloc, checked, view, env, rule, choices, path, turns);
+        }
+        self.work(alloc, checked, view, env, rule, choices, path, turns)
+    }
+
+    /// What the rule yields at this path, as `whole` answers it. The workers share each of its regions, and this thread does the rest.
+    pub fn outcome<'a, 'e, P: Picks + Sync>(
+        &self,
+        alloc: Global,
+        checked: &'a Checked,
+        view: &'a View<'_>,
+        env: &'e Env<'e>,
+        rule: &'e Rule,
+        choices: &'a Choices<'a, P>,
+        path: &[u64],
+        turns: u32,
+    ) -> Result<Outcome, AllocError>
+        requires { view.now.signature.now ≡ shape_of (spec_of checked.now.spec) }
+        ensures { let o = does (program checked.now) turns (P.script choices.now.script.now) choices.now.step (shown view.now) (environment env.now) path.now (plain.plain_rule (rule_of rule.now)) in
+            IfOk result (IsFormed view.now.signature.now o) }
+    {
+        if self.lanes == 1 {
+            return whole(alloc, checked, view, env, rule, choices, path, turns);
+        }
+        let regions = |alloc: Global, view: &View<'_>, env: &Env<
+            '_,
+        >, rule: &Rule, made: &mut Forming| -> Result<(), Stopped>
+            requires shaped { view.now.signature.now ≡ shape_of (spec_of checked.now.spec) }
+            requires fits { made.old.set.count ≡ count_of view.now.signature.now }
+            ensures { let o = does (program checked.entry.now) turns (P.script choices.entry.now.script.now) choices.entry.now.step (shown view.now) (environment env.now) made.old.path.items (meant rule.now) in
+                Follows view.now.signature.now o made.old made.new result }
+        { self.form_region(alloc, checked, view, env, rule, choices, turns, made) };
+        walk::outcome(
+            alloc, &regions, checked, view, env, rule, choices, path, turns,
+        )
+    }
+
+    /// Forms what the rule yields at the path where the evaluation stands, as `form` does. The workers share each of its regions, and this
+    /// thread does the rest.
+    pub fn form<'e, P: Picks + Sync>(
+        &self,
+        alloc: Global,
+        evaluation: &Evaluation<'_, '_, P>,
+        env: &'e Env<'e>,
+        rule: &'e Rule,
+        made: &mut Forming,
+    ) -> Result<(), Stopped>
+        requires { Fits evaluation.now made.old }
+        ensures { Follows (shape_at evaluation.now) (outcome_at evaluation.now env.now made.old.path.items (meant rule.now)) made.old made.new result }
+    {
+        if self.lanes == 1 {
+            return form(alloc, evaluation, env, rule, made);
+        }
+        let checked = evaluation.scene.checked;
+        let choices = evaluation.choices;
+        let turns = evaluation.turns;
+        let regions = |alloc: Global, view: &View<'_>, env: &Env<
+            '_,
+        >, rule: &Rule, made: &mut Forming| -> Result<(), Stopped>
+            requires shaped { view.now.signature.now ≡ shape_of (spec_of checked.now.spec) }
+            requires fits { made.old.set.count ≡ count_of view.now.signature.now }
+            ensures { let o = does (program checked.entry.now) turns (P.script choices.entry.now.script.now) choices.entry.now.step (shown view.now) (environment env.now) made.old.path.items (meant rule.now) in
+                Follows view.now.signature.now o made.old made.new result }
+        { self.form_region(alloc, checked, view, env, rule, choices, turns, made) };
+        walk::form_by_regions(alloc, &regions, evaluation, env, rule, made)
+    }
+
+    /// Forms what a region yields at the path where the evaluation stands, by rounds of workers.
+    fn form_region<'a, 'e, P: Picks + Sync>(
+        &self,
+        alloc: Global,
+        checked: &'a Checked,
+        view: &'a View<'_>,
+        env: &'e Env<'e>,
+        rule: &'e Rule,
+        choices: &'a Choices<'a, P>,
+        turns: u32,
+        made: &mut Forming,
+    ) -> Result<(), Stopped>
+        requires shaped { view.now.signature.now ≡ shape_of (spec_of checked.now.spec) }
+        requires fits { made.old.set.count ≡ count_of view.now.signature.now }
+        ensures { let o = does (program checked.now) turns (P.script choices.now.script.now) choices.now.step (shown view.now) (environment env.now) made.old.path.items (meant rule.now) in
+            Follows view.now.signature.now o made.old made.new result }
+    {
+        let outcome = self.work(
+            alloc,
+            checked,
+            view,
+            env,
+            rule,
+            choices,
+            made.path.as_slice(),
+            turns,
+        )?;
+        match outcome {
+            Outcome::Set { set, instances } => add_set(made, set, instances),
+            Outcome::Exhausted(path) => {
+                made.path = path.into_vec();
+                Err(Stopped::Exhausted)
+            }
         }
     }
 
@@ -94,55 +216,6 @@ impl<'r, R: Threads + Sync, G: Gate + Sync> Pooled<'r, R, G> {
         ) {
             Ok(outcome) => Ok(outcome),
             Err(PoolError::Memory) => Err(AllocError),
-        }
-    }
-}
-
-impl<'r, R: Threads + Sync, G: Gate + Sync> Regions for Pooled<'r, R, G> {
-    fn region<'a, 'e, P: Picks + Sync>(
-        &mut self,
-        alloc: Global,
-        checked: &'a Checked,
-        view: &'a View<'_>,
-        env: &'e Env<'e>,
-        rule: &'e Rule,
-        choices: &'a Choices<'a, P>,
-        path: &[u64],
-        turns: u32,
-    ) -> Result<Outcome, AllocError> {
-        if self.lanes == 1 {
-            return whole(alloc, checked, view, env, rule, choices, path, turns);
-        }
-        self.work(alloc, checked, view, env, rule, choices, path, turns)
-    }
-
-    fn form_region<'e, P: Picks + Sync>(
-        &mut self,
-        alloc: Global,
-        evaluation: &Evaluation<'_, '_, P>,
-        env: &'e Env<'e>,
-        rule: &'e Rule,
-        made: &mut Forming,
-    ) -> Result<(), Stopped> {
-        if self.lanes == 1 {
-            return form(alloc, evaluation, env, rule, made);
-        }
-        let outcome = self.work(
-            alloc,
-            evaluation.scene.checked,
-            evaluation.scene.view,
-            env,
-            rule,
-            evaluation.choices,
-            made.path.as_slice(),
-            evaluation.turns,
-        )?;
-        match outcome {
-            Outcome::Set { set, instances } => add_set(made, set, instances),
-            Outcome::Exhausted(path) => {
-                made.path = path.into_vec();
-                Err(Stopped::Exhausted)
-            }
         }
     }
 }

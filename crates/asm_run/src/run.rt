@@ -83,6 +83,6 @@ pub fn run_gated<R: Threads + Sync, G: Gate + Sync, S: Sink>(
         main,
         turns: limits.turns,
     };
-    let mut regions = Pooled::new(rt, limits, gate);
-    run_steps(alloc, &mut regions, &machine, &script, limits.steps, out)
+    let pooled = Pooled::new(rt, limits, gate);
+    run_steps(alloc, &pooled, &machine, &script, limits.steps, out)
 }

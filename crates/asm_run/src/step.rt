@@ -7,20 +7,21 @@ ghost use Rattle.asm_run.specs.Machine.{HasMainRule};
 ghost use Rattle.asm_run.specs.Step.{AreSized, IsFired, IsStopped, main_outcome};
 
 use crate::machine::Machine;
+use crate::pooled::Pooled;
 use crate::trace::push_step;
-use asm_eval::regions::Regions;
-use asm_eval::walk::form_by_regions;
 use asm_eval::{Choices, Env, Evaluation, Forming, Scene, Stopped, View};
+use asm_pool::Gate;
 use asm_reader::Picks;
 use asm_state::state::State;
 use asm_updates::fault::Fault;
 use asm_updates::summary::Summary;
 use std::alloc::{AllocError, Global};
+use std::thread::Threads;
 
 /// Forms what the main rule yields, in place of what was formed before.
-fn form_main<'a, X: Regions, P: Picks + Sync>(
+fn form_main<'a, R: Threads + Sync, G: Gate + Sync, P: Picks + Sync>(
     alloc: Global,
-    regions: &mut X,
+    pooled: &Pooled<'_, R, G>,
     machine: &Machine<'a>,
     choices: &'a Choices<'a, P>,
     state: &State,
@@ -49,7 +50,7 @@ fn form_main<'a, X: Regions, P: Picks + Sync>(
         choices,
         turns: machine.turns,
     };
-    form_by_regions(alloc, regions, &at, &env, machine.main, made)
+    pooled.form(alloc, &at, &env, machine.main, made)
 }
 
 /// Why a run ends at a step.
@@ -62,9 +63,9 @@ pub enum Stop {
 }
 
 /// Forms the set of a step. Fires it and puts the text of the step in place of what was there, or answers why the run ends.
-pub fn make_step<X: Regions, P: Picks + Sync>(
+pub fn make_step<R: Threads + Sync, G: Gate + Sync, P: Picks + Sync>(
     alloc: Global,
-    regions: &mut X,
+    pooled: &Pooled<'_, R, G>,
     machine: &Machine<'_>,
     choices: &Choices<'_, P>,
     state: &mut State,
@@ -77,7 +78,7 @@ pub fn make_step<X: Regions, P: Picks + Sync>(
     ensures fired { IfOk result (λ stop. IfNone stop (IsFired (spec_of machine.now.checked.now.spec) machine.now.turns (P.script choices.now.script.now) choices.now.step state.old state.new text.new.items)) }
     ensures stopped { IfOk result (λ stop. IfSome stop (IsStopped (spec_of machine.now.checked.now.spec) machine.now.turns (P.script choices.now.script.now) choices.now.step state.old state.new made.new.path.items)) }
 {
-    match form_main(alloc, regions, machine, choices, state, made) {
+    match form_main(alloc, pooled, machine, choices, state, made) {
         Ok(()) => {}
         Err(Stopped::Exhausted) => return Ok(Some(Stop::Exhausted)),
         Err(Stopped::Memory) => return Err(AllocError),

@@ -10,20 +10,22 @@ use crate::end::End;
 use crate::error::RunError;
 use crate::finish::{finish_at_limit, finish_at_stop};
 use crate::machine::Machine;
+use crate::pooled::Pooled;
 use crate::sink::Sink;
 use crate::step::make_step;
 use crate::write_all::write_all;
-use asm_eval::regions::Regions;
 use asm_eval::{Choices, Forming};
+use asm_pool::Gate;
 use asm_reader::Picks;
 use asm_state::state::State;
 use asm_updates::summary::Summary;
 use std::alloc::Global;
+use std::thread::Threads;
 
 /// Makes so many steps under the script, and writes each one's text when it is whole.
-pub fn run_steps<X: Regions, S: Sink, P: Picks + Sync>(
+pub fn run_steps<R: Threads + Sync, G: Gate + Sync, S: Sink, P: Picks + Sync>(
     alloc: Global,
-    regions: &mut X,
+    pooled: &Pooled<'_, R, G>,
     machine: &Machine<'_>,
     script: &P,
     steps: u32,
@@ -49,7 +51,7 @@ pub fn run_steps<X: Regions, S: Sink, P: Picks + Sync>(
             step: u64::from(done) + 1,
         };
         let stop = make_step(
-            alloc, regions, machine, &choices, &mut state, &mut made, &mut text,
+            alloc, pooled, machine, &choices, &mut state, &mut made, &mut text,
         )?;
         if let Some(stop) = stop {
             let path = made.path.as_slice();

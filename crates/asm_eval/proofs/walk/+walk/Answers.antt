@@ -39,7 +39,7 @@ walk_beneath-walk_part-requires g t c κs within =
     let a = c.args in
     let less = weighs_less a.evaluation.now.scene.checked.now (meant c.in-Some.below.rule.now) (meant a.rule.now)
     (less_at a.evaluation.now a.env.now a.made.now.path.items c.as_slice.result.now (meant a.rule.now) _ c.as_slice.ensures.value (c.in_ok-below.ensures c.requires.one) c.in-Some.below c.in-Some.is) in
-    (omega (arith, c.decreases, less), (search rules, (search rules, (search rules, c.requires.fits))))
+    (omega (arith, c.decreases, less), (search rules, (search rules, (c.requires.fits, (c.requires.callable, c.requires.meets)))))
 
 pub walk_beneath-returns-in-None : goal.walk_beneath-returns-in-None
 walk_beneath-returns-in-None g t c =
@@ -75,7 +75,7 @@ walk_in_order-walk_next-requires g t c κs within =
     let l = c.loop-i in
     let less = part_is_less (in_body a.evaluation.now.scene.checked.now) a.rules.now l.i c.index-rules-i.result c.loop-i-test.true c.index-rules-i.is in
     let alone = l.invariant.same_count ∙ ap (λ (s : Entries). s.count) c.replace-before.ensures.after ∙ c.new-nothing.ensures.count ∙ c.count.ensures.count in
-    (omega (arith, c.decreases, less), (search rules, (search rules, (search rules, (alone, l.invariant.counted)))))
+    (omega (arith, c.decreases, less), (search rules, (search rules, (alone, (c.requires.callable, (c.requires.meets, l.invariant.counted))))))
 
 pub walk_in_order-loop-i-preserved : goal.walk_in_order-loop-i-preserved
 walk_in_order-loop-i-preserved g t c =
@@ -98,12 +98,12 @@ walk_in_order-loop-i-preserved g t c =
 pub walk_in_order-put_back-requires : goal.walk_in_order-put_back-requires
 walk_in_order-put_back-requires g t c =
     let l = c.loop-i.invariant in
-    c.in_ok-walk_next.ensures.so_far_count ∙ l.counted ∙ sym c.requires ∙ sym (ap (λ (s : Entries). s.count) (l.same_before ∙ c.replace-before.ensures.value))
+    c.in_ok-walk_next.ensures.so_far_count ∙ l.counted ∙ sym c.requires.fits ∙ sym (ap (λ (s : Entries). s.count) (l.same_before ∙ c.replace-before.ensures.value))
 
 pub walk_in_order-put_back-requires-2 : goal.walk_in_order-put_back-requires-2
 walk_in_order-put_back-requires-2 g t c =
     let l = c.loop-i.invariant in
-    l.counted ∙ sym c.requires ∙ sym (ap (λ (s : Entries). s.count) (l.same_before ∙ c.replace-before.ensures.value))
+    l.counted ∙ sym c.requires.fits ∙ sym (ap (λ (s : Entries). s.count) (l.same_before ∙ c.replace-before.ensures.value))
 
 pub walk_in_order-returns : goal.walk_in_order-returns
 walk_in_order-returns g t c =
@@ -213,7 +213,7 @@ walk_turns-loop-turn-preserved g t c =
 pub walk_turns-put_back-requires : goal.walk_turns-put_back-requires
 walk_turns-put_back-requires g t c =
     let l = c.loop-turn.invariant in
-    c.in_ok-walk_next.ensures.so_far_count ∙ l.counted ∙ sym c.requires ∙ sym (ap (λ (s : Entries). s.count) (l.same_before ∙ c.replace-before.ensures.value))
+    c.in_ok-walk_next.ensures.so_far_count ∙ l.counted ∙ sym c.requires.fits ∙ sym (ap (λ (s : Entries). s.count) (l.same_before ∙ c.replace-before.ensures.value))
 
 pub walk_turns-returns-then-is_empty : goal.walk_turns-returns-then-is_empty
 walk_turns-returns-then-is_empty g t c =

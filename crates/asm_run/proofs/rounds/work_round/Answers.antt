@@ -21,7 +21,7 @@ work-requires-send-O g c κs within =
 pub work-requires-sync-J : goal.work-requires-sync-J
 work-requires-sync-J g c κs within =
     let e = c.views_and_pieces_are_shared.ensures in
-    let l : NamedLft = record { mir = erased; lft = κs.1.0 } in
+    let l : NamedLft = record { mir = erased; lft = κs.1.1.1.1.0 } in
     let job = job_shared l _ _ c.checked_is_shared.ensures (e.views _) (e.pieces _) c.type_bounds.sync-P in
     record { shared = job.shared }
 

@@ -25,22 +25,22 @@ returns-clause-formed g c =
     let R = plain_rule (rule_of c.args.machine.now.main.now) in
     let counted = c.requires.sized.set_fits ∙ ap count_of (sym shaped) in
     let o : Outcome = does (program_of s) c.args.machine.now.turns script step A e p R in
-    on_ok_weaker c.form_by_regions.result
-    (λ forms. formed_alone s shape c.args.machine.now.turns script step c.args.state.now A nothing c.clear.new.self c.form_by_regions.new.made.set 0 c.form_by_regions.new.made.instances e p R shaped
+    on_ok_weaker c.form.result
+    (λ forms. formed_alone s shape c.args.machine.now.turns script step c.args.state.now A nothing c.clear.new.self c.form.new.made.set 0 c.form.new.made.instances e p R shaped
     c.new-view.ensures.fired
     (c.new-nothing.ensures.empty shape c.count.ensures.sound c.count.ensures.count)
     (c.clear.ensures.empty shape c.count.ensures.sound counted)
     refl c.new-env.ensures c.clear-2.ensures.items c.requires.main
-    (subst (λ v. Forms v o c.clear.new.self c.form_by_regions.new.made.set 0 c.form_by_regions.new.made.instances) c.new-view.ensures.parts.0 forms))
-    c.form_by_regions.ensures.formed
+    (subst (λ v. Forms v o c.clear.new.self c.form.new.made.set 0 c.form.new.made.instances) c.new-view.ensures.parts.0 forms))
+    c.form.ensures.formed
 
 pub returns-clause-exhausted : goal.returns-clause-exhausted
 returns-clause-exhausted g c =
     let s = spec_of c.args.machine.now.checked.now.spec in
     let shape = c.signature-signature.result.now in
     let script = g.P.Picks.script c.args.choices.now.script.now in
-    stopped_alone c.form_by_regions.result _ _ c.form_by_regions.new.made.path.items
+    stopped_alone c.form.result _ _ c.form.new.made.path.items
     (outcome_alone s shape c.args.machine.now.turns script c.args.choices.now.step c.args.state.now (shown c.new-view.result) c.new-nothing.result (environment c.new-env.result)
     c.clear-2.new.self.items (plain_rule (rule_of c.args.machine.now.main.now)) c.signature-signature.ensures c.new-view.ensures.fired
     (c.new-nothing.ensures.empty shape c.count.ensures.sound c.count.ensures.count) c.new-env.ensures c.clear-2.ensures.items c.requires.main)
-    c.form_by_regions.ensures.exhausted
+    c.form.ensures.exhausted
