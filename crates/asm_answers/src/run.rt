@@ -11,13 +11,21 @@ use asm_run::through::Through;
 use std::alloc::{AllocError, Global};
 use std::thread::Threads;
 
-/// The limits of a case that doesn't say others.
-const LIMITS: Limits = Limits {
+/// The limits of a case that doesn't say others, where one worker makes the run.
+const ALONE: Limits = Limits {
     steps: 1,
     turns: 1000,
     workers: 1,
     cut: 64,
     rounds: 4,
+};
+
+/// Those where workers share it.
+const SHARED: Limits = Limits {
+    workers: 3,
+    cut: 1,
+    rounds: 2,
+    ..ALONE
 };
 
 /// What a case says of its run.
@@ -28,11 +36,11 @@ struct Setting {
 }
 
 impl Setting {
-    /// The setting that these words say, as ` whole, steps 3`; none if they say nothing.
-    fn said(words: &str) -> Option<Setting> {
+    /// The setting that these words say, as ` whole, steps 3`, with these limits where they don't say others; none if they say nothing.
+    fn said(words: &str, limits: Limits) -> Option<Setting> {
         let mut setting = Setting {
             is_whole: false,
-            limits: LIMITS,
+            limits,
         };
         if words.is_empty() {
             return Some(setting);
@@ -64,7 +72,7 @@ impl Setting {
 }
 
 /// What is expected of the run of a case and what is found, both in full: how the run ends or is refused, and behind this line what is
-/// written.
+/// written. What workers write who share the run is found where one worker writes what is expected.
 pub fn answers<R: Threads + Sync>(
     rt: &R,
     alloc: Global,
@@ -72,7 +80,23 @@ pub fn answers<R: Threads + Sync>(
     text: &str,
 ) -> Result<(String, String), AllocError> {
     let (words, _name) = header.split_once(": ").unwrap_or((header, ""));
-    let Some(setting) = words.strip_prefix("run").and_then(Setting::said) else {
+    let words = words.strip_prefix("run").unwrap_or("");
+    let (wanted, found) = answers_within(rt, alloc, ALONE, words, text)?;
+    if wanted != found {
+        return Ok((wanted, found));
+    }
+    answers_within(rt, alloc, SHARED, words, text)
+}
+
+/// What is expected and what is found within these limits, and those that the words say.
+fn answers_within<R: Threads + Sync>(
+    rt: &R,
+    alloc: Global,
+    limits: Limits,
+    words: &str,
+    text: &str,
+) -> Result<(String, String), AllocError> {
+    let Some(setting) = Setting::said(words, limits) else {
         return unfit(alloc, "such limits");
     };
     let Some(parts) = Parts::new(alloc, text, setting.is_whole)? else {

@@ -31,7 +31,11 @@ impl<'a> Case<'a> {
     }
 
     /// What is expected and what is found, both in full.
-    fn answers<R: Threads + Sync>(&self, rt: &R, alloc: Global) -> Result<(String, String), AllocError> {
+    fn answers<R: Threads + Sync>(
+        &self,
+        rt: &R,
+        alloc: Global,
+    ) -> Result<(String, String), AllocError> {
         if self.wanted.starts_with("run") {
             return run::answers(rt, alloc, self.wanted, self.text);
         }

@@ -67,7 +67,8 @@ fn formed<'a, X: Regions>(
 
 /// That in the initial state, by two workers.
 fn formed_by_two<R: Threads + Sync + AllocGlobal>(rt: &R) -> Result<Forming, Fail> {
-    if !LIMITS.are_in_range() {
+    let limits = LIMITS;
+    if !limits.are_in_range() {
         return Err(Fail::new("a limit is out of its range"));
     }
     let alloc = rt.alloc();
@@ -81,7 +82,7 @@ fn formed_by_two<R: Threads + Sync + AllocGlobal>(rt: &R) -> Result<Forming, Fai
         script: &picks,
         step: 1,
     };
-    let mut regions = Pooled::new(rt, &LIMITS, &NoGate);
+    let mut regions = Pooled::new(rt, &limits, &NoGate);
     match formed(alloc, &mut regions, &checked, &view, &choices) {
         Ok(made) => Ok(made),
         Err(_) => Err(Fail::new("the region is exhausted, or memory ran out")),
