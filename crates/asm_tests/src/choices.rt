@@ -4,9 +4,8 @@ ghost use Rattle.std.specs.Prelude.{[]};
 use crate::plain::{Entry, FIVE, ONE, Plain, TWO, has_entries};
 use crate::text::checked_of;
 use asm_check::Checked;
-use asm_eval::regions::Regions;
-use asm_eval::walk::outcome;
-use asm_eval::{Choices, Env, Outcome, View, regions};
+use asm_eval::whole::whole;
+use asm_eval::{Choices, Env, Outcome, View};
 use asm_reader::Picks;
 use asm_state::state::State;
 use asm_updates::summary::Summary;
@@ -55,14 +54,8 @@ pub fn specification(alloc: Global, body: &str) -> Result<Checked, Fail> {
     checked_of(alloc, text.as_bytes())
 }
 
-/// What the main rule yields at the empty path in the initial state, its regions worked so, where an `iterate` has this limit of turns.
-pub fn outcome_of<X: Regions>(
-    alloc: Global,
-    regions: &mut X,
-    checked: &Checked,
-    picks: &Counting,
-    turns: u32,
-) -> Result<Outcome, AllocError> {
+/// What the main rule yields at the empty path in the initial state, all of it on one thread.
+fn outcome_of(alloc: Global, checked: &Checked, picks: &Counting) -> Result<Outcome, AllocError> {
     let (_parameters, main) = checked.rule(checked.main());
     let signature = checked.signature();
     let state = State::initial(alloc, signature)?;
@@ -73,24 +66,14 @@ pub fn outcome_of<X: Regions>(
         script: picks,
         step: 1,
     };
-    outcome(
-        alloc,
-        regions,
-        checked,
-        &view,
-        &env,
-        main,
-        &choices,
-        &[],
-        turns,
-    )
+    whole(alloc, checked, &view, &env, main, &choices, &[], 1000)
 }
 
 /// What a main rule with this body yields, and how often it asks.
 fn yielded(alloc: Global, body: &str) -> Result<(Outcome, u64), Fail> {
     let checked = specification(alloc, body)?;
     let picks = Counting::new();
-    let outcome = outcome_of(alloc, &mut regions::Plain, &checked, &picks, 1000)?;
+    let outcome = outcome_of(alloc, &checked, &picks)?;
     Ok((outcome, picks.times()))
 }
 

@@ -7,8 +7,6 @@ use crate::choices::{Counting, is_set, specification};
 use crate::plain::{Entry, ONE, TWO};
 use asm_check::Checked;
 use asm_eval::open::open_piece;
-use asm_eval::regions::Plain;
-use asm_eval::walk::outcome;
 use asm_eval::whole::whole;
 use asm_eval::whole_piece::whole_piece;
 use asm_eval::{Choices, Env, Evaluation, Opened, Outcome, Part, Path, Piece, Scene, View};
@@ -113,8 +111,8 @@ fn piece_in<'a>(
     whole_piece(alloc, &evaluation, &piece)
 }
 
-/// The outcomes of the main rule in the initial state: as a piece, as a whole, and with its regions evaluated by themselves.
-fn outcomes(alloc: Global, checked: &Checked) -> Result<(Outcome, Outcome, Outcome), AllocError> {
+/// The outcomes of the main rule in the initial state: as a piece, and as a rule.
+fn outcomes(alloc: Global, checked: &Checked) -> Result<(Outcome, Outcome), AllocError> {
     let (_parameters, main) = checked.rule(checked.main());
     let signature = checked.signature();
     let state = State::initial(alloc, signature)?;
@@ -128,18 +126,7 @@ fn outcomes(alloc: Global, checked: &Checked) -> Result<(Outcome, Outcome, Outco
     let env = Env::new();
     let piece = piece_in(alloc, checked, &view, &choices)?;
     let rule = whole(alloc, checked, &view, &env, main, &choices, &[], 1000)?;
-    let regions = outcome(
-        alloc,
-        &mut Plain,
-        checked,
-        &view,
-        &env,
-        main,
-        &choices,
-        &[],
-        1000,
-    )?;
-    Ok((piece, rule, regions))
+    Ok((piece, rule))
 }
 
 /// Two regions in a sequence.
@@ -152,9 +139,8 @@ const SET: [Entry; 3] = [(0, ONE, ONE), (1, TWO, TWO), (4, ONE, ONE)];
 #[test]
 fn a_piece_yields_what_its_rule_yields(rt: HostRuntime) -> Result<(), Fail> {
     let checked = specification(rt.alloc(), REGIONS)?;
-    let (piece, whole, regions) = outcomes(rt.alloc(), &checked)?;
+    let (piece, rule) = outcomes(rt.alloc(), &checked)?;
     assert!(rt; is_set(piece, 2, &SET));
-    assert!(rt; is_set(whole, 2, &SET));
-    assert!(rt; is_set(regions, 2, &SET));
+    assert!(rt; is_set(rule, 2, &SET));
     Ok(())
 }

@@ -1,10 +1,7 @@
 //! What rules yield where workers share their regions.
-use crate::choices::{
-    ASKING, Counting, YIELDED, Yielded, is_exhausted, is_set, outcome_of, specification,
-};
+use crate::choices::{ASKING, Counting, YIELDED, Yielded, is_exhausted, is_set, specification};
 use crate::plain::{FIVE, ONE, Plain, TWO};
 use asm_check::Checked;
-use asm_eval::regions::Regions;
 use asm_eval::{Choices, Env, Outcome, View};
 use asm_pool::NoGate;
 use asm_run::limits::Limits;
@@ -40,28 +37,14 @@ static CUTTINGS: [Limits; 3] = [
     },
 ];
 
-/// What a main rule with this body yields where workers share its regions so, and how often it asks.
-fn yielded<R: Threads + Sync + AllocGlobal>(
-    rt: &R,
-    limits: &Limits,
-    body: &str,
-) -> Result<(Outcome, u64), Fail> {
-    if !limits.are_in_range() {
-        return Err(Fail::new("a limit is out of its range"));
-    }
-    let checked = specification(rt.alloc(), body)?;
-    let picks = Counting::new();
-    let mut regions = Pooled::new(rt, limits, &NoGate);
-    let outcome = outcome_of(rt.alloc(), &mut regions, &checked, &picks, limits.turns)?;
-    Ok((outcome, picks.times()))
-}
-
-/// What the main rule yields in the initial state, as one region.
-fn region_of<X: Regions>(
+/// What the main rule yields in the initial state: as one region, or where each of its regions is shared.
+fn outcome_by<R: Threads + Sync>(
     alloc: Global,
-    regions: &mut X,
+    pooled: &Pooled<'_, R, NoGate>,
     checked: &Checked,
+    picks: &Counting,
     turns: u32,
+    is_region: bool,
 ) -> Result<Outcome, AllocError> {
     let (_parameters, main) = checked.rule(checked.main());
     let signature = checked.signature();
@@ -69,12 +52,33 @@ fn region_of<X: Regions>(
     let nothing = Summary::new(alloc, signature.count());
     let view = View::new(signature, &state, &nothing);
     let env = Env::new();
-    let picks = Counting::new();
     let choices = Choices {
-        script: &picks,
+        script: picks,
         step: 1,
     };
-    regions.region(alloc, checked, &view, &env, main, &choices, &[], turns)
+    if is_region {
+        pooled.region(alloc, checked, &view, &env, main, &choices, &[], turns)
+    } else {
+        pooled.outcome(alloc, checked, &view, &env, main, &choices, &[], turns)
+    }
+}
+
+/// What a main rule with this body yields so, and how often it asks.
+fn yielded<R: Threads + Sync + AllocGlobal>(
+    rt: &R,
+    limits: &Limits,
+    body: &str,
+    is_region: bool,
+) -> Result<(Outcome, u64), Fail> {
+    if !limits.are_in_range() {
+        return Err(Fail::new("a limit is out of its range"));
+    }
+    let alloc = rt.alloc();
+    let checked = specification(alloc, body)?;
+    let picks = Counting::new();
+    let pooled = Pooled::new(rt, limits, &NoGate);
+    let outcome = outcome_by(alloc, &pooled, &checked, &picks, limits.turns, is_region)?;
+    Ok((outcome, picks.times()))
 }
 
 /// Whether workers that share so yield the set with these instances and entries, and ask so often.
@@ -82,9 +86,10 @@ fn yields<R: Threads + Sync + AllocGlobal>(
     rt: &R,
     limits: &Limits,
     row: &Yielded,
+    is_region: bool,
 ) -> Result<bool, Fail> {
     let (body, times, instances, entries) = row;
-    let (outcome, asked) = yielded(rt, limits, body)?;
+    let (outcome, asked) = yielded(rt, limits, body, is_region)?;
     Ok(asked == *times && is_set(outcome, *instances, entries))
 }
 
@@ -92,7 +97,7 @@ fn yields<R: Threads + Sync + AllocGlobal>(
 fn workers_yield_what_one_thread_does(rt: HostRuntime) -> Result<(), Fail> {
     for limits in &CUTTINGS {
         for row in &YIELDED {
-            assert!(rt; yields(&rt, limits, row)?, "{limits:?}");
+            assert!(rt; yields(&rt, limits, row, false)?, "{limits:?}");
         }
     }
     Ok(())
@@ -101,7 +106,7 @@ fn workers_yield_what_one_thread_does(rt: HostRuntime) -> Result<(), Fail> {
 #[test]
 fn workers_ask_each_question_once(rt: HostRuntime) -> Result<(), Fail> {
     for (body, times) in &ASKING {
-        let (_outcome, asked) = yielded(&rt, &CUTTINGS[1], body)?;
+        let (_outcome, asked) = yielded(&rt, &CUTTINGS[1], body, false)?;
         assert!(rt; asked == *times, "{body}");
     }
     Ok(())
@@ -162,33 +167,17 @@ forall i in Idx with i <= x do c(i) := x + 1 endforall endpar endif enditerate e
 fn regions_are_shared_behind_others_and_within_them(rt: HostRuntime) -> Result<(), Fail> {
     for limits in &CUTTINGS {
         for row in &SHARED {
-            assert!(rt; yields(&rt, limits, row)?, "{limits:?}");
+            assert!(rt; yields(&rt, limits, row, false)?, "{limits:?}");
         }
     }
     Ok(())
-}
-
-/// Whether the rule of this row yields the same as one region.
-fn is_one_region<R: Threads + Sync + AllocGlobal>(
-    rt: &R,
-    limits: &Limits,
-    row: &Yielded,
-) -> Result<bool, Fail> {
-    if !limits.are_in_range() {
-        return Err(Fail::new("a limit is out of its range"));
-    }
-    let (body, _times, instances, entries) = row;
-    let checked = specification(rt.alloc(), body)?;
-    let mut regions = Pooled::new(rt, limits, &NoGate);
-    let outcome = region_of(rt.alloc(), &mut regions, &checked, limits.turns)?;
-    Ok(is_set(outcome, *instances, entries))
 }
 
 #[test]
 fn each_rule_is_worked_as_one_region(rt: HostRuntime) -> Result<(), Fail> {
     for limits in &CUTTINGS {
         for row in &SHARED {
-            assert!(rt; is_one_region(&rt, limits, row)?, "{limits:?}");
+            assert!(rt; yields(&rt, limits, row, true)?, "{limits:?}");
         }
     }
     Ok(())
@@ -224,7 +213,7 @@ else par par iterate x := 2 enditerate endpar endpar endif endforall",
 fn the_least_exhausted_path_is_answered(rt: HostRuntime) -> Result<(), Fail> {
     for limits in &CUTTINGS {
         for (body, path) in &EXHAUSTED {
-            let (outcome, _asked) = yielded(&rt, limits, body)?;
+            let (outcome, _asked) = yielded(&rt, limits, body, false)?;
             assert!(rt; is_exhausted(outcome, path), "{body}");
         }
     }

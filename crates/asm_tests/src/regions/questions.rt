@@ -5,7 +5,6 @@ use super::meetings::Meeting;
 use crate::plain::{Entry, Plain, has_entries};
 use crate::text::checked_of;
 use asm_check::Checked;
-use asm_eval::walk::outcome;
 use asm_eval::{Choices, Env, Outcome, View};
 use asm_pool::NoGate;
 use asm_reader::Picks;
@@ -69,18 +68,8 @@ fn outcome_of<R: Threads + Sync + AllocGlobal>(
         script: picks,
         step: 1,
     };
-    let mut regions = Pooled::new(rt, &LIMITS, &NoGate);
-    outcome(
-        alloc,
-        &mut regions,
-        checked,
-        &view,
-        &env,
-        main,
-        &choices,
-        &[],
-        1000,
-    )
+    let pooled = Pooled::new(rt, &LIMITS, &NoGate);
+    pooled.outcome(alloc, checked, &view, &env, main, &choices, &[], 1000)
 }
 
 /// The first colour, at each of the two locations that aren't stray.

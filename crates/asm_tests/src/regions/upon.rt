@@ -6,7 +6,6 @@ ghost use Rattle.asm_check.specs.Shapes.{shape_of};
 use crate::choices::{Counting, specification};
 use crate::plain::{Entry, FIVE, ONE, THREE, TWO, has_entries, summary_of};
 use asm_check::Checked;
-use asm_eval::regions::Regions;
 use asm_eval::{Choices, Env, Evaluation, Forming, Scene, Stopped, View};
 use asm_pool::NoGate;
 use asm_run::limits::Limits;
@@ -40,9 +39,9 @@ const UNION: [Entry; 4] = [
 ];
 
 /// What the region that is the main rule comes to, where there is a set before and one instance less than can be counted.
-fn formed<'a, X: Regions>(
+fn formed<'a, R: Threads + Sync>(
     alloc: Global,
-    regions: &mut X,
+    pooled: &Pooled<'_, R, NoGate>,
     checked: &'a Checked,
     view: &'a View<'_>,
     choices: &'a Choices<'a, Counting>,
@@ -61,7 +60,7 @@ fn formed<'a, X: Regions>(
         path: Vec::new(alloc),
     };
     let env = Env::new();
-    regions.form_region(alloc, &evaluation, &env, main, &mut made)?;
+    pooled.form(alloc, &evaluation, &env, main, &mut made)?;
     Ok(made)
 }
 
@@ -82,8 +81,8 @@ fn formed_by_two<R: Threads + Sync + AllocGlobal>(rt: &R) -> Result<Forming, Fai
         script: &picks,
         step: 1,
     };
-    let mut regions = Pooled::new(rt, &limits, &NoGate);
-    match formed(alloc, &mut regions, &checked, &view, &choices) {
+    let pooled = Pooled::new(rt, &limits, &NoGate);
+    match formed(alloc, &pooled, &checked, &view, &choices) {
         Ok(made) => Ok(made),
         Err(_) => Err(Fail::new("the region is exhausted, or memory ran out")),
     }
