@@ -13,7 +13,7 @@ use Rattle.std.proofs.lemmas.List.{at_drop_more, drop_all}
 use Rattle.std.proofs.lemmas.Option.{slice_get_within, get_or_from_slice_get}
 use Rattle.asm_state.specs.declared.value.Value.{Value}
 use Rattle.asm_state.specs.Location.{State}
-use Rattle.asm_state.specs.Signature.{Shape, count_of, domain_of, location_at}
+use Rattle.asm_state.specs.Signature.{Shape, domain_of, location_at}
 use Rattle.asm_state.specs.Tables.{location_in}
 use Rattle.asm_state.specs.Updates.{UpdateSet, none, one, together}
 use Rattle.asm_state.proofs.Algebra.{union_laws}
@@ -38,7 +38,7 @@ use Rattle.asm_eval.specs.declared.stopped.Stopped.{Stopped}
 use Rattle.asm_eval.specs.declared.stopped.Stopped.TheVariants as stopped
 use Rattle.asm_eval.specs.Does.{Outcome, nothing, both, counted, parts, in_order, turns_of, each, one_of}
 use Rattle.asm_eval.specs.Evaluated.{setting, state_at, meant, meant_rules, meant_branch, meant_choose, meant_forall, meant_term, meant_terms}
-use Rattle.asm_eval.specs.Formed.{Forms, IsSet, Follows, IsStoppedAt, greatest_count}
+use Rattle.asm_eval.specs.Formed.{Forms, Follows, IsStoppedAt, greatest_count}
 use Rattle.asm_eval.specs.Cases.{ScriptedCases, runs, all_run}
 use Rattle.asm_eval.specs.Scenes.{is_candidate, scene_candidates, with_element}
 use Rattle.asm_eval.specs.Setting.{Setting, outcome}

@@ -6,10 +6,11 @@
 --     piece_does          what a piece does: all of its rule, or the elements at its positions
 --     pieces_do           what pieces do beside each other
 --     IsPiece             a span's rule is a `forall`, its positions rise and lie in the universe
+--     positions_in        at how many positions a piece's `forall` is evaluated
 --     IsCut cut           a span has at most so many positions
 --     is_closed R         a rule that isn't opened
 --     Opens               what a piece is opened to does together what the piece does, and nothing is lost or counted twice
-use Rattle.std.specs.Prelude.{◌≡◌, ℕ, ◌+◌, ◌-◌, ◌≤◌, Bool, true, false, List, [], ◌∷◌, map, take, drop, length, All}
+use Rattle.std.specs.Prelude.{◌≡◌, ℕ, ◌+◌, ◌-◌, ◌≤◌, Bool, true, false, List, [], ◌∷◌, Option, Some, None, map, take, drop, length, All}
 use Rattle.asm_state.specs.declared.value.Value.{Value}
 use Rattle.asm_state.specs.Location.{State}
 use Rattle.asm_syntax.specs.Tree as tree
@@ -68,6 +69,17 @@ module _ (program : Program) where
 
   abbrev pub IsPiece : Piece → Type 0
   IsPiece piece = IsPartOf (meant piece.rule.now) piece.part
+
+  abbrev pub all_positions : tree.Rule → Option ℕ
+  all_positions (tree.Forall x u c P) = Some (length (universe program u))
+  all_positions R = None
+
+  abbrev pub positions : tree.Rule → Part → Option ℕ
+  positions R part.Whole = all_positions R
+  positions R (part.Span from to) = Some (to - from)
+
+  abbrev pub positions_in : Piece → Option ℕ
+  positions_in piece = positions (meant piece.rule.now) piece.part
 
 abbrev pub IsCutPart : ℕ → Part → Type 0
 IsCutPart cut part.Whole = Unit {0}

@@ -16,6 +16,7 @@ pub mod open;
 pub mod outcome;
 pub mod path;
 pub mod piece;
+pub mod positions;
 pub mod shared;
 pub mod stopped;
 mod target;

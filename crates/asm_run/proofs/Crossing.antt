@@ -28,4 +28,4 @@ module _ (a : NamedLft) (P : RattleType) (g : Ghosts P.Denot) where
       let scene : IsSync (Scene.the_row a a) = declared_sync (Scene.the_type a a) (shr_sync _ _ Checked.the_row c, (shr_sync _ _ (View.the_row a) v, tt)) in
       let choices : IsSync (Choices.the_row a P) = declared_sync (Choices.the_type a P) (shr_sync _ _ P p, (search sendable, tt)) in
       let evaluation : IsSync (Evaluation.the_row a a P g) = declared_sync (Evaluation.the_type a a P g) (scene, (shr_sync _ _ (Choices.the_row a P) choices, (search sendable, tt))) in
-      declared_sync (RegionJob.the_type a P g) (search (sendable, crosses) depth 20, (shr_sync _ _ (Evaluation.the_row a a P g) evaluation, (shr_slice_sync _ _ (Piece.the_row a) i, (search sendable depth 20, tt))))
+      declared_sync (RegionJob.the_type a P g) (search (sendable, crosses) depth 20, (shr_sync _ _ (Evaluation.the_row a a P g) evaluation, (shr_slice_sync _ _ (Piece.the_row a) i, (search sendable depth 20, (search sendable, tt)))))

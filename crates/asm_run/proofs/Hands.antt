@@ -1,14 +1,14 @@
 -- What the runs of a pool's tasks add to the hands of its workers.
-use Rattle.std.proofs.Common.{◌≡◌, ℕ, List, [], ◌∷◌, Some, map, sym, ap, subst, ◌∙◌}
+use Rattle.std.proofs.Common.{◌≡◌, ℕ, List, [], ◌∷◌, Some, map, sym, subst, ◌∙◌}
 use Rattle.std.specs.List.{slice_get, concat, range_with_len}
 use Rattle.std.specs.List.Sorted.{IsPermutation}
 use Rattle.asm_state.specs.Signature.{Shape}
 use Rattle.asm_state.specs.Updates.{UpdateSet, none, together}
 use Rattle.asm_updates.specs.Entries.{Entries}
 use Rattle.asm_updates.specs.Stands.{Adds}
-use Rattle.asm_updates.specs.Together.{AddsEach, StandTogether, union_of, united}
+use Rattle.asm_updates.specs.Together.{AddsEach, StandTogether, united}
 use Rattle.asm_updates.proofs.Together.{together_laws, united_laws}
-use Rattle.asm_pool.specs.Pool.{RunsTask, RunsList, RunsLists}
+use Rattle.asm_pool.specs.Pool.{RunsList, RunsLists}
 
 -- each run of the task n adds the set f n
 module _ {Out : Type 0} (shape : Shape) (takes : Entries → Type 0) (runs : ℕ → Entries → Out → Entries → Type 0) (outs : List Out) (f : ℕ → UpdateSet)

@@ -1,5 +1,5 @@
 -- What a round does.
-use Rattle.std.proofs.Common.{◌≡◌, ℕ, zero, suc, ◌+◌, ◌<◌, List, [], ◌∷◌, ◌++◌, Option, Some, None, All, min, length, map, refl, sym, ap, subst, ◌∙◌, arith, add-one}
+use Rattle.std.proofs.Common.{◌≡◌, ℕ, zero, suc, ◌+◌, ◌<◌, List, [], ◌∷◌, ◌++◌, Option, Some, None, All, length, map, refl, sym, ap, subst, ◌∙◌, arith, add-one}
 use Rattle.std.specs.Prelude.{slice_get, IsOk, IfNone}
 use Rattle.std.specs.List.{range_with_len, concat}
 use Rattle.std.specs.List.Sorted.{IsPermutation}
@@ -15,14 +15,13 @@ use Rattle.asm_updates.specs.Stands.{Adds}
 use Rattle.asm_updates.specs.Together.{StandTogether, united}
 use Rattle.asm_eval.specs.declared.piece.Piece.{Piece}
 use Rattle.asm_eval.specs.Does.{Outcome, nothing, both}
-use Rattle.asm_eval.specs.Formed.{greatest_count}
 use Rattle.asm_eval.specs.Pieces.{IsPiece, counting, all_both, piece_does, pieces_do}
 use Rattle.asm_eval.specs.Program.{Program}
 use Rattle.asm_eval.specs.Setting.{Setting}
-use Rattle.asm_eval.specs.Yields.{Path, Gives, Exhausted, beside, first_path}
+use Rattle.asm_eval.specs.Yields.{Path, Gives, Exhausted, beside}
 use Rattle.asm_eval.proofs.Beside.{beside_laws}
 use Rattle.asm_pool.specs.Pool.{RunsTask, RunsLists}
-use Rattle.asm_run.specs.Rounds.{set_of, news, tally, first_of, least, Answered, answers, Reads, Holds, IsLeft, Tells, added, IsWorked, RunsPiece, IsRound}
+use Rattle.asm_run.specs.Rounds.{news, tally, least, Answered, answers, Reads, Holds, IsLeft, Tells, added, IsWorked, RunsPiece, IsRound}
 use Rattle.asm_run.specs.declared.job.RegionOut.{RegionOut}
 use Rattle.asm_run.specs.declared.job.RegionOut.TheVariants as region
 use Rattle.asm_run.proofs.Answered.{Runs, answered_at, as_many_answers, lists_answer}

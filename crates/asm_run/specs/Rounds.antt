@@ -15,7 +15,7 @@
 use Rattle.std.specs.Prelude.{◌≡◌, ℕ, ◌+◌, ◌<◌, List, [], ◌∷◌, ◌++◌, Option, Some, None, IfSome, MatchOption, All, min, length, map, slice_get, Result, Ok, Err}
 use Rattle.std.specs.declared.alloc.AllocError.{AllocError}
 use Rattle.asm_state.specs.Location.{State}
-use Rattle.asm_state.specs.Signature.{Shape, count_of}
+use Rattle.asm_state.specs.Signature.{Shape}
 use Rattle.asm_state.specs.Updates.{UpdateSet, none}
 use Rattle.asm_updates.specs.Entries.{Entries}
 use Rattle.asm_updates.specs.Stands.{Adds}

@@ -6,6 +6,7 @@ ghost use Rattle.asm_eval.specs.Pieces.{IsPiece, piece_does};
 ghost use Rattle.asm_run.specs.Rounds.{IsTask, IsWorked, RunsPiece};
 
 use asm_eval::open::open_piece;
+use asm_eval::positions::positions_of;
 use asm_eval::whole_piece::whole_piece;
 use asm_eval::{Evaluation, Opened, Outcome, Path, Piece};
 use asm_pool::Job;
@@ -50,12 +51,21 @@ fn close_piece<'a, P: Picks>(
     }
 }
 
-/// Opens a piece where there is a cut and it can be opened, or else works it whole.
+/// Whether a piece has elements of a `forall`, and no more of them than are one piece.
+fn is_short<P: Picks>(evaluation: &Evaluation<'_, '_, P>, piece: &Piece<'_>, most: usize) -> bool
+    requires { IsPiece (setting evaluation.now).program piece.now }
+{
+    positions_of(evaluation.scene.checked, piece).is_some_and(|positions| positions <= most)
+}
+
+/// Opens a piece where there is a cut and it can be opened, or else works it whole. So is one that has too few elements to be cut, where
+/// there are enough pieces besides.
 fn work_piece<'a, P: Picks>(
     alloc: Global,
     evaluation: &Evaluation<'a, '_, P>,
     piece: &'a Piece<'a>,
     cut: Option<usize>,
+    are_enough: bool,
     hand: &mut Summary,
 ) -> Result<RegionOut<'a>, AllocError>
     requires piece { IsPiece (setting evaluation.now).program piece.now }
@@ -66,6 +76,7 @@ fn work_piece<'a, P: Picks>(
         IfOk result (λ out. IsWorked (setting evaluation.now) (state_at evaluation.now) (shape_at evaluation.now) cut o hand.old out hand.new) }
 {
     if let Some(most) = cut
+        && !(are_enough && is_short(evaluation, piece, most))
         && let Opened::Pieces { pieces, instances } = open_piece(alloc, evaluation, piece, most)?
     {
         return Ok(RegionOut::Pieces { pieces, instances });
@@ -81,6 +92,8 @@ pub(crate) struct RegionJob<'a, P: Picks> {
     pub pieces: &'a [Piece<'a>],
     /// At most so many elements are one piece. None: the pieces are worked whole.
     pub cut: Option<usize>,
+    /// There are enough pieces for all workers: a `forall` that isn't longer than the cut is worked whole.
+    pub are_enough: bool,
 }
 
 impl<'a, P: Picks> Job for RegionJob<'a, P> {
@@ -96,6 +109,13 @@ impl<'a, P: Picks> Job for RegionJob<'a, P> {
 
     fn run(&self, n: usize, hand: &mut Summary) -> Result<RegionOut<'a>, AllocError> {
         let pieces = self.pieces;
-        work_piece(self.alloc, self.evaluation, &pieces[n], self.cut, hand)
+        work_piece(
+            self.alloc,
+            self.evaluation,
+            &pieces[n],
+            self.cut,
+            self.are_enough,
+            hand,
+        )
     }
 }

@@ -16,6 +16,9 @@ use asm_updates::summary::Summary;
 use std::alloc::{AllocError, Global};
 use std::thread::Threads;
 
+/// So many pieces for each worker are enough: more cost more than they spread the work.
+const ENOUGH: usize = 8;
+
 /// The least of the paths.
 fn first(known: Option<Path>, path: Path) -> Path
     ensures { result ≡ first_of known path }
@@ -102,7 +105,8 @@ struct Round<'a> {
     so_far: SoFar,
 }
 
-/// Opens the pieces, or works them whole, each once. The new pieces borrow from them.
+/// Opens the pieces, or works them whole, each once. The new pieces borrow from them. Where there are enough of them, a `forall` that isn't
+/// longer than the cut isn't opened: each of its elements would be a piece.
 fn work_round<'a, R: Threads + Sync, G: Gate + Sync, P: Picks + Sync>(
     rt: &R,
     alloc: Global,
@@ -130,6 +134,7 @@ fn work_round<'a, R: Threads + Sync, G: Gate + Sync, P: Picks + Sync>(
         evaluation: region.evaluation,
         pieces,
         cut,
+        are_enough: region.lanes * ENOUGH <= pieces.len(),
     };
     let worked = work(
         rt,

@@ -1,7 +1,6 @@
-use Rattle.std.proofs.Common.{◌≡◌, ◌∙◌, refl, sym, ap, subst, arith}
-use Rattle.asm_state.specs.Updates.{UpdateSet, together}
+use Rattle.std.proofs.Common.{◌∙◌, refl, sym, ap, subst, arith}
+use Rattle.asm_state.specs.Updates.{together}
 use Rattle.asm_state.proofs.Algebra.{union_laws}
-use Rattle.asm_updates.specs.Entries.{Entries}
 use Rattle.asm_updates.specs.Stands.{Stands}
 use Rattle.asm_run.proofs.add_set.add_set.Goals as goal
 

@@ -1,6 +1,6 @@
-use Rattle.std.proofs.Common.{◌≡◌, ◌∙◌, None, refl, sym, subst}
+use Rattle.std.proofs.Common.{◌∙◌, None, refl, subst}
 use Rattle.asm_state.specs.Updates.{none}
-use Rattle.asm_eval.specs.Does.{Outcome, both, nothing}
+use Rattle.asm_eval.specs.Does.{nothing}
 use Rattle.asm_eval.specs.Evaluated.{setting, shape_at, state_at}
 use Rattle.asm_eval.specs.Pieces.{pieces_do}
 use Rattle.asm_eval.proofs.Beside.{beside_laws}

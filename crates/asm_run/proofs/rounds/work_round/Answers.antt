@@ -1,14 +1,14 @@
 use denote.Ref.{NamedLft}
 use denote.Param.Send.{sendable}
 use mir.Syntax.{erased}
-use Rattle.std.proofs.Common.{◌≡◌, List, [], All, map, length, sym, subst, arith, rules}
+use Rattle.std.proofs.Common.{◌≡◌, List, [], All, map, length, sym, subst, arith}
 use Rattle.std.specs.Prelude.{IfNone}
 use Rattle.asm_state.specs.Signature.{count_of}
 use Rattle.asm_updates.specs.Entries.{Entries}
 use Rattle.asm_eval.specs.Evaluated.{setting, shape_at, state_at}
 use Rattle.asm_eval.specs.Pieces.{IsPiece}
 use Rattle.asm_eval.specs.declared.piece.Piece.{Piece}
-use Rattle.asm_run.specs.Rounds.{IsRound, answers, least, news, tally}
+use Rattle.asm_run.specs.Rounds.{IsRound, answers, news, tally}
 use Rattle.asm_run.proofs.Crossing.{job_shared, out_sent}
 use Rattle.asm_run.proofs.RoundLaw.{new_are_pieces, nothing_left, round_law}
 use Rattle.asm_run.proofs.rounds.work_round.Goals as goal

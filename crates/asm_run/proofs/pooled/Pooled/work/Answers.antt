@@ -1,7 +1,7 @@
 use Rattle.std.proofs.Common.{◌≡◌, ◌∙◌, ◌++◌, ℕ, List, [], ◌∷◌, ap, subst}
 use Rattle.asm_eval.specs.declared.piece.Part.TheVariants as part
 use Rattle.asm_eval.specs.declared.piece.Piece.{Piece}
-use Rattle.asm_eval.specs.Does.{Outcome, both, nothing}
+use Rattle.asm_eval.specs.Does.{Outcome}
 use Rattle.asm_eval.specs.Environments.{environment}
 use Rattle.asm_eval.specs.Evaluated.{meant}
 use Rattle.asm_eval.specs.Formed.{IsFormed}
