@@ -7,6 +7,7 @@ use crate::choices::{Counting, is_set, specification};
 use crate::plain::{Entry, ONE, TWO};
 use asm_check::Checked;
 use asm_eval::open::open_piece;
+use asm_eval::positions::positions_of;
 use asm_eval::whole::whole;
 use asm_eval::whole_piece::whole_piece;
 use asm_eval::{Choices, Env, Evaluation, Opened, Outcome, Part, Path, Piece, Scene, View};
@@ -84,6 +85,30 @@ fn each_kind_of_rule_is_opened_or_closed(rt: HostRuntime) -> Result<(), Fail> {
         let checked = specification(rt.alloc(), body)?;
         assert!(rt; opened(rt.alloc(), &checked)? == *parts, "{body}");
     }
+    Ok(())
+}
+
+/// At how many positions the `forall` that is the main rule is evaluated.
+fn positions(alloc: Global, checked: &Checked) -> Option<usize> {
+    let (_parameters, main) = checked.rule(checked.main());
+    let piece = Piece {
+        rule: main,
+        env: Env::new(),
+        path: Path::new(Vec::new(alloc)),
+        part: Part::Whole,
+    };
+    positions_of(checked, &piece)
+}
+
+#[test]
+fn a_forall_is_evaluated_at_each_position(rt: HostRuntime) -> Result<(), Fail> {
+    let alloc = rt.alloc();
+    let three = specification(alloc, "forall i in Idx with i = 1 do skip endforall")?;
+    assert!(rt; positions(alloc, &three) == Some(3));
+    let none = specification(alloc, "forall i in Empty do skip endforall")?;
+    assert!(rt; positions(alloc, &none) == Some(0));
+    let other = specification(alloc, "par forall i in Idx do skip endforall endpar")?;
+    assert!(rt; positions(alloc, &other) == None);
     Ok(())
 }
 
