@@ -19,9 +19,9 @@ def costly(operations):
 
 
 def branches(count):
-    """A `par` of so many parts, each of which tests 256 elements."""
+    """A `par` of so many parts, each of which tests 1,024 elements."""
     parts = " ".join(f"if (exists i in I with i * {k + 3} = x + 100000) then y := {k} endif" for k in range(count))
-    return HEAD + "universe I = 0 .. 255\n" + COUNTED + f"function controlled y\nrule M = par x := x + 1 {parts} endpar\n"
+    return HEAD + "universe I = 0 .. 1023\n" + COUNTED + f"function controlled y\nrule M = par x := x + 1 {parts} endpar\n"
 
 
 def strided(operations):
@@ -44,11 +44,11 @@ def lumped(operations):
 
 # Workloads of one wide region in each step, with fewer steps where a run is long.
 WIDE = {
-    "costly": Workload("operations for each of 4,096 elements", 48, costly, 100),
-    "costlier": Workload("operations for each of 4,096 elements", 240, costly, 24),
-    "branches": Workload("parts that test 256 elements", 128, branches, 100),
-    "strided": Workload("operations for each fourth of 4,096 elements", 240, strided, 80),
-    "lumped": Workload("operations for 64 of 4,096 elements, 64 times", 48, lumped, 80),
+    "costly": Workload("operations for each of 4,096 elements", 72, costly, 100),
+    "costlier": Workload("operations for each of 4,096 elements", 300, costly, 24),
+    "branches": Workload("parts that test 1,024 elements", 128, branches, 30),
+    "strided": Workload("operations for each fourth of 4,096 elements", 360, strided, 50),
+    "lumped": Workload("operations for 64 of 4,096 elements, 64 times", 90, lumped, 50),
 }
 for name, steps in (("calls", 20), ("grid", 150), ("life", 50), ("elements", 500), ("quantifiers", 500), ("tables", 5000), ("wide", 10_000)):
     known = WORKLOADS[name]
