@@ -20,7 +20,7 @@ def costly(operations):
 
 def branches(count):
     """A `par` of so many parts, each of which tests 1,024 elements."""
-    parts = " ".join(f"if (exists i in I with i * {k + 3} = x + 100000) then y := {k} endif" for k in range(count))
+    parts = " ".join(f"if (exists i in I with i * {k + 3} + x < 0) then y := {k} endif" for k in range(count))
     return HEAD + "universe I = 0 .. 1023\n" + COUNTED + f"function controlled y\nrule M = par x := x + 1 {parts} endpar\n"
 
 
