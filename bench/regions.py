@@ -1,4 +1,4 @@
-"""Texts for workers: workloads whose steps have one wide region, regions of cheap pieces, and regions of many pieces."""
+"""Texts for workers: workloads whose steps have one wide region, regions of cheap elements, and regions over many elements."""
 from workloads import COUNTED, HEAD, WORKLOADS, Workload
 
 INDEX = "universe I = 0 .. {last}\nfunction controlled f : I initially 0\n"
@@ -62,17 +62,17 @@ SMALL = {
 }
 
 
-def cheap(pieces):
-    """A region of so many cheap pieces: two assignments, or one for each element."""
-    if pieces == 2:
+def cheap(elements):
+    """A `par` of two assignments, or a `forall` over so many elements with one for each."""
+    if elements == 2:
         return HEAD + COUNTED + "function controlled y initially 0\nrule M = par x := y + 1 y := x + 1 endpar\n"
-    return HEAD + INDEX.format(last=pieces - 1) + "rule M = forall i in I do f(i) := f(i) + 1 endforall\n"
+    return HEAD + INDEX.format(last=elements - 1) + "rule M = forall i in I do f(i) := f(i) + 1 endforall\n"
 
 
-def many(pieces, locations):
-    """A region of so many pieces, at most 4,096 in a row, each of which changes one of so many locations."""
-    columns = min(pieces, 4096)
-    rows = pieces // columns
+def many(elements, locations):
+    """A region over so many elements, at most 4,096 in a row, each of which changes one of so many locations."""
+    columns = min(elements, 4096)
+    rows = elements // columns
     return (
         HEAD + f"universe I = 0 .. {rows - 1}\nuniverse J = 0 .. {columns - 1}\nuniverse K = 0 .. 15\nuniverse L = 0 .. {locations // 16 - 1}\n"
         "function controlled f : K * L initially 0\n"
