@@ -357,12 +357,12 @@ impl<'a> Evaluator<'a> {
                 let l = self.locate(*f, args, frame);
                 self.call(*r, terms, l, frame, out)
             }
-            Rule::Par(parts) => {
-                for (k, p) in parts.iter().enumerate() {
-                    self.at(k as u64, p, frame, out)?;
+            Rule::Par(parts) => self.in_chunks(parts.len() as u64, out, |worker, from, to, set| {
+                for k in from..to {
+                    worker.at(k, &parts[k as usize], frame, set)?;
                 }
                 Ok(())
-            }
+            }),
             Rule::If(c, yes, no) => {
                 if self.value(c, frame) == TRUE {
                     self.at(0, yes, frame, out)
@@ -379,63 +379,9 @@ impl<'a> Evaluator<'a> {
             }
             Rule::Forall(s, u, test, body) => {
                 let u = self.p.universes[*u as usize];
-                if self.children.is_empty() || u.size < 128 {
-                    return self.span(*s, u, test, body, 0, u.size, frame, out);
-                }
-                // fixed chunks on threads; a child has no children, so what stands below is worked whole
-                let mut children = std::mem::take(&mut self.children);
-                let n = children.len() as u64;
-                for (c, _) in children.iter_mut() {
-                    c.state.clone_from(&self.state);
-                    c.stack.clone_from(&self.stack);
-                    c.top = self.top;
-                    c.place.clone_from(&self.place);
-                    c.instances = 0;
-                    c.step = self.step;
-                }
-                let work = |k: u64, child: &mut (Evaluator<'a>, UpdateSet)| {
-                    let (c, o) = child;
-                    c.span(
-                        *s,
-                        u,
-                        test,
-                        body,
-                        u.size * k / n,
-                        u.size * (k + 1) / n,
-                        frame,
-                        o,
-                    )
-                };
-                let dones: Vec<Done> = std::thread::scope(|scope| {
-                    let mut it = children.iter_mut();
-                    let first = it.next().unwrap();
-                    let work = &work;
-                    let handles: Vec<_> = it
-                        .enumerate()
-                        .map(|(k, child)| {
-                            std::thread::Builder::new()
-                                .stack_size(1 << 26)
-                                .spawn_scoped(scope, move || work(k as u64 + 1, child))
-                                .unwrap()
-                        })
-                        .collect();
-                    let mut v = vec![work(0, first)];
-                    v.extend(handles.into_iter().map(|h| h.join().unwrap()));
-                    v
-                });
-                let mut end = Ok(());
-                for ((c, o), d) in children.iter_mut().zip(dones) {
-                    self.instances = self.instances.saturating_add(c.instances);
-                    for (l, low, high) in &o.list {
-                        out.add(self.p, *l, *low, *high);
-                    }
-                    o.clear();
-                    if end.is_ok() {
-                        end = d;
-                    }
-                }
-                self.children = children;
-                end
+                self.in_chunks(u.size, out, |worker, from, to, set| {
+                    worker.span(*s, u, test, body, from, to, frame, set)
+                })
             }
             Rule::Choose(s, u, test, body, none) => {
                 let u = self.p.universes[*u as usize];

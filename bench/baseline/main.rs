@@ -1,8 +1,9 @@
 //! A plain, fast tree-walking interpreter of the same language, as a yardstick for speed: what one writes without proofs.
 //!
 //! Names are resolved to numbers beforehand; the state is a flat vector; an update set is a list of (location, least, greatest)
-//! with an index by location. `--workers N` splits the `forall` rules that stand under no other `forall` into N fixed chunks on
-//! scoped threads.
+//! with an index by location. `--workers N` splits the elements of a `forall` and the parts of a `par` into N fixed chunks on scoped
+//! threads, where these are many and stand in no chunk themselves.
+mod chunks;
 mod evaluator;
 mod parser;
 mod resolver;
