@@ -4,6 +4,8 @@
 #include <dlfcn.h>
 #include <stdio.h>
 #include <stdlib.h>
+#include <sys/syscall.h>
+#include <unistd.h>
 
 static size_t all = 0;
 static size_t greatest = 0;
@@ -21,6 +23,13 @@ __attribute__((destructor)) static void tell(void) {
         fprintf(file, "%zu %zu\n", counted, most);
         fclose(file);
     }
+}
+
+/* A program that may start threads ends by this call, and then no destructor runs. */
+void _exit(int status) {
+    tell();
+    syscall(SYS_exit_group, status);
+    abort();
 }
 
 void *malloc(size_t size) {
