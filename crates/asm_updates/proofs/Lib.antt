@@ -1,4 +1,5 @@
 pub mod Copied
+pub mod EntryLists
 pub mod Faults
 pub mod Firing
 pub mod Found
@@ -8,3 +9,4 @@ pub mod Standing
 pub mod StandingLaws
 pub mod Together
 pub mod Widened
+pub mod Widening

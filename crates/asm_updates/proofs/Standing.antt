@@ -20,10 +20,10 @@ use Rattle.asm_updates.proofs.Widened.{widen-none}
 
 -- ---- ranges in sets
 
-none_range : (l : Location) → range_at none l ≡ None
+pub none_range : (l : Location) → range_at none l ≡ None
 none_range l = (summary_laws.emptiness none (range_at none) (summary_laws.exists none)).0 refl l
 
-union_range : (U V : UpdateSet) (l : Location) → widen (range_at U l) (range_at V l) ≡ range_at (together U V) l
+pub union_range : (U V : UpdateSet) (l : Location) → widen (range_at U l) (range_at V l) ≡ range_at (together U V) l
 union_range U V l =
     summary_laws.one_range (together U V) l (widen (range_at U l) (range_at V l)) (range_at (together U V) l)
     (summary_laws.of_union U V (range_at U) (range_at V) (summary_laws.exists U) (summary_laws.exists V) l)
@@ -88,7 +88,7 @@ apart shape m n sound h k other same =
         cc
 
 -- the range at each location of a set that names one location alone
-lone_range : (shape : Shape) (W : UpdateSet) (n : ℕ) (r : Range) → IsSound shape → n < count_of shape → IsRange (Has W (location_at shape n)) r → ((l : Location) → Names W l → l ≡ location_at shape n) →
+pub lone_range : (shape : Shape) (W : UpdateSet) (n : ℕ) (r : Range) → IsSound shape → n < count_of shape → IsRange (Has W (location_at shape n)) r → ((l : Location) → Names W l → l ≡ location_at shape n) →
     (k : ℕ) → k < count_of shape → cond (eqb k n) (Some r) None ≡ range_at W (location_at shape k)
 lone_range shape W n r sound h is alone k below =
     ⊎_elim

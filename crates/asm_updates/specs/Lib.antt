@@ -4,3 +4,4 @@ pub mod Faults
 pub mod StandingLaws
 pub mod Together
 pub mod TogetherLaws
+pub mod EntryLists

@@ -1,4 +1,5 @@
 //! Laws of summaries, and of many together.
+ghost use Rattle.asm_updates.specs.EntryLists.{OrderFree, EntryListLaws};
 ghost use Rattle.asm_updates.specs.StandingLaws.{StandingLaws};
 ghost use Rattle.asm_updates.specs.TogetherLaws.{UnitedLaws, TogetherLaws};
 
@@ -15,4 +16,15 @@ pub fn united_laws()
 /// What is added to each of some summaries is added to what they stand for together.
 pub fn together_laws()
     ensures { TogetherLaws }
+{}
+
+/// The summary of a list of entries is that of each rearrangement of it.
+pub fn order_free()
+    ensures { OrderFree }
+{}
+
+/// Two lists of entries have the union of their summaries, the entries of a summary have that summary, and the summary of
+/// a list stands for the updates of its entries.
+pub fn entry_list_laws()
+    ensures { EntryListLaws }
 {}

@@ -1,0 +1,9 @@
+pub mod Members
+pub mod Extremes
+pub mod Shares
+pub mod Steps
+pub mod Ranges
+pub mod Filling
+pub mod Closing
+pub mod BoardLaws
+pub mod LogLaws

@@ -1,0 +1,5 @@
+use Rattle.asm_striped.specs.Log.{entry}
+use Rattle.asm_striped.proofs.striped.Striped.put.Given as goal
+
+abbrev pub ghosts-put_entry : goal.ghosts-put_entry
+ghosts-put_entry a = record { entry = entry a.task a.n a.low a.high }

@@ -1,0 +1,6 @@
+use Rattle.std.specs.Mem.Slots.{slots_items}
+use Rattle.asm_striped.proofs.Filling.{IsFilled}
+use Rattle.asm_striped.proofs.words.summary_of.Given as goal
+
+abbrev pub invariant-loop-n : goal.invariant-loop-n
+invariant-loop-n l = IsFilled (slots_items l.closed.words) l.n l.count l.summary

@@ -1,0 +1,5 @@
+pub mod Log
+pub mod Board
+pub mod Seats
+pub mod BoardLaws
+pub mod LogLaws

@@ -1,0 +1,14 @@
+-- Laws of logs and the entries with the values whose codes they have.
+use Rattle.std.specs.Prelude.{◌≡◌, List, ◌++◌}
+use Rattle.asm_updates.specs.Entries.{Entries, NamedRanges}
+use Rattle.asm_updates.specs.EntryLists.{IsSummaryOf}
+use Rattle.asm_striped.specs.declared.board.Entry.{Entry}
+use Rattle.asm_striped.specs.Log.{AreValuesOf, IsSummaryOfLog}
+
+pub record LogLaws : Type 0 where
+  -- codes tell values apart
+  pub one_list : (log : List Entry) (es fs : NamedRanges) → AreValuesOf log es → AreValuesOf log fs → es ≡ fs
+  -- one log after another
+  pub of_append : (log more : List Entry) (es fs : NamedRanges) → AreValuesOf log es → AreValuesOf more fs → AreValuesOf (log ++ more) (es ++ fs)
+  -- the summary of a log is that of its values
+  pub summary : (log : List Entry) (es : NamedRanges) (s : Entries) → IsSummaryOfLog log s → AreValuesOf log es → IsSummaryOf es s
