@@ -86,7 +86,7 @@ ranges_stand shape count (e ∷ es) sound is are n h =
     widen-swap (range_of_entry e n) (range_in es n)
     ∙ ap (λ r. widen r (range_of_entry e n)) (ranges_stand shape count es sound is rest n h)
     ∙ ap (widen (range_at (updates_of shape es) (location_at shape n)))
-      (lone_range shape bounds e.0 (range e.1) sound below (bounds_range l e.1.0 e.1.1 (All-head (λ e. code_of e.1.0 ≤ code_of e.1.1) e es are.ordered)) (bounds_alone l e.1.0 e.1.1) n h)
+    (lone_range shape bounds e.0 (range e.1) sound below (bounds_range l e.1.0 e.1.1 (All-head (λ e. code_of e.1.0 ≤ code_of e.1.1) e es are.ordered)) (bounds_alone l e.1.0 e.1.1) n h)
     ∙ union_range (updates_of shape es) bounds (location_at shape n)
 
 names_within : (shape : Shape) (es : NamedRanges) → AllByRecursion (λ e. e.0 < count_of shape) es → (l : Location) → Names (updates_of shape es) l → IsLocationOf shape l
