@@ -5,8 +5,8 @@ use Rattle.std.specs.List.{All, AllByRecursion}
 use Rattle.std.proofs.lemmas.Bool.{false≢true}
 use Rattle.std.proofs.lemmas.List.Elements.{recursion_from_All}
 use Rattle.std.proofs.lemmas.Option.{slice_get_within}
-use Rattle.asm_updates.specs.Entries.{Entries}
 use Rattle.asm_pool.specs.Pool.{RunsTask, RunsList, RunsLists}
+use Rattle.asm_run.specs.declared.hand.RegionHand.{RegionHand}
 use Rattle.asm_run.specs.Rounds.{Answered, answer, answers}
 use Rattle.asm_run.specs.declared.job.RegionOut.{RegionOut}
 
@@ -24,26 +24,27 @@ ok_at [] all n out at = cc
 ok_at (x ∷ outs) all zero out at = let e : x ≡ out = cc in subst (λ (y : Answered). IsOk y) e all.0
 ok_at (x ∷ outs) all (suc n) out at = ok_at outs all.1 n out at
 
-module _ (R : ℕ → Entries → RegionOut → Entries → Type 0) where
-  abbrev pub Runs : ℕ → Entries → Answered → Entries → Type 0
-  Runs n before out after = IfOk out (λ r. R n before r after)
+module _ (Runs : ℕ → RegionHand → Answered → RegionHand → Type 0) where
+  -- a run that was not refused memory
+  abbrev R : ℕ → RegionHand → RegionOut → RegionHand → Type 0
+  R n before out after = Runs n before (Ok out) after
 
-  ok_run : (n : ℕ) (before after : Entries) (out : Answered) → IsOk out → Runs n before out after → R n before (answer out) after
+  ok_run : (n : ℕ) (before after : RegionHand) (out : Answered) → IsOk out → Runs n before out after → R n before (answer out) after
   ok_run n before after (Ok r) ok did = did
   ok_run n before after (Err e) ok did = absurd (false≢true ok)
 
-  module _ (takes : Entries → Type 0) (outs : List Answered) (ok : All IsOk outs) where
+  module _ (takes : RegionHand → Type 0) (outs : List Answered) (ok : All IsOk outs) where
     abbrev ok_there : (n : ℕ) (out : Answered) → slice_get outs n ≡ Some out → IsOk out
     ok_there = ok_at outs (recursion_from_All IsOk outs ok)
 
-    task_answers : (n : ℕ) (before after : Entries) → RunsTask takes Runs outs before n after → RunsTask takes R (answers outs) before n after
+    task_answers : (n : ℕ) (before after : RegionHand) → RunsTask takes Runs outs before n after → RunsTask takes R (answers outs) before n after
     task_answers n before after did = (answer did.0, answer_at outs n did.0 did.1, (did.2.0, did.2.1, ok_run n before after did.0 (ok_there n did.0 did.1) did.2.2))
 
-    list_answers : (tasks : List ℕ) (before after : Entries) → RunsList takes Runs outs before tasks after → RunsList takes R (answers outs) before tasks after
+    list_answers : (tasks : List ℕ) (before after : RegionHand) → RunsList takes Runs outs before tasks after → RunsList takes R (answers outs) before tasks after
     list_answers [] before after did = did
     list_answers (n ∷ tasks) before after did = (did.0, task_answers n before did.0 did.1, list_answers tasks did.0 after did.2)
 
-    pub lists_answer : (hands others : List Entries) (lists : List (List ℕ)) → RunsLists takes Runs outs hands lists others → RunsLists takes R (answers outs) hands lists others
+    pub lists_answer : (hands others : List RegionHand) (lists : List (List ℕ)) → RunsLists takes Runs outs hands lists others → RunsLists takes R (answers outs) hands lists others
     lists_answer [] [] [] did = did
     lists_answer [] [] (_ ∷ _) did = absurd did
     lists_answer [] (_ ∷ _) [] did = absurd did
@@ -54,8 +55,8 @@ module _ (R : ℕ → Entries → RegionOut → Entries → Type 0) where
     lists_answer (hand ∷ hands) (other ∷ others) (list ∷ lists) did = (list_answers list hand other did.0, lists_answer hands others lists did.1)
 
     -- some run answered what stands there
-    pub answered_at : (count : ℕ) → length outs ≡ count → ((n : ℕ) → n < count → (before : Entries) × (after : Entries) × RunsTask takes Runs outs before n after)
-        → (n : ℕ) (out : RegionOut) → slice_get (answers outs) n ≡ Some out → (before : Entries) × (after : Entries) × R n before out after
+    pub answered_at : (count : ℕ) → length outs ≡ count → ((n : ℕ) → n < count → (before : RegionHand) × (after : RegionHand) × RunsTask takes Runs outs before n after)
+        → (n : ℕ) (out : RegionOut) → slice_get (answers outs) n ≡ Some out → (before : RegionHand) × (after : RegionHand) × R n before out after
     answered_at count long each n out at =
         let low : n < count = omega (arith, slice_get_within (answers outs) n out at, as_many_answers outs, long) in
         let (before, after, did) = each n low in

@@ -1,6 +1,6 @@
 -- What a round does.
 use Rattle.std.proofs.Common.{◌≡◌, ℕ, zero, suc, ◌+◌, ◌<◌, List, [], ◌∷◌, ◌++◌, Option, Some, None, All, length, map, refl, sym, ap, subst, ◌∙◌, arith, add-one}
-use Rattle.std.specs.Prelude.{slice_get, IsOk, IfNone}
+use Rattle.std.specs.Prelude.{slice_get, Bool, Ok, IsOk, IfNone}
 use Rattle.std.specs.List.{range_with_len, concat}
 use Rattle.std.specs.List.Sorted.{IsPermutation}
 use Rattle.std.proofs.lemmas.List.{map-append}
@@ -10,9 +10,8 @@ use Rattle.asm_state.specs.Location.{State}
 use Rattle.asm_state.specs.Signature.{Shape}
 use Rattle.asm_state.specs.Updates.{UpdateSet, none, together}
 use Rattle.asm_state.proofs.Algebra.{union_laws}
-use Rattle.asm_updates.specs.Entries.{Entries}
-use Rattle.asm_updates.specs.Stands.{Adds}
-use Rattle.asm_updates.specs.Together.{StandTogether, united}
+use Rattle.asm_updates.specs.Unions.{united}
+use Rattle.asm_striped.specs.declared.board.Entry.{Entry}
 use Rattle.asm_eval.specs.declared.piece.Piece.{Piece}
 use Rattle.asm_eval.specs.Does.{Outcome, nothing, both}
 use Rattle.asm_eval.specs.Pieces.{IsPiece, counting, all_both, piece_does, pieces_do}
@@ -21,11 +20,14 @@ use Rattle.asm_eval.specs.Setting.{Setting}
 use Rattle.asm_eval.specs.Yields.{Path, Gives, Exhausted, beside}
 use Rattle.asm_eval.proofs.Beside.{beside_laws}
 use Rattle.asm_pool.specs.Pool.{RunsTask, RunsLists}
-use Rattle.asm_run.specs.Rounds.{news, tally, least, Answered, answers, Reads, Holds, IsLeft, Tells, added, IsWorked, RunsPiece, IsRound}
+use Rattle.asm_run.specs.declared.hand.RegionHand.{RegionHand}
+use Rattle.asm_run.specs.Hands.{LogStands, LogsStand, parts_of}
+use Rattle.asm_run.specs.Rounds.{news, tally, least, Answered, answers, Reads, Holds, IsLeft, Tells, Puts, added, IsWorked, RunsPiece, IsRound, set_of}
 use Rattle.asm_run.specs.declared.job.RegionOut.{RegionOut}
 use Rattle.asm_run.specs.declared.job.RegionOut.TheVariants as region
-use Rattle.asm_run.proofs.Answered.{Runs, answered_at, as_many_answers, lists_answer}
-use Rattle.asm_run.proofs.Hands.{hands_add}
+use Rattle.asm_run.proofs.Answered.{answered_at, as_many_answers, lists_answer}
+use Rattle.asm_run.proofs.Hands.{PutsSet, hands_put, parts_stay}
+use Rattle.asm_run.proofs.Logs.{nothing_put, set_put}
 
 -- ---- outcomes beside each other
 
@@ -63,7 +65,7 @@ EachLeft program cut (out ∷ outs) = IsLeft program cut out × EachLeft program
 
 are_pieces : (program : Program) (cut : Option ℕ) (outs : List RegionOut) → EachLeft program cut outs → All (IsPiece program) (news outs)
 are_pieces program cut [] left = All-nil (IsPiece program)
-are_pieces program (Some cut) (region.Pieces pieces n ∷ outs) left = All-append (IsPiece program) pieces.items (news outs) left.0 (are_pieces program (Some cut) outs left.1)
+are_pieces program (Some cut) (region.Pieces pieces n ∷ outs) left = All-append (IsPiece program) pieces.items (news outs) left.0.0 (are_pieces program (Some cut) outs left.1)
 are_pieces program None (region.Pieces pieces n ∷ outs) left = absurd left.0
 are_pieces program cut (region.Done n ∷ outs) left = are_pieces program cut outs left.1
 are_pieces program cut (region.Exhausted p ∷ outs) left = are_pieces program cut outs left.1
@@ -212,25 +214,35 @@ module _ (s : Setting) (A : State) where
   piece_there (p ∷ ps) zero low = (p, refl)
   piece_there (p ∷ ps) (suc n) low = piece_there ps n (omega (arith, low))
 
-  run_adds : (shape : Shape) (cut : Option ℕ) (ps : List Piece) (outs : List RegionOut) → length outs ≡ length ps
-      → (n : ℕ) (before after : Entries) (out : RegionOut) → slice_get outs n ≡ Some out → RunsPiece s A shape cut ps n before out after
-      → Adds shape (adds_at ps outs n) before after
-  run_adds shape cut ps outs long n before after out there did =
+  puts_set : (shape : Shape) (n : ℕ) (o : Outcome) (out : RegionOut) (more : List Entry) → Puts s A shape n o out more → LogStands shape more (adds o out)
+  puts_set shape n o (region.Pieces pieces k) more is = subst (λ l. LogStands shape l none) (sym is) (nothing_put shape)
+  puts_set shape n o (region.Done k) more are = set_put shape n (set_of o.result) more are
+  puts_set shape n o (region.Exhausted q) more is = subst (λ l. LogStands shape l none) (sym is) (nothing_put shape)
+
+  run_puts : (shape : Shape) (cut : Option ℕ) (are_enough : Bool) (ps : List Piece) (outs : List RegionOut) → length outs ≡ length ps
+      → (n : ℕ) (before after : RegionHand) (out : RegionOut) → slice_get outs n ≡ Some out → RunsPiece s A shape cut are_enough ps n before (Ok out) after
+      → PutsSet shape before.seat (adds_at ps outs n) after.seat
+  run_puts shape cut are_enough ps outs long n before after out there did =
       let some = piece_there ps n (omega (arith, long, slice_get_within outs n out there)) in
-      subst (λ V. Adds shape V before after) (adds_there ps outs n some.0 out some.1 there) (did some.0 some.1).adds
+      let worked = (did some.0 some.1).0 in
+      subst (λ V. PutsSet shape before.seat V after.seat) (adds_there ps outs n some.0 out some.1 there)
+      (record { more = worked.more; grows = worked.grows; stands = puts_set shape n (f some.0) out worked.more worked.puts })
 
   -- ---- the round
 
-  module _ (shape : Shape) (takes : Entries → Type 0) (cut : Option ℕ) (pieces : List Piece) (outs : List Answered) (long : length outs ≡ length pieces) (ok : All IsOk outs)
-      (each : (n : ℕ) → n < length pieces → (before : Entries) × (after : Entries) × RunsTask takes (Runs (RunsPiece s A shape cut pieces)) outs before n after) where
+  module _ (shape : Shape) (takes : RegionHand → Type 0) (cut : Option ℕ) (are_enough : Bool) (pieces : List Piece) (outs : List Answered) (long : length outs ≡ length pieces) (ok : All IsOk outs)
+      (each : (n : ℕ) → n < length pieces → (before : RegionHand) × (after : RegionHand) × RunsTask takes (RunsPiece s A shape cut are_enough pieces) outs before n after) where
+    abbrev runs : ℕ → RegionHand → Answered → RegionHand → Type 0
+    runs = RunsPiece s A shape cut are_enough pieces
+
     abbrev as_long : length (answers outs) ≡ length pieces
     as_long = as_many_answers outs ∙ long
 
     worked_at : (n : ℕ) (p : Piece) (out : RegionOut) → slice_get pieces n ≡ Some p → slice_get (answers outs) n ≡ Some out
-        → (before : Entries) × (after : Entries) × IsWorked s A shape cut (f p) before out after
+        → (before : RegionHand) × (after : RegionHand) × IsWorked s A shape cut n (f p) before.seat out after.seat
     worked_at n p out at there =
-        let (before, after, did) = answered_at (RunsPiece s A shape cut pieces) takes outs ok (length pieces) long each n out there in
-        (before, after, did p at)
+        let (before, after, did) = answered_at runs takes outs ok (length pieces) long each n out there in
+        (before, after, (did p at).0)
 
     left : EachLeft s.program cut (answers outs)
     left = each_left cut pieces (answers outs) as_long (λ n p out at there. (worked_at n p out at there).2.left)
@@ -238,8 +250,8 @@ module _ (s : Setting) (A : State) where
     pub new_are_pieces : All (IsPiece s.program) (news (answers outs))
     new_are_pieces = are_pieces s.program cut (answers outs) left
 
-    pub round_law : (q : Outcome) (hands others : List Entries) (lists : List (List ℕ)) (instances : ℕ) (at : Option Path)
-        → IsPermutation (range_with_len 0 (length pieces)) (concat lists) → RunsLists takes (Runs (RunsPiece s A shape cut pieces)) outs hands lists others
+    pub round_law : (q : Outcome) (hands others : List RegionHand) (lists : List (List ℕ)) (instances : ℕ) (at : Option Path)
+        → IsPermutation (range_with_len 0 (length pieces)) (concat lists) → RunsLists takes runs outs hands lists others
         → Holds shape q hands instances at → IsRound s A shape q pieces (news (answers outs)) others (tally instances (answers outs)) (least at (answers outs))
     round_law q hands others lists instances at once did held =
         let given = answers outs in
@@ -249,29 +261,34 @@ module _ (s : Setting) (A : State) where
           loses_nothing = ap (both q) (pieces_are pieces given all) ∙ sym (beside_laws.group q (dones pieces given) (does (news given)));
           holds = record {
             set = together held.set (all_add pieces given);
-            stand = subst (λ V. StandTogether shape others (together held.set V)) (all_added pieces given as_long)
-                (hands_add shape takes (RunsPiece s A shape cut pieces) given (adds_at pieces given) (run_adds shape cut pieces given as_long)
-                (length pieces) hands others lists held.set once (lists_answer (RunsPiece s A shape cut pieces) takes outs ok hands others lists did) held.stand);
+            stand = subst (λ V. LogsStand shape others (together held.set V)) (all_added pieces given as_long)
+                (hands_put shape takes (λ n before out after. runs n before (Ok out) after) given (adds_at pieces given) (run_puts shape cut are_enough pieces given as_long)
+                (length pieces) hands others lists held.set once (lists_answer runs takes outs ok hands others lists did) held.stand);
             reads = all_read pieces given q held.set instances at all held.reads;
           };
         }
 
-  pub nothing_left : (shape : Shape) (takes : Entries → Type 0) (cut : Option ℕ) (pieces : List Piece) (outs : List Answered) → length outs ≡ length pieces → All IsOk outs
-      → ((n : ℕ) → n < length pieces → (before : Entries) × (after : Entries) × RunsTask takes (Runs (RunsPiece s A shape cut pieces)) outs before n after)
+    pub same_parts : (hands others : List RegionHand) (lists : List (List ℕ)) → RunsLists takes runs outs hands lists others → parts_of others ≡ parts_of hands
+    same_parts hands others lists did =
+        parts_stay shape takes (λ n before out after. runs n before (Ok out) after) (answers outs) (adds_at pieces (answers outs)) (run_puts shape cut are_enough pieces (answers outs) as_long)
+        hands others lists (lists_answer runs takes outs ok hands others lists did)
+
+  pub nothing_left : (shape : Shape) (takes : RegionHand → Type 0) (cut : Option ℕ) (are_enough : Bool) (pieces : List Piece) (outs : List Answered) → length outs ≡ length pieces → All IsOk outs
+      → ((n : ℕ) → n < length pieces → (before : RegionHand) × (after : RegionHand) × RunsTask takes (RunsPiece s A shape cut are_enough pieces) outs before n after)
       → IfNone cut (news (answers outs) ≡ [])
-  nothing_left shape takes None pieces outs long ok each = none_left s.program (answers outs) (left shape takes None pieces outs long ok each)
-  nothing_left shape takes (Some cut) pieces outs long ok each = tt
+  nothing_left shape takes None are_enough pieces outs long ok each = none_left s.program (answers outs) (left shape takes None are_enough pieces outs long ok each)
+  nothing_left shape takes (Some cut) are_enough pieces outs long ok each = tt
 
   -- ---- the rounds
 
   -- where no piece is left
-  pub held_before_none : (shape : Shape) (o : Outcome) (pieces : List Piece) (hands : List Entries) (instances : ℕ) (at : Option Path) → pieces ≡ []
+  pub held_before_none : (shape : Shape) (o : Outcome) (pieces : List Piece) (hands : List RegionHand) (instances : ℕ) (at : Option Path) → pieces ≡ []
       → Holds shape o hands instances at → Holds shape (both o (does pieces)) hands instances at
   held_before_none shape o pieces hands instances at none held =
       subst (λ x. Holds shape x hands instances at) (sym (ap (λ ps. both o (does ps)) none ∙ beside_laws.last_unit o)) held
 
   -- what a round leaves, and what is held behind it
-  pub held_through : (shape : Shape) (o : Outcome) (pieces next : List Piece) (hands others : List Entries) (n k : ℕ) (at then : Option Path) → IsRound s A shape o pieces next hands n at
+  pub held_through : (shape : Shape) (o : Outcome) (pieces next : List Piece) (hands others : List RegionHand) (n k : ℕ) (at then : Option Path) → IsRound s A shape o pieces next hands n at
       → ((q : Outcome) → Holds shape q hands n at → Holds shape (both q (does next)) others k then) → Holds shape (both o (does pieces)) others k then
   held_through shape o pieces next hands others n k at then round behind =
       subst (λ x. Holds shape x others k then) (sym round.loses_nothing) (behind round.done round.holds)

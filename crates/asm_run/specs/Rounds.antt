@@ -1,35 +1,39 @@
--- Rounds over the pieces of a region. Each task of a round opens its piece, works it whole into the hand of the worker that took it, or
--- finds it exhausted. What is opened is worked in the rounds behind.
+-- Rounds over the pieces of a region. Each task of a round opens its piece, works it whole and puts its set into the table of the region,
+-- or finds it exhausted. What is opened is worked in the rounds behind.
 --     set_of r             the set of a result that gives one
 --     news outs            the new pieces that tasks answered, in the order of the tasks
 --     tally n outs         n and the instances that tasks counted, cut off where they don't fit
 --     first_of, least      the least exhausted path of those that are known and those that tasks found
 --     Reads o U n at       the set U, n instances and the least exhausted path stand for the outcome o
---     Holds shape o hands n at      the same of the set of many hands
+--     Holds shape o hands n at      the same of the set that many hands have put
 --     Tells o out          what an answer says of the outcome of its task's piece
---     added o out          the set that its task adds to a hand
---     IsLeft cut out       new pieces are pieces, and come of a cut alone
---     IsWorked, RunsPiece  what the run of a task answers, and what it does to the hand
+--     Puts n o out more    the entries that the task n puts: those of its piece's set where it is worked whole, and else none
+--     added o out          the set of these entries
+--     IsLeft cut out       new pieces are pieces and are cut, and come of a cut alone
+--     is_opened            whether a task opens its piece
+--     IsWorked, RunsPiece  what the run of a task answers, and what it puts
 --     IsTask               the tasks of a round are numbered as its pieces are
 --     IsRound              what was held, with what the pieces do, is what is held after the round, with what the new pieces do
-use Rattle.std.specs.Prelude.{◌≡◌, ℕ, ◌+◌, ◌<◌, List, [], ◌∷◌, ◌++◌, Option, Some, None, IfSome, MatchOption, All, min, length, map, slice_get, Result, Ok, Err}
+use Rattle.std.specs.Prelude.{◌≡◌, ℕ, ◌+◌, ◌<◌, nat_le, Bool, true, false, ◌&&◌, not, List, [], ◌∷◌, ◌++◌, Option, Some, None, IfSome, MatchOption, All, min, length, map, slice_get, Result, Ok, Err}
 use Rattle.std.specs.declared.alloc.AllocError.{AllocError}
 use Rattle.asm_state.specs.Location.{State}
 use Rattle.asm_state.specs.Signature.{Shape}
 use Rattle.asm_state.specs.Updates.{UpdateSet, none}
-use Rattle.asm_updates.specs.Entries.{Entries}
-use Rattle.asm_updates.specs.Stands.{Adds}
-use Rattle.asm_updates.specs.Together.{StandTogether}
+use Rattle.asm_striped.specs.declared.board.Entry.{Entry}
+use Rattle.asm_striped.specs.Seats.{SeatState}
 use Rattle.asm_eval.specs.declared.piece.Piece.{Piece}
 use Rattle.asm_eval.specs.Does.{Outcome, both}
 use Rattle.asm_eval.specs.Formed.{greatest_count}
-use Rattle.asm_eval.specs.Pieces.{IsPiece, counting, piece_does, pieces_do}
+use Rattle.asm_eval.specs.Evaluated.{meant}
+use Rattle.asm_eval.specs.Pieces.{IsCut, IsPiece, counting, is_closed_part, piece_does, pieces_do, positions_in}
 use Rattle.asm_eval.specs.Program.{Program}
 use Rattle.asm_eval.specs.Setting.{Setting}
 use Rattle.asm_eval.specs.Yields.{Path, Gives, Exhausted, first_path}
 use Rattle.asm_eval.specs.Yields as yields
+use Rattle.asm_run.specs.declared.hand.RegionHand.{RegionHand}
 use Rattle.asm_run.specs.declared.job.RegionOut.{RegionOut}
 use Rattle.asm_run.specs.declared.job.RegionOut.TheVariants as region
+use Rattle.asm_run.specs.Hands.{AreEntriesOf, Grows, LogsStand}
 
 -- ---- what the answers of a round say together
 
@@ -77,17 +81,35 @@ abbrev pub Reads : Outcome → UpdateSet → ℕ → Option Path → Type 0
 Reads o U n None = (o.result ≡ Gives U) × (n ≡ min o.instances greatest_count)
 Reads o U n (Some p) = o.result ≡ Exhausted p
 
-pub record Holds (shape : Shape) (o : Outcome) (hands : List Entries) (instances : ℕ) (at : Option Path) : Type 0 where
+pub record Holds (shape : Shape) (o : Outcome) (hands : List RegionHand) (instances : ℕ) (at : Option Path) : Type 0 where
   pub set : UpdateSet
-  pub stand : StandTogether shape hands set
+  pub stand : LogsStand shape hands set
   pub reads : Reads o set instances at
 
 -- ---- the run of a task
 
 abbrev pub IsLeft : Program → Option ℕ → RegionOut → Type 0
-IsLeft program cut (region.Pieces pieces n) = MatchOption cut ⊥ (λ k. All (IsPiece program) pieces.items)
+IsLeft program cut (region.Pieces pieces n) = MatchOption cut ⊥ (λ k. All (IsPiece program) pieces.items × All (IsCut k) pieces.items)
 IsLeft program cut (region.Done n) = Unit {0}
 IsLeft program cut (region.Exhausted p) = Unit {0}
+
+-- no more positions than this
+abbrev pub is_within : ℕ → Option ℕ → Bool
+is_within k None = false
+is_within k (Some n) = nat_le n k
+
+abbrev pub is_short : Program → ℕ → Piece → Bool
+is_short program k piece = is_within k (positions_in program piece)
+
+-- with a cut, each piece that can be opened; where there are enough pieces, a `forall` that is short is left whole
+abbrev pub is_opened : Program → Option ℕ → (are_enough : Bool) → Piece → Bool
+is_opened program None are_enough piece = false
+is_opened program (Some k) are_enough piece = not (are_enough && is_short program k piece) && not (is_closed_part (meant piece.rule.now) piece.part)
+
+abbrev pub shows_pieces : RegionOut → Bool
+shows_pieces (region.Pieces pieces n) = true
+shows_pieces (region.Done n) = false
+shows_pieces (region.Exhausted p) = false
 
 module _ (s : Setting) (A : State) where
   abbrev pub Tells : Outcome → RegionOut → Type 0
@@ -100,14 +122,27 @@ module _ (s : Setting) (A : State) where
   added o (region.Done n) = set_of o.result
   added o (region.Exhausted p) = none
 
-  module _ (shape : Shape) (cut : Option ℕ) where
-    pub record IsWorked (o : Outcome) (before : Entries) (out : RegionOut) (after : Entries) : Type 0 where
-      pub tells : Tells o out
-      pub adds : Adds shape (added o out) before after
-      pub left : IsLeft s.program cut out
+  module _ (shape : Shape) where
+    abbrev pub Puts : ℕ → Outcome → RegionOut → List Entry → Type 0
+    Puts n o (region.Pieces pieces k) more = more ≡ []
+    Puts n o (region.Done k) more = AreEntriesOf shape n (set_of o.result) more
+    Puts n o (region.Exhausted p) more = more ≡ []
 
-    abbrev pub RunsPiece : List Piece → ℕ → Entries → RegionOut → Entries → Type 0
-    RunsPiece pieces n before out after = (piece : Piece) → slice_get pieces n ≡ Some piece → IsWorked (piece_does s A piece) before out after
+    module _ (cut : Option ℕ) where
+      pub record IsWorked (n : ℕ) (o : Outcome) (before : SeatState) (out : RegionOut) (after : SeatState) : Type 0 where
+        pub tells : Tells o out
+        pub left : IsLeft s.program cut out
+        pub more : List Entry
+        pub puts : Puts n o out more
+        pub grows : Grows before more after
+
+      -- where memory was refused, nothing was put
+      abbrev pub Leaves : (are_enough : Bool) → Piece → ℕ → RegionHand → Answered → RegionHand → Type 0
+      Leaves are_enough piece n before (Ok out) after = IsWorked n (piece_does s A piece) before.seat out after.seat × (shows_pieces out ≡ is_opened s.program cut are_enough piece)
+      Leaves are_enough piece n before (Err e) after = Grows before.seat [] after.seat
+
+      abbrev pub RunsPiece : (are_enough : Bool) → List Piece → ℕ → RegionHand → Answered → RegionHand → Type 0
+      RunsPiece are_enough pieces n before out after = (piece : Piece) → slice_get pieces n ≡ Some piece → Leaves are_enough piece n before out after
 
 -- a cut is from 1
 pub record IsTask (program : Program) (cut : Option ℕ) (pieces : List Piece) (n : ℕ) : Type 0 where
@@ -117,7 +152,7 @@ pub record IsTask (program : Program) (cut : Option ℕ) (pieces : List Piece) (
 
 -- ---- a round
 
-pub record IsRound (s : Setting) (A : State) (shape : Shape) (o : Outcome) (pieces next : List Piece) (hands : List Entries) (instances : ℕ) (at : Option Path) : Type 0 where
+pub record IsRound (s : Setting) (A : State) (shape : Shape) (o : Outcome) (pieces next : List Piece) (hands : List RegionHand) (instances : ℕ) (at : Option Path) : Type 0 where
   pub done : Outcome
   pub loses_nothing : both o (pieces_do s A pieces) ≡ both done (pieces_do s A next)
   pub holds : Holds shape done hands instances at

@@ -1,92 +1,43 @@
 //! A round over the pieces of a region, as a job of a pool.
-ghost use Rattle.std.specs.Prelude.{◌≡◌, ℕ, ◌<◌, IfOk, IfSome};
+ghost use Rattle.std.specs.Prelude.{◌≡◌, ◌<◌, IfErr, IfOk, IfSome, None, [], false};
 ghost use Rattle.asm_state.specs.Signature.{count_of};
+ghost use Rattle.asm_state.specs.Updates.{none};
+ghost use Rattle.asm_updates.specs.Stands.{Stands};
 ghost use Rattle.asm_eval.specs.Evaluated.{setting, shape_at, state_at};
 ghost use Rattle.asm_eval.specs.Pieces.{IsPiece, piece_does};
-ghost use Rattle.asm_run.specs.Rounds.{IsTask, IsWorked, RunsPiece};
+ghost use Rattle.asm_run.specs.Hands.{Grows, TakesHand};
+ghost use Rattle.asm_run.specs.Rounds.{IsTask, IsWorked, Leaves, RunsPiece, is_short};
 
+use crate::hand::RegionHand;
+use crate::put_set::put_set;
 use asm_eval::open::open_piece;
 use asm_eval::positions::positions_of;
-use asm_eval::whole_piece::whole_piece;
-use asm_eval::{Evaluation, Opened, Outcome, Path, Piece};
+use asm_eval::whole_piece::form_piece;
+use asm_eval::{Evaluation, Opened, Path, Piece, Stopped};
 use asm_pool::Job;
 use asm_reader::Picks;
-use asm_updates::summary::Summary;
+use asm_striped::Striped;
 use std::alloc::{AllocError, Global};
+use std::mem;
 
 /// What a task answers.
 #[derive(Drop)]
-pub(crate) enum RegionOut<'a> {
+pub enum RegionOut<'a> {
     /// The piece was opened: the new pieces, and how many elements were counted in opening it.
     Pieces {
         pieces: Vec<Piece<'a>>,
         instances: u64,
     },
-    /// It was worked whole, with so many elements counted, and its set is in the hand.
+    /// It was worked whole, with so many elements counted, and its set is in the table.
     Done(u64),
     /// It is exhausted at this path.
     Exhausted(Path),
 }
 
-/// Works a piece whole, and puts its set into the hand.
-fn close_piece<'a, P: Picks>(
-    alloc: Global,
-    evaluation: &Evaluation<'a, '_, P>,
-    piece: &'a Piece<'a>,
-    cut: Option<usize>,
-    hand: &mut Summary,
-) -> Result<RegionOut<'a>, AllocError>
-    requires piece { IsPiece (setting evaluation.now).program piece.now }
-    requires hand { hand.old.count ≡ count_of (shape_at evaluation.now) }
-    ensures hand { hand.new.count ≡ count_of (shape_at evaluation.now) }
-    ensures worked { let o = piece_does (setting evaluation.now) (state_at evaluation.now) piece.now in
-        IfOk result (λ out. IsWorked (setting evaluation.now) (state_at evaluation.now) (shape_at evaluation.now) cut o hand.old out hand.new) }
-{
-    match whole_piece(alloc, evaluation, piece)? {
-        Outcome::Set { set, instances } => {
-            hand.union(&set)?;
-            Ok(RegionOut::Done(instances))
-        }
-        Outcome::Exhausted(path) => Ok(RegionOut::Exhausted(path)),
-    }
-}
-
-/// Whether a piece has elements of a `forall`, and no more of them than are one piece.
-fn is_short<P: Picks>(evaluation: &Evaluation<'_, '_, P>, piece: &Piece<'_>, most: usize) -> bool
-    requires { IsPiece (setting evaluation.now).program piece.now }
-{
-    positions_of(evaluation.scene.checked, piece).is_some_and(|positions| positions <= most)
-}
-
-/// Opens a piece where there is a cut and it can be opened, or else works it whole. So is one that has too few elements to be cut, where
-/// there are enough pieces besides.
-fn work_piece<'a, P: Picks>(
-    alloc: Global,
-    evaluation: &Evaluation<'a, '_, P>,
-    piece: &'a Piece<'a>,
-    cut: Option<usize>,
-    are_enough: bool,
-    hand: &mut Summary,
-) -> Result<RegionOut<'a>, AllocError>
-    requires piece { IsPiece (setting evaluation.now).program piece.now }
-    requires cut { IfSome cut (λ k. 0 < k) }
-    requires hand { hand.old.count ≡ count_of (shape_at evaluation.now) }
-    ensures hand { hand.new.count ≡ count_of (shape_at evaluation.now) }
-    ensures worked { let o = piece_does (setting evaluation.now) (state_at evaluation.now) piece.now in
-        IfOk result (λ out. IsWorked (setting evaluation.now) (state_at evaluation.now) (shape_at evaluation.now) cut o hand.old out hand.new) }
-{
-    if let Some(most) = cut
-        && !(are_enough && is_short(evaluation, piece, most))
-        && let Opened::Pieces { pieces, instances } = open_piece(alloc, evaluation, piece, most)?
-    {
-        return Ok(RegionOut::Pieces { pieces, instances });
-    }
-    close_piece(alloc, evaluation, piece, cut, hand)
-}
-
-/// The pieces of a round.
+/// The pieces of a round. A task has the number of its piece. It opens the piece, or works it whole and puts its set into the table of the
+/// region.
 #[derive(Drop)]
-pub(crate) struct RegionJob<'a, P: Picks> {
+pub struct RegionJob<'a, P: Picks> {
     pub alloc: Global,
     pub evaluation: &'a Evaluation<'a, 'a, P>,
     pub pieces: &'a [Piece<'a>],
@@ -94,28 +45,142 @@ pub(crate) struct RegionJob<'a, P: Picks> {
     pub cut: Option<usize>,
     /// There are enough pieces for all workers: a `forall` that isn't longer than the cut is worked whole.
     pub are_enough: bool,
+    pub striped: &'a Striped,
+}
+
+impl<'a, P: Picks> RegionJob<'a, P> {
+    /// A round that opens each piece that can be opened, or one that works all of them whole where there is no cut. It takes no memory.
+    pub fn new(
+        alloc: Global,
+        evaluation: &'a Evaluation<'a, 'a, P>,
+        pieces: &'a [Piece<'a>],
+        cut: Option<usize>,
+        striped: &'a Striped,
+    ) -> RegionJob<'a, P>
+        ensures evaluation { result.evaluation ≡ evaluation }
+        ensures pieces { result.pieces ≡ pieces }
+        ensures cut { result.cut ≡ cut }
+        ensures opens_all { result.are_enough ≡ false }
+        ensures striped { result.striped ≡ striped }
+    {
+        RegionJob {
+            alloc,
+            evaluation,
+            pieces,
+            cut,
+            are_enough: false,
+            striped,
+        }
+    }
+}
+
+/// Forms the set of a piece where the hand forms sets, and puts it into the table.
+fn put_piece<'a, P: Picks>(
+    job: &RegionJob<'_, P>,
+    piece: &Piece<'_>,
+    task: u64,
+    hand: &mut RegionHand,
+) -> Result<RegionOut<'a>, AllocError>
+    requires piece { IsPiece (setting job.now.evaluation.now).program piece.now }
+    requires count { job.now.striped.now.count ≡ count_of (shape_at job.now.evaluation.now) }
+    requires hand { TakesHand (shape_at job.now.evaluation.now) job.now.striped.now.table hand.old }
+    ensures count { hand.new.own.set.count ≡ hand.old.own.set.count }
+    ensures worked { let at = job.now.evaluation.now in let o = piece_does (setting at) (state_at at) piece.now in
+        IfOk result (λ out. IsWorked (setting at) (state_at at) (shape_at at) None task o hand.old.seat out hand.new.seat) }
+    ensures refused { IfErr result (λ _. Grows hand.old.seat [] hand.new.seat) }
+{
+    hand.own.instances = 0;
+    match form_piece(job.alloc, job.evaluation, piece, &mut hand.own) {
+        Ok(()) => {
+            put_set(job.striped, &mut hand.seat, task, &hand.own.set);
+            Ok(RegionOut::Done(hand.own.instances))
+        }
+        Err(Stopped::Exhausted) => {
+            let path = mem::replace(&mut hand.own.path, Vec::new(job.alloc));
+            Ok(RegionOut::Exhausted(Path::new(path)))
+        }
+        Err(Stopped::Memory) => Err(AllocError),
+    }
+}
+
+/// Works a piece whole.
+fn close_piece<'a, P: Picks>(
+    job: &RegionJob<'_, P>,
+    piece: &Piece<'_>,
+    task: u64,
+    hand: &mut RegionHand,
+) -> Result<RegionOut<'a>, AllocError>
+    requires piece { IsPiece (setting job.now.evaluation.now).program piece.now }
+    requires count { job.now.striped.now.count ≡ count_of (shape_at job.now.evaluation.now) }
+    requires hand { TakesHand (shape_at job.now.evaluation.now) job.now.striped.now.table hand.old }
+    ensures hand { TakesHand (shape_at job.now.evaluation.now) job.now.striped.now.table hand.new }
+    ensures worked { let at = job.now.evaluation.now in let o = piece_does (setting at) (state_at at) piece.now in
+        IfOk result (λ out. IsWorked (setting at) (state_at at) (shape_at at) None task o hand.old.seat out hand.new.seat) }
+    ensures refused { IfErr result (λ _. Grows hand.old.seat [] hand.new.seat) }
+{
+    let worked = put_piece(job, piece, task, hand);
+    hand.own.set.clear();
+    worked
+}
+
+/// Whether a piece has elements of a `forall`, and no more of them than are one piece.
+fn is_short_piece<P: Picks>(
+    evaluation: &Evaluation<'_, '_, P>,
+    piece: &Piece<'_>,
+    most: usize,
+) -> bool
+    requires { IsPiece (setting evaluation.now).program piece.now }
+    ensures { result ≡ is_short (setting evaluation.now).program most piece.now }
+{
+    match positions_of(evaluation.scene.checked, piece) {
+        Some(positions) => positions <= most,
+        None => false,
+    }
+}
+
+/// Opens a piece where there is a cut and it can be opened, or else works it whole. So is one that has too few elements to be cut, where
+/// there are enough pieces besides.
+fn work_piece<'a, P: Picks>(
+    job: &RegionJob<'a, P>,
+    piece: &'a Piece<'a>,
+    task: u64,
+    hand: &mut RegionHand,
+) -> Result<RegionOut<'a>, AllocError>
+    requires piece { IsPiece (setting job.now.evaluation.now).program piece.now }
+    requires cut { IfSome job.now.cut (λ k. 0 < k) }
+    requires count { job.now.striped.now.count ≡ count_of (shape_at job.now.evaluation.now) }
+    requires hand { TakesHand (shape_at job.now.evaluation.now) job.now.striped.now.table hand.old }
+    ensures hand { TakesHand (shape_at job.now.evaluation.now) job.now.striped.now.table hand.new }
+    ensures leaves { let at = job.now.evaluation.now in
+        Leaves (setting at) (state_at at) (shape_at at) job.now.cut job.now.are_enough piece.now task hand.old result hand.new }
+{
+    if let Some(most) = job.cut
+        && !(job.are_enough && is_short_piece(job.evaluation, piece, most))
+        && let Opened::Pieces { pieces, instances } = open_piece(
+            job.alloc,
+            job.evaluation,
+            piece,
+            most,
+        )?
+    {
+        return Ok(RegionOut::Pieces { pieces, instances });
+    }
+    close_piece(job, piece, task, hand)
 }
 
 impl<'a, P: Picks> Job for RegionJob<'a, P> {
-    type Hand = Summary;
+    type Hand = RegionHand;
 
     type Out = Result<RegionOut<'a>, AllocError>;
 
-    ghost has_task = { λ job n. IsTask (setting job.evaluation.now).program job.cut job.pieces.now n };
+    ghost has_task = { λ job n. IsTask (setting job.evaluation.now).program job.cut job.pieces.now n × (job.striped.now.count ≡ count_of (shape_at job.evaluation.now)) };
 
-    ghost takes_hand = { λ job hand. hand.count ≡ count_of (shape_at job.evaluation.now) };
+    ghost takes_hand = { λ job hand. TakesHand (shape_at job.evaluation.now) job.striped.now.table hand };
 
-    ghost runs = { λ job n before out after. IfOk out (λ r. RunsPiece (setting job.evaluation.now) (state_at job.evaluation.now) (shape_at job.evaluation.now) job.cut job.pieces.now n before r after) };
+    ghost runs = { λ job n before out after. RunsPiece (setting job.evaluation.now) (state_at job.evaluation.now) (shape_at job.evaluation.now) job.cut job.are_enough job.pieces.now n before out after };
 
-    fn run(&self, n: usize, hand: &mut Summary) -> Result<RegionOut<'a>, AllocError> {
+    fn run(&self, n: usize, hand: &mut RegionHand) -> Result<RegionOut<'a>, AllocError> {
         let pieces = self.pieces;
-        work_piece(
-            self.alloc,
-            self.evaluation,
-            &pieces[n],
-            self.cut,
-            self.are_enough,
-            hand,
-        )
+        work_piece(self, &pieces[n], n as u64, hand)
     }
 }

@@ -1,5 +1,5 @@
 //! Regions worked by many workers.
-ghost use Rattle.std.specs.Prelude.{◌≡◌, ◌<◌, ◌≤◌, IfOk, IsTrue};
+ghost use Rattle.std.specs.Prelude.{◌≡◌, IfOk, IsTrue};
 ghost use Rattle.asm_syntax.specs.PlainTree as plain;
 ghost use Rattle.asm_syntax.specs.Views.{spec_of, rule_of};
 ghost use Rattle.asm_state.specs.Signature.{count_of};
@@ -14,7 +14,7 @@ ghost use Rattle.asm_run.specs.Limits.{are_in_range};
 use crate::add_set::add_set;
 use crate::limits::Limits;
 use crate::region::work_region;
-use crate::rounds::Region;
+use crate::rounds::Shares;
 use asm_check::Checked;
 use asm_eval::form::form;
 use asm_eval::whole::whole;
@@ -32,10 +32,7 @@ use std::thread::Threads;
 pub struct Pooled<'r, R, G> {
     rt: &'r R,
     gate: &'r G,
-    lanes: usize,
-    cut: usize,
-    rounds: u32,
-    ghost in_range: { (0 < lanes) × (lanes ≤ 32) × (0 < cut) },
+    shares: Shares,
 }
 
 impl<'r, R: Threads + Sync, G: Gate + Sync> Pooled<'r, R, G> {
@@ -46,9 +43,11 @@ impl<'r, R: Threads + Sync, G: Gate + Sync> Pooled<'r, R, G> {
         Pooled {
             rt,
             gate,
-            lanes: limits.workers as usize,
-            cut: limits.cut as usize,
-            rounds: limits.rounds,
+            shares: Shares {
+                workers: limits.workers as usize,
+                cut: limits.cut as usize,
+                rounds: limits.rounds,
+            },
         }
     }
 
@@ -69,7 +68,7 @@ impl<'r, R: Threads + Sync, G: Gate + Sync> Pooled<'r, R, G> {
         ensures { let o = does (program checked.now) turns (P.script choices.now.script.now) choices.now.step (shown view.now) (environment env.now) path.now (plain.plain_rule (rule_of rule.now)) in
             IfOk result (IsFormed view.now.signature.now o) }
     {
-        if self.lanes == 1 {
+        if self.shares.workers == 1 {
             return whole(alloc, checked, view, env, rule, choices, path, turns);
         }
         self.work(alloc, checked, view, env, rule, choices, path, turns)
@@ -91,7 +90,7 @@ impl<'r, R: Threads + Sync, G: Gate + Sync> Pooled<'r, R, G> {
         ensures { let o = does (program checked.now) turns (P.script choices.now.script.now) choices.now.step (shown view.now) (environment env.now) path.now (plain.plain_rule (rule_of rule.now)) in
             IfOk result (IsFormed view.now.signature.now o) }
     {
-        if self.lanes == 1 {
+        if self.shares.workers == 1 {
             return whole(alloc, checked, view, env, rule, choices, path, turns);
         }
         let regions = |alloc: Global, view: &View<'_>, env: &Env<
@@ -120,7 +119,7 @@ impl<'r, R: Threads + Sync, G: Gate + Sync> Pooled<'r, R, G> {
         requires { Fits evaluation.now made.old }
         ensures { Follows (shape_at evaluation.now) (outcome_at evaluation.now env.now made.old.path.items (meant rule.now)) made.old made.new result }
     {
-        if self.lanes == 1 {
+        if self.shares.workers == 1 {
             return form(alloc, evaluation, env, rule, made);
         }
         let checked = evaluation.scene.checked;
@@ -194,11 +193,6 @@ impl<'r, R: Threads + Sync, G: Gate + Sync> Pooled<'r, R, G> {
             choices,
             turns,
         };
-        let region = Region {
-            evaluation: &evaluation,
-            lanes: self.lanes,
-            cut: self.cut,
-        };
         let mut pieces = Vec::with_capacity(alloc, 1)?;
         pieces.push(Piece {
             rule,
@@ -209,8 +203,8 @@ impl<'r, R: Threads + Sync, G: Gate + Sync> Pooled<'r, R, G> {
         match work_region(
             self.rt,
             alloc,
-            &region,
-            self.rounds,
+            &evaluation,
+            self.shares,
             pieces.as_slice(),
             self.gate,
         ) {

@@ -4,46 +4,46 @@ ghost use Rattle.asm_eval.specs.Evaluated.{setting, shape_at, state_at};
 ghost use Rattle.asm_eval.specs.Formed.{IsFormed};
 ghost use Rattle.asm_eval.specs.Pieces.{IsPiece, pieces_do};
 
-use crate::rounds::{Region, SoFar, work_rounds};
-use asm_eval::{Outcome, Piece};
+use crate::hand::{join_hands, split_hands};
+use crate::rounds::{Region, Shares, SoFar, work_rounds};
+use asm_eval::{Evaluation, Outcome, Piece};
 use asm_pool::{Gate, PoolError};
 use asm_reader::Picks;
-use asm_updates::hands::{empty_hands, unite};
+use asm_striped::Striped;
 use std::alloc::Global;
 use std::thread::Threads;
 
-/// What the pieces yield beside each other.
+/// What the pieces yield beside each other. The workers put it into a table, which this thread opens, and closes behind the last round.
 pub(crate) fn work_region<'a, R: Threads + Sync, G: Gate + Sync, P: Picks + Sync>(
     rt: &R,
     alloc: Global,
-    region: &Region<'a, P>,
-    rounds: u32,
+    evaluation: &'a Evaluation<'a, 'a, P>,
+    shares: Shares,
     pieces: &'a [Piece<'a>],
     gate: &G,
 ) -> Result<Outcome, PoolError>
-    requires { All (IsPiece (setting region.now.evaluation.now).program) pieces.now }
-    ensures { let at = region.now.evaluation.now in IfOk result (IsFormed (shape_at at) (pieces_do (setting at) (state_at at) pieces.now)) }
+    requires { All (IsPiece (setting evaluation.now).program) pieces.now }
+    ensures { let at = evaluation.now in IfOk result (IsFormed (shape_at at) (pieces_do (setting at) (state_at at) pieces.now)) }
 {
-    let evaluation = region.evaluation;
-    let view = evaluation.scene.view;
-    let signature = view.signature;
-    let count = signature.count();
-    let empty = empty_hands(alloc, region.lanes, count)?;
+    let signature = evaluation.scene.view.signature;
+    let (striped, mut seat) = Striped::open(alloc, signature.count(), shares.workers as u64 + 1)?;
+    let region = Region {
+        evaluation,
+        striped: &striped,
+        shares,
+    };
     let none = SoFar {
-        hands: empty,
+        hands: split_hands(alloc, &striped, &mut seat, signature, shares.workers)?,
         instances: 0,
         exhausted: None,
     };
-    let SoFar {
-        hands,
-        instances,
-        exhausted,
-    } = work_rounds(rt, alloc, region, rounds, pieces, none, gate)?;
-    match exhausted {
-        Some(path) => Ok(Outcome::Exhausted(path)),
-        None => {
-            let set = unite(alloc, count, hands)?;
-            Ok(Outcome::Set { set, instances })
-        }
+    let worked = work_rounds(rt, alloc, &region, shares.rounds, pieces, none, gate)?;
+    if let Some(path) = worked.exhausted {
+        return Ok(Outcome::Exhausted(path));
     }
+    join_hands(&striped, &mut seat, worked.hands);
+    Ok(Outcome::Set {
+        set: striped.close(alloc, seat)?,
+        instances: worked.instances,
+    })
 }

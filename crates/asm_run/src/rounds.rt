@@ -4,15 +4,17 @@ ghost use Rattle.asm_state.specs.Signature.{count_of};
 ghost use Rattle.asm_eval.specs.Does as does;
 ghost use Rattle.asm_eval.specs.Evaluated.{setting, shape_at, state_at};
 ghost use Rattle.asm_eval.specs.Pieces.{IsPiece, pieces_do};
+ghost use Rattle.asm_run.specs.Hands.{TakesHand, parts_of};
 ghost use Rattle.asm_run.specs.Rounds.{Holds, IsRound, answers, first_of, least, news, tally};
 
+use crate::hand::RegionHand;
 use crate::job::{RegionJob, RegionOut};
 use asm_check::shared::checked_is_shared;
 use asm_eval::shared::views_and_pieces_are_shared;
 use asm_eval::{Evaluation, Path, Piece};
 use asm_pool::{Gate, PoolError, work};
 use asm_reader::Picks;
-use asm_updates::summary::Summary;
+use asm_striped::Striped;
 use std::alloc::{AllocError, Global};
 use std::thread::Threads;
 
@@ -81,21 +83,31 @@ fn collect<'a>(
 /// What the rounds so far have formed.
 #[derive(Drop)]
 pub(crate) struct SoFar {
-    /// The set, of which each worker has a part.
-    pub hands: Vec<Summary>,
+    /// Each worker's, with what it has put of the set.
+    pub hands: Vec<RegionHand>,
     /// Cut off where the number doesn't fit.
     pub instances: u64,
     /// The least path at which a piece is exhausted.
     pub exhausted: Option<Path>,
 }
 
+/// How the work of a region is shared.
+#[derive(Clone, Copy, Debug)]
+pub(crate) struct Shares {
+    pub workers: usize,
+    /// At most so many elements of a `forall` are one piece.
+    pub cut: usize,
+    /// In so many rounds pieces are opened.
+    pub rounds: u32,
+    pub ghost in_range: { (0 < workers) × (workers ≤ 32) × (0 < cut) },
+}
+
 /// What stays the same over the rounds of a region.
 #[derive(Drop)]
 pub(crate) struct Region<'a, P: Picks> {
     pub evaluation: &'a Evaluation<'a, 'a, P>,
-    pub lanes: usize,
-    pub cut: usize,
-    pub ghost in_range: { (0 < lanes) × (lanes ≤ 32) × (0 < cut) },
+    pub striped: &'a Striped,
+    pub shares: Shares,
 }
 
 /// What a round leaves: the pieces that are still to be worked, and what was formed.
@@ -118,33 +130,23 @@ fn work_round<'a, R: Threads + Sync, G: Gate + Sync, P: Picks + Sync>(
 ) -> Result<Round<'a>, PoolError>
     requires pieces { All (IsPiece (setting region.now.evaluation.now).program) pieces.now }
     requires cut { IfSome cut (λ k. 0 < k) }
-    requires hands { vec_len so_far.hands ≡ region.now.lanes }
-    requires fit { All (λ s. s.count ≡ count_of (shape_at region.now.evaluation.now)) so_far.hands.items }
+    requires hands { vec_len so_far.hands ≡ region.now.shares.workers }
+    requires fit { All (TakesHand (shape_at region.now.evaluation.now) region.now.striped.now.table) so_far.hands.items }
+    requires count { region.now.striped.now.count ≡ count_of (shape_at region.now.evaluation.now) }
     ensures pieces { IfOk result (λ r. All (IsPiece (setting region.now.evaluation.now).program) r.next.items) }
     ensures whole { IfOk result (λ r. IfNone cut (r.next.items ≡ [])) }
-    ensures hands { IfOk result (λ r. vec_len r.so_far.hands ≡ region.now.lanes) }
-    ensures fit { IfOk result (λ r. All (λ s. s.count ≡ count_of (shape_at region.now.evaluation.now)) r.so_far.hands.items) }
+    ensures hands { IfOk result (λ r. vec_len r.so_far.hands ≡ region.now.shares.workers) }
+    ensures parts { IfOk result (λ r. parts_of r.so_far.hands.items ≡ parts_of so_far.hands.items) }
+    ensures fit { IfOk result (λ r. All (TakesHand (shape_at region.now.evaluation.now) region.now.striped.now.table) r.so_far.hands.items) }
     ensures holds { let at = region.now.evaluation.now in IfOk result (λ r. (o : does.Outcome) → Holds (shape_at at) o so_far.hands.items so_far.instances so_far.exhausted
         → IsRound (setting at) (state_at at) (shape_at at) o pieces.now r.next.items r.so_far.hands.items r.so_far.instances r.so_far.exhausted) }
 {
     checked_is_shared();
     views_and_pieces_are_shared();
-    let job = RegionJob {
-        alloc,
-        evaluation: region.evaluation,
-        pieces,
-        cut,
-        are_enough: region.lanes * ENOUGH <= pieces.len(),
-    };
-    let worked = work(
-        rt,
-        alloc,
-        region.lanes,
-        pieces.len(),
-        &job,
-        so_far.hands,
-        gate,
-    )?;
+    let workers = region.shares.workers;
+    let mut job = RegionJob::new(alloc, region.evaluation, pieces, cut, region.striped);
+    job.are_enough = workers * ENOUGH <= pieces.len();
+    let worked = work(rt, alloc, workers, pieces.len(), &job, so_far.hands, gate)?;
     let all = collect(alloc, worked.outs, so_far.instances, so_far.exhausted)?;
     Ok(Round {
         next: all.next,
@@ -169,9 +171,11 @@ pub(crate) fn work_rounds<'a, R: Threads + Sync, G: Gate + Sync, P: Picks + Sync
     gate: &G,
 ) -> Result<SoFar, PoolError>
     requires pieces { All (IsPiece (setting region.now.evaluation.now).program) pieces.now }
-    requires hands { vec_len so_far.hands ≡ region.now.lanes }
-    requires fit { All (λ s. s.count ≡ count_of (shape_at region.now.evaluation.now)) so_far.hands.items }
-    ensures fit { IfOk result (λ r. All (λ s. s.count ≡ count_of (shape_at region.now.evaluation.now)) r.hands.items) }
+    requires hands { vec_len so_far.hands ≡ region.now.shares.workers }
+    requires fit { All (TakesHand (shape_at region.now.evaluation.now) region.now.striped.now.table) so_far.hands.items }
+    requires count { region.now.striped.now.count ≡ count_of (shape_at region.now.evaluation.now) }
+    ensures fit { IfOk result (λ r. All (TakesHand (shape_at region.now.evaluation.now) region.now.striped.now.table) r.hands.items) }
+    ensures parts { IfOk result (λ r. parts_of r.hands.items ≡ parts_of so_far.hands.items) }
     ensures holds { let at = region.now.evaluation.now in IfOk result (λ r. (o : does.Outcome) → Holds (shape_at at) o so_far.hands.items so_far.instances so_far.exhausted
         → Holds (shape_at at) (does.both o (pieces_do (setting at) (state_at at) pieces.now)) r.hands.items r.instances r.exhausted) }
 {
@@ -182,7 +186,7 @@ pub(crate) fn work_rounds<'a, R: Threads + Sync, G: Gate + Sync, P: Picks + Sync
         let last = work_round(rt, alloc, region, None, pieces, so_far, gate)?;
         return Ok(last.so_far);
     }
-    let cut = Some(region.cut);
+    let cut = Some(region.shares.cut);
     let Round { next, so_far } = work_round(rt, alloc, region, cut, pieces, so_far, gate)?;
     work_rounds(rt, alloc, &*region, left - 1, next.as_slice(), so_far, gate)
 }

@@ -5,7 +5,6 @@ use crate::plain::{
     Entry, FIVE, FOUR, NOTHING, ONE, Plain, THREE, TWO, has_contents, has_entries, summary_of,
     value,
 };
-use asm_updates::hands::{empty_hands, unite};
 use asm_updates::summary::Summary;
 use std::alloc::{AllocError, Global};
 use std::test::Fail;
@@ -22,15 +21,6 @@ static LATER: [Entry; 2] = [(2, THREE, FOUR), (1, FIVE, FIVE)];
 static MERGED: [Entry; 3] = [(0, ONE, ONE), (1, FIVE, FIVE), (2, THREE, FOUR)];
 
 static UNITED: [Entry; 3] = [(0, ONE, ONE), (1, TWO, FIVE), (2, THREE, FOUR)];
-
-static LAST: [Entry; 2] = [(3, ONE, ONE), (2, FIVE, FIVE)];
-
-static GATHERED: [Entry; 4] = [
-    (0, ONE, ONE),
-    (1, TWO, FIVE),
-    (2, THREE, FIVE),
-    (3, ONE, ONE),
-];
 
 fn earlier(alloc: Global) -> Result<Summary, AllocError>
     ensures { IfOk result (λ s. s.count ≡ LOCATIONS) }
@@ -94,22 +84,6 @@ fn unites(alloc: Global) -> Result<bool, AllocError> {
 #[test]
 fn a_union_has_both_values(rt: HostRuntime) -> Result<(), Fail> {
     assert!(rt; unites(rt.alloc())?);
-    Ok(())
-}
-
-/// Whether three sets in the hands of as many workers are united, with that of one who adds nothing.
-fn unites_hands(alloc: Global) -> Result<bool, AllocError> {
-    let mut hands = empty_hands(alloc, 1, LOCATIONS)?;
-    hands.push(earlier(alloc)?)?;
-    hands.push(later(alloc)?)?;
-    hands.push(summary_of(alloc, LOCATIONS, &LAST)?)?;
-    let set = unite(alloc, LOCATIONS, hands)?;
-    Ok(has_entries(&set, &GATHERED))
-}
-
-#[test]
-fn hands_are_united(rt: HostRuntime) -> Result<(), Fail> {
-    assert!(rt; unites_hands(rt.alloc())?);
     Ok(())
 }
 

@@ -7,6 +7,6 @@ pub mod Orders
 pub mod SomeSet
 pub mod Standing
 pub mod StandingLaws
-pub mod Together
+pub mod Unions
 pub mod Widened
 pub mod Widening

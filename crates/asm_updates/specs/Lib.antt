@@ -2,6 +2,6 @@ pub mod Entries
 pub mod Stands
 pub mod Faults
 pub mod StandingLaws
-pub mod Together
-pub mod TogetherLaws
+pub mod Unions
+pub mod UnitedLaws
 pub mod EntryLists

@@ -1,7 +1,7 @@
-//! Laws of summaries, and of many together.
+//! Laws of summaries, of unions, and of lists of entries.
 ghost use Rattle.asm_updates.specs.EntryLists.{OrderFree, EntryListLaws};
 ghost use Rattle.asm_updates.specs.StandingLaws.{StandingLaws};
-ghost use Rattle.asm_updates.specs.TogetherLaws.{UnitedLaws, TogetherLaws};
+ghost use Rattle.asm_updates.specs.UnitedLaws.{UnitedLaws};
 
 /// Which sets a summary stands for is said by its entries alone.
 pub fn standing_laws()
@@ -11,11 +11,6 @@ pub fn standing_laws()
 /// The union of many sets is that of its parts, in any order.
 pub fn united_laws()
     ensures { UnitedLaws }
-{}
-
-/// What is added to each of some summaries is added to what they stand for together.
-pub fn together_laws()
-    ensures { TogetherLaws }
 {}
 
 /// The summary of a list of entries is that of each rearrangement of it.

@@ -2,7 +2,6 @@
 #![tactic(auto)]
 
 pub mod fault;
-pub mod hands;
 pub mod laws;
 mod ranges;
 pub mod summary;

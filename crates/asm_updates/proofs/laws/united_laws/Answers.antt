@@ -1,4 +1,4 @@
-use Rattle.asm_updates.proofs.Together.{united_laws}
+use Rattle.asm_updates.proofs.Unions.{united_laws}
 use Rattle.asm_updates.proofs.laws.united_laws.Goals as goal
 
 pub returns : goal.returns
