@@ -14,22 +14,13 @@ use Rattle.asm_striped.specs.Seats.{SeatState}
 use Rattle.asm_run.specs.declared.hand.RegionHand.{RegionHand}
 use Rattle.asm_run.specs.Hands.{Grows, LogStands, LogsStand, parts_of}
 use Rattle.asm_run.proofs.Logs.{both_put, nothing_put}
+use Rattle.asm_run.proofs.Putting.{grows_both, grows_none}
 
 -- a seat has put entries of this set
 pub record PutsSet (shape : Shape) (before : SeatState) (V : UpdateSet) (after : SeatState) : Type 0 where
   pub more : List Entry
   pub grows : Grows before more after
   pub stands : LogStands shape more V
-
-grows_none : (s : SeatState) → Grows s [] s
-grows_none s = record { table = refl; parts = refl; log = sym (append-nil s.log) }
-
-grows_both : (s t u : SeatState) (more others : List Entry) → Grows s more t → Grows t others u → Grows s (more ++ others) u
-grows_both s t u more others first second = record {
-  table = second.table ∙ first.table;
-  parts = second.parts ∙ first.parts;
-  log = second.log ∙ ap (λ l. l ++ others) first.log ∙ append_assoc s.log more others;
-}
 
 -- ---- unions
 

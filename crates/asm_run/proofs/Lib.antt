@@ -10,6 +10,8 @@ pub mod Ranges
 mod Reached
 pub mod Running
 pub mod Answered
+pub mod Logs
+pub mod Putting
 pub mod Hands
 pub mod RoundLaw
 pub mod Crossing

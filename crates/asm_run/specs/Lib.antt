@@ -5,6 +5,7 @@ pub mod Refusal
 pub mod Trace
 pub mod Traces
 pub mod Written
+pub mod Hands
 pub mod Headline
 pub mod Exclusion
 pub mod Step

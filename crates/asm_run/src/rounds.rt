@@ -144,8 +144,14 @@ fn work_round<'a, R: Threads + Sync, G: Gate + Sync, P: Picks + Sync>(
     checked_is_shared();
     views_and_pieces_are_shared();
     let workers = region.shares.workers;
-    let mut job = RegionJob::new(alloc, region.evaluation, pieces, cut, region.striped);
-    job.are_enough = workers * ENOUGH <= pieces.len();
+    let job = RegionJob {
+        alloc,
+        evaluation: region.evaluation,
+        pieces,
+        cut,
+        are_enough: workers * ENOUGH <= pieces.len(),
+        striped: region.striped,
+    };
     let worked = work(rt, alloc, workers, pieces.len(), &job, so_far.hands, gate)?;
     let all = collect(alloc, worked.outs, so_far.instances, so_far.exhausted)?;
     Ok(Round {

@@ -6,6 +6,7 @@ use Rattle.asm_updates.specs.EntryLists.{IsSummaryOf}
 use Rattle.asm_striped.specs.declared.board.Entry.{Entry}
 use Rattle.asm_striped.specs.Log.{AreValuesOf}
 use Rattle.asm_striped.specs.LogLaws.{LogLaws}
+use Rattle.asm_striped.proofs.Ranges.{code_is_no_mark}
 
 one_list : (log : List Entry) (es fs : NamedRanges) → AreValuesOf log es → AreValuesOf log fs → es ≡ fs
 one_list [] [] [] a b = refl
@@ -28,6 +29,7 @@ of_append (e ∷ log) more (x ∷ es) fs (at, low, high, rest) b = (at, low, hig
 
 pub log_laws : LogLaws
 log_laws = record {
+  no_mark = code_is_no_mark;
   one_list = one_list;
   of_append = of_append;
   summary = λ log es s is are. subst (λ l. IsSummaryOf l s) (one_list log is.entries es is.are_values are) is.is_summary;

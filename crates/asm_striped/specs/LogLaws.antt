@@ -1,11 +1,13 @@
 -- Laws of logs and the entries with the values whose codes they have.
-use Rattle.std.specs.Prelude.{◌≡◌, List, ◌++◌}
+use Rattle.std.specs.Prelude.{◌≡◌, ℕ, ◌<◌, List, ◌++◌}
 use Rattle.asm_updates.specs.Entries.{Entries, NamedRanges}
 use Rattle.asm_updates.specs.EntryLists.{IsSummaryOf}
 use Rattle.asm_striped.specs.declared.board.Entry.{Entry}
-use Rattle.asm_striped.specs.Log.{AreValuesOf, IsSummaryOfLog}
+use Rattle.asm_striped.specs.Log.{AreValuesOf, IsCode, IsSummaryOfLog, high_mark, low_mark}
 
 pub record LogLaws : Type 0 where
+  -- each code lies between the two words of a location where nothing was put
+  pub no_mark : (code : ℕ) → IsCode code → (high_mark < code) × (code < low_mark)
   -- codes tell values apart
   pub one_list : (log : List Entry) (es fs : NamedRanges) → AreValuesOf log es → AreValuesOf log fs → es ≡ fs
   -- one log after another

@@ -19,8 +19,8 @@ impl ShowsLogs for Board {
     fn rule_laws() {}
 }
 
-/// The codes in a log are those of one list of values, logs one after another have the values of both, and the summary of
-/// a log is that of its values.
+/// No code is a word of a location where nothing was put. The codes in a log are those of one list of values, logs one after
+/// another have the values of both, and the summary of a log is that of its values.
 pub fn log_laws()
     ensures { LogLaws }
 {}

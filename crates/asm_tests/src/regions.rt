@@ -4,4 +4,5 @@ mod outcomes;
 mod questions;
 mod rows;
 mod runs;
+mod tasks;
 mod upon;

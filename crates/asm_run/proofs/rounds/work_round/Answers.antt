@@ -3,14 +3,13 @@ use denote.Param.Send.{sendable}
 use mir.Syntax.{erased}
 use Rattle.std.proofs.Common.{◌≡◌, List, [], All, map, length, sym, subst, arith}
 use Rattle.std.specs.Prelude.{IfNone}
-use Rattle.asm_state.specs.Signature.{count_of}
-use Rattle.asm_updates.specs.Entries.{Entries}
 use Rattle.asm_eval.specs.Evaluated.{setting, shape_at, state_at}
 use Rattle.asm_eval.specs.Pieces.{IsPiece}
 use Rattle.asm_eval.specs.declared.piece.Piece.{Piece}
+use Rattle.asm_run.specs.Hands.{TakesHand}
 use Rattle.asm_run.specs.Rounds.{IsRound, answers, news, tally}
 use Rattle.asm_run.proofs.Crossing.{job_shared, out_sent}
-use Rattle.asm_run.proofs.RoundLaw.{new_are_pieces, nothing_left, round_law}
+use Rattle.asm_run.proofs.RoundLaw.{new_are_pieces, nothing_left, round_law, same_parts}
 use Rattle.asm_run.proofs.rounds.work_round.Goals as goal
 
 pub work-requires-send-O : goal.work-requires-send-O
@@ -32,7 +31,7 @@ returns-clause-pieces g c =
     let worked = c.in_ok-worked.worked in
     let long : length worked.outs.items ≡ length a.pieces.now = omega (arith, c.in_ok-worked.ensures.len.0, worked.outs.ok) in
     subst (λ (ps : List Piece). All (IsPiece (setting at).program) ps) (sym c.in_ok-all.ensures.next)
-    (new_are_pieces (setting at) (state_at at) (shape_at at) (λ (hand : Entries). hand.count ≡ count_of (shape_at at)) a.cut a.pieces.now worked.outs.items long
+    (new_are_pieces (setting at) (state_at at) (shape_at at) (TakesHand (shape_at at) a.region.now.striped.now.table) a.cut c.job.are_enough a.pieces.now worked.outs.items long
     c.in_ok-all.ensures.ok c.in_ok-worked.ensures.outs)
 
 pub returns-clause-whole : goal.returns-clause-whole
@@ -42,8 +41,17 @@ returns-clause-whole g c =
     let worked = c.in_ok-worked.worked in
     let long : length worked.outs.items ≡ length a.pieces.now = omega (arith, c.in_ok-worked.ensures.len.0, worked.outs.ok) in
     subst (λ (ps : List Piece). IfNone a.cut (ps ≡ [])) (sym c.in_ok-all.ensures.next)
-    (nothing_left (setting at) (state_at at) (shape_at at) (λ (hand : Entries). hand.count ≡ count_of (shape_at at)) a.cut a.pieces.now worked.outs.items long
+    (nothing_left (setting at) (state_at at) (shape_at at) (TakesHand (shape_at at) a.region.now.striped.now.table) a.cut c.job.are_enough a.pieces.now worked.outs.items long
     c.in_ok-all.ensures.ok c.in_ok-worked.ensures.outs)
+
+pub returns-clause-parts : goal.returns-clause-parts
+returns-clause-parts g c =
+    let a = c.args in
+    let at = a.region.now.evaluation.now in
+    let worked = c.in_ok-worked.worked in
+    let long : length worked.outs.items ≡ length a.pieces.now = omega (arith, c.in_ok-worked.ensures.len.0, worked.outs.ok) in
+    same_parts (setting at) (state_at at) (shape_at at) (TakesHand (shape_at at) a.region.now.striped.now.table) a.cut c.job.are_enough a.pieces.now worked.outs.items long
+    c.in_ok-all.ensures.ok c.in_ok-worked.ensures.outs a.so_far.hands.items worked.hands.items (map (λ list. list.items) worked.lists.items) c.in_ok-worked.ensures.hands
 
 pub returns-clause-holds : goal.returns-clause-holds
 returns-clause-holds g c o held =
@@ -53,7 +61,7 @@ returns-clause-holds g c o held =
     let outs = worked.outs.items in
     let all = c.in_ok-all.all in
     let long : length outs ≡ length a.pieces.now = omega (arith, c.in_ok-worked.ensures.len.0, worked.outs.ok) in
-    let law = round_law (setting at) (state_at at) (shape_at at) (λ (hand : Entries). hand.count ≡ count_of (shape_at at)) a.cut a.pieces.now outs long
+    let law = round_law (setting at) (state_at at) (shape_at at) (TakesHand (shape_at at) a.region.now.striped.now.table) a.cut c.job.are_enough a.pieces.now outs long
     c.in_ok-all.ensures.ok c.in_ok-worked.ensures.outs o a.so_far.hands.items worked.hands.items (map (λ list. list.items) worked.lists.items)
     a.so_far.instances a.so_far.exhausted c.in_ok-worked.ensures.once c.in_ok-worked.ensures.hands held in
     subst (λ ps. IsRound (setting at) (state_at at) (shape_at at) o a.pieces.now ps worked.hands.items all.instances all.exhausted) (sym c.in_ok-all.ensures.next)
