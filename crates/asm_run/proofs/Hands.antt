@@ -2,7 +2,6 @@
 use Rattle.std.proofs.Common.{◌≡◌, ℕ, ◌+◌, List, [], ◌∷◌, ◌++◌, Some, All, map, refl, sym, ap, subst, ◌∙◌, append_assoc, append-nil}
 use Rattle.std.specs.List.{slice_get, concat, range_with_len}
 use Rattle.std.specs.List.Sorted.{IsPermutation}
-use Rattle.atomic_table.specs.Seated.{TableId}
 use Rattle.asm_state.specs.Signature.{Shape}
 use Rattle.asm_state.specs.Updates.{UpdateSet, none, together}
 use Rattle.asm_state.proofs.Algebra.{union_laws}

@@ -11,7 +11,9 @@ mod Reached
 pub mod Running
 pub mod Answered
 pub mod Logs
+pub mod NewHands
 pub mod Putting
+pub mod Tasks
 pub mod Hands
 pub mod RoundLaw
 pub mod Crossing

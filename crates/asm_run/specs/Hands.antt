@@ -7,7 +7,6 @@
 --     LogStands shape log U      the entries of a log have the least and the greatest values of U, and name no other location
 --     LogsStand shape hands U    the logs of all hands together do
 use Rattle.std.specs.Prelude.{◌≡◌, ℕ, ◌+◌, ◌<◌, List, [], ◌∷◌, ◌++◌, map}
-use Rattle.atomic_table.specs.Seated.{TableId}
 use Rattle.asm_state.specs.declared.value.Value.{Value}
 use Rattle.asm_state.specs.Codes.{code_of}
 use Rattle.asm_state.specs.Location.{Location}
@@ -18,7 +17,7 @@ use Rattle.asm_updates.specs.EntryLists.{range_in}
 use Rattle.asm_updates.specs.Stands.{Stands}
 use Rattle.asm_striped.specs.declared.board.Entry.{Entry}
 use Rattle.asm_striped.specs.Log.{AreValuesOf, entry}
-use Rattle.asm_striped.specs.Seats.{SeatState}
+use Rattle.asm_striped.specs.Seats.{SeatState, TableId}
 use Rattle.asm_run.specs.declared.hand.RegionHand.{RegionHand}
 
 abbrev pub entry_of : ℕ → ℕ × (Value × Value) → Entry
@@ -34,12 +33,12 @@ pub record Grows (before : SeatState) (more : List Entry) (after : SeatState) : 
 
 -- ---- hands
 
-pub record TakesHand (shape : Shape) (table : TableId) (hand : RegionHand) : Type 0 where
-  pub table : hand.seat.table ≡ table
+pub record TakesHand (shape : Shape) (at : TableId) (hand : RegionHand) : Type 0 where
+  pub table : hand.seat.table ≡ at
   pub empty : Stands shape hand.own.set none
 
-pub record IsNewHand (shape : Shape) (table : TableId) (hand : RegionHand) : Type 0 where
-  pub table : hand.seat.table ≡ table
+pub record IsNewHand (shape : Shape) (at : TableId) (hand : RegionHand) : Type 0 where
+  pub table : hand.seat.table ≡ at
   pub parts : hand.seat.parts ≡ 1
   pub log : hand.seat.log ≡ []
   pub empty : Stands shape hand.own.set none

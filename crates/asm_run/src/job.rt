@@ -57,11 +57,11 @@ impl<'a, P: Picks> RegionJob<'a, P> {
         cut: Option<usize>,
         striped: &'a Striped,
     ) -> RegionJob<'a, P>
-        ensures evaluation { result.evaluation ≡ evaluation }
-        ensures pieces { result.pieces ≡ pieces }
+        ensures evaluation { result.evaluation.now ≡ evaluation.now }
+        ensures pieces { result.pieces.now ≡ pieces.now }
         ensures cut { result.cut ≡ cut }
         ensures opens_all { result.are_enough ≡ false }
-        ensures striped { result.striped ≡ striped }
+        ensures striped { result.striped.now ≡ striped.now }
     {
         RegionJob {
             alloc,
@@ -84,6 +84,7 @@ fn put_piece<'a, P: Picks>(
     requires piece { IsPiece (setting job.now.evaluation.now).program piece.now }
     requires count { job.now.striped.now.count ≡ count_of (shape_at job.now.evaluation.now) }
     requires hand { TakesHand (shape_at job.now.evaluation.now) job.now.striped.now.table hand.old }
+    ensures table { hand.new.seat.table ≡ hand.old.seat.table }
     ensures count { hand.new.own.set.count ≡ hand.old.own.set.count }
     ensures worked { let at = job.now.evaluation.now in let o = piece_does (setting at) (state_at at) piece.now in
         IfOk result (λ out. IsWorked (setting at) (state_at at) (shape_at at) None task o hand.old.seat out hand.new.seat) }

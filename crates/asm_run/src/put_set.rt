@@ -1,5 +1,6 @@
 //! Update sets put into the table of a region.
 ghost use Rattle.std.specs.Prelude.{◌≡◌};
+ghost use Rattle.asm_updates.specs.Entries.{AreEntries};
 ghost use Rattle.asm_run.specs.Hands.{Grows, puts};
 
 use asm_striped::{StripeSeat, Striped};
@@ -9,7 +10,8 @@ use asm_updates::summary::Summary;
 pub(crate) fn put_set(striped: &Striped, seat: &mut StripeSeat, task: u64, set: &Summary)
     requires table { seat.old.table ≡ striped.now.table }
     requires count { set.now.count ≡ striped.now.count }
-    ensures { Grows seat.old (puts task set.now.ranges) seat.new }
+    ensures seat { Grows seat.old (puts task set.now.ranges) seat.new }
+    ensures sound { AreEntries set.now.count set.now.ranges }
 {
     for i in 0..set.len() {
         let (n, low, high) = set.entry_at(i);

@@ -37,13 +37,17 @@ pub(crate) fn work_region<'a, R: Threads + Sync, G: Gate + Sync, P: Picks + Sync
         instances: 0,
         exhausted: None,
     };
-    let worked = work_rounds(rt, alloc, &region, shares.rounds, pieces, none, gate)?;
-    if let Some(path) = worked.exhausted {
-        return Ok(Outcome::Exhausted(path));
+    let SoFar {
+        hands,
+        instances,
+        exhausted,
+    } = work_rounds(rt, alloc, &region, shares.rounds, pieces, none, gate)?;
+    match exhausted {
+        Some(path) => Ok(Outcome::Exhausted(path)),
+        None => {
+            join_hands(&striped, &mut seat, hands);
+            let set = striped.close(alloc, seat)?;
+            Ok(Outcome::Set { set, instances })
+        }
     }
-    join_hands(&striped, &mut seat, worked.hands);
-    Ok(Outcome::Set {
-        set: striped.close(alloc, seat)?,
-        instances: worked.instances,
-    })
 }

@@ -15,6 +15,7 @@ use asm_eval::{Evaluation, Path, Piece};
 use asm_pool::{Gate, PoolError, work};
 use asm_reader::Picks;
 use asm_striped::Striped;
+use asm_striped::shared::striped_is_shared;
 use std::alloc::{AllocError, Global};
 use std::thread::Threads;
 
@@ -143,6 +144,7 @@ fn work_round<'a, R: Threads + Sync, G: Gate + Sync, P: Picks + Sync>(
 {
     checked_is_shared();
     views_and_pieces_are_shared();
+    striped_is_shared();
     let workers = region.shares.workers;
     let job = RegionJob {
         alloc,

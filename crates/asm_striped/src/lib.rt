@@ -7,6 +7,7 @@
 
 mod board;
 pub mod laws;
+pub mod shared;
 mod striped;
 #[cfg(test)]
 mod tests;

@@ -4,4 +4,4 @@ use Rattle.asm_run.proofs.put_set.put_set.Given as goal
 
 -- the entries so far are put
 abbrev pub invariant-loop-i : goal.invariant-loop-i
-invariant-loop-i l = Grows l.initial.seat (puts l.task (take l.i l.set.now.ranges)) l.seat
+invariant-loop-i l = Grows l.initial.seat (puts l.task (take l.i l.set.ranges)) l.seat

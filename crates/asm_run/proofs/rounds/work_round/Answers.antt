@@ -21,7 +21,7 @@ pub work-requires-sync-J : goal.work-requires-sync-J
 work-requires-sync-J g c κs within =
     let e = c.views_and_pieces_are_shared.ensures in
     let l : NamedLft = record { mir = erased; lft = κs.1.1.1.1.0 } in
-    let job = job_shared l _ _ c.checked_is_shared.ensures (e.views _) (e.pieces _) c.type_bounds.sync-P in
+    let job = job_shared l _ _ c.checked_is_shared.ensures (e.views _) (e.pieces _) c.striped_is_shared.ensures c.type_bounds.sync-P in
     record { shared = job.shared }
 
 pub returns-clause-pieces : goal.returns-clause-pieces
@@ -31,7 +31,7 @@ returns-clause-pieces g c =
     let worked = c.in_ok-worked.worked in
     let long : length worked.outs.items ≡ length a.pieces.now = omega (arith, c.in_ok-worked.ensures.len.0, worked.outs.ok) in
     subst (λ (ps : List Piece). All (IsPiece (setting at).program) ps) (sym c.in_ok-all.ensures.next)
-    (new_are_pieces (setting at) (state_at at) (shape_at at) (TakesHand (shape_at at) a.region.now.striped.now.table) a.cut c.job.are_enough a.pieces.now worked.outs.items long
+    (new_are_pieces (setting at) (state_at at) (shape_at at) (TakesHand (shape_at at) a.region.now.striped.now.table) a.cut _ a.pieces.now worked.outs.items long
     c.in_ok-all.ensures.ok c.in_ok-worked.ensures.outs)
 
 pub returns-clause-whole : goal.returns-clause-whole
@@ -41,7 +41,7 @@ returns-clause-whole g c =
     let worked = c.in_ok-worked.worked in
     let long : length worked.outs.items ≡ length a.pieces.now = omega (arith, c.in_ok-worked.ensures.len.0, worked.outs.ok) in
     subst (λ (ps : List Piece). IfNone a.cut (ps ≡ [])) (sym c.in_ok-all.ensures.next)
-    (nothing_left (setting at) (state_at at) (shape_at at) (TakesHand (shape_at at) a.region.now.striped.now.table) a.cut c.job.are_enough a.pieces.now worked.outs.items long
+    (nothing_left (setting at) (state_at at) (shape_at at) (TakesHand (shape_at at) a.region.now.striped.now.table) a.cut _ a.pieces.now worked.outs.items long
     c.in_ok-all.ensures.ok c.in_ok-worked.ensures.outs)
 
 pub returns-clause-parts : goal.returns-clause-parts
@@ -50,7 +50,7 @@ returns-clause-parts g c =
     let at = a.region.now.evaluation.now in
     let worked = c.in_ok-worked.worked in
     let long : length worked.outs.items ≡ length a.pieces.now = omega (arith, c.in_ok-worked.ensures.len.0, worked.outs.ok) in
-    same_parts (setting at) (state_at at) (shape_at at) (TakesHand (shape_at at) a.region.now.striped.now.table) a.cut c.job.are_enough a.pieces.now worked.outs.items long
+    same_parts (setting at) (state_at at) (shape_at at) (TakesHand (shape_at at) a.region.now.striped.now.table) a.cut _ a.pieces.now worked.outs.items long
     c.in_ok-all.ensures.ok c.in_ok-worked.ensures.outs a.so_far.hands.items worked.hands.items (map (λ list. list.items) worked.lists.items) c.in_ok-worked.ensures.hands
 
 pub returns-clause-holds : goal.returns-clause-holds
@@ -61,7 +61,7 @@ returns-clause-holds g c o held =
     let outs = worked.outs.items in
     let all = c.in_ok-all.all in
     let long : length outs ≡ length a.pieces.now = omega (arith, c.in_ok-worked.ensures.len.0, worked.outs.ok) in
-    let law = round_law (setting at) (state_at at) (shape_at at) (TakesHand (shape_at at) a.region.now.striped.now.table) a.cut c.job.are_enough a.pieces.now outs long
+    let law = round_law (setting at) (state_at at) (shape_at at) (TakesHand (shape_at at) a.region.now.striped.now.table) a.cut _ a.pieces.now outs long
     c.in_ok-all.ensures.ok c.in_ok-worked.ensures.outs o a.so_far.hands.items worked.hands.items (map (λ list. list.items) worked.lists.items)
     a.so_far.instances a.so_far.exhausted c.in_ok-worked.ensures.once c.in_ok-worked.ensures.hands held in
     subst (λ ps. IsRound (setting at) (state_at at) (shape_at at) o a.pieces.now ps worked.hands.items all.instances all.exhausted) (sym c.in_ok-all.ensures.next)
