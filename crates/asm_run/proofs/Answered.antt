@@ -1,6 +1,6 @@
 -- From what a pool's tasks answered to the answers of a round, where none was refused memory.
 use Rattle.std.proofs.Common.{◌≡◌, ◌<◌, ℕ, zero, suc, List, [], ◌∷◌, Some, length, refl, ap, subst, arith}
-use Rattle.std.specs.Prelude.{slice_get, Ok, Err, IsOk, IfOk}
+use Rattle.std.specs.Prelude.{slice_get, Ok, Err, IsOk}
 use Rattle.std.specs.List.{All, AllByRecursion}
 use Rattle.std.proofs.lemmas.Bool.{false≢true}
 use Rattle.std.proofs.lemmas.List.Elements.{recursion_from_All}

@@ -1,9 +1,8 @@
 -- What logs stand for.
-use Rattle.std.proofs.Common.{◌≡◌, ℕ, ◌+◌, List, [], ◌∷◌, ◌++◌, None, refl, sym, ap, subst, ◌∙◌, append_assoc, append-nil, inl, inr, arith}
+use Rattle.std.proofs.Common.{◌≡◌, ℕ, List, [], ◌∷◌, ◌++◌, None, refl, sym, ap, subst, ◌∙◌, inl, inr}
 use Rattle.asm_state.specs.Location.{Location}
-use Rattle.asm_state.specs.Signature.{Shape, IsSound, IsLocationOf, count_of, location_at}
-use Rattle.asm_state.specs.Updates.{UpdateSet, Names, none, together, widen, range_at}
-use Rattle.asm_state.proofs.Algebra.{union_laws}
+use Rattle.asm_state.specs.Signature.{Shape, IsSound, count_of, location_at}
+use Rattle.asm_state.specs.Updates.{UpdateSet, none, together, widen, range_at}
 use Rattle.asm_state.proofs.Members.{member_laws}
 use Rattle.asm_state.proofs.Summaries.{summary_laws}
 use Rattle.asm_updates.specs.Entries.{Entries, NamedRanges}

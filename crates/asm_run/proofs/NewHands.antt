@@ -1,10 +1,10 @@
 -- Hands that have put nothing yet, and hands between two rounds.
-use Rattle.std.proofs.Common.{◌≡◌, ℕ, ◌+◌, List, [], ◌∷◌, All, length, refl, sym, ap, subst, ◌∙◌, arith}
+use Rattle.std.proofs.Common.{◌≡◌, List, [], ◌∷◌, All, length, refl, sym, subst, arith}
 use Rattle.std.specs.List.{AllByRecursion}
 use Rattle.std.proofs.lemmas.List.Elements.{All-weaker, recursion_from_All}
 use Rattle.asm_striped.specs.Seats.{TableId}
 use Rattle.asm_state.specs.Signature.{Shape}
-use Rattle.asm_state.specs.Updates.{UpdateSet, none, together}
+use Rattle.asm_state.specs.Updates.{none}
 use Rattle.asm_state.proofs.Algebra.{union_laws}
 use Rattle.asm_run.specs.declared.hand.RegionHand.{RegionHand}
 use Rattle.asm_run.specs.Hands.{IsNewHand, LogStands, LogsStand, TakesHand, parts_of}

@@ -1,5 +1,5 @@
 -- Putting the entries of a summary, one after another.
-use Rattle.std.proofs.Common.{◌≡◌, ℕ, zero, suc, ◌+◌, ◌≤◌, List, [], ◌∷◌, ◌++◌, All, Some, take, length, refl, sym, ap, subst, ◌∙◌, append_assoc, append-nil, add-one}
+use Rattle.std.proofs.Common.{◌≡◌, ℕ, zero, suc, ◌+◌, List, [], ◌∷◌, ◌++◌, Some, take, refl, sym, ap, subst, ◌∙◌, append_assoc, append-nil, add-one}
 use Rattle.std.specs.Prelude.{slice_get}
 use Rattle.asm_state.specs.declared.value.Value.{Value}
 use Rattle.asm_updates.specs.Entries.{NamedRanges}

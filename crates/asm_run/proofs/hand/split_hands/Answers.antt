@@ -1,4 +1,4 @@
-use Rattle.std.proofs.Common.{◌≡◌, ◌∙◌, All, ap, sym, subst, arith, rules}
+use Rattle.std.proofs.Common.{◌∙◌, All, ap, sym, subst, arith, rules}
 use Rattle.std.proofs.lemmas.List.Elements.{All-push}
 use Rattle.asm_run.specs.Hands.{IsNewHand}
 use Rattle.asm_run.proofs.hand.split_hands.Goals as goal

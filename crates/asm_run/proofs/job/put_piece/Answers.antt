@@ -1,7 +1,4 @@
-use Rattle.std.proofs.Common.{subst}
-use Rattle.std.specs.Prelude.{OnOk}
 use Rattle.asm_eval.specs.Evaluated.{setting, shape_at, state_at}
-use Rattle.asm_eval.specs.Formed.{Forms}
 use Rattle.asm_eval.specs.Pieces.{piece_does}
 use Rattle.asm_run.proofs.Tasks.{set_worked}
 use Rattle.asm_run.proofs.job.put_piece.Goals as goal

@@ -1,8 +1,6 @@
-use Rattle.asm_updates.specs.Entries.{range}
-use Rattle.std.proofs.Common.{◌≡◌, ◌∙◌, ap}
+use Rattle.std.proofs.Common.{◌∙◌}
 use Rattle.asm_striped.specs.Log.{entry}
 use Rattle.asm_striped.specs.Seats.{after_put}
-use Rattle.asm_run.specs.Hands.{entry_of}
 use Rattle.asm_run.proofs.Putting.{one_more}
 use Rattle.asm_run.proofs.put_set.put_set.Goals as goal
 

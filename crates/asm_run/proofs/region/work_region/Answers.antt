@@ -1,4 +1,4 @@
-use Rattle.std.proofs.Common.{◌≡◌, ◌∙◌, ◌++◌, None, [], ap, refl, sym, subst, arith}
+use Rattle.std.proofs.Common.{◌≡◌, ◌∙◌, ◌++◌, None, [], ap, refl, subst, arith}
 use Rattle.asm_state.specs.Updates.{none}
 use Rattle.asm_eval.specs.Does.{nothing}
 use Rattle.asm_eval.specs.Evaluated.{setting, shape_at, state_at}
