@@ -26,10 +26,10 @@ const SWAP: &str =
 rule M = par a := b b := a endpar";
 
 /// What a seat finds that puts 5 at the location of `a` once the first task is done, and what was put in all.
-fn put_behind_first_task(
+fn put_behind_first_task<'a>(
     alloc: Global,
-    evaluation: &Evaluation<'_, '_, Counting>,
-    pieces: &[Piece<'_>],
+    evaluation: &'a Evaluation<'a, 'a, Counting>,
+    pieces: &'a [Piece<'a>],
 ) -> Result<Option<(Met, Summary)>, AllocError>
     requires { All (IsPiece (setting evaluation.now).program) pieces.now }
 {
@@ -55,27 +55,19 @@ fn put_behind_first_task(
     Ok(Some((met, striped.close(alloc, s)?)))
 }
 
-/// That for the parts of the main rule in the initial state.
-fn put_behind_first_part(
+/// That for the parts of the main rule.
+fn put_behind_first_part<'a>(
     alloc: Global,
-    checked: &Checked,
-) -> Result<Option<(Met, Summary)>, AllocError> {
+    checked: &'a Checked,
+    view: &'a View<'_>,
+    choices: &'a Choices<'a, Counting>,
+) -> Result<Option<(Met, Summary)>, AllocError>
+    requires { view.now.signature.now ≡ shape_of (spec_of checked.now.spec) }
+{
     let (_parameters, main) = checked.rule(checked.main());
-    let signature = checked.signature();
-    let state = State::initial(alloc, signature)?;
-    let nothing = Summary::new(alloc, signature.count());
-    let view = View::new(signature, &state, &nothing);
-    let picks = Counting::new();
-    let choices = Choices {
-        script: &picks,
-        step: 1,
-    };
     let evaluation = Evaluation {
-        scene: Scene {
-            checked,
-            view: &view,
-        },
-        choices: &choices,
+        scene: Scene { checked, view },
+        choices,
         turns: 1000,
     };
     let region = Piece {
@@ -92,6 +84,20 @@ fn put_behind_first_part(
     }
 }
 
+/// That in the initial state.
+fn put_initially(alloc: Global, checked: &Checked) -> Result<Option<(Met, Summary)>, AllocError> {
+    let signature = checked.signature();
+    let state = State::initial(alloc, signature)?;
+    let nothing = Summary::new(alloc, signature.count());
+    let view = View::new(signature, &state, &nothing);
+    let picks = Counting::new();
+    let choices = Choices {
+        script: &picks,
+        step: 1,
+    };
+    put_behind_first_part(alloc, checked, &view, &choices)
+}
+
 /// The value 2 that the task put at the location of `a`, and the value 5 that was put behind it.
 const TWO_TO_FIVE: [Entry; 1] = [(0, TWO, FIVE)];
 
@@ -99,7 +105,7 @@ const TWO_TO_FIVE: [Entry; 1] = [(0, TWO, FIVE)];
 fn job_puts(rt: HostRuntime) -> Result<(), Fail> {
     let checked = checked_of(rt.alloc(), SWAP.as_bytes())?;
     let two = value(TWO).code();
-    match put_behind_first_part(rt.alloc(), &checked)? {
+    match put_initially(rt.alloc(), &checked)? {
         Some((met, set)) => {
             assert!(rt; met.low_before == two && met.high_before == two);
             assert!(rt; has_entries(&set, &TWO_TO_FIVE));
