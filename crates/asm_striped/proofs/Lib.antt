@@ -1,3 +1,4 @@
+pub mod CodeOrder
 pub mod Members
 pub mod Extremes
 pub mod Shares

@@ -12,7 +12,7 @@ use Rattle.asm_state.specs.Updates.{Range, widen}
 use Rattle.asm_state.proofs.Codes.{codes_apart}
 use Rattle.asm_updates.specs.Entries.{NamedRanges, range}
 use Rattle.asm_updates.specs.EntryLists.{range_of_entry, range_in, AreInOrder}
-use Rattle.asm_updates.proofs.Widening.{code_of-lesser, code_of-greater}
+use Rattle.asm_striped.proofs.CodeOrder.{code_of-lesser, code_of-greater}
 use Rattle.asm_striped.specs.declared.board.Entry.{Entry}
 use Rattle.asm_striped.specs.Log.{low_mark, high_mark, IsCode, IsEntry, lows_at, highs_at, least, greatest, low_word_of, high_word_of, AreWordsOf, AreValuesOf}
 use Rattle.asm_striped.proofs.Members.{In, hit, miss}
