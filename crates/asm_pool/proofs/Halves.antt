@@ -1,19 +1,24 @@
--- Workers of lanes next to each other, put together.
-use Rattle.std.proofs.Common.{◌≡◌, ℕ, ◌+◌, ◌<◌, List, [], ◌∷◌, ◌++◌, length, map, take, drop, refl, sym, ap, ◌∙◌, subst, arith, zero-add}
+-- Lists of workers, put together.
+use Rattle.std.proofs.Common.{◌≡◌, ℕ, zero, suc, ◌≤◌, List, [], ◌∷◌, ◌++◌, length, map, take, drop, get_or, refl, sym, ap, ◌∙◌, subst, arith}
 use Rattle.std.specs.List.{AllZip, All}
 use Rattle.std.proofs.lemmas.List.{append-nil, map-append, take-append-drop}
-use Rattle.std.proofs.lemmas.List.Elements.{All-nil, All-cons, All-head, All-tail}
+use Rattle.std.proofs.lemmas.List.Elements.{All-nil, All-cons, All-head, All-tail, All-drop}
 use Rattle.std.proofs.lemmas.List.Concat.{flat_map-append}
-use Rattle.asm_pool.specs.declared.lane.Done.{Done}
-use Rattle.asm_pool.specs.declared.lane.Worker.{Worker}
-use Rattle.asm_pool.specs.Lanes.{HasEachOnce, HasLanes, HasDone, AllHaveDone, tasks_of, tasks_by, done_by}
-use Rattle.asm_pool.proofs.Counting.{lanes-append, lanes-once}
+use Rattle.asm_pool.specs.declared.worker.Done.{Done}
+use Rattle.asm_pool.specs.declared.worker.Worker.{Worker}
+use Rattle.asm_pool.specs.Finished.{HasEachOnce, HasDone, AllHaveDone, tasks_of, tasks_by, done_by}
 
 pub AllZip-append : {A B : Type 0} (R : A → B → Type 0) (xs us : List A) (ys vs : List B) → AllZip R xs ys → AllZip R us vs → AllZip R (xs ++ us) (ys ++ vs)
 AllZip-append R [] us [] vs here there = there
 AllZip-append R [] us (y ∷ ys) vs here there = absurd here
 AllZip-append R (x ∷ xs) us [] vs here there = absurd here
 AllZip-append R (x ∷ xs) us (y ∷ ys) vs here there = (here.0, AllZip-append R xs us ys vs here.1 there)
+
+pub zip-length : {A B : Type 0} (R : A → B → Type 0) (xs : List A) (ys : List B) → AllZip R xs ys → length xs ≡ length ys
+zip-length R [] [] all = refl
+zip-length R [] (y ∷ ys) all = absurd all
+zip-length R (x ∷ xs) [] all = absurd all
+zip-length R (x ∷ xs) (y ∷ ys) all = ap suc (zip-length R xs ys all.1)
 
 both-nil : {X : Type 0} (xs ys : List X) → xs ++ ys ≡ [] → (xs ≡ []) × (ys ≡ [])
 both-nil [] ys none = (refl, none)
@@ -22,21 +27,6 @@ both-nil (x ∷ xs) ys none = let some : length (x ∷ (xs ++ ys)) ≡ 0 = ap le
 module _ {Hand Out : Type 0} where
   pub tasks_by-append : (xs ys : List (Worker Hand Out)) → tasks_by (xs ++ ys) ≡ tasks_by xs ++ tasks_by ys
   tasks_by-append xs ys = ap tasks_of (flat_map-append (λ (w : Worker Hand Out). w.done.items) xs ys) ∙ map-append (λ (d : Done Out). d.task) (done_by xs) (done_by ys)
-
-  pub one-lanes : (lanes count lane : ℕ) (w : Worker Hand Out) (workers : List (Worker Hand Out)) → workers ≡ w ∷ [] → HasLanes lanes count lane 1 (tasks_of w.done.items) → HasLanes lanes count lane 1 (tasks_by workers)
-  one-lanes lanes count lane w workers is has = subst (λ (ws : List (Worker Hand Out)). HasLanes lanes count lane 1 (tasks_by ws)) (sym is)
-      (subst (λ (ds : List (Done Out)). HasLanes lanes count lane 1 (tasks_of ds)) (sym (append-nil w.done.items)) has)
-
-  pub both-lanes : (lanes count first few more all : ℕ) (xs ys workers : List (Worker Hand Out)) → few + more ≡ all → workers ≡ xs ++ ys → HasLanes lanes count first few (tasks_by xs)
-      → HasLanes lanes count (first + few) more (tasks_by ys) → HasLanes lanes count first all (tasks_by workers)
-  both-lanes lanes count first few more all xs ys workers sum is here there = subst (λ (n : ℕ). HasLanes lanes count first n (tasks_by workers)) sum
-      (subst (HasLanes lanes count first (few + more)) (sym (ap tasks_by is ∙ tasks_by-append xs ys)) (lanes-append lanes count first few more (tasks_by xs) (tasks_by ys) here there))
-
-  pub all-once : (lanes count busy more : ℕ) (xs ys workers : List (Worker Hand Out)) → 0 < lanes → busy + more ≡ lanes → workers ≡ xs ++ ys → HasLanes lanes count 0 busy (tasks_by xs)
-      → done_by ys ≡ [] → HasLanes lanes count busy more [] → HasEachOnce count (tasks_by workers)
-  all-once lanes count busy more xs ys workers some sum is here idle none = lanes-once lanes count lanes (tasks_by workers) some refl
-      (both-lanes lanes count 0 busy more lanes xs ys workers sum is here
-      (subst (λ (first : ℕ). HasLanes lanes count first more (tasks_by ys)) (sym (zero-add busy)) (subst (λ (ds : List (Done Out)). HasLanes lanes count busy more (tasks_of ds)) (sym idle) none)))
 
   -- the hands of workers that have done nothing
   pub idle-fit : (takes : Hand → Type 0) (hands : List Hand) (workers : List (Worker Hand Out)) → map (λ (w : Worker Hand Out). w.hand) workers ≡ hands → All takes hands → All (λ (w : Worker Hand Out). takes w.hand) workers
@@ -48,9 +38,6 @@ module _ {Hand Out : Type 0} where
           (each ws (All-tail takes w.hand (map (λ (v : Worker Hand Out). v.hand) ws) all))
 
   module _ (runs : ℕ → Hand → Out → Hand → Type 0) where
-    pub one-hand : (hand : Hand) (hands : List Hand) (w : Worker Hand Out) (workers : List (Worker Hand Out)) → hands ≡ hand ∷ [] → workers ≡ w ∷ [] → HasDone runs hand w.done.items w.hand → AllHaveDone runs hands workers
-    one-hand hand hands w workers one is did = subst (λ (p : List Hand × List (Worker Hand Out)). AllHaveDone runs p.0 p.1) (λ i. (sym one i, sym is i)) (did, tt)
-
     pub both-hands : (hands front back : List Hand) (half : ℕ) (xs ys workers : List (Worker Hand Out)) → front ≡ take half hands → back ≡ drop half hands → workers ≡ xs ++ ys
         → AllHaveDone runs front xs → AllHaveDone runs back ys → AllHaveDone runs hands workers
     both-hands hands front back half xs ys workers is_front is_back is here there =
@@ -65,3 +52,38 @@ module _ {Hand Out : Type 0} where
         each : (ws : List (Worker Hand Out)) → done_by ws ≡ [] → AllHaveDone runs (map (λ (w : Worker Hand Out). w.hand) ws) ws
         each [] none = tt
         each (w ∷ ws) none = let parts = both-nil w.done.items (done_by ws) none in (subst (λ (ds : List (Done Out)). HasDone runs w.hand ds w.hand) (sym parts.0) refl, each ws parts.1)
+
+    -- those that have done nothing bring no task more
+    pub idle-once : (count : ℕ) (xs ys workers : List (Worker Hand Out)) → workers ≡ xs ++ ys → done_by ys ≡ [] → HasEachOnce count (tasks_by xs) → HasEachOnce count (tasks_by workers)
+    idle-once count xs ys workers is idle once = subst (λ (l : List ℕ). HasEachOnce count l)
+        (sym (ap tasks_by is ∙ (tasks_by-append xs ys ∙ (ap (λ (ds : List (Done Out)). tasks_by xs ++ tasks_of ds) idle ∙ append-nil (tasks_by xs))))) once
+
+  -- the workers behind the busy ones
+  all-idle : (workers : List (Worker Hand Out)) → done_by workers ≡ [] → All (λ (w : Worker Hand Out). w.done.items ≡ []) workers
+  all-idle [] none = All-nil (λ (w : Worker Hand Out). w.done.items ≡ [])
+  all-idle (w ∷ ws) none = let parts = both-nil w.done.items (done_by ws) none in All-cons (λ (v : Worker Hand Out). v.done.items ≡ []) w ws parts.0 (all-idle ws parts.1)
+
+  behind : (most : ℕ) (xs ys : List (Worker Hand Out)) → length xs ≤ most → All (λ (w : Worker Hand Out). w.done.items ≡ []) ys → All (λ (w : Worker Hand Out). w.done.items ≡ []) (drop most (xs ++ ys))
+  behind most [] ys few idle = All-drop (λ (w : Worker Hand Out). w.done.items ≡ []) most ys idle
+  behind zero (x ∷ xs) ys few idle = absurd (omega arith)
+  behind (suc most) (x ∷ xs) ys few idle = behind most xs ys (omega arith) idle
+
+  pub idle-behind : (most : ℕ) (xs ys workers : List (Worker Hand Out)) → workers ≡ xs ++ ys → length xs ≤ most → done_by ys ≡ [] → All (λ (w : Worker Hand Out). w.done.items ≡ []) (drop most workers)
+  idle-behind most xs ys workers is few idle = subst (λ (ws : List (Worker Hand Out)). All (λ (w : Worker Hand Out). w.done.items ≡ []) (drop most ws)) (sym is) (behind most xs ys few (all-idle ys idle))
+
+-- the lists of workers that have done nothing
+module _ {Hand Out V : Type 0} (items : V → List ℕ) (size : V → ℕ) (sized : (v : V) → size v ≡ length (items v)) where
+  no-tasks : (lists : List V) (workers : List (Worker Hand Out)) → map items lists ≡ map (λ (w : Worker Hand Out). tasks_of w.done.items) workers → All (λ (w : Worker Hand Out). w.done.items ≡ []) workers
+      → All (λ (v : V). size v ≡ 0) lists
+  no-tasks [] workers same idle = All-nil (λ (v : V). size v ≡ 0)
+  no-tasks (v ∷ vs) [] same idle = let long : length (map items (v ∷ vs)) ≡ 0 = ap length same in absurd (omega (arith, long))
+  no-tasks (v ∷ vs) (w ∷ ws) same idle = All-cons (λ (u : V). size u ≡ 0) v vs
+      (sized v ∙ ap length (ap (λ (l : List (List ℕ)). get_or l 0 []) same ∙ ap tasks_of (All-head (λ (u : Worker Hand Out). u.done.items ≡ []) w ws idle)))
+      (no-tasks vs ws (ap (drop 1) same) (All-tail (λ (u : Worker Hand Out). u.done.items ≡ []) w ws idle))
+
+  pub no-tasks-behind : (most : ℕ) (lists : List V) (workers : List (Worker Hand Out)) → map items lists ≡ map (λ (w : Worker Hand Out). tasks_of w.done.items) workers
+      → All (λ (w : Worker Hand Out). w.done.items ≡ []) (drop most workers) → All (λ (v : V). size v ≡ 0) (drop most lists)
+  no-tasks-behind zero lists workers same idle = no-tasks lists workers same idle
+  no-tasks-behind (suc most) [] workers same idle = All-nil (λ (v : V). size v ≡ 0)
+  no-tasks-behind (suc most) (v ∷ vs) [] same idle = let long : length (map items (v ∷ vs)) ≡ 0 = ap length same in absurd (omega (arith, long))
+  no-tasks-behind (suc most) (v ∷ vs) (w ∷ ws) same idle = no-tasks-behind most vs ws (ap (drop 1) same) idle

@@ -6,9 +6,9 @@ use Rattle.std.proofs.lemmas.Bool.{cases_lt, cases_eq, ne_eqb, lt-ltb}
 use Rattle.std.proofs.lemmas.List.Elements.{All-head, All-tail}
 use Rattle.std.proofs.lemmas.List.{length-map, map-append}
 use Rattle.std.proofs.lemmas.List.Concat.{concat_is}
-use Rattle.asm_pool.specs.declared.lane.Done.{Done}
-use Rattle.asm_pool.specs.declared.lane.Worker.{Worker}
-use Rattle.asm_pool.specs.Lanes.{times, HasEachOnce, HasDone, AllHaveDone, StandIn, tasks_of, tasks_by, done_by}
+use Rattle.asm_pool.specs.declared.worker.Done.{Done}
+use Rattle.asm_pool.specs.declared.worker.Worker.{Worker}
+use Rattle.asm_pool.specs.Finished.{times, HasEachOnce, HasDone, AllHaveDone, StandIn, tasks_of, tasks_by, done_by}
 use Rattle.asm_pool.specs.Pool.{IsRun, RunsTask, RunsList, RunsLists}
 use Rattle.asm_pool.proofs.Counting.{times-append}
 use Rattle.asm_pool.proofs.Gathering.{all_left, all_right}

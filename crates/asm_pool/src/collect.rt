@@ -1,9 +1,9 @@
 //! Puts what the workers have done together.
-ghost use Rattle.std.specs.Prelude.{◌≡◌, ◌<◌, All, IfOk, OnOk, IsSome, length, map, replicate, slice_set, vec_len, Some, None};
-ghost use Rattle.asm_pool.specs.Lanes.{HasEachOnce, StandIn, tasks_of, tasks_by, done_by, placed};
+ghost use Rattle.std.specs.Prelude.{◌≡◌, ◌^◌, ◌<◌, ◌≤◌, All, IfOk, OnOk, IsSome, length, map, replicate, slice_set, vec_len, Some, None};
+ghost use Rattle.asm_pool.specs.Finished.{HasEachOnce, StandIn, tasks_of, tasks_by, done_by, placed};
 
-use crate::lane::{Done, Worker};
 use crate::worked::Worked;
+use crate::worker::{Done, Worker};
 use std::alloc::{AllocError, Global};
 
 /// A place for the out of each task.
@@ -14,7 +14,8 @@ pub(crate) struct Places<O> {
 
 impl<O: Drop> Places<O> {
     pub(crate) fn new(alloc: Global, count: usize) -> Result<Places<O>, AllocError>
-        ensures { IfOk result (λ p. p.outs.items ≡ replicate count None) }
+        ensures free { IfOk result (λ p. p.outs.items ≡ replicate count None) }
+        ensures room { IfOk result (λ _. count ≤ 2 ^ 63) }
     {
         let mut outs = Vec::with_capacity(alloc, count)?;
         for _i in 0..count {

@@ -1,46 +1,56 @@
 //! Starts the workers, and puts together what they did.
 ghost use denote.Param.Send.{IsSend, IsSync};
-ghost use Rattle.std.specs.Prelude.{◌≡◌, ℕ, ◌+◌, ◌<◌, ◌≤◌, All, IfOk, vec_len, map};
+ghost use Rattle.std.specs.Prelude.{◌≡◌, ℕ, ◌+◌, ◌^◌, ◌<◌, ◌≤◌, [], All, IfOk, drop, vec_len, map};
 ghost use Rattle.std.specs.List.{range_with_len, concat};
 ghost use Rattle.std.specs.List.Sorted.{IsPermutation};
-ghost use Rattle.asm_pool.specs.Lanes.{HasEachOnce, HasLanes, AllHaveDone, tasks_by};
+ghost use Rattle.asm_pool.specs.Dealing.{seat_view};
+ghost use Rattle.asm_pool.specs.Finished.{HasEachOnce, AllHaveDone, tasks_by};
 ghost use Rattle.asm_pool.specs.Pool.{IsRun, RunsTask, RunsLists};
+ghost use Rattle.asm_pool.specs.Working.{IsWorked};
 
 use crate::collect::{Places, gather};
+use crate::drawing::empty_all;
 use crate::gate::Gate;
 use crate::job::Job;
-use crate::lane::{Worker, idle_workers, work_lane};
+use crate::lanes::{Lanes, Place};
 use crate::worked::{PoolError, Worked};
+use crate::worker::{Worker, idle_workers};
 use std::alloc::{AllocError, Global};
 use std::thread::{Threads, join};
 
-/// The one worker of a lane, as a list.
+/// The workers of some hands, and the seat that has their draws.
+type Finished<H, O> = (Vec<Worker<H, O>>, Place);
+
+/// One worker, as a list.
 fn work_one<H: Drop, O: Drop, J: Job<Hand = H, Out = O>, G: Gate>(
     alloc: Global,
-    lane: usize,
-    lanes: usize,
-    count: usize,
+    lanes: &Lanes,
+    own: usize,
     job: &J,
     mut hands: Vec<H>,
     gate: &G,
-) -> Result<Vec<Worker<H, O>>, AllocError>
+    seat: Place,
+) -> Result<Finished<H, O>, AllocError>
     requires one { vec_len hands ≡ 1 }
-    requires lane { lane < lanes }
-    requires tasks { (n : ℕ) → n < count → J.has_task job.now n }
+    requires seat { (seat.table_id ≡ lanes.now.table.shared.table_id) × (seat.me ≡ (seat_view lanes.now.shape.lanes 1 [], [])) }
+    requires own { own < lanes.now.shape.lanes }
+    requires tasks { (n : ℕ) → n < lanes.now.shape.count → J.has_task job.now n }
     requires hands { All (J.takes_hand job.now) hands.items }
-    ensures lanes { IfOk result (λ ws. HasLanes lanes count lane 1 (tasks_by ws.items)) }
-    ensures fit { IfOk result (λ ws. All (λ w. J.takes_hand job.now w.hand) ws.items) }
-    ensures hands { IfOk result (λ ws. AllHaveDone (IsRun (J.takes_hand job.now) (J.runs job.now)) hands.items ws.items) }
+    ensures seat { IfOk result (λ r. (r.1.table_id ≡ seat.table_id) × (r.1.me.1 ≡ [])) }
+    ensures fit { IfOk result (λ r. All (λ w. J.takes_hand job.now w.hand) r.0.items) }
+    ensures worked { IfOk result (λ r. IsWorked (IsRun (J.takes_hand job.now) (J.runs job.now)) lanes.now.shape.lanes lanes.now.shape.count hands.items r.0.items r.1.me.0) }
 {
     let mut workers = Vec::with_capacity(alloc, 1)?;
     let hand = hands.pop().unwrap();
-    workers.push(work_lane(alloc, lane, lanes, count, job, hand, gate)?)?;
-    Ok(workers)
+    let (worker, seat) = empty_all(alloc, lanes, own, job, hand, gate, seat)?;
+    workers.push(worker)?;
+    Ok((workers, seat))
 }
 
-/// Works the lanes from `first` on, one for each hand. The hands are halved at each step, and one half goes to a new thread.
+/// A worker for each hand, whose own lanes are those from `first` on. The hands are halved at each step, and one half goes to a
+/// new thread.
 #[cycle(halves)]
-fn work_lanes<
+fn work_halves<
     R: Threads + Sync,
     H: Send + Drop,
     O: Send + Drop,
@@ -49,47 +59,54 @@ fn work_lanes<
 >(
     rt: &R,
     alloc: Global,
+    lanes: &Lanes,
     first: usize,
-    lanes: usize,
-    count: usize,
     job: &J,
     mut hands: Vec<H>,
     gate: &G,
-) -> Result<Vec<Worker<H, O>>, AllocError>
+    mut seat: Place,
+) -> Result<Finished<H, O>, AllocError>
     requires some { 0 < vec_len hands }
-    requires room { first + vec_len hands ≤ lanes }
-    requires tasks { (n : ℕ) → n < count → J.has_task job.now n }
+    requires room { first + vec_len hands ≤ lanes.now.shape.lanes }
+    requires seat { (seat.table_id ≡ lanes.now.table.shared.table_id) × (seat.me ≡ (seat_view lanes.now.shape.lanes (vec_len hands) [], [])) }
+    requires tasks { (n : ℕ) → n < lanes.now.shape.count → J.has_task job.now n }
     requires hands { All (J.takes_hand job.now) hands.items }
-    ensures lanes { IfOk result (λ ws. HasLanes lanes count first (vec_len hands) (tasks_by ws.items)) }
-    ensures fit { IfOk result (λ ws. All (λ w. J.takes_hand job.now w.hand) ws.items) }
-    ensures hands { IfOk result (λ ws. AllHaveDone (IsRun (J.takes_hand job.now) (J.runs job.now)) hands.items ws.items) }
+    ensures seat { IfOk result (λ r. (r.1.table_id ≡ lanes.now.table.shared.table_id) × (r.1.me.1 ≡ [])) }
+    ensures fit { IfOk result (λ r. All (λ w. J.takes_hand job.now w.hand) r.0.items) }
+    ensures worked { IfOk result (λ r. IsWorked (IsRun (J.takes_hand job.now) (J.runs job.now)) lanes.now.shape.lanes lanes.now.shape.count hands.items r.0.items r.1.me.0) }
 {
     if hands.len() == 1 {
-        return work_one(alloc, first, lanes, count, job, hands, gate);
+        return work_one(alloc, lanes, first, job, hands, gate, seat);
     }
     let half = hands.len() / 2;
-    let others = hands.split_off(half)?;
-    let next = first + half;
-    let here = move || -> Result<Vec<Worker<H, O>>, AllocError>
-        requires { IsSync R.row × IsSync J.row × IsSync G.row × IsSend H.row × IsSend O.row × (0 < vec_len hands) × (first + vec_len hands ≤ lanes)
-            × ((n : ℕ) → n < count → J.has_task job.now n) × All (J.takes_hand job.now) hands.items }
-        ensures { IfOk result (λ ws. HasLanes lanes count first (vec_len hands) (tasks_by ws.items) × All (λ w. J.takes_hand job.entry.now w.hand) ws.items
-            × AllHaveDone (IsRun (J.takes_hand job.entry.now) (J.runs job.entry.now)) hands.items ws.items) }
-    { work_lanes(rt, alloc, first, lanes, count, job, hands, gate) };
-    let there = move || -> Result<Vec<Worker<H, O>>, AllocError>
-        requires { IsSync R.row × IsSync J.row × IsSync G.row × IsSend H.row × IsSend O.row × (0 < vec_len others) × (next + vec_len others ≤ lanes)
-            × ((n : ℕ) → n < count → J.has_task job.now n) × All (J.takes_hand job.now) others.items }
-        ensures { IfOk result (λ ws. HasLanes lanes count next (vec_len others) (tasks_by ws.items) × All (λ w. J.takes_hand job.entry.now w.hand) ws.items
-            × AllHaveDone (IsRun (J.takes_hand job.entry.now) (J.runs job.entry.now)) others.items ws.items) }
-    { work_lanes(rt, alloc, next, lanes, count, job, others, gate) };
+    let stay = hands.len() - half;
+    let next = first + stay;
+    let others = hands.split_off(stay)?;
+    let place = lanes.split(&mut seat);
+    let here = move || -> Result<Finished<H, O>, AllocError>
+        requires { IsSync R.row × IsSync J.row × IsSync G.row × IsSend H.row × IsSend O.row × (0 < vec_len hands) × (first + vec_len hands ≤ lanes.now.shape.lanes)
+            × (seat.table_id ≡ lanes.now.table.shared.table_id) × (seat.me ≡ (seat_view lanes.now.shape.lanes (vec_len hands) [], []))
+            × ((n : ℕ) → n < lanes.now.shape.count → J.has_task job.now n) × All (J.takes_hand job.now) hands.items }
+        ensures { IfOk result (λ r. (r.1.table_id ≡ lanes.entry.now.table.shared.table_id) × (r.1.me.1 ≡ []) × All (λ w. J.takes_hand job.entry.now w.hand) r.0.items
+            × IsWorked (IsRun (J.takes_hand job.entry.now) (J.runs job.entry.now)) lanes.entry.now.shape.lanes lanes.entry.now.shape.count hands.items r.0.items r.1.me.0) }
+    { work_halves(rt, alloc, lanes, first, job, hands, gate, seat) };
+    let there = move || -> Result<Finished<H, O>, AllocError>
+        requires { IsSync R.row × IsSync J.row × IsSync G.row × IsSend H.row × IsSend O.row × (0 < vec_len others) × (next + vec_len others ≤ lanes.now.shape.lanes)
+            × (place.table_id ≡ lanes.now.table.shared.table_id) × (place.me ≡ (seat_view lanes.now.shape.lanes (vec_len others) [], []))
+            × ((n : ℕ) → n < lanes.now.shape.count → J.has_task job.now n) × All (J.takes_hand job.now) others.items }
+        ensures { IfOk result (λ r. (r.1.table_id ≡ lanes.entry.now.table.shared.table_id) × (r.1.me.1 ≡ []) × All (λ w. J.takes_hand job.entry.now w.hand) r.0.items
+            × IsWorked (IsRun (J.takes_hand job.entry.now) (J.runs job.entry.now)) lanes.entry.now.shape.lanes lanes.entry.now.shape.count others.items r.0.items r.1.me.0) }
+    { work_halves(rt, alloc, lanes, next, job, others, gate, place) };
     let (those, these) = join(rt, there, here);
-    let mut workers = these?;
-    let mut more = those?;
+    let (mut workers, mut seat) = these?;
+    let (mut more, other) = those?;
     workers.append(&mut more)?;
-    Ok(workers)
+    lanes.join(&mut seat, other);
+    Ok((workers, seat))
 }
 
-/// Works all lanes, one for each hand. No thread is started for a lane that has no task.
+/// At most so many workers, each with a lane of its own, run all tasks. No thread is started for a lane that could have no task,
+/// and the hands behind them stay idle.
 fn work_all<
     R: Threads + Sync,
     H: Send + Drop,
@@ -99,32 +116,76 @@ fn work_all<
 >(
     rt: &R,
     alloc: Global,
+    most: usize,
     count: usize,
     job: &J,
     mut hands: Vec<H>,
     gate: &G,
 ) -> Result<Vec<Worker<H, O>>, AllocError>
-    requires some { 0 < vec_len hands }
+    requires some { (0 < vec_len hands) × (vec_len hands ≤ 32) }
+    requires most { 0 < most }
+    requires room { count ≤ 2 ^ 63 }
     requires tasks { (n : ℕ) → n < count → J.has_task job.now n }
     requires hands { All (J.takes_hand job.now) hands.items }
     ensures once { IfOk result (λ ws. HasEachOnce count (tasks_by ws.items)) }
     ensures fit { IfOk result (λ ws. All (λ w. J.takes_hand job.now w.hand) ws.items) }
     ensures hands { IfOk result (λ ws. AllHaveDone (IsRun (J.takes_hand job.now) (J.runs job.now)) hands.items ws.items) }
+    ensures idle { IfOk result (λ ws. All (λ w. w.done.items ≡ []) (drop most ws.items)) }
 {
-    let lanes = hands.len();
-    let busy = lanes.min(count.max(1));
+    let busy = hands.len().min(most).min(count.max(1));
     let others = hands.split_off(busy)?;
-    let mut workers = work_lanes(rt, alloc, 0, lanes, count, job, hands, gate)?;
+    let (lanes, seat) = Lanes::open(alloc, busy, count)?;
+    let (mut workers, seat) = work_halves(rt, alloc, &lanes, 0, job, hands, gate, seat)?;
+    lanes.close(seat);
     let mut idle = idle_workers(alloc, others)?;
     workers.append(&mut idle)?;
     Ok(workers)
 }
 
-/// Runs each task below the count once, by as many workers as there are hands. The task `n` is run by the worker of the
-/// lane `n % lanes`, and a worker runs its tasks in rising order.
+/// Runs each task below the count once, by at most `most` of the workers, which are those of the first hands.
 ///
-/// The caller's own thread works the first lane, and each other lane that has tasks has a thread of its own. Where no
-/// thread can be made, the one that asked for it works its lanes too. Places for all outs are made before any task is run.
+/// The tasks lie in as many lanes as workers take part: task `n` in the lane `n % lanes`. A worker draws tasks from its own lane
+/// until there are none left, and then from each other lane in turn, one at a time and each lane's in rising order. No worker takes
+/// part for want of a task, so where there is one task, or one worker at most, no thread is started.
+///
+/// The caller's own thread is the first worker, and each other one has a thread of its own. Where no thread can be made, the one
+/// that asked for it does that worker's part too. Places for all outs are made before any task is run.
+pub fn work_by<
+    R: Threads + Sync,
+    J: Job<Hand = H, Out = O> + Sync,
+    G: Gate + Sync,
+    H: Send + Drop,
+    O: Send + Drop,
+>(
+    rt: &R,
+    alloc: Global,
+    lanes: usize,
+    most: usize,
+    count: usize,
+    job: &J,
+    hands: Vec<H>,
+    gate: &G,
+) -> Result<Worked<H, O>, PoolError>
+    requires lanes { (0 < lanes) × (lanes ≤ 32) }
+    requires most { 0 < most }
+    requires hands { vec_len hands ≡ lanes }
+    requires tasks { (n : ℕ) → n < count → J.has_task job.now n }
+    requires fit { All (J.takes_hand job.now) hands.items }
+    ensures len { IfOk result (λ w. (vec_len w.outs ≡ count) × (vec_len w.hands ≡ lanes) × (vec_len w.lists ≡ lanes)) }
+    ensures once { IfOk result (λ w. IsPermutation (range_with_len 0 count) (concat (map (λ list. list.items) w.lists.items))) }
+    ensures outs { IfOk result (λ w. (n : ℕ) → n < count → (before : H) × (after : H)
+        × RunsTask (J.takes_hand job.now) (J.runs job.now) w.outs.items before n after) }
+    ensures fit { IfOk result (λ w. All (J.takes_hand job.now) w.hands.items) }
+    ensures hands { IfOk result (λ w. RunsLists (J.takes_hand job.now) (J.runs job.now) w.outs.items hands.items
+        (map (λ list. list.items) w.lists.items) w.hands.items) }
+    ensures idle { IfOk result (λ w. All (λ list. vec_len list ≡ 0) (drop most w.lists.items)) }
+{
+    let places = Places::new(alloc, count)?;
+    let workers = work_all(rt, alloc, most, count, job, hands, gate)?;
+    Ok(gather(alloc, count, places, workers)?)
+}
+
+/// Runs each task below the count once, by as many workers as there are hands, as `work_by` does.
 pub fn work<
     R: Threads + Sync,
     J: Job<Hand = H, Out = O> + Sync,
@@ -152,7 +213,5 @@ pub fn work<
     ensures hands { IfOk result (λ w. RunsLists (J.takes_hand job.now) (J.runs job.now) w.outs.items hands.items
         (map (λ list. list.items) w.lists.items) w.hands.items) }
 {
-    let places = Places::new(alloc, count)?;
-    let workers = work_all(rt, alloc, count, job, hands, gate)?;
-    Ok(gather(alloc, count, places, workers)?)
+    work_by(rt, alloc, lanes, lanes, count, job, hands, gate)
 }

@@ -1,7 +1,7 @@
 use Rattle.std.proofs.Common.{◌≡◌, ◌∙◌, [], ◌++◌, All, IsSome, map, ap, sym, subst, refl}
 use Rattle.std.proofs.lemmas.List.{map_push, nil_from_length}
 use Rattle.std.specs.Vec.Iter.{into_iter_items}
-use Rattle.asm_pool.specs.Lanes.{tasks_of, done_by, placed}
+use Rattle.asm_pool.specs.Finished.{tasks_of, done_by, placed}
 use Rattle.asm_pool.proofs.Places.{all_some, stand_in, outs_count}
 use Rattle.asm_pool.proofs.Gathering.{push-rest, worker-room, workers-room, workers-placed, room-init, places-all}
 use Rattle.asm_pool.proofs.collect.gather.Goals as goal

@@ -1,8 +1,8 @@
-use Rattle.std.proofs.Common.{All, vec_len, subst, sym, arith}
+use Rattle.std.proofs.Common.{All, ◌≡◌, ◌∙◌, vec_len, subst, sym, arith}
 use Rattle.std.proofs.lemmas.List.Elements.{All-append, All-drop}
 use Rattle.asm_pool.specs.Pool.{IsRun}
-use Rattle.asm_pool.proofs.Counting.{idle-lanes}
-use Rattle.asm_pool.proofs.Halves.{all-once, both-hands, idle-done, idle-fit}
+use Rattle.asm_pool.proofs.Halves.{both-hands, idle-behind, idle-done, idle-fit, idle-once, zip-length}
+use Rattle.asm_pool.proofs.Working.{all-worked}
 use Rattle.asm_pool.proofs.pool.work_all.Goals as goal
 
 pub returns-clause-fit : goal.returns-clause-fit
@@ -17,14 +17,19 @@ returns-clause-hands g c =
     let cut = c.in_ok-others.ensures in
     let runs = IsRun (g.J.Job.takes_hand c.args.job.now) (g.J.Job.runs c.args.job.now) in
     both-hands runs c.args.hands.items c.split_off.new.self.items c.in_ok-others.others.items _ c.in_ok-workers.workers.items c.in_ok-idle.idle.items c.append.new.self.items
-    cut.items cut.tail c.in_ok-append.ensures.items c.in_ok-workers.ensures.hands (idle-done runs c.in_ok-others.others.items c.in_ok-idle.idle.items c.in_ok-idle.ensures.hands c.in_ok-idle.ensures.idle)
+    cut.items cut.tail c.in_ok-append.ensures.items c.in_ok-workers.ensures.worked.ran (idle-done runs c.in_ok-others.others.items c.in_ok-idle.idle.items c.in_ok-idle.ensures.hands c.in_ok-idle.ensures.idle)
 
 pub returns-clause-once : goal.returns-clause-once
 returns-clause-once g c =
+    let runs = IsRun (g.J.Job.takes_hand c.args.job.now) (g.J.Job.runs c.args.job.now) in
+    let table = c.in_ok-lanes.lanes in
+    idle-once runs c.args.count c.in_ok-workers.workers.items c.in_ok-idle.idle.items c.append.new.self.items c.in_ok-append.ensures.items c.in_ok-idle.ensures.idle
+    (all-worked runs table.shape.lanes table.shape.count c.args.count c.split_off.new.self.items c.in_ok-workers.workers.items c.in_ok-workers.seat.me.0 table.some.0 c.in_ok-lanes.ensures.shape.1 c.close.ensures c.in_ok-workers.ensures.worked)
+
+pub returns-clause-idle : goal.returns-clause-idle
+returns-clause-idle g c =
     let cut = c.in_ok-others.ensures in
-    let all = c.len-lanes.ensures in
-    let lanes = c.len-lanes.result in
-    let busy = vec_len c.split_off.new.self in
-    let idle = vec_len c.in_ok-others.others in
-    all-once lanes c.args.count busy idle c.in_ok-workers.workers.items c.in_ok-idle.idle.items c.append.new.self.items (omega (arith, all, c.requires.some)) (omega (arith, all, cut.len, cut.tail_len)) c.in_ok-append.ensures.items
-    c.in_ok-workers.ensures.lanes c.in_ok-idle.ensures.idle (idle-lanes lanes c.args.count busy idle (omega (arith, all, cut.len, c.min-busy.ensures, c.max.ensures)) (omega (arith, all, cut.len, cut.tail_len)))
+    let ran = c.in_ok-workers.ensures.worked.ran in
+    let zip = zip-length _ c.split_off.new.self.items c.in_ok-workers.workers.items ran in
+    idle-behind c.args.most c.in_ok-workers.workers.items c.in_ok-idle.idle.items c.append.new.self.items c.in_ok-append.ensures.items
+    (omega (arith, zip, cut.len, c.split_off.new.self.ok.0, c.min-busy.ensures, c.min.ensures)) c.in_ok-idle.ensures.idle

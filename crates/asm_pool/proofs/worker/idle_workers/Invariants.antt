@@ -1,7 +1,7 @@
 use Rattle.std.proofs.Common.{◌≡◌, [], ◌++◌, map}
 use Rattle.std.specs.Vec.Iter.{into_iter_items}
-use Rattle.asm_pool.specs.Lanes.{done_by}
-use Rattle.asm_pool.proofs.lane.idle_workers.Given as goal
+use Rattle.asm_pool.specs.Finished.{done_by}
+use Rattle.asm_pool.proofs.worker.idle_workers.Given as goal
 
 abbrev pub invariant-loop-hand : goal.invariant-loop-hand
 invariant-loop-hand g l = record {

@@ -1,7 +1,6 @@
-//! One worker's work.
-ghost use Rattle.std.specs.Prelude.{◌≡◌, ℕ, ◌<◌, ◌%◌, [], IfOk, map};
-ghost use Rattle.asm_pool.specs.Lanes.{HasLanes, HasDone, tasks_of, done_by};
-ghost use Rattle.asm_pool.specs.Pool.{IsRun};
+//! What one worker has, and one run of a task.
+ghost use Rattle.std.specs.Prelude.{◌≡◌, [], IfOk, map};
+ghost use Rattle.asm_pool.specs.Finished.{done_by};
 
 use crate::gate::Gate;
 use crate::job::Job;
@@ -22,7 +21,12 @@ pub(crate) struct Worker<Hand, Out> {
 }
 
 /// Runs a task between the two calls of the gate.
-fn run_one<J: Job, G: Gate>(job: &J, gate: &G, task: usize, hand: &mut J::Hand) -> Done<J::Out>
+pub(crate) fn run_one<J: Job, G: Gate>(
+    job: &J,
+    gate: &G,
+    task: usize,
+    hand: &mut J::Hand,
+) -> Done<J::Out>
     requires task { J.has_task job.now task }
     requires hand { J.takes_hand job.now hand.old }
     ensures task { result.task ≡ task }
@@ -33,34 +37,6 @@ fn run_one<J: Job, G: Gate>(job: &J, gate: &G, task: usize, hand: &mut J::Hand) 
     let out = job.run(task, hand);
     gate.done(task);
     Done { task, out }
-}
-
-/// Runs the lane's tasks in rising order.
-pub(crate) fn work_lane<H: Drop, O: Drop, J: Job<Hand = H, Out = O>, G: Gate>(
-    alloc: Global,
-    lane: usize,
-    lanes: usize,
-    count: usize,
-    job: &J,
-    hand: H,
-    gate: &G,
-) -> Result<Worker<H, O>, AllocError>
-    requires lane { lane < lanes }
-    requires tasks { (n : ℕ) → n < count → J.has_task job.now n }
-    requires hand { J.takes_hand job.now hand }
-    ensures lane { IfOk result (λ w. HasLanes lanes count lane 1 (tasks_of w.done.items)) }
-    ensures fit { IfOk result (λ w. J.takes_hand job.now w.hand) }
-    ensures hand { IfOk result (λ w. HasDone (IsRun (J.takes_hand job.now) (J.runs job.now)) hand w.done.items w.hand) }
-{
-    let mut hand = hand;
-    let mut done = Vec::new(alloc);
-    let mut task = lane;
-    while task < count {
-        done.reserve(1)?;
-        done.push_reserved(run_one(job, gate, task, &mut hand));
-        task = task.saturating_add(lanes);
-    }
-    Ok(Worker { hand, done })
 }
 
 /// A worker for each hand, which has done nothing.

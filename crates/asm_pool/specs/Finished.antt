@@ -1,12 +1,11 @@
--- Tasks in lanes, and what workers have done. Task n lies in lane n % lanes.
+-- What workers have done.
 --     HasEachOnce     a list has the numbers below a count, each once, and no other
---     HasLanes        a list has the tasks of some lanes next to each other, each once, and no other
 --     HasDone         what a worker has done leads from its first hand to its last
 --     StandIn         each out stands in its task's place
-use Rattle.std.specs.Prelude.{◌≡◌, ℕ, ◌+◌, ◌%◌, ◌==◌, Bool, List, [], ◌∷◌, map, nat_lt, nat_le, if◌then◌else◌, ◌&&◌, Some, Option, slice_set}
+use Rattle.std.specs.Prelude.{◌≡◌, ℕ, ◌+◌, ◌==◌, List, [], ◌∷◌, map, nat_lt, if◌then◌else◌, Some, Option, slice_set}
 use Rattle.std.specs.List.{FoldsTo, AllZip, All, flat_map, slice_get}
-use Rattle.asm_pool.specs.declared.lane.Done.{Done}
-use Rattle.asm_pool.specs.declared.lane.Worker.{Worker}
+use Rattle.asm_pool.specs.declared.worker.Done.{Done}
+use Rattle.asm_pool.specs.declared.worker.Worker.{Worker}
 
 -- how often a number stands in a list
 abbrev pub times : ℕ → List ℕ → ℕ
@@ -16,14 +15,6 @@ times n (task ∷ tasks) = (if task == n then 1 else 0) + times n tasks
 -- the numbers below the count, each once, and no other
 abbrev pub HasEachOnce : ℕ → List ℕ → Type 0
 HasEachOnce count tasks = (n : ℕ) → times n tasks ≡ (if nat_lt n count then 1 else 0)
-
--- a task lies below the count, in one of the lanes from first to before first + few
-abbrev pub is_in_lanes : ℕ → ℕ → ℕ → ℕ → ℕ → Bool
-is_in_lanes lanes count first few n = nat_lt n count && (nat_le first (n % lanes) && nat_lt (n % lanes) (first + few))
-
--- the tasks of the lanes from first to before first + few, each once, and no other
-abbrev pub HasLanes : ℕ → ℕ → ℕ → ℕ → List ℕ → Type 0
-HasLanes lanes count first few tasks = (n : ℕ) → times n tasks ≡ (if is_in_lanes lanes count first few n then 1 else 0)
 
 module _ {Out : Type 0} where
   abbrev pub tasks_of : List (Done Out) → List ℕ

@@ -1,0 +1,278 @@
+//! Tasks that meet: two workers are seen to run at once.
+ghost use Rattle.std.specs.Prelude.{◌≡◌, ◌<◌};
+
+use super::Adding;
+use crate::gate::{Gate, NoGate};
+use crate::job::Job;
+use crate::pool::work;
+use std::sync::atomic::{AtomicBool, AtomicU8, AtomicU64, Ordering};
+use std::test::Fail;
+
+const MOST_TURNS: u32 = 100_000_000;
+
+/// Where two tasks meet: who comes waits for the other.
+#[derive(Drop)]
+struct Meeting {
+    tasks: [usize; 2],
+    come: [AtomicBool; 2],
+    met: AtomicU64,
+    late: AtomicBool,
+}
+
+impl Meeting {
+    fn of(tasks: [usize; 2]) -> Meeting {
+        Meeting {
+            tasks,
+            come: [AtomicBool::new(false), AtomicBool::new(false)],
+            met: AtomicU64::new(0),
+            late: AtomicBool::new(false),
+        }
+    }
+
+    fn meet(&self, task: usize) {
+        let [one, other] = self.tasks;
+        let [first, second] = &self.come;
+        if task == one {
+            self.wait(first, second);
+        } else if task == other {
+            self.wait(second, first);
+        }
+    }
+
+    fn wait(&self, mine: &AtomicBool, other: &AtomicBool) {
+        mine.store(true, Ordering::SeqCst);
+        for _ in 0..MOST_TURNS {
+            if other.load(Ordering::SeqCst) {
+                self.met.fetch_add(1, Ordering::SeqCst);
+                return;
+            }
+        }
+        self.late.store(true, Ordering::SeqCst);
+    }
+
+    /// How many have met the other. None of them has waited in vain.
+    fn met(&self) -> u64 {
+        if self.late.load(Ordering::SeqCst) {
+            return 0;
+        }
+        self.met.load(Ordering::SeqCst)
+    }
+}
+
+/// How far each of two tasks is: 0 at first, 1 once it is taken, 2 once it is run, 3 once it is done.
+#[derive(Drop)]
+struct Steps {
+    tasks: [usize; 2],
+    first: AtomicU8,
+    second: AtomicU8,
+    astray: AtomicBool,
+}
+
+impl Steps {
+    fn of(tasks: [usize; 2]) -> Steps {
+        Steps {
+            tasks,
+            first: AtomicU8::new(0),
+            second: AtomicU8::new(0),
+            astray: AtomicBool::new(false),
+        }
+    }
+
+    fn go(&self, task: usize, from: u8, to: u8) {
+        let [one, other] = self.tasks;
+        let step = if task == one {
+            &self.first
+        } else if task == other {
+            &self.second
+        } else {
+            return;
+        };
+        if step
+            .compare_exchange(from, to, Ordering::SeqCst, Ordering::SeqCst)
+            .is_err()
+        {
+            self.astray.store(true, Ordering::SeqCst);
+        }
+    }
+
+    /// Both are done, by each step once and in order.
+    fn are_done(&self) -> bool {
+        !self.astray.load(Ordering::SeqCst)
+            && self.first.load(Ordering::SeqCst) == 3
+            && self.second.load(Ordering::SeqCst) == 3
+    }
+}
+
+/// Holds each of two tasks that are taken until the other is.
+#[derive(Clone, Copy)]
+struct Holding<'a> {
+    steps: &'a Steps,
+    meeting: &'a Meeting,
+}
+
+impl Gate for Holding<'_> {
+    fn taken(&self, task: usize) {
+        self.steps.go(task, 0, 1);
+        self.meeting.meet(task);
+    }
+
+    fn done(&self, task: usize) {
+        self.steps.go(task, 2, 3);
+    }
+}
+
+/// Tasks of which two are seen to run.
+#[derive(Clone, Copy)]
+struct Seen<'a> {
+    steps: &'a Steps,
+}
+
+impl Job for Seen<'_> {
+    type Hand = u64;
+
+    type Out = usize;
+
+    ghost has_task = { λ job n. Unit {0} };
+
+    ghost takes_hand = { λ job hand. Unit {0} };
+
+    ghost runs = { λ job n before out after. (out ≡ n) × (after ≡ before) };
+
+    fn run(&self, task: usize, _hand: &mut u64) -> usize {
+        self.steps.go(task, 1, 2);
+        task
+    }
+}
+
+/// Tasks of which two meet while they run.
+#[derive(Clone, Copy)]
+struct Joined<'a> {
+    meeting: &'a Meeting,
+}
+
+impl Job for Joined<'_> {
+    type Hand = u64;
+
+    type Out = usize;
+
+    ghost has_task = { λ job n. Unit {0} };
+
+    ghost takes_hand = { λ job hand. Unit {0} };
+
+    ghost runs = { λ job n before out after. (out ≡ n) × (after ≡ before) };
+
+    fn run(&self, task: usize, _hand: &mut u64) -> usize {
+        self.meeting.meet(task);
+        task
+    }
+}
+
+#[test]
+fn two_lanes_meet(rt: HostRuntime) -> Result<(), Fail> {
+    let steps = Steps::of([0, 1]);
+    let meeting = Meeting::of([0, 1]);
+    let gate = Holding {
+        steps: &steps,
+        meeting: &meeting,
+    };
+    let job = Seen { steps: &steps };
+    let hands = vec![in rt.alloc(); 0u64, 0]?;
+    let worked = work(&rt, rt.alloc(), 2, 2, &job, hands, &gate)?;
+    assert_eq!(rt; meeting.met(), 2);
+    assert!(rt; steps.are_done());
+    assert_eq!(rt; worked.lists.len(), 2);
+    assert_eq!(rt; worked.lists[0].as_slice(), [0].as_slice());
+    assert_eq!(rt; worked.lists[1].as_slice(), [1].as_slice());
+    Ok(())
+}
+
+#[test]
+fn two_runs_meet(rt: HostRuntime) -> Result<(), Fail> {
+    let meeting = Meeting::of([0, 1]);
+    let job = Joined { meeting: &meeting };
+    let hands = vec![in rt.alloc(); 0u64, 0]?;
+    let worked = work(&rt, rt.alloc(), 2, 2, &job, hands, &NoGate)?;
+    assert_eq!(rt; meeting.met(), 2);
+    assert_eq!(rt; worked.outs.as_slice(), [0, 1].as_slice());
+    Ok(())
+}
+
+/// Both tasks lie in the first lane, so neither one worker alone nor fixed shares can pass.
+#[test]
+fn two_on_one_lane(rt: HostRuntime) -> Result<(), Fail> {
+    let steps = Steps::of([0, 2]);
+    let meeting = Meeting::of([0, 2]);
+    let gate = Holding {
+        steps: &steps,
+        meeting: &meeting,
+    };
+    let job = Seen { steps: &steps };
+    let hands = vec![in rt.alloc(); 0u64, 0]?;
+    let worked = work(&rt, rt.alloc(), 2, 3, &job, hands, &gate)?;
+    assert_eq!(rt; meeting.met(), 2);
+    assert!(rt; steps.are_done());
+    assert_eq!(rt; worked.outs.as_slice(), [0, 1, 2].as_slice());
+    assert_eq!(rt; worked.lists.len(), 2);
+    let first = worked.lists[0].as_slice();
+    assert!(rt; first.contains(&0) != first.contains(&2));
+    Ok(())
+}
+
+/// Two runs of the first lane's tasks meet.
+#[test]
+fn two_runs_of_one_lane_meet(rt: HostRuntime) -> Result<(), Fail> {
+    let meeting = Meeting::of([0, 2]);
+    let job = Joined { meeting: &meeting };
+    let hands = vec![in rt.alloc(); 0u64, 0]?;
+    let worked = work(&rt, rt.alloc(), 2, 3, &job, hands, &NoGate)?;
+    assert_eq!(rt; meeting.met(), 2);
+    assert_eq!(rt; worked.outs.as_slice(), [0, 1, 2].as_slice());
+    Ok(())
+}
+
+/// Holds the task 0 until all others are done.
+#[derive(Drop)]
+struct HoldingOne {
+    others: u64,
+    done: AtomicU64,
+    held: AtomicBool,
+    late: AtomicBool,
+}
+
+impl Gate for HoldingOne {
+    fn taken(&self, task: usize) {
+        if task != 0 {
+            return;
+        }
+        for _ in 0..MOST_TURNS {
+            if self.done.load(Ordering::SeqCst) == self.others {
+                self.held.store(true, Ordering::SeqCst);
+                return;
+            }
+        }
+        self.late.store(true, Ordering::SeqCst);
+    }
+
+    fn done(&self, task: usize) {
+        if task != 0 {
+            self.done.fetch_add(1, Ordering::SeqCst);
+        }
+    }
+}
+
+/// While one worker is held in a task, the others run all other tasks, those of its lane too.
+#[test]
+fn one_worker_is_held(rt: HostRuntime) -> Result<(), Fail> {
+    let gate = HoldingOne {
+        others: 29,
+        done: AtomicU64::new(0),
+        held: AtomicBool::new(false),
+        late: AtomicBool::new(false),
+    };
+    let hands = vec![in rt.alloc(); 0u64, 0, 0]?;
+    let worked = work(&rt, rt.alloc(), 3, 30, &Adding, hands, &gate)?;
+    assert!(rt; gate.held.load(Ordering::SeqCst));
+    assert!(rt; !gate.late.load(Ordering::SeqCst));
+    assert_eq!(rt; worked.outs.len(), 30);
+    Ok(())
+}
