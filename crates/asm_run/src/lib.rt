@@ -2,6 +2,7 @@
 #![tactic(auto)]
 
 mod add_set;
+mod cheap;
 pub mod end;
 pub mod error;
 mod finish;

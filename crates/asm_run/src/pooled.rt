@@ -12,6 +12,7 @@ ghost use Rattle.asm_eval.specs.Valued.{program, shown};
 ghost use Rattle.asm_run.specs.Limits.{are_in_range};
 
 use crate::add_set::add_set;
+use crate::cheap::is_cheap;
 use crate::limits::Limits;
 use crate::region::work_region;
 use crate::rounds::Shares;
@@ -27,7 +28,7 @@ use asm_syntax::rule::Rule;
 use std::alloc::{AllocError, Global};
 use std::thread::Threads;
 
-/// Works a region in fixed shares: in so many rounds it is cut into pieces, which the workers share.
+/// Works a region by many workers: in so many rounds it is cut into pieces, which the workers share.
 #[derive(Drop)]
 pub struct Pooled<'r, R, G> {
     rt: &'r R,
@@ -68,7 +69,7 @@ impl<'r, R: Threads + Sync, G: Gate + Sync> Pooled<'r, R, G> {
         ensures { let o = does (program checked.now) turns (P.script choices.now.script.now) choices.now.step (shown view.now) (environment env.now) path.now (plain.plain_rule (rule_of rule.now)) in
             IfOk result (IsFormed view.now.signature.now o) }
     {
-        if self.shares.workers == 1 {
+        if self.shares.workers == 1 || self.is_left_whole(checked, rule) {
             return whole(alloc, checked, view, env, rule, choices, path, turns);
         }
         self.work(alloc, checked, view, env, rule, choices, path, turns)
@@ -136,6 +137,11 @@ impl<'r, R: Threads + Sync, G: Gate + Sync> Pooled<'r, R, G> {
         walk::form_by_regions(alloc, &regions, evaluation, env, rule, made)
     }
 
+    /// Whether a region takes so little work that it isn't shared. Where there is one round of opening at most, each region is.
+    fn is_left_whole(&self, checked: &Checked, rule: &Rule) -> bool {
+        self.shares.rounds > 1 && is_cheap(checked, rule)
+    }
+
     /// Forms what a region yields at the path where the evaluation stands, by rounds of workers.
     fn form_region<'a, 'e, P: Picks + Sync>(
         &self,
@@ -153,6 +159,15 @@ impl<'r, R: Threads + Sync, G: Gate + Sync> Pooled<'r, R, G> {
         ensures { let o = does (program checked.now) turns (P.script choices.now.script.now) choices.now.step (shown view.now) (environment env.now) made.old.path.items (meant rule.now) in
             Follows view.now.signature.now o made.old made.new result }
     {
+        if self.is_left_whole(checked, rule) {
+            let scene = Scene { checked, view };
+            let evaluation = Evaluation {
+                scene,
+                choices,
+                turns,
+            };
+            return form(alloc, &evaluation, env, rule, made);
+        }
         let outcome = self.work(
             alloc,
             checked,

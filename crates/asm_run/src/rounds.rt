@@ -7,12 +7,13 @@ ghost use Rattle.asm_eval.specs.Pieces.{IsPiece, pieces_do};
 ghost use Rattle.asm_run.specs.Hands.{TakesHand, parts_of};
 ghost use Rattle.asm_run.specs.Rounds.{Holds, IsRound, answers, first_of, least, news, tally};
 
+use crate::cheap::are_cheap;
 use crate::hand::RegionHand;
 use crate::job::{RegionJob, RegionOut};
 use asm_check::shared::checked_is_shared;
 use asm_eval::shared::views_and_pieces_are_shared;
 use asm_eval::{Evaluation, Path, Piece};
-use asm_pool::{Gate, PoolError, work};
+use asm_pool::{Gate, PoolError, work_by};
 use asm_reader::Picks;
 use asm_striped::Striped;
 use asm_striped::shared::striped_is_shared;
@@ -118,6 +119,16 @@ struct Round<'a> {
     so_far: SoFar,
 }
 
+/// So many workers are worth a round at most: one where it only opens pieces, and that takes little work.
+fn most_workers<P: Picks>(region: &Region<'_, P>, cut: Option<usize>, pieces: &[Piece<'_>]) -> usize
+    ensures { 0 < result }
+{
+    if cut.is_some() && are_cheap(region.evaluation.scene.checked, pieces) {
+        return 1;
+    }
+    region.shares.workers
+}
+
 /// Opens the pieces, or works them whole, each once. The new pieces borrow from them. Where there are enough of them, a `forall` that isn't
 /// longer than the cut isn't opened: each of its elements would be a piece.
 fn work_round<'a, R: Threads + Sync, G: Gate + Sync, P: Picks + Sync>(
@@ -154,7 +165,9 @@ fn work_round<'a, R: Threads + Sync, G: Gate + Sync, P: Picks + Sync>(
         are_enough: workers * ENOUGH <= pieces.len(),
         striped: region.striped,
     };
-    let worked = work(rt, alloc, workers, pieces.len(), &job, so_far.hands, gate)?;
+    let most = most_workers(region, cut, pieces);
+    let count = pieces.len();
+    let worked = work_by(rt, alloc, workers, most, count, &job, so_far.hands, gate)?;
     let all = collect(alloc, worked.outs, so_far.instances, so_far.exhausted)?;
     Ok(Round {
         next: all.next,

@@ -1,0 +1,180 @@
+//! Whether some work is so little that one worker had better do it alone: a guess, on which no trace depends.
+use asm_check::laws::signature_numbers;
+use asm_check::{Checked, Named};
+use asm_eval::{Part, Piece};
+use asm_syntax::name::Name;
+use asm_syntax::rule::Rule;
+use asm_syntax::term::Term;
+
+/// So many nodes of rules and terms are evaluated in less time than a thread takes to start and to end.
+const FEW: u32 = 200;
+
+/// Whether the rule is evaluated by few nodes, whatever the state. Calls, derived functions and `iterate` may take any number.
+pub(crate) fn is_cheap(checked: &Checked, rule: &Rule) -> bool {
+    behind_rule(checked, rule, FEW).is_some()
+}
+
+/// Whether all of these pieces are opened by few nodes, and worked by few where they can't be opened.
+pub(crate) fn are_cheap(checked: &Checked, pieces: &[Piece<'_>]) -> bool {
+    let mut left = FEW;
+    for piece in pieces {
+        match behind_opening(checked, piece, left) {
+            Some(rest) => left = rest,
+            None => return false,
+        }
+    }
+    true
+}
+
+/// What is left of so many nodes behind the opening of a piece. None: there are not so many.
+fn behind_opening(checked: &Checked, piece: &Piece<'_>, left: u32) -> Option<u32> {
+    match piece.rule {
+        Rule::Skip | Rule::Assign { .. } | Rule::Seq(_) | Rule::Iterate(_) => {
+            behind_rule(checked, piece.rule, left)
+        }
+        Rule::Par(rules) => left.checked_sub(few(rules.len())),
+        Rule::Call { arguments, .. } => left.checked_sub(few(arguments.len()))?.checked_sub(1),
+        Rule::If { test, .. } => behind_term(checked, test, left),
+        Rule::Let { value, .. } => behind_term(checked, value, left),
+        Rule::Choose { over, test, .. } => {
+            behind_tests(checked, elements_of(checked, over), test.as_ref(), left)
+        }
+        Rule::Forall { over, test, .. } => {
+            let elements = match piece.part {
+                Part::Whole => elements_of(checked, over),
+                Part::Span { from, to } => few(to.saturating_sub(from)),
+            };
+            behind_tests(checked, elements, test.as_ref(), left)
+        }
+    }
+}
+
+/// What is left of so many nodes behind a rule's evaluation.
+fn behind_rule(checked: &Checked, rule: &Rule, left: u32) -> Option<u32> {
+    let left = left.checked_sub(1)?;
+    match rule {
+        Rule::Skip => Some(left),
+        Rule::Assign {
+            arguments,
+            value,
+            ..
+        } => {
+            behind_term(
+                checked,
+                value,
+                behind_terms(checked, arguments.as_slice(), left)?,
+            )
+        }
+        Rule::Par(rules) | Rule::Seq(rules) => {
+            let mut left = left;
+            for rule in rules {
+                left = behind_rule(checked, rule, left)?;
+            }
+            Some(left)
+        }
+        Rule::If { test, yes, no } => {
+            let left = behind_rule(checked, yes, behind_term(checked, test, left)?)?;
+            behind_other(checked, no.as_ref(), left)
+        }
+        Rule::Let { value, body, .. } => {
+            behind_rule(checked, body, behind_term(checked, value, left)?)
+        }
+        Rule::Forall {
+            over,
+            test,
+            body,
+            ..
+        } => {
+            let elements = elements_of(checked, over);
+            let left = behind_tests(checked, elements, test.as_ref(), left)?;
+            let share = left.checked_div(elements)?;
+            behind_each(elements, share, behind_rule(checked, body, share)?, left)
+        }
+        Rule::Choose {
+            over,
+            test,
+            body,
+            none,
+            ..
+        } => {
+            let left = behind_tests(checked, elements_of(checked, over), test.as_ref(), left)?;
+            behind_other(checked, none.as_ref(), behind_rule(checked, body, left)?)
+        }
+        Rule::Call { .. } | Rule::Iterate(_) => None,
+    }
+}
+
+/// What is left behind a rule that may be missing.
+fn behind_other(checked: &Checked, rule: Option<&Box<Rule>>, left: u32) -> Option<u32> {
+    match rule {
+        Some(rule) => behind_rule(checked, rule, left),
+        None => Some(left),
+    }
+}
+
+/// What is left of so many nodes behind a term's evaluation.
+fn behind_term(checked: &Checked, term: &Term, left: u32) -> Option<u32> {
+    let left = left.checked_sub(1)?;
+    match term {
+        Term::Constant(_) => Some(left),
+        Term::Named { name, arguments } => {
+            if matches!(checked.named(&name.text), Some(Named::Derived(_))) {
+                return None;
+            }
+            behind_terms(checked, arguments.as_slice(), left)
+        }
+        Term::Chain { first, rest } => {
+            let mut left = behind_term(checked, first, left)?;
+            for (_, operand) in rest {
+                left = behind_term(checked, operand, left)?;
+            }
+            Some(left)
+        }
+        Term::Not(negated) | Term::Negative(negated) => behind_term(checked, negated, left),
+        Term::Exists { over, test, .. } | Term::Every { over, test, .. } => {
+            let elements = elements_of(checked, over);
+            let share = left.checked_div(elements)?;
+            behind_each(elements, share, behind_term(checked, test, share)?, left)
+        }
+    }
+}
+
+/// What is left behind these terms.
+fn behind_terms(checked: &Checked, terms: &[Term], left: u32) -> Option<u32> {
+    let mut left = left;
+    for term in terms {
+        left = behind_term(checked, term, left)?;
+    }
+    Some(left)
+}
+
+/// What is left behind so many elements, each with its test.
+fn behind_tests(checked: &Checked, elements: u32, test: Option<&Term>, left: u32) -> Option<u32> {
+    let left = left.checked_sub(elements)?;
+    match test {
+        Some(test) => {
+            let share = left.checked_div(elements)?;
+            behind_each(elements, share, behind_term(checked, test, share)?, left)
+        }
+        None => Some(left),
+    }
+}
+
+/// What is left behind so many elements, where the share of each was this, and so much of it is left over.
+fn behind_each(elements: u32, share: u32, over: u32, left: u32) -> Option<u32> {
+    left.checked_sub(share.checked_sub(over)?.checked_mul(elements)?)
+}
+
+/// How many elements the universe has.
+fn elements_of(checked: &Checked, over: &Name) -> u32 {
+    signature_numbers();
+    match checked.named(&over.text) {
+        Some(Named::Universe(u)) => few(checked.signature().universe(u).size()),
+        _ => 0,
+    }
+}
+
+/// The number, or the greatest that there is.
+fn few(number: usize) -> u32 {
+    u32::try_from(number).unwrap_or(u32::MAX)
+}
