@@ -2,7 +2,6 @@
 #![tactic(auto)]
 
 mod add_set;
-mod cheap;
 pub mod end;
 pub mod error;
 mod finish;
@@ -23,4 +22,5 @@ mod steps;
 mod text;
 pub mod through;
 mod trace;
+mod weight;
 mod write_all;

@@ -12,10 +12,10 @@ ghost use Rattle.asm_eval.specs.Valued.{program, shown};
 ghost use Rattle.asm_run.specs.Limits.{are_in_range};
 
 use crate::add_set::add_set;
-use crate::cheap::is_cheap;
 use crate::limits::Limits;
 use crate::region::work_region;
 use crate::rounds::Shares;
+use crate::weight::is_little;
 use asm_check::Checked;
 use asm_eval::form::form;
 use asm_eval::whole::whole;
@@ -139,7 +139,7 @@ impl<'r, R: Threads + Sync, G: Gate + Sync> Pooled<'r, R, G> {
 
     /// Whether a region takes so little work that it isn't shared. Where there is one round of opening at most, each region is.
     fn is_left_whole(&self, checked: &Checked, rule: &Rule) -> bool {
-        self.shares.rounds > 1 && is_cheap(checked, rule)
+        self.shares.rounds > 1 && is_little(checked, rule)
     }
 
     /// Forms what a region yields at the path where the evaluation stands, by rounds of workers.

@@ -7,9 +7,9 @@ ghost use Rattle.asm_eval.specs.Pieces.{IsPiece, pieces_do};
 ghost use Rattle.asm_run.specs.Hands.{TakesHand, parts_of};
 ghost use Rattle.asm_run.specs.Rounds.{Holds, IsRound, answers, first_of, least, news, tally};
 
-use crate::cheap::are_cheap;
 use crate::hand::RegionHand;
 use crate::job::{RegionJob, RegionOut};
+use crate::weight::{Doing, workers_for};
 use asm_check::shared::checked_is_shared;
 use asm_eval::shared::views_and_pieces_are_shared;
 use asm_eval::{Evaluation, Path, Piece};
@@ -119,14 +119,19 @@ struct Round<'a> {
     so_far: SoFar,
 }
 
-/// So many workers are worth a round at most: one where it only opens pieces, and that takes little work.
-fn most_workers<P: Picks>(region: &Region<'_, P>, cut: Option<usize>, pieces: &[Piece<'_>]) -> usize
+/// At most so many workers are worth a round. Where there is one round of opening at most, each round is shared by all of them.
+fn most_workers<P: Picks>(region: &Region<'_, P>, doing: Doing, pieces: &[Piece<'_>]) -> usize
     ensures { 0 < result }
 {
-    if cut.is_some() && are_cheap(region.evaluation.scene.checked, pieces) {
-        return 1;
+    let Shares {
+        workers,
+        rounds,
+        ..
+    } = region.shares;
+    if rounds <= 1 {
+        return workers;
     }
-    region.shares.workers
+    workers_for(region.evaluation.scene.checked, doing, pieces, workers)
 }
 
 /// Opens the pieces, or works them whole, each once. The new pieces borrow from them. Where there are enough of them, a `forall` that isn't
@@ -157,15 +162,16 @@ fn work_round<'a, R: Threads + Sync, G: Gate + Sync, P: Picks + Sync>(
     views_and_pieces_are_shared();
     striped_is_shared();
     let workers = region.shares.workers;
+    let are_enough = workers * ENOUGH <= pieces.len();
+    let most = most_workers(region, Doing { cut, are_enough }, pieces);
     let job = RegionJob {
         alloc,
         evaluation: region.evaluation,
         pieces,
         cut,
-        are_enough: workers * ENOUGH <= pieces.len(),
+        are_enough,
         striped: region.striped,
     };
-    let most = most_workers(region, cut, pieces);
     let count = pieces.len();
     let worked = work_by(rt, alloc, workers, most, count, &job, so_far.hands, gate)?;
     let all = collect(alloc, worked.outs, so_far.instances, so_far.exhausted)?;

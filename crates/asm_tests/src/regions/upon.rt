@@ -21,7 +21,7 @@ const LIMITS: Limits = Limits {
     turns: 3,
     workers: 2,
     cut: 1,
-    rounds: 2,
+    rounds: 1,
 };
 
 /// Two locations, one of which the region names too.

@@ -1,4 +1,6 @@
-//! Whether some work is so little that one worker had better do it alone: a guess, on which no trace depends.
+//! How much work pieces are, and how many workers that is worth: a guess from the tree alone, on which no trace depends.
+ghost use Rattle.std.specs.Prelude.{◌<◌};
+
 use asm_check::laws::signature_numbers;
 use asm_check::{Checked, Named};
 use asm_eval::{Part, Piece};
@@ -6,28 +8,57 @@ use asm_syntax::name::Name;
 use asm_syntax::rule::Rule;
 use asm_syntax::term::Term;
 
-/// So many nodes of rules and terms are evaluated in less time than a thread takes to start and to end.
-const FEW: u32 = 200;
+/// So many nodes of rules and terms are evaluated in about the time that a thread takes to start and to end.
+const SHARE: u32 = 2000;
 
-/// Whether the rule is evaluated by few nodes, whatever the state. Calls, derived functions and `iterate` may take any number.
-pub(crate) fn is_cheap(checked: &Checked, rule: &Rule) -> bool {
-    behind_rule(checked, rule, FEW).is_some()
+/// What a round does with its pieces.
+#[derive(Clone, Copy, Debug)]
+pub(crate) struct Doing {
+    /// At most so many elements are one piece. None: the pieces are worked whole.
+    pub cut: Option<usize>,
+    /// A `forall` that isn't longer than the cut is worked whole.
+    pub are_enough: bool,
 }
 
-/// Whether all of these pieces are opened by few nodes, and worked by few where they can't be opened.
-pub(crate) fn are_cheap(checked: &Checked, pieces: &[Piece<'_>]) -> bool {
-    let mut left = FEW;
-    for piece in pieces {
-        match behind_opening(checked, piece, left) {
-            Some(rest) => left = rest,
-            None => return false,
+/// Whether the rule is evaluated by so few nodes, whatever the state, that it isn't worth a thread. Calls, derived functions and
+/// `iterate` may take any number.
+pub(crate) fn is_little(checked: &Checked, rule: &Rule) -> bool {
+    behind_rule(checked, rule, SHARE).is_some()
+}
+
+/// So many of the workers a round is worth: one for each share of its nodes, and all where that can't be told.
+pub(crate) fn workers_for(
+    checked: &Checked,
+    doing: Doing,
+    pieces: &[Piece<'_>],
+    workers: usize,
+) -> usize
+    ensures { 0 < result }
+{
+    let nodes = SHARE.saturating_mul(few(workers));
+    match behind_pieces(checked, doing, pieces, nodes) {
+        Some(left) => {
+            let used = nodes.saturating_sub(left) / SHARE;
+            workers.min(used as usize + 1).max(1)
         }
+        None => workers.max(1),
     }
-    true
 }
 
-/// What is left of so many nodes behind the opening of a piece. None: there are not so many.
-fn behind_opening(checked: &Checked, piece: &Piece<'_>, left: u32) -> Option<u32> {
+/// What is left of so many nodes behind what a round does with its pieces. None: there are not so many.
+fn behind_pieces(checked: &Checked, doing: Doing, pieces: &[Piece<'_>], nodes: u32) -> Option<u32> {
+    let mut left = nodes;
+    for piece in pieces {
+        left = behind_piece(checked, doing, piece, left)?;
+    }
+    Some(left)
+}
+
+/// What is left behind one piece.
+fn behind_piece(checked: &Checked, doing: Doing, piece: &Piece<'_>, left: u32) -> Option<u32> {
+    let Some(cut) = doing.cut else {
+        return behind_whole(checked, piece, left);
+    };
     match piece.rule {
         Rule::Skip | Rule::Assign { .. } | Rule::Seq(_) | Rule::Iterate(_) => {
             behind_rule(checked, piece.rule, left)
@@ -40,12 +71,32 @@ fn behind_opening(checked: &Checked, piece: &Piece<'_>, left: u32) -> Option<u32
             behind_tests(checked, elements_of(checked, over), test.as_ref(), left)
         }
         Rule::Forall { over, test, .. } => {
-            let elements = match piece.part {
-                Part::Whole => elements_of(checked, over),
-                Part::Span { from, to } => few(to.saturating_sub(from)),
-            };
+            let elements = elements_in(checked, piece.part, over);
+            let longest = few(cut);
+            if longest < elements {
+                return left.checked_sub(elements.checked_div(longest)?);
+            }
+            if doing.are_enough {
+                return behind_whole(checked, piece, left);
+            }
             behind_tests(checked, elements, test.as_ref(), left)
         }
+    }
+}
+
+/// What is left behind a piece that is worked whole.
+fn behind_whole(checked: &Checked, piece: &Piece<'_>, left: u32) -> Option<u32> {
+    match piece.rule {
+        Rule::Forall {
+            over,
+            test,
+            body,
+            ..
+        } => {
+            let elements = elements_in(checked, piece.part, over);
+            behind_bodies(checked, elements, test.as_ref(), body, left)
+        }
+        rule => behind_rule(checked, rule, left),
     }
 }
 
@@ -85,10 +136,13 @@ fn behind_rule(checked: &Checked, rule: &Rule, left: u32) -> Option<u32> {
             body,
             ..
         } => {
-            let elements = elements_of(checked, over);
-            let left = behind_tests(checked, elements, test.as_ref(), left)?;
-            let share = left.checked_div(elements)?;
-            behind_each(elements, share, behind_rule(checked, body, share)?, left)
+            behind_bodies(
+                checked,
+                elements_of(checked, over),
+                test.as_ref(),
+                body,
+                left,
+            )
         }
         Rule::Choose {
             over,
@@ -102,6 +156,19 @@ fn behind_rule(checked: &Checked, rule: &Rule, left: u32) -> Option<u32> {
         }
         Rule::Call { .. } | Rule::Iterate(_) => None,
     }
+}
+
+/// What is left behind so many elements, each with its test and its body.
+fn behind_bodies(
+    checked: &Checked,
+    elements: u32,
+    test: Option<&Term>,
+    body: &Rule,
+    left: u32,
+) -> Option<u32> {
+    let left = behind_tests(checked, elements, test, left)?;
+    let share = left.checked_div(elements)?;
+    behind_each(elements, share, behind_rule(checked, body, share)?, left)
 }
 
 /// What is left behind a rule that may be missing.
@@ -163,6 +230,14 @@ fn behind_tests(checked: &Checked, elements: u32, test: Option<&Term>, left: u32
 /// What is left behind so many elements, where the share of each was this, and so much of it is left over.
 fn behind_each(elements: u32, share: u32, over: u32, left: u32) -> Option<u32> {
     left.checked_sub(share.checked_sub(over)?.checked_mul(elements)?)
+}
+
+/// How many elements of its universe a `forall` has in this part.
+fn elements_in(checked: &Checked, part: Part, over: &Name) -> u32 {
+    match part {
+        Part::Whole => elements_of(checked, over),
+        Part::Span { from, to } => few(to.saturating_sub(from)),
+    }
 }
 
 /// How many elements the universe has.
