@@ -131,7 +131,8 @@ fn most_workers<P: Picks>(region: &Region<'_, P>, doing: Doing, pieces: &[Piece<
     if rounds <= 1 {
         return workers;
     }
-    workers_for(region.evaluation.scene.checked, doing, pieces, workers)
+    let evaluation = region.evaluation;
+    workers_for(evaluation.scene.checked, doing, pieces, workers)
 }
 
 /// Opens the pieces, or works them whole, each once. The new pieces borrow from them. Where there are enough of them, a `forall` that isn't

@@ -94,7 +94,9 @@ fn behind_whole(checked: &Checked, piece: &Piece<'_>, left: u32) -> Option<u32> 
             ..
         } => {
             let elements = elements_in(checked, piece.part, over);
-            behind_bodies(checked, elements, test.as_ref(), body, left)
+            let left = behind_tests(checked, elements, test.as_ref(), left)?;
+            let share = left.checked_div(elements)?;
+            behind_each(elements, share, behind_rule(checked, body, share)?, left)
         }
         rule => behind_rule(checked, rule, left),
     }
@@ -109,13 +111,11 @@ fn behind_rule(checked: &Checked, rule: &Rule, left: u32) -> Option<u32> {
             arguments,
             value,
             ..
-        } => {
-            behind_term(
-                checked,
-                value,
-                behind_terms(checked, arguments.as_slice(), left)?,
-            )
-        }
+        } => behind_term(
+            checked,
+            value,
+            behind_terms(checked, arguments.as_slice(), left)?,
+        ),
         Rule::Par(rules) | Rule::Seq(rules) => {
             let mut left = left;
             for rule in rules {
@@ -125,7 +125,10 @@ fn behind_rule(checked: &Checked, rule: &Rule, left: u32) -> Option<u32> {
         }
         Rule::If { test, yes, no } => {
             let left = behind_rule(checked, yes, behind_term(checked, test, left)?)?;
-            behind_other(checked, no.as_ref(), left)
+            match no {
+                Some(no) => behind_rule(checked, no, left),
+                None => Some(left),
+            }
         }
         Rule::Let { value, body, .. } => {
             behind_rule(checked, body, behind_term(checked, value, left)?)
@@ -136,13 +139,10 @@ fn behind_rule(checked: &Checked, rule: &Rule, left: u32) -> Option<u32> {
             body,
             ..
         } => {
-            behind_bodies(
-                checked,
-                elements_of(checked, over),
-                test.as_ref(),
-                body,
-                left,
-            )
+            let elements = elements_of(checked, over);
+            let left = behind_tests(checked, elements, test.as_ref(), left)?;
+            let share = left.checked_div(elements)?;
+            behind_each(elements, share, behind_rule(checked, body, share)?, left)
         }
         Rule::Choose {
             over,
@@ -152,30 +152,13 @@ fn behind_rule(checked: &Checked, rule: &Rule, left: u32) -> Option<u32> {
             ..
         } => {
             let left = behind_tests(checked, elements_of(checked, over), test.as_ref(), left)?;
-            behind_other(checked, none.as_ref(), behind_rule(checked, body, left)?)
+            let left = behind_rule(checked, body, left)?;
+            match none {
+                Some(none) => behind_rule(checked, none, left),
+                None => Some(left),
+            }
         }
         Rule::Call { .. } | Rule::Iterate(_) => None,
-    }
-}
-
-/// What is left behind so many elements, each with its test and its body.
-fn behind_bodies(
-    checked: &Checked,
-    elements: u32,
-    test: Option<&Term>,
-    body: &Rule,
-    left: u32,
-) -> Option<u32> {
-    let left = behind_tests(checked, elements, test, left)?;
-    let share = left.checked_div(elements)?;
-    behind_each(elements, share, behind_rule(checked, body, share)?, left)
-}
-
-/// What is left behind a rule that may be missing.
-fn behind_other(checked: &Checked, rule: Option<&Box<Rule>>, left: u32) -> Option<u32> {
-    match rule {
-        Some(rule) => behind_rule(checked, rule, left),
-        None => Some(left),
     }
 }
 
@@ -188,7 +171,11 @@ fn behind_term(checked: &Checked, term: &Term, left: u32) -> Option<u32> {
             if matches!(checked.named(&name.text), Some(Named::Derived(_))) {
                 return None;
             }
-            behind_terms(checked, arguments.as_slice(), left)
+            let mut left = left;
+            for argument in arguments {
+                left = behind_term(checked, argument, left)?;
+            }
+            Some(left)
         }
         Term::Chain { first, rest } => {
             let mut left = behind_term(checked, first, left)?;
