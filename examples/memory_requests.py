@@ -17,6 +17,9 @@ LIBRARY = OUT / "memory_requests.so"
 # A run that takes so many seconds hangs: with ample memory each takes some milliseconds.
 LONGEST = 60
 
+# So many runs that end without a refusal, one after the other, end a series: threads share their tasks otherwise each time.
+ENOUGH = 3
+
 
 class Requests(NamedTuple):
     """How many requests the first thread had and those that it started, how many were refused, and their bytes in all and at most."""
@@ -35,9 +38,6 @@ class Ran(NamedTuple):
     out: str
     err: str
     requests: Requests
-
-    def shown(self):
-        return self.status, self.out, self.err
 
 
 def build():
@@ -67,3 +67,30 @@ def run(words, text="", **variables):
         except subprocess.TimeoutExpired:
             sys.exit(f"{words}: the run hangs, with {variables}")
         return Ran(ran.returncode, ran.stdout, ran.stderr, Requests(*map(int, told.read().split())))
+
+
+class Tally(NamedTuple):
+    """How many requests were refused, how many of them of started threads, and how many were answered for want of memory."""
+
+    requests: int
+    of_started: int
+    answered: int
+
+
+def refuse_all(name, words, text, is_whole, is_answer):
+    """Refuses the first request of the first thread, then in another run the second, and so on until a run ends without a refusal; then
+    so the requests of the threads that it starts. A refused run is as with ample memory (is_whole), or says that memory ran out
+    (is_answer); one that isn't refused is whole."""
+    counts, answered = [], 0
+    for variable in ("REFUSE", "REFUSE_STARTED"):
+        number, without = 1, 0
+        while without < ENOUGH:
+            ran = run(words, text, **{variable: str(number)})
+            if not is_whole(ran):
+                if not ran.requests.refused or not is_answer(ran):
+                    sys.exit(f"{name}: {variable}={number}: {ran}")
+                answered += 1
+            without = 0 if ran.requests.refused else without + 1
+            number += ran.requests.refused
+        counts.append(number - 1)
+    return Tally(sum(counts), counts[1], answered)

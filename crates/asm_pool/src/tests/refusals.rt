@@ -1,0 +1,72 @@
+//! Work that is refused memory. The test says more where it is: `.ci/refusals` refuses each of its requests in turn.
+ghost use Rattle.std.specs.Prelude.{◌≡◌};
+
+use crate::gate::NoGate;
+use crate::job::Job;
+use crate::pool::work;
+use crate::worked::PoolError;
+use std::sync::atomic::{AtomicU64, Ordering};
+use std::test::Fail;
+
+/// So many turns a task takes.
+const TURNS: u32 = 10_000;
+
+/// Counts the runs that began, and those that ended.
+#[derive(Drop)]
+struct Runs {
+    begun: AtomicU64,
+    ended: AtomicU64,
+}
+
+/// Tasks whose runs are counted, and which take a while.
+#[derive(Clone, Copy)]
+struct Counted<'a> {
+    runs: &'a Runs,
+}
+
+impl Job for Counted<'_> {
+    type Hand = u64;
+
+    type Out = usize;
+
+    ghost has_task = { λ job n. Unit {0} };
+
+    ghost takes_hand = { λ job hand. Unit {0} };
+
+    ghost runs = { λ job n before out after. (out ≡ n) × (after ≡ before) };
+
+    fn run(&self, task: usize, _hand: &mut u64) -> usize {
+        self.runs.begun.fetch_add(1, Ordering::SeqCst);
+        for _ in 0..TURNS {
+            std::hint::spin_loop();
+        }
+        self.runs.ended.fetch_add(1, Ordering::SeqCst);
+        task
+    }
+}
+
+/// The tasks of `two_on_one_lane`, without a gate.
+#[test]
+fn a_refusal_leaves_no_worker(rt: HostRuntime) -> Result<(), Fail> {
+    let runs = Runs {
+        begun: AtomicU64::new(0),
+        ended: AtomicU64::new(0),
+    };
+    let job = Counted { runs: &runs };
+    let hands = vec![in rt.alloc(); 0u64, 0]?;
+    let worked = work(&rt, rt.alloc(), 2, 3, &job, hands, &NoGate);
+    let ended = runs.ended.load(Ordering::SeqCst);
+    assert_eq!(rt; runs.begun.load(Ordering::SeqCst), ended);
+    for _ in 0..10 * TURNS {
+        std::hint::spin_loop();
+    }
+    assert_eq!(rt; runs.begun.load(Ordering::SeqCst), ended);
+    match worked {
+        Ok(worked) => {
+            assert_eq!(rt; ended, 3);
+            assert_eq!(rt; worked.outs.as_slice(), [0, 1, 2].as_slice());
+        }
+        Err(PoolError::Memory) => assert!(rt; ended <= 3),
+    }
+    Ok(())
+}
