@@ -18,6 +18,8 @@ mod state;
 #[cfg(test)]
 mod syntax;
 #[cfg(test)]
+mod terms;
+#[cfg(test)]
 mod text;
 #[cfg(test)]
 mod two;

@@ -1,0 +1,57 @@
+//! Values of terms in the initial state.
+use crate::plain::{ONE, Plain, value};
+use crate::text::checked_of;
+use asm_check::Checked;
+use asm_eval::value::value as value_of;
+use asm_eval::{Env, View};
+use asm_state::state::State;
+use asm_state::value::Value;
+use asm_syntax::rule::Rule;
+use asm_updates::summary::Summary;
+use std::alloc::{AllocError, Global};
+use std::test::Fail;
+
+/// What stands before a term.
+const BEFORE: &str = "CoreASM T init M universe Idx = 0 .. 3 \
+function static g : Idx initially { (0) -> 4, (2) -> 6 } derived twice(n) = g(n) * 2 \
+function controlled x rule M = x := ";
+
+/// Terms with their values.
+static VALUED: [(&str, Plain); 5] = [
+    ("twice(2)", Plain::Number(12)),
+    ("(exists i in Idx with g(i) = 4)", Plain::True),
+    ("-7 mod 2", ONE),
+    ("x", Plain::Undef),
+    ("undef = 1 div 0", Plain::True),
+];
+
+/// The value that the main rule assigns, where it is an assignment.
+fn assigned(alloc: Global, checked: &Checked) -> Result<Option<Value>, AllocError> {
+    let (_parameters, main) = checked.rule(checked.main());
+    let Rule::Assign { value: term, .. } = main else {
+        return Ok(None);
+    };
+    let signature = checked.signature();
+    let state = State::initial(alloc, signature)?;
+    let nothing = Summary::new(alloc, signature.count());
+    let view = View::new(signature, &state, &nothing);
+    let env = Env::new();
+    let found = value_of(alloc, checked, &view, &env, term)?;
+    Ok(Some(found))
+}
+
+/// Whether a term has this value.
+fn has_value(alloc: Global, term: &str, expected: Plain) -> Result<bool, Fail> {
+    let mut text = String::from_str(alloc, BEFORE)?;
+    text.push_str(term)?;
+    let checked = checked_of(alloc, text.as_bytes())?;
+    Ok(assigned(alloc, &checked)? == Some(value(expected)))
+}
+
+#[test]
+fn terms_have_their_values(rt: HostRuntime) -> Result<(), Fail> {
+    for (term, expected) in &VALUED {
+        assert!(rt; has_value(rt.alloc(), term, *expected)?, "{term}");
+    }
+    Ok(())
+}
