@@ -50,7 +50,7 @@ def build():
 
 
 def program():
-    """The program that ./asm runs."""
+    """The program that ./asm builds, or takes from the release."""
     built = ROOT / "crates" / "asm_tool" / "out" / "asm_tool"
     about = dict(line.split(" ", 1) for line in (ROOT / "release" / "about").read_text().splitlines())
     released = ROOT / "out" / f"asm-{about['program']}"
