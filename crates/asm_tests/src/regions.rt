@@ -2,7 +2,7 @@
 mod meetings;
 mod outcomes;
 mod questions;
-mod rows;
+pub mod rows;
 mod runs;
 mod tasks;
 mod upon;

@@ -1,6 +1,7 @@
 //! Runs of specifications, from bytes to bytes.
 use asm_run::limits::Limits;
 
+mod beginnings;
 mod refusals;
 mod sinks;
 mod writers;

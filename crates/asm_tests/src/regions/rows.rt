@@ -8,15 +8,15 @@ use std::test::Fail;
 use std::thread::Threads;
 
 /// A text, a script, the limit of turns, how a run of one step ends, and its trace.
-struct Row {
-    text: &'static [u8],
-    script: &'static [u8],
+pub struct Row {
+    pub text: &'static [u8],
+    pub script: &'static [u8],
     turns: u32,
     end: End,
-    trace: &'static [u8],
+    pub trace: &'static [u8],
 }
 
-static CHOICES_IN_FORALL: Row = Row {
+pub static CHOICES_IN_FORALL: Row = Row {
     text: b"CoreASM T\ninit M\nenum Color = { red, green, blue }\nuniverse Idx = 0 .. 4\n\
 function controlled c : Idx -> Color\nfunction controlled d : Idx\n\
 rule M = forall i in Idx with i != 2 do par\n  choose k in Color do c(i) := k endchoose\n\

@@ -1,5 +1,6 @@
 //! Traces written to writers that take little, or nothing.
 use super::LIMITS;
+use crate::regions::rows::CHOICES_IN_FORALL;
 use asm_run::end::End;
 use asm_run::error::RunError;
 use asm_run::run::run;
@@ -8,18 +9,23 @@ use asm_run::through::Through;
 use std::io;
 use std::io::Write;
 use std::test::Fail;
+use std::thread::Threads;
 
-/// Takes one byte a call, until it holds so many.
+/// Takes one byte a call, until it holds so many; then each call is refused in this way, or takes nothing.
 #[derive(Drop)]
 struct ByteByByte {
     taken: Vec<u8>,
     most: usize,
+    refusal: Option<io::ErrorKind>,
 }
 
 impl Write for ByteByByte {
     fn write(&mut self, piece: &[u8]) -> io::Result<usize> {
         if self.taken.len() >= self.most {
-            return Err(io::Error::from(io::ErrorKind::StorageFull));
+            return match self.refusal {
+                Some(kind) => Err(io::Error::from(kind)),
+                None => Ok(0),
+            };
         }
         if piece.is_empty() {
             return Ok(0);
@@ -47,6 +53,8 @@ impl Write for Full {
     }
 }
 
+const FULL: Option<io::ErrorKind> = Some(io::ErrorKind::StorageFull);
+
 /// The numbers at the edges of the range, and those about zero.
 const TEXT: &[u8] =
     b"CoreASM T\ninit M\nfunction controlled a\nfunction controlled b initially 1000000000000000\n\
@@ -60,6 +68,7 @@ fn a_trace_is_written_through_short_writes(rt: HostRuntime) -> Result<(), Fail> 
     let mut out = Through::new(ByteByByte {
         taken: Vec::new(rt.alloc()),
         most: 1000,
+        refusal: FULL,
     });
     let answer = run(&rt, rt.alloc(), TEXT, b"", &LIMITS, &mut out);
     assert!(rt; matches!(answer, Ok(End::Limit)));
@@ -73,12 +82,47 @@ fn a_write_that_fails_ends_the_run(rt: HostRuntime) -> Result<(), Fail> {
     let mut out = Through::new(ByteByByte {
         taken: Vec::new(rt.alloc()),
         most: 20,
+        refusal: FULL,
     });
     let answer = run(&rt, rt.alloc(), TEXT, b"", &LIMITS, &mut out);
     assert!(rt; matches!(answer, Err(RunError::Write)));
     assert!(rt; out.has_failed());
     assert!(rt; out.into_inner().taken.as_slice() == &TRACE[..20]);
     Ok(())
+}
+
+/// Whether a run into a writer that is refused so behind so many bytes leaves them, and says that it failed, or that it ended where
+/// they are the whole trace.
+fn leaves_front<R: Threads + Sync + AllocGlobal>(
+    rt: &R,
+    most: usize,
+    refusal: Option<io::ErrorKind>,
+) -> bool {
+    let row = &CHOICES_IN_FORALL;
+    let mut out = Through::new(ByteByByte {
+        taken: Vec::new(rt.alloc()),
+        most,
+        refusal,
+    });
+    let answer = run(rt, rt.alloc(), row.text, row.script, &LIMITS, &mut out);
+    let is_whole = most >= row.trace.len();
+    let is_answered = match answer {
+        Ok(End::Limit) => is_whole,
+        Err(RunError::Write) => !is_whole,
+        _ => false,
+    };
+    let front = row.trace.get(..most).unwrap_or(row.trace);
+    is_answered && out.has_failed() != is_whole && out.into_inner().taken.as_slice() == front
+}
+
+#[test]
+fn each_front_of_a_trace_is_left_where_the_next_byte_is_refused(rt: HostRuntime) {
+    // An interrupted write counts as failed, as each that answers an error.
+    for refusal in [FULL, Some(io::ErrorKind::Interrupted), None] {
+        for most in 0..=CHOICES_IN_FORALL.trace.len() {
+            assert!(rt; leaves_front(&rt, most, refusal), "{most} {refusal:?}");
+        }
+    }
 }
 
 #[test]
