@@ -13,6 +13,7 @@ mod limits;
 mod rows;
 mod scripts;
 mod statuses;
+mod streams;
 mod words;
 
 const COUNTER: &[u8] =
