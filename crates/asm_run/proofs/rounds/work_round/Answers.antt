@@ -12,13 +12,13 @@ use Rattle.asm_run.proofs.Crossing.{job_shared, out_sent}
 use Rattle.asm_run.proofs.RoundLaw.{new_are_pieces, nothing_left, round_law, same_parts}
 use Rattle.asm_run.proofs.rounds.work_round.Goals as goal
 
-pub work-requires-send-O : goal.work-requires-send-O
-work-requires-send-O g c κs within =
+pub work_by-requires-send-O : goal.work_by-requires-send-O
+work_by-requires-send-O g c κs within =
     let e = c.views_and_pieces_are_shared.ensures in
     search (sendable, out_sent, e.sent) depth 20
 
-pub work-requires-sync-J : goal.work-requires-sync-J
-work-requires-sync-J g c κs within =
+pub work_by-requires-sync-J : goal.work_by-requires-sync-J
+work_by-requires-sync-J g c κs within =
     let e = c.views_and_pieces_are_shared.ensures in
     let l : NamedLft = record { mir = erased; lft = κs.1.1.1.1.0 } in
     let job = job_shared l _ _ c.checked_is_shared.ensures (e.views _) (e.pieces _) c.striped_is_shared.ensures c.type_bounds.sync-P in
