@@ -8,8 +8,8 @@ use crate::worked::PoolError;
 use std::sync::atomic::{AtomicU64, Ordering};
 use std::test::Fail;
 
-/// So many turns a task takes.
-const TURNS: u32 = 10_000;
+/// So many turns a task takes, more than a thread needs to start.
+const TURNS: u32 = 100_000;
 
 /// Counts the runs that began, and those that ended.
 #[derive(Drop)]
@@ -57,7 +57,7 @@ fn a_refusal_leaves_no_worker(rt: HostRuntime) -> Result<(), Fail> {
     let worked = work(&rt, rt.alloc(), 2, 3, &job, hands, &NoGate);
     let ended = runs.ended.load(Ordering::SeqCst);
     assert_eq!(rt; runs.begun.load(Ordering::SeqCst), ended);
-    for _ in 0..10 * TURNS {
+    for _ in 0..2 * TURNS {
         std::hint::spin_loop();
     }
     assert_eq!(rt; runs.begun.load(Ordering::SeqCst), ended);
