@@ -41,7 +41,7 @@ rule M = par x := twice(2) y := (exists i in Idx with g(i) = 4) z := -7 mod 2 \
 w := (forall i in Idx holds g(i) > 3) endpar\n";
 
 /// What is told of a text, and how many bytes are written.
-fn told<R: Threads + Sync + AllocGlobal>(
+fn answer_to<R: Threads + Sync + AllocGlobal>(
     rt: &R,
     text: &[u8],
     script: &[u8],
@@ -74,7 +74,7 @@ fn first_other<R: Threads + Sync + AllocGlobal>(
     script: &[u8],
 ) -> Result<Option<usize>, RunError> {
     for length in 0..text.len() {
-        let (told, written) = told(rt, &text[..length], script)?;
+        let (told, written) = answer_to(rt, &text[..length], script)?;
         if !is_of_beginning(told, written, length) {
             return Ok(Some(length));
         }
@@ -86,7 +86,7 @@ fn first_other<R: Threads + Sync + AllocGlobal>(
 fn beginnings_of_skip(rt: HostRuntime) -> Result<(), Fail> {
     for (length, expected) in &BEGINNINGS_OF_SKIP {
         let beginning = SKIP.get(..*length).unwrap_or(SKIP);
-        let (told, written) = told(&rt, beginning, b"")?;
+        let (told, written) = answer_to(&rt, beginning, b"")?;
         assert_eq!(rt; told, *expected, "{length}");
         assert_eq!(rt; written > 0, told == Told::Ran(End::Limit), "{length}");
     }
