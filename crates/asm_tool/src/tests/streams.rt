@@ -32,25 +32,6 @@ impl Read for Slow<'_> {
     }
 }
 
-/// Gives a space a call without an end, and counts them.
-#[derive(Drop)]
-struct EndlessSpaces {
-    given: usize,
-}
-
-impl Read for EndlessSpaces {
-    fn read(&mut self, buffer: &mut [u8]) -> io::Result<usize> {
-        match buffer.first_mut() {
-            Some(place) => {
-                *place = b' ';
-                self.given = self.given.saturating_add(1);
-                Ok(1)
-            }
-            None => Ok(0),
-        }
-    }
-}
-
 /// Takes a byte a call, and is interrupted before each; once it has so many it takes nothing, or is refused in this way.
 #[derive(Drop)]
 struct Narrow {
@@ -112,15 +93,6 @@ fn a_text_that_comes_byte_by_byte(rt: HostRuntime) {
     assert_eq!(rt; shown.trace.as_slice(), THREE_STEPS);
     assert_eq!(rt; shown.line.len(), 0);
     assert_eq!(rt; shown.status, 0);
-}
-
-#[test]
-fn bytes_without_an_end_are_read_no_further_than_a_text_may_be_long(rt: HostRuntime) {
-    let mut input = EndlessSpaces { given: 0 };
-    let shown = shown_by(&rt, WORDS.as_slice(), &mut input);
-    assert_eq!(rt; input.given, 1_048_577);
-    assert_eq!(rt; shown.line.as_slice(), b"read 1\n".as_slice());
-    assert_eq!(rt; shown.status, 2);
 }
 
 #[test]
