@@ -1,7 +1,8 @@
 /* Loaded before the C library, of which it needs no header: counts the requests for memory, and refuses one of them. REFUSE has the
    number of the refused request, counted from 1, among those of the thread that the program begins with, and REFUSE_STARTED among
-   those of all the threads that it starts. At the end the file REQUESTS gets how many requests there were of the one and of the
-   others, how many were refused, how many bytes they were for in all, and for how many the greatest was. */
+   those of all the threads that it starts. Where the latter is given, each request of the first thread takes a while, so that the
+   others have their share of the work. At the end the file REQUESTS gets how many requests there were of the one and of the others,
+   how many were refused, how many bytes they were for in all, and for how many the greatest was. */
 typedef __SIZE_TYPE__ size_t;
 
 int gettid(void);
@@ -11,6 +12,7 @@ long atol(const char *text);
 int creat(const char *name, unsigned mode);
 int dprintf(int file, const char *format, ...);
 int close(int file);
+int usleep(unsigned microseconds);
 int *__errno_location(void);
 _Noreturn void _Exit(int status);
 
@@ -20,7 +22,7 @@ void *__libc_calloc(size_t count, size_t size);
 void *__libc_realloc(void *at, size_t size);
 void *__libc_memalign(size_t alignment, size_t size);
 
-enum { OUT_OF_MEMORY = 12 };
+enum { OUT_OF_MEMORY = 12, A_WHILE = 200 };
 
 static long of_first, of_started, refused;
 static size_t everything, greatest;
@@ -37,6 +39,7 @@ static int is_refused(size_t size) {
     const char *number = getenv(is_first ? "REFUSE" : "REFUSE_STARTED");
     long before = __atomic_fetch_add(is_first ? &of_first : &of_started, 1, __ATOMIC_SEQ_CST);
     note_size(size);
+    if (is_first && getenv("REFUSE_STARTED")) usleep(A_WHILE);
     if (!number || before + 1 != atol(number)) return 0;
     __atomic_fetch_add(&refused, 1, __ATOMIC_SEQ_CST);
     *__errno_location() = OUT_OF_MEMORY;
