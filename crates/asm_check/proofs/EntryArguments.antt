@@ -1,15 +1,16 @@
 -- Arguments of entries as the code compares them.
 use Rattle.std.proofs.Common.{◌≡◌, ◌≢◌, ℕ, suc, ℤ, pos, negsuc, nat_lt, nat_le, Bool, true, false, cond, ◌&&◌, ◌||◌, List, [], ◌∷◌, ◌++◌, map, length, Vec, Global, Less, Equal, Greater, refl, sym, ap, ◌∙◌, arith}
 use Rattle.std.specs.Prelude.{Option, int_le}
-use Rattle.std.specs.Ordering.{int_eq, is_eq}
+use Rattle.std.specs.Ordering.{Ordering, int_eq, is_eq}
 use Rattle.std.proofs.lemmas.Bool.Decides.{nat_tests}
 use Rattle.std.specs.List.{list_any}
-use Rattle.std.specs.Cmp.Lexicographic.{pointwise}
+use Rattle.std.specs.Cmp.Lexicographic.{pointwise, slice_cmp, lists_ties}
 use Rattle.std.proofs.lemmas.List.Folds.{list_any-append}
 use Rattle.asm_syntax.specs.declared.term.Literal.TheVariants as literal
 use Rattle.asm_syntax.specs.SourceTree as source
 use Rattle.asm_syntax.specs.SourceTree.{Const, Entry, Name, Spec}
 use Rattle.asm_check.specs.contracts.tables.ArgumentPartialEq.TheImpl as argument
+use Rattle.asm_check.specs.contracts.tables.ArgumentOrd.TheImpl as ordered
 use Rattle.asm_check.specs.declared.tables.Argument.{Argument}
 use Rattle.asm_check.specs.declared.tables.Argument.TheVariants as code
 use Rattle.asm_check.specs.EntryArguments.{HasSeen, Nothing, Either, Whole, Word, fits_in, key, key_of, keys_in, keys_of, same_key, same_keys}
@@ -62,6 +63,13 @@ equal_arguments [] [] = refl
 equal_arguments [] (y ∷ ys) = refl
 equal_arguments (x ∷ xs) [] = refl
 equal_arguments (x ∷ xs) (y ∷ ys) = ap (λ b. b && pointwise equal xs ys) (equal_argument x y) ∙ ap (λ b. same_key (key_of x) (key_of y) && b) (equal_arguments xs ys)
+
+-- the order of arguments finds the same ones
+abbrev in_turn : Argument → Argument → Ordering
+in_turn = (ordered.ghosts).cmp
+
+pub ordered_arguments : ((a b : Argument) → equal a b ≡ is_eq (in_turn a b)) → (xs ys : List Argument) → is_eq (slice_cmp in_turn xs ys) ≡ same_keys (map key_of xs) (map key_of ys)
+ordered_arguments ties xs ys = sym (lists_ties in_turn ties xs ys) ∙ equal_arguments xs ys
 
 same_as_const : (c d : Const) → same_key (key c) (key d) ≡ same_const c d
 same_as_const (source.Plain literal.Undef) (source.Plain v) = elim v as (λ v. same_key Nothing (key (source.Plain v)) ≡ same_literal literal.Undef v) [ literal.Undef ↦ refl | _ ↦ refl ]

@@ -1,11 +1,11 @@
 -- How the table and the least fault grow, declaration by declaration.
-use Rattle.std.proofs.Common.{◌≡◌, ℕ, suc, ◌+◌, ◌<◌, length, take, get_or, arith, Bool, true, false, cond, ◌||◌, List, [], ◌∷◌, ◌++◌, map, Option, Some, is_some, refl, sym, ap, subst, ◌∙◌, true≢false, nat_eq, append_assoc, append-nil}
+use Rattle.std.proofs.Common.{◌≡◌, ℕ, suc, ◌+◌, ◌<◌, length, take, get_or, arith, Bool, true, false, cond, not, ◌||◌, List, [], ◌∷◌, ◌++◌, map, Option, Some, is_some, refl, sym, ap, subst, ◌∙◌, true≢false, nat_eq, append_assoc, append-nil}
 use Rattle.std.specs.Borrow.{Bor}
 use Rattle.std.specs.Map.{lookup}
 use Rattle.std.proofs.lemmas.Grind.{common_steps}
 use Rattle.std.proofs.lemmas.List.{map-append, take_more}
 use Rattle.std.specs.Cmp.Lexicographic.{pointwise}
-use Rattle.indexmap.specs.IndexMap.{insert_entry}
+use Rattle.std.proofs.Math.Bool.{not-not}
 use Rattle.asm_syntax.specs.SourceTree.{Name, Item, Spec}
 use Rattle.asm_check.specs.declared.meaning.Declaration.{Declaration as CodeDeclaration}
 use Rattle.asm_check.specs.Names.{Text, Declaration, is_text, is_among, text_of, first_of_each, declares, declarations_of, declarations_from, Element, predeclared, declarations, first_declarations}
@@ -16,7 +16,8 @@ use Rattle.asm_check.specs.Gathering.{IsGathered, Gathers, repeated, predeclares
 use Rattle.asm_check.proofs.Apart.{texts}
 use Rattle.asm_check.proofs.Declared.{same_text}
 use Rattle.asm_check.proofs.Firsts.{grown}
-use Rattle.asm_check.proofs.Lookups.{is_key, text_turned}
+use Rattle.asm_check.specs.Positions.{is_key}
+use Rattle.asm_check.proofs.Lookups.{text_turned}
 use Rattle.asm_check.proofs.Noted.{noted_after}
 use Rattle.asm_check.proofs.Repeats.{repeated_one}
 
@@ -93,31 +94,23 @@ module _ (first : Option (ℕ × ℕ)) (ds : List Declaration) (entries : List E
         least = noted_after first found (repeated ds) [] it.least ∙ ap (noted first) (sym (noted_one_more false new));
       }
 
-inserted : (entries : List Entry) (text : Bor (List ℕ)) (declared : CodeDeclaration) → is_some (lookup (is_key text.now) entries) ≡ false
-    → insert_entry (λ (a b : Bor (List ℕ)). pointwise nat_eq a.now b.now) entries text declared ≡ entries ++ (text, declared) ∷ []
-inserted [] text declared absent = refl
-inserted (e ∷ es) text declared absent = by_key (is_key text.now e.0) absent (inserted es text declared)
+pub gathers_put : (entries entries' : List Entry) (found found' : Option (ℕ × ℕ)) (text : Bor (List ℕ)) (declared : CodeDeclaration) (added : Bool)
+    → added ≡ not (is_some (lookup (is_key text.now) entries)) → entries' ≡ cond added (entries ++ (text, declared) ∷ []) entries → found' ≡ cond added found (noted found ((declared.at, 8) ∷ []))
+    → Gathers (declaration_of (text, declared) ∷ []) entries found entries' found'
+gathers_put entries entries' found found' text declared added is put note = by_test added (ap not is ∙ not-not (is_some (lookup (is_key text.now) entries))) put note
   where
-    by_key : (b : Bool) → is_some (cond b (Some e.1) (lookup (is_key text.now) es)) ≡ false
-        → (is_some (lookup (is_key text.now) es) ≡ false → insert_entry (λ (a b : Bor (List ℕ)). pointwise nat_eq a.now b.now) es text declared ≡ es ++ (text, declared) ∷ [])
-        → cond b ((e.0, declared) ∷ es) (e ∷ insert_entry (λ (a b : Bor (List ℕ)). pointwise nat_eq a.now b.now) es text declared) ≡ e ∷ (es ++ (text, declared) ∷ [])
-    by_key true there rest = absurd (true≢false there)
-    by_key false absent rest = ap (λ xs. e ∷ xs) (rest absent)
-
-pub gathers_again : (entries : List Entry) (found found' : Option (ℕ × ℕ)) (text : Bor (List ℕ)) (declared : CodeDeclaration) → true ≡ is_some (lookup (is_key text.now) entries)
-    → found' ≡ noted found ((declared.at, 8) ∷ []) → Gathers (declaration_of (text, declared) ∷ []) entries found entries found'
-gathers_again entries found found' text declared there note = record {
-  after = λ first ds it.
-      subst (IsGathered first (ds ++ declaration_of (text, declared) ∷ []) entries) (sym note) (gathered_again first ds entries found text declared it (sym there));
-}
-
-pub gathers_new : (entries entries' : List Entry) (found : Option (ℕ × ℕ)) (text : Bor (List ℕ)) (declared : CodeDeclaration) → false ≡ is_some (lookup (is_key text.now) entries)
-    → entries' ≡ insert_entry (λ (a b : Bor (List ℕ)). pointwise nat_eq a.now b.now) entries text declared → Gathers (declaration_of (text, declared) ∷ []) entries found entries' found
-gathers_new entries entries' found text declared absent put = record {
-  after = λ first ds it.
-      subst (λ es. IsGathered first (ds ++ declaration_of (text, declared) ∷ []) es found) (sym (put ∙ inserted entries text declared (sym absent)))
-      (gathered_new first ds entries found text declared it (sym absent));
-}
+    by_test : (b : Bool) → not b ≡ is_some (lookup (is_key text.now) entries) → entries' ≡ cond b (entries ++ (text, declared) ∷ []) entries → found' ≡ cond b found (noted found ((declared.at, 8) ∷ []))
+        → Gathers (declaration_of (text, declared) ∷ []) entries found entries' found'
+    by_test true absent more same = record {
+      after = λ first ds it.
+          subst (λ es. IsGathered first (ds ++ declaration_of (text, declared) ∷ []) es found') (sym more)
+          (subst (IsGathered first (ds ++ declaration_of (text, declared) ∷ []) (entries ++ (text, declared) ∷ [])) (sym same) (gathered_new first ds entries found text declared it (sym absent)));
+    }
+    by_test false there same noting = record {
+      after = λ first ds it.
+          subst (λ es. IsGathered first (ds ++ declaration_of (text, declared) ∷ []) es found') (sym same)
+          (subst (IsGathered first (ds ++ declaration_of (text, declared) ∷ []) entries) (sym noting) (gathered_again first ds entries found text declared it (sym there)));
+    }
 
 -- ---- more of them
 

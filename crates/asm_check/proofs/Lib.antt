@@ -37,6 +37,7 @@ pub mod Noted
 pub mod Numbered
 pub mod OneLeast
 pub mod IndicesWhere
+pub mod Positioned
 pub mod Ranks
 pub mod Reaching
 pub mod Readers

@@ -13,15 +13,12 @@ use Rattle.asm_check.specs.declared.meaning.Declaration.{Declaration as CodeDecl
 use Rattle.asm_check.specs.Names as names
 use Rattle.asm_check.specs.Names.{Text, Declaration, is_text, is_among, first_declarations, declared}
 use Rattle.asm_check.specs.Tables.{Entry, meaning_of, declaration_of, IsTableOf, text_at}
+use Rattle.asm_check.specs.Positions.{is_key, position_of}
 use Rattle.asm_check.proofs.Firsts.{first_stands}
 use Rattle.asm_check.proofs.Declared.{same_text}
 
 abbrev pub is_of : Text → Declaration → Bool
 is_of x d = is_text d.name.text x
-
--- the test that the table makes of its keys
-abbrev pub is_key : Text → Bor (List ℕ) → Bool
-is_key x k = pointwise nat_eq x k.now
 
 pub text_turned : (x y : Text) → pointwise nat_eq x y ≡ is_text y x
 text_turned x y =
@@ -58,29 +55,25 @@ got_declared spec entries x key got table e found =
 
 -- ---- positions
 
-abbrev index : Text → List Entry → ℕ
-index x entries = position_or_len (is_key x) (keys_of entries)
-
-at_index : (entries : List Entry) (x : Text) → index x entries < length (keys_of entries) → text_at entries (index x entries) ≡ x
-at_index [] x h = absurd (omega (arith, h))
-at_index (e ∷ es) x h = by_test (is_key x e.0) refl h (at_index es x)
+at_position : (entries : List Entry) (x : Text) (i : ℕ) → position_of (is_key x) entries ≡ Some i → text_at entries i ≡ x
+at_position [] x i is = cc
+at_position (e ∷ es) x i is = by_test (is_key x e.0) refl is (at_position es x)
   where
-    by_test : (b : Bool) → is_key x e.0 ≡ b → cond (not b) (1 + index x es) 0 < suc (length (keys_of es)) → (index x es < length (keys_of es) → text_at es (index x es) ≡ x)
-        → text_at (e ∷ es) (cond (not b) (1 + index x es) 0) ≡ x
-    by_test true is below rest = same_text e.0.now x (sym (text_turned x e.0.now) ∙ is)
-    by_test false other below rest =
-        let next : 1 + index x es ≡ suc (index x es) = omega arith in
-        ap (text_at (e ∷ es)) next ∙ rest (omega (arith, below))
+    by_next : (o : Option ℕ) → option_map suc o ≡ Some i → ((j : ℕ) → o ≡ Some j → text_at es j ≡ x) → text_at (e ∷ es) i ≡ x
+    by_next None there rest = cc
+    by_next (Some j) there rest = let next : suc j ≡ i = cc in subst (λ n. text_at (e ∷ es) n ≡ x) next (rest j refl)
+
+    by_test : (b : Bool) → is_key x e.0 ≡ b → cond b (Some 0) (option_map suc (position_of (is_key x) es)) ≡ Some i → ((j : ℕ) → position_of (is_key x) es ≡ Some j → text_at es j ≡ x)
+        → text_at (e ∷ es) i ≡ x
+    by_test true key there rest =
+        let first : 0 ≡ i = cc in
+        subst (λ n. text_at (e ∷ es) n ≡ x) first (same_text e.0.now x (sym (text_turned x e.0.now) ∙ key))
+    by_test false key there rest = by_next (position_of (is_key x) es) there rest
 
 -- the name at the position that is found
-pub named_at : (entries : List Entry) (x key : Text) (r : Option ℕ) → key ≡ x → r ≡ position (is_key key) (keys_of entries) → IfSome r (λ i. text_at entries i ≡ x)
-named_at entries x key r e found =
-    subst (λ y. IfSome r (λ i. text_at entries i ≡ y)) e
-    (subst (λ o. IfSome o (λ i. text_at entries i ≡ key)) (sym found) (by_test (nat_lt (index key entries) (length (keys_of entries))) refl))
-  where
-    by_test : (b : Bool) → nat_lt (index key entries) (length (keys_of entries)) ≡ b → IfSome (cond b (Some (index key entries)) None) (λ i. text_at entries i ≡ key)
-    by_test true below = at_index entries key (grind (arith, below))
-    by_test false above = tt
+pub named_at : (entries : List Entry) (x key : Text) (r : Option ℕ) → key ≡ x → r ≡ position_of (is_key key) entries → IfSome r (λ i. text_at entries i ≡ x)
+named_at entries x key None e found = tt
+named_at entries x key (Some i) e found = at_position entries key i (sym found) ∙ e
 
 -- a name that has no position isn't declared
 pub undeclared : (spec : Spec) (entries : List Entry) (x key : Text) (r : Option ℕ) → IsTableOf spec entries → key ≡ x → is_some r ≡ is_some (lookup (is_key key) entries)

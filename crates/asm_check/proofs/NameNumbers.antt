@@ -123,7 +123,7 @@ module _ (spec : Spec) (x : Text) where
 
 -- ---- what the numbering answers
 
-module _ (spec : Spec) (n : Numbering) (it : IsNumberingOf (first_declarations spec) n) (x : Text) (count : ℕ) (found : Option Named) (answered : found ≡ option_flatten (lookup (pointwise nat_eq x) n.names.entries)) where
+module _ (spec : Spec) (n : Numbering) (it : IsNumberingOf (first_declarations spec) n) (x : Text) (count : ℕ) (found : Option Named) (answered : found ≡ option_flatten (lookup (pointwise nat_eq x) n.names)) where
   pub universe_numbered : count ≡ length n.indices.universes.items → universe_or count found ≡ index_among (texts_of (universes_of spec)) x
   universe_numbered counted =
       ap (λ c. universe_or c found) (counted ∙ ap length it.indices.universes ∙ where_length (λ (d : Declaration). is_universe d.meaning) (first_declarations spec))

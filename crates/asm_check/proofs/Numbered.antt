@@ -1,5 +1,5 @@
 -- What the code's numbering of declarations says.
-use Rattle.std.proofs.Common.{◌≡◌, ℕ, zero, suc, ◌+◌, ◌<◌, ◌≤◌, Bool, true, false, cond, not, ◌||◌, nat_eq, nat_lt, List, [], ◌∷◌, ◌++◌, map, length, take, slice_get, Option, Some, None, refl, sym, ap, subst, ◌∙◌, arith, append_assoc, append-nil, take_all, true≢false}
+use Rattle.std.proofs.Common.{◌≡◌, ℕ, zero, suc, ◌+◌, ◌<◌, ◌≤◌, Bool, true, false, cond, not, ◌||◌, nat_eq, nat_lt, List, [], ◌∷◌, ◌++◌, map, length, take, slice_get, Option, Some, None, is_some, refl, sym, ap, subst, ◌∙◌, arith, append_assoc, append-nil, take_all, true≢false}
 use Rattle.std.specs.Prelude.{find, position, option_map}
 use Rattle.std.specs.Cmp.Lexicographic.{pointwise}
 use Rattle.std.specs.List.{list_any, position_or_len}
@@ -9,7 +9,6 @@ use Rattle.std.proofs.lemmas.Bool.Decides.{nat_tests}
 use Rattle.std.proofs.lemmas.List.Elements.{filter-append}
 use Rattle.std.proofs.lemmas.Option.{slice_get-map}
 use Rattle.std.proofs.lemmas.Bool.{or_right}
-use Rattle.indexmap.specs.IndexMap.{insert_entry}
 use Rattle.asm_syntax.specs.SourceTree.{Spec}
 use Rattle.asm_check.specs.declared.checked.Named.{Named}
 use Rattle.asm_check.specs.declared.checked.Named.TheVariants as number
@@ -95,32 +94,21 @@ none_kept before (d ∷ ds) x new = by_text (is_text d.name.text x) refl (none_k
 pub not_kept : (ds : List Declaration) (entries : List (Text × Option Named)) (x : Text) → entries ≡ numbers_from [] ds → is_among (texts_of ds) x ≡ false → lookup (pointwise nat_eq x) entries ≡ None
 not_kept ds entries x are new = ap (lookup (pointwise nat_eq x)) are ∙ none_kept [] ds x new
 
-inserted : (entries : List (Text × Option Named)) (key : Text) (n : Option Named) → lookup (pointwise nat_eq key) entries ≡ None
-    → insert_entry (pointwise nat_eq) entries key n ≡ entries ++ (key, n) ∷ []
-inserted [] key n absent = refl
-inserted (e ∷ es) key n absent = by_key (pointwise nat_eq key e.0) absent (inserted es key n)
-  where
-    by_key : (b : Bool) → cond b (Some e.1) (lookup (pointwise nat_eq key) es) ≡ None
-        → (lookup (pointwise nat_eq key) es ≡ None → insert_entry (pointwise nat_eq) es key n ≡ es ++ (key, n) ∷ [])
-        → cond b ((e.0, n) ∷ es) (e ∷ insert_entry (pointwise nat_eq) es key n) ≡ e ∷ (es ++ (key, n) ∷ [])
-    by_key true there rest = cc
-    by_key false absent rest = ap (λ xs. e ∷ xs) (rest absent)
-
 -- one more name, and its index
 pub numbering_grows : (ds : List Declaration) (d : Declaration) (m : Meaning) (old new : Numbering) (indices : Indices) (key : Text) (n : ℕ) (number : Option Named)
-    → d.name.text ≡ key → d.meaning ≡ m → is_among (texts_of ds) key ≡ false → n ≡ length old.names.entries
+    → d.name.text ≡ key → d.meaning ≡ m → is_among (texts_of ds) key ≡ false → n ≡ length old.names
     → number ≡ next_number old.indices m → IsIndexed old.indices n m indices
-    → new.names.entries ≡ insert_entry (pointwise nat_eq) old.names.entries key number → new.indices ≡ indices
+    → new.names ≡ cond (is_some (lookup (pointwise nat_eq key) old.names)) old.names (old.names ++ (key, number) ∷ []) → new.indices ≡ indices
     → IsNumberingOf ds old → IsNumberingOf (ds ++ d ∷ []) new
 numbering_grows ds d m old new indices key n number text means fresh count is indexed put same it = record {
   names =
       put
-      ∙ inserted old.names.entries key number (not_kept ds old.names.entries key it.names fresh)
+      ∙ ap (λ o. cond (is_some o) old.names (old.names ++ (key, number) ∷ [])) (not_kept ds old.names key it.names fresh)
       ∙ ap (λ es. es ++ (key, number) ∷ []) it.names
       ∙ ap (λ t. numbers_from [] ds ++ (t, number) ∷ []) (sym text)
       ∙ ap (λ o. numbers_from [] ds ++ (d.name.text, o) ∷ []) (is ∙ number_is ds old.indices it.indices m ∙ ap (number_after ds) (sym means))
       ∙ sym (numbers_one [] ds d);
-  indices = subst (AreIndicesOf (ds ++ d ∷ [])) (sym same) (indices_grow ds d n (count ∙ kept_length ds old.names.entries it.names) m means old.indices indices it.indices indexed);
+  indices = subst (AreIndicesOf (ds ++ d ∷ [])) (sym same) (indices_grow ds d n (count ∙ kept_length ds old.names it.names) m means old.indices indices it.indices indexed);
 }
 
 -- ---- the table's entries, one after another
@@ -237,7 +225,7 @@ numbers_named spec before (d ∷ ds) x all new =
     by_text false e rest = rest (still_new before d x new e)
 
 -- what the numbering answers
-pub found_named : (spec : Spec) (n : Numbering) (x : Text) → IsNumberingOf (first_declarations spec) n → option_flatten (lookup (pointwise nat_eq x) n.names.entries) ≡ named spec x
+pub found_named : (spec : Spec) (n : Numbering) (x : Text) → IsNumberingOf (first_declarations spec) n → option_flatten (lookup (pointwise nat_eq x) n.names) ≡ named spec x
 unfolding named
 found_named spec n x it =
     ap option_flatten (ap (lookup (pointwise nat_eq x)) it.names)

@@ -70,14 +70,14 @@ module _ (spec : Spec) (n : Numbering) (it : IsNumberingOf (first_declarations s
 
   text_at_index : (k : ℕ) → text_kept_at n k ≡ option_map (λ (d : Declaration). d.name.text) (slice_get all k)
   text_at_index k =
-      sym (slice_get-map (λ (e : Text × Option Named). e.0) n.names.entries k)
+      sym (slice_get-map (λ (e : Text × Option Named). e.0) n.names k)
       ∙ ap (λ ts. slice_get ts k) (ap (map (λ (e : Text × Option Named). e.0)) it.names ∙ numbered_texts [] all)
       ∙ slice_get-map (λ (d : Declaration). d.name.text) all k
 
   -- the index of a number, and the name there
   pub record HasName (ns : List ℕ) (ds : List Declaration) (i : ℕ) : Type 0 where
     pub number : i < length ns
-    pub index : get_or ns i 0 < length n.names.entries
+    pub index : get_or ns i 0 < length n.names
     pub name : text_kept_at n (get_or ns i 0) ≡ name_at ds i
 
   has_name : (is_like : Meaning → Bool) (ns : List ℕ) → ns ≡ indices_like is_like all → (i : ℕ) → i < length (like is_like all) → HasName ns (like is_like all) i
@@ -88,7 +88,7 @@ module _ (spec : Spec) (n : Numbering) (it : IsNumberingOf (first_declarations s
       let inside = slice_get_within all (get_or ns i 0) found.it found.index in
       record {
         number = low;
-        index = subst (λ m. get_or ns i 0 < m) (sym (kept_length all n.names.entries it.names)) inside;
+        index = subst (λ m. get_or ns i 0 < m) (sym (kept_length all n.names it.names)) inside;
         name = text_at_index (get_or ns i 0) ∙ ap (option_map (λ (d : Declaration). d.name.text)) (found.index ∙ sym found.kept);
       }
 
@@ -244,7 +244,7 @@ module _ (spec : code.Spec) (good : IsWellFormed (spec_of spec)) (bodies : Bodie
 -- ---- the look-up of the starting rule
 
 module _ (spec : Spec) (good : IsWellFormed spec) (n : Numbering) (it : IsNumberingOf (first_declarations spec) n) (x : Name) (start : inits spec ≡ x ∷ [])
-    (found : Option Named) (look_up : found ≡ option_flatten (lookup (pointwise nat_eq x.text) n.names.entries)) where
+    (found : Option Named) (look_up : found ≡ option_flatten (lookup (pointwise nat_eq x.text) n.names)) where
   answered : found ≡ named spec x.text
   answered = look_up ∙ found_named spec n x.text it
 

@@ -1,5 +1,5 @@
 -- Scopes: the names that are bound at an offset, and that only these matter for the uses there.
-use Rattle.std.proofs.Common.{◌≡◌, refl, sym, ap, ◌∙◌, ℕ, ◌+◌, ◌<◌, length, take, get_or, if◌then◌else◌, Bool, true, false, ◌||◌, List, [], ◌∷◌, ◌++◌, map, reverse, Option, Some, None, nat_eq, Bor, arith}
+use Rattle.std.proofs.Common.{◌≡◌, refl, sym, ap, ◌∙◌, ℕ, ◌+◌, ◌<◌, length, take, get_or, cond, Bool, true, false, ◌||◌, List, [], ◌∷◌, ◌++◌, map, reverse, Option, Some, None, nat_eq, Bor, arith}
 use Rattle.std.specs.List.{list_any}
 use Rattle.std.proofs.lemmas.Bool.Decides.{nat_tests}
 use Rattle.std.proofs.lemmas.Slice.Eq.{bytes_eq-Decides}
@@ -8,12 +8,12 @@ use Rattle.std.proofs.lemmas.List.Folds.{list_any-append}
 use Rattle.std.proofs.lemmas.List.Sorted.{list_any-IsPermutation, IsPermutation-reverse}
 use Rattle.std.proofs.Math.Bool.{or-false, or-true}
 use Rattle.asm_syntax.specs.SourceTree.{Name, Term, Constant, Named, Chain, Not, Negative, Exists, Every, Terms, no_terms, term_then, Links, no_links, link_then, Rule, Skip, Assign, Call, Par, Seq, If, Let, Forall, Choose, Iterate, Rules, no_rules, rule_then, Branch, left_out, written}
-use Rattle.indexmap.specs.IndexSet.{insert_key}
 use Rattle.asm_syntax.specs.declared.name.Name as code
 use Rattle.asm_syntax.specs.Views.{name_of}
 use Rattle.asm_check.specs.Names.{Text, text_of, is_text, is_among, Role, InTerm, AsTarget, AsRule, AsUniverse, Use, use_of, plain_use, term_count, uses_of_term, uses_of_terms, uses_of_links, uses_of_test, uses_of_rule, uses_of_rules, uses_of_branch}
 use Rattle.asm_check.specs.Collected.{IsSameScope}
-use Rattle.asm_check.proofs.Declared.{same_text}
+use Rattle.asm_check.specs.Positions.{is_spelled}
+use Rattle.asm_check.proofs.Positioned.{one_more_key}
 
 pub nat_symmetric : (x y : ℕ) → nat_eq x y ≡ nat_eq y x
 nat_symmetric x y = grind (arith, nat_tests)
@@ -45,28 +45,20 @@ among_bound bs ps x =
 
 -- ---- the parameters, as a set of texts
 
--- a text that is there already adds nothing
-pub covered : (ks : List (Bor Text)) (k : Bor Text) (x : Text) → list_any (λ b. is_text k.now b.now) ks ≡ true → (is_among (map (λ p. p.now) ks) x || is_text k.now x) ≡ is_among (map (λ p. p.now) ks) x
-covered ks k x found = by_case (is_text k.now x) refl
-  where
-    by_case : (b : Bool) → is_text k.now x ≡ b → (is_among (map (λ p. p.now) ks) x || b) ≡ is_among (map (λ p. p.now) ks) x
-    by_case false e = or-false (is_among (map (λ p. p.now) ks) x)
-    by_case true e = or-true (is_among (map (λ p. p.now) ks) x) ∙ sym (ap (is_among (map (λ p. p.now) ks)) (sym (same_text k.now x e)) ∙ among_parameters ks k.now ∙ found)
-
-pub among_inserted : (ks : List (Bor Text)) (k : Bor Text) (x : Text) → is_among (map (λ p. p.now) (insert_key (λ a b. is_text a.now b.now) ks k)) x ≡ (is_among (map (λ p. p.now) ks) x || is_text k.now x)
-among_inserted ks k x = by_case (list_any (λ b. is_text k.now b.now) ks) refl
-  where
-    by_case : (b : Bool) → list_any (λ p. is_text k.now p.now) ks ≡ b → is_among (map (λ p. p.now) (if b then ks else ks ++ k ∷ [])) x ≡ (is_among (map (λ p. p.now) ks) x || is_text k.now x)
-    by_case true e = sym (covered ks k x e)
-    by_case false e = ap (λ ys. is_among ys x) (map-append (λ p. p.now) ks (k ∷ [])) ∙ list_any-append (λ y. is_text y x) (map (λ p. p.now) ks) (k.now ∷ []) ∙ ap (λ b. is_among (map (λ p. p.now) ks) x || b) (or-false (is_text k.now x))
+pub among_inserted : (ks new : List (Bor Text)) (k : Bor Text)
+    → ((q : Bor Text) → list_any (λ r. is_spelled q.now r.now) new ≡ cond (is_spelled k.now q.now) true (list_any (λ r. is_spelled q.now r.now) ks))
+    → (x : Text) → is_among (map (λ p. p.now) new) x ≡ (is_among (map (λ p. p.now) ks) x || is_text k.now x)
+among_inserted ks new k put x =
+    among_parameters new x ∙ one_more_key ks new k put x ∙ ap (λ b. b || is_text x k.now) (sym (among_parameters ks x)) ∙ ap (λ b. is_among (map (λ p. p.now) ks) x || b) (text_symmetric x k.now)
 
 -- one more parameter
-pub one_more_parameter : (ks new : List (Bor Text)) (k : Bor Text) (xs : List code.Name) (i : ℕ) (item : code.Name) → i < length xs → item ≡ get_or xs i item → k.now ≡ item.text → new ≡ insert_key (λ a b. is_text a.now b.now) ks k
+pub one_more_parameter : (ks new : List (Bor Text)) (k : Bor Text) (xs : List code.Name) (i : ℕ) (item : code.Name) → i < length xs → item ≡ get_or xs i item → k.now ≡ item.text 
+    → ((q : Bor Text) → list_any (λ r. is_spelled q.now r.now) new ≡ cond (is_spelled k.now q.now) true (list_any (λ r. is_spelled q.now r.now) ks))
     → IsSameScope (map (λ p. p.now) ks) (map text_of (map name_of (take i xs))) → IsSameScope (map (λ p. p.now) new) (map text_of (map name_of (take (i + 1) xs)))
-one_more_parameter ks new k xs i item below is text keys same x =
+one_more_parameter ks new k xs i item below is text put same x =
     let more : map text_of (map name_of (take (i + 1) xs)) ≡ map text_of (map name_of (take i xs)) ++ item.text ∷ [] =
     ap (map text_of) (map_more name_of xs i item below) ∙ map-append text_of (map name_of (take i xs)) (name_of (get_or xs i item) ∷ []) ∙ ap (λ (n : code.Name). map text_of (map name_of (take i xs)) ++ n.text ∷ []) (sym is) in
-    ap (λ ys. is_among (map (λ p. p.now) ys) x) keys ∙ among_inserted ks k x ∙ ap (λ b. b || is_text k.now x) (same x) ∙ ap (λ t. is_among (map text_of (map name_of (take i xs))) x || is_text t x) text
+    among_inserted ks new k put x ∙ ap (λ b. b || is_text k.now x) (same x) ∙ ap (λ t. is_among (map text_of (map name_of (take i xs))) x || is_text t x) text
     ∙ sym (ap (λ ys. is_among ys x) more ∙ list_any-append (λ y. is_text y x) (map text_of (map name_of (take i xs))) (item.text ∷ []) ∙ ap (λ b. is_among (map text_of (map name_of (take i xs))) x || b) (or-false (is_text item.text x)))
 
 -- ---- only the bound names matter

@@ -6,7 +6,6 @@ use Rattle.std.specs.List.{list_any}
 use Rattle.std.proofs.lemmas.Grind.{flat_map-append}
 use Rattle.std.proofs.lemmas.List.{map-append, take_more}
 use Rattle.std.proofs.Math.Bool.{or-false, not-not}
-use Rattle.indexmap.specs.IndexSet.{insert_key}
 use Rattle.asm_syntax.specs.SourceTree.{Name, Item}
 use Rattle.asm_check.specs.Names.{Text, is_text, is_among, text_of}
 use Rattle.asm_check.specs.Faults.{parameters_of}
@@ -14,7 +13,9 @@ use Rattle.asm_check.specs.FaultLists.{repeats, at_with}
 use Rattle.asm_check.specs.Gathering.{IsSeen, parameter_faults}
 use Rattle.asm_check.specs.Soonest.{noted}
 use Rattle.asm_check.proofs.Declared.{same_text}
-use Rattle.asm_check.proofs.Lookups.{is_key, text_turned}
+use Rattle.asm_check.specs.Positions.{is_key, is_spelled}
+use Rattle.asm_check.proofs.Positioned.{has_text, one_more_key}
+use Rattle.asm_check.proofs.Lookups.{text_turned}
 use Rattle.asm_check.proofs.Noted.{noted_after}
 use Rattle.asm_check.proofs.Repeats.{repeated_one, at_with_append}
 
@@ -29,63 +30,49 @@ any_one p (y ∷ ys) x = by_test (p y) (any_one p ys x)
 among_one : (xs : List Name) (x : Name) (y : Text) → is_among (map text_of (xs ++ x ∷ [])) y ≡ (is_among (map text_of xs) y || is_text x.text y)
 among_one xs x y = ap (λ ts. is_among ts y) (map-append text_of xs (x ∷ [])) ∙ any_one (λ t. is_text t y) (map text_of xs) x.text
 
--- one more that is there already
-covers : (texts : List Text) (c x : Text) → is_among texts c ≡ true → is_among texts x ≡ (is_among texts x || is_text c x)
-covers texts c x there = by_text (is_text c x) refl
-  where
-    by_text : (b : Bool) → is_text c x ≡ b → is_among texts x ≡ (is_among texts x || b)
-    by_text true is =
-        let known : is_among texts x ≡ true = subst (λ z. is_among texts z ≡ true) (same_text c x is) there in
-        known ∙ sym (ap (λ b. b || true) known)
-    by_text false is = sym (or-false (is_among texts x))
-
-abbrev keys_with : List (Bor (List ℕ)) → Bor (List ℕ) → List (Bor (List ℕ))
-keys_with = insert_key (λ (a b : Bor (List ℕ)). pointwise nat_eq a.now b.now)
+-- a search for a text among the keys, after one more was put with them
+abbrev IsPut : List (Bor (List ℕ)) → Bor (List ℕ) → List (Bor (List ℕ)) → Type 0
+IsPut keys key new = (q : Bor (List ℕ)) → list_any (λ k. is_spelled q.now k.now) new ≡ cond (is_spelled key.now q.now) true (list_any (λ k. is_spelled q.now k.now) keys)
 
 module _ (first : Option (ℕ × ℕ)) (xs : List Name) (keys : List (Bor (List ℕ))) (found : Option (ℕ × ℕ)) (x : Name) (key : Bor (List ℕ)) (it : IsSeen first xs keys found) (is : key.now ≡ x.text) where
-  there_or_not : (b : Bool) → b ≡ not (list_any (is_key key.now) keys) → is_among (map text_of xs) x.text ≡ not b
-  there_or_not b e = sym (ap not e ∙ not-not (list_any (is_key key.now) keys) ∙ it.seen key.now ∙ ap (is_among (map text_of xs)) is)
+  there_or_not : (b : Bool) → b ≡ not (list_any (λ k. is_spelled key.now k.now) keys) → is_among (map text_of xs) x.text ≡ not b
+  there_or_not b e =
+      sym (ap not e ∙ not-not (list_any (λ k. is_spelled key.now k.now) keys) ∙ has_text keys key.now ∙ it.seen key.now ∙ ap (is_among (map text_of xs)) is)
+
+  seen_put : (keys' : List (Bor (List ℕ))) → IsPut keys key keys' → (y : Text) → list_any (is_key y) keys' ≡ is_among (map text_of (xs ++ x ∷ [])) y
+  seen_put keys' put y =
+      one_more_key keys keys' key put y
+      ∙ ap (λ b. b || is_key y key) (it.seen y)
+      ∙ ap (λ b. is_among (map text_of xs) y || b) (text_turned y key.now ∙ ap (λ t. is_text t y) is)
+      ∙ sym (among_one xs x y)
 
   -- a name that was seen
-  seen_again : (keys' : List (Bor (List ℕ))) (found' : Option (ℕ × ℕ)) → false ≡ not (list_any (is_key key.now) keys) → keys' ≡ keys_with keys key → found' ≡ noted found ((x.at, 8) ∷ [])
+  seen_again : (keys' : List (Bor (List ℕ))) (found' : Option (ℕ × ℕ)) → false ≡ not (list_any (λ k. is_spelled key.now k.now) keys) → IsPut keys key keys' → found' ≡ noted found ((x.at, 8) ∷ [])
       → IsSeen first (xs ++ x ∷ []) keys' found'
-  seen_again keys' found' e put note =
-      let known : is_among (map text_of xs) x.text ≡ true = there_or_not false e in
-      let there : list_any (is_key key.now) keys ≡ true = it.seen key.now ∙ ap (is_among (map text_of xs)) is ∙ known in
-      let same : keys' ≡ keys = put ∙ ap (λ b. cond b keys (keys ++ key ∷ [])) there in
-      record {
-        seen = λ y. ap (list_any (is_key y)) same ∙ it.seen y ∙ covers (map text_of xs) x.text y known ∙ sym (among_one xs x y);
-        least = note ∙ noted_after first found (at_with 8 (repeats [] xs)) ((x.at, 8) ∷ []) it.least ∙ ap (noted first) (sym (repeated_one xs x true known));
-      }
+  seen_again keys' found' e put note = record {
+    seen = seen_put keys' put;
+    least = note ∙ noted_after first found (at_with 8 (repeats [] xs)) ((x.at, 8) ∷ []) it.least ∙ ap (noted first) (sym (repeated_one xs x true (there_or_not false e)));
+  }
 
   -- a new name
-  seen_new : (keys' : List (Bor (List ℕ))) (found' : Option (ℕ × ℕ)) → true ≡ not (list_any (is_key key.now) keys) → keys' ≡ keys_with keys key → found' ≡ found
+  seen_new : (keys' : List (Bor (List ℕ))) (found' : Option (ℕ × ℕ)) → true ≡ not (list_any (λ k. is_spelled key.now k.now) keys) → IsPut keys key keys' → found' ≡ found
       → IsSeen first (xs ++ x ∷ []) keys' found'
-  seen_new keys' found' e put note =
-      let new : is_among (map text_of xs) x.text ≡ false = there_or_not true e in
-      let absent : list_any (is_key key.now) keys ≡ false = it.seen key.now ∙ ap (is_among (map text_of xs)) is ∙ new in
-      let more : keys' ≡ keys ++ key ∷ [] = put ∙ ap (λ b. cond b keys (keys ++ key ∷ [])) absent in
-      record {
-        seen = λ y.
-            ap (list_any (is_key y)) more
-            ∙ any_one (is_key y) keys key
-            ∙ ap (λ b. b || is_key y key) (it.seen y)
-            ∙ ap (λ b. is_among (map text_of xs) y || b) (text_turned y key.now ∙ ap (λ t. is_text t y) is)
-            ∙ sym (among_one xs x y);
-        least = note ∙ noted_after first found (at_with 8 (repeats [] xs)) [] it.least ∙ ap (noted first) (sym (repeated_one xs x false new));
-      }
+  seen_new keys' found' e put note = record {
+    seen = seen_put keys' put;
+    least = note ∙ noted_after first found (at_with 8 (repeats [] xs)) [] it.least ∙ ap (noted first) (sym (repeated_one xs x false (there_or_not true e)));
+  }
 
 module _ {X : Type 0} (name_of : X → Name) (first : Option (ℕ × ℕ)) (xs : List X) (i : ℕ) (x : X) (keys : List (Bor (List ℕ))) (found : Option (ℕ × ℕ)) (key : Bor (List ℕ))
     (within : i < length xs) (is : x ≡ get_or xs i x) (it : IsSeen first (map name_of (take i xs)) keys found) (text : key.now ≡ (name_of x).text) where
   one_more : map name_of (take i xs) ++ name_of x ∷ [] ≡ map name_of (take (i + 1) xs)
   one_more = sym (ap (map name_of) (take_more xs i x within ∙ ap (λ y. take i xs ++ y ∷ []) (sym is)) ∙ map-append name_of (take i xs) (x ∷ []))
 
-  pub again_step : (keys' : List (Bor (List ℕ))) (found' : Option (ℕ × ℕ)) (b : Bool) → b ≡ not (list_any (is_key key.now) keys) → b ≡ false → keys' ≡ keys_with keys key
+  pub again_step : (keys' : List (Bor (List ℕ))) (found' : Option (ℕ × ℕ)) (b : Bool) → b ≡ not (list_any (λ k. is_spelled key.now k.now) keys) → b ≡ false → IsPut keys key keys'
       → found' ≡ noted found (((name_of x).at, 8) ∷ []) → IsSeen first (map name_of (take (i + 1) xs)) keys' found'
   again_step keys' found' b new known put note =
       subst (λ ys. IsSeen first ys keys' found') one_more (seen_again first (map name_of (take i xs)) keys found (name_of x) key it text keys' found' (sym known ∙ new) put note)
 
-  pub new_step : (keys' : List (Bor (List ℕ))) (found' : Option (ℕ × ℕ)) (b : Bool) → b ≡ not (list_any (is_key key.now) keys) → b ≡ true → keys' ≡ keys_with keys key
+  pub new_step : (keys' : List (Bor (List ℕ))) (found' : Option (ℕ × ℕ)) (b : Bool) → b ≡ not (list_any (λ k. is_spelled key.now k.now) keys) → b ≡ true → IsPut keys key keys'
       → found' ≡ found → IsSeen first (map name_of (take (i + 1) xs)) keys' found'
   new_step keys' found' b new unknown put note =
       subst (λ ys. IsSeen first ys keys' found') one_more (seen_new first (map name_of (take i xs)) keys found (name_of x) key it text keys' found' (sym unknown ∙ new) put note)

@@ -94,6 +94,10 @@ pub record AreEntrySteps (spec : Spec) (entries rest : List Entry) (lists : List
   pub graph : All (All (λ n. n < length entries)) lists
   pub steps : map (map (text_at entries)) lists ++ map (entry_onward spec) rest ≡ map (entry_onward spec) entries
 
+pub entry_left : (entries : List Entry) (i : ℕ) (e : Entry) → i < length entries → e ≡ get_or entries i e → drop i entries ≡ e ∷ drop (i + 1) entries
+entry_left entries i e inside is =
+    drop-cons entries i e inside ∙ (ap (λ x. x ∷ drop (suc i) entries) (sym is) ∙ ap (λ n. e ∷ drop n entries) (sym (add-one i)))
+
 pub no_entry_yet : (spec : Spec) (entries rest : List Entry) (lists : List (List ℕ)) → lists ≡ [] → rest ≡ entries → AreEntrySteps spec entries rest lists
 no_entry_yet spec entries rest lists none all = record {
   counted = omega (arith, ap length none, ap length all);

@@ -76,12 +76,12 @@ numbers_from before [] = []
 numbers_from before (d ∷ ds) = (d.name.text, number_after before d.meaning) ∷ numbers_from (before ++ d ∷ []) ds
 
 pub record IsNumberingOf (ds : List Declaration) (n : Numbering) : Type 0 where
-  pub names : n.names.entries ≡ numbers_from [] ds
+  pub names : n.names ≡ numbers_from [] ds
   pub indices : AreIndicesOf ds n.indices
 
 -- the name at an index
 abbrev pub text_kept_at : Numbering → ℕ → Option Text
-text_kept_at n k = option_map (λ (e : Text × Option Named). e.0) (slice_get n.names.entries k)
+text_kept_at n k = option_map (λ (e : Text × Option Named). e.0) (slice_get n.names k)
 
 -- the number, if it is that of a universe, or of an element, or else the other one
 abbrev pub universe_or : ℕ → Option Named → ℕ

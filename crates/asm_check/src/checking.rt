@@ -16,7 +16,8 @@ use crate::error::CheckError;
 use crate::known::note_uses;
 use crate::least::Least;
 use crate::limits::note_limits;
-use crate::names::{Names, first_names};
+use crate::name_table::Names;
+use crate::names::first_names;
 use crate::numbering::Numbering;
 use crate::starts::note_inits;
 use crate::tables::note_entries;
@@ -60,7 +61,7 @@ fn least_fault(
     names: &Names,
     noted: Least,
 ) -> Result<Option<CheckError>, AllocError>
-    requires table { IsTableOf (spec_of spec.now) names.now.entries }
+    requires table { IsTableOf (spec_of spec.now) names.now }
     requires twice { found_of noted.found ≡ noted_after None (twice_faults (spec_of spec.now)) }
     ensures { IfOk result (λ found. IsSoonest (IsFault (spec_of spec.now)) (found_of found)) }
 {

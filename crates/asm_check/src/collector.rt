@@ -13,14 +13,14 @@ use asm_syntax::name::{Name, Text};
 use asm_syntax::rule::Rule;
 use asm_syntax::spec::{Const, Entry, Given};
 use asm_syntax::term::Term;
-use indexmap::IndexSet;
 use std::alloc::{AllocError, Global};
+use std::collections::BTreeSet;
 
 /// The uses that were met so far, and the names that are bound where the walk stands.
 #[derive(Drop)]
 pub(crate) struct Collector<'a> {
     pub found: Vec<Use<'a>>,
-    parameters: IndexSet<&'a [u8]>,
+    parameters: BTreeSet<&'a [u8]>,
     binders: Vec<&'a Text>,
 }
 
@@ -32,7 +32,7 @@ impl<'a> Collector<'a> {
     {
         Collector {
             found: Vec::new(alloc),
-            parameters: IndexSet::new(alloc),
+            parameters: BTreeSet::new(alloc),
             binders: Vec::new(alloc),
         }
     }
@@ -45,7 +45,7 @@ impl<'a> Collector<'a> {
         ensures found { IfOk result (λ c. c.found.items ≡ []) }
         ensures bound { IfOk result (λ c. IsSameScope (bound_of c) (map names.text_of (map name_of parameters.now))) }
     {
-        let mut texts = IndexSet::new(alloc);
+        let mut texts = BTreeSet::new(alloc);
         for parameter in parameters {
             texts.insert(parameter.text.as_bytes())?;
         }

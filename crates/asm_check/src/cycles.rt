@@ -13,7 +13,7 @@ use crate::error::FaultKind;
 use crate::graph::{leads_back, on_ways, reaching_cycles};
 use crate::least::Least;
 use crate::meaning::{Declaration, Meaning};
-use crate::names::Names;
+use crate::name_table::Names;
 use crate::steps::steps_of;
 use asm_syntax::spec::Spec;
 use std::alloc::{AllocError, Global};
@@ -28,7 +28,7 @@ pub(crate) fn note_steps(
     names: &Names,
     least: &mut Least,
 ) -> Result<(), AllocError>
-    requires { IsTableOf (spec_of spec.now) names.now.entries }
+    requires { IsTableOf (spec_of spec.now) names.now }
     ensures { OnOk result (IsSoonestWith (IsStepFault (spec_of spec.now)) (found_of least.old.found) (found_of least.new.found)) }
 {
     let steps = steps_of(alloc, spec, names)?;

@@ -11,7 +11,8 @@ ghost use Rattle.asm_check.specs.UseViews.{use_of, role_of};
 
 use crate::error::FaultKind;
 use crate::least::Least;
-use crate::names::{Names, meaning};
+use crate::name_table::Names;
+use crate::names::meaning;
 use crate::roles::{arguments_of, is_assignable, is_known};
 use crate::uses::{Role, Use, uses_of_item};
 use asm_syntax::spec::Spec;
@@ -24,7 +25,7 @@ pub(crate) fn note_uses(
     names: &Names,
     least: &mut Least,
 ) -> Result<(), AllocError>
-    requires { IsTableOf (spec_of spec.now) names.now.entries }
+    requires { IsTableOf (spec_of spec.now) names.now }
     ensures { OnOk result (found_of least.new.found ≡ noted (found_of least.old.found) (use_faults (spec_of spec.now))) }
 {
     for item in &spec.items {
@@ -36,7 +37,7 @@ pub(crate) fn note_uses(
 
 /// Notes the faults of these uses.
 fn note_each(names: &Names, uses: &[Use], least: &mut Least)
-    ensures { (spec : source.Spec) → IsTableOf spec names.now.entries →
+    ensures { (spec : source.Spec) → IsTableOf spec names.now →
         found_of least.new.found ≡ noted (found_of least.old.found) (flat_map (faults_of_use spec) (map use_of uses.now)) }
 {
     for used in uses {
@@ -46,7 +47,7 @@ fn note_each(names: &Names, uses: &[Use], least: &mut Least)
 
 /// Notes the fault of a use, if it has one.
 pub(crate) fn note_use(names: &Names, used: Use, least: &mut Least)
-    ensures { (spec : source.Spec) → IsTableOf spec names.now.entries →
+    ensures { (spec : source.Spec) → IsTableOf spec names.now →
         found_of least.new.found ≡ noted (found_of least.old.found) (faults_of_use spec (use_of used.entry)) }
 {
     let meaning = meaning(names, &used.name.text);

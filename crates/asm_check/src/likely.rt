@@ -1,9 +1,8 @@
 //! Where names probably stand in the table of all names.
 ghost use Rattle.std.specs.Prelude.{◌<◌, ◌^◌};
 
-use crate::checked::Named;
+use crate::numbered_names::NumberedNames;
 use asm_syntax::name::Text;
-use indexmap::IndexMap;
 use std::alloc::{AllocError, Global};
 
 /// A guess for each key. A right one spares the look-up in the table, and a wrong one is seen, as the name there is another.
@@ -23,10 +22,7 @@ impl Likely {
     }
 
     /// Guesses for these names. Of names whose keys fall together the last one is found at once.
-    pub(crate) fn of(
-        alloc: Global,
-        names: &IndexMap<Text, Option<Named>>,
-    ) -> Result<Likely, AllocError> {
+    pub(crate) fn of(alloc: Global, names: &NumberedNames) -> Result<Likely, AllocError> {
         let mask = mask_for(names.len());
         let mut likely = Likely {
             indices: vec![in alloc; 0; mask as usize + 1]?,

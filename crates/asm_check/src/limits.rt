@@ -14,7 +14,8 @@ ghost use Rattle.asm_check.specs.Tables.{IsTableOf, declaration_of, meaning_of};
 use crate::error::FaultKind;
 use crate::least::Least;
 use crate::meaning::{Declaration, Meaning};
-use crate::names::{Names, position};
+use crate::name_table::Names;
+use crate::names::position;
 use asm_state::number::Number;
 use asm_syntax::name::{Name, Text};
 use asm_syntax::spec::Spec;
@@ -48,7 +49,7 @@ pub(crate) fn note_limits(
     names: &Names,
     least: &mut Least,
 ) -> Result<(), AllocError>
-    requires { IsTableOf (spec_of spec.now) names.now.entries }
+    requires { IsTableOf (spec_of spec.now) names.now }
     ensures { OnOk result (found_of least.new.found ≡ noted (found_of least.old.found) (limit_faults (spec_of spec.now))) }
 {
     let elements = element_counts(alloc, spec, names)?;
@@ -67,8 +68,8 @@ pub(crate) fn note_limits(
 
 /// The declaration at a position of the table.
 fn declared_at<'a>(names: &Names<'a>, i: usize) -> Declaration<'a>
-    requires { i < length names.now.entries }
-    ensures { option_map value_of_entry (slice_get names.now.entries i) ≡ Some result }
+    requires { i < length names.now }
+    ensures { option_map value_of_entry (slice_get names.now i) ≡ Some result }
 {
     let (_, declared) = names.get_index(i).unwrap();
     *declared
@@ -80,7 +81,7 @@ pub(crate) fn element_counts(
     spec: &Spec,
     names: &Names,
 ) -> Result<Vec<usize>, AllocError>
-    requires { IsTableOf (spec_of spec.now) names.now.entries }
+    requires { IsTableOf (spec_of spec.now) names.now }
     ensures { IfOk result (λ counts. AreElementCounts (spec_of spec.now) counts.items) }
 {
     let mut counts = vec![in alloc; 0; spec.items.len()]?;
@@ -128,7 +129,7 @@ pub(crate) fn counted_sizes(
     elements: &[usize],
 ) -> Result<Vec<usize>, AllocError>
     ensures small { IfOk result (λ sizes. All (λ n. n ≤ 4096) sizes.items) }
-    ensures sizes { IfOk result (λ sizes. sizes.items ≡ counted_from (size_with elements.now) 64 (map declaration_of names.now.entries)) }
+    ensures sizes { IfOk result (λ sizes. sizes.items ≡ counted_from (size_with elements.now) 64 (map declaration_of names.now)) }
 {
     let mut sizes = Vec::new(alloc);
     let mut left = UNIVERSES;
@@ -151,7 +152,7 @@ pub(crate) fn counted_sizes(
 fn counted_size(names: &Names, name: &Text, sizes: &[usize]) -> usize
     requires { All (λ n. n ≤ 4096) sizes.now }
     ensures small { result ≤ 4096 }
-    ensures size { (spec : source.Spec) (at : ℕ) → IsTableOf spec names.now.entries → AreCountedSizes spec names.now.entries sizes.now
+    ensures size { (spec : source.Spec) (at : ℕ) → IsTableOf spec names.now → AreCountedSizes spec names.now sizes.now
         → result ≡ counted_size spec (record { at = at; text = name.now }) }
 {
     match position(names, name) {
@@ -163,7 +164,7 @@ fn counted_size(names: &Names, name: &Text, sizes: &[usize]) -> usize
 /// How many argument lists a domain has: none where it or one of its universes passes a limit.
 pub(crate) fn lists(domain: &[Name], names: &Names, sizes: &[usize]) -> usize
     requires { All (λ n. n ≤ 4096) sizes.now }
-    ensures { (spec : source.Spec) → IsTableOf spec names.now.entries → AreCountedSizes spec names.now.entries sizes.now
+    ensures { (spec : source.Spec) → IsTableOf spec names.now → AreCountedSizes spec names.now sizes.now
         → result ≡ lists_of spec (map name_of domain.now) }
 {
     if domain.len() > DOMAIN {

@@ -14,14 +14,12 @@ ghost use Rattle.asm_syntax.specs.SourceTree as source;
 use crate::error::FaultKind;
 use crate::least::Least;
 use crate::meaning::{Declaration, Meaning};
+use crate::name_table::Names;
 use asm_state::function::FunctionKind;
 use asm_syntax::name::{Name, Text};
 use asm_syntax::spec::{Item, Spec};
-use indexmap::{IndexMap, IndexSet};
 use std::alloc::{AllocError, Global};
-
-/// The declarations that count, the first of each name, in the order of the text.
-pub(crate) type Names<'a> = IndexMap<&'a [u8], Declaration<'a>>;
+use std::collections::BTreeSet;
 
 /// The table of a specification. Names that are declared twice are noted.
 pub(crate) fn first_names<'a>(
@@ -29,10 +27,10 @@ pub(crate) fn first_names<'a>(
     spec: &'a Spec,
     least: &mut Least,
 ) -> Result<Names<'a>, AllocError>
-    ensures table { IfOk result (λ names. IsTableOf (spec_of spec.now) names.entries) }
+    ensures table { IfOk result (λ names. IsTableOf (spec_of spec.now) names) }
     ensures least { OnOk result (found_of least.new.found ≡ noted (found_of least.old.found) (twice_faults (spec_of spec.now))) }
 {
-    let mut names = IndexMap::new(alloc);
+    let mut names = Names::new(alloc);
     predeclare_all(&mut names, least)?;
     declare_items(&mut names, &spec.items, least)?;
     note_parameters(alloc, &spec.items, least)?;
@@ -41,7 +39,7 @@ pub(crate) fn first_names<'a>(
 
 /// The names that are declared before any text. They have no offset of their own.
 fn predeclare_all(names: &mut Names, least: &mut Least) -> Result<(), AllocError>
-    ensures { OnOk result (Gathers predeclared names.old.entries (found_of least.old.found) names.new.entries (found_of least.new.found)) }
+    ensures { OnOk result (Gathers predeclared names.old (found_of least.old.found) names.new (found_of least.new.found)) }
 {
     predeclare(names, "NUMBER", least)?;
     predeclare(names, "BOOLEAN", least)?;
@@ -49,7 +47,7 @@ fn predeclare_all(names: &mut Names, least: &mut Least) -> Result<(), AllocError
 }
 
 fn predeclare(names: &mut Names, name: &'static str, least: &mut Least) -> Result<(), AllocError>
-    ensures { OnOk result (Gathers (predeclares name.entry.now ∷ []) names.old.entries (found_of least.old.found) names.new.entries (found_of least.new.found)) }
+    ensures { OnOk result (Gathers (predeclares name.entry.now ∷ []) names.old (found_of least.old.found) names.new (found_of least.new.found)) }
 {
     let declared = Declaration {
         at: 0,
@@ -64,7 +62,7 @@ fn declare_items<'a>(
     items: &'a [Item],
     least: &mut Least,
 ) -> Result<(), AllocError>
-    ensures { OnOk result (Gathers (declarations_from 0 (map item_of items.now)) names.old.entries (found_of least.old.found) names.new.entries (found_of least.new.found)) }
+    ensures { OnOk result (Gathers (declarations_from 0 (map item_of items.now)) names.old (found_of least.old.found) names.new (found_of least.new.found)) }
 {
     for (k, item) in items.iter().enumerate() {
         declare_item(names, item, k, least)?;
@@ -79,7 +77,7 @@ fn declare_item<'a>(
     k: usize,
     least: &mut Least,
 ) -> Result<(), AllocError>
-    ensures { OnOk result (Gathers (declarations_of k (item_of item.now)) names.old.entries (found_of least.old.found) names.new.entries (found_of least.new.found)) }
+    ensures { OnOk result (Gathers (declarations_of k (item_of item.now)) names.old (found_of least.old.found) names.new (found_of least.new.found)) }
 {
     match item {
         Item::Uses(_) | Item::Init(_) => Ok(()),
@@ -130,7 +128,7 @@ fn declare_elements<'a>(
     k: usize,
     least: &mut Least,
 ) -> Result<(), AllocError>
-    ensures { OnOk result (Gathers (map (λ y. declares y (Element k)) (map name_of elements.now)) names.old.entries (found_of least.old.found) names.new.entries (found_of least.new.found)) }
+    ensures { OnOk result (Gathers (map (λ y. declares y (Element k)) (map name_of elements.now)) names.old (found_of least.old.found) names.new (found_of least.new.found)) }
 {
     for element in elements {
         declare_name(names, element, Meaning::Element(k), least)?;
@@ -144,7 +142,7 @@ fn declare_name<'a>(
     meaning: Meaning<'a>,
     least: &mut Least,
 ) -> Result<(), AllocError>
-    ensures { OnOk result (Gathers (declares (name_of name.now) (meaning_of meaning.entry) ∷ []) names.old.entries (found_of least.old.found) names.new.entries (found_of least.new.found)) }
+    ensures { OnOk result (Gathers (declares (name_of name.now) (meaning_of meaning.entry) ∷ []) names.old (found_of least.old.found) names.new (found_of least.new.found)) }
 {
     let declared = Declaration {
         at: name.at,
@@ -160,12 +158,10 @@ fn declare<'a>(
     declared: Declaration<'a>,
     least: &mut Least,
 ) -> Result<(), AllocError>
-    ensures { OnOk result (Gathers (declaration_of (text.entry, declared.entry) ∷ []) names.old.entries (found_of least.old.found) names.new.entries (found_of least.new.found)) }
+    ensures { OnOk result (Gathers (declaration_of (text.entry, declared.entry) ∷ []) names.old (found_of least.old.found) names.new (found_of least.new.found)) }
 {
-    if names.contains_key(text) {
+    if !names.put(text, declared)? {
         least.note(FaultKind::Twice, declared.at);
-    } else {
-        names.insert(text, declared)?;
     }
     Ok(())
 }
@@ -194,7 +190,7 @@ fn parameters(item: &Item) -> &[Name]
 fn note_repeats(alloc: Global, names: &[Name], least: &mut Least) -> Result<(), AllocError>
     ensures { OnOk result (found_of least.new.found ≡ noted (found_of least.old.found) (at_with 8 (repeats [] (map name_of names.now)))) }
 {
-    let mut seen = IndexSet::new(alloc);
+    let mut seen = BTreeSet::new(alloc);
     for name in names {
         if !seen.insert(name.text.as_bytes())? {
             least.note(FaultKind::Twice, name.at);
@@ -205,7 +201,7 @@ fn note_repeats(alloc: Global, names: &[Name], least: &mut Least) -> Result<(), 
 
 /// What a name is declared as.
 pub(crate) fn meaning<'a>(names: &Names<'a>, name: &Text) -> Option<Meaning<'a>>
-    ensures { (spec : source.Spec) → IsTableOf spec names.now.entries → option_map meaning_of result ≡ declared spec name.now }
+    ensures { (spec : source.Spec) → IsTableOf spec names.now → option_map meaning_of result ≡ declared spec name.now }
 {
     let declared = names.get(name.as_bytes())?;
     Some(declared.meaning)
@@ -213,9 +209,9 @@ pub(crate) fn meaning<'a>(names: &Names<'a>, name: &Text) -> Option<Meaning<'a>>
 
 /// Where a name stands in the table.
 pub(crate) fn position(names: &Names, name: &Text) -> Option<usize>
-    ensures found { IfSome result (λ i. i < length names.now.entries) }
-    ensures name { IfSome result (λ i. text_at names.now.entries i ≡ name.now) }
-    ensures missing { (spec : source.Spec) → IsTableOf spec names.now.entries → IfNone result (declared spec name.now ≡ None) }
+    ensures found { IfSome result (λ i. i < length names.now) }
+    ensures name { IfSome result (λ i. text_at names.now i ≡ name.now) }
+    ensures missing { (spec : source.Spec) → IsTableOf spec names.now → IfNone result (declared spec name.now ≡ None) }
 {
     names.get_index_of(name.as_bytes())
 }

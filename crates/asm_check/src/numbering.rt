@@ -14,16 +14,16 @@ ghost use Rattle.asm_check.specs.Tables.{meaning_of, declaration_of, IsTableOf};
 use crate::checked::Named;
 use crate::likely::Likely;
 use crate::meaning::{Declaration, Meaning};
-use crate::names::Names;
+use crate::name_table::Names;
+use crate::numbered_names::NumberedNames;
 use asm_syntax::name::Text;
-use indexmap::IndexMap;
 use std::alloc::{AllocError, Global};
 
 /// What names stand for, and the names of what has a number.
 #[derive(Drop)]
 pub(crate) struct Numbering {
     /// All names in the order of their first declarations. A predeclared name has no number.
-    names: IndexMap<Text, Option<Named>>,
+    names: NumberedNames,
     likely: Likely,
     indices: Indices,
 }
@@ -31,7 +31,7 @@ pub(crate) struct Numbering {
 impl Numbering {
     /// The numbering of what a specification declares first, by the table of its names.
     pub(crate) fn of(alloc: Global, names: &Names) -> Result<Numbering, AllocError>
-        ensures { IfOk result (λ n. (spec : source.Spec) → IsTableOf spec names.now.entries → IsNumberingOf (first_declarations spec) n) }
+        ensures { IfOk result (λ n. (spec : source.Spec) → IsTableOf spec names.now → IsNumberingOf (first_declarations spec) n) }
     {
         let mut numbering = Numbering::new(alloc);
         for i in 0..names.len() {
@@ -46,7 +46,7 @@ impl Numbering {
         ensures { IsNumberingOf [] result }
     {
         Numbering {
-            names: IndexMap::new(alloc),
+            names: NumberedNames::new(alloc),
             likely: Likely::new(alloc),
             indices: Indices::new(alloc),
         }
@@ -58,14 +58,14 @@ impl Numbering {
             → is_among (texts_of ds) name.now ≡ false → IsNumberingOf ds self.old → IsNumberingOf (ds ++ d ∷ []) self.new) }
     {
         let number = self.indices.add(meaning, self.names.len())?;
-        self.names.insert(Text::new(alloc, name)?, number)?;
+        self.names.put(alloc, name, number)?;
         Ok(())
     }
 
     /// What a name stands for, if it has a number.
     #[inline(always)]
     pub(crate) fn named(&self, name: &Text) -> Option<Named>
-        ensures { result ≡ option_flatten (lookup (pointwise nat_eq name.now) self.now.names.entries) }
+        ensures { result ≡ option_flatten (lookup (pointwise nat_eq name.now) self.now.names) }
     {
         match self.found_at_once(name) {
             Some(number) => number,
@@ -76,7 +76,7 @@ impl Numbering {
     /// What a name has in the table, if it stands where it probably does.
     #[inline(always)]
     fn found_at_once(&self, name: &Text) -> Option<Option<Named>>
-        ensures { IfSome result (λ number. lookup (pointwise nat_eq name.now) self.now.names.entries ≡ Some number) }
+        ensures { IfSome result (λ number. lookup (pointwise nat_eq name.now) self.now.names ≡ Some number) }
     {
         let (text, number) = self.names.get_index(self.likely.index(name)?)?;
         if text.is(name) { Some(*number) } else { None }
@@ -85,15 +85,15 @@ impl Numbering {
     /// The same, by a look-up in the table.
     #[inline(never)]
     fn found(&self, name: &Text) -> Option<Named>
-        ensures { result ≡ option_flatten (lookup (pointwise nat_eq name.now) self.now.names.entries) }
+        ensures { result ≡ option_flatten (lookup (pointwise nat_eq name.now) self.now.names) }
     {
-        *self.names.get(name)?
+        self.names.get(name)?
     }
 
     /// The name of the function with this number.
     pub(crate) fn function_name(&self, f: usize) -> &[u8]
         requires number { f < length self.now.indices.functions.items }
-        requires index { slice_index self.now.indices.functions.items f < length self.now.names.entries }
+        requires index { slice_index self.now.indices.functions.items f < length self.now.names }
         ensures { text_kept_at self.now (slice_index self.now.indices.functions.items f) ≡ Some result.now }
     {
         self.name_at(self.indices.functions[f])
@@ -116,14 +116,14 @@ impl Numbering {
     /// The name of the element with this number.
     pub(crate) fn element_name(&self, e: usize) -> &[u8]
         requires number { e < length self.now.indices.elements.items }
-        requires index { slice_index self.now.indices.elements.items e < length self.now.names.entries }
+        requires index { slice_index self.now.indices.elements.items e < length self.now.names }
         ensures { text_kept_at self.now (slice_index self.now.indices.elements.items e) ≡ Some result.now }
     {
         self.name_at(self.indices.elements[e])
     }
 
     fn name_at(&self, index: usize) -> &[u8]
-        requires { index < length self.now.names.entries }
+        requires { index < length self.now.names }
         ensures { text_kept_at self.now index ≡ Some result.now }
     {
         let (name, _) = self.names.get_index(index).unwrap();
@@ -133,8 +133,8 @@ impl Numbering {
 
 /// The declaration at an index, with its name.
 fn entry_at<'a>(names: &Names<'a>, i: usize) -> (&'a [u8], Declaration<'a>)
-    requires { i < length names.now.entries }
-    ensures { option_map declaration_of (slice_get names.now.entries i) ≡ Some (declaration_of result) }
+    requires { i < length names.now }
+    ensures { option_map declaration_of (slice_get names.now i) ≡ Some (declaration_of result) }
 {
     let (name, declared) = names.get_index(i).unwrap();
     (*name, *declared)

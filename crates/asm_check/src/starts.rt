@@ -15,13 +15,14 @@ ghost use Rattle.asm_check.specs.Tables.{IsTableOf, meaning_of};
 use crate::error::FaultKind;
 use crate::least::Least;
 use crate::meaning::Meaning;
-use crate::names::{Names, meaning};
+use crate::name_table::Names;
+use crate::names::meaning;
 use asm_syntax::name::Name;
 use asm_syntax::spec::{Item, Spec};
 
 /// Notes starting rules that there can't be, or that none is named.
 pub(crate) fn note_inits(spec: &Spec, names: &Names, least: &mut Least)
-    requires { IsTableOf (spec_of spec.now) names.now.entries }
+    requires { IsTableOf (spec_of spec.now) names.now }
     ensures { found_of least.new.found ≡ noted (found_of least.old.found) (init_faults (spec_of spec.now)) }
 {
     if !note_starts(&spec.items, names, least) {
@@ -32,7 +33,7 @@ pub(crate) fn note_inits(spec: &Spec, names: &Names, least: &mut Least)
 /// Notes starting rules that there can't be, and says whether one is named.
 fn note_starts(items: &[Item], names: &Names, least: &mut Least) -> bool
     ensures named { result ≡ is_any (filter_map init_of (map item_of items.now)) }
-    ensures least { (spec : source.Spec) → IsTableOf spec names.now.entries → found_of least.new.found ≡ noted (found_of least.old.found) (start_faults spec (filter_map init_of (map item_of items.now))) }
+    ensures least { (spec : source.Spec) → IsTableOf spec names.now → found_of least.new.found ≡ noted (found_of least.old.found) (start_faults spec (filter_map init_of (map item_of items.now))) }
 {
     let mut is_named = false;
     for item in items {
@@ -56,7 +57,7 @@ fn start(item: &Item) -> Option<&Name>
 
 /// Only the first `init` counts, and what it names must be a rule without parameters.
 fn note_start(name: &Name, is_named: bool, names: &Names, least: &mut Least)
-    ensures { (spec : source.Spec) → IsTableOf spec names.now.entries → found_of least.new.found ≡ noted (found_of least.old.found) (cond (is_named || not (meanings.is_start (declared spec name.now.text))) ((name.now.at, 14) ∷ []) []) }
+    ensures { (spec : source.Spec) → IsTableOf spec names.now → found_of least.new.found ≡ noted (found_of least.old.found) (cond (is_named || not (meanings.is_start (declared spec name.now.text))) ((name.now.at, 14) ∷ []) []) }
 {
     if is_named || !is_start(meaning(names, &name.text)) {
         least.note(FaultKind::Init, name.at);

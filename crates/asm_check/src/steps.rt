@@ -9,7 +9,8 @@ ghost use Rattle.asm_check.specs.Tables.{IsTableOf, meaning_of, text_at};
 ghost use Rattle.asm_check.specs.UseViews.{use_of};
 
 use crate::meaning::Meaning;
-use crate::names::{Names, meaning, position};
+use crate::name_table::Names;
+use crate::names::{meaning, position};
 use crate::roles::is_step;
 use crate::uses::{Use, uses_of_body, uses_of_named_rule};
 use asm_syntax::spec::Spec;
@@ -22,25 +23,26 @@ pub(crate) fn steps_of(
     spec: &Spec,
     names: &Names,
 ) -> Result<Vec<Vec<usize>>, AllocError>
-    requires { IsTableOf (spec_of spec.now) names.now.entries }
-    ensures len { IfOk result (λ steps. length steps.items ≡ length names.now.entries) }
+    requires { IsTableOf (spec_of spec.now) names.now }
+    ensures len { IfOk result (λ steps. length steps.items ≡ length names.now) }
     ensures graph { IfOk result (λ steps. IsGraph (step_lists steps.items)) }
-    ensures steps { IfOk result (λ steps. (n : ℕ) → n < length names.now.entries →
-        map (text_at names.now.entries) (next_of (step_lists steps.items) n) ≡ onward (spec_of spec.now) (text_at names.now.entries n)) }
+    ensures steps { IfOk result (λ steps. (n : ℕ) → n < length names.now →
+        map (text_at names.now) (next_of (step_lists steps.items) n) ≡ onward (spec_of spec.now) (text_at names.now n)) }
 {
     let _ = spec;
     let mut steps = Vec::new(alloc);
-    for (_name, declared) in names {
-        steps.push(steps_from(alloc, names, declared.meaning)?)?;
+    let entries = names.entries();
+    for entry in entries {
+        steps.push(steps_from(alloc, names, entry.1.meaning)?)?;
     }
     Ok(steps)
 }
 
 /// The positions to which the steps from a declaration lead.
 fn steps_from(alloc: Global, names: &Names, meaning: Meaning) -> Result<Vec<usize>, AllocError>
-    ensures within { IfOk result (λ steps. All (λ n. n < length names.now.entries) steps.items) }
-    ensures steps { IfOk result (λ steps. (spec : source.Spec) → IsTableOf spec names.now.entries →
-        map (text_at names.now.entries) steps.items ≡ onward_from spec (Some (meaning_of meaning.entry))) }
+    ensures within { IfOk result (λ steps. All (λ n. n < length names.now) steps.items) }
+    ensures steps { IfOk result (λ steps. (spec : source.Spec) → IsTableOf spec names.now →
+        map (text_at names.now) steps.items ≡ onward_from spec (Some (meaning_of meaning.entry))) }
 {
     match meaning {
         Meaning::Rule(parameters, body) => {
@@ -62,9 +64,9 @@ fn positions(
     uses: &[Use],
     in_rule: bool,
 ) -> Result<Vec<usize>, AllocError>
-    ensures within { IfOk result (λ steps. All (λ n. n < length names.now.entries) steps.items) }
-    ensures steps { IfOk result (λ steps. (spec : source.Spec) → IsTableOf spec names.now.entries →
-        map (text_at names.now.entries) steps.items ≡ stepping_to spec in_rule (map use_of uses.now)) }
+    ensures within { IfOk result (λ steps. All (λ n. n < length names.now) steps.items) }
+    ensures steps { IfOk result (λ steps. (spec : source.Spec) → IsTableOf spec names.now →
+        map (text_at names.now) steps.items ≡ stepping_to spec in_rule (map use_of uses.now)) }
 {
     let mut positions = Vec::new(alloc);
     for used in uses {

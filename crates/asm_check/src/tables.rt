@@ -14,12 +14,13 @@ ghost use Rattle.asm_check.specs.Tables.{IsTableOf, meaning_of};
 use crate::error::FaultKind;
 use crate::least::Least;
 use crate::meaning::Meaning;
-use crate::names::{Names, meaning};
+use crate::name_table::Names;
+use crate::names::meaning;
 use asm_syntax::name::Name;
 use asm_syntax::spec::{Const, Entry, Given, Item, Spec};
 use asm_syntax::term::Literal;
-use indexmap::IndexSet;
 use std::alloc::{AllocError, Global};
+use std::collections::BTreeSet;
 
 /// Notes the entries of tables that aren't in the domain of their function, or are there twice.
 pub(crate) fn note_entries(
@@ -28,7 +29,7 @@ pub(crate) fn note_entries(
     names: &Names,
     least: &mut Least,
 ) -> Result<(), AllocError>
-    requires { IsTableOf (spec_of spec.now) names.now.entries }
+    requires { IsTableOf (spec_of spec.now) names.now }
     ensures { OnOk result (found_of least.new.found ≡ noted (found_of least.old.found) (entry_faults (spec_of spec.now))) }
 {
     for item in &spec.items {
@@ -38,7 +39,7 @@ pub(crate) fn note_entries(
 }
 
 fn note_item(alloc: Global, names: &Names, item: &Item, least: &mut Least) -> Result<(), AllocError>
-    ensures { (spec : source.Spec) → IsTableOf spec names.now.entries → OnOk result (found_of least.new.found
+    ensures { (spec : source.Spec) → IsTableOf spec names.now → OnOk result (found_of least.new.found
         ≡ noted (found_of least.old.found) (flat_map (λ t. bad_entries spec t.0 [] t.1) (table_of (item_of item.now)))) }
 {
     match item {
@@ -59,12 +60,12 @@ fn note_table(
     entries: &[Entry],
     least: &mut Least,
 ) -> Result<(), AllocError>
-    ensures { (spec : source.Spec) → IsTableOf spec names.now.entries → OnOk result (found_of least.new.found
+    ensures { (spec : source.Spec) → IsTableOf spec names.now → OnOk result (found_of least.new.found
         ≡ noted (found_of least.old.found) (bad_entries spec (map name_of domain.now) [] (map entry_of entries.now))) }
 {
     // Looked up once for the table, since their names can be long and the entries many.
     let universes = universes_of(alloc, names, domain)?;
-    let mut seen = IndexSet::new(alloc);
+    let mut seen = BTreeSet::new(alloc);
     for entry in entries {
         let is_repeated = put_arguments(alloc, &mut seen, entry)?;
         if is_bad(names, &universes, entry, is_repeated) {
@@ -76,7 +77,7 @@ fn note_table(
 
 /// Whether all names in an entry are known, but it isn't in the domain, or its arguments stand in an entry before.
 fn is_bad(names: &Names, universes: &[Option<Meaning>], entry: &Entry, is_repeated: bool) -> bool
-    ensures { (spec : source.Spec) → IsTableOf spec names.now.entries → result ≡ (list_all (is_known_use spec) (uses_of_entry (entry_of entry.now))
+    ensures { (spec : source.Spec) → IsTableOf spec names.now → result ≡ (list_all (is_known_use spec) (uses_of_entry (entry_of entry.now))
         && (not (fits_in spec (map (option_map meaning_of) universes.now) (map const_of entry.now.arguments.items)) || is_repeated)) }
 {
     let is_good = !is_repeated && fits(names, universes, &entry.arguments);
@@ -86,7 +87,7 @@ fn is_bad(names: &Names, universes: &[Option<Meaning>], entry: &Entry, is_repeat
 /// Puts the arguments of an entry with those before it, and answers whether they are there already.
 fn put_arguments<'a>(
     alloc: Global,
-    seen: &mut IndexSet<Vec<Argument<'a>>>,
+    seen: &mut BTreeSet<Vec<Argument<'a>>>,
     entry: &'a Entry,
 ) -> Result<bool, AllocError>
     ensures repeated { (before : List source.Entry) → HasSeen before seen.old.keys → IfOk result (λ is_repeated. is_repeated
@@ -104,7 +105,7 @@ fn universes_of<'a>(
     names: &Names<'a>,
     domain: &[Name],
 ) -> Result<Vec<Option<Meaning<'a>>>, AllocError>
-    ensures { (spec : source.Spec) → IsTableOf spec names.now.entries → IfOk result (λ universes. map (option_map meaning_of) universes.items
+    ensures { (spec : source.Spec) → IsTableOf spec names.now → IfOk result (λ universes. map (option_map meaning_of) universes.items
         ≡ map (λ u. declared spec u.text) (map name_of domain.now)) }
 {
     let mut universes = Vec::with_capacity(alloc, domain.len())?;
@@ -116,7 +117,7 @@ fn universes_of<'a>(
 
 /// Whether each name in an entry is an element's.
 fn is_known(names: &Names, entry: &Entry) -> bool
-    ensures { (spec : source.Spec) → IsTableOf spec names.now.entries → result ≡ list_all (is_known_use spec) (uses_of_entry (entry_of entry.now)) }
+    ensures { (spec : source.Spec) → IsTableOf spec names.now → result ≡ list_all (is_known_use spec) (uses_of_entry (entry_of entry.now)) }
 {
     for argument in &entry.arguments {
         if !is_known_constant(names, argument) {
@@ -127,7 +128,7 @@ fn is_known(names: &Names, entry: &Entry) -> bool
 }
 
 fn is_known_constant(names: &Names, constant: &Const) -> bool
-    ensures { (spec : source.Spec) → IsTableOf spec names.now.entries → result ≡ list_all (is_known_use spec) (uses_of_const (const_of constant.now)) }
+    ensures { (spec : source.Spec) → IsTableOf spec names.now → result ≡ list_all (is_known_use spec) (uses_of_const (const_of constant.now)) }
 {
     match constant {
         Const::Plain(_) => true,
@@ -137,7 +138,7 @@ fn is_known_constant(names: &Names, constant: &Const) -> bool
 
 /// Whether there are as many arguments as universes, each in its own.
 fn fits(names: &Names, universes: &[Option<Meaning>], arguments: &[Const]) -> bool
-    ensures { (spec : source.Spec) → IsTableOf spec names.now.entries → result ≡ fits_in spec (map (option_map meaning_of) universes.now) (map const_of arguments.now) }
+    ensures { (spec : source.Spec) → IsTableOf spec names.now → result ≡ fits_in spec (map (option_map meaning_of) universes.now) (map const_of arguments.now) }
 {
     if universes.len() != arguments.len() {
         return false;
@@ -151,7 +152,7 @@ fn fits(names: &Names, universes: &[Option<Meaning>], arguments: &[Const]) -> bo
 }
 
 fn is_in_universe(names: &Names, universe: Option<Meaning>, constant: &Const) -> bool
-    ensures { (spec : source.Spec) → IsTableOf spec names.now.entries → result ≡ is_inside spec (option_map meaning_of universe.entry) (const_of constant.now) }
+    ensures { (spec : source.Spec) → IsTableOf spec names.now → result ≡ is_inside spec (option_map meaning_of universe.entry) (const_of constant.now) }
 {
     match constant {
         Const::Plain(Literal::Number(n)) => match universe {
@@ -169,7 +170,7 @@ fn is_in_universe(names: &Names, universe: Option<Meaning>, constant: &Const) ->
 }
 
 /// An argument, to be compared with those of other entries.
-#[derive(Clone, Copy, PartialEq, Eq, Hash)]
+#[derive(Clone, Copy, PartialEq, Eq, PartialOrd, Ord)]
 enum Argument<'a> {
     Undef,
     Truth(bool),

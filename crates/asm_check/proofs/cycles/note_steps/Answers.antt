@@ -14,7 +14,7 @@ use Rattle.asm_check.proofs.Apart.{names_apart, entry_declared}
 use Rattle.asm_check.proofs.cycles.note_steps.Goals.{in-Some+in_ok-note_node, in_default}
 
 pub loop-node-init : goal.loop-node-init
-loop-node-init c = none_below (step_lists c.as_slice-steps.result.now) c.args.names.now.entries (found_of c.args.least.now.found)
+loop-node-init c = none_below (step_lists c.as_slice-steps.result.now) c.args.names.now (found_of c.args.least.now.found)
 
 pub note_node-requires-clause-reaching : goal.note_node-requires-clause-reaching
 note_node-requires-clause-reaching c = λ b.
@@ -56,28 +56,28 @@ pub loop-node-preserved : goal.loop-node-preserved
 loop-node-preserved c =
     elim c.match-get_index.branch [
       | in-Some+in_ok-note_node w ↦
-          one_more (step_lists c.as_slice-steps.result.now) c.args.names.now.entries c.loop-node.node (w.in-Some.field-0-0.now, w.in-Some.declared.now) (sym w.in-Some.ensures.entry)
+          one_more (step_lists c.as_slice-steps.result.now) c.args.names.now c.loop-node.node (w.in-Some.field-0-0.now, w.in-Some.declared.now) (sym w.in-Some.ensures.entry)
           (found_of c.args.least.now.found) (found_of c.loop-node.least.found) (found_of c.match-get_index.least.found) c.loop-node.invariant
           (subst (λ (it : Least). IsSoonestWith (IsFaultOf (step_lists c.as_slice-steps.result.now) c.loop-node.node w.in-Some.declared.now) (found_of c.loop-node.least.found) (found_of it.found)) (sym w.least-is) w.in_ok-note_node.ensures)
       | in_default w ↦
           let d = c.len-node-end.ensures.len in
           let t = c.loop-node-test.true in
-          none_there_so c.args.names.now.entries c.loop-node.node (omega (arith, d, t)) w.in_default.ensures.entry
-          (IsSoonestWith (IsFaultBelow (step_lists c.as_slice-steps.result.now) c.args.names.now.entries (c.loop-node.node + 1)) (found_of c.args.least.now.found) (found_of c.match-get_index.least.found))
+          none_there_so c.args.names.now c.loop-node.node (omega (arith, d, t)) w.in_default.ensures.entry
+          (IsSoonestWith (IsFaultBelow (step_lists c.as_slice-steps.result.now) c.args.names.now (c.loop-node.node + 1)) (found_of c.args.least.now.found) (found_of c.match-get_index.least.found))
     ]
 
 pub returns : goal.returns
 returns c =
     let table = c.requires in
-    let entries = c.args.names.now.entries in
+    let entries = c.args.names.now in
     let d = c.len-node-end.ensures.len in
     let t = c.loop-node-test.false in
-    let far : length c.args.names.now.entries ≤ c.loop-node.node = omega (arith, d, t) in
-    let are = are_steps (spec_of c.args.spec.now) c.args.names.now.entries c.as_slice-steps.result.now c.in_ok-steps.steps.items c.as_slice-steps.ensures.value c.in_ok-steps.ensures.len c.in_ok-steps.ensures.graph c.in_ok-steps.ensures.steps in
-    soonest_same (IsFaultBelow (step_lists c.as_slice-steps.result.now) c.args.names.now.entries c.loop-node.node) (IsStepFault (spec_of c.args.spec.now))
-    (λ at number p. sound (spec_of c.args.spec.now) c.args.names.now.entries (step_lists c.as_slice-steps.result.now) are (names_apart (spec_of c.args.spec.now) c.args.names.now.entries table) table
-    (entry_declared (spec_of c.args.spec.now) c.args.names.now.entries table) at number (all_below (step_lists c.as_slice-steps.result.now) c.args.names.now.entries c.loop-node.node at number p))
-    (λ at number p. below_all (step_lists c.as_slice-steps.result.now) c.args.names.now.entries c.loop-node.node far at number
-    (complete (spec_of c.args.spec.now) c.args.names.now.entries (step_lists c.as_slice-steps.result.now) are (names_apart (spec_of c.args.spec.now) c.args.names.now.entries table) table
-    (entry_declared (spec_of c.args.spec.now) c.args.names.now.entries table) at number p))
+    let far : length c.args.names.now ≤ c.loop-node.node = omega (arith, d, t) in
+    let are = are_steps (spec_of c.args.spec.now) c.args.names.now c.as_slice-steps.result.now c.in_ok-steps.steps.items c.as_slice-steps.ensures.value c.in_ok-steps.ensures.len c.in_ok-steps.ensures.graph c.in_ok-steps.ensures.steps in
+    soonest_same (IsFaultBelow (step_lists c.as_slice-steps.result.now) c.args.names.now c.loop-node.node) (IsStepFault (spec_of c.args.spec.now))
+    (λ at number p. sound (spec_of c.args.spec.now) c.args.names.now (step_lists c.as_slice-steps.result.now) are (names_apart (spec_of c.args.spec.now) c.args.names.now table) table
+    (entry_declared (spec_of c.args.spec.now) c.args.names.now table) at number (all_below (step_lists c.as_slice-steps.result.now) c.args.names.now c.loop-node.node at number p))
+    (λ at number p. below_all (step_lists c.as_slice-steps.result.now) c.args.names.now c.loop-node.node far at number
+    (complete (spec_of c.args.spec.now) c.args.names.now (step_lists c.as_slice-steps.result.now) are (names_apart (spec_of c.args.spec.now) c.args.names.now table) table
+    (entry_declared (spec_of c.args.spec.now) c.args.names.now table) at number p))
     (found_of c.args.least.now.found) (found_of c.loop-node.least.found) c.loop-node.invariant

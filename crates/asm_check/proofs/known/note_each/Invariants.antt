@@ -10,5 +10,5 @@ use Rattle.asm_check.proofs.known.note_each.Given as goal
 
 -- the faults of the uses that are left make of what is found what all of them make of it
 abbrev pub invariant-loop-used : goal.invariant-loop-used
-invariant-loop-used l = (spec : Spec) → IsTableOf spec l.names.entries
+invariant-loop-used l = (spec : Spec) → IsTableOf spec l.names
     → noted (found_of l.least.found) (flat_map (λ u. faults_of_use spec (use_of u)) (drop l.used-index l.uses)) ≡ noted (found_of l.initial.least.found) (flat_map (λ u. faults_of_use spec (use_of u)) l.uses)

@@ -13,9 +13,9 @@ use Rattle.asm_check.proofs.limits.counted_sizes.Goals.{then-left-gt0+then-is_un
 pub loop-i-preserved : goal.loop-i-preserved
 loop-i-preserved c =
     let size = size_with c.args.elements.now in
-    let ds = map declaration_of c.args.names.now.entries in
+    let ds = map declaration_of c.args.names.now in
     let r = c.declared_at.result in
-    let s = stands c.args.names.now.entries c.loop-i.i r c.declared_at.ensures in
+    let s = stands c.args.names.now c.loop-i.i r c.declared_at.ensures in
     let So_far = λ (left : ℕ) (ns : List ℕ). AreSizesSoFar size ds (c.loop-i.i + 1) left ns in
     let it : So_far c.if-left-gt0.left (c.loop-i.sizes.items ++ c.if-left-gt0.counted ∷ []) =
     elim c.if-left-gt0.branch [
@@ -40,6 +40,6 @@ loop-i-preserved c =
 pub returns-clause-small : goal.returns-clause-small
 returns-clause-small c =
     let size = size_with c.args.elements.now in
-    let ds = map declaration_of c.args.names.now.entries in
-    let whole : length ds ≤ c.loop-i.i = omega (arith, length-map c.args.names.now.entries declaration_of) in
+    let ds = map declaration_of c.args.names.now in
+    let whole : length ds ≤ c.loop-i.i = omega (arith, length-map c.args.names.now declaration_of) in
     subst (All (λ n. n ≤ 4096)) (sym (sizes_whole size ds c.loop-i.i c.loop-i.left c.loop-i.sizes.items whole c.loop-i.invariant)) (counted_small size 64 ds)

@@ -5,4 +5,4 @@ use Rattle.asm_check.proofs.CountedSizes.{AreSizesSoFar}
 use Rattle.asm_check.proofs.limits.counted_sizes.Given as goal
 
 abbrev pub invariant-loop-i : goal.invariant-loop-i
-invariant-loop-i l = AreSizesSoFar (size_with l.elements) (map declaration_of l.names.entries) l.i l.left l.sizes.items
+invariant-loop-i l = AreSizesSoFar (size_with l.elements) (map declaration_of l.names) l.i l.left l.sizes.items

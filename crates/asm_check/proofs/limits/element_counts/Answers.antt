@@ -11,17 +11,17 @@ use Rattle.asm_check.proofs.limits.element_counts.Goals.{in-Element+then-item-le
 
 pub overflow_add-index_mut : goal.overflow_add-index_mut
 overflow_add-index_mut c =
-    let ds = map declaration_of c.args.names.now.entries in
-    let s = stands c.args.names.now.entries c.loop-i.i c.declared_at.result c.declared_at.ensures in
+    let ds = map declaration_of c.args.names.now in
+    let s = stands c.args.names.now c.loop-i.i c.declared_at.result c.declared_at.ensures in
     let inside : c.in-Element.item < length c.loop-i.counts.items = omega arith in
     let now : c.index_mut.result.now ≡ get_or c.loop-i.counts.items c.in-Element.item 0 = get_or_read c.loop-i.counts.items c.in-Element.item c.index_mut.result.now inside c.index_mut.ensures.value 0 in
     let small = count_small ds c.loop-i.i c.loop-i.counts.items c.in-Element.item s.inside inside c.loop-i.invariant.counts in
-    omega (arith, now, small, length-map c.args.names.now.entries declaration_of)
+    omega (arith, now, small, length-map c.args.names.now declaration_of)
 
 pub loop-i-preserved : goal.loop-i-preserved
 loop-i-preserved c =
-    let ds = map declaration_of c.args.names.now.entries in
-    let s = stands c.args.names.now.entries c.loop-i.i c.declared_at.result c.declared_at.ensures in
+    let ds = map declaration_of c.args.names.now in
+    let s = stands c.args.names.now c.loop-i.i c.declared_at.result c.declared_at.ensures in
     let So_far = λ (counts : List ℕ). AreCountsOf (take (c.loop-i.i + 1) ds) counts in
     elim c.match-declared_at.branch [
       | in-Element+then-item-len w ↦
@@ -54,8 +54,8 @@ loop-i-preserved c =
 
 pub returns : goal.returns
 returns c =
-    let ds = map declaration_of c.args.names.now.entries in
+    let ds = map declaration_of c.args.names.now in
     counts_whole (spec_of c.args.spec.now) ds c.loop-i.i c.loop-i.counts.items c.requires
     (omega (arith, c.loop-i.invariant.length, length-map c.args.spec.now.items.items item_of))
-    (omega (arith, length-map c.args.names.now.entries declaration_of))
+    (omega (arith, length-map c.args.names.now declaration_of))
     c.loop-i.invariant.counts

@@ -6,5 +6,5 @@ use Rattle.asm_check.proofs.limits.element_counts.Given as goal
 abbrev pub invariant-loop-i : goal.invariant-loop-i
 invariant-loop-i l = record {
   length : length l.counts.items ≡ length l.spec.items.items;
-  counts : AreCountsOf (take l.i (map declaration_of l.names.entries)) l.counts.items;
+  counts : AreCountsOf (take l.i (map declaration_of l.names)) l.counts.items;
 }

@@ -8,6 +8,6 @@ use Rattle.asm_check.proofs.limits.lists.Given as goal
 abbrev pub invariant-loop-name : goal.invariant-loop-name
 invariant-loop-name l = record {
   small : l.product ≤ 4096 ^ l.name-index;
-  product : (spec : source.Spec) → IsTableOf spec l.names.entries → AreCountedSizes spec l.names.entries l.sizes
+  product : (spec : source.Spec) → IsTableOf spec l.names → AreCountedSizes spec l.names l.sizes
       → l.product * product_of spec (drop l.name-index l.domain) ≡ product_of spec l.domain;
 }

@@ -20,7 +20,7 @@ loop-i-init c = record { totals = c.new-totals.ensures (spec_of c.args.spec.now)
 pub loop-i-preserved : goal.loop-i-preserved
 loop-i-preserved c =
     let spec : Spec = spec_of c.args.spec.now in
-    let entries = c.args.names.now.entries in
+    let entries = c.args.names.now in
     let ds = map declaration_of entries in
     let r = c.declared_at-declared.result in
     let s = stands entries c.loop-i.i r c.declared_at-declared.ensures in
@@ -47,6 +47,6 @@ loop-i-preserved c =
 
 pub returns : goal.returns
 returns c =
-    let ds = map declaration_of c.args.names.now.entries in
-    let whole : length ds ≤ c.loop-i.i = omega (arith, length-map c.args.names.now.entries declaration_of) in
+    let ds = map declaration_of c.args.names.now in
+    let whole : length ds ≤ c.loop-i.i = omega (arith, length-map c.args.names.now declaration_of) in
     all_limits (spec_of c.args.spec.now) ds c.loop-i.i (found_of c.args.least.now.found) (found_of c.loop-i.least.found) c.requires whole c.loop-i.invariant.found

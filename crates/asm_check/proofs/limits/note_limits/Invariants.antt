@@ -8,7 +8,7 @@ use Rattle.asm_check.proofs.limits.note_limits.Given as goal
 
 abbrev pub invariant-loop-i : goal.invariant-loop-i
 invariant-loop-i l = record {
-  totals : AreTotals (spec_of l.spec) (take l.i (map declaration_of l.names.entries)) l.totals;
-  found : found_after (spec_of l.spec) (map declaration_of l.names.entries) l.i (found_of l.least.found)
-      ≡ found_after (spec_of l.spec) (map declaration_of l.names.entries) 0 (found_of l.initial.least.found);
+  totals : AreTotals (spec_of l.spec) (take l.i (map declaration_of l.names)) l.totals;
+  found : found_after (spec_of l.spec) (map declaration_of l.names) l.i (found_of l.least.found)
+      ≡ found_after (spec_of l.spec) (map declaration_of l.names) 0 (found_of l.initial.least.found);
 }

@@ -7,4 +7,4 @@ use Rattle.asm_check.proofs.names.declare_elements.Given as goal
 
 abbrev pub invariant-loop-element : goal.invariant-loop-element
 invariant-loop-element l =
-    Gathers (map (λ y. declares y (Element l.k)) (map name_of (take l.element-index l.elements))) l.fn.names.entries (found_of l.fn.least.found) l.names.entries (found_of l.least.found)
+    Gathers (map (λ y. declares y (Element l.k)) (map name_of (take l.element-index l.elements))) l.fn.names (found_of l.fn.least.found) l.names (found_of l.least.found)

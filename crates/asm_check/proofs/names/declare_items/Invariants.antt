@@ -7,4 +7,4 @@ use Rattle.asm_check.proofs.names.declare_items.Given as goal
 
 abbrev pub invariant-loop-k : goal.invariant-loop-k
 invariant-loop-k l =
-    Gathers (declarations_from 0 (map item_of (take l.k l.items))) l.fn.names.entries (found_of l.fn.least.found) l.names.entries (found_of l.least.found)
+    Gathers (declarations_from 0 (map item_of (take l.k l.items))) l.fn.names (found_of l.fn.least.found) l.names (found_of l.least.found)

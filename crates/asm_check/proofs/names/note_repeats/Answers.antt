@@ -10,8 +10,8 @@ pub loop-name-preserved : goal.loop-name-preserved
 loop-name-preserved c = elim c.if-not-branch.branch [
   | then-not-branch w ↦
       again_step name_of _ c.args.names.now c.loop-name.name-index c.name-item.result _ _ c.as_bytes.result (omega arith) c.name-item.is c.loop-name.invariant c.as_bytes.ensures
-      _ _ _ c.in_ok-insert.ensures.added w.if-not-branch.true c.in_ok-insert.ensures.keys (ap (λ (l : Least). found_of l.found) w.least-is ∙ w.note.ensures)
+      _ _ _ c.in_ok-insert.ensures.added w.if-not-branch.true c.in_ok-insert.ensures.updates.0 (ap (λ (l : Least). found_of l.found) w.least-is ∙ w.note.ensures)
   | else-not-branch w ↦
       new_step name_of _ c.args.names.now c.loop-name.name-index c.name-item.result _ _ c.as_bytes.result (omega arith) c.name-item.is c.loop-name.invariant c.as_bytes.ensures
-      _ _ _ c.in_ok-insert.ensures.added w.if-not-branch.false c.in_ok-insert.ensures.keys (ap (λ (l : Least). found_of l.found) w.least-is)
+      _ _ _ c.in_ok-insert.ensures.added w.if-not-branch.false c.in_ok-insert.ensures.updates.0 (ap (λ (l : Least). found_of l.found) w.least-is)
 ]

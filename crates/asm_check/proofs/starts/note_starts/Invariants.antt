@@ -12,4 +12,4 @@ use Rattle.asm_check.proofs.starts.note_starts.Given as goal
 abbrev pub invariant-loop-item : goal.invariant-loop-item
 invariant-loop-item l =
     (l.is_named ≡ is_any (filter_map init_of (map item_of (take l.item-index l.items))))
-    × ((spec : Spec) → IsTableOf spec l.names.entries → found_of l.least.found ≡ noted (found_of l.fn.least.found) (start_faults spec (filter_map init_of (map item_of (take l.item-index l.items)))))
+    × ((spec : Spec) → IsTableOf spec l.names → found_of l.least.found ≡ noted (found_of l.fn.least.found) (start_faults spec (filter_map init_of (map item_of (take l.item-index l.items)))))

@@ -10,13 +10,13 @@ use Rattle.asm_check.proofs.steps.positions.Goals as goal
 use Rattle.asm_check.proofs.steps.positions.Goals.{then-is_step+in-Some+in_ok-push, else-is_step, else-is_step-via-else-is_step, else-is_step-via-then-is_step+in-None-1}
 
 pub loop-used-init : goal.loop-used-init
-loop-used-init c = no_step_yet c.args.names.now.entries c.args.in_rule c.args.uses.now _ c.new-positions.ensures.items
+loop-used-init c = no_step_yet c.args.names.now c.args.in_rule c.args.uses.now _ c.new-positions.ensures.items
 
 pub loop-used-preserved : goal.loop-used-preserved
 loop-used-preserved c =
     let x = c.used-item.result in
     let uses = c.args.uses.now in
-    let entries = c.args.names.now.entries in
+    let entries = c.args.names.now in
     let i = c.loop-used.used-index in
     let left : drop i uses ≡ x ∷ drop (i + 1) uses = drop_more uses i x c.loop-used-test.true ∙ ap (λ y. y ∷ drop (i + 1) uses) (sym c.used-item.is) in
     elim c.if-is_step.branch [
@@ -38,7 +38,7 @@ loop-used-preserved c =
 pub returns : goal.returns
 returns c =
     let uses = c.args.uses.now in
-    let entries = c.args.names.now.entries in
+    let entries = c.args.names.now in
     let none : drop c.loop-used.used-index uses ≡ [] = drop_all c.loop-used.used-index uses c.loop-used-test.false in
     record {
       within = c.loop-used.invariant.within;

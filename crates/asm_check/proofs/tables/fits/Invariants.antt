@@ -8,6 +8,6 @@ use Rattle.asm_check.specs.Tables.{IsTableOf, meaning_of}
 use Rattle.asm_check.proofs.tables.fits.Given as goal
 
 abbrev pub invariant-loop-i : goal.invariant-loop-i
-invariant-loop-i l = (spec : source.Spec) → IsTableOf spec l.names.entries
+invariant-loop-i l = (spec : source.Spec) → IsTableOf spec l.names
     → fits_in spec (map (option_map meaning_of) (drop l.i l.universes)) (map const_of (drop l.i l.arguments))
     ≡ fits_in spec (map (option_map meaning_of) l.universes) (map const_of l.arguments)

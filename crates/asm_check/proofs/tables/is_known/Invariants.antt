@@ -10,6 +10,6 @@ use Rattle.asm_check.specs.Tables.{IsTableOf}
 use Rattle.asm_check.proofs.tables.is_known.Given as goal
 
 abbrev pub invariant-loop-argument : goal.invariant-loop-argument
-invariant-loop-argument l = (spec : source.Spec) → IsTableOf spec l.names.entries
+invariant-loop-argument l = (spec : source.Spec) → IsTableOf spec l.names
     → list_all (is_known_use spec) (flat_map uses_of_const (map const_of (drop l.argument-index l.argument-items)) ++ uses_of_const (const_of l.entry.value))
     ≡ list_all (is_known_use spec) (uses_of_entry (entry_of l.entry))

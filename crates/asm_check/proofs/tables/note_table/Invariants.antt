@@ -13,7 +13,7 @@ abbrev pub invariant-loop-entry : goal.invariant-loop-entry
 invariant-loop-entry l =
     record {
       kept : HasSeen (map entry_of (take l.entry-index l.entries)) l.seen.keys;
-      found : (spec : source.Spec) → IsTableOf spec l.names.entries
+      found : (spec : source.Spec) → IsTableOf spec l.names
           → noted (found_of l.least.found) (bad_entries spec (map name_of l.domain) (map entry_of (take l.entry-index l.entries)) (map entry_of (drop l.entry-index l.entries)))
           ≡ noted (found_of l.fn.least.found) (bad_entries spec (map name_of l.domain) [] (map entry_of l.entries));
     }

@@ -7,4 +7,4 @@ use Rattle.asm_check.specs.Tables.{IsTableOf, meaning_of}
 use Rattle.asm_check.proofs.tables.universes_of.Given as goal
 
 abbrev pub invariant-loop-name : goal.invariant-loop-name
-invariant-loop-name l = (spec : source.Spec) → IsTableOf spec l.names.entries → map (option_map meaning_of) l.universes.items ≡ map (λ u. declared spec u.text) (map name_of (take l.name-index l.domain))
+invariant-loop-name l = (spec : source.Spec) → IsTableOf spec l.names → map (option_map meaning_of) l.universes.items ≡ map (λ u. declared spec u.text) (map name_of (take l.name-index l.domain))

@@ -7,6 +7,5 @@ use Rattle.asm_check.proofs.numbering.Numbering.add.Goals as goal
 
 pub returns : goal.returns
 returns c = λ ds d text means fresh it.
-    let key = c.in_ok-new.ensures in
-    numbering_grows ds d (meaning_of c.args.meaning) c.args.self.now _ c.add.new.self c.in_ok-new.field-0 c.len.result c.in_ok-number.number
-    (text ∙ sym key) means (ap (is_among (texts_of ds)) key ∙ fresh) c.len.ensures.len c.in_ok-number.ensures.number c.in_ok-number.ensures.indexed c.in_ok-insert.ensures.entries refl it
+    numbering_grows ds d (meaning_of c.args.meaning) c.args.self.now _ c.add.new.self c.args.name.now c.len.result c.in_ok-number.number
+    text means fresh c.len.ensures.len c.in_ok-number.ensures.number c.in_ok-number.ensures.indexed c.in_ok-put.ensures refl it

@@ -7,14 +7,14 @@ use Rattle.asm_check.proofs.numbering.Numbering.of.Goals as goal
 
 pub loop-i-preserved : goal.loop-i-preserved
 loop-i-preserved c = λ spec table.
-    let entries = c.args.names.now.entries in
+    let entries = c.args.names.now in
     let next = next_entry spec entries table c.loop-i.i c.entry_at.result c.entry_at.ensures in
     subst (λ ds. IsNumberingOf ds c.add.new.self) (sym next.0)
     (c.in_ok-add.ensures (take c.loop-i.i (map declaration_of entries)) (declaration_of c.entry_at.result) refl refl next.1 (c.loop-i.invariant spec table))
 
 pub returns : goal.returns
 returns c = λ spec table.
-    let entries = c.args.names.now.entries in
+    let entries = c.args.names.now in
     let whole : length (map declaration_of entries) ≤ c.loop-i.i = omega (arith, length-map entries declaration_of) in
     let it = subst (λ ds. IsNumberingOf ds c.loop-i.numbering) (all_entries spec entries table c.loop-i.i whole) (c.loop-i.invariant spec table) in
     record { names = it.names; indices = it.indices }

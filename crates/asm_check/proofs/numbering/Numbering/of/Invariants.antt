@@ -5,4 +5,4 @@ use Rattle.asm_check.specs.Tables.{IsTableOf, declaration_of}
 use Rattle.asm_check.proofs.numbering.Numbering.of.Given as goal
 
 abbrev pub invariant-loop-i : goal.invariant-loop-i
-invariant-loop-i l = (spec : Spec) → IsTableOf spec l.names.entries → IsNumberingOf (take l.i (map declaration_of l.names.entries)) l.numbering
+invariant-loop-i l = (spec : Spec) → IsTableOf spec l.names → IsNumberingOf (take l.i (map declaration_of l.names)) l.numbering

@@ -1,0 +1,88 @@
+//! Names with their numbers, in which a name is found by its order.
+ghost use Rattle.std.specs.Prelude.{◌≡◌, IfSome, OnOk, Some, [], ◌∷◌, ◌++◌, cond, length, slice_get, is_some, option_map, nat_eq};
+ghost use Rattle.std.specs.Cmp.Lexicographic.{pointwise};
+ghost use Rattle.std.specs.Map.{lookup};
+ghost use Rattle.std.specs.Map.Iter.{deref_pair};
+ghost use Rattle.asm_check.specs.Positions.{ArePositions, AreFoundByText};
+
+use crate::checked::Named;
+use asm_syntax::name::Text;
+use std::alloc::{AllocError, Global};
+use std::collections::BTreeMap;
+use std::marker::Model;
+
+/// What has a number has it here, beside its name. No name stands here twice.
+#[derive(Drop)]
+pub(crate) struct NumberedNames {
+    entries: Vec<(Text, Option<Named>)>,
+    positions: BTreeMap<Vec<u8>, usize>,
+    ghost found: { ArePositions (λ k. k) (λ k. k.items) entries.items positions.entries },
+    ghost found_by_text: { AreFoundByText entries.items },
+}
+
+impl Model for NumberedNames {
+    ghost use Rattle.std.specs.Prelude.{List, Option, ℕ};
+
+    ghost use Rattle.asm_check.specs.declared.checked.Named.{Named};
+
+    ghost Value = { List (List ℕ × Option Named) };
+
+    ghost view = { λ n. n.entries.items };
+}
+
+impl NumberedNames {
+    /// No name yet.
+    pub(crate) fn new(alloc: Global) -> NumberedNames
+        ensures empty { result ≡ [] }
+    {
+        NumberedNames {
+            entries: Vec::new(alloc),
+            positions: BTreeMap::new(alloc),
+        }
+    }
+
+    /// How many names there are.
+    pub(crate) fn len(&self) -> usize
+        ensures len { result ≡ length self.now }
+    {
+        self.entries.len()
+    }
+
+    /// The name at an index, with its number.
+    #[inline(always)]
+    pub(crate) fn get_index(&self, index: usize) -> Option<(&Text, &Option<Named>)>
+        ensures entry { option_map deref_pair result ≡ slice_get self.now index }
+        ensures value { IfSome result (λ p. lookup (pointwise nat_eq p.0.now) self.now ≡ Some p.1.now) }
+    {
+        let (name, number) = self.entries.get(index)?;
+        Some((name, number))
+    }
+
+    /// What stands beside a name.
+    pub(crate) fn get(&self, name: &Text) -> Option<Option<Named>>
+        ensures value { result ≡ lookup (pointwise nat_eq name.now) self.now }
+    {
+        let position = self.positions.get(name.as_bytes())?;
+        let (_, number) = self.entries.get(*position)?;
+        Some(*number)
+    }
+
+    /// Takes a name with its number, but not a name that is there.
+    pub(crate) fn put(
+        &mut self,
+        alloc: Global,
+        name: &[u8],
+        number: Option<Named>,
+    ) -> Result<(), AllocError>
+        ensures { OnOk result (self.new ≡ cond (is_some (lookup (pointwise nat_eq name.now) self.old)) self.old (self.old ++ (name.now, number) ∷ [])) }
+    {
+        if self.positions.contains_key(name) {
+            return Ok(());
+        }
+        let text = Text::new(alloc, name)?;
+        self.entries.reserve(1)?;
+        self.positions.insert(name.to_vec(alloc)?, self.entries.len())?;
+        self.entries.push_reserved((text, number));
+        Ok(())
+    }
+}
