@@ -11,6 +11,7 @@ use Rattle.asm_syntax.specs.SourceTree as source
 use Rattle.asm_syntax.specs.SourceTree.{Const, Entry, Name, Spec}
 use Rattle.asm_check.specs.contracts.tables.ArgumentPartialEq.TheImpl as argument
 use Rattle.asm_check.specs.contracts.tables.ArgumentOrd.TheImpl as ordered
+use Rattle.asm_check.specs.contracts.tables.ArgumentOrd.TheImpl.Laws.{matches_eq-law}
 use Rattle.asm_check.specs.declared.tables.Argument.{Argument}
 use Rattle.asm_check.specs.declared.tables.Argument.TheVariants as code
 use Rattle.asm_check.specs.EntryArguments.{HasSeen, Nothing, Either, Whole, Word, fits_in, key, key_of, keys_in, keys_of, same_key, same_keys}
@@ -58,7 +59,7 @@ equal_argument (code.Number m) (code.Number n) = same_number m n
 equal_argument (code.Element x) (code.Element y) = refl
 equal_argument a b = refl
 
-pub equal_arguments : (xs ys : List Argument) → pointwise equal xs ys ≡ same_keys (map key_of xs) (map key_of ys)
+equal_arguments : (xs ys : List Argument) → pointwise equal xs ys ≡ same_keys (map key_of xs) (map key_of ys)
 equal_arguments [] [] = refl
 equal_arguments [] (y ∷ ys) = refl
 equal_arguments (x ∷ xs) [] = refl
@@ -68,8 +69,8 @@ equal_arguments (x ∷ xs) (y ∷ ys) = ap (λ b. b && pointwise equal xs ys) (e
 abbrev in_turn : Argument → Argument → Ordering
 in_turn = (ordered.ghosts).cmp
 
-pub ordered_arguments : ((a b : Argument) → equal a b ≡ is_eq (in_turn a b)) → (xs ys : List Argument) → is_eq (slice_cmp in_turn xs ys) ≡ same_keys (map key_of xs) (map key_of ys)
-ordered_arguments ties xs ys = sym (lists_ties in_turn ties xs ys) ∙ equal_arguments xs ys
+pub ordered_arguments : (xs ys : List Argument) → is_eq (slice_cmp in_turn xs ys) ≡ same_keys (map key_of xs) (map key_of ys)
+ordered_arguments xs ys = sym (lists_ties in_turn matches_eq-law xs ys) ∙ equal_arguments xs ys
 
 same_as_const : (c d : Const) → same_key (key c) (key d) ≡ same_const c d
 same_as_const (source.Plain literal.Undef) (source.Plain v) = elim v as (λ v. same_key Nothing (key (source.Plain v)) ≡ same_literal literal.Undef v) [ literal.Undef ↦ refl | _ ↦ refl ]

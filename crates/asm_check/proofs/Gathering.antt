@@ -94,7 +94,7 @@ module _ (first : Option (ℕ × ℕ)) (ds : List Declaration) (entries : List E
         least = noted_after first found (repeated ds) [] it.least ∙ ap (noted first) (sym (noted_one_more false new));
       }
 
-pub gathers_put : (entries entries' : List Entry) (found found' : Option (ℕ × ℕ)) (text : Bor (List ℕ)) (declared : CodeDeclaration) (added : Bool)
+gathers_put : (entries entries' : List Entry) (found found' : Option (ℕ × ℕ)) (text : Bor (List ℕ)) (declared : CodeDeclaration) (added : Bool)
     → added ≡ not (is_some (lookup (is_key text.now) entries)) → entries' ≡ cond added (entries ++ (text, declared) ∷ []) entries → found' ≡ cond added found (noted found ((declared.at, 8) ∷ []))
     → Gathers (declaration_of (text, declared) ∷ []) entries found entries' found'
 gathers_put entries entries' found found' text declared added is put note = by_test added (ap not is ∙ not-not (is_some (lookup (is_key text.now) entries))) put note
@@ -111,6 +111,16 @@ gathers_put entries entries' found found' text declared added is put note = by_t
           subst (λ es. IsGathered first (ds ++ declaration_of (text, declared) ∷ []) es found') (sym same)
           (subst (IsGathered first (ds ++ declaration_of (text, declared) ∷ []) entries) (sym noting) (gathered_again first ds entries found text declared it (sym there)));
     }
+
+module _ (entries entries' : List Entry) (found found' : Option (ℕ × ℕ)) (text : Bor (List ℕ)) (declared : CodeDeclaration) (added : Bool)
+    (is : added ≡ not (is_some (lookup (is_key text.now) entries))) (put : entries' ≡ cond added (entries ++ (text, declared) ∷ []) entries) where
+  -- a name that had a declaration
+  pub gathers_again : added ≡ false → found' ≡ noted found ((declared.at, 8) ∷ []) → Gathers (declaration_of (text, declared) ∷ []) entries found entries' found'
+  gathers_again no note = gathers_put entries entries' found found' text declared added is put (note ∙ sym (ap (λ b. cond b found (noted found ((declared.at, 8) ∷ []))) no))
+
+  -- a name that had none
+  pub gathers_new : added ≡ true → found' ≡ found → Gathers (declaration_of (text, declared) ∷ []) entries found entries' found'
+  gathers_new yes same = gathers_put entries entries' found found' text declared added is put (same ∙ sym (ap (λ b. cond b found (noted found ((declared.at, 8) ∷ []))) yes))
 
 -- ---- more of them
 

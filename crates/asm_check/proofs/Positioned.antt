@@ -1,6 +1,6 @@
 -- Positions of keys in a table, and look-ups by them.
 use Rattle.std.proofs.Common.{◌≡◌, ℕ, suc, ◌<◌, Bool, true, false, cond, ◌||◌, List, [], ◌∷◌, ◌++◌, length, slice_get, zero, Option, Some, None, is_some, refl, sym, ap, subst, ◌∙◌, arith, true≢false, nat_eq}
-use Rattle.std.specs.Prelude.{option_map}
+use Rattle.std.specs.Prelude.{option_map, IfSome}
 use Rattle.std.specs.Cmp.{unsigned_ties}
 use Rattle.std.specs.Cmp.Lexicographic.{pointwise, lists_ties, bytes_decides, nat_list_eq_equiv}
 use Rattle.std.specs.Map.{lookup}
@@ -13,11 +13,11 @@ use Rattle.asm_check.specs.Positions.{position_of, is_key, is_spelled, ArePositi
 pub spelled_same : (x y : List ℕ) → is_spelled x y ≡ pointwise nat_eq x y
 spelled_same x y = sym (lists_ties nat_cmp unsigned_ties x y)
 
-module _ {K V : Type 0} (p : K → Bool) where
-  next_none : (o : Option ℕ) → option_map suc o ≡ None → o ≡ None
-  next_none None e = refl
-  next_none (Some i) e = cc
+next_none : (o : Option ℕ) → option_map suc o ≡ None → o ≡ None
+next_none None e = refl
+next_none (Some i) e = cc
 
+module _ {K V : Type 0} (p : K → Bool) where
   -- one more key that doesn't pass
   pub other_last : (es : List (K × V)) (e : K × V) → p e.0 ≡ false → position_of p (es ++ e ∷ []) ≡ position_of p es
   other_last [] e other = ap (λ b. cond b (Some 0) None) other
@@ -33,7 +33,7 @@ module _ {K V : Type 0} (p : K → Bool) where
       by_test true there rest = cc
       by_test false there rest = ap (option_map suc) (rest (next_none (position_of p ds) there) is)
 
-  abbrev value_at : List (K × V) → Option ℕ → Option V
+  abbrev pub value_at : List (K × V) → Option ℕ → Option V
   value_at es None = None
   value_at es (Some i) = option_map (λ e. e.1) (slice_get es i)
 
@@ -50,6 +50,10 @@ module _ {K V : Type 0} (p : K → Bool) where
       by_test true rest = refl
       by_test false rest = rest ∙ sym (next_value e es (position_of p es))
 
+  -- the same, of an answer by the position
+  pub found_at : (es : List (K × V)) (r : Option ℕ) (o : Option V) → r ≡ position_of p es → o ≡ value_at es r → o ≡ lookup p es
+  found_at es r o at is = is ∙ ap (value_at es) at ∙ sym (looked_up_at es)
+
   -- a position is within
   pub position_within : (es : List (K × V)) (i : ℕ) → position_of p es ≡ Some i → i < length es
   position_within [] i is = cc
@@ -62,6 +66,10 @@ module _ {K V : Type 0} (p : K → Bool) where
       by_test : (b : Bool) → cond b (Some 0) (option_map suc (position_of p es)) ≡ Some i → ((j : ℕ) → position_of p es ≡ Some j → j < length es) → i < suc (length es)
       by_test true there rest = let same : 0 ≡ i = cc in omega (arith, same)
       by_test false there rest = by_next (position_of p es) there rest
+
+  pub some_within : (es : List (K × V)) (r : Option ℕ) → r ≡ position_of p es → IfSome r (λ i. i < length es)
+  some_within es None is = tt
+  some_within es (Some i) is = position_within es i (sym is)
 
   -- a look-up answers something where there is a position
   pub looked_up_some : (es : List (K × V)) → is_some (position_of p es) ≡ is_some (lookup p es)
@@ -76,7 +84,7 @@ module _ {K V : Type 0} (p : K → Bool) where
       by_test true rest = refl
       by_test false rest = by_next (position_of p es) ∙ rest
 
-none_of : {A : Type 0} (o : Option A) → is_some o ≡ false → o ≡ None
+pub none_of : {A : Type 0} (o : Option A) → is_some o ≡ false → o ≡ None
 none_of None e = refl
 none_of (Some x) e = absurd (true≢false e)
 

@@ -3,7 +3,7 @@ ghost use Rattle.std.specs.Prelude.{◌≡◌, ◌<◌, IfOk, IfSome, [], ◌∷
 ghost use Rattle.std.specs.Map.{lookup};
 ghost use Rattle.std.specs.Map.Iter.{deref_pair};
 ghost use Rattle.std.specs.Option.{option_copied};
-ghost use Rattle.asm_check.specs.Positions.{ArePositions, is_key, position_of};
+ghost use Rattle.asm_check.specs.Positions.{is_key, position_of};
 
 use crate::meaning::Declaration;
 use std::alloc::{AllocError, Global};
@@ -16,7 +16,6 @@ use std::marker::Model;
 pub(crate) struct Names<'a> {
     entries: Vec<(&'a [u8], Declaration<'a>)>,
     positions: BTreeMap<&'a [u8], usize>,
-    ghost found: { ArePositions (λ k. k.now) (λ k. k.now) entries.items positions.entries },
 }
 
 impl<'a> Model for Names<'a> {
@@ -27,6 +26,10 @@ impl<'a> Model for Names<'a> {
     ghost Value = { List Entry };
 
     ghost view = { λ n. n.entries.items };
+
+    ghost use Rattle.asm_check.specs.Positions.{ArePositions};
+
+    ghost invariant = { λ n. ArePositions (λ k. k.now) (λ k. k.now) n.entries.items n.positions.entries };
 }
 
 impl<'a> Names<'a> {
@@ -75,7 +78,7 @@ impl<'a> Names<'a> {
     pub(crate) fn get(&self, name: &[u8]) -> Option<&Declaration<'a>>
         ensures value { option_copied result ≡ lookup (is_key name.now) self.now }
     {
-        let (_, declared) = self.entries.get(self.get_index_of(name)?)?;
+        let (_, declared) = self.get_index(self.get_index_of(name)?)?;
         Some(declared)
     }
 

@@ -3,7 +3,7 @@ ghost use Rattle.std.specs.Prelude.{◌≡◌, IfSome, OnOk, Some, [], ◌∷◌
 ghost use Rattle.std.specs.Cmp.Lexicographic.{pointwise};
 ghost use Rattle.std.specs.Map.{lookup};
 ghost use Rattle.std.specs.Map.Iter.{deref_pair};
-ghost use Rattle.asm_check.specs.Positions.{ArePositions, AreFoundByText};
+ghost use Rattle.asm_check.specs.Positions.{position_of};
 
 use crate::checked::Named;
 use asm_syntax::name::Text;
@@ -16,8 +16,6 @@ use std::marker::Model;
 pub(crate) struct NumberedNames {
     entries: Vec<(Text, Option<Named>)>,
     positions: BTreeMap<Vec<u8>, usize>,
-    ghost found: { ArePositions (λ k. k) (λ k. k.items) entries.items positions.entries },
-    ghost found_by_text: { AreFoundByText entries.items },
 }
 
 impl Model for NumberedNames {
@@ -28,6 +26,10 @@ impl Model for NumberedNames {
     ghost Value = { List (List ℕ × Option Named) };
 
     ghost view = { λ n. n.entries.items };
+
+    ghost use Rattle.asm_check.specs.Positions.{ArePositions, AreFoundByText};
+
+    ghost invariant = { λ n. ArePositions (λ k. k) (λ k. k.items) n.entries.items n.positions.entries × AreFoundByText n.entries.items };
 }
 
 impl NumberedNames {
@@ -58,12 +60,18 @@ impl NumberedNames {
         Some((name, number))
     }
 
+    /// Where a name stands.
+    fn get_index_of(&self, name: &[u8]) -> Option<usize>
+        ensures { result ≡ position_of (pointwise nat_eq name.now) self.now }
+    {
+        self.positions.get(name).copied()
+    }
+
     /// What stands beside a name.
     pub(crate) fn get(&self, name: &Text) -> Option<Option<Named>>
         ensures value { result ≡ lookup (pointwise nat_eq name.now) self.now }
     {
-        let position = self.positions.get(name.as_bytes())?;
-        let (_, number) = self.entries.get(*position)?;
+        let (_, number) = self.get_index(self.get_index_of(name.as_bytes())?)?;
         Some(*number)
     }
 
@@ -76,7 +84,7 @@ impl NumberedNames {
     ) -> Result<(), AllocError>
         ensures { OnOk result (self.new ≡ cond (is_some (lookup (pointwise nat_eq name.now) self.old)) self.old (self.old ++ (name.now, number) ∷ [])) }
     {
-        if self.positions.contains_key(name) {
+        if self.get_index_of(name).is_some() {
             return Ok(());
         }
         let text = Text::new(alloc, name)?;
