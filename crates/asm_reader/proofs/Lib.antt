@@ -28,7 +28,7 @@ pub mod OneRefusal
 pub mod OneTree
 pub mod Whole
 pub mod Spellings
-pub mod LineLookups
+pub mod Placed
 pub mod PathNumbers
 pub mod Fields
 pub mod FirstFaults

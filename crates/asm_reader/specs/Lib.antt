@@ -15,3 +15,4 @@ pub mod ScriptLines
 pub mod ScriptText
 pub mod ScriptRefusals
 pub mod Spots
+pub mod Places

@@ -1,40 +1,15 @@
 //! Scripts.
-ghost use Rattle.std.specs.Prelude.{◌≡◌, List, [], ◌∷◌, ◌++◌, map, true, not, IfOk};
+ghost use Rattle.std.specs.Prelude.{◌≡◌, List, [], ◌∷◌, ◌++◌, map, true, not, IfOk, OnErr};
 ghost use Rattle.std.specs.List.{list_any};
+ghost use Rattle.asm_reader.specs.Places.{IsNumbered, said};
 ghost use Rattle.asm_reader.specs.ScriptLines as lines;
 ghost use Rattle.asm_reader.specs.ScriptLines.{is_line_of};
-ghost use Rattle.asm_reader.specs.Spots.{line_at, line_said, is_spot, same_writes, same_answers};
+ghost use Rattle.asm_reader.specs.Spots.{line_said};
 
 use crate::picks::Picks;
-use indexmap::{Equivalent, IndexMap};
 use std::alloc::{AllocError, Global};
+use std::collections::BTreeMap;
 use std::marker::Model;
-
-/// A step and a path in it.
-#[derive(Drop, PartialEq, Eq, Hash)]
-struct Spot {
-    step: u64,
-    path: Vec<u64>,
-}
-
-/// The same with a borrowed path, so that a look-up takes no memory.
-#[derive(Clone, Copy, PartialEq, Eq, Hash)]
-struct Asked<'a> {
-    step: u64,
-    path: &'a [u64],
-}
-
-impl<'a> Equivalent<Spot> for Asked<'a> {
-    ghost equivalent = { λ q k. is_spot q.step q.path.now k.step k.path.items };
-
-    ghost respects_hash = { λ q k. same_writes q.step k.step q.path.now k.path.items };
-
-    ghost respects_eq = { λ q x y same. same_answers q.step x.step q.path.now x.path.items same y.step y.path.items };
-
-    fn equivalent(&self, key: &Spot) -> bool {
-        self.step == key.step && self.path == key.path.as_slice()
-    }
-}
 
 /// What a line says.
 #[derive(Drop)]
@@ -44,16 +19,31 @@ pub(crate) struct Choice {
     pub(crate) number: u64,
 }
 
-/// Says which candidate is taken at a step and a path. No two of its lines have one step and path.
+/// Says which candidate is taken at a step and a path. No two of its lines have one step and path. Both are found by their order
+/// among all: hashes of them could be made to collide by who writes a script.
 #[derive(Drop)]
 pub struct Script {
-    choices: IndexMap<Spot, u64>,
+    choices: Vec<Choice>,
+    /// Each path that a line has, with a number of its own.
+    paths: BTreeMap<Vec<u64>, usize>,
+    /// What the line says that has this step, and the path with this number.
+    numbers: BTreeMap<(u64, usize), u64>,
 }
 
 impl Model for Script {
+    ghost use Rattle.std.specs.Prelude.{List, map};
+
+    ghost use Rattle.asm_reader.specs.ScriptLines as lines;
+
+    ghost use Rattle.asm_reader.specs.Places.{AreFound};
+
+    ghost use Rattle.asm_reader.specs.Spots.{line_said};
+
     ghost Value = { List lines.Line };
 
-    ghost view = { λ s. map line_at s.choices.entries };
+    ghost view = { λ s. map line_said s.choices.items };
+
+    ghost invariant = { λ s. AreFound (map line_said s.choices.items) s.paths.entries s.numbers.entries };
 }
 
 impl Script {
@@ -62,27 +52,32 @@ impl Script {
         ensures { result ≡ [] }
     {
         Script {
-            choices: IndexMap::new(alloc),
+            choices: Vec::new(alloc),
+            paths: BTreeMap::new(alloc),
+            numbers: BTreeMap::new(alloc),
         }
     }
 
+    /// What the line with this step and path says.
+    fn found(&self, step: u64, path: &[u64]) -> Option<u64>
+        ensures { result ≡ said self.now step path.now }
+    {
+        let path = *self.paths.get(path)?;
+        self.numbers.get(&(step, path)).copied()
+    }
+
     /// Takes a line, but not with the step and the path of another one. Answers whether it was taken.
-    pub(crate) fn add(&mut self, choice: Choice) -> Result<bool, AllocError>
+    pub(crate) fn add(&mut self, alloc: Global, choice: Choice) -> Result<bool, AllocError>
         ensures added { IfOk result (λ added. list_any (is_line_of choice.step choice.path.items) self.old ≡ not added) }
         ensures taken { IfOk result (λ added. added ≡ true → self.new ≡ self.old ++ line_said choice ∷ []) }
     {
-        let asked = Asked {
-            step: choice.step,
-            path: choice.path.as_slice(),
-        };
-        if self.choices.contains_key(asked) {
+        if self.found(choice.step, choice.path.as_slice()).is_some() {
             return Ok(false);
         }
-        let spot = Spot {
-            step: choice.step,
-            path: choice.path,
-        };
-        self.choices.insert(spot, choice.number)?;
+        self.choices.reserve(1)?;
+        let path = numbered(alloc, &mut self.paths, choice.path.as_slice())?;
+        self.numbers.insert((choice.step, path), choice.number)?;
+        self.choices.push_reserved(choice);
         Ok(true)
     }
 }
@@ -91,9 +86,23 @@ impl Picks for Script {
     ghost script = { λ s. s };
 
     fn pick(&self, step: u64, path: &[u64]) -> u64 {
-        match self.choices.get(Asked { step, path }) {
-            Some(number) => *number,
-            None => 0,
-        }
+        self.found(step, path).unwrap_or(0)
     }
+}
+
+/// The number of a path, which gets one if it has none.
+fn numbered(
+    alloc: Global,
+    paths: &mut BTreeMap<Vec<u64>, usize>,
+    path: &[u64],
+) -> Result<usize, AllocError>
+    ensures numbered { IfOk result (λ n. IsNumbered paths.old.entries path.now n paths.new.entries) }
+    ensures unchanged { OnErr result (paths.new.entries ≡ paths.old.entries) }
+{
+    if let Some(number) = paths.get(path) {
+        return Ok(*number);
+    }
+    let number = paths.len();
+    paths.insert(path.to_vec(alloc)?, number)?;
+    Ok(number)
 }

@@ -31,7 +31,7 @@ fn read_lines(alloc: Global, lines: &[&[u8]]) -> Result<Script, Refused<ScriptEr
         let Some(choice) = choice(alloc, line)? else {
             return Err(Refused::Named(ScriptError::BadLine { line: i + 1 }));
         };
-        if !script.add(choice)? {
+        if !script.add(alloc, choice)? {
             return Err(Refused::Named(ScriptError::Repeated { line: i + 1 }));
         }
     }
