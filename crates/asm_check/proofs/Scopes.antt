@@ -52,7 +52,7 @@ among_inserted ks new k put x =
     among_parameters new x ∙ one_more_key ks new k put x ∙ ap (λ b. b || is_text x k.now) (sym (among_parameters ks x)) ∙ ap (λ b. is_among (map (λ p. p.now) ks) x || b) (text_symmetric x k.now)
 
 -- one more parameter
-pub one_more_parameter : (ks new : List (Bor Text)) (k : Bor Text) (xs : List code.Name) (i : ℕ) (item : code.Name) → i < length xs → item ≡ get_or xs i item → k.now ≡ item.text 
+pub one_more_parameter : (ks new : List (Bor Text)) (k : Bor Text) (xs : List code.Name) (i : ℕ) (item : code.Name) → i < length xs → item ≡ get_or xs i item → k.now ≡ item.text
     → ((q : Bor Text) → list_any (λ r. is_spelled q.now r.now) new ≡ cond (is_spelled k.now q.now) true (list_any (λ r. is_spelled q.now r.now) ks))
     → IsSameScope (map (λ p. p.now) ks) (map text_of (map name_of (take i xs))) → IsSameScope (map (λ p. p.now) new) (map text_of (map name_of (take (i + 1) xs)))
 one_more_parameter ks new k xs i item below is text put same x =

@@ -20,10 +20,17 @@ pub(crate) struct Names<'a> {
 
 impl<'a> Model for Names<'a> {
     ghost use Rattle.std.specs.Prelude.{List};
+    ghost use Rattle.std.specs.Coded.{codes};
+
+    ghost use Rattle.asm_syntax.specs.contracts.rule.Rule as rule;
+
+    ghost use Rattle.asm_syntax.specs.contracts.term.Term as term;
 
     ghost use Rattle.asm_check.specs.Tables.{Entry};
 
     ghost Value = { List Entry };
+
+    ghost coded = { Prim.hlevel (codes, term.the_row.coded, rule.the_row.coded) };
 
     ghost view = { λ n. n.entries.items };
 
@@ -83,7 +90,11 @@ impl<'a> Names<'a> {
     }
 
     /// Takes a declaration, but not of a name that has one. Answers whether it was taken.
-    pub(crate) fn put(&mut self, name: &'a [u8], declared: Declaration<'a>) -> Result<bool, AllocError>
+    pub(crate) fn put(
+        &mut self,
+        name: &'a [u8],
+        declared: Declaration<'a>,
+    ) -> Result<bool, AllocError>
         ensures added { IfOk result (λ added. added ≡ not (is_some (lookup (is_key name.now) self.old))) }
         ensures entries { IfOk result (λ added. self.new ≡ cond added (self.old ++ (name.entry, declared.entry) ∷ []) self.old) }
     {

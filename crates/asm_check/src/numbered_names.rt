@@ -20,7 +20,6 @@ pub(crate) struct NumberedNames {
 
 impl Model for NumberedNames {
     ghost use Rattle.std.specs.Prelude.{List, Option, ℕ};
-
     ghost use Rattle.asm_check.specs.declared.checked.Named.{Named};
 
     ghost Value = { List (List ℕ × Option Named) };
@@ -89,7 +88,8 @@ impl NumberedNames {
         }
         let text = Text::new(alloc, name)?;
         self.entries.reserve(1)?;
-        self.positions.insert(name.to_vec(alloc)?, self.entries.len())?;
+        self.positions
+            .insert(name.to_vec(alloc)?, self.entries.len())?;
         self.entries.push_reserved((text, number));
         Ok(())
     }

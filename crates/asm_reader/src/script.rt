@@ -32,11 +32,8 @@ pub struct Script {
 
 impl Model for Script {
     ghost use Rattle.std.specs.Prelude.{List, map};
-
     ghost use Rattle.asm_reader.specs.ScriptLines as lines;
-
     ghost use Rattle.asm_reader.specs.Places.{AreFound};
-
     ghost use Rattle.asm_reader.specs.Spots.{line_said};
 
     ghost Value = { List lines.Line };

@@ -23,13 +23,14 @@ invariant_of-self-2 c =
     let count = c.len.ensures ∙ c.reserve.new.self.ok.0 ∙ ap length kept in
     let key = c.in_ok-to_vec.field-0 in
     let spelled = c.in_ok-to_vec.ensures.items_if_clones_equal (λ x y same. same) in
-    let more = c.push_reserved.ensures.items ∙ ap (λ es. es ++ (c.in_ok-text.text, c.args.number) ∷ []) kept ∙ ap (λ x. entries ++ (x, c.args.number) ∷ []) c.in_ok-text.ensures in
-    (subst (λ es. ArePositions (λ k. k) (λ k. k.items) es c.insert.new.self.entries) (sym more)
-    (more_positions (λ k. k) (λ k. k.items) entries name c.args.number c.self.inside.positions.entries c.insert.new.self.entries key spelled absent
-    (λ x. ap (lookup (λ r. is_spelled x r.items)) c.in_ok-insert.ensures.entries ∙ lookup_inserted (λ r. r.items) key c.len.result c.self.inside.positions.entries x
-    ∙ ap (λ n. cond (is_spelled key.items x) (Some n) (lookup (λ r. is_spelled x r.items) c.self.inside.positions.entries)) count)
-    c.self.invariant.0),
-    subst AreFoundByText (sym more) (more_found entries name c.args.number unknown c.self.invariant.1))
+    let more = c.push_reserved.ensures.items ∙ ap (λ es. es ++ (c.in_ok-text.text, c.args.number) ∷ []) kept ∙ ap (λ x. entries ++ (x, c.args.number) ∷ []) c.in_ok-text.ensures in (
+      subst (λ es. ArePositions (λ k. k) (λ k. k.items) es c.insert.new.self.entries) (sym more)
+          (more_positions (λ k. k) (λ k. k.items) entries name c.args.number c.self.inside.positions.entries c.insert.new.self.entries key spelled absent
+          (λ x. ap (lookup (λ r. is_spelled x r.items)) c.in_ok-insert.ensures.entries ∙ lookup_inserted (λ r. r.items) key c.len.result c.self.inside.positions.entries x
+          ∙ ap (λ n. cond (is_spelled key.items x) (Some n) (lookup (λ r. is_spelled x r.items) c.self.inside.positions.entries)) count)
+          c.self.invariant.0),
+      subst AreFoundByText (sym more) (more_found entries name c.args.number unknown c.self.invariant.1),
+    )
 
 pub returns : goal.returns
 returns c =
