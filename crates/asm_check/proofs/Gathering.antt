@@ -116,11 +116,11 @@ module _ (entries entries' : List Entry) (found found' : Option (ℕ × ℕ)) (t
     (is : added ≡ not (is_some (lookup (is_key text.now) entries))) (put : entries' ≡ cond added (entries ++ (text, declared) ∷ []) entries) where
   -- a name that had a declaration
   pub gathers_again : added ≡ false → found' ≡ noted found ((declared.at, 8) ∷ []) → Gathers (declaration_of (text, declared) ∷ []) entries found entries' found'
-  gathers_again no note = gathers_put entries entries' found found' text declared added is put (note ∙ sym (ap (λ b. cond b found (noted found ((declared.at, 8) ∷ []))) no))
+  gathers_again refused note = gathers_put entries entries' found found' text declared added is put (note ∙ sym (ap (λ b. cond b found (noted found ((declared.at, 8) ∷ []))) refused))
 
   -- a name that had none
   pub gathers_new : added ≡ true → found' ≡ found → Gathers (declaration_of (text, declared) ∷ []) entries found entries' found'
-  gathers_new yes same = gathers_put entries entries' found found' text declared added is put (same ∙ sym (ap (λ b. cond b found (noted found ((declared.at, 8) ∷ []))) yes))
+  gathers_new taken same = gathers_put entries entries' found found' text declared added is put (same ∙ sym (ap (λ b. cond b found (noted found ((declared.at, 8) ∷ []))) taken))
 
 -- ---- more of them
 
