@@ -21,11 +21,8 @@ pub(crate) struct Names<'a> {
 impl<'a> Model for Names<'a> {
     ghost use Rattle.std.specs.Prelude.{List};
     ghost use Rattle.std.specs.Coded.{codes};
-
     ghost use Rattle.asm_syntax.specs.contracts.rule.Rule as rule;
-
     ghost use Rattle.asm_syntax.specs.contracts.term.Term as term;
-
     ghost use Rattle.asm_check.specs.Tables.{Entry};
 
     ghost Value = { List Entry };
