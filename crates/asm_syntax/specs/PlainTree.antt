@@ -1,6 +1,7 @@
 -- A tree without its offsets: what it means doesn't depend on where its names stand.
---     plain_term, plain_rule     a rule that is left out does nothing
-use Rattle.std.specs.Prelude.{option_map}
+--     plain_term, plain_rule     a rule that is left out does nothing. `while c do P endwhile` is `iterate if c then P endif enditerate`,
+--                                and `result` is a name, to which something can be assigned
+use Rattle.std.specs.Prelude.{Option, Some, None, option_map}
 use Rattle.asm_state.specs.declared.value.Value.{Value}
 use Rattle.asm_state.specs.declared.value.Value.TheVariants as value
 use Rattle.asm_syntax.specs.declared.term.Literal.{Literal}
@@ -22,6 +23,7 @@ abbrev mutual
   plain_term (source.Negative t) = tree.Negative (plain_term t)
   plain_term (source.Exists x u t) = tree.Exists x.text u.text (plain_term t)
   plain_term (source.Every x u t) = tree.Every x.text u.text (plain_term t)
+  plain_term (source.Answer x) = tree.Named x.text tree.no_terms
 
   pub plain_terms : source.Terms → tree.Terms
   plain_terms source.no_terms = tree.no_terms
@@ -31,11 +33,15 @@ abbrev mutual
   plain_links source.no_links = tree.no_links
   plain_links (source.link_then o t links) = tree.link_then o (plain_term t) (plain_links links)
 
+abbrev pub plain_target : Option (source.Name × source.Terms) → Option (tree.Name × tree.Terms)
+plain_target None = None
+plain_target (Some (f, ts)) = Some (f.text, plain_terms ts)
+
 abbrev mutual
   pub plain_rule : source.Rule → tree.Rule
   plain_rule source.Skip = tree.Skip
   plain_rule (source.Assign f ts t) = tree.Assign f.text (plain_terms ts) (plain_term t)
-  plain_rule (source.Call f ts) = tree.Call f.text (plain_terms ts)
+  plain_rule (source.Call to f ts) = tree.Call (plain_target to) f.text (plain_terms ts)
   plain_rule (source.Par Ps) = tree.Par (plain_rules Ps)
   plain_rule (source.Seq Ps) = tree.Seq (plain_rules Ps)
   plain_rule (source.If c P Q) = tree.If (plain_term c) (plain_rule P) (plain_branch Q)
@@ -43,6 +49,8 @@ abbrev mutual
   plain_rule (source.Forall x u c P) = tree.Forall x.text u.text (option_map plain_term c) (plain_rule P)
   plain_rule (source.Choose x u c P Q) = tree.Choose x.text u.text (option_map plain_term c) (plain_rule P) (plain_branch Q)
   plain_rule (source.Iterate P) = tree.Iterate (plain_rule P)
+  plain_rule (source.While c P) = tree.Iterate (tree.If (plain_term c) (plain_rule P) tree.Skip)
+  plain_rule (source.SetResult x t) = tree.Assign x.text tree.no_terms (plain_term t)
 
   pub plain_rules : source.Rules → tree.Rules
   plain_rules source.no_rules = tree.no_rules

@@ -1,7 +1,7 @@
 -- Specifications as the reader makes them: each name with its offset in the text.
 --     Name                        a name, with the offset of its first byte
---     Term, Terms, Links          a term;  a list of terms;  the rest of a chain
---     Rule, Rules, Branch         a rule;  a list of rules;  a rule that may be left out
+--     Term, Terms, Links          a term;  a list of terms;  the rest of a chain. An `Answer` is the word `result`
+--     Rule, Rules, Branch         a rule;  a list of rules;  a rule that may be left out. A call may have the target of a `<-`
 --     Const, Entry, Given         a constant of a table;  an entry, with the offset of its `(`;  a table
 --     Item, Spec                  a declaration or another line;  a specification, with the length of its text
 use Rattle.std.specs.Prelude.{ℕ, List, Option}
@@ -23,6 +23,7 @@ mutual
     Negative : Term → Term
     Exists : (x over : Name) → Term → Term
     Every : (x over : Name) → Term → Term
+    Answer : Name → Term
 
   pub data Terms : Type 0 where
     no_terms : Terms
@@ -36,7 +37,7 @@ mutual
   pub data Rule : Type 0 where
     Skip : Rule
     Assign : Name → Terms → Term → Rule
-    Call : Name → Terms → Rule
+    Call : (target : Option (Name × Terms)) → Name → Terms → Rule
     Par : Rules → Rule
     Seq : Rules → Rule
     If : (test : Term) → (yes : Rule) → (no : Branch) → Rule
@@ -44,6 +45,8 @@ mutual
     Forall : (x over : Name) → (test : Option Term) → Rule → Rule
     Choose : (x over : Name) → (test : Option Term) → (body : Rule) → (none : Branch) → Rule
     Iterate : Rule → Rule
+    While : Term → Rule → Rule
+    SetResult : Name → Term → Rule
 
   pub data Rules : Type 0 where
     no_rules : Rules

@@ -9,6 +9,7 @@ use Rattle.asm_syntax.specs.declared.term.Term.TheOpen.{Term-F}
 use Rattle.asm_syntax.specs.declared.term.Term.TheOpen as term
 use Rattle.asm_syntax.specs.declared.term.Term.TheFolds.{fold-Term}
 use Rattle.asm_syntax.specs.declared.rule.Rule.{Rule}
+use Rattle.asm_syntax.specs.declared.rule.Target.{Target}
 use Rattle.asm_syntax.specs.declared.rule.Rule.TheOpen.{Rule-F}
 use Rattle.asm_syntax.specs.declared.rule.Rule.TheOpen as rule
 use Rattle.asm_syntax.specs.declared.rule.Rule.TheFolds.{fold-Rule}
@@ -42,6 +43,7 @@ term_step (term.Not t) = source.Not t.value
 term_step (term.Negative t) = source.Negative t.value
 term_step (term.Exists name over test) = source.Exists (name_of name) (name_of over) test.value
 term_step (term.Every name over test) = source.Every (name_of name) (name_of over) test.value
+term_step (term.Answer name) = source.Answer (name_of name)
 
 abbrev pub term_of : Term → source.Term
 term_of = fold-Term source.Term term_step
@@ -58,10 +60,14 @@ abbrev pub test_of : Option Term → Option source.Term
 test_of None = None
 test_of (Some t) = Some (term_of t)
 
+abbrev pub target_of : Option Target → Option (source.Name × source.Terms)
+target_of None = None
+target_of (Some t) = Some (name_of t.name, terms_of (map term_of t.arguments.items))
+
 abbrev pub rule_step : Rule-F source.Rule → source.Rule
 rule_step rule.Skip = source.Skip
 rule_step (rule.Assign name arguments value) = source.Assign (name_of name) (terms_of (map term_of arguments.items)) (term_of value)
-rule_step (rule.Call name arguments) = source.Call (name_of name) (terms_of (map term_of arguments.items))
+rule_step (rule.Call target name arguments) = source.Call (target_of target) (name_of name) (terms_of (map term_of arguments.items))
 rule_step (rule.Par Ps) = source.Par (rules_of Ps.items)
 rule_step (rule.Seq Ps) = source.Seq (rules_of Ps.items)
 rule_step (rule.If test first other) = source.If (term_of test) first.value (branch_of other)
@@ -69,6 +75,8 @@ rule_step (rule.Let name value body) = source.Let (name_of name) (term_of value)
 rule_step (rule.Forall name over test body) = source.Forall (name_of name) (name_of over) (test_of test) body.value
 rule_step (rule.Choose name over test body other) = source.Choose (name_of name) (name_of over) (test_of test) body.value (branch_of other)
 rule_step (rule.Iterate body) = source.Iterate body.value
+rule_step (rule.While test body) = source.While (term_of test) body.value
+rule_step (rule.SetResult name value) = source.SetResult (name_of name) (term_of value)
 
 abbrev pub rule_of : Rule → source.Rule
 rule_of = fold-Rule source.Rule rule_step

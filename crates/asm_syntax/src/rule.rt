@@ -2,6 +2,13 @@
 use crate::name::Name;
 use crate::term::Term;
 
+/// The location into which a called rule's answer goes: a function with its arguments.
+#[derive(Drop)]
+pub struct Target {
+    pub name: Name,
+    pub arguments: Vec<Term>,
+}
+
 /// A rule.
 #[derive(Drop)]
 pub enum Rule {
@@ -11,7 +18,9 @@ pub enum Rule {
         arguments: Vec<Term>,
         value: Term,
     },
+    /// A call, or `target <- name(arguments)`.
     Call {
+        target: Option<Target>,
         name: Name,
         arguments: Vec<Term>,
     },
@@ -41,4 +50,13 @@ pub enum Rule {
         none: Option<Box<Rule>>,
     },
     Iterate(Box<Rule>),
+    While {
+        test: Term,
+        body: Box<Rule>,
+    },
+    /// `result := value`. The name is the word `result`.
+    SetResult {
+        name: Name,
+        value: Term,
+    },
 }

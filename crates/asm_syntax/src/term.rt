@@ -57,4 +57,6 @@ pub enum Term {
         over: Name,
         test: Box<Term>,
     },
+    /// The word `result`: the content of the location into which the rule's answer goes.
+    Answer(Name),
 }
