@@ -1,7 +1,7 @@
 -- The numbers of faults, and the pair of offset and number that an answer stands for.
 use Rattle.std.specs.Prelude.{ℕ, Option, Some, None}
 use Rattle.asm_check.specs.declared.error.FaultKind.{FaultKind}
-use Rattle.asm_check.specs.declared.error.FaultKind.TheVariants.{Twice, Unknown, Arity, NotControlled, CyclicRule, CyclicDerived, Init, TooMany, TableEntry}
+use Rattle.asm_check.specs.declared.error.FaultKind.TheVariants.{Twice, Unknown, Arity, NotControlled, CyclicRule, CyclicDerived, Init, TooMany, TableEntry, ResultUse}
 use Rattle.asm_check.specs.declared.error.CheckError.{CheckError}
 use Rattle.asm_syntax.specs.SourceTree.{Spec}
 use Rattle.asm_syntax.specs.declared.refused.Refused.{Refused}
@@ -18,6 +18,7 @@ number_of CyclicDerived = 13
 number_of Init = 14
 number_of TooMany = 15
 number_of TableEntry = 16
+number_of ResultUse = 17
 
 abbrev pub fault_of : CheckError → ℕ × ℕ
 fault_of e = (e.at, number_of e.kind)

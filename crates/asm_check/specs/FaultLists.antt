@@ -1,9 +1,11 @@
 -- The faults of a specification as lists, as a search meets them. Each is equal as a set to the faults of its numbers.
---     twice_faults    8;  use_faults    9, 10, 11;  init_faults    14;  limit_faults    15, but for ranks;  entry_faults    16
+--     twice_faults    8;  use_faults    9, 10, 11;  init_faults    14;  limit_faults    15, but for ranks;  entry_faults    16;
+--     result_faults   17
 use Rattle.std.specs.Prelude.{ℕ, ◌+◌, Bool, true, false, not, cond, ◌&&◌, ◌||◌, nat_eq, nat_lt, List, [], ◌∷◌, ◌++◌, map, flat_map, filter, length, sum_by, Option, Some, None}
 use Rattle.std.specs.List.{list_any, list_all}
-use Rattle.asm_syntax.specs.SourceTree.{Name, Entry, Spec}
-use Rattle.asm_check.specs.Names.{Text, Declaration, Meaning, Role, AsTarget, Use, declarations, first_declarations, declared, uses, is_among, arguments_of, is_assignable, is_start, uses_of_entry}
+use Rattle.asm_syntax.specs.SourceTree as source
+use Rattle.asm_syntax.specs.SourceTree.{Name, Entry, Item, Spec}
+use Rattle.asm_check.specs.Names.{Text, Declaration, Meaning, Role, AsTarget, AsRule, Use, declarations, first_declarations, declared, uses, is_among, arguments_of, is_assignable, is_result, answers, is_start, uses_of_entry}
 use Rattle.asm_check.specs.Limits.{is_universe, is_function, is_controlled, is_static, is_rule, size_of, domain_of, lists_of, max_universes, max_elements, max_functions, max_domain, max_locations, max_static_lists, max_rules}
 use Rattle.asm_check.specs.Faults.{parameters_of, is_known_use, inits, table_of, fits_domain, same_arguments}
 
@@ -91,3 +93,26 @@ bad_entries spec domain before (e ∷ es) = cond (is_bad_entry spec domain befor
 
 unfoldable pub entry_faults : Spec → List (ℕ × ℕ)
 entry_faults spec = flat_map (λ t. bad_entries spec t.0 [] t.1) (flat_map table_of spec.items)
+
+-- ---- 17
+
+abbrev pub is_plain_call : Role → Bool
+is_plain_call AsRule = true
+is_plain_call role = false
+
+abbrev pub is_misused : Spec → Use → Bool
+is_misused spec u = (is_result u.role && not u.is_bound) || (is_plain_call u.role && answers (declared spec u.name.text))
+
+abbrev pub misuses : Spec → Use → List (ℕ × ℕ)
+misuses spec u = cond (is_misused spec u) ((u.name.at, 17) ∷ []) []
+
+-- a rule that answers can't be a starting rule
+abbrev pub misused_start : Spec → Name → List (ℕ × ℕ)
+misused_start spec x = cond (answers (declared spec x.text)) ((x.at, 17) ∷ []) []
+
+abbrev pub starts_misused : Spec → Item → List (ℕ × ℕ)
+starts_misused spec (source.Init x) = misused_start spec x
+starts_misused spec item = []
+
+unfoldable pub result_faults : Spec → List (ℕ × ℕ)
+result_faults spec = flat_map (misuses spec) (uses spec) ++ flat_map (starts_misused spec) spec.items

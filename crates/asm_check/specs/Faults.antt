@@ -8,7 +8,7 @@ use Rattle.asm_syntax.specs.SourceTree as source
 use Rattle.asm_syntax.specs.declared.term.Literal.{Literal}
 use Rattle.asm_syntax.specs.declared.term.Literal.TheVariants.{Undef, Truth, Number}
 use Rattle.asm_syntax.specs.SourceTree.{Name, Const, Plain, Entry, Given, Entries, Item, Spec}
-use Rattle.asm_check.specs.Names.{Text, Declaration, Meaning, Range, Enumeration, Use, AsTarget, declarations, first_declarations, declared, uses, is_text, is_among, text_of, is_known, arguments_of, is_assignable, is_start, uses_of_entry}
+use Rattle.asm_check.specs.Names.{Text, Declaration, Meaning, Range, Enumeration, Use, AsTarget, AsRule, AsResult, declarations, first_declarations, declared, uses, is_text, is_among, text_of, is_known, arguments_of, is_assignable, answers, is_start, uses_of_entry}
 use Rattle.asm_check.specs.Ways.{called, used, LeadsTo}
 use Rattle.asm_check.specs.Limits.{PassesLimit, is_element_of}
 
@@ -144,6 +144,15 @@ pub record IsBadEntry (spec : Spec) (at : ℕ) : Type 0 where
   pub wrong : (not (fits_domain spec domain entry.arguments) || list_any (λ e. same_arguments e.arguments entry.arguments) before) ≡ true
   pub offset : entry.at ≡ at
 
+-- ---- 17: the word `result`
+
+-- it stands outside of every rule, so in the body of a derived function; or a rule in whose body it stands is called without a target, or
+-- is a starting rule
+pub data IsResultUse (spec : Spec) (at : ℕ) : Type 0 where
+  outside : (u : Use) → Contains (uses spec) u → u.role ≡ AsResult → u.is_bound ≡ false → u.name.at ≡ at → IsResultUse spec at
+  plain_call : (u : Use) → Contains (uses spec) u → u.role ≡ AsRule → answers (declared spec u.name.text) ≡ true → u.name.at ≡ at → IsResultUse spec at
+  start : (x : Name) → Contains (inits spec) x → answers (declared spec x.text) ≡ true → x.at ≡ at → IsResultUse spec at
+
 -- ---- all faults
 
 pub data IsFault (spec : Spec) (at : ℕ) : ℕ → Type 0 where
@@ -156,6 +165,7 @@ pub data IsFault (spec : Spec) (at : ℕ) : ℕ → Type 0 where
   init : IsBadInit spec at → IsFault spec at 14
   too_many : IsOverLimit spec at → IsFault spec at 15
   table_entry : IsBadEntry spec at → IsFault spec at 16
+  result_use : IsResultUse spec at → IsFault spec at 17
 
 abbrev pub IsUpTo : (at number at' number' : ℕ) → Type 0
 IsUpTo at number at' number' = (at < at') ⊎ ((at ≡ at') × (number ≤ number'))

@@ -6,8 +6,8 @@
 use Rattle.std.specs.Prelude.{◌≡◌, ◌⊎◌, ℕ, List, [], ◌∷◌, map, length, Contains, Option, Some, None}
 use Rattle.asm_state.specs.declared.function.FunctionKind.{FunctionKind}
 use Rattle.asm_syntax.specs.SourceTree as source
-use Rattle.asm_syntax.specs.SourceTree.{Name, Term, Constant, Named, Chain, Not, Negative, Exists, Every, Terms, no_terms, term_then, Links, no_links, link_then, Rule, Skip, Assign, Call, Par, Seq, If, Let, Forall, Choose, Iterate, Rules, no_rules, rule_then, Branch, left_out, written, Const, Given, Spec}
-use Rattle.asm_check.specs.Names.{Text, Predeclared, Controlled, Static, NamedRule, Derived, declared, term_count, text_of}
+use Rattle.asm_syntax.specs.SourceTree.{Name, Term, Constant, Named, Chain, Not, Negative, Exists, Every, Answer, Terms, no_terms, term_then, Links, no_links, link_then, Rule, Skip, Assign, Call, Par, Seq, If, Let, Forall, Choose, Iterate, While, SetResult, Rules, no_rules, rule_then, Branch, left_out, written, Const, Given, Spec}
+use Rattle.asm_check.specs.Names.{Text, Predeclared, Controlled, Static, NamedRule, Derived, declared, term_count, rule_scope, text_of}
 use Rattle.asm_check.specs.Numbers.{functions_of, derived_of, rules_of, meaning_at, named}
 use Rattle.asm_check.specs.declared.checked.Named as checked
 use Rattle.asm_check.specs.declared.checked.Named.TheVariants as number
@@ -48,6 +48,7 @@ module _ (spec : Spec) where
     IsFitTerm (Negative t) bound = IsFitTerm t bound
     IsFitTerm (Exists x over t) bound = IsUniverseName over × IsFitTerm t (x.text ∷ bound)
     IsFitTerm (Every x over t) bound = IsUniverseName over × IsFitTerm t (x.text ∷ bound)
+    IsFitTerm (Answer x) bound = Contains bound x.text
 
     pub AreFitTerms : Terms → (bound : List Text) → Type 0
     AreFitTerms no_terms bound = Unit {0}
@@ -81,11 +82,16 @@ module _ (spec : Spec) where
     pub means : meaning_at (rules_of spec) rule ≡ Some (NamedRule parameters body)
     pub counted : n ≡ length parameters
 
+  -- the target of a `<-`, if there is one
+  abbrev pub IsFitTargetOf : Option (Name × Terms) → (bound : List Text) → Type 0
+  IsFitTargetOf None bound = Unit {0}
+  IsFitTargetOf (Some (f, ts)) bound = IsFitTarget f (term_count ts) bound × AreFitTerms ts bound
+
   abbrev mutual
     pub IsFitRule : Rule → (bound : List Text) → Type 0
     IsFitRule Skip bound = Unit {0}
     IsFitRule (Assign f ts t) bound = IsFitTarget f (term_count ts) bound × AreFitTerms ts bound × IsFitTerm t bound
-    IsFitRule (Call r ts) bound = IsFitCall r (term_count ts) × AreFitTerms ts bound
+    IsFitRule (Call to r ts) bound = IsFitTargetOf to bound × IsFitCall r (term_count ts) × AreFitTerms ts bound
     IsFitRule (Par Ps) bound = AreFitRules Ps bound
     IsFitRule (Seq Ps) bound = AreFitRules Ps bound
     IsFitRule (If t P Q) bound = IsFitTerm t bound × IsFitRule P bound × IsFitBranch Q bound
@@ -93,6 +99,8 @@ module _ (spec : Spec) where
     IsFitRule (Forall x over t P) bound = IsUniverseName over × IsFitTest t (x.text ∷ bound) × IsFitRule P (x.text ∷ bound)
     IsFitRule (Choose x over t P Q) bound = IsUniverseName over × IsFitTest t (x.text ∷ bound) × IsFitRule P (x.text ∷ bound) × IsFitBranch Q bound
     IsFitRule (Iterate P) bound = IsFitRule P bound
+    IsFitRule (While t P) bound = IsFitTerm t bound × IsFitRule P bound
+    IsFitRule (SetResult x t) bound = Contains bound x.text × IsFitTerm t bound
 
     pub AreFitRules : Rules → (bound : List Text) → Type 0
     AreFitRules no_rules bound = Unit {0}
@@ -127,7 +135,7 @@ module _ (spec : Spec) where
     pub rule : declared spec name.text ≡ Some (NamedRule [] body)
 
   pub record IsReady : Type 0 where
-    pub rules : (f : Text) (xs : List Name) (P : Rule) → declared spec f ≡ Some (NamedRule xs P) → IsFitRule P (map text_of xs)
+    pub rules : (f : Text) (xs : List Name) (P : Rule) → declared spec f ≡ Some (NamedRule xs P) → IsFitRule P (rule_scope xs)
     pub derived : (f : Text) (xs : List Name) (t : Term) → declared spec f ≡ Some (Derived xs t) → IsFitTerm t (map text_of xs)
     pub functions : (x : Name) (kind : FunctionKind) (domain : List Name) (codomain : Option Name) (table : Option Given)
         → Contains spec.items (source.Function x kind domain codomain table) → IsFitFunction domain codomain table

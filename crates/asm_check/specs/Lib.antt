@@ -5,6 +5,7 @@ pub mod Faults
 pub mod Soonest
 pub mod Errors
 pub mod FaultLists
+pub mod Answering
 pub mod Positions
 pub mod Tables
 pub mod UseViews

@@ -8,7 +8,8 @@ use Rattle.std.specs.Cmp.Lexicographic.{pointwise}
 use Rattle.asm_state.specs.declared.function.FunctionKind.{FunctionKind}
 use Rattle.asm_state.specs.declared.function.FunctionKind.TheVariants as kind
 use Rattle.asm_syntax.specs.SourceTree as source
-use Rattle.asm_syntax.specs.SourceTree.{Name, Term, Constant, Named, Chain, Not, Negative, Exists, Every, Terms, no_terms, term_then, Links, no_links, link_then, Rule, Skip, Assign, Call, Par, Seq, If, Let, Forall, Choose, Iterate, Rules, no_rules, rule_then, Branch, left_out, written, Const, Entry, Given, Item, Spec}
+use Rattle.asm_syntax.specs.Tree.{result}
+use Rattle.asm_syntax.specs.SourceTree.{Name, Term, Constant, Named, Chain, Not, Negative, Exists, Every, Answer, Terms, no_terms, term_then, Links, no_links, link_then, Rule, Skip, Assign, Call, Par, Seq, If, Let, Forall, Choose, Iterate, While, SetResult, Rules, no_rules, rule_then, Branch, left_out, written, Const, Entry, Given, Item, Spec}
 
 abbrev pub Text : Type 0
 Text = List ℕ
@@ -86,10 +87,14 @@ declared spec x = option_map (λ d. d.meaning) (find (λ d. is_text d.name.text 
 pub data Role : Type 0 where
   InTerm : Role
   AsTarget : Role
+  -- in a plain call, or behind a `<-`
   AsRule : Role
+  AsAnswering : Role
   AsUniverse : Role
   AsCodomain : Role
   AsElement : Role
+  -- the word `result`
+  AsResult : Role
 
 -- a name in a role, with its number of arguments, and whether a binder of this name is around it
 pub record Use : Type 0 where
@@ -117,6 +122,7 @@ abbrev mutual
   uses_of_term (Negative t) bound = uses_of_term t bound
   uses_of_term (Exists x over t) bound = plain_use AsUniverse over ∷ uses_of_term t (x.text ∷ bound)
   uses_of_term (Every x over t) bound = plain_use AsUniverse over ∷ uses_of_term t (x.text ∷ bound)
+  uses_of_term (Answer x) bound = use_of AsResult x 0 bound ∷ []
 
   pub uses_of_terms : Terms → (bound : List Text) → List Use
   uses_of_terms no_terms bound = []
@@ -130,11 +136,19 @@ abbrev pub uses_of_test : Option Term → (bound : List Text) → List Use
 uses_of_test None bound = []
 uses_of_test (Some t) bound = uses_of_term t bound
 
+abbrev pub uses_of_target : Option (Name × Terms) → (bound : List Text) → List Use
+uses_of_target None bound = []
+uses_of_target (Some (f, ts)) bound = use_of AsTarget f (term_count ts) bound ∷ uses_of_terms ts bound
+
+abbrev pub rule_role : Option (Name × Terms) → Role
+rule_role None = AsRule
+rule_role (Some t) = AsAnswering
+
 abbrev mutual
   pub uses_of_rule : Rule → (bound : List Text) → List Use
   uses_of_rule Skip bound = []
   uses_of_rule (Assign f ts t) bound = use_of AsTarget f (term_count ts) bound ∷ uses_of_terms ts bound ++ uses_of_term t bound
-  uses_of_rule (Call r ts) bound = use_of AsRule r (term_count ts) bound ∷ uses_of_terms ts bound
+  uses_of_rule (Call to r ts) bound = uses_of_target to bound ++ use_of (rule_role to) r (term_count ts) bound ∷ uses_of_terms ts bound
   uses_of_rule (Par Ps) bound = uses_of_rules Ps bound
   uses_of_rule (Seq Ps) bound = uses_of_rules Ps bound
   uses_of_rule (If t P Q) bound = uses_of_term t bound ++ uses_of_rule P bound ++ uses_of_branch Q bound
@@ -143,6 +157,8 @@ abbrev mutual
   uses_of_rule (Choose x over t P Q) bound =
       plain_use AsUniverse over ∷ uses_of_test t (x.text ∷ bound) ++ uses_of_rule P (x.text ∷ bound) ++ uses_of_branch Q bound
   uses_of_rule (Iterate P) bound = uses_of_rule P bound
+  uses_of_rule (While t P) bound = uses_of_term t bound ++ uses_of_rule P bound
+  uses_of_rule (SetResult x t) bound = use_of AsResult x 0 bound ∷ uses_of_term t bound
 
   pub uses_of_rules : Rules → (bound : List Text) → List Use
   uses_of_rules no_rules bound = []
@@ -168,6 +184,10 @@ abbrev pub uses_of_codomain : Option Name → List Use
 uses_of_codomain None = []
 uses_of_codomain (Some x) = plain_use AsCodomain x ∷ []
 
+-- what is bound in the body of a rule with these parameters: `result` is, too
+abbrev pub rule_scope : List Name → List Text
+rule_scope parameters = result ∷ map text_of parameters
+
 abbrev pub uses_of : Item → List Use
 uses_of (source.Uses x) = []
 uses_of (source.Init x) = []
@@ -175,7 +195,7 @@ uses_of (source.Enum x elements) = []
 uses_of (source.Universe x first last) = []
 uses_of (source.Function x how domain codomain table) = map (plain_use AsUniverse) domain ++ uses_of_codomain codomain ++ uses_of_table table
 uses_of (source.Derived x parameters t) = uses_of_term t (map text_of parameters)
-uses_of (source.NamedRule x parameters P) = uses_of_rule P (map text_of parameters)
+uses_of (source.NamedRule x parameters P) = uses_of_rule P (rule_scope parameters)
 
 unfoldable pub uses : Spec → List Use
 uses spec = flat_map uses_of spec.items
@@ -192,12 +212,14 @@ is_known InTerm false (Some (Derived xs t)) = true
 is_known AsTarget true m = true
 is_known AsTarget false (Some m) = true
 is_known AsRule b (Some (NamedRule xs P)) = true
+is_known AsAnswering b (Some (NamedRule xs P)) = true
 is_known AsUniverse b (Some (Range first last)) = true
 is_known AsUniverse b (Some (Enumeration k)) = true
 is_known AsCodomain b (Some Predeclared) = true
 is_known AsCodomain b (Some (Range first last)) = true
 is_known AsCodomain b (Some (Enumeration k)) = true
 is_known AsElement b (Some (Element k)) = true
+is_known AsResult b m = true
 is_known role b m = false
 
 -- how many arguments it has there, if they are looked at
@@ -209,12 +231,22 @@ arguments_of InTerm false (Some (Static domain)) = Some (length domain)
 arguments_of InTerm false (Some (Derived xs t)) = Some (length xs)
 arguments_of AsTarget false (Some (Controlled domain)) = Some (length domain)
 arguments_of AsRule b (Some (NamedRule xs P)) = Some (length xs)
+arguments_of AsAnswering b (Some (NamedRule xs P)) = Some (length xs)
 arguments_of role b m = None
 
 -- a controlled function, and no binder
 abbrev pub is_assignable : Bool → Option Meaning → Bool
 is_assignable false (Some (Controlled domain)) = true
 is_assignable b m = false
+
+abbrev pub is_result : Role → Bool
+is_result AsResult = true
+is_result role = false
+
+-- a rule in whose own body the word `result` stands
+abbrev pub answers : Option Meaning → Bool
+answers (Some (NamedRule xs P)) = list_any (λ u. is_result u.role) (uses_of_rule P (rule_scope xs))
+answers m = false
 
 abbrev pub is_start : Option Meaning → Bool
 is_start (Some (NamedRule [] P)) = true

@@ -3,7 +3,7 @@
 --     UsesBelow spec rank n t bound       each derived function that t uses has a rank below n
 --     HasRanks spec                       the heights of calls and uses are such ranks, and within the limit
 use Rattle.std.specs.Prelude.{◌≡◌, ℕ, suc, ◌<◌, ◌≤◌, false, List, ◌∷◌, map, Some}
-use Rattle.asm_syntax.specs.SourceTree.{Name, Term, Constant, Named, Chain, Not, Negative, Exists, Every, Terms, no_terms, term_then, Links, no_links, link_then, Rule, Skip, Assign, Call, Par, Seq, If, Let, Forall, Choose, Iterate, Rules, no_rules, rule_then, Branch, left_out, written, Spec}
+use Rattle.asm_syntax.specs.SourceTree.{Name, Term, Constant, Named, Chain, Not, Negative, Exists, Every, Answer, Terms, no_terms, term_then, Links, no_links, link_then, Rule, Skip, Assign, Call, Par, Seq, If, Let, Forall, Choose, Iterate, While, SetResult, Rules, no_rules, rule_then, Branch, left_out, written, Spec}
 use Rattle.asm_check.specs.Names.{Text, NamedRule, Derived, declared, is_among, text_of}
 use Rattle.asm_check.specs.Ways.{called, used, height}
 use Rattle.asm_check.specs.Limits.{max_rank}
@@ -19,7 +19,7 @@ module _ (spec : Spec) (rank : Text → ℕ) (n : ℕ) where
     pub CallsBelow : Rule → Type 0
     CallsBelow Skip = Unit {0}
     CallsBelow (Assign f ts t) = Unit {0}
-    CallsBelow (Call f ts) = IsCallable f.text
+    CallsBelow (Call to f ts) = IsCallable f.text
     CallsBelow (Par Ps) = EachCallsBelow Ps
     CallsBelow (Seq Ps) = EachCallsBelow Ps
     CallsBelow (If t P Q) = CallsBelow P × BranchCallsBelow Q
@@ -27,6 +27,8 @@ module _ (spec : Spec) (rank : Text → ℕ) (n : ℕ) where
     CallsBelow (Forall x over t P) = CallsBelow P
     CallsBelow (Choose x over t P Q) = CallsBelow P × BranchCallsBelow Q
     CallsBelow (Iterate P) = CallsBelow P
+    CallsBelow (While t P) = CallsBelow P
+    CallsBelow (SetResult x t) = Unit {0}
 
     pub EachCallsBelow : Rules → Type 0
     EachCallsBelow no_rules = Unit {0}
@@ -49,6 +51,7 @@ module _ (spec : Spec) (rank : Text → ℕ) (n : ℕ) where
     UsesBelow (Negative t) bound = UsesBelow t bound
     UsesBelow (Exists x over t) bound = UsesBelow t (x.text ∷ bound)
     UsesBelow (Every x over t) bound = UsesBelow t (x.text ∷ bound)
+    UsesBelow (Answer x) bound = IsUsable bound x.text
 
     pub EachUsesBelow : Terms → (bound : List Text) → Type 0
     EachUsesBelow no_terms bound = Unit {0}

@@ -9,9 +9,11 @@ abbrev pub role_of : Role → names.Role
 role_of code.InTerm = names.InTerm
 role_of code.AsTarget = names.AsTarget
 role_of code.AsRule = names.AsRule
+role_of code.AsAnswering = names.AsAnswering
 role_of code.AsUniverse = names.AsUniverse
 role_of code.AsCodomain = names.AsCodomain
 role_of code.AsElement = names.AsElement
+role_of code.AsResult = names.AsResult
 
 abbrev pub use_of : Use → names.Use
 use_of u = record { role = role_of u.role; name = name_of u.name.now; count = u.count; is_bound = u.is_bound }

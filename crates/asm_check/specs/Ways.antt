@@ -6,11 +6,12 @@
 --     height next n f                the length of the longest way from f on, up to n
 use Rattle.std.specs.Prelude.{◌≡◌, ◌⊎◌, ℕ, zero, suc, max, Bool, true, false, List, [], ◌∷◌, map, filter, Contains, Option, Some}
 use Rattle.asm_syntax.specs.SourceTree.{Spec}
-use Rattle.asm_check.specs.Names.{Text, Meaning, Derived, NamedRule, Role, InTerm, AsRule, Use, uses_of_term, uses_of_rule, declared, text_of}
+use Rattle.asm_check.specs.Names.{Text, Meaning, Derived, NamedRule, Role, InTerm, AsRule, AsAnswering, Use, uses_of_term, uses_of_rule, rule_scope, declared, text_of}
 
 -- a call of a rule
 abbrev pub is_call : Role → Option Meaning → Bool
 is_call AsRule (Some (NamedRule xs P)) = true
+is_call AsAnswering (Some (NamedRule xs P)) = true
 is_call role m = false
 
 -- an unbound derived function in a term
@@ -20,7 +21,7 @@ is_use role b m = false
 
 module _ (spec : Spec) where
   abbrev pub calls_in : Option Meaning → List Use
-  calls_in (Some (NamedRule xs P)) = filter (λ u. is_call u.role (declared spec u.name.text)) (uses_of_rule P (map text_of xs))
+  calls_in (Some (NamedRule xs P)) = filter (λ u. is_call u.role (declared spec u.name.text)) (uses_of_rule P (rule_scope xs))
   calls_in m = []
 
   abbrev pub uses_in : Option Meaning → List Use

@@ -19,6 +19,7 @@ use crate::limits::note_limits;
 use crate::name_table::Names;
 use crate::names::first_names;
 use crate::numbering::Numbering;
+use crate::results::note_results;
 use crate::starts::note_inits;
 use crate::tables::note_entries;
 use asm_syntax::Refused;
@@ -70,6 +71,7 @@ fn least_fault(
     note_uses(alloc, spec, names, &mut least)?;
     note_limits(alloc, spec, names, &mut least)?;
     note_entries(alloc, spec, names, &mut least)?;
+    note_results(alloc, spec, names, &mut least)?;
     // The search for cycles comes last: it looks only at what stands before the faults that are found by then.
     note_steps(alloc, spec, names, &mut least)?;
     Ok(least.found)

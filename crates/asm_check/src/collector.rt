@@ -2,7 +2,7 @@
 ghost use Rattle.std.specs.Prelude.{◌≡◌, [], ◌∷◌, ◌++◌, map, flat_map, option_map, IfOk, OnOk};
 ghost use Rattle.std.specs.List.{list_any};
 ghost use Rattle.asm_syntax.specs.SourceTree as source;
-ghost use Rattle.asm_syntax.specs.Views.{name_of, const_of, entry_of, given_of, term_of, terms_of, links_of, test_of, rule_of, rules_of};
+ghost use Rattle.asm_syntax.specs.Views.{name_of, const_of, entry_of, given_of, term_of, terms_of, links_of, target_of, test_of, rule_of, rules_of};
 ghost use Rattle.asm_check.specs.Names as names;
 ghost use Rattle.asm_check.specs.UseViews.{role_of};
 ghost use Rattle.asm_check.specs.Collected.{bound_of, branch_view, Adds, Binds, Unbinds, IsSameScope};
@@ -10,11 +10,14 @@ ghost use Rattle.asm_check.specs.Collected.{bound_of, branch_view, Adds, Binds, 
 use crate::uses::{Role, Use};
 use asm_state::operation::Op;
 use asm_syntax::name::{Name, Text};
-use asm_syntax::rule::Rule;
+use asm_syntax::rule::{Rule, Target};
 use asm_syntax::spec::{Const, Entry, Given};
 use asm_syntax::term::Term;
 use std::alloc::{AllocError, Global};
 use std::collections::BTreeSet;
+
+/// The word `result`.
+const RESULT: &[u8] = b"result";
 
 /// The uses that were met so far, and the names that are bound where the walk stands.
 #[derive(Drop)]
@@ -54,6 +57,19 @@ impl<'a> Collector<'a> {
             parameters: texts,
             binders: Vec::new(alloc),
         })
+    }
+
+    /// No use yet, and the parameters and `result` are bound.
+    pub(crate) fn in_rule(
+        alloc: Global,
+        parameters: &'a [Name],
+    ) -> Result<Collector<'a>, AllocError>
+        ensures found { IfOk result (λ c. c.found.items ≡ []) }
+        ensures bound { IfOk result (λ c. IsSameScope (bound_of c) (names.rule_scope (map name_of parameters.now))) }
+    {
+        let mut collector = Collector::with_parameters(alloc, parameters)?;
+        collector.parameters.insert(RESULT)?;
+        Ok(collector)
     }
 
     /// Whether a binder of this name is around.
@@ -138,6 +154,7 @@ impl<'a> Collector<'a> {
             Term::Negative(inner) => self.term(inner),
             Term::Exists { name, over, test } => self.quantified(name, over, test),
             Term::Every { name, over, test } => self.quantified(name, over, test),
+            Term::Answer(name) => self.add(Role::AsResult, name, 0),
         }
     }
 
@@ -202,12 +219,39 @@ impl<'a> Collector<'a> {
         self.term(value)
     }
 
-    /// Adds the uses in a call.
-    fn call(&mut self, name: &'a Name, arguments: &'a Vec<Term>) -> Result<(), AllocError>
-        ensures { OnOk result (Adds self.old self.new (names.uses_of_rule (source.Call (name_of name.now) (terms_of (map term_of arguments.now.items))) (bound_of self.old))) }
+    /// Adds the uses in the target of a call, if it has one.
+    fn target(&mut self, target: &'a Option<Target>) -> Result<(), AllocError>
+        ensures { OnOk result (Adds self.old self.new (names.uses_of_target (target_of target.now) (bound_of self.old))) }
     {
-        self.add(Role::AsRule, name, arguments.len())?;
+        match target {
+            None => Ok(()),
+            Some(target) => {
+                self.add(Role::AsTarget, &target.name, target.arguments.len())?;
+                self.terms(&target.arguments)
+            }
+        }
+    }
+
+    /// Adds the uses in a call.
+    fn call(
+        &mut self,
+        target: &'a Option<Target>,
+        name: &'a Name,
+        arguments: &'a Vec<Term>,
+    ) -> Result<(), AllocError>
+        ensures { OnOk result (Adds self.old self.new (names.uses_of_rule (source.Call (target_of target.now) (name_of name.now) (terms_of (map term_of arguments.now.items))) (bound_of self.old))) }
+    {
+        self.target(target)?;
+        self.add(rule_role(target), name, arguments.len())?;
         self.terms(arguments)
+    }
+
+    /// Adds the uses in `result := value`.
+    fn answer(&mut self, name: &'a Name, value: &'a Term) -> Result<(), AllocError>
+        ensures { OnOk result (Adds self.old self.new (names.uses_of_rule (source.SetResult (name_of name.now) (term_of value.now)) (bound_of self.old))) }
+    {
+        self.add(Role::AsResult, name, 0)?;
+        self.term(value)
     }
 
     /// Adds the uses in a rule.
@@ -222,7 +266,11 @@ impl<'a> Collector<'a> {
                 arguments,
                 value,
             } => self.assignment(name, arguments, value),
-            Rule::Call { name, arguments } => self.call(name, arguments),
+            Rule::Call {
+                target,
+                name,
+                arguments,
+            } => self.call(target, name, arguments),
             Rule::Par(rules) | Rule::Seq(rules) => self.rules(rules),
             Rule::If { test, yes, no } => {
                 self.term(test)?;
@@ -247,6 +295,11 @@ impl<'a> Collector<'a> {
                 self.branch(none)
             }
             Rule::Iterate(body) => self.rule(body),
+            Rule::While { test, body } => {
+                self.term(test)?;
+                self.rule(body)
+            }
+            Rule::SetResult { name, value } => self.answer(name, value),
         }
     }
 
@@ -381,5 +434,15 @@ impl<'a> Collector<'a> {
         self.domain(domain)?;
         self.codomain(codomain)?;
         self.table(table)
+    }
+}
+
+/// The role of the name in a call.
+fn rule_role(target: &Option<Target>) -> Role
+    ensures { role_of result ≡ names.rule_role (target_of target.now) }
+{
+    match target {
+        None => Role::AsRule,
+        Some(_) => Role::AsAnswering,
     }
 }

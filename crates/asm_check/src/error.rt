@@ -23,6 +23,8 @@ pub enum FaultKind {
     TooMany,
     /// An entry of a table isn't in the domain, or is there twice.
     TableEntry,
+    /// `result` outside of a rule, or a rule with `result` that is called without a target, or is the starting rule.
+    ResultUse,
 }
 
 /// The fault that stands first in a specification, and where: the offset of a name, or of an entry's `(`, or the length
@@ -34,7 +36,7 @@ pub struct CheckError {
 }
 
 impl CheckError {
-    /// The number by which the fault is known, from 8 to 16.
+    /// The number by which the fault is known, from 8 to 17.
     pub fn number(self) -> u8
         ensures { result ≡ number_of self.kind }
     {
@@ -48,6 +50,7 @@ impl CheckError {
             FaultKind::Init => 14,
             FaultKind::TooMany => 15,
             FaultKind::TableEntry => 16,
+            FaultKind::ResultUse => 17,
         }
     }
 }

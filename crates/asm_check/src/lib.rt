@@ -18,6 +18,7 @@ mod name_table;
 mod names;
 mod numbered_names;
 mod numbering;
+mod results;
 mod roles;
 mod search;
 mod shape;

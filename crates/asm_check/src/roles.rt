@@ -15,10 +15,11 @@ pub(crate) fn is_known(role: Role, is_bound: bool, meaning: Option<Meaning>) -> 
     match role {
         Role::InTerm => is_bound || has_value(meaning),
         Role::AsTarget => is_bound || meaning.is_some(),
-        Role::AsRule => matches!(meaning, Some(Meaning::Rule(_, _))),
+        Role::AsRule | Role::AsAnswering => matches!(meaning, Some(Meaning::Rule(_, _))),
         Role::AsUniverse => is_universe(meaning),
         Role::AsCodomain => matches!(meaning, Some(Meaning::Predeclared)) || is_universe(meaning),
         Role::AsElement => matches!(meaning, Some(Meaning::Element(_))),
+        Role::AsResult => true,
     }
 }
 
@@ -64,7 +65,7 @@ pub(crate) fn arguments_of(role: Role, is_bound: bool, meaning: Option<Meaning>)
             Some(Meaning::Controlled(domain)) if !is_bound => Some(domain.len()),
             _ => None,
         },
-        Role::AsRule => match meaning {
+        Role::AsRule | Role::AsAnswering => match meaning {
             Some(Meaning::Rule(parameters, _)) => Some(parameters.len()),
             _ => None,
         },
@@ -84,7 +85,7 @@ pub(crate) fn is_step(in_rule: bool, role: Role, is_bound: bool, meaning: Option
     ensures { result ≡ (if in_rule then is_call (role_of role) (option_map meaning_of meaning.entry) else is_use (role_of role) is_bound (option_map meaning_of meaning.entry)) }
 {
     match role {
-        Role::AsRule => in_rule && matches!(meaning, Some(Meaning::Rule(_, _))),
+        Role::AsRule | Role::AsAnswering => in_rule && matches!(meaning, Some(Meaning::Rule(_, _))),
         Role::InTerm => !in_rule && !is_bound && matches!(meaning, Some(Meaning::Derived(_, _))),
         _ => false,
     }

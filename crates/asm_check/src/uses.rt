@@ -1,7 +1,7 @@
 //! The uses of names in a declaration, each with its role.
 ghost use Rattle.std.specs.Prelude.{◌≡◌, IfOk, map};
 ghost use Rattle.asm_syntax.specs.Views.{name_of, item_of, term_of, rule_of};
-ghost use Rattle.asm_check.specs.Names.{text_of, uses_of, uses_of_term, uses_of_rule};
+ghost use Rattle.asm_check.specs.Names.{text_of, rule_scope, uses_of, uses_of_term, uses_of_rule};
 ghost use Rattle.asm_check.specs.UseViews.{use_of};
 
 use crate::collector::Collector;
@@ -16,10 +16,15 @@ use std::alloc::{AllocError, Global};
 pub(crate) enum Role {
     InTerm,
     AsTarget,
+    /// In a plain call.
     AsRule,
+    /// Behind a `<-`.
+    AsAnswering,
     AsUniverse,
     AsCodomain,
     AsElement,
+    /// The word `result`.
+    AsResult,
 }
 
 /// A name in a role, with its number of arguments, and whether a binder of this name is around it.
@@ -80,9 +85,9 @@ pub(crate) fn uses_of_named_rule<'a>(
     parameters: &'a [Name],
     body: &'a Rule,
 ) -> Result<Vec<Use<'a>>, AllocError>
-    ensures { IfOk result (λ uses. map use_of uses.items ≡ uses_of_rule (rule_of body.now) (map text_of (map name_of parameters.now))) }
+    ensures { IfOk result (λ uses. map use_of uses.items ≡ uses_of_rule (rule_of body.now) (rule_scope (map name_of parameters.now))) }
 {
-    let mut collector = Collector::with_parameters(alloc, parameters)?;
+    let mut collector = Collector::in_rule(alloc, parameters)?;
     collector.rule(body)?;
     Ok(collector.found)
 }

@@ -26,7 +26,7 @@ module _ (text : List ℕ) (term : Part source.Term) (rule : Part source.Rule) w
 
   -- name [ arguments ]
   unfoldable pub call : Part source.Rule
-  call = applied text term makes (λ r. source.Call r.0 r.1)
+  call = applied text term makes (λ r. source.Call None r.0 r.1)
 
   -- "par" rule { rule } "endpar"
   unfoldable pub par_rule : Part source.Rule

@@ -18,7 +18,7 @@ rule_starts = Word Skip ∷ kind.Name ∷ Word Par ∷ Word Seq ∷ Word If ∷ 
 
 -- a call, or the assignment that it turns out to be
 abbrev pub named_rule : (source.Name × source.Terms) × Option source.Term → source.Rule
-named_rule (target, None) = source.Call target.0 target.1
+named_rule (target, None) = source.Call None target.0 target.1
 named_rule (target, Some t) = source.Assign target.0 target.1 t
 
 unfoldable pub skip_at : Reader source.Rule

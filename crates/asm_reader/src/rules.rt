@@ -51,7 +51,11 @@ fn named_rule(
             value,
         });
     }
-    Ok(Rule::Call { name, arguments })
+    Ok(Rule::Call {
+        target: None,
+        name,
+        arguments,
+    })
 }
 
 /// One rule or more; so many levels may open in them.
