@@ -17,7 +17,7 @@ abbrev pub has_one_beneath : tree.Rule → Bool
 has_one_beneath (tree.If c P Q) = true
 has_one_beneath (tree.Let x t P) = true
 has_one_beneath (tree.Choose x u c P Q) = true
-has_one_beneath (tree.Call f ts) = true
+has_one_beneath (tree.Call to f ts) = true
 has_one_beneath R = false
 
 module _ {P : Type 0} {picks : Ghosts P} (on : Evaluation P picks) where

@@ -6,11 +6,12 @@ use Rattle.std.specs.Prelude.{ℕ, zero, suc, ◌+◌, ◌%◌, Bool, cond, not,
 use Rattle.asm_state.specs.declared.value.Value.{Value}
 use Rattle.asm_state.specs.Location.{State}
 use Rattle.asm_state.specs.Updates.{UpdateSet, is_consistent, is_none, none, fire}
-use Rattle.asm_syntax.specs.Tree.{Terms, Rule, Skip, Assign, Call, Par, Seq, If, Let, Forall, Choose, Iterate, Rules, no_rules, rule_then}
+use Rattle.asm_syntax.specs.Tree.{Name, Terms, Rule, Skip, Assign, Call, Par, Seq, If, Let, Forall, Choose, Iterate, Rules, no_rules, rule_then}
 use Rattle.asm_reader.specs.ScriptLines.{Script, pick}
 use Rattle.asm_eval.specs.Program.{Program, Declared, NamedRule, declared, Environment, with_value, bind_terms}
-use Rattle.asm_eval.specs.Value.{value, values, holds, candidates, universe, nesting}
-use Rattle.asm_eval.specs.Yields.{Path, at, Result, Gives, Exhausted, beside, after, assigned}
+use Rattle.asm_eval.specs.Targets.{location, update, answering}
+use Rattle.asm_eval.specs.Value.{value, holds, candidates, universe, nesting}
+use Rattle.asm_eval.specs.Yields.{Path, at, Result, Gives, Exhausted, beside, after}
 
 pub record Outcome : Type 0 where
   pub result : Result
@@ -76,15 +77,15 @@ turns_of m (suc left) t A e p =
     turn_and o.result o.instances (λ U. turns_of m left (suc t) (fire A U) e p)
 
 module _ (program : Program) (turns : ℕ) (chosen : Path → ℕ) (body : Rule → Meaning) where
-  abbrev pub called : Option Declared → Terms → Meaning
-  called (Some (NamedRule xs P)) ts A e p = body P A (bind_terms xs ts e) (at p 0)
-  called _ ts A e p = nothing
+  abbrev pub called : Option Declared → Option (Name × Terms) → Terms → Meaning
+  called (Some (NamedRule xs P)) to ts A e p = body P A (answering program A e to (bind_terms xs ts e)) (at p 0)
+  called _ to ts A e p = nothing
 
   unfoldable mutual
     pub meaning : Rule → Meaning
     meaning Skip A e p = nothing
-    meaning (Assign f ts t) A e p = outcome (Gives (assigned (declared program f) (values program A e ts) (value program A e t))) 0
-    meaning (Call f ts) A e p = called (declared program f) ts A e p
+    meaning (Assign f ts t) A e p = outcome (Gives (update (location program A e f ts) (value program A e t))) 0
+    meaning (Call to f ts) A e p = called (declared program f) to ts A e p
     meaning (Par Ps) A e p = parts (meanings Ps) 0 A e p
     meaning (Seq Ps) A e p = in_order (meanings Ps) 0 A e p
     meaning (If c P Q) A e p = cond (holds program A e (Some c)) (meaning P A e (at p 0)) (meaning Q A e (at p 1))

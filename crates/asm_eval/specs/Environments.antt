@@ -1,12 +1,18 @@
 -- The environments that the code's are.
---     environment e      names with values, or with terms and the environment of their caller
+--     environment shape e      names with values, or with terms and the environment of their caller, and `result` with the location that
+--                              has its number in the signature
+--     environment_in checked e     the same in the signature of a specification
 --     binding found      what a look-up answered
-use Rattle.std.specs.Prelude.{List, ℕ, map, Option, Some, None, slice_get}
-use Rattle.asm_syntax.specs.Views.{term_of, terms_of}
+use Rattle.std.specs.Prelude.{List, ℕ, map, Option, Some, None, slice_get, option_map}
+use Rattle.asm_state.specs.Location.{Location}
+use Rattle.asm_state.specs.Signature.{Shape, locations}
+use Rattle.asm_check.specs.Shapes.{shape_of}
+use Rattle.asm_check.specs.declared.checked.Checked.{Checked}
+use Rattle.asm_syntax.specs.Views.{term_of, terms_of, spec_of}
 use Rattle.asm_syntax.specs.PlainTree.{plain_term, plain_terms}
 use Rattle.asm_syntax.specs.declared.name.Name as syntax
 use Rattle.asm_syntax.specs.Tree.{Name}
-use Rattle.asm_eval.specs.Program.{Environment, nothing_bound, with_value, bind_values, bind_terms, Binding, ToValue, ToTerm}
+use Rattle.asm_eval.specs.Program.{Environment, nothing_bound, with_value, bind_values, bind_terms, Binding, ToValue, ToTerm, ToLocation, located}
 use Rattle.asm_eval.specs.declared.env.Env.{Env}
 use Rattle.asm_eval.specs.declared.env.Env.TheVariants as env
 use Rattle.asm_eval.specs.declared.env.Binding.{Binding as Found}
@@ -15,16 +21,27 @@ use Rattle.asm_eval.specs.declared.env.Binding.TheVariants as found
 abbrev pub text_of : syntax.Name → Name
 text_of x = x.text
 
-abbrev pub environment : Env → Environment
-environment env.Empty = nothing_bound
-environment (env.One' x v p outer) = with_value x.now.text v (environment outer)
-environment (env.Values xs vs) = bind_values (map text_of xs.now) vs.now
-environment (env.Terms' xs ts p caller) = bind_terms (map text_of xs.now) (plain_terms (terms_of (map term_of ts.now))) (environment caller)
+-- a number that the signature doesn't have is that of no location
+abbrev pub location_numbered : Shape → Option ℕ → Option Location
+location_numbered shape None = None
+location_numbered shape (Some n) = slice_get (locations shape) n
 
-abbrev pub binding : Found → Option Binding
-binding found.Unbound = None
-binding (found.Known v) = Some (ToValue v)
-binding (found.ByName t caller) = Some (ToTerm (plain_term (term_of t.now)) (environment caller.now))
+module _ (shape : Shape) where
+  abbrev pub environment : Env → Environment
+  environment env.Empty = nothing_bound
+  environment (env.One' x v p outer) = with_value x.now.text v (environment outer)
+  environment (env.Values xs vs) = bind_values (map text_of xs.now) vs.now
+  environment (env.Terms' xs ts p caller answer) =
+      located (location_numbered shape answer) (bind_terms (map text_of xs.now) (plain_terms (terms_of (map term_of ts.now))) (environment caller))
+
+  abbrev pub binding : Found → Option Binding
+  binding found.Unbound = None
+  binding (found.Known v) = Some (ToValue v)
+  binding (found.ByName t caller) = Some (ToTerm (plain_term (term_of t.now)) (environment caller.now))
+  binding (found.Located n) = option_map ToLocation (location_numbered shape (Some n))
+
+abbrev pub environment_in : Checked → Env → Environment
+environment_in checked e = environment (shape_of (spec_of checked.spec)) e
 
 -- the member of a list at an index, if there is an index
 abbrev pub beside : {X : Type 0} → Option ℕ → List X → Option X

@@ -16,6 +16,7 @@ pub mod Declarations
 pub mod Valued
 pub mod Formed
 pub mod Taken
+pub mod Targets
 pub mod SpecificationLaw
 pub mod Setting
 pub mod Evaluated

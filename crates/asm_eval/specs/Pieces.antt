@@ -50,7 +50,7 @@ module _ (s : Setting) (A : State) where
   part_does e p R (part.Span from to) = span_does e p R from to
 
   abbrev pub piece_does : Piece → Outcome
-  piece_does piece = part_does (environment piece.env) piece.path (meant piece.rule.now) piece.part
+  piece_does piece = part_does (environment s.shape piece.env) piece.path (meant piece.rule.now) piece.part
 
   abbrev pub pieces_do : List Piece → Outcome
   pieces_do pieces = all_both (map piece_does pieces)

@@ -24,4 +24,4 @@ TakesRegions checked pre = (alloc : Global) (view : Bor View) (e : Bor Env) (R :
 
 abbrev pub FormsRegions : Setting → (Global → Bor View → Bor Env → Bor Rule → MutBor Forming → Result (Unit {0}) Stopped → MutBor Forming → Type 0) → Type 0
 FormsRegions s post = (alloc : Global) (view : Bor View) (e : Bor Env) (R : Bor Rule) (made : MutBor Forming) (result : Result (Unit {0}) Stopped) (new : MutBor Forming)
-    → post alloc view e R made result new → Follows view.now.signature.now (outcome s (shown view.now) (environment e.now) made.now.path.items (meant R.now)) made.now new.now result
+    → post alloc view e R made result new → Follows view.now.signature.now (outcome s (shown view.now) (environment s.shape e.now) made.now.path.items (meant R.now)) made.now new.now result

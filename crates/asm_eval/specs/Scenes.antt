@@ -8,7 +8,7 @@ use Rattle.std.specs.Prelude.{Bool, List}
 use Rattle.asm_state.specs.declared.value.Value.{Value}
 use Rattle.asm_syntax.specs.Tree.{Name}
 use Rattle.asm_syntax.specs.declared.term.Term.{Term}
-use Rattle.asm_eval.specs.Environments.{environment}
+use Rattle.asm_eval.specs.Environments.{environment_in}
 use Rattle.asm_eval.specs.Program.{Environment, with_value}
 use Rattle.asm_eval.specs.Value.{candidates}
 use Rattle.asm_eval.specs.Valued.{program, shown, term_value, named_value, condition, holds_at}
@@ -17,10 +17,10 @@ use Rattle.asm_eval.specs.declared.env.Env.{Env}
 use Rattle.asm_eval.specs.declared.evaluation.Scene.{Scene}
 
 abbrev pub scene_value : Scene → Env → Term → Value
-scene_value s e t = term_value s.checked.now s.view.now (environment e) t
+scene_value s e t = term_value s.checked.now s.view.now (environment_in s.checked.now e) t
 
 abbrev pub scene_named : Scene → Env → Name → List Term → Value
-scene_named s e x ts = named_value s.checked.now s.view.now (environment e) x ts
+scene_named s e x ts = named_value s.checked.now s.view.now (environment_in s.checked.now e) x ts
 
 -- with the name bound to an element
 abbrev pub with_element : Binder → Value → Environment → Environment

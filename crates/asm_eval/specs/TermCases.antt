@@ -7,10 +7,10 @@ use Rattle.asm_state.specs.declared.value.Value.{Value}
 use Rattle.asm_state.specs.declared.value.Value.TheVariants.{Undef, Truth}
 use Rattle.asm_state.specs.declared.operation.Op.TheVariants.{Not, Negate}
 use Rattle.asm_state.specs.Operation.{op}
-use Rattle.asm_state.specs.Location.{State}
+use Rattle.asm_state.specs.Location.{Location, State}
 use Rattle.asm_state.specs.Tables.{Domain, location_in, value_in}
 use Rattle.asm_syntax.specs.Tree.{Name, Term, Constant, Named, Chain, Not as not_term, Negative, Exists, Every, Terms, Links, no_links, link_then}
-use Rattle.asm_eval.specs.Program.{Program, Enumerated, Controlled, Static, Derived, declared, Environment, with_value, bind_values, ToValue, ToTerm, bound_to}
+use Rattle.asm_eval.specs.Program.{Program, Enumerated, Controlled, Static, Derived, declared, Environment, with_value, bind_values, ToValue, ToTerm, ToLocation, bound_to}
 use Rattle.asm_eval.specs.Value.{value, values, is_true, read, universe, nesting}
 use Rattle.asm_eval.specs.Ranks.{AreDerivedRanked}
 
@@ -25,6 +25,8 @@ pub record TermCases (program : Program) (rank : Name → ℕ) (A : State) (e : 
   pub of_value : (x : Name) (ts : Terms) (v : Value) → bound_to e x ≡ Some (ToValue v) → value program A e (Named x ts) ≡ v
   pub of_term : (x : Name) (ts : Terms) (t : Term) (caller : Environment) → bound_to e x ≡ Some (ToTerm t caller)
       → value program A e (Named x ts) ≡ value program A caller t
+  -- one that stands for a location has the content there
+  pub of_location : (x : Name) (ts : Terms) (l : Location) → bound_to e x ≡ Some (ToLocation l) → value program A e (Named x ts) ≡ read A l
   -- other names are declared
   pub of_element : (x : Name) (ts : Terms) (v : Value) → bound_to e x ≡ None → declared program x ≡ Some (Enumerated v) → value program A e (Named x ts) ≡ v
   pub of_controlled : (x : Name) (ts : Terms) (f : ℕ) (domain : Domain) → bound_to e x ≡ None → declared program x ≡ Some (Controlled f domain)

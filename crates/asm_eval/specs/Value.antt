@@ -1,5 +1,6 @@
 -- The value of a term in a state and an environment.
---     value program A e t      a name bound to a term has the value of that term in the caller's environment, in the same state
+--     value program A e t      a name bound to a term has the value of that term in the caller's environment, in the same state; one bound
+--                              to a location has the content there
 --     holds, candidates        whether a condition has the value true;  the elements of a universe for which it has
 use Rattle.std.specs.Prelude.{ℕ, zero, suc, Bool, true, false, List, [], ◌∷◌, Option, Some, None}
 use Rattle.std.specs.List.{filter, list_all, list_any}
@@ -10,7 +11,7 @@ use Rattle.asm_state.specs.Operation.{op}
 use Rattle.asm_state.specs.Location.{Location, Proper, Stray, State}
 use Rattle.asm_state.specs.Tables.{location_in, value_in}
 use Rattle.asm_syntax.specs.Tree.{Name, Term, Constant, Named, Chain, Not as not_term, Negative, Exists, Every, Terms, no_terms, term_then, Links, no_links, link_then}
-use Rattle.asm_eval.specs.Program.{Program, Declared, Universe, Enumerated, Controlled, Static, Derived, NamedRule, declared, look_up, Environment, nothing_bound, with_value, with_term}
+use Rattle.asm_eval.specs.Program.{Program, Declared, Universe, Enumerated, Controlled, Static, Derived, NamedRule, declared, look_up, Environment, nothing_bound, with_value, with_term, with_location}
 
 abbrev pub is_true : Value → Bool
 is_true (Truth b) = b
@@ -89,6 +90,7 @@ readings_of program nothing_bound = []
 readings_of program (with_value x v e) = (x, λ _. v) ∷ readings_of program e
 readings_of program (with_term x t caller e) =
     (x, λ A. reading_within program nesting t (readings_of program caller) A) ∷ readings_of program e
+readings_of program (with_location x l e) = (x, λ A. read A l) ∷ readings_of program e
 
 unfoldable pub value : Program → State → Environment → Term → Value
 value program A e t = reading_within program nesting t (readings_of program e) A

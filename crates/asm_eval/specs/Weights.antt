@@ -6,7 +6,7 @@ use Rattle.std.specs.Prelude.{◌≡◌, ◌<◌, ℕ, zero, suc, ◌+◌, max, 
 use Rattle.asm_state.specs.declared.value.Value.{Value}
 use Rattle.asm_state.specs.declared.operation.Op.{Op}
 use Rattle.asm_syntax.specs.Tree.{Name, Term, Constant, Named, Chain, Not, Negative, Exists, Every, Terms, no_terms, term_then, Links, no_links, link_then, Rule, Skip, Assign, Call, Par, Seq, If, Let, Forall, Choose, Iterate, Rules, no_rules, rule_then}
-use Rattle.asm_eval.specs.Program.{Program, Declared, Derived, NamedRule, declared, Environment, nothing_bound, with_value, with_term, bind_values, ToTerm, bound_to}
+use Rattle.asm_eval.specs.Program.{Program, Declared, Derived, NamedRule, declared, Environment, nothing_bound, with_value, with_term, with_location, bind_values, ToTerm, bound_to}
 use Rattle.asm_eval.specs.Value.{nesting}
 use Rattle.asm_eval.specs.Ranks.{is_among, AreDerivedRanked, IsRanked}
 
@@ -14,6 +14,7 @@ abbrev pub names_of : Environment → List Name
 names_of nothing_bound = []
 names_of (with_value x v e) = x ∷ names_of e
 names_of (with_term x t caller e) = x ∷ names_of e
+names_of (with_location x l e) = x ∷ names_of e
 
 module _ (program : Program) (body : List Name → Term → ℕ) where
   -- a name that isn't bound has the size of the derived function's body
@@ -49,6 +50,7 @@ unfoldable pub load : Program → Environment → ℕ
 load program nothing_bound = 0
 load program (with_value x v e) = load program e
 load program (with_term x t caller e) = max (size_within program nesting t (names_of caller) + load program caller) (load program e)
+load program (with_location x l e) = load program e
 
 unfoldable pub weight : Program → Environment → Term → ℕ
 weight program e t = size_within program nesting t (names_of e) + load program e
@@ -83,7 +85,7 @@ module _ (program : Program) (body : Rule → ℕ) where
     pub rule_size : Rule → ℕ
     rule_size Skip = 1
     rule_size (Assign f ts t) = 1
-    rule_size (Call f ts) = 1 + called_size (declared program f)
+    rule_size (Call to f ts) = 1 + called_size (declared program f)
     rule_size (Par Ps) = 1 + rule_sizes Ps
     rule_size (Seq Ps) = 1 + rule_sizes Ps
     rule_size (If c P Q) = 1 + (rule_size P + rule_size Q)
@@ -104,8 +106,8 @@ unfoldable pub rule_weight : Program → Rule → ℕ
 rule_weight program R = rule_size_within program nesting R
 
 pub record RuleWeightsFall (program : Program) (rank : Name → ℕ) : Type 0 where
-  pub at_call : (f : Name) (ts : Terms) (xs : List Name) (P : Rule) → declared program f ≡ Some (NamedRule xs P) → rank f < nesting
-      → rule_weight program P < rule_weight program (Call f ts)
+  pub at_call : (to : Option (Name × Terms)) (f : Name) (ts : Terms) (xs : List Name) (P : Rule) → declared program f ≡ Some (NamedRule xs P) → rank f < nesting
+      → rule_weight program P < rule_weight program (Call to f ts)
   pub at_par : (P : Rule) (Ps : Rules) → rule_weight program P < rule_weight program (Par (rule_then P Ps))
   pub at_later_par : (P : Rule) (Ps : Rules) → rule_weight program (Par Ps) < rule_weight program (Par (rule_then P Ps))
   pub at_seq : (P : Rule) (Ps : Rules) → rule_weight program P < rule_weight program (Seq (rule_then P Ps))

@@ -6,11 +6,11 @@ use Rattle.std.specs.Cmp.Lexicographic.{slice_cmp}
 use Rattle.std.specs.Ordering.{nat_cmp, is_lt}
 use Rattle.asm_state.specs.declared.value.Value.{Value}
 use Rattle.asm_state.specs.Location.{State}
-use Rattle.asm_state.specs.Tables.{location_in}
-use Rattle.asm_state.specs.Updates.{UpdateSet, IsConsistent, none, one, together, merge, fire}
+use Rattle.asm_state.specs.Updates.{UpdateSet, IsConsistent, none, together, merge, fire}
 use Rattle.asm_syntax.specs.Tree.{Name, Term, Terms, Rule, Skip, Assign, Call, Par, Seq, If, Let, Forall, Choose, Iterate, Rules, no_rules, rule_then}
-use Rattle.asm_eval.specs.Program.{Program, Declared, Controlled, NamedRule, declared, Environment, with_value, bind_terms}
-use Rattle.asm_eval.specs.Value.{value, values, holds, candidates, universe}
+use Rattle.asm_eval.specs.Program.{Program, NamedRule, declared, Environment, with_value, bind_terms}
+use Rattle.asm_eval.specs.Targets.{location, update, answering}
+use Rattle.asm_eval.specs.Value.{value, holds, candidates, universe}
 
 -- the numbers of the descents from the main rule's body
 abbrev pub Path : Type 0
@@ -42,18 +42,14 @@ abbrev pub after : UpdateSet → Result → Result
 after U (Gives V) = Gives (merge U V)
 after U (Exhausted q) = Exhausted q
 
-abbrev pub assigned : Option Declared → List Value → Value → UpdateSet
-assigned (Some (Controlled f domain)) vs v = one (location_in f domain vs) v
-assigned _ vs v = none
-
 module _ (program : Program) (turns : ℕ) where
   mutual
     pub data Yields : State → Environment → Path → Rule → Result → Type 0 where
       skip : {A : State} {e : Environment} {p : Path} → Yields A e p Skip (Gives none)
       assign : {A : State} {e : Environment} {p : Path} {f : Name} {ts : Terms} {t : Term}
-          → Yields A e p (Assign f ts t) (Gives (assigned (declared program f) (values program A e ts) (value program A e t)))
-      call : {A : State} {e : Environment} {p : Path} {f : Name} {ts : Terms} {xs : List Name} {P : Rule} {r : Result}
-          → declared program f ≡ Some (NamedRule xs P) → Yields A (bind_terms xs ts e) (at p 0) P r → Yields A e p (Call f ts) r
+          → Yields A e p (Assign f ts t) (Gives (update (location program A e f ts) (value program A e t)))
+      call : {A : State} {e : Environment} {p : Path} {to : Option (Name × Terms)} {f : Name} {ts : Terms} {xs : List Name} {P : Rule} {r : Result}
+          → declared program f ≡ Some (NamedRule xs P) → Yields A (answering program A e to (bind_terms xs ts e)) (at p 0) P r → Yields A e p (Call to f ts) r
       par : {A : State} {e : Environment} {p : Path} {Ps : Rules} {rs : List Result}
           → YieldsParts A e p 0 Ps rs → Yields A e p (Par Ps) (all_beside rs)
       seq : {A : State} {e : Environment} {p : Path} {Ps : Rules} {r : Result}

@@ -2,7 +2,7 @@
 ghost use Rattle.std.specs.Prelude.{◌≡◌, true, IfOk};
 ghost use Rattle.asm_syntax.specs.Tree as tree;
 ghost use Rattle.asm_eval.specs.Beneath.{IsBeneath, has_one_beneath};
-ghost use Rattle.asm_eval.specs.Evaluated.{meant, meant_branch, meant_choose, meant_term, meant_terms};
+ghost use Rattle.asm_eval.specs.Evaluated.{meant, meant_branch, meant_choose, meant_target, meant_term, meant_terms};
 ghost use Rattle.asm_eval.specs.Yields as yields;
 
 use crate::binder::Binder;
@@ -10,11 +10,12 @@ use crate::choose::chosen;
 use crate::env::Env;
 use crate::evaluation::Evaluation;
 use crate::held::is_true;
+use crate::target::answer;
 use crate::terms::value;
 use asm_check::Named;
 use asm_reader::Picks;
 use asm_syntax::name::Name;
-use asm_syntax::rule::Rule;
+use asm_syntax::rule::{Rule, Target};
 use asm_syntax::term::Term;
 use std::alloc::{AllocError, Global};
 
@@ -55,9 +56,11 @@ pub(crate) fn beneath<'a, P: Picks>(
             none,
             path,
         ),
-        Rule::Call { name, arguments } => {
-            Ok(beneath_call(evaluation, env, name, arguments.as_slice()))
-        }
+        Rule::Call {
+            target,
+            name,
+            arguments,
+        } => beneath_call(alloc, evaluation, env, target, name, arguments.as_slice()),
         _ => Ok(None),
     }
 }
@@ -149,29 +152,34 @@ fn beneath_choose<'a, P: Picks>(
     }
 }
 
-/// The body of the rule that is called. Its parameters stand for the terms of the call, in the caller's environment.
+/// The body of the rule that is called. Its parameters stand for the terms of the call, in the caller's environment, and `result` for the
+/// location that the call's target names now.
 fn beneath_call<'a, P: Picks>(
+    alloc: Global,
     evaluation: &Evaluation<'a, '_, P>,
     env: &'a Env<'a>,
+    target: &'a Option<Target>,
     name: &Name,
     arguments: &'a [Term],
-) -> Option<Descent<'a>>
-    ensures { (p : yields.Path) → IsBeneath evaluation.now env.now p (tree.Call name.now.text (meant_terms arguments.now)) result }
+) -> Result<Option<Descent<'a>>, AllocError>
+    ensures { (p : yields.Path) → IfOk result (IsBeneath evaluation.now env.now p (tree.Call (meant_target target.now) name.now.text (meant_terms arguments.now))) }
 {
     match evaluation.scene.checked.named(&name.text) {
         Some(Named::Rule(r)) => {
+            let answer = answer(alloc, &evaluation.scene, env, target)?;
             let (names, body) = evaluation.scene.checked.rule(r);
             let bound = Env::Terms {
                 names,
                 terms: &*arguments,
                 caller: &*env,
+                answer,
             };
-            Some(Descent {
+            Ok(Some(Descent {
                 rule: body,
                 env: bound,
                 number: 0,
-            })
+            }))
         }
-        _ => None,
+        _ => Ok(None),
     }
 }

@@ -1,7 +1,7 @@
 //! Which candidate a `choose` takes.
 ghost use Rattle.std.specs.Prelude.{◌≡◌, filter, IfOk};
 ghost use Rattle.asm_reader.specs.ScriptLines.{pick};
-ghost use Rattle.asm_eval.specs.Environments.{environment};
+ghost use Rattle.asm_eval.specs.Environments.{environment_in};
 ghost use Rattle.asm_eval.specs.Scenes.{is_candidate, scene_candidates};
 ghost use Rattle.asm_eval.specs.Valued.{holds_at};
 ghost use Rattle.asm_eval.specs.Taken.{taken, walk_to};
@@ -33,7 +33,7 @@ pub(crate) fn holds<'e, P: Picks>(
     env: &'e Env<'e>,
     test: &'e Option<Term>,
 ) -> Result<bool, AllocError>
-    ensures { IfOk result (λ b. b ≡ holds_at evaluation.now.scene.checked.now evaluation.now.scene.view.now (environment env.now) test.now) }
+    ensures { IfOk result (λ b. b ≡ holds_at evaluation.now.scene.checked.now evaluation.now.scene.view.now (environment_in evaluation.now.scene.checked.now env.now) test.now) }
 {
     match test {
         None => Ok(true),
@@ -65,7 +65,7 @@ fn find_candidate<'e, P: Picks>(
     universe: &Universe,
     number: u64,
 ) -> Result<Walk, AllocError>
-    ensures { IfOk result (λ w. w ≡ walk_to number (filter (is_candidate evaluation.now.scene (environment env.now) binder.now) universe.now)) }
+    ensures { IfOk result (λ w. w ≡ walk_to number (filter (is_candidate evaluation.now.scene (environment_in evaluation.now.scene.checked.now env.now) binder.now) universe.now)) }
 {
     if binder.test.is_none() {
         return Ok(element_at(universe, number));
@@ -98,7 +98,7 @@ pub(crate) fn chosen<'e, P: Picks>(
     path: &[u64],
 ) -> Result<Option<Value>, AllocError>
     ensures { let number = pick (P.script evaluation.now.choices.now.script.now) evaluation.now.choices.now.step path.now in
-        IfOk result (λ v. v ≡ taken number (scene_candidates evaluation.now.scene (environment env.now) binder.now)) }
+        IfOk result (λ v. v ≡ taken number (scene_candidates evaluation.now.scene (environment_in evaluation.now.scene.checked.now env.now) binder.now)) }
 {
     let Some(universe) = universe_of(evaluation.scene.checked, binder.over) else {
         return Ok(None);

@@ -1,5 +1,6 @@
 //! What names are bound to while a term is evaluated.
 ghost use Rattle.std.specs.Prelude.{◌≡◌};
+ghost use Rattle.asm_state.specs.Signature.{Shape};
 ghost use Rattle.asm_eval.specs.Environments.{environment};
 ghost use Rattle.asm_eval.specs.Program.{nothing_bound};
 
@@ -27,13 +28,15 @@ pub enum Env<'a> {
         names: &'a [Name],
         terms: &'a [Term],
         caller: &'a Env<'a>,
+        /// The number of the location that `result` stands for, if it stands for one.
+        answer: Option<usize>,
     },
 }
 
 impl<'a> Env<'a> {
     /// The environment in which no name is bound.
     pub fn new() -> Env<'a>
-        ensures { environment result ≡ nothing_bound }
+        ensures { (shape : Shape) → environment shape result ≡ nothing_bound }
     {
         Env::Empty
     }
@@ -48,4 +51,6 @@ pub enum Binding<'a> {
     Known(Value),
     /// A term, with the environment that it belongs to.
     ByName(&'a Term, &'a Env<'a>),
+    /// The location with this number.
+    Located(usize),
 }

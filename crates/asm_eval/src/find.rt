@@ -3,18 +3,20 @@ ghost use Rattle.std.specs.Prelude.{◌≡◌, slice_index_or};
 ghost use Rattle.std.specs.List.{position};
 ghost use Rattle.std.specs.Option.{option_map};
 ghost use Rattle.asm_state.specs.declared.value.Value.TheVariants.{Undef};
+ghost use Rattle.asm_syntax.specs.Tree as tree;
 ghost use Rattle.asm_eval.specs.Environments.{environment, binding, text_of, beside};
 ghost use Rattle.asm_eval.specs.Program.{bound_to, is_name};
 
 use crate::env::{Binding, Env};
+use asm_state::signature::Signature;
 use asm_state::value::Value;
 use asm_syntax::name::Name;
 use asm_syntax::term::Term;
 
 /// What the name is bound to, by the innermost binder of its text.
 #[tactic(auto, using(crate::proofs::Bound::bound_value, crate::proofs::Bound::bound_term))]
-pub(crate) fn find<'a>(env: &'a Env<'a>, name: &Name) -> Binding<'a>
-    ensures { binding result ≡ bound_to (environment env.now) name.now.text }
+pub(crate) fn find<'a>(signature: &Signature, env: &'a Env<'a>, name: &Name) -> Binding<'a>
+    ensures { binding signature.now result ≡ bound_to (environment signature.now env.now) name.now.text }
 {
     let mut rest = env;
     while let Env::One {
@@ -38,11 +40,28 @@ pub(crate) fn find<'a>(env: &'a Env<'a>, name: &Name) -> Binding<'a>
             names,
             terms,
             caller,
-        } => match term_of(names, terms, name) {
-            None => Binding::Unbound,
-            Some(term) => Binding::ByName(term, caller),
-        },
+            answer,
+        } => {
+            if let Some(n) = answer
+                && n < signature.count()
+                && is_result(name)
+            {
+                return Binding::Located(n);
+            }
+            match term_of(names, terms, name) {
+                None => Binding::Unbound,
+                Some(term) => Binding::ByName(term, caller),
+            }
+        }
     }
+}
+
+/// Whether the name is the word `result`.
+#[inline(always)]
+pub(crate) fn is_result(name: &Name) -> bool
+    ensures { result ≡ is_name tree.result name.now.text }
+{
+    name.text.as_bytes() == b"result".as_slice()
 }
 
 /// The index of the first of these names that has the text.

@@ -4,8 +4,8 @@ ghost use Rattle.asm_state.specs.Signature.{Shape, count_of};
 ghost use Rattle.asm_state.specs.Updates.{UpdateSet};
 ghost use Rattle.asm_updates.specs.Stands.{Stands, Adds};
 ghost use Rattle.asm_syntax.specs.Tree as tree;
-ghost use Rattle.asm_eval.specs.Environments.{environment};
-ghost use Rattle.asm_eval.specs.Evaluated.{Fits, setting, shape_at, state_at, outcome_at, outcome_upon, parts_at, in_order_at, meant, meant_branch, meant_choose, meant_forall, meant_term, meant_terms};
+ghost use Rattle.asm_eval.specs.Environments.{environment_in};
+ghost use Rattle.asm_eval.specs.Evaluated.{Fits, setting, shape_at, state_at, outcome_at, outcome_upon, parts_at, in_order_at, meant, meant_branch, meant_choose, meant_forall, meant_term, meant_terms, meant_guarded, meant_target};
 ghost use Rattle.asm_eval.specs.Formed.{Follows, FollowsUpon};
 ghost use Rattle.asm_eval.specs.Pieces.{span_does};
 ghost use Rattle.asm_eval.specs.Value as spec;
@@ -16,16 +16,17 @@ use crate::binder::{Binder, Interval};
 use crate::choose::{chosen, holds};
 use crate::env::Env;
 use crate::evaluation::{Evaluation, Scene};
+use crate::guarded::Guarded;
 use crate::held::{is_true, universe_of};
 use crate::outcome::Forming;
 use crate::stopped::Stopped;
-use crate::target::{location_number, target};
+use crate::target::{answer, location};
 use crate::terms::value;
 use crate::view::View;
 use asm_check::Named;
 use asm_reader::Picks;
 use asm_syntax::name::Name;
-use asm_syntax::rule::Rule;
+use asm_syntax::rule::{Rule, Target};
 use asm_syntax::term::Term;
 use asm_updates::summary::Summary;
 use std::alloc::Global;
@@ -93,16 +94,41 @@ pub fn form<'e, P: Picks>(
             none,
             made,
         ),
-        Rule::Call { name, arguments } => form_call(
+        Rule::Call {
+            target,
+            name,
+            arguments,
+        } => form_call(
             alloc,
             evaluation,
             env,
+            target,
             name,
             arguments.as_slice(),
             made,
         ),
         Rule::Seq(rules) => form_in_order(alloc, evaluation, env, rules.as_slice(), made),
-        Rule::Iterate(body) => form_turns(alloc, evaluation, env, body, made),
+        Rule::Iterate(body) => form_turns(
+            alloc,
+            evaluation,
+            env,
+            Guarded {
+                test: None,
+                rule: body,
+            },
+            made,
+        ),
+        Rule::While { test, body } => form_turns(
+            alloc,
+            evaluation,
+            env,
+            Guarded {
+                test: Some(test),
+                rule: body,
+            },
+            made,
+        ),
+        Rule::SetResult { name, value } => assign(alloc, evaluation, env, name, &[], value, made),
     }
 }
 
@@ -123,6 +149,33 @@ fn form_part<'e, P: Picks>(
     form(alloc, evaluation, env, rule, made)?;
     made.path.pop();
     Ok(())
+}
+
+/// Forms a rule behind a condition as the part with this number.
+#[cycle(form)]
+fn form_guarded<'e, P: Picks>(
+    alloc: Global,
+    evaluation: &Evaluation<'_, '_, P>,
+    env: &'e Env<'e>,
+    guarded: Guarded<'e>,
+    number: u64,
+    made: &mut Forming,
+) -> Result<(), Stopped>
+    requires { Fits evaluation.now made.old }
+    ensures { Follows (shape_at evaluation.now) (outcome_at evaluation.now env.now (yields.at made.old.path.items number) (meant_guarded guarded.entry)) made.old made.new result }
+{
+    match guarded.test {
+        None => form_part(alloc, evaluation, env, guarded.rule, number, made),
+        Some(test) => {
+            made.path.push(number)?;
+            let tested = value(alloc, &evaluation.scene, env, test)?;
+            if is_true(tested) {
+                form_part(alloc, evaluation, env, guarded.rule, 0, made)?;
+            }
+            made.path.pop();
+            Ok(())
+        }
+    }
 }
 
 /// Forms the part with number 1, which may be left out.
@@ -247,7 +300,7 @@ pub(crate) fn form_span<'e, P: Picks>(
     requires universe { interval.now.universe.now ≡ spec.universe (setting evaluation.now).program binder.now.over.now.text }
     requires within { interval.now.to ≤ length interval.now.universe.now }
     ensures { let R = meant_forall binder.now body.now in
-        let o = span_does (setting evaluation.now) (state_at evaluation.now) (environment env.now) made.old.path.items R interval.now.from interval.now.to in
+        let o = span_does (setting evaluation.now) (state_at evaluation.now) (environment_in evaluation.now.scene.checked.now env.now) made.old.path.items R interval.now.from interval.now.to in
         Follows (shape_at evaluation.now) o made.old made.new result }
 {
     for i in interval.from..interval.to {
@@ -292,27 +345,31 @@ fn form_choose<'e, P: Picks>(
     }
 }
 
-/// Forms the body of the rule that is called. Its parameters stand for the terms of the call, in the caller's environment.
+/// Forms the body of the rule that is called. Its parameters stand for the terms of the call, in the caller's environment, and `result`
+/// for the location that the call's target names now.
 #[cycle(form)]
 fn form_call<'e, P: Picks>(
     alloc: Global,
     evaluation: &Evaluation<'_, '_, P>,
     env: &'e Env<'e>,
+    target: &'e Option<Target>,
     name: &Name,
     arguments: &'e [Term],
     made: &mut Forming,
 ) -> Result<(), Stopped>
     requires { Fits evaluation.now made.old }
-    ensures { let R = tree.Call name.now.text (meant_terms arguments.now) in
+    ensures { let R = tree.Call (meant_target target.now) name.now.text (meant_terms arguments.now) in
         Follows (shape_at evaluation.now) (outcome_at evaluation.now env.now made.old.path.items R) made.old made.new result }
 {
     match evaluation.scene.checked.named(&name.text) {
         Some(Named::Rule(r)) => {
+            let answer = answer(alloc, &evaluation.scene, env, target)?;
             let (names, body) = evaluation.scene.checked.rule(r);
             let bound = Env::Terms {
                 names,
                 terms: &*arguments,
                 caller: &*env,
+                answer,
             };
             form_part(alloc, evaluation, &bound, body, 0, made)
         }
@@ -337,15 +394,11 @@ fn form_in_order<'e, P: Picks>(
     let before = mem::replace(&mut made.set, nothing);
     let mut so_far = Summary::new(alloc, signature.count());
     for i in 0..rules.len() {
-        form_next(
-            alloc,
-            evaluation,
-            env,
-            &rules[i],
-            i as u64,
-            &mut so_far,
-            made,
-        )?;
+        let part = Guarded {
+            test: None,
+            rule: &rules[i],
+        };
+        form_next(alloc, evaluation, env, part, i as u64, &mut so_far, made)?;
         if made.set.first_fault(signature).is_some() {
             return put_back(before, &so_far, made);
         }
@@ -359,11 +412,11 @@ fn form_turns<'e, P: Picks>(
     alloc: Global,
     evaluation: &Evaluation<'_, '_, P>,
     env: &'e Env<'e>,
-    body: &'e Rule,
+    body: Guarded<'e>,
     made: &mut Forming,
 ) -> Result<(), Stopped>
     requires { Fits evaluation.now made.old }
-    ensures { let R = tree.Iterate (meant body.now) in
+    ensures { let R = tree.Iterate (meant_guarded body.entry) in
         Follows (shape_at evaluation.now) (outcome_at evaluation.now env.now made.old.path.items R) made.old made.new result }
 {
     let signature = evaluation.scene.view.signature;
@@ -394,14 +447,14 @@ fn form_next<'e, P: Picks>(
     alloc: Global,
     evaluation: &Evaluation<'_, '_, P>,
     env: &'e Env<'e>,
-    rule: &'e Rule,
+    guarded: Guarded<'e>,
     number: u64,
     so_far: &mut Summary,
     made: &mut Forming,
 ) -> Result<(), Stopped>
     requires fits { Fits evaluation.now made.old }
     requires so_far { so_far.old.count ≡ count_of (shape_at evaluation.now) }
-    ensures { FollowsUpon (shape_at evaluation.now) (λ U. outcome_upon evaluation.now U env.now (yields.at made.old.path.items number) (meant rule.now)) so_far.old so_far.new made.old made.new result }
+    ensures { FollowsUpon (shape_at evaluation.now) (λ U. outcome_upon evaluation.now U env.now (yields.at made.old.path.items number) (meant_guarded guarded.entry)) so_far.old so_far.new made.old made.new result }
 {
     made.set.clear();
     let view = View::upon(evaluation.scene.view, so_far);
@@ -413,7 +466,7 @@ fn form_next<'e, P: Picks>(
         choices: evaluation.choices,
         turns: evaluation.turns,
     };
-    form_part(alloc, &inner, env, rule, number, made)?;
+    form_guarded(alloc, &inner, env, guarded, number, made)?;
     so_far.then(&made.set)?;
     Ok(())
 }
@@ -432,7 +485,7 @@ pub(crate) fn put_back(before: Summary, so_far: &Summary, made: &mut Forming) ->
     Ok(())
 }
 
-/// Adds the update of an assignment. A name that isn't a controlled function gives none.
+/// Adds the update of an assignment. A name that stands for no location gives none.
 fn assign<'e, P: Picks>(
     alloc: Global,
     evaluation: &Evaluation<'_, '_, P>,
@@ -446,11 +499,10 @@ fn assign<'e, P: Picks>(
     ensures { let R = tree.Assign name.now.text (meant_terms arguments.now) (meant_term new.now) in
         Follows (shape_at evaluation.now) (outcome_at evaluation.now env.now made.old.path.items R) made.old made.new result }
 {
-    let Some(f) = target(&evaluation.scene, name) else {
+    let Some(n) = location(alloc, &evaluation.scene, env, name, arguments)? else {
         return Ok(());
     };
     let new = value(alloc, &evaluation.scene, env, new)?;
-    let n = location_number(alloc, &evaluation.scene, env, f, arguments)?;
     made.set.add(n, new, new)?;
     Ok(())
 }

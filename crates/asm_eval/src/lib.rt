@@ -10,6 +10,7 @@ pub mod evaluation;
 mod find;
 pub mod form;
 mod from_nothing;
+mod guarded;
 mod held;
 pub mod laws;
 pub mod open;

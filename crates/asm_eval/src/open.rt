@@ -4,7 +4,7 @@ ghost use Rattle.asm_state.specs.Location.{State};
 ghost use Rattle.asm_eval.specs.Cases.{all_run};
 ghost use Rattle.asm_eval.specs.Does.{parts};
 ghost use Rattle.asm_eval.specs.Beneath.{has_one_beneath};
-ghost use Rattle.asm_eval.specs.Environments.{environment};
+ghost use Rattle.asm_eval.specs.Environments.{environment, environment_in};
 ghost use Rattle.asm_eval.specs.Evaluated.{setting, state_at, meant, meant_rules, meant_forall};
 ghost use Rattle.asm_eval.specs.Pieces.{IsInterval, IsPartOf, IsPiece, Opens, OpensTo, is_closed, span_does};
 ghost use Rattle.asm_eval.specs.Setting.{Setting, outcome};
@@ -29,7 +29,7 @@ use std::alloc::{AllocError, Global};
 
 /// The pieces that a piece is made of, in order; they borrow from it. A span longer than the cut gives spans, and each other part its one
 /// step of evaluation: a `par` its parts, a `forall` the bodies for the elements whose condition holds, an `if`, `let`, `choose` or call
-/// the one rule beneath it, if there is one. A `skip`, an assignment, a `seq` and an `iterate` are closed.
+/// the one rule beneath it, if there is one. A `skip`, an assignment, a `seq`, an `iterate` and a `while` are closed.
 pub fn open_piece<'a, P: Picks>(
     alloc: Global,
     evaluation: &Evaluation<'a, '_, P>,
@@ -55,14 +55,15 @@ fn open_rule<'a, P: Picks>(
 ) -> Result<Opened<'a>, AllocError>
     requires { 0 < cut }
     ensures { let R = meant piece.now.rule.now in
-        let o = outcome (setting evaluation.now) (state_at evaluation.now) (environment piece.now.env) piece.now.path R in
+        let o = outcome (setting evaluation.now) (state_at evaluation.now) (environment_in evaluation.now.scene.checked.now piece.now.env) piece.now.path R in
         IfOk result (OpensTo (setting evaluation.now) (state_at evaluation.now) cut (is_closed R) o) }
 {
     match piece.rule {
         Rule::Skip => Ok(Opened::Closed),
         Rule::Assign { .. } => Ok(Opened::Closed),
         Rule::Seq(_) => Ok(Opened::Closed),
-        Rule::Iterate(_) => Ok(Opened::Closed),
+        Rule::Iterate(_) | Rule::While { .. } => Ok(Opened::Closed),
+        Rule::SetResult { .. } => Ok(Opened::Closed),
         Rule::Par(rules) => open_parts(alloc, rules.as_slice(), &piece.env, piece.path.as_slice()),
         Rule::Forall { over, .. } => {
             let size = size_of(evaluation.scene.checked, over);
@@ -106,7 +107,7 @@ fn open_parts<'a>(
     env: &Env<'a>,
     path: &[u64],
 ) -> Result<Opened<'a>, AllocError>
-    ensures { (s : Setting) (A : State) (cut : ℕ) → IfOk result (OpensTo s A cut false (parts (all_run s.program s.turns s.script s.step (meant_rules rules.now)) 0 A (environment env.now) path.now)) }
+    ensures { (s : Setting) (A : State) (cut : ℕ) → IfOk result (OpensTo s A cut false (parts (all_run s.program s.turns s.script s.step (meant_rules rules.now)) 0 A (environment s.shape env.now) path.now)) }
 {
     let mut pieces = Vec::with_capacity(alloc, rules.len())?;
     for i in 0..rules.len() {
@@ -132,7 +133,7 @@ fn open_beneath<'a, P: Picks>(
 ) -> Result<Opened<'a>, AllocError>
     requires { has_one_beneath (meant piece.now.rule.now) ≡ true }
     ensures { let R = meant piece.now.rule.now in
-        let o = outcome (setting evaluation.now) (state_at evaluation.now) (environment piece.now.env) piece.now.path R in
+        let o = outcome (setting evaluation.now) (state_at evaluation.now) (environment_in evaluation.now.scene.checked.now piece.now.env) piece.now.path R in
         (cut : ℕ) → IfOk result (OpensTo (setting evaluation.now) (state_at evaluation.now) cut (is_closed R) o) }
 {
     let path = piece.path.as_slice();
@@ -163,7 +164,7 @@ fn open_span<'a, P: Picks>(
 ) -> Result<Opened<'a>, AllocError>
     requires cut { 0 < cut }
     requires part { IsPartOf (setting evaluation.now).program (meant piece.now.rule.now) (part.Span from to) }
-    ensures { let o = span_does (setting evaluation.now) (state_at evaluation.now) (environment piece.now.env) piece.now.path (meant piece.now.rule.now) from to in
+    ensures { let o = span_does (setting evaluation.now) (state_at evaluation.now) (environment_in evaluation.now.scene.checked.now piece.now.env) piece.now.path (meant piece.now.rule.now) from to in
         IfOk result (OpensTo (setting evaluation.now) (state_at evaluation.now) cut false o) }
 {
     match piece.rule {
@@ -194,7 +195,7 @@ fn open_spans<'a>(
     requires cut { 0 < cut }
     requires rises { from ≤ to }
     ensures { (s : Setting) (A : State) → IsPartOf s.program (meant piece.now.rule.now) (part.Span from to)
-        → IfOk result (OpensTo s A cut false (span_does s A (environment piece.now.env) piece.now.path (meant piece.now.rule.now) from to)) }
+        → IfOk result (OpensTo s A cut false (span_does s A (environment_in evaluation.now.scene.checked.now piece.now.env) piece.now.path (meant piece.now.rule.now) from to)) }
 {
     let mut pieces = Vec::with_capacity(alloc, (to - from).div_ceil(cut))?;
     let mut next = from;
@@ -229,7 +230,7 @@ fn open_bodies<'a, P: Picks>(
     to: usize,
 ) -> Result<Opened<'a>, AllocError>
     requires { IsInterval (setting evaluation.now).program binder.now.over.now.text from to }
-    ensures { let o = span_does (setting evaluation.now) (state_at evaluation.now) (environment piece.now.env) piece.now.path (meant_forall binder.now body.now) from to in
+    ensures { let o = span_does (setting evaluation.now) (state_at evaluation.now) (environment_in evaluation.now.scene.checked.now piece.now.env) piece.now.path (meant_forall binder.now body.now) from to in
         (cut : ℕ) → IfOk result (OpensTo (setting evaluation.now) (state_at evaluation.now) cut false o) }
 {
     let mut pieces = Vec::new(alloc);

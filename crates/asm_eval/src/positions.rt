@@ -36,7 +36,9 @@ fn positions_of_rule(checked: &Checked, rule: &Rule) -> Option<usize>
         | Rule::Choose { .. }
         | Rule::Call { .. }
         | Rule::Seq(_)
-        | Rule::Iterate(_) => None,
+        | Rule::Iterate(_)
+        | Rule::While { .. }
+        | Rule::SetResult { .. } => None,
     }
 }
 

@@ -1,11 +1,12 @@
 //! The values of terms in a scene.
-ghost use Rattle.std.specs.Prelude.{◌≡◌, ◌≤◌, None, IfOk, length};
+ghost use Rattle.std.specs.Prelude.{◌≡◌, ◌≤◌, Some, None, IfOk, length};
+ghost use Rattle.asm_state.specs.Location.{Location};
 ghost use Rattle.asm_syntax.specs.PlainTree as plain;
 ghost use Rattle.asm_syntax.specs.Tree as tree;
 ghost use Rattle.asm_syntax.specs.Views.{spec_of, term_of};
 ghost use Rattle.asm_check.specs.NumberTables.{IsInRange};
 ghost use Rattle.asm_eval.specs.Declarations.{numbered};
-ghost use Rattle.asm_eval.specs.Environments.{environment};
+ghost use Rattle.asm_eval.specs.Environments.{environment_in, location_numbered};
 ghost use Rattle.asm_eval.specs.Scenes.{scene_value, scene_named};
 ghost use Rattle.asm_eval.specs.Program.{bound_to};
 ghost use Rattle.asm_eval.specs.Valued.{program, shown, declared_value};
@@ -70,6 +71,7 @@ pub(crate) fn value<'e>(
         }
         Term::Exists { name, over, test } => Ok(exists(alloc, scene, env, name, over, test)?),
         Term::Every { name, over, test } => Ok(every(alloc, scene, env, name, over, test)?),
+        Term::Answer(name) => Ok(named(alloc, scene, env, name, &[])?),
     }
 }
 
@@ -103,9 +105,10 @@ fn named<'e>(
 ) -> Result<Value, AllocError>
     ensures { IfOk result (λ v. v ≡ scene_named scene.now env.now name.now.text arguments.now) }
 {
-    match find(env, name) {
+    match find(scene.view.signature, env, name) {
         Binding::Known(value) => Ok(value),
         Binding::ByName(term, caller) => operand(alloc, scene, caller, term),
+        Binding::Located(n) => Ok(located(scene, n)),
         Binding::Unbound => {
             if arguments.is_empty() {
                 value_of(alloc, scene, scene.checked.named(&name.text), &[])
@@ -115,6 +118,18 @@ fn named<'e>(
                 of_many(alloc, scene, env, name, arguments)
             }
         }
+    }
+}
+
+/// The content of the location with this number, if there is one: `Undef` at a stray one.
+fn located(scene: &Scene, n: usize) -> Value
+    ensures { (l : Location) → location_numbered scene.now.view.now.signature.now (Some n) ≡ Some l → result ≡ spec.read (shown scene.now.view.now) l }
+{
+    let signature = scene.view.signature;
+    if n < signature.count() && signature.stray(n).is_none() {
+        scene.view.content(n)
+    } else {
+        Value::Undef
     }
 }
 
@@ -128,7 +143,7 @@ fn of_few<'e>(
     name: &'e Name,
     arguments: &'e [Term],
 ) -> Result<Value, AllocError>
-    requires unbound { bound_to (environment env.now) name.now.text ≡ None }
+    requires unbound { bound_to (environment_in scene.now.checked.now env.now) name.now.text ≡ None }
     requires few { length arguments.now ≤ 4 }
     ensures { IfOk result (λ v. v ≡ scene_named scene.now env.now name.now.text arguments.now) }
 {
@@ -154,7 +169,7 @@ fn of_many<'e>(
     name: &'e Name,
     arguments: &'e [Term],
 ) -> Result<Value, AllocError>
-    requires { bound_to (environment env.now) name.now.text ≡ None }
+    requires { bound_to (environment_in scene.now.checked.now env.now) name.now.text ≡ None }
     ensures { IfOk result (λ v. v ≡ scene_named scene.now env.now name.now.text arguments.now) }
 {
     let mut values = Vec::with_capacity(alloc, arguments.len())?;
@@ -204,7 +219,7 @@ fn exists<'e>(
     test: &'e Term,
 ) -> Result<Value, AllocError>
     ensures { let t = tree.Exists name.now.text over.now.text (plain.plain_term (term_of test.now)) in
-        IfOk result (λ v. v ≡ spec.value (program scene.now.checked.now) (shown scene.now.view.now) (environment env.now) t) }
+        IfOk result (λ v. v ≡ spec.value (program scene.now.checked.now) (shown scene.now.view.now) (environment_in scene.now.checked.now env.now) t) }
 {
     let Some(universe) = universe_of(scene.checked, over) else {
         return Ok(Value::Truth(false));
@@ -235,7 +250,7 @@ fn every<'e>(
     test: &'e Term,
 ) -> Result<Value, AllocError>
     ensures { let t = tree.Every name.now.text over.now.text (plain.plain_term (term_of test.now)) in
-        IfOk result (λ v. v ≡ spec.value (program scene.now.checked.now) (shown scene.now.view.now) (environment env.now) t) }
+        IfOk result (λ v. v ≡ spec.value (program scene.now.checked.now) (shown scene.now.view.now) (environment_in scene.now.checked.now env.now) t) }
 {
     let Some(universe) = universe_of(scene.checked, over) else {
         return Ok(Value::Truth(true));

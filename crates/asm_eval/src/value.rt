@@ -2,7 +2,7 @@
 ghost use Rattle.std.specs.Prelude.{◌≡◌, IfOk};
 ghost use Rattle.asm_syntax.specs.Views.{spec_of};
 ghost use Rattle.asm_check.specs.Shapes.{shape_of};
-ghost use Rattle.asm_eval.specs.Environments.{environment};
+ghost use Rattle.asm_eval.specs.Environments.{environment_in};
 ghost use Rattle.asm_eval.specs.Valued.{term_value};
 
 use crate::env::Env;
@@ -23,7 +23,7 @@ pub fn value<'a, 'e>(
     term: &'e Term,
 ) -> Result<Value, AllocError>
     requires { view.now.signature.now ≡ shape_of (spec_of checked.now.spec) }
-    ensures { IfOk result (λ v. v ≡ term_value checked.now view.now (environment env.now) term.now) }
+    ensures { IfOk result (λ v. v ≡ term_value checked.now view.now (environment_in checked.now env.now) term.now) }
 {
     let scene = Scene { checked, view };
     let value = terms::value(alloc, &scene, env, term)?;

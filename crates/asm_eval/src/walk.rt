@@ -7,8 +7,8 @@ ghost use Rattle.asm_syntax.specs.Views.{spec_of, rule_of};
 ghost use Rattle.asm_check.specs.Shapes.{shape_of};
 ghost use Rattle.asm_eval.specs.Beneath.{has_one_beneath};
 ghost use Rattle.asm_eval.specs.Does.{does};
-ghost use Rattle.asm_eval.specs.Environments.{environment};
-ghost use Rattle.asm_eval.specs.Evaluated.{Fits, setting, shape_at, outcome_at, outcome_upon, in_order_at, meant};
+ghost use Rattle.asm_eval.specs.Environments.{environment_in};
+ghost use Rattle.asm_eval.specs.Evaluated.{Fits, setting, shape_at, outcome_at, outcome_upon, in_order_at, meant, meant_guarded};
 ghost use Rattle.asm_eval.specs.Formed.{Follows, FollowsUpon, IsFormed};
 ghost use Rattle.asm_eval.specs.Regions.{TakesRegions, FormsRegions};
 ghost use Rattle.asm_eval.specs.Setting.{setting_with};
@@ -20,8 +20,11 @@ use crate::env::Env;
 use crate::evaluation::{Choices, Evaluation, Scene};
 use crate::form::{form, put_back};
 use crate::from_nothing::{nothing_formed, outcome_of};
+use crate::guarded::Guarded;
+use crate::held::is_true;
 use crate::outcome::{Forming, Outcome};
 use crate::stopped::Stopped;
+use crate::terms::value;
 use crate::view::View;
 use asm_check::Checked;
 use asm_reader::Picks;
@@ -50,8 +53,8 @@ pub fn outcome<
 ) -> Result<Outcome, AllocError>
     requires shaped { view.now.signature.now ≡ shape_of (spec_of checked.now.spec) }
     requires callable { TakesRegions checked.now (F.pre regions.now) }
-    requires meets { FormsRegions (setting_with (program checked.now) turns (P.script choices.now.script.now) choices.now.step) (F.post regions.now) }
-    ensures { let o = does (program checked.now) turns (P.script choices.now.script.now) choices.now.step (shown view.now) (environment env.now) path.now (plain.plain_rule (rule_of rule.now)) in
+    requires meets { FormsRegions (setting_with (program checked.now) (shape_of (spec_of checked.now.spec)) turns (P.script choices.now.script.now) choices.now.step) (F.post regions.now) }
+    ensures { let o = does (program checked.now) turns (P.script choices.now.script.now) choices.now.step (shown view.now) (environment_in checked.now env.now) path.now (plain.plain_rule (rule_of rule.now)) in
         IfOk result (IsFormed view.now.signature.now o) }
 {
     let mut made = nothing_formed(alloc, view.signature, path)?;
@@ -84,7 +87,9 @@ pub fn form_by_regions<
     ensures { Follows (shape_at evaluation.now) (outcome_at evaluation.now env.now made.old.path.items (meant rule.now)) made.old made.new result }
 {
     match rule {
-        Rule::Skip | Rule::Assign { .. } => form(alloc, evaluation, env, rule, made),
+        Rule::Skip | Rule::Assign { .. } | Rule::SetResult { .. } => {
+            form(alloc, evaluation, env, rule, made)
+        }
         Rule::Par(_) | Rule::Forall { .. } => regions(
             alloc,
             evaluation.scene.view,
@@ -95,7 +100,20 @@ pub fn form_by_regions<
         Rule::Seq(rules) => {
             walk_in_order(alloc, regions, evaluation, env, rules.as_slice(), made)
         }
-        Rule::Iterate(body) => walk_turns(alloc, regions, evaluation, env, body, made),
+        Rule::Iterate(body) => {
+            let body = Guarded {
+                test: None,
+                rule: body,
+            };
+            walk_turns(alloc, regions, evaluation, env, body, made)
+        }
+        Rule::While { test, body } => {
+            let body = Guarded {
+                test: Some(test),
+                rule: body,
+            };
+            walk_turns(alloc, regions, evaluation, env, body, made)
+        }
         Rule::If { .. } | Rule::Let { .. } | Rule::Choose { .. } | Rule::Call { .. } => {
             walk_beneath(alloc, regions, evaluation, env, rule, made)
         }
@@ -160,12 +178,16 @@ fn walk_in_order<
     let before = mem::replace(&mut made.set, nothing);
     let mut so_far = Summary::new(alloc, signature.count());
     for i in 0..rules.len() {
+        let part = Guarded {
+            test: None,
+            rule: &rules[i],
+        };
         walk_next(
             alloc,
             regions,
             evaluation,
             env,
-            &rules[i],
+            part,
             i as u64,
             &mut so_far,
             made,
@@ -188,13 +210,13 @@ fn walk_turns<
     regions: &F,
     evaluation: &Evaluation<'_, '_, P>,
     env: &'e Env<'e>,
-    body: &'e Rule,
+    body: Guarded<'e>,
     made: &mut Forming,
 ) -> Result<(), Stopped>
     requires fits { Fits evaluation.now made.old }
     requires callable { TakesRegions evaluation.now.scene.checked.now (F.pre regions.now) }
     requires meets { FormsRegions (setting evaluation.now) (F.post regions.now) }
-    ensures { let R = tree.Iterate (meant body.now) in
+    ensures { let R = tree.Iterate (meant_guarded body.entry) in
         Follows (shape_at evaluation.now) (outcome_at evaluation.now env.now made.old.path.items R) made.old made.new result }
 {
     let signature = evaluation.scene.view.signature;
@@ -231,7 +253,7 @@ fn walk_next<
     regions: &F,
     evaluation: &Evaluation<'_, '_, P>,
     env: &'e Env<'e>,
-    rule: &'e Rule,
+    guarded: Guarded<'e>,
     number: u64,
     so_far: &mut Summary,
     made: &mut Forming,
@@ -240,7 +262,7 @@ fn walk_next<
     requires callable { TakesRegions evaluation.now.scene.checked.now (F.pre regions.now) }
     requires meets { FormsRegions (setting evaluation.now) (F.post regions.now) }
     requires so_far { so_far.old.count ≡ count_of (shape_at evaluation.now) }
-    ensures { FollowsUpon (shape_at evaluation.now) (λ U. outcome_upon evaluation.now U env.now (yields.at made.old.path.items number) (meant rule.now)) so_far.old so_far.new made.old made.new result }
+    ensures { FollowsUpon (shape_at evaluation.now) (λ U. outcome_upon evaluation.now U env.now (yields.at made.old.path.items number) (meant_guarded guarded.entry)) so_far.old so_far.new made.old made.new result }
 {
     made.set.clear();
     let view = View::upon(evaluation.scene.view, so_far);
@@ -252,9 +274,43 @@ fn walk_next<
         choices: evaluation.choices,
         turns: evaluation.turns,
     };
-    walk_part(alloc, regions, &inner, env, rule, number, made)?;
+    walk_guarded(alloc, regions, &inner, env, guarded, number, made)?;
     so_far.then(&made.set)?;
     Ok(())
+}
+
+/// Forms a rule behind a condition as the part with this number.
+#[cycle(walk)]
+fn walk_guarded<
+    'e,
+    P: Picks,
+    F: Fn(Global, &View<'_>, &Env<'_>, &Rule, &mut Forming) -> Result<(), Stopped>,
+>(
+    alloc: Global,
+    regions: &F,
+    evaluation: &Evaluation<'_, '_, P>,
+    env: &'e Env<'e>,
+    guarded: Guarded<'e>,
+    number: u64,
+    made: &mut Forming,
+) -> Result<(), Stopped>
+    requires fits { Fits evaluation.now made.old }
+    requires callable { TakesRegions evaluation.now.scene.checked.now (F.pre regions.now) }
+    requires meets { FormsRegions (setting evaluation.now) (F.post regions.now) }
+    ensures { Follows (shape_at evaluation.now) (outcome_at evaluation.now env.now (yields.at made.old.path.items number) (meant_guarded guarded.entry)) made.old made.new result }
+{
+    match guarded.test {
+        None => walk_part(alloc, regions, evaluation, env, guarded.rule, number, made),
+        Some(test) => {
+            made.path.push(number)?;
+            let tested = value(alloc, &evaluation.scene, env, test)?;
+            if is_true(tested) {
+                walk_part(alloc, regions, evaluation, env, guarded.rule, 0, made)?;
+            }
+            made.path.pop();
+            Ok(())
+        }
+    }
 }
 
 /// Forms the part with this number.

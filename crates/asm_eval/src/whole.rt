@@ -4,7 +4,7 @@ ghost use Rattle.asm_syntax.specs.PlainTree as plain;
 ghost use Rattle.asm_syntax.specs.Views.{spec_of, rule_of};
 ghost use Rattle.asm_check.specs.Shapes.{shape_of};
 ghost use Rattle.asm_eval.specs.Does.{does};
-ghost use Rattle.asm_eval.specs.Environments.{environment};
+ghost use Rattle.asm_eval.specs.Environments.{environment_in};
 ghost use Rattle.asm_eval.specs.Valued.{program, shown};
 ghost use Rattle.asm_eval.specs.Formed.{IsFormed};
 
@@ -32,7 +32,7 @@ pub fn whole<'a, 'e, P: Picks>(
     turns: u32,
 ) -> Result<Outcome, AllocError>
     requires { view.now.signature.now ≡ shape_of (spec_of checked.now.spec) }
-    ensures { let o = does (program checked.now) turns (P.script choices.now.script.now) choices.now.step (shown view.now) (environment env.now) path.now (plain.plain_rule (rule_of rule.now)) in
+    ensures { let o = does (program checked.now) turns (P.script choices.now.script.now) choices.now.step (shown view.now) (environment_in checked.now env.now) path.now (plain.plain_rule (rule_of rule.now)) in
         IfOk result (IsFormed view.now.signature.now o) }
 {
     let mut made = nothing_formed(alloc, view.signature, path)?;

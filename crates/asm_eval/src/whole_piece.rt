@@ -1,6 +1,6 @@
 //! Pieces evaluated whole.
 ghost use Rattle.std.specs.Prelude.{◌≡◌, OnOk, IfOk, IfErr};
-ghost use Rattle.asm_eval.specs.Environments.{environment};
+ghost use Rattle.asm_eval.specs.Environments.{environment_in};
 ghost use Rattle.asm_eval.specs.Evaluated.{Fits, meant, setting, shape_at, state_at};
 ghost use Rattle.asm_eval.specs.Formed.{Follows, Forms, IsFormed, IsStoppedAt};
 ghost use Rattle.asm_eval.specs.Pieces.{IsPartOf, IsPiece, piece_does, span_does};
@@ -71,7 +71,7 @@ fn form_elements<'e, P: Picks>(
 ) -> Result<(), Stopped>
     requires fits { Fits evaluation.now made.old }
     requires part { IsPartOf (setting evaluation.now).program (meant rule.now) (part.Span from to) }
-    ensures { let o = span_does (setting evaluation.now) (state_at evaluation.now) (environment env.now) made.old.path.items (meant rule.now) from to in
+    ensures { let o = span_does (setting evaluation.now) (state_at evaluation.now) (environment_in evaluation.now.scene.checked.now env.now) made.old.path.items (meant rule.now) from to in
         Follows (shape_at evaluation.now) o made.old made.new result }
 {
     let Rule::Forall {

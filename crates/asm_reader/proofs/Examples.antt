@@ -132,7 +132,7 @@ record Trees : Type 0 where
   parentheses_make_no_node : AreSpelling (text_with (codes "x := ( a )")) (with_body (variable 19 ∷ token (Symbol symbols.Assign) 21 23 ∷ token (Symbol symbols.Open) 24 25 ∷ variable 26 ∷ token (Symbol symbols.Close) 28 29 ∷ []))
       (spec_with (source.Assign (name 19 (codes "x")) source.no_terms (named 26 (codes "a"))) 29)
   followed_by_its_arguments : AreSpelling (text_with (codes "r ( a )")) (with_body (variable 19 ∷ token (Symbol symbols.Open) 21 22 ∷ variable 23 ∷ token (Symbol symbols.Close) 25 26 ∷ []))
-      (spec_with (source.Call (name 19 (codes "r")) (source.term_then (named 23 (codes "a")) source.no_terms)) 26)
+      (spec_with (source.Call None (name 19 (codes "r")) (source.term_then (named 23 (codes "a")) source.no_terms)) 26)
 
 trees : Trees
 unfolding specification_at item_at rule_item_at parameters_at turns name_at rule_at rule_over_at skip_at named_rule_at applied_at arguments_at term_at disjunction_at conjunction_at negation_at comparison_at sum_at product_at factor_at primary_at parenthesized_at inner_at

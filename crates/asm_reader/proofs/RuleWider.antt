@@ -1,5 +1,5 @@
 -- Rules over more terms and more rules are more rules.
-use Rattle.std.proofs.Common.{ℕ, List, inl, inr}
+use Rattle.std.proofs.Common.{ℕ, List, None, inl, inr}
 use Rattle.asm_syntax.specs.declared.token.Kind.{Kind}
 use Rattle.asm_syntax.specs.declared.token.Kind.TheVariants.{Symbol, Word}
 use Rattle.asm_syntax.specs.declared.token.Symbol.TheVariants.{Assign, Equal}
@@ -16,7 +16,7 @@ use Rattle.asm_reader.proofs.Blocks.{if_body, let_body, forall_body, choose_body
 module _ (text : List ℕ) (X Y : Part source.Term) (S T : Part source.Rule) (h : Includes X Y) (k : Includes S T) where
   wider_call : Includes (call text X S) (call text Y T)
   unfolding call
-  wider_call = wider_makes (applied text X) (applied text Y) (λ r. source.Call r.0 r.1) (wider_applied text X Y h)
+  wider_call = wider_makes (applied text X) (applied text Y) (λ r. source.Call None r.0 r.1) (wider_applied text X Y h)
 
   wider_assignment : Includes (assignment text X S) (assignment text Y T)
   unfolding assignment

@@ -5,7 +5,7 @@ ghost use Rattle.asm_syntax.specs.Views.{spec_of, rule_of};
 ghost use Rattle.asm_state.specs.Signature.{count_of};
 ghost use Rattle.asm_check.specs.Shapes.{shape_of};
 ghost use Rattle.asm_eval.specs.Does.{does};
-ghost use Rattle.asm_eval.specs.Environments.{environment};
+ghost use Rattle.asm_eval.specs.Environments.{environment_in};
 ghost use Rattle.asm_eval.specs.Evaluated.{Fits, meant, outcome_at, shape_at};
 ghost use Rattle.asm_eval.specs.Formed.{Follows, IsFormed};
 ghost use Rattle.asm_eval.specs.Valued.{program, shown};
@@ -66,7 +66,7 @@ impl<'r, R: Threads + Sync, G: Gate + Sync> Pooled<'r, R, G> {
         turns: u32,
     ) -> Result<Outcome, AllocError>
         requires { view.now.signature.now ≡ shape_of (spec_of checked.now.spec) }
-        ensures { let o = does (program checked.now) turns (P.script choices.now.script.now) choices.now.step (shown view.now) (environment env.now) path.now (plain.plain_rule (rule_of rule.now)) in
+        ensures { let o = does (program checked.now) turns (P.script choices.now.script.now) choices.now.step (shown view.now) (environment_in checked.now env.now) path.now (plain.plain_rule (rule_of rule.now)) in
             IfOk result (IsFormed view.now.signature.now o) }
     {
         if self.shares.workers == 1 || self.is_left_whole(checked, rule) {
@@ -88,7 +88,7 @@ impl<'r, R: Threads + Sync, G: Gate + Sync> Pooled<'r, R, G> {
         turns: u32,
     ) -> Result<Outcome, AllocError>
         requires { view.now.signature.now ≡ shape_of (spec_of checked.now.spec) }
-        ensures { let o = does (program checked.now) turns (P.script choices.now.script.now) choices.now.step (shown view.now) (environment env.now) path.now (plain.plain_rule (rule_of rule.now)) in
+        ensures { let o = does (program checked.now) turns (P.script choices.now.script.now) choices.now.step (shown view.now) (environment_in checked.now env.now) path.now (plain.plain_rule (rule_of rule.now)) in
             IfOk result (IsFormed view.now.signature.now o) }
     {
         if self.shares.workers == 1 {
@@ -99,7 +99,7 @@ impl<'r, R: Threads + Sync, G: Gate + Sync> Pooled<'r, R, G> {
         >, rule: &Rule, made: &mut Forming| -> Result<(), Stopped>
             requires shaped { view.now.signature.now ≡ shape_of (spec_of checked.now.spec) }
             requires fits { made.old.set.count ≡ count_of view.now.signature.now }
-            ensures { let o = does (program checked.entry.now) turns (P.script choices.entry.now.script.now) choices.entry.now.step (shown view.now) (environment env.now) made.old.path.items (meant rule.now) in
+            ensures { let o = does (program checked.entry.now) turns (P.script choices.entry.now.script.now) choices.entry.now.step (shown view.now) (environment_in checked.entry.now env.now) made.old.path.items (meant rule.now) in
                 Follows view.now.signature.now o made.old made.new result }
         { self.form_region(alloc, checked, view, env, rule, choices, turns, made) };
         walk::outcome(
@@ -131,7 +131,7 @@ impl<'r, R: Threads + Sync, G: Gate + Sync> Pooled<'r, R, G> {
         >, rule: &Rule, made: &mut Forming| -> Result<(), Stopped>
             requires shaped { view.now.signature.now ≡ shape_of (spec_of checked.now.spec) }
             requires fits { made.old.set.count ≡ count_of view.now.signature.now }
-            ensures { let o = does (program checked.entry.now) turns (P.script choices.entry.now.script.now) choices.entry.now.step (shown view.now) (environment env.now) made.old.path.items (meant rule.now) in
+            ensures { let o = does (program checked.entry.now) turns (P.script choices.entry.now.script.now) choices.entry.now.step (shown view.now) (environment_in checked.entry.now env.now) made.old.path.items (meant rule.now) in
                 Follows view.now.signature.now o made.old made.new result }
         { self.form_region(alloc, checked, view, env, rule, choices, turns, made) };
         walk::form_by_regions(alloc, &regions, evaluation, env, rule, made)
@@ -156,7 +156,7 @@ impl<'r, R: Threads + Sync, G: Gate + Sync> Pooled<'r, R, G> {
     ) -> Result<(), Stopped>
         requires shaped { view.now.signature.now ≡ shape_of (spec_of checked.now.spec) }
         requires fits { made.old.set.count ≡ count_of view.now.signature.now }
-        ensures { let o = does (program checked.now) turns (P.script choices.now.script.now) choices.now.step (shown view.now) (environment env.now) made.old.path.items (meant rule.now) in
+        ensures { let o = does (program checked.now) turns (P.script choices.now.script.now) choices.now.step (shown view.now) (environment_in checked.now env.now) made.old.path.items (meant rule.now) in
             Follows view.now.signature.now o made.old made.new result }
     {
         if self.is_left_whole(checked, rule) {
@@ -200,7 +200,7 @@ impl<'r, R: Threads + Sync, G: Gate + Sync> Pooled<'r, R, G> {
         turns: u32,
     ) -> Result<Outcome, AllocError>
         requires { view.now.signature.now ≡ shape_of (spec_of checked.now.spec) }
-        ensures { let o = does (program checked.now) turns (P.script choices.now.script.now) choices.now.step (shown view.now) (environment env.now) path.now (plain.plain_rule (rule_of rule.now)) in
+        ensures { let o = does (program checked.now) turns (P.script choices.now.script.now) choices.now.step (shown view.now) (environment_in checked.now env.now) path.now (plain.plain_rule (rule_of rule.now)) in
             IfOk result (IsFormed view.now.signature.now o) }
     {
         let evaluation = Evaluation {
