@@ -60,11 +60,24 @@ fn behind_piece(checked: &Checked, doing: Doing, piece: &Piece<'_>, left: u32) -
         return behind_whole(checked, piece, left);
     };
     match piece.rule {
-        Rule::Skip | Rule::Assign { .. } | Rule::Seq(_) | Rule::Iterate(_) => {
-            behind_rule(checked, piece.rule, left)
-        }
+        Rule::Skip
+        | Rule::Assign { .. }
+        | Rule::Seq(_)
+        | Rule::Iterate(_)
+        | Rule::While { .. }
+        | Rule::SetResult { .. } => behind_rule(checked, piece.rule, left),
         Rule::Par(rules) => left.checked_sub(few(rules.len())),
-        Rule::Call { arguments, .. } => left.checked_sub(few(arguments.len()))?.checked_sub(1),
+        Rule::Call {
+            target,
+            arguments,
+            ..
+        } => {
+            let left = match target {
+                Some(target) => behind_terms(checked, target.arguments.as_slice(), left)?,
+                None => left,
+            };
+            left.checked_sub(few(arguments.len()))?.checked_sub(1)
+        }
         Rule::If { test, .. } => behind_term(checked, test, left),
         Rule::Let { value, .. } => behind_term(checked, value, left),
         Rule::Choose { over, test, .. } => {
@@ -158,7 +171,8 @@ fn behind_rule(checked: &Checked, rule: &Rule, left: u32) -> Option<u32> {
                 None => Some(left),
             }
         }
-        Rule::Call { .. } | Rule::Iterate(_) => None,
+        Rule::SetResult { value, .. } => behind_term(checked, value, left),
+        Rule::Call { .. } | Rule::Iterate(_) | Rule::While { .. } => None,
     }
 }
 
@@ -166,7 +180,7 @@ fn behind_rule(checked: &Checked, rule: &Rule, left: u32) -> Option<u32> {
 fn behind_term(checked: &Checked, term: &Term, left: u32) -> Option<u32> {
     let left = left.checked_sub(1)?;
     match term {
-        Term::Constant(_) => Some(left),
+        Term::Constant(_) | Term::Answer(_) => Some(left),
         Term::Named { name, arguments } => {
             if matches!(checked.named(&name.text), Some(Named::Derived(_))) {
                 return None;
