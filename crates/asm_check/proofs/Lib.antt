@@ -43,6 +43,7 @@ pub mod Reaching
 pub mod Readers
 pub mod Repeats
 pub mod RestOfList
+pub mod Roles
 pub mod Scopes
 pub mod Searching
 pub mod Seen
