@@ -8,7 +8,7 @@ use Rattle.asm_check.specs.Names as names
 use Rattle.asm_check.specs.Names.{Text, Meaning, NamedRule, Derived, Use, declared}
 use Rattle.asm_check.specs.Onward.{onward}
 use Rattle.asm_check.specs.Ways.{called, used, calls_in, uses_in, is_call, is_use}
-use Rattle.asm_check.proofs.Roles.{called_alike}
+use Rattle.asm_check.proofs.Alike.{called_alike}
 
 pub data IsRule : Option Meaning → Type 0 where
   is_rule : (xs : List Name) (P : Rule) → IsRule (Some (NamedRule xs P))

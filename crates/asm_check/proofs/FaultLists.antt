@@ -244,8 +244,8 @@ module _ (spec : Spec) (u : Use) where
       misused (or_left is_outside is_plain (and_from (is_result u.role) (not u.is_bound) (ap is_result role) (not_from_false u.is_bound free)))
 
   use_plain : u.role ≡ AsRule → answers (declared spec u.name.text) ≡ true → IsListed (all_of_use spec u) u.name.at 17
-  use_plain role yes =
-      misused (or_right is_outside is_plain (and_from (is_plain_call u.role) (answers (declared spec u.name.text)) (ap is_plain_call role) yes))
+  use_plain role so =
+      misused (or_right is_outside is_plain (and_from (is_plain_call u.role) (answers (declared spec u.name.text)) (ap is_plain_call role) so))
 
   -- one of the first three
   of_three : (n : ℕ) → IsListed (faults_of_use spec u) u.name.at n → IsListed (all_of_use spec u) u.name.at n
@@ -517,14 +517,14 @@ module _ (spec : Spec) where
 
   start_listed : (x : Name) → Contains (inits spec) x → answers (declared spec x.text) ≡ true → IsListed (start_results spec) x.at 17
   unfolding start_results
-  start_listed x c yes =
+  start_listed x c so =
       Contains-flat_map (start_result spec) spec.items (source.Init x) (x.at, 17) (init_item spec.items x c)
-      (in_then (answers (declared spec x.text)) ((x.at, 17) ∷ []) [] (x.at, 17) yes (Contains-first (x.at, 17) []))
+      (in_then (answers (declared spec x.text)) ((x.at, 17) ∷ []) [] (x.at, 17) so (Contains-first (x.at, 17) []))
 
   pub results_complete : (at : ℕ) → IsResultUse spec at → IsListed (use_faults spec) at 17 ⊎ IsListed (start_results spec) at 17
   results_complete at (outside u stands role free offset) = inl (of_a_use spec u stands at 17 offset (use_outside spec u role free))
-  results_complete at (plain_call u stands role yes offset) = inl (of_a_use spec u stands at 17 offset (use_plain spec u role yes))
-  results_complete at (start x c yes offset) = inr (subst (λ (a : ℕ). IsListed (start_results spec) a 17) offset (start_listed x c yes))
+  results_complete at (plain_call u stands role so offset) = inl (of_a_use spec u stands at 17 offset (use_plain spec u role so))
+  results_complete at (start x c so offset) = inr (subst (λ (a : ℕ). IsListed (start_results spec) a 17) offset (start_listed x c so))
 
 -- ---- 12, 13, and 15 by ranks
 

@@ -45,7 +45,7 @@ module _ (spec : Spec) where
         counted = λ n has. same_number u.count n (λ differs. good u.name.at 10 (arity (record { use_of = u; stands = c; count = n; has = has; differs = differs; offset = refl })));
         assignable = λ target. not_false (is_assignable u.is_bound (declared spec u.name.text))
             (λ no'. good u.name.at 11 (not_controlled (record { use_of = u; stands = c; is_target = target; known = known; unassignable = no'; offset = refl })));
-        plain = λ role. not_true (answers (declared spec u.name.text)) (λ yes. good u.name.at 17 (result_use (plain_call u c role yes refl)));
+        plain = λ role. not_true (answers (declared spec u.name.text)) (λ so. good u.name.at 17 (result_use (plain_call u c role so refl)));
         inside = λ role. not_false u.is_bound (λ free. good u.name.at 17 (result_use (outside u c role free refl)));
       }
 
@@ -237,7 +237,7 @@ starts spec good (x ∷ []) e =
       only = e;
       rule = it.1;
       plain = not_true (answers (declared spec x.text))
-          (λ yes. good x.at 17 (result_use (start x (subst (λ xs. Contains xs x) (sym e) (Contains-first x [])) yes refl)));
+          (λ so. good x.at 17 (result_use (start x (subst (λ xs. Contains xs x) (sym e) (Contains-first x [])) so refl)));
     }
 
 in_uses : (spec : Spec) (item : Item) → Contains spec.items item → (u : Use) → Contains (uses_of item) u → Contains (uses spec) u

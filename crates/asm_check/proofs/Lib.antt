@@ -1,4 +1,6 @@
+pub mod Alike
 pub mod AllFaults
+pub mod AnsweringRules
 pub mod Apart
 pub mod ArgumentCounts
 pub mod BadEntries
@@ -43,7 +45,6 @@ pub mod Reaching
 pub mod Readers
 pub mod Repeats
 pub mod RestOfList
-pub mod Roles
 pub mod Scopes
 pub mod Searching
 pub mod Seen

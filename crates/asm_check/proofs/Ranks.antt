@@ -15,7 +15,7 @@ use Rattle.asm_check.specs.Ranks.{IsCallable, CallsBelow, EachCallsBelow, Branch
 use Rattle.asm_check.specs.Laws.{RanksExist}
 use Rattle.asm_check.proofs.Heights.{AreRanks, heights_are_ranks}
 use Rattle.asm_check.proofs.Declared.{first_is, body_uses}
-use Rattle.asm_check.proofs.Roles.{known_alike, called_alike}
+use Rattle.asm_check.proofs.Alike.{known_alike, called_alike}
 
 -- ---- from facts on the uses in a body to facts on its calls
 

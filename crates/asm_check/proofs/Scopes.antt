@@ -51,6 +51,25 @@ pub among_inserted : (ks new : List (Bor Text)) (k : Bor Text)
 among_inserted ks new k put x =
     among_parameters new x ∙ one_more_key ks new k put x ∙ ap (λ b. b || is_text x k.now) (sym (among_parameters ks x)) ∙ ap (λ b. is_among (map (λ p. p.now) ks) x || b) (text_symmetric x k.now)
 
+or_turn : (a b c : Bool) → (a || (b || c)) ≡ (c || (a || b))
+or_turn true b true = refl
+or_turn true b false = refl
+or_turn false true true = refl
+or_turn false true false = refl
+or_turn false false true = refl
+or_turn false false false = refl
+
+-- one more name, behind the binders
+pub one_more_bound : (bs : List Text) (ks new : List (Bor Text)) (t : Text) (ys : List Text)
+    → ((q : Bor Text) → list_any (λ r. is_spelled q.now r.now) new ≡ cond (is_spelled t q.now) true (list_any (λ r. is_spelled q.now r.now) ks))
+    → IsSameScope (bs ++ map (λ p. p.now) ks) ys → IsSameScope (bs ++ map (λ p. p.now) new) (t ∷ ys)
+one_more_bound bs ks new t ys put same x =
+    let k : Bor Text = record { ref_ptr = (0, 0); now = t } in
+    list_any-append (λ y. is_text y x) bs (map (λ p. p.now) new)
+    ∙ ap (λ b. is_among bs x || b) (among_inserted ks new k put x)
+    ∙ or_turn (is_among bs x) (is_among (map (λ p. p.now) ks) x) (is_text t x)
+    ∙ ap (λ b. is_text t x || b) (sym (list_any-append (λ y. is_text y x) bs (map (λ p. p.now) ks)) ∙ same x)
+
 -- one more parameter
 pub one_more_parameter : (ks new : List (Bor Text)) (k : Bor Text) (xs : List code.Name) (i : ℕ) (item : code.Name) → i < length xs → item ≡ get_or xs i item → k.now ≡ item.text
     → ((q : Bor Text) → list_any (λ r. is_spelled q.now r.now) new ≡ cond (is_spelled k.now q.now) true (list_any (λ r. is_spelled q.now r.now) ks))

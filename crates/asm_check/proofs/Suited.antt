@@ -15,7 +15,7 @@ use Rattle.asm_check.specs.declared.checked.Named.{Named}
 use Rattle.asm_check.specs.declared.checked.Named.TheVariants as number
 use Rattle.asm_check.proofs.Declared.{same_text, text_itself}
 use Rattle.asm_check.proofs.NamesNumbered.{index_like}
-use Rattle.asm_check.proofs.Roles.{known_alike, counted_alike}
+use Rattle.asm_check.proofs.Alike.{known_alike, counted_alike}
 use Rattle.asm_check.proofs.Sole.{left_false, right_false}
 
 module _ (spec : Spec) (x : Name) where

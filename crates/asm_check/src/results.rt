@@ -1,5 +1,6 @@
 //! Rules that answer: those in whose bodies the word `result` stands.
 ghost use Rattle.std.specs.Prelude.{◌≡◌, IfOk, Some};
+ghost use Rattle.std.specs.List.{list_any};
 ghost use Rattle.asm_syntax.specs.SourceTree as source;
 ghost use Rattle.asm_syntax.specs.Views.{spec_of, item_of};
 ghost use Rattle.asm_check.specs.Answering.{AreAnswering};
@@ -41,10 +42,17 @@ fn is_answering(alloc: Global, meaning: Meaning) -> Result<bool, AllocError>
     match meaning {
         Meaning::Rule(parameters, body) => {
             let uses = uses_of_named_rule(alloc, parameters, body)?;
-            Ok(uses.iter().any(|used| is_result(used.role)))
+            Ok(has_result(&uses))
         }
         _ => Ok(false),
     }
+}
+
+/// Whether the word `result` is among these uses.
+fn has_result(uses: &[Use]) -> bool
+    ensures { result ≡ list_any (λ u. meanings.is_result (role_of u.role)) uses.now }
+{
+    uses.iter().any(|used| is_result(used.role))
 }
 
 fn is_result(role: Role) -> bool
