@@ -8,7 +8,7 @@ use Rattle.asm_state.specs.declared.number.Number.{Number}
 use Rattle.asm_state.specs.declared.function.FunctionKind.TheVariants.{Static}
 use Rattle.asm_syntax.specs.declared.term.Literal.TheVariants as literal
 use Rattle.asm_syntax.specs.SourceTree.{Name, Term, Constant, Named, no_terms, term_then, Skip, Assign, Call, Let, Const, Plain, Entry, Each, Entries, Item, Init, Enum, Universe, Function, Derived, NamedRule, Spec}
-use Rattle.asm_check.specs.FaultLists.{twice_faults, use_faults, init_faults, limit_faults, entry_faults}
+use Rattle.asm_check.specs.FaultLists.{twice_faults, use_faults, init_faults, limit_faults, entry_faults, start_results}
 use Rattle.asm_check.specs.Faults.{IsLeastFault, IsWellFormed}
 use Rattle.asm_check.specs.Limits.{size_of}
 use Rattle.asm_check.specs.Names as names
@@ -96,16 +96,16 @@ abbrev skipping : Spec
 skipping = text 31 (main 22 ∷ [])
 
 no_fault_in_skipping : IsWellFormed skipping
-unfolding declared declarations first_declarations uses called used height twice_faults use_faults init_faults limit_faults entry_faults
+unfolding declared declarations first_declarations uses called used height twice_faults use_faults init_faults limit_faults entry_faults start_results
 no_fault_in_skipping = none_is skipping refl
 
 -- rule M = r(0)
 -- rule r(p) = skip
 abbrev calling : Spec
-calling = text 48 (NamedRule (name 22 M') [] (Call (name 26 r') (term_then nought no_terms)) ∷ NamedRule (name 36 r') (name 38 p' ∷ []) Skip ∷ [])
+calling = text 48 (NamedRule (name 22 M') [] (Call None (name 26 r') (term_then nought no_terms)) ∷ NamedRule (name 36 r') (name 38 p' ∷ []) Skip ∷ [])
 
 no_fault_in_calling : IsWellFormed calling
-unfolding declared declarations first_declarations uses called used height twice_faults use_faults init_faults limit_faults entry_faults
+unfolding declared declarations first_declarations uses called used height twice_faults use_faults init_faults limit_faults entry_faults start_results
 no_fault_in_calling = none_is calling refl
 
 -- universe U = 0 .. 1
@@ -115,7 +115,7 @@ abbrev tabled : Spec
 tabled = text 114 (Universe (name 26 U') zero' one ∷ Function (name 53 g') Static (name 57 U' ∷ []) None (Some (Entries (entry 71 one ∷ entry 85 zero' ∷ []))) ∷ main 105 ∷ [])
 
 no_fault_in_tabled : IsWellFormed tabled
-unfolding declared declarations first_declarations uses called used height twice_faults use_faults init_faults limit_faults entry_faults
+unfolding declared declarations first_declarations uses called used height twice_faults use_faults init_faults limit_faults entry_faults start_results
 no_fault_in_tabled = none_is tabled refl
 
 -- ---- one fault of each number, or the least of several
@@ -126,7 +126,7 @@ abbrev declared_again : Spec
 declared_again = text 48 (main 22 ∷ NamedRule (name 36 M') (name 38 p' ∷ []) Skip ∷ [])
 
 fault_in_declared_again : IsLeastFault declared_again 36 8
-unfolding declared declarations first_declarations uses called used height twice_faults use_faults init_faults limit_faults entry_faults
+unfolding declared declarations first_declarations uses called used height twice_faults use_faults init_faults limit_faults entry_faults start_results
 fault_in_declared_again = least_is declared_again 36 8 refl
 
 -- rule M = skip
@@ -135,7 +135,7 @@ abbrev declared_from_the_start : Spec
 declared_from_the_start = text 47 (main 22 ∷ NamedRule (name 36 (codes "ANY")) [] Skip ∷ [])
 
 fault_in_declared_from_the_start : IsLeastFault declared_from_the_start 36 8
-unfolding declared declarations first_declarations uses called used height twice_faults use_faults init_faults limit_faults entry_faults
+unfolding declared declarations first_declarations uses called used height twice_faults use_faults init_faults limit_faults entry_faults start_results
 fault_in_declared_from_the_start = least_is declared_from_the_start 36 8 refl
 
 -- rule M = skip
@@ -144,7 +144,7 @@ abbrev parameter_twice : Spec
 parameter_twice = text 51 (main 22 ∷ Derived (name 39 d') (name 41 p' ∷ name 44 p' ∷ []) nought ∷ [])
 
 fault_in_parameter_twice : IsLeastFault parameter_twice 44 8
-unfolding declared declarations first_declarations uses called used height twice_faults use_faults init_faults limit_faults entry_faults
+unfolding declared declarations first_declarations uses called used height twice_faults use_faults init_faults limit_faults entry_faults start_results
 fault_in_parameter_twice = least_is parameter_twice 44 8 refl
 
 -- rule M = x := 0
@@ -152,7 +152,7 @@ abbrev unknown_target : Spec
 unknown_target = text 33 (NamedRule (name 22 M') [] (Assign (name 26 x') no_terms nought) ∷ [])
 
 fault_in_unknown_target : IsLeastFault unknown_target 26 9
-unfolding declared declarations first_declarations uses called used height twice_faults use_faults init_faults limit_faults entry_faults
+unfolding declared declarations first_declarations uses called used height twice_faults use_faults init_faults limit_faults entry_faults start_results
 fault_in_unknown_target = least_is unknown_target 26 9 refl
 
 -- enum E = { e }
@@ -161,7 +161,7 @@ abbrev element_with_argument : Spec
 element_with_argument = text 69 (Enum (name 22 E') (name 28 e' ∷ []) ∷ NamedRule (name 37 M') [] (Let (name 45 y') (applied (name 49 e')) Skip) ∷ [])
 
 fault_in_element_with_argument : IsLeastFault element_with_argument 49 10
-unfolding declared declarations first_declarations uses called used height twice_faults use_faults init_faults limit_faults entry_faults
+unfolding declared declarations first_declarations uses called used height twice_faults use_faults init_faults limit_faults entry_faults start_results
 fault_in_element_with_argument = least_is element_with_argument 49 10 refl
 
 -- rule M = let y = 0 in let z = y(0) in skip endlet endlet
@@ -169,7 +169,7 @@ abbrev bound_with_argument : Spec
 bound_with_argument = text 74 (NamedRule (name 22 M') [] (Let (name 30 y') nought (Let (name 43 z') (applied (name 47 y')) Skip)) ∷ [])
 
 fault_in_bound_with_argument : IsLeastFault bound_with_argument 47 10
-unfolding declared declarations first_declarations uses called used height twice_faults use_faults init_faults limit_faults entry_faults
+unfolding declared declarations first_declarations uses called used height twice_faults use_faults init_faults limit_faults entry_faults start_results
 fault_in_bound_with_argument = least_is bound_with_argument 47 10 refl
 
 -- function static g initially 1
@@ -178,7 +178,7 @@ abbrev static_target : Spec
 static_target = text 63 (Function (name 33 g') Static [] None (Some (Each (Plain (literal.Number one)))) ∷ NamedRule (name 52 M') [] (Assign (name 56 g') no_terms nought) ∷ [])
 
 fault_in_static_target : IsLeastFault static_target 56 11
-unfolding declared declarations first_declarations uses called used height twice_faults use_faults init_faults limit_faults entry_faults
+unfolding declared declarations first_declarations uses called used height twice_faults use_faults init_faults limit_faults entry_faults start_results
 fault_in_static_target = least_is static_target 56 11 refl
 
 -- rule M = let y = 0 in y := 0 endlet
@@ -186,16 +186,16 @@ abbrev bound_target : Spec
 bound_target = text 53 (NamedRule (name 22 M') [] (Let (name 30 y') nought (Assign (name 39 y') no_terms nought)) ∷ [])
 
 fault_in_bound_target : IsLeastFault bound_target 39 11
-unfolding declared declarations first_declarations uses called used height twice_faults use_faults init_faults limit_faults entry_faults
+unfolding declared declarations first_declarations uses called used height twice_faults use_faults init_faults limit_faults entry_faults start_results
 fault_in_bound_target = least_is bound_target 39 11 refl
 
 -- rule M = r
 -- rule r = M
 abbrev circle_of_calls : Spec
-circle_of_calls = text 39 (NamedRule (name 22 M') [] (Call (name 26 r') no_terms) ∷ NamedRule (name 33 r') [] (Call (name 37 M') no_terms) ∷ [])
+circle_of_calls = text 39 (NamedRule (name 22 M') [] (Call None (name 26 r') no_terms) ∷ NamedRule (name 33 r') [] (Call None (name 37 M') no_terms) ∷ [])
 
 fault_in_circle_of_calls : IsLeastFault circle_of_calls 22 12
-unfolding declared declarations first_declarations uses called used height twice_faults use_faults init_faults limit_faults entry_faults
+unfolding declared declarations first_declarations uses called used height twice_faults use_faults init_faults limit_faults entry_faults start_results
 fault_in_circle_of_calls = least_is circle_of_calls 22 12 refl
 
 -- rule M = skip
@@ -204,7 +204,7 @@ abbrev circle_of_uses : Spec
 circle_of_uses = text 45 (main 22 ∷ Derived (name 39 d') [] (Named (name 43 d') no_terms) ∷ [])
 
 fault_in_circle_of_uses : IsLeastFault circle_of_uses 39 13
-unfolding declared declarations first_declarations uses called used height twice_faults use_faults init_faults limit_faults entry_faults
+unfolding declared declarations first_declarations uses called used height twice_faults use_faults init_faults limit_faults entry_faults start_results
 fault_in_circle_of_uses = least_is circle_of_uses 39 13 refl
 
 -- without `init M`
@@ -213,7 +213,7 @@ abbrev no_start : Spec
 no_start = with_length 24 (main 15 ∷ [])
 
 fault_in_no_start : IsLeastFault no_start 24 14
-unfolding declared declarations first_declarations uses called used height twice_faults use_faults init_faults limit_faults entry_faults
+unfolding declared declarations first_declarations uses called used height twice_faults use_faults init_faults limit_faults entry_faults start_results
 fault_in_no_start = least_is no_start 24 14 refl
 
 -- init r
@@ -223,7 +223,7 @@ abbrev two_starts : Spec
 two_starts = text 52 (Init (name 22 r') ∷ main 29 ∷ NamedRule (name 43 r') [] Skip ∷ [])
 
 fault_in_two_starts : IsLeastFault two_starts 22 14
-unfolding declared declarations first_declarations uses called used height twice_faults use_faults init_faults limit_faults entry_faults
+unfolding declared declarations first_declarations uses called used height twice_faults use_faults init_faults limit_faults entry_faults start_results
 fault_in_two_starts = least_is two_starts 22 14 refl
 
 -- rule M(p) = skip
@@ -231,7 +231,7 @@ abbrev start_with_parameter : Spec
 start_with_parameter = text 34 (NamedRule (name 22 M') (name 24 p' ∷ []) Skip ∷ [])
 
 fault_in_start_with_parameter : IsLeastFault start_with_parameter 15 14
-unfolding declared declarations first_declarations uses called used height twice_faults use_faults init_faults limit_faults entry_faults
+unfolding declared declarations first_declarations uses called used height twice_faults use_faults init_faults limit_faults entry_faults start_results
 fault_in_start_with_parameter = least_is start_with_parameter 15 14 refl
 
 -- universe U = 0 .. 4096
@@ -240,7 +240,7 @@ abbrev wide_universe : Spec
 wide_universe = text 54 (Universe (name 26 U') zero' (number 4096 (omega arith)) ∷ main 45 ∷ [])
 
 fault_in_wide_universe : IsLeastFault wide_universe 26 15
-unfolding declared declarations first_declarations uses called used height twice_faults use_faults init_faults limit_faults entry_faults
+unfolding declared declarations first_declarations uses called used height twice_faults use_faults init_faults limit_faults entry_faults start_results
 fault_in_wide_universe = least_is wide_universe 26 15 refl
 
 -- universe U = 0 .. 0
@@ -250,7 +250,7 @@ abbrev entry_twice : Spec
 entry_twice = text 114 (Universe (name 26 U') zero' zero' ∷ Function (name 53 g') Static (name 57 U' ∷ []) None (Some (Entries (entry 71 zero' ∷ entry 85 zero' ∷ []))) ∷ main 105 ∷ [])
 
 fault_in_entry_twice : IsLeastFault entry_twice 85 16
-unfolding declared declarations first_declarations uses called used height twice_faults use_faults init_faults limit_faults entry_faults
+unfolding declared declarations first_declarations uses called used height twice_faults use_faults init_faults limit_faults entry_faults start_results
 fault_in_entry_twice = least_is entry_twice 85 16 refl
 
 -- universe U = 0 .. 0
@@ -260,7 +260,7 @@ abbrev entry_outside : Spec
 entry_outside = text 100 (Universe (name 26 U') zero' zero' ∷ Function (name 53 g') Static (name 57 U' ∷ []) None (Some (Entries (entry 71 one ∷ []))) ∷ main 91 ∷ [])
 
 fault_in_entry_outside : IsLeastFault entry_outside 71 16
-unfolding declared declarations first_declarations uses called used height twice_faults use_faults init_faults limit_faults entry_faults
+unfolding declared declarations first_declarations uses called used height twice_faults use_faults init_faults limit_faults entry_faults start_results
 fault_in_entry_outside = least_is entry_outside 71 16 refl
 
 -- ---- a later declaration counts for nothing else
