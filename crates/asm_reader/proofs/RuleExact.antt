@@ -44,6 +44,12 @@ has_skip : HasText skip_rule
 unfolding skip_rule
 has_skip = has_makes (token (Word Skip)) (λ _. source.Skip) (has_token (Word Skip))
 
+abbrev as_value : source.Term → source.Term ⊎ Applied
+as_value t = inl t
+
+abbrev as_called : Applied → source.Term ⊎ Applied
+as_called c = inr c
+
 module _ (text : List ℕ) (X : Part source.Term) (S : Part source.Rule) where
   -- ":=" term
   abbrev assigned : Part source.Term
@@ -55,7 +61,7 @@ module _ (text : List ℕ) (X : Part source.Term) (S : Part source.Rule) where
 
   -- what stands behind a name with its arguments
   abbrev behind_name : Part (source.Term ⊎ Applied)
-  behind_name = (assigned makes inl) or (called makes inr)
+  behind_name = (assigned makes as_value) or (called makes as_called)
 
   -- the three productions that begin with a name, as one
   abbrev named : Part source.Rule
@@ -97,14 +103,14 @@ module _ (text : List ℕ) (X : Part source.Term) (S : Part source.Rule) where
   named_narrow ts x (inr (inl c)) = ((c.0.0, Some (inl c.0.1)), record { front = c.1.front; back = c.1.back; whole = c.1.whole; first = c.1.first; second = inl (c.0.1, c.1.second, refl) }, c.2)
   named_narrow ts x (inr (inr c)) = ((c.0.0, Some (inr c.0.1)), record { front = c.1.front; back = c.1.back; whole = c.1.whole; first = c.1.first; second = inr (c.0.1, c.1.second, refl) }, c.2)
 
-  begins_assigned : Begins (Symbol Assign ∷ []) (assigned makes inl {B = Applied})
-  begins_assigned = begins_makes (Symbol Assign ∷ []) assigned inl (begins_past (Symbol Assign) (value text X S))
+  begins_assigned : Begins (Symbol Assign ∷ []) (assigned makes as_value)
+  begins_assigned = begins_makes (Symbol Assign ∷ []) assigned as_value (begins_past (Symbol Assign) (value text X S))
 
-  begins_called : Begins (Symbol LeftArrow ∷ []) (called makes inr {A = source.Term})
-  begins_called = begins_makes (Symbol LeftArrow ∷ []) called inr (begins_past (Symbol LeftArrow) (applied text X))
+  begins_called : Begins (Symbol LeftArrow ∷ []) (called makes as_called)
+  begins_called = begins_makes (Symbol LeftArrow ∷ []) called as_called (begins_past (Symbol LeftArrow) (applied text X))
 
   begins_behind_name : Begins behind_first behind_name
-  begins_behind_name = begins_or (Symbol Assign ∷ []) (Symbol LeftArrow ∷ []) behind_first (assigned makes inl) (called makes inr) begins_assigned begins_called refl refl
+  begins_behind_name = begins_or (Symbol Assign ∷ []) (Symbol LeftArrow ∷ []) behind_first (assigned makes as_value) (called makes as_called) begins_assigned begins_called refl refl
 
   begins_named : Begins (kind.Name ∷ []) named_rules
   begins_named ts x p = begins_makes (kind.Name ∷ []) (applied text X then optional behind_name) named_rule (begins_then (kind.Name ∷ []) (applied text X) (optional behind_name) (begins_applied text X)) ts x (named_narrow ts x p)
@@ -143,7 +149,7 @@ module _ (text : List ℕ) (n : ℕ) (term : Reader source.Term) (P N : Part sou
     (rule : Reader source.Rule) (Q M : Part source.Rule) (has : HasText Q) (starts_rule : Begins rule_first Q) (first_rule : Begins rule_first M)
     (exact_rule : (m : ℕ) → n ≡ suc m → IsExact (depth m false) (depth m false) rule_more Q M rule) where
   abbrev behind_at : Reader (source.Term ⊎ Applied)
-  behind_at = either_of (Symbol Assign ∷ []) (mapped inl (value_at text n term rule)) (mapped inr (called_at text n term rule))
+  behind_at = either_of (Symbol Assign ∷ []) (mapped as_value (value_at text n term rule)) (mapped as_called (called_at text n term rule))
 
   exact_value : IsExact (depth n false) (depth n false) term_more (assigned text P Q) (assigned text N M) (value_at text n term rule)
   exact_value = exact_past n false (depth n false) term_more (Symbol Assign) (alike_symbol Assign) (refl, refl, refl) (value text P Q) (value text N M) (has_disjunction text P) (disjunction_at text n term)
@@ -154,10 +160,10 @@ module _ (text : List ℕ) (n : ℕ) (term : Reader source.Term) (P N : Part sou
       (exact_applied text n term P N some starts first exact false)
 
   exact_behind_name : IsExact (depth n false) (depth n false) term_more (behind_name text P Q) (behind_name text N M) behind_at
-  exact_behind_name = exact_or (depth n false) (depth n false) term_more primary_more term_more (Symbol Assign ∷ []) (Symbol LeftArrow ∷ []) (assigned text P Q makes inl) (called text P Q makes inr) (assigned text N M makes inl) (called text N M makes inr)
-      (begins_assigned text N M) (begins_called text N M) refl refl refl (mapped inl (value_at text n term rule)) (mapped inr (called_at text n term rule))
-      (exact_makes (depth n false) (depth n false) term_more (assigned text P Q) (assigned text N M) inl (value_at text n term rule) exact_value)
-      (exact_makes (depth n false) (depth n false) primary_more (called text P Q) (called text N M) inr (called_at text n term rule) exact_called)
+  exact_behind_name = exact_or (depth n false) (depth n false) term_more primary_more term_more (Symbol Assign ∷ []) (Symbol LeftArrow ∷ []) (assigned text P Q makes as_value) (called text P Q makes as_called) (assigned text N M makes as_value) (called text N M makes as_called)
+      (begins_assigned text N M) (begins_called text N M) refl refl refl (mapped as_value (value_at text n term rule)) (mapped as_called (called_at text n term rule))
+      (exact_makes (depth n false) (depth n false) term_more (assigned text P Q) (assigned text N M) as_value (value_at text n term rule) exact_value)
+      (exact_makes (depth n false) (depth n false) primary_more (called text P Q) (called text N M) as_called (called_at text n term rule) exact_called)
 
   exact_named : IsExact (depth n false) (depth n false) rule_more (named_rules text P Q) (named_rules text N M) (named_rule_at text n term rule)
   unfolding named_rule_at
