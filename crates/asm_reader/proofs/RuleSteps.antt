@@ -34,58 +34,18 @@ module _ {A : Type 0} (a b : Kind) (f g : Reader A) where
   one_test true y ts p = refl
   one_test false y ts p = absurd cc
 
-  other_test : (x y : Bool) (ts : List Token) → (x || false) ≡ false → (y || false) ≡ true → by_tests x y ts ≡ mapped Some g ts
-  other_test true y ts p q = absurd cc
-  other_test false true ts p q = refl
-  other_test false false ts p q = absurd cc
-
-  no_test : (x y : Bool) (ts : List Token) → (x || false) ≡ false → (y || false) ≡ false → by_tests x y ts ≡ Ok (None, ts)
-  no_test true y ts p q = absurd cc
-  no_test false true ts p q = absurd cc
-  no_test false false ts p q = refl
-
   pub one_behind : (ts : List Token) → begins (a ∷ []) ts ≡ true → behind ts ≡ mapped Some f ts
   one_behind [] p = absurd cc
   one_behind (t ∷ ts) p = one_test (alike a t.kind) (alike b t.kind) (t ∷ ts) p
 
-  pub other_behind : (ts : List Token) → begins (a ∷ []) ts ≡ false → begins (b ∷ []) ts ≡ true → behind ts ≡ mapped Some g ts
-  other_behind [] p q = absurd cc
-  other_behind (t ∷ ts) p q = other_test (alike a t.kind) (alike b t.kind) (t ∷ ts) p q
-
-  pub none_behind : (ts : List Token) → begins (a ∷ []) ts ≡ false → begins (b ∷ []) ts ≡ false → behind ts ≡ Ok (None, ts)
-  none_behind [] p q = refl
-  none_behind (t ∷ ts) p q = no_test (alike a t.kind) (alike b t.kind) (t ∷ ts) p q
-
 -- ---- what begins with a name
 
 module _ (text : List ℕ) (n : ℕ) (term : Reader source.Term) (rule : Reader source.Rule) (ts ts1 : List Token) (first : Applied) (read : applied_at text n term ts ≡ Ok (first, ts1)) where
-  pub call_is : begins (Symbol Assign ∷ []) ts1 ≡ false → begins (Symbol LeftArrow ∷ []) ts1 ≡ false → named_rule_at text n term rule ts ≡ Ok (source.Call None first.0 first.1, ts1)
-  unfolding named_rule_at
-  call_is p q = rw (read, none_behind (Symbol Assign) (Symbol LeftArrow) (mapped inl (value_at text n term rule)) (mapped inr (called_at text n term rule)) ts1 p q) refl
+  module _ (ts2 : List Token) (word : Token) (sees : begins (Symbol Assign ∷ []) ts1 ≡ true) (taken : expect (Symbol Assign) ts1 ≡ Ok (word, ts2)) where
+    pub assignment_is : (ts3 : List Token) (t : source.Term) → disjunction_at text n term ts2 ≡ Ok (t, ts3) → named_rule_at text n term rule ts ≡ Ok (source.Assign first.0 first.1 t, ts3)
+    unfolding named_rule_at
+    assignment_is ts3 t p = rw (read, one_behind (Symbol Assign) (Symbol LeftArrow) (mapped inl (value_at text n term rule)) (mapped inr (called_at text n term rule)) ts1 sees, taken, p) refl
 
-  module _ (ts2 : List Token) (word : Token) where
-    module _ (sees : begins (Symbol Assign ∷ []) ts1 ≡ true) (taken : expect (Symbol Assign) ts1 ≡ Ok (word, ts2)) where
-      pub assignment_is : (ts3 : List Token) (t : source.Term) → disjunction_at text n term ts2 ≡ Ok (t, ts3) → named_rule_at text n term rule ts ≡ Ok (source.Assign first.0 first.1 t, ts3)
-      unfolding named_rule_at
-      assignment_is ts3 t p = rw (read, one_behind (Symbol Assign) (Symbol LeftArrow) (mapped inl (value_at text n term rule)) (mapped inr (called_at text n term rule)) ts1 sees, taken, p) refl
-
-      pub value_fails : (e : ReadError) → disjunction_at text n term ts2 ≡ Err e → named_rule_at text n term rule ts ≡ Err e
-      unfolding named_rule_at
-      value_fails e p = rw (read, one_behind (Symbol Assign) (Symbol LeftArrow) (mapped inl (value_at text n term rule)) (mapped inr (called_at text n term rule)) ts1 sees, taken, p) refl
-
-    module _ (none : begins (Symbol Assign ∷ []) ts1 ≡ false) (sees : begins (Symbol LeftArrow ∷ []) ts1 ≡ true) (taken : expect (Symbol LeftArrow) ts1 ≡ Ok (word, ts2)) where
-      pub answering_call_is : (ts3 : List Token) (called : Applied) → applied_at text n term ts2 ≡ Ok (called, ts3) → named_rule_at text n term rule ts ≡ Ok (source.Call (Some first) called.0 called.1, ts3)
-      unfolding named_rule_at
-      answering_call_is ts3 called p = rw (read, other_behind (Symbol Assign) (Symbol LeftArrow) (mapped inl (value_at text n term rule)) (mapped inr (called_at text n term rule)) ts1 none sees, taken, p) refl
-
-      pub called_fails : (e : ReadError) → applied_at text n term ts2 ≡ Err e → named_rule_at text n term rule ts ≡ Err e
-      unfolding named_rule_at
-      called_fails e p = rw (read, other_behind (Symbol Assign) (Symbol LeftArrow) (mapped inl (value_at text n term rule)) (mapped inr (called_at text n term rule)) ts1 none sees, taken, p) refl
-
-  pub no_value : (e : ReadError) → begins (Symbol Assign ∷ []) ts1 ≡ true → expect (Symbol Assign) ts1 ≡ Err e → named_rule_at text n term rule ts ≡ Err e
-  unfolding named_rule_at
-  no_value e sees p = rw (read, one_behind (Symbol Assign) (Symbol LeftArrow) (mapped inl (value_at text n term rule)) (mapped inr (called_at text n term rule)) ts1 sees, p) refl
-
-  pub none_called : (e : ReadError) → begins (Symbol Assign ∷ []) ts1 ≡ false → begins (Symbol LeftArrow ∷ []) ts1 ≡ true → expect (Symbol LeftArrow) ts1 ≡ Err e → named_rule_at text n term rule ts ≡ Err e
-  unfolding named_rule_at
-  none_called e none sees p = rw (read, other_behind (Symbol Assign) (Symbol LeftArrow) (mapped inl (value_at text n term rule)) (mapped inr (called_at text n term rule)) ts1 none sees, p) refl
+    pub value_fails : (e : ReadError) → disjunction_at text n term ts2 ≡ Err e → named_rule_at text n term rule ts ≡ Err e
+    unfolding named_rule_at
+    value_fails e p = rw (read, one_behind (Symbol Assign) (Symbol LeftArrow) (mapped inl (value_at text n term rule)) (mapped inr (called_at text n term rule)) ts1 sees, taken, p) refl
