@@ -77,7 +77,7 @@ number_names_none spec (Some (number.Derived d)) is vs = body_names_none (meanin
 number_names_none spec (Some (number.Rule r)) is vs = body_names_none (meaning_at (numbers.rules_of spec) r) vs
 
 -- a name that stands for no function is updated nowhere
-pub other_names_none : (spec : Spec) (x : Name) (it : Option Named) → it ≡ named spec x → function_number it ≡ None → (vs : List Value) (v : Value)
-    → assigned (declared (program_of spec) x) vs v ≡ none
+pub other_names_none : (spec : Spec) (x : Name) (it : Option Named) → it ≡ named spec x → function_number it ≡ None → (vs : List Value)
+    → location_of (declared (program_of spec) x) vs ≡ None
 other_names_none spec x it is other vs =
     ap (λ o. location_of o vs) (program_declares spec x ∙ ap (numbered spec) (sym is)) ∙ number_names_none spec it other vs

@@ -3,6 +3,7 @@ ghost use Rattle.std.specs.Prelude.{◌≡◌, slice_index_or};
 ghost use Rattle.std.specs.List.{position};
 ghost use Rattle.std.specs.Option.{option_map};
 ghost use Rattle.asm_state.specs.declared.value.Value.TheVariants.{Undef};
+ghost use Rattle.asm_state.specs.Signature.{Shape};
 ghost use Rattle.asm_syntax.specs.Tree as tree;
 ghost use Rattle.asm_eval.specs.Environments.{environment, binding, text_of, beside};
 ghost use Rattle.asm_eval.specs.Program.{bound_to, is_name};
@@ -16,7 +17,7 @@ use asm_syntax::term::Term;
 /// What the name is bound to, by the innermost binder of its text.
 #[tactic(auto, using(crate::proofs::Bound::bound_value, crate::proofs::Bound::bound_term))]
 pub(crate) fn find<'a>(signature: &Signature, env: &'a Env<'a>, name: &Name) -> Binding<'a>
-    ensures { binding signature.now result ≡ bound_to (environment signature.now env.now) name.now.text }
+    ensures { (shape : Shape) → signature.now ≡ shape → binding shape result ≡ bound_to (environment shape env.now) name.now.text }
 {
     let mut rest = env;
     while let Env::One {

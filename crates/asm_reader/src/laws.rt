@@ -5,6 +5,7 @@ ghost use Rattle.asm_syntax.specs.declared.token.Token.{Token};
 ghost use Rattle.asm_syntax.specs.SourceTree as source;
 ghost use Rattle.asm_reader.specs.declared.error.ReadError.{ReadError};
 ghost use Rattle.asm_reader.specs.Grammar.{specification};
+ghost use Rattle.asm_reader.specs.OldGrammar.{StillSpells, StillIsSpecification};
 ghost use Rattle.asm_reader.specs.Specification.{IsSpecification};
 ghost use Rattle.asm_reader.specs.Refusals.{IsRefusal};
 ghost use Rattle.asm_reader.specs.ScriptLines.{Line, Script};
@@ -16,6 +17,13 @@ use asm_syntax::{no_tokens_beside_a_fault, one_fault, one_list_of_tokens, tokens
 /// Tokens spell one tree at most, at any depth.
 pub fn one_tree_of_tokens()
     ensures { (text : List ℕ) (ts : List Token) (s t : source.Spec) → specification text ts s → specification text ts t → s ≡ t }
+{}
+
+/// What spelled a specification before there were `while`, `<-` and `result` spells the same one still:
+/// tokens, at any depth, and texts.
+pub fn old_texts()
+    ensures tokens { StillSpells }
+    ensures texts { StillIsSpecification }
 {}
 
 /// A text has one specification at most.

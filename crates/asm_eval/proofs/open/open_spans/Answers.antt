@@ -27,7 +27,6 @@ loop-next-preserved c =
     let a = c.args in
     let l = c.loop-next in
     let R = meant a.piece.now.rule.now in
-    let e = environment s.shape a.piece.now.env in
     let p = a.piece.now.path in
     let more = c.in_ok-push.ensures.items in
     let least = c.min.ensures in
@@ -43,6 +42,7 @@ loop-next-preserved c =
       low = omega (arith, low);
       high = off;
       does = λ s A is.
+          let e = environment s.shape a.piece.now.env in
           let rest = span_does s A e p R end a.to in
           more_both (piece_does s A) l.pieces.items c.push.new.self.items _ rest more
           ∙ ap (both (pieces_do s A l.pieces.items))
