@@ -1,5 +1,5 @@
 -- A name behind `<-` is looked at as one in a plain call.
-use Rattle.std.proofs.Common.{◌≡◌, ℕ, Bool, Option, Some, refl}
+use Rattle.std.proofs.Common.{◌≡◌, Bool, Option, Some, refl}
 use Rattle.asm_check.specs.Names.{Meaning, NamedRule, AsRule, AsAnswering, is_known, arguments_of}
 use Rattle.asm_check.specs.Ways.{is_call}
 

@@ -1,12 +1,10 @@
 -- Rules that answer, as the table says.
-use Rattle.std.proofs.Common.{◌≡◌, ℕ, ◌<◌, Bool, true, false, not, ◌&&◌, ◌||◌, List, [], ◌∷◌, length, map, get_or, refl, sym, ap, ◌∙◌}
+use Rattle.std.proofs.Common.{◌≡◌, ℕ, ◌<◌, Bool, false, ◌||◌, List, [], ◌∷◌, length, map, get_or, refl, sym, ap, ◌∙◌}
 use Rattle.std.specs.List.{list_any}
 use Rattle.std.proofs.lemmas.List.{get_or-map}
-use Rattle.std.proofs.Math.Bool.{or-false}
 use Rattle.asm_syntax.specs.SourceTree.{Spec}
 use Rattle.asm_check.specs.Answering.{is_answering, AreAnswering}
-use Rattle.asm_check.specs.FaultLists.{is_plain_call, is_misused}
-use Rattle.asm_check.specs.Names.{Text, Role, InTerm, AsTarget, AsRule, AsAnswering, AsUniverse, AsCodomain, AsElement, AsResult, Use, declared, answers, is_result}
+use Rattle.asm_check.specs.Names.{Text, declared, answers, is_result}
 use Rattle.asm_check.specs.Tables.{Entry, IsTableOf, text_at}
 use Rattle.asm_check.specs.UseViews.{use_of}
 use Rattle.asm_check.specs.declared.uses.Use.{Use as CodeUse}

@@ -1,4 +1,4 @@
-//! Uses of unknown names, with wrong numbers of arguments, as targets that can't be assigned, or of `result` where no rule answers.
+//! Uses of unknown names, with wrong numbers of arguments, or as targets that can't be assigned; with them, misuses of `result`.
 ghost use Rattle.std.specs.Prelude.{◌≡◌, OnOk, map, flat_map};
 ghost use Rattle.asm_syntax.specs.SourceTree as source;
 ghost use Rattle.asm_syntax.specs.Views.{spec_of};
