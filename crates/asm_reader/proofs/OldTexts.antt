@@ -1,14 +1,17 @@
 -- What spelled a specification by the old grammar spells it still.
 use Rattle.std.proofs.Common.{ℕ, zero, suc, List, inl, inr}
 use Rattle.asm_syntax.specs.SourceTree as source
+use Rattle.asm_reader.specs.Levels.{at_depth}
 use Rattle.asm_reader.specs.Parts.{Part, nothing, at_any_depth}
 use Rattle.asm_reader.specs.TermGrammar.{answer, term_over, term_within, any_term}
 use Rattle.asm_reader.specs.RuleGrammar.{value, block_rule, rule_over, rule_within, any_rule}
-use Rattle.asm_reader.specs.OldGrammar.{old_term_within, old_rule_over, old_rule_within, StillSpells}
+use Rattle.asm_reader.specs.Specification.{max_nesting}
+use Rattle.asm_reader.specs.OldGrammar.{old_term_within, old_rule_over, old_rule_within, StillSpells, StillIsSpecification}
 use Rattle.asm_reader.proofs.Wider.{Includes}
 use Rattle.asm_reader.proofs.TermWider.{wider_disjunction}
 use Rattle.asm_reader.proofs.RuleWider.{wider_call, wider_assignment, wider_par, wider_seq, wider_if, wider_let, wider_forall, wider_choose, wider_iterate}
 use Rattle.asm_reader.proofs.ItemWider.{wider_specification}
+use Rattle.asm_reader.proofs.OldTokens.{old_tokens, same_depth}
 
 module _ (text : List ℕ) where
   still_term : (n : ℕ) → Includes (old_term_within text n) (term_within text n)
@@ -41,3 +44,6 @@ module _ (text : List ℕ) where
 pub still_spells : StillSpells
 still_spells text = wider_specification text (at_any_depth (old_term_within text)) (any_term text) (at_any_depth (old_rule_within text)) (any_rule text)
     (λ ts x p. (p.0, still_term text p.0 ts x p.1)) (λ ts x p. (p.0, still_rule text p.0 ts x p.1))
+
+pub still_is_specification : StillIsSpecification
+still_is_specification text s m = (m.0, m.1, (still_spells text m.0 s m.2, rw (same_depth m.0 (at_depth max_nesting) ((old_tokens text).old m.0 s m.2)) m.3))

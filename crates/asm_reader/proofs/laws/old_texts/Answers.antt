@@ -1,5 +1,5 @@
-use Rattle.asm_reader.proofs.OldTexts.{still_spells}
+use Rattle.asm_reader.proofs.OldTexts.{still_spells, still_is_specification}
 use Rattle.asm_reader.proofs.laws.old_texts.Goals as goal
 
 pub returns : goal.returns
-returns c = still_spells
+returns c = record { tokens = still_spells; texts = still_is_specification }
