@@ -308,7 +308,7 @@ same_openers k e = rw (alike_none k e).0 refl
 same_closers : (k : Kind) → is_one_of new_words k ≡ false → is_one_of closers k ≡ is_one_of old_closers k
 same_closers k e = rw (alike_none k e).1 refl
 
-same_opens : (q : Bool) (k : Kind) → is_one_of new_words k ≡ false → opens q k ≡ opens_by old_openers old_closers q k
+same_opens : (q : Bool) (k : Kind) → is_one_of new_words k ≡ false → opens q k ≡ opens_by old_openers q k
 same_opens true k e = rw (same_openers k e) refl
 same_opens false k e = same_openers k e
 
