@@ -1,5 +1,5 @@
 -- Tokens that spell something by the old grammar have no `while` and no `endwhile`.
-use Rattle.std.proofs.Common.{◌≡◌, ◌⊎◌, ℕ, zero, suc, Bool, true, false, ◌||◌, List, [], ◌∷◌, ◌++◌, Option, Some, None, is_some, refl, sym, ap, ◌∙◌, inl, inr}
+use Rattle.std.proofs.Common.{◌≡◌, ℕ, zero, suc, Bool, true, false, ◌||◌, List, [], ◌∷◌, ◌++◌, Option, Some, None, is_some, refl, sym, ap, ◌∙◌, inl, inr}
 use Rattle.asm_syntax.specs.declared.token.Kind.{Kind}
 use Rattle.asm_syntax.specs.declared.token.Kind.TheVariants.{Word}
 use Rattle.asm_syntax.specs.declared.token.Word.TheVariants.{While, EndWhile}
@@ -308,7 +308,7 @@ same_openers k e = rw (alike_none k e).0 refl
 same_closers : (k : Kind) → is_one_of new_words k ≡ false → is_one_of closers k ≡ is_one_of old_closers k
 same_closers k e = rw (alike_none k e).1 refl
 
-same_opens : (q : Bool) (k : Kind) → is_one_of new_words k ≡ false → opens q k ≡ opens_by old_openers old_closers q k
+same_opens : (q : Bool) (k : Kind) → is_one_of new_words k ≡ false → opens q k ≡ opens_by old_openers q k
 same_opens true k e = rw (same_openers k e) refl
 same_opens false k e = same_openers k e
 

@@ -1,12 +1,10 @@
 -- Lines of a script that are found by their order.
-use Rattle.std.proofs.Common.{◌≡◌, ℕ, suc, ◌+◌, ◌<◌, ◌≤◌, ◌&&◌, ◌||◌, not, Bool, true, false, cond, List, [], ◌∷◌, ◌++◌, length, Option, Some, None, is_some, Vec, Global, Ordering, Less, Equal, Greater, refl, sym, ap, subst, ◌∙◌, arith, true≢false, nat_eq, unwrap_or}
+use Rattle.std.proofs.Common.{◌≡◌, ℕ, ◌+◌, ◌<◌, ◌≤◌, ◌&&◌, ◌||◌, Bool, true, false, cond, List, [], ◌∷◌, ◌++◌, length, Option, Some, None, is_some, Vec, Global, Ordering, Less, Equal, Greater, refl, sym, ap, ◌∙◌, arith, true≢false, nat_eq, unwrap_or}
 use Rattle.std.specs.BTreeMap.{insert_entry}
-use Rattle.std.specs.Bool.{Decides, one_answer}
 use Rattle.std.specs.Cmp.{both_tied, unsigned_ties, nat_eq_equiv}
 use Rattle.std.specs.Cmp.Lexicographic.{pointwise, slice_cmp, lists_ties, bytes_decides, nat_list_eq_equiv}
 use Rattle.std.specs.List.{list_any}
-use Rattle.std.specs.Map.{lookup}
-use Rattle.std.specs.Ordering.{is_eq, match_ordering, nat_cmp, ordering_then}
+use Rattle.std.specs.Ordering.{is_eq, match_ordering, nat_cmp}
 use Rattle.std.proofs.lemmas.Bool.{eqb-true}
 use Rattle.asm_reader.specs.Places.{said, is_path, path_number, is_place, number_at, at_path, found, AreFound, IsNumbered}
 use Rattle.asm_reader.specs.ScriptLines.{Line, Script, is_line_of, pick}

@@ -1,5 +1,5 @@
 -- The readers of rules are exact.
-use Rattle.std.proofs.Common.{◌≡◌, ◌⊎◌, ℕ, zero, suc, ◌+◌, Bool, false, List, [], ◌∷◌, Option, Some, None, refl, sym, subst, arith, inl, inr}
+use Rattle.std.proofs.Common.{◌≡◌, ◌⊎◌, ℕ, zero, suc, ◌+◌, Bool, false, List, [], ◌∷◌, Some, None, refl, sym, subst, arith, inl, inr}
 use Rattle.std.proofs.lemmas.List.{append-nil}
 use Rattle.asm_syntax.specs.declared.token.Kind.{Kind}
 use Rattle.asm_syntax.specs.declared.token.Kind.TheVariants as kind
@@ -9,7 +9,7 @@ use Rattle.asm_syntax.specs.declared.token.Word.TheVariants.{Skip, Result}
 use Rattle.asm_syntax.specs.declared.token.Token.{Token}
 use Rattle.asm_syntax.specs.SourceTree as source
 use Rattle.asm_reader.specs.Parts.{Part, token, ◌then◌, ◌or◌, optional, ◌makes◌, nothing, past}
-use Rattle.asm_reader.specs.Steps.{Reader, refuse, expect, pair_of, either_of, option_of, past_of, mapped}
+use Rattle.asm_reader.specs.Steps.{Reader, refuse, expect, pair_of, either_of, mapped}
 use Rattle.asm_reader.specs.TermGrammar.{applied, result_name, term_within, any_term}
 use Rattle.asm_reader.specs.TermReading.{applied_at, result_at, disjunction_at, term_at}
 use Rattle.asm_reader.specs.RuleGrammar.{skip_rule, call, assignment, answering_call, value, result_rule, block_rule, rule_over, rule_within, any_rule}

@@ -23,16 +23,16 @@ abbrev pub less_one : ℕ → Option ℕ
 less_one zero = None
 less_one (suc n) = Some n
 
--- where the first of these kinds open levels, and the second close them
-module _ (opening closing : List Kind) where
-  -- `forall` behind a `(` is that of a term, which has no end word
-  abbrev pub opens_by : Bool → Kind → Bool
-  opens_by true k = if alike (Word words.Forall) k then false else is_one_of opening k
-  opens_by false k = is_one_of opening k
+-- `forall` behind a `(` is that of a term, which has no end word
+abbrev pub opens_by : (opening : List Kind) → Bool → Kind → Bool
+opens_by opening true k = if alike (Word words.Forall) k then false else is_one_of opening k
+opens_by opening false k = is_one_of opening k
 
+-- where the one kinds open levels, and the others close them
+module _ (opening closing : List Kind) where
   abbrev pub after_token_by : Depth → Token → Depth
   after_token_by d t = record {
-    left = if opens_by d.in_front t.kind then option_and_then less_one d.left else (if is_one_of closing t.kind then option_and_then (λ n. Some (suc n)) d.left else d.left);
+    left = if opens_by opening d.in_front t.kind then option_and_then less_one d.left else (if is_one_of closing t.kind then option_and_then (λ n. Some (suc n)) d.left else d.left);
     in_front = alike (Symbol symbols.Open) t.kind;
   }
 
@@ -41,7 +41,7 @@ module _ (opening closing : List Kind) where
   depth_by d (t ∷ ts) = depth_by (after_token_by d t) ts
 
 abbrev pub opens : Bool → Kind → Bool
-opens = opens_by openers closers
+opens = opens_by openers
 
 abbrev pub after_token : Depth → Token → Depth
 after_token = after_token_by openers closers

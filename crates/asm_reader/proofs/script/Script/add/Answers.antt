@@ -1,8 +1,6 @@
-use Rattle.std.proofs.Common.{◌≡◌, ℕ, List, [], ◌∷◌, ◌++◌, map, false, true, is_some, None, ap, sym, subst, ◌∙◌}
+use Rattle.std.proofs.Common.{◌≡◌, [], ◌∷◌, ◌++◌, map, is_some, None, ap, sym, subst, ◌∙◌}
 use Rattle.std.proofs.lemmas.List.{map-append}
-use Rattle.std.specs.List.{list_any}
 use Rattle.asm_reader.specs.Places.{AreFound, path_number, said}
-use Rattle.asm_reader.specs.ScriptLines.{is_line_of}
 use Rattle.asm_reader.specs.Spots.{line_said}
 use Rattle.asm_reader.proofs.Placed.{any_said, none_of, numbered_found, line_found}
 use Rattle.asm_reader.proofs.script.Script.add.Goals as goal
