@@ -8,7 +8,7 @@ use Rattle.asm_reader.specs.declared.script_error.ScriptError.{ScriptError}
 use Rattle.asm_reader.specs.ScriptLines.{Script}
 use Rattle.asm_reader.specs.ScriptText.{IsScript, IsScriptRefusal}
 use Rattle.asm_check.specs.declared.error.FaultKind.{FaultKind}
-use Rattle.asm_check.specs.declared.error.FaultKind.TheVariants.{Twice, Unknown, Arity, NotControlled, CyclicRule, CyclicDerived, Init, TooMany, TableEntry}
+use Rattle.asm_check.specs.declared.error.FaultKind.TheVariants.{Twice, Unknown, Arity, NotControlled, CyclicRule, CyclicDerived, Init, TooMany, TableEntry, ResultUse}
 use Rattle.asm_check.specs.declared.error.CheckError.{CheckError}
 use Rattle.asm_check.specs.Errors.{number_of}
 use Rattle.asm_check.specs.Faults.{IsWellFormed, IsLeastFault}
@@ -29,7 +29,8 @@ kind_at n =
     (cond (nat_eq n 12) CyclicRule
     (cond (nat_eq n 13) CyclicDerived
     (cond (nat_eq n 14) Init
-    (cond (nat_eq n 15) TooMany TableEntry)))))))
+    (cond (nat_eq n 15) TooMany
+    (cond (nat_eq n 16) TableEntry ResultUse))))))))
 
 back : (kind : FaultKind) → kind_at (number_of kind) ≡ kind
 unfolding kind_at
@@ -42,6 +43,7 @@ back CyclicDerived = refl
 back Init = refl
 back TooMany = refl
 back TableEntry = refl
+back ResultUse = refl
 
 same_error : (e f : CheckError) → e.at ≡ f.at → number_of e.kind ≡ number_of f.kind → e ≡ f
 same_error e f at number =

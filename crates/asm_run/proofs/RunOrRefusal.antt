@@ -10,10 +10,10 @@ use Rattle.asm_reader.specs.ScriptLines.{Script}
 use Rattle.asm_reader.specs.ScriptText.{IsScript, IsScriptRefusal}
 use Rattle.asm_check.specs.declared.error.CheckError.{CheckError}
 use Rattle.asm_check.specs.Errors.{number_of}
-use Rattle.asm_check.specs.Faults.{IsFault, IsLeastFault, twice, unknown, arity, not_controlled, cyclic_rule, cyclic_derived, init, too_many, table_entry}
+use Rattle.asm_check.specs.Faults.{IsFault, IsLeastFault, twice, unknown, arity, not_controlled, cyclic_rule, cyclic_derived, init, too_many, table_entry, result_use}
 use Rattle.asm_check.specs.Laws.{LeastExists}
 use Rattle.asm_check.specs.declared.error.FaultKind.{FaultKind}
-use Rattle.asm_check.specs.declared.error.FaultKind.TheVariants.{Twice, Unknown, Arity, NotControlled, CyclicRule, CyclicDerived, Init, TooMany, TableEntry}
+use Rattle.asm_check.specs.declared.error.FaultKind.TheVariants.{Twice, Unknown, Arity, NotControlled, CyclicRule, CyclicDerived, Init, TooMany, TableEntry, ResultUse}
 use Rattle.asm_eval.specs.Run as run
 use Rattle.asm_eval.specs.Run.{AtLimit, AtExhausted, AtFault}
 use Rattle.asm_run.specs.declared.end.End.{End}
@@ -48,6 +48,7 @@ kind_of (cyclic_derived h) = (CyclicDerived, refl)
 kind_of (init h) = (Init, refl)
 kind_of (too_many h) = (TooMany, refl)
 kind_of (table_entry h) = (TableEntry, refl)
+kind_of (result_use h) = (ResultUse, refl)
 
 error_of : (s : Spec) (at n : ℕ) → IsLeastFault s at n → (e : CheckError) × IsLeastFault s e.at (number_of e.kind)
 error_of s at n least =
