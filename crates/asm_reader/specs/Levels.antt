@@ -9,10 +9,10 @@ use Rattle.asm_reader.specs.Kinds.{alike, is_one_of}
 
 -- the rules with an end word, and parentheses
 abbrev pub openers : List Kind
-openers = Symbol symbols.Open ∷ Word words.Par ∷ Word words.Seq ∷ Word words.If ∷ Word words.Let ∷ Word words.Forall ∷ Word words.Choose ∷ Word words.Iterate ∷ []
+openers = Symbol symbols.Open ∷ Word words.Par ∷ Word words.Seq ∷ Word words.If ∷ Word words.Let ∷ Word words.Forall ∷ Word words.Choose ∷ Word words.Iterate ∷ Word words.While ∷ []
 
 abbrev pub closers : List Kind
-closers = Symbol symbols.Close ∷ Word words.EndPar ∷ Word words.EndSeq ∷ Word words.EndIf ∷ Word words.EndLet ∷ Word words.EndForall ∷ Word words.EndChoose ∷ Word words.EndIterate ∷ []
+closers = Symbol symbols.Close ∷ Word words.EndPar ∷ Word words.EndSeq ∷ Word words.EndIf ∷ Word words.EndLet ∷ Word words.EndForall ∷ Word words.EndChoose ∷ Word words.EndIterate ∷ Word words.EndWhile ∷ []
 
 -- how many more levels may open, or none where one too many did, and whether the last token is `(`
 pub record Depth : Type 0 where

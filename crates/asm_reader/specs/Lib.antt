@@ -1,4 +1,5 @@
 pub mod Kinds
+pub mod OldGrammar
 pub mod Parts
 pub mod Levels
 pub mod TermGrammar

@@ -1,12 +1,12 @@
 -- The grammar of rules, with the source trees that its texts make.
 use Rattle.std.specs.Prelude.{ℕ, zero, suc, List, Option, Some, None}
 use Rattle.asm_syntax.specs.declared.token.Kind.TheVariants.{Symbol, Word}
-use Rattle.asm_syntax.specs.declared.token.Symbol.TheVariants.{Assign, Equal}
-use Rattle.asm_syntax.specs.declared.token.Word.TheVariants.{Skip, Par, EndPar, Seq, EndSeq, If, Then, Else, EndIf, Let, In, EndLet, Forall, With, Do, EndForall, Choose, IfNone, EndChoose, Iterate, EndIterate}
+use Rattle.asm_syntax.specs.declared.token.Symbol.TheVariants.{Assign, LeftArrow, Equal}
+use Rattle.asm_syntax.specs.declared.token.Word.TheVariants.{Skip, Par, EndPar, Seq, EndSeq, If, Then, Else, EndIf, Let, In, EndLet, Forall, With, Do, EndForall, Choose, IfNone, EndChoose, Iterate, EndIterate, While, EndWhile}
 use Rattle.asm_syntax.specs.SourceTree as source
 use Rattle.asm_syntax.specs.Views.{rules_of}
 use Rattle.asm_reader.specs.Parts.{Part, token, ◌then◌, ◌or◌, optional, ◌makes◌, nothing, past, several, between, at_any_depth}
-use Rattle.asm_reader.specs.TermGrammar.{name, binding, applied, term_over, term_within}
+use Rattle.asm_reader.specs.TermGrammar.{name, binding, applied, result_name, answer, term_over, term_within}
 
 -- a rule that may be left out
 abbrev pub branch : Option source.Rule → source.Branch
@@ -20,13 +20,23 @@ skip_rule = token (Word Skip) makes (λ _. source.Skip)
 -- ---- productions, for names whose bytes stand in this text, over the terms and the rules that stand one level deeper
 
 module _ (text : List ℕ) (term : Part source.Term) (rule : Part source.Rule) where
-  -- name [ arguments ] ":=" term
-  unfoldable pub assignment : Part source.Rule
-  assignment = (applied text term then past (Symbol Assign) (term_over text term)) makes (λ r. source.Assign r.0.0 r.0.1 r.1)
+  -- over the terms that are assigned
+  module _ (value : Part source.Term) where
+    -- name [ arguments ] ":=" value
+    unfoldable pub assignment : Part source.Rule
+    assignment = (applied text term then past (Symbol Assign) value) makes (λ r. source.Assign r.0.0 r.0.1 r.1)
+
+    -- "result" ":=" value
+    unfoldable pub result_rule : Part source.Rule
+    result_rule = (result_name text then past (Symbol Assign) value) makes (λ r. source.SetResult r.0 r.1)
 
   -- name [ arguments ]
   unfoldable pub call : Part source.Rule
   call = applied text term makes (λ r. source.Call None r.0 r.1)
+
+  -- name [ arguments ] "<-" name [ arguments ]
+  unfoldable pub answering_call : Part source.Rule
+  answering_call = (applied text term then past (Symbol LeftArrow) (applied text term)) makes (λ r. source.Call (Some r.0) r.1.0 r.1.1)
 
   -- "par" rule { rule } "endpar"
   unfoldable pub par_rule : Part source.Rule
@@ -61,12 +71,20 @@ module _ (text : List ℕ) (term : Part source.Term) (rule : Part source.Rule) w
   unfoldable pub iterate_rule : Part source.Rule
   iterate_rule = between (Word Iterate) (Word EndIterate) rule makes source.Iterate
 
+  -- "while" term "do" rule "endwhile"
+  unfoldable pub while_rule : Part source.Rule
+  while_rule = between (Word While) (Word EndWhile) (term then past (Word Do) rule) makes (λ r. source.While r.0 r.1)
+
   -- the rules with an end word
   unfoldable pub block_rule : Part source.Rule
-  block_rule = par_rule or seq_rule or if_rule or let_rule or forall_rule or choose_rule or iterate_rule
+  block_rule = par_rule or seq_rule or if_rule or let_rule or forall_rule or choose_rule or iterate_rule or while_rule
+
+  -- a term that is assigned stands no deeper
+  abbrev pub value : Part source.Term
+  value = term_over text term (answer text)
 
   unfoldable pub rule_over : Part source.Rule
-  rule_over = skip_rule or (call or assignment) or block_rule
+  rule_over = skip_rule or (call or assignment value or answering_call) or result_rule value or block_rule
 
 module _ (text : List ℕ) where
   -- a rule in which rules with an end word and parentheses nest at most n deep

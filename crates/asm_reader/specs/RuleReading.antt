@@ -1,25 +1,31 @@
 -- What the functions of the code read as rules.
-use Rattle.std.specs.Prelude.{ℕ, zero, suc, List, [], ◌∷◌, Option, Some, None}
+use Rattle.std.specs.Prelude.{◌⊎◌, ℕ, zero, suc, List, [], ◌∷◌, Option, Some, None}
+use Rattle.std.proofs.Common.{inl, inr}
 use Rattle.asm_syntax.specs.declared.token.Kind.{Kind}
 use Rattle.asm_syntax.specs.declared.token.Kind.TheVariants as kind
 use Rattle.asm_syntax.specs.declared.token.Kind.TheVariants.{Symbol, Word}
-use Rattle.asm_syntax.specs.declared.token.Symbol.TheVariants.{Assign, Equal}
+use Rattle.asm_syntax.specs.declared.token.Symbol.TheVariants.{Assign, LeftArrow, Equal}
 use Rattle.asm_syntax.specs.declared.token.Word.{Word as Keyword}
-use Rattle.asm_syntax.specs.declared.token.Word.TheVariants.{Skip, Par, EndPar, Seq, EndSeq, If, Then, Else, EndIf, Let, In, EndLet, Forall, With, Do, EndForall, Choose, IfNone, EndChoose, Iterate, EndIterate}
+use Rattle.asm_syntax.specs.declared.token.Word.TheVariants.{Skip, Par, EndPar, Seq, EndSeq, If, Then, Else, EndIf, Let, In, EndLet, Forall, With, Do, EndForall, Choose, IfNone, EndChoose, Iterate, EndIterate, While, EndWhile, Result}
 use Rattle.asm_syntax.specs.SourceTree as source
 use Rattle.asm_syntax.specs.Views.{rules_of}
 use Rattle.asm_reader.specs.Steps.{Reader, refuse, expect, pair_of, mapped, either_of, option_of, past_of, several_of, between_of}
 use Rattle.asm_reader.specs.RuleGrammar.{branch}
-use Rattle.asm_reader.specs.TermReading.{name_at, binding_at, applied_at, disjunction_at, term_at}
+use Rattle.asm_reader.specs.TermReading.{name_at, result_at, binding_at, applied_at, disjunction_at, term_at}
 
 -- what rules begin with
 abbrev pub rule_starts : List Kind
-rule_starts = Word Skip ∷ kind.Name ∷ Word Par ∷ Word Seq ∷ Word If ∷ Word Let ∷ Word Forall ∷ Word Choose ∷ Word Iterate ∷ []
+rule_starts = Word Skip ∷ kind.Name ∷ Word Par ∷ Word Seq ∷ Word If ∷ Word Let ∷ Word Forall ∷ Word Choose ∷ Word Iterate ∷ Word While ∷ Word Result ∷ []
 
--- a call, or the assignment that it turns out to be
-abbrev pub named_rule : (source.Name × source.Terms) × Option source.Term → source.Rule
-named_rule (target, None) = source.Call None target.0 target.1
-named_rule (target, Some t) = source.Assign target.0 target.1 t
+-- a name with its arguments
+abbrev pub Applied : Type 0
+Applied = source.Name × source.Terms
+
+-- a call, or the assignment or the call that answers that it turns out to be
+abbrev pub named_rule : Applied × Option (source.Term ⊎ Applied) → source.Rule
+named_rule (first, None) = source.Call None first.0 first.1
+named_rule (first, Some (inl t)) = source.Assign first.0 first.1 t
+named_rule (first, Some (inr called)) = source.Call (Some first) called.0 called.1
 
 unfoldable pub skip_at : Reader source.Rule
 skip_at = mapped (λ _. source.Skip) (expect (Word Skip))
@@ -33,8 +39,21 @@ condition_at term = option_of (Word With ∷ []) (past_of (Word With) term)
 
 -- n levels may open, and `term` and `rule` read behind one of them
 module _ (text : List ℕ) (n : ℕ) (term : Reader source.Term) (rule : Reader source.Rule) where
+  -- what may stand behind a name with its arguments
+  abbrev pub value_at : Reader source.Term
+  value_at = past_of (Symbol Assign) (disjunction_at text n term)
+
+  abbrev pub called_at : Reader Applied
+  called_at = past_of (Symbol LeftArrow) (applied_at text n term)
+
+  abbrev pub behind_name_at : Reader (Option (source.Term ⊎ Applied))
+  behind_name_at = option_of (Symbol Assign ∷ Symbol LeftArrow ∷ []) (either_of (Symbol Assign ∷ []) (mapped inl value_at) (mapped inr called_at))
+
   unfoldable pub named_rule_at : Reader source.Rule
-  named_rule_at = mapped named_rule (pair_of (applied_at text n term) (option_of (Symbol Assign ∷ []) (past_of (Symbol Assign) (disjunction_at text n term))))
+  named_rule_at = mapped named_rule (pair_of (applied_at text n term) behind_name_at)
+
+  unfoldable pub result_rule_at : Reader source.Rule
+  result_rule_at = mapped (λ r. source.SetResult r.0 r.1) (pair_of (result_at text) value_at)
 
   unfoldable pub par_at : Reader source.Rule
   par_at = mapped (λ r. source.Par (rules_of r)) (between_of n (Word Par) (Word EndPar) (several_of rule_starts rule))
@@ -59,12 +78,15 @@ module _ (text : List ℕ) (n : ℕ) (term : Reader source.Term) (rule : Reader 
   unfoldable pub iterate_at : Reader source.Rule
   iterate_at = mapped source.Iterate (between_of n (Word Iterate) (Word EndIterate) rule)
 
+  unfoldable pub while_at : Reader source.Rule
+  while_at = mapped (λ r. source.While r.0 r.1) (between_of n (Word While) (Word EndWhile) (pair_of term (past_of (Word Do) rule)))
+
   unfoldable pub block_at : Reader source.Rule
   block_at = either_of (Word Par ∷ []) par_at (either_of (Word Seq ∷ []) seq_at (either_of (Word If ∷ []) if_at (either_of (Word Let ∷ []) let_at
-      (either_of (Word Forall ∷ []) forall_at (either_of (Word Choose ∷ []) choose_at iterate_at)))))
+      (either_of (Word Forall ∷ []) forall_at (either_of (Word Choose ∷ []) choose_at (either_of (Word Iterate ∷ []) iterate_at while_at))))))
 
   unfoldable pub rule_over_at : Reader source.Rule
-  rule_over_at = either_of (Word Skip ∷ []) skip_at (either_of (kind.Name ∷ []) named_rule_at block_at)
+  rule_over_at = either_of (Word Skip ∷ []) skip_at (either_of (kind.Name ∷ []) named_rule_at (either_of (Word Result ∷ []) result_rule_at block_at))
 
 module _ (text : List ℕ) where
   unfoldable pub rule_at : ℕ → Reader source.Rule

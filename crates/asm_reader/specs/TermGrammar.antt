@@ -6,7 +6,7 @@ use Rattle.asm_syntax.specs.declared.token.Kind.{Kind}
 use Rattle.asm_syntax.specs.declared.token.Kind.TheVariants as kind
 use Rattle.asm_syntax.specs.declared.token.Kind.TheVariants.{Symbol, Word}
 use Rattle.asm_syntax.specs.declared.token.Symbol.TheVariants.{Open, Close, Comma, Plus, Minus, Times, Equal, NotEqual, Less, AtMost, Greater, AtLeast}
-use Rattle.asm_syntax.specs.declared.token.Word.TheVariants.{Or, And, Not, Div, Mod, Exists, Forall, In, With, Holds, True, False, Undef}
+use Rattle.asm_syntax.specs.declared.token.Word.TheVariants.{Or, And, Not, Div, Mod, Exists, Forall, In, With, Holds, True, False, Undef, Result}
 use Rattle.asm_syntax.specs.declared.token.Token.{Token}
 use Rattle.asm_syntax.specs.declared.term.Literal.{Literal}
 use Rattle.asm_syntax.specs.declared.term.Literal.TheVariants as literal
@@ -61,6 +61,14 @@ module _ (text : List ℕ) where
   abbrev pub name : Part source.Name
   name = token kind.Name makes name_at_token text
 
+  -- "result", as a name
+  abbrev pub result_name : Part source.Name
+  result_name = token (Word Result) makes name_at_token text
+
+  -- "result"
+  unfoldable pub answer : Part source.Term
+  answer = result_name makes source.Answer
+
   -- name "in" name
   unfoldable pub binding : Part (source.Name × source.Name)
   binding = name then past (Word In) name
@@ -87,43 +95,45 @@ module _ (text : List ℕ) where
     unfoldable pub inner : Part source.Term
     inner = exists_term or every_term or deeper
 
-    -- number | "true" | "false" | "undef" | name [ arguments ] | "(" inner ")"
-    unfoldable pub primary : Part source.Term
-    primary = (number makes (λ n. source.Constant (literal.Number n))) or (choice constants makes source.Constant)
-        or (applied makes (λ r. source.Named r.0 r.1)) or between (Symbol Open) (Symbol Close) inner
+    -- and over the words that are terms by themselves
+    module _ (word : Part source.Term) where
+      -- number | "true" | "false" | "undef" | name [ arguments ] | word | "(" inner ")"
+      unfoldable pub primary : Part source.Term
+      primary = (number makes (λ n. source.Constant (literal.Number n))) or (choice constants makes source.Constant)
+          or (applied makes (λ r. source.Named r.0 r.1)) or word or between (Symbol Open) (Symbol Close) inner
 
-    -- [ "-" ] primary
-    unfoldable pub factor : Part source.Term
-    factor = (past (Symbol Minus) primary makes source.Negative) or primary
+      -- [ "-" ] primary
+      unfoldable pub factor : Part source.Term
+      factor = (past (Symbol Minus) primary makes source.Negative) or primary
 
-    -- factor { ( "*" | "div" | "mod" ) factor }
-    unfoldable pub product : Part source.Term
-    product = chain products factor
+      -- factor { ( "*" | "div" | "mod" ) factor }
+      unfoldable pub product : Part source.Term
+      product = chain products factor
 
-    -- product { ( "+" | "-" ) product }
-    unfoldable pub sum : Part source.Term
-    sum = chain additions product
+      -- product { ( "+" | "-" ) product }
+      unfoldable pub sum : Part source.Term
+      sum = chain additions product
 
-    -- sum [ ( "=" | "!=" | "<" | "<=" | ">" | ">=" ) sum ]
-    unfoldable pub comparison : Part source.Term
-    comparison = (sum then optional (choice comparisons then sum)) makes (λ r. chain_of (r.0, option_to_list r.1))
+      -- sum [ ( "=" | "!=" | "<" | "<=" | ">" | ">=" ) sum ]
+      unfoldable pub comparison : Part source.Term
+      comparison = (sum then optional (choice comparisons then sum)) makes (λ r. chain_of (r.0, option_to_list r.1))
 
-    -- [ "not" ] comparison
-    unfoldable pub negation : Part source.Term
-    negation = (past (Word Not) comparison makes source.Not) or comparison
+      -- [ "not" ] comparison
+      unfoldable pub negation : Part source.Term
+      negation = (past (Word Not) comparison makes source.Not) or comparison
 
-    -- negation { "and" negation }
-    unfoldable pub conjunction : Part source.Term
-    conjunction = chain conjunctions negation
+      -- negation { "and" negation }
+      unfoldable pub conjunction : Part source.Term
+      conjunction = chain conjunctions negation
 
-    -- conjunction { "or" conjunction }
-    unfoldable pub term_over : Part source.Term
-    term_over = chain disjunctions conjunction
+      -- conjunction { "or" conjunction }
+      unfoldable pub term_over : Part source.Term
+      term_over = chain disjunctions conjunction
 
   -- a term in which parentheses nest at most n deep
   unfoldable pub term_within : ℕ → Part source.Term
-  term_within zero = term_over nothing
-  term_within (suc n) = term_over (term_within n)
+  term_within zero = term_over nothing answer
+  term_within (suc n) = term_over (term_within n) answer
 
   abbrev pub any_term : Part source.Term
   any_term = at_any_depth term_within

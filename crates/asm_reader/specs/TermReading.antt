@@ -6,7 +6,7 @@ use Rattle.asm_syntax.specs.declared.token.Kind.TheVariants as kind
 use Rattle.asm_syntax.specs.declared.token.Kind.TheVariants.{Number, Symbol, Word}
 use Rattle.asm_syntax.specs.declared.token.Symbol.TheVariants.{Open, Close, Comma, Minus}
 use Rattle.asm_syntax.specs.declared.token.Word.{Word as Keyword}
-use Rattle.asm_syntax.specs.declared.token.Word.TheVariants.{Not, Exists, Forall, In, With, Holds}
+use Rattle.asm_syntax.specs.declared.token.Word.TheVariants.{Not, Exists, Forall, In, With, Holds, Result}
 use Rattle.asm_syntax.specs.declared.term.Literal.TheVariants as literal
 use Rattle.asm_syntax.specs.SourceTree as source
 use Rattle.asm_syntax.specs.Views.{terms_of}
@@ -37,6 +37,13 @@ table_of precedence.Product = products
 module _ (text : List ℕ) where
   unfoldable pub name_at : Reader source.Name
   name_at = mapped (name_at_token text) (expect kind.Name)
+
+  -- the word `result` as a name, and as a term
+  unfoldable pub result_at : Reader source.Name
+  result_at = mapped (name_at_token text) (expect (Word Result))
+
+  unfoldable pub answer_at : Reader source.Term
+  answer_at = mapped source.Answer result_at
 
   unfoldable pub binding_at : Reader (source.Name × source.Name)
   binding_at = pair_of name_at (past_of (Word In) name_at)
@@ -70,7 +77,7 @@ module _ (text : List ℕ) where
     unfoldable pub primary_at : Reader source.Term
     primary_at = either_of (Number 0 ∷ []) (mapped (λ v. source.Constant (literal.Number v)) (number_at false))
         (either_of (keys constants) (mapped source.Constant (choice_at constants))
-        (either_of (kind.Name ∷ []) (mapped (λ r. source.Named r.0 r.1) applied_at) parenthesized_at))
+        (either_of (kind.Name ∷ []) (mapped (λ r. source.Named r.0 r.1) applied_at) (either_of (Word Result ∷ []) answer_at parenthesized_at)))
 
     unfoldable pub factor_at : Reader source.Term
     factor_at = either_of (Symbol Minus ∷ []) (mapped source.Negative (past_of (Symbol Minus) primary_at)) primary_at

@@ -5,6 +5,7 @@ ghost use Rattle.asm_syntax.specs.declared.token.Token.{Token};
 ghost use Rattle.asm_syntax.specs.SourceTree as source;
 ghost use Rattle.asm_reader.specs.declared.error.ReadError.{ReadError};
 ghost use Rattle.asm_reader.specs.Grammar.{specification};
+ghost use Rattle.asm_reader.specs.OldGrammar.{StillSpells};
 ghost use Rattle.asm_reader.specs.Specification.{IsSpecification};
 ghost use Rattle.asm_reader.specs.Refusals.{IsRefusal};
 ghost use Rattle.asm_reader.specs.ScriptLines.{Line, Script};
@@ -16,6 +17,11 @@ use asm_syntax::{no_tokens_beside_a_fault, one_fault, one_list_of_tokens, tokens
 /// Tokens spell one tree at most, at any depth.
 pub fn one_tree_of_tokens()
     ensures { (text : List ℕ) (ts : List Token) (s t : source.Spec) → specification text ts s → specification text ts t → s ≡ t }
+{}
+
+/// Tokens that spelled a specification before there were `while`, `<-` and `result` spell the same one still.
+pub fn old_texts()
+    ensures { StillSpells }
 {}
 
 /// A text has one specification at most.

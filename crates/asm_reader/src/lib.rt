@@ -18,7 +18,7 @@ mod terms;
 
 pub use error::ReadError;
 pub use laws::{
-    no_script_beside_a_refusal, no_tree_beside_a_refusal, one_refusal, one_script,
+    no_script_beside_a_refusal, no_tree_beside_a_refusal, old_texts, one_refusal, one_script,
     one_script_refusal, one_tree, one_tree_of_tokens, script_lines, script_or_a_refusal,
     tree_or_a_refusal,
 };

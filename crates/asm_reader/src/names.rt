@@ -46,6 +46,19 @@ pub fn name(alloc: Global, text: &[u8], tokens: &mut Cursor<'_>) -> Result<Name,
     Ok(named(alloc, text, token)?)
 }
 
+/// The word `result`, as a name.
+#[tactic(auto, unfolding(crate::specs::TermReading::result_at))]
+pub fn result_word(
+    alloc: Global,
+    text: &[u8],
+    tokens: &mut Cursor<'_>,
+) -> Result<Name, Refused<ReadError>>
+    ensures { Reads name_of (reading.result_at text.now tokens.old.rest.now) result tokens.new.rest.now }
+{
+    let token = tokens.expect(Kind::Word(Word::Result))?;
+    Ok(named(alloc, text, token)?)
+}
+
 /// A name, and behind `in` the name of what it ranges over.
 #[tactic(auto, unfolding(crate::specs::TermReading::binding_at))]
 pub fn binding(

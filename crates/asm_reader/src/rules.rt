@@ -9,9 +9,9 @@ ghost use Rattle.asm_reader.specs.Steps.{Reads, below, each_of, several_of};
 
 use crate::cursor::Cursor;
 use crate::error::ReadError;
-use crate::names::{binding, name};
+use crate::names::{binding, name, result_word};
 use crate::terms::{applied, condition, term};
-use asm_syntax::rule::Rule;
+use asm_syntax::rule::{Rule, Target};
 use asm_syntax::{Kind, Refused, Symbol, Word};
 use std::alloc::Global;
 
@@ -28,10 +28,12 @@ fn rule_starts() -> &'static [Kind]
         Kind::Word(Word::Forall),
         Kind::Word(Word::Choose),
         Kind::Word(Word::Iterate),
+        Kind::Word(Word::While),
+        Kind::Word(Word::Result),
     ]
 }
 
-/// A call, or an assignment.
+/// A call, an assignment, or a call that answers.
 #[tactic(auto, using(crate::proofs::TermSteps::term_is), unfolding(crate::specs::RuleReading::named_rule_at))]
 fn named_rule(
     alloc: Global,
@@ -51,11 +53,36 @@ fn named_rule(
             value,
         });
     }
+    if tokens.sees(Kind::Symbol(Symbol::LeftArrow)) {
+        tokens.expect(Kind::Symbol(Symbol::LeftArrow))?;
+        let (called, given) = applied(alloc, text, tokens, levels)?;
+        return Ok(Rule::Call {
+            target: Some(Target { name, arguments }),
+            name: called,
+            arguments: given,
+        });
+    }
     Ok(Rule::Call {
         target: None,
         name,
         arguments,
     })
+}
+
+/// What is assigned to the location into which the rule's answer goes.
+#[tactic(auto, using(crate::proofs::TermSteps::term_is), unfolding(crate::specs::RuleReading::result_rule_at))]
+fn result_rule(
+    alloc: Global,
+    text: &[u8],
+    tokens: &mut Cursor<'_>,
+    levels: usize,
+) -> Result<Rule, Refused<ReadError>>
+    ensures { Reads rule_of (reading.result_rule_at text.now levels (below (terms.term_at text.now) levels) (below (reading.rule_at text.now) levels) tokens.old.rest.now) result tokens.new.rest.now }
+{
+    let name = result_word(alloc, text, tokens)?;
+    tokens.expect(Kind::Symbol(Symbol::Assign))?;
+    let value = term(alloc, text, tokens, levels)?;
+    Ok(Rule::SetResult { name, value })
 }
 
 /// One rule or more; so many levels may open in them.
@@ -241,6 +268,25 @@ fn iterate(
     Ok(Rule::Iterate(body))
 }
 
+#[cycle(rules)]
+#[tactic(auto, unfolding(crate::specs::RuleReading::while_at))]
+fn while_rule(
+    alloc: Global,
+    text: &[u8],
+    tokens: &mut Cursor<'_>,
+    levels: usize,
+) -> Result<Rule, Refused<ReadError>>
+    ensures { Reads rule_of (reading.while_at text.now levels (below (terms.term_at text.now) levels) (below (reading.rule_at text.now) levels) tokens.old.rest.now) result tokens.new.rest.now }
+{
+    tokens.enter(Kind::Word(Word::While), levels)?;
+    let test = term(alloc, text, tokens, levels - 1)?;
+    tokens.expect(Kind::Word(Word::Do))?;
+    let body = rule(alloc, text, tokens, levels - 1)?;
+    let body = Box::new(alloc, body)?;
+    tokens.expect(Kind::Word(Word::EndWhile))?;
+    Ok(Rule::While { test, body })
+}
+
 /// A rule with an end word.
 #[cycle(rules)]
 #[tactic(auto, unfolding(crate::specs::RuleReading::block_at))]
@@ -270,7 +316,10 @@ fn block(
     if tokens.sees(Kind::Word(Word::Choose)) {
         return choose(alloc, text, tokens, levels);
     }
-    iterate(alloc, text, tokens, levels)
+    if tokens.sees(Kind::Word(Word::Iterate)) {
+        return iterate(alloc, text, tokens, levels);
+    }
+    while_rule(alloc, text, tokens, levels)
 }
 
 /// A rule; so many levels may open in it.
@@ -290,6 +339,9 @@ pub fn rule(
     }
     if tokens.sees(Kind::Name) {
         return named_rule(alloc, text, tokens, levels);
+    }
+    if tokens.sees(Kind::Word(Word::Result)) {
+        return result_rule(alloc, text, tokens, levels);
     }
     block(alloc, text, tokens, levels)
 }

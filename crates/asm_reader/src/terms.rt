@@ -14,7 +14,7 @@ ghost use Rattle.asm_reader.specs.Steps.{Reads, below, each_of};
 
 use crate::cursor::Cursor;
 use crate::error::ReadError;
-use crate::names::{binding, name};
+use crate::names::{binding, name, result_word};
 use asm_state::operation::Op;
 use asm_syntax::name::Name;
 use asm_syntax::term::{Literal, Term};
@@ -259,6 +259,16 @@ fn parenthesized(
     Ok(inner)
 }
 
+/// The word `result`.
+#[inline(never)]
+#[tactic(auto, unfolding(crate::specs::TermReading::answer_at))]
+fn answer(alloc: Global, text: &[u8], tokens: &mut Cursor<'_>) -> Result<Term, Refused<ReadError>>
+    ensures { Reads term_of (reading.answer_at text.now tokens.old.rest.now) result tokens.new.rest.now }
+{
+    let name = result_word(alloc, text, tokens)?;
+    Ok(Term::Answer(name))
+}
+
 #[cycle(terms)]
 #[tactic(auto, unfolding(crate::specs::TermReading::primary_at))]
 fn primary(
@@ -280,6 +290,9 @@ fn primary(
     if tokens.sees(Kind::Name) {
         let (name, arguments) = applied(alloc, text, tokens, levels)?;
         return Ok(Term::Named { name, arguments });
+    }
+    if tokens.sees(Kind::Word(Word::Result)) {
+        return answer(alloc, text, tokens);
     }
     parenthesized(alloc, text, tokens, levels)
 }

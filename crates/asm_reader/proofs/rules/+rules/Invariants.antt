@@ -26,6 +26,9 @@ decreases-choose l = l.levels * 4
 abbrev pub decreases-iterate : goal.decreases-iterate
 decreases-iterate l = l.levels * 4
 
+abbrev pub decreases-while_rule : goal.decreases-while_rule
+decreases-while_rule l = l.levels * 4
+
 abbrev pub decreases-block : goal.decreases-block
 decreases-block l = l.levels * 4 + 1
 

@@ -1,0 +1,32 @@
+-- The grammar before there were `while`, `<-` and `result`.
+--     old_specification           the tokens spell the tree by it, at any depth
+--     StillSpells                 what tokens spelled by it, they spell still
+use Rattle.std.specs.Prelude.{ℕ, zero, suc, List}
+use Rattle.asm_syntax.specs.declared.token.Token.{Token}
+use Rattle.asm_syntax.specs.SourceTree as source
+use Rattle.asm_reader.specs.Parts.{Part, ◌or◌, nothing, at_any_depth}
+use Rattle.asm_reader.specs.TermGrammar.{term_over}
+use Rattle.asm_reader.specs.RuleGrammar.{skip_rule, call, assignment, par_rule, seq_rule, if_rule, let_rule, forall_rule, choose_rule, iterate_rule}
+use Rattle.asm_reader.specs.Grammar.{specification_over, specification}
+
+module _ (text : List ℕ) where
+  -- a term in which parentheses nest at most n deep
+  unfoldable pub old_term_within : ℕ → Part source.Term
+  old_term_within zero = term_over text nothing nothing
+  old_term_within (suc n) = term_over text (old_term_within n) nothing
+
+  -- a rule over the terms and the rules that stand one level deeper
+  unfoldable pub old_rule_over : Part source.Term → Part source.Rule → Part source.Rule
+  old_rule_over X S = skip_rule or (call text X S or assignment text X S (term_over text X nothing))
+      or par_rule text X S or seq_rule text X S or if_rule text X S or let_rule text X S or forall_rule text X S or choose_rule text X S or iterate_rule text X S
+
+  -- a rule in which rules with an end word and parentheses nest at most n deep
+  unfoldable pub old_rule_within : ℕ → Part source.Rule
+  old_rule_within zero = old_rule_over nothing nothing
+  old_rule_within (suc n) = old_rule_over (old_term_within n) (old_rule_within n)
+
+  abbrev pub old_specification : Part source.Spec
+  old_specification = specification_over text (at_any_depth old_term_within) (at_any_depth old_rule_within)
+
+abbrev pub StillSpells : Type 0
+StillSpells = (text : List ℕ) (ts : List Token) (s : source.Spec) → old_specification text ts s → specification text ts s
