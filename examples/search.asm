@@ -10,7 +10,8 @@ universe Key = 1 .. 5
 function static number : Index -> NUMBER initially {
   (0) -> 2, (1) -> 3, (2) -> 5, (3) -> 7, (4) -> 11, (5) -> 13,
   (6) -> 17, (7) -> 19, (8) -> 23, (9) -> 29, (10) -> 31, (11) -> 37 }
-function static wanted : Key -> NUMBER initially { (1) -> 23, (2) -> 2, (3) -> 14, (4) -> 37, (5) -> 1 }
+function static wanted : Key -> NUMBER initially {
+  (1) -> 23, (2) -> 2, (3) -> 14, (4) -> 37, (5) -> 1 }
 
 function controlled place : Key -> Index
 // If the number is anywhere, it is at `low` or above, and below `high`.
