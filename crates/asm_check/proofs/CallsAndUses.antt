@@ -8,6 +8,7 @@ use Rattle.asm_check.specs.Names as names
 use Rattle.asm_check.specs.Names.{Text, Meaning, NamedRule, Derived, Use, declared}
 use Rattle.asm_check.specs.Onward.{onward}
 use Rattle.asm_check.specs.Ways.{called, used, calls_in, uses_in, is_call, is_use}
+use Rattle.asm_check.proofs.Alike.{called_alike}
 
 pub data IsRule : Option Meaning → Type 0 where
   is_rule : (xs : List Name) (P : Rule) → IsRule (Some (NamedRule xs P))
@@ -54,21 +55,14 @@ pub user : (spec : Spec) (f g : Text) → Contains (used spec f) g → IsDerived
 unfolding used
 user spec f g c = let it = Contains-from_map (λ (u : Use). u.name.text) (uses_in spec (declared spec f)) g c in no_uses spec (declared spec f) it.0 it.1
 
-call_of : (spec : Spec) (role : names.Role) (m : Option Meaning) → is_call role m ≡ true → IsRule m
-call_of spec names.AsRule (Some (NamedRule xs P)) e = is_rule xs P
-call_of spec names.AsRule None e = absurd (false≢true e)
-call_of spec names.AsRule (Some names.Predeclared) e = absurd (false≢true e)
-call_of spec names.AsRule (Some (names.Range first last)) e = absurd (false≢true e)
-call_of spec names.AsRule (Some (names.Enumeration k)) e = absurd (false≢true e)
-call_of spec names.AsRule (Some (names.Element k)) e = absurd (false≢true e)
-call_of spec names.AsRule (Some (names.Controlled domain)) e = absurd (false≢true e)
-call_of spec names.AsRule (Some (names.Static domain)) e = absurd (false≢true e)
-call_of spec names.AsRule (Some (Derived xs t)) e = absurd (false≢true e)
-call_of spec names.InTerm m e = absurd (false≢true e)
-call_of spec names.AsTarget m e = absurd (false≢true e)
-call_of spec names.AsUniverse m e = absurd (false≢true e)
-call_of spec names.AsCodomain m e = absurd (false≢true e)
-call_of spec names.AsElement m e = absurd (false≢true e)
+plain_call_of : (m : Option Meaning) → is_call names.AsRule m ≡ true → IsRule m
+plain_call_of (Some (NamedRule xs P)) e = is_rule xs P
+plain_call_of m e = absurd (false≢true e)
+
+call_of : (role : names.Role) (m : Option Meaning) → is_call role m ≡ true → IsRule m
+call_of names.AsRule m e = plain_call_of m e
+call_of names.AsAnswering m e = plain_call_of m (sym (called_alike m) ∙ e)
+call_of role m e = absurd (false≢true e)
 
 use_by : (spec : Spec) (role : names.Role) (b : Bool) (m : Option Meaning) → is_use role b m ≡ true → IsDerived m
 use_by spec names.InTerm false (Some (Derived xs t)) e = is_derived xs t
@@ -83,12 +77,14 @@ use_by spec names.InTerm false (Some (names.Static domain)) e = absurd (false≢
 use_by spec names.InTerm false (Some (NamedRule xs P)) e = absurd (false≢true e)
 use_by spec names.AsTarget b m e = absurd (false≢true e)
 use_by spec names.AsRule b m e = absurd (false≢true e)
+use_by spec names.AsAnswering b m e = absurd (false≢true e)
 use_by spec names.AsUniverse b m e = absurd (false≢true e)
 use_by spec names.AsCodomain b m e = absurd (false≢true e)
 use_by spec names.AsElement b m e = absurd (false≢true e)
+use_by spec names.AsResult b m e = absurd (false≢true e)
 
 called_by : (spec : Spec) (m : Option Meaning) (u : Use) → Contains (calls_in spec m) u → is_call u.role (declared spec u.name.text) ≡ true
-called_by spec (Some (NamedRule xs P)) u c = passes (λ u. is_call u.role (declared spec u.name.text)) (names.uses_of_rule P (map names.text_of xs)) u c
+called_by spec (Some (NamedRule xs P)) u c = passes (λ u. is_call u.role (declared spec u.name.text)) (names.uses_of_rule P (names.rule_scope xs)) u c
 called_by spec None u c = absurd (Contains-none u c)
 called_by spec (Some names.Predeclared) u c = absurd (Contains-none u c)
 called_by spec (Some (names.Range first last)) u c = absurd (Contains-none u c)
@@ -113,7 +109,7 @@ pub callee : (spec : Spec) (f g : Text) → Contains (called spec f) g → IsRul
 unfolding called
 callee spec f g c =
     let it = Contains-from_map (λ (u : Use). u.name.text) (calls_in spec (declared spec f)) g c in
-    subst (λ x. IsRule (declared spec x)) it.2 (call_of spec it.0.role (declared spec it.0.name.text) (called_by spec (declared spec f) it.0 it.1))
+    subst (λ x. IsRule (declared spec x)) it.2 (call_of it.0.role (declared spec it.0.name.text) (called_by spec (declared spec f) it.0 it.1))
 
 pub usee : (spec : Spec) (f g : Text) → Contains (used spec f) g → IsDerived (declared spec g)
 unfolding used

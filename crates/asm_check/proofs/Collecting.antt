@@ -1,12 +1,13 @@
 -- Steps of the collector of uses, one behind another.
-use Rattle.std.proofs.Common.{◌≡◌, refl, sym, ap, subst, ◌∙◌, ℕ, suc, ◌+◌, ◌<◌, drop, get_or, add-one, drop-cons, List, [], ◌∷◌, ◌++◌, map, length, append_assoc, Result, Ok, Err, OnOk, Box, Vec, Global}
+use Rattle.std.proofs.Common.{◌≡◌, refl, sym, ap, subst, ◌∙◌, ℕ, suc, ◌+◌, ◌<◌, drop, get_or, add-one, drop-cons, List, [], ◌∷◌, ◌++◌, map, length, append_assoc, Option, Some, Result, Ok, Err, OnOk, Box, Vec, Global}
 use Rattle.asm_state.specs.declared.operation.Op.{Op}
-use Rattle.asm_syntax.specs.Views.{name_of, term_of, terms_of, links_of}
+use Rattle.asm_syntax.specs.Views.{name_of, term_of, terms_of, links_of, target_of}
 use Rattle.asm_syntax.specs.ViewCases.{term_of-Named, term_of-Chain}
 use Rattle.asm_syntax.specs.declared.name.Name.{Name}
+use Rattle.asm_syntax.specs.declared.rule.Target.{Target}
 use Rattle.asm_syntax.specs.declared.term.Term.{Term}
 use Rattle.asm_syntax.specs.declared.term.Term.TheVariants as term
-use Rattle.asm_check.specs.Names.{Role, InTerm, AsTarget, AsUniverse, Use, use_of, plain_use, term_count, uses_of_term, uses_of_terms, uses_of_links}
+use Rattle.asm_check.specs.Names.{Text, Role, InTerm, AsTarget, AsUniverse, Use, use_of, plain_use, term_count, uses_of_term, uses_of_terms, uses_of_links, uses_of_target}
 use Rattle.asm_check.specs.UseViews as views
 use Rattle.asm_check.specs.Collected.{bound_of, Adds}
 use Rattle.asm_check.specs.declared.collector.Collector.{Collector}
@@ -60,6 +61,22 @@ adds_assigned name ts value n a b c d e p q r =
     let target : Adds a c (use_of AsTarget (name_of name) (term_count (terms_of (map term_of ts))) (bound_of a) ∷ uses_of_terms (terms_of (map term_of ts)) (bound_of a)) = adds_applied AsTarget name ts n a b c e p q in
     let inside : Adds c d (uses_of_term (term_of value) (bound_of a)) = subst (λ xs. Adds c d (uses_of_term (term_of value) xs)) (same_bound a c (use_of AsTarget (name_of name) (term_count (terms_of (map term_of ts))) (bound_of a) ∷ uses_of_terms (terms_of (map term_of ts)) (bound_of a)) target) r in
     adds_more a c d (use_of AsTarget (name_of name) (term_count (terms_of (map term_of ts))) (bound_of a) ∷ uses_of_terms (terms_of (map term_of ts)) (bound_of a)) (uses_of_term (term_of value) (bound_of a)) target inside
+
+-- the target of a call
+pub adds_target : (to : Option Target) (it : Target) (n : ℕ) (a b c : Collector) → to ≡ Some it → n ≡ length it.arguments.items
+    → Adds a b (use_of AsTarget (name_of it.name) n (bound_of a) ∷ []) → Adds b c (uses_of_terms (terms_of (map term_of it.arguments.items)) (bound_of b))
+    → Adds a c (uses_of_target (target_of to) (bound_of a))
+adds_target to it n a b c is e p q = subst (λ o. Adds a c (uses_of_target (target_of o) (bound_of a))) (sym is) (adds_applied AsTarget it.name it.arguments.items n a b c e p q)
+
+-- a call, behind the uses in its target
+pub adds_called : (us : List Use) (role kept : Role) (name : Name) (ts : List Term) (n : ℕ) (a b c d : Collector) → role ≡ kept → n ≡ length ts
+    → Adds a b us → Adds b c (use_of role (name_of name) n (bound_of b) ∷ []) → Adds c d (uses_of_terms (terms_of (map term_of ts)) (bound_of c))
+    → Adds a d (us ++ use_of kept (name_of name) (term_count (terms_of (map term_of ts))) (bound_of a) ∷ uses_of_terms (terms_of (map term_of ts)) (bound_of a))
+adds_called us role kept name ts n a b c d same e p q r =
+    let here = λ (xs : List Text). use_of kept (name_of name) (term_count (terms_of (map term_of ts))) xs ∷ uses_of_terms (terms_of (map term_of ts)) xs in
+    let named : Adds b c (use_of kept (name_of name) n (bound_of b) ∷ []) = subst (λ k. Adds b c (use_of k (name_of name) n (bound_of b) ∷ [])) same q in
+    let call : Adds b d (here (bound_of b)) = adds_applied kept name ts n b c d e named r in
+    adds_more a b d us (here (bound_of a)) p (subst (λ xs. Adds b d (here xs)) (same_bound a b us p) call)
 
 -- one more universe of a domain
 pub one_more_universe : (xs : List Name) (i : ℕ) (item : Name) (found more whole : List Use) → i < length xs → item ≡ get_or xs i item → more ≡ found ++ plain_use AsUniverse (name_of item) ∷ []

@@ -9,7 +9,7 @@ use Rattle.asm_syntax.specs.SourceTree as source
 use Rattle.asm_state.specs.declared.function.FunctionKind.TheVariants as kind
 use Rattle.asm_check.specs.Names as names
 use Rattle.asm_syntax.specs.SourceTree.{Name, Item, Rule, Term, Spec}
-use Rattle.asm_check.specs.Names.{Text, Meaning, NamedRule, Derived, Declaration, declares, Use, is_text, is_among, text_of, predeclared, predeclared_names, declarations_of, declarations_from, declarations, first_of_each, first_declarations, declared, uses_of, uses, uses_of_rule, uses_of_term}
+use Rattle.asm_check.specs.Names.{Text, Meaning, NamedRule, Derived, Declaration, declares, Use, is_text, is_among, text_of, predeclared, predeclared_names, declarations_of, declarations_from, declarations, first_of_each, first_declarations, declared, uses_of, uses, uses_of_rule, uses_of_term, rule_scope}
 use Rattle.asm_check.specs.Laws.{TextsAreTold}
 
 pub same_text : (x y : Text) → is_text x y ≡ true → x ≡ y
@@ -76,7 +76,7 @@ stands (d ∷ ds) f m found =
 -- ---- the uses in a body are among all uses
 
 abbrev uses_of_meaning : Meaning → List Use
-uses_of_meaning (NamedRule xs P) = uses_of_rule P (map text_of xs)
+uses_of_meaning (NamedRule xs P) = uses_of_rule P (rule_scope xs)
 uses_of_meaning (Derived xs t) = uses_of_term t (map text_of xs)
 uses_of_meaning m = []
 

@@ -2,12 +2,12 @@
 use Rattle.std.proofs.Common.{◌≡◌, ◌⊎◌, ℕ, List, ◌++◌, Option, None, sym, ap, subst, ◌∙◌, inl, inr}
 use Rattle.std.proofs.lemmas.List.Elements.{Contains-append_left, Contains-append_right, Contains-append_cases}
 use Rattle.asm_syntax.specs.SourceTree.{Spec}
-use Rattle.asm_check.specs.Faults.{IsFault, twice, unknown, arity, not_controlled, cyclic_rule, cyclic_derived, init, too_many, table_entry}
-use Rattle.asm_check.specs.FaultLists.{twice_faults, use_faults, init_faults, limit_faults, entry_faults}
+use Rattle.asm_check.specs.Faults.{IsFault, twice, unknown, arity, not_controlled, cyclic_rule, cyclic_derived, init, too_many, table_entry, result_use}
+use Rattle.asm_check.specs.FaultLists.{twice_faults, use_faults, init_faults, limit_faults, entry_faults, start_results}
 use Rattle.asm_check.specs.Soonest.{IsSoonest, IsSoonestWith, noted}
 use Rattle.asm_check.specs.Steps as steps
 use Rattle.asm_check.specs.Steps.{IsStepFault}
-use Rattle.asm_check.proofs.FaultLists.{twice_sound, twice_complete, uses_sound, unknown_complete, arity_complete, assign_complete, inits_sound, inits_complete, limits_sound, limits_complete, entries_sound, entries_complete, steps_sound}
+use Rattle.asm_check.proofs.FaultLists.{twice_sound, twice_complete, uses_sound, unknown_complete, arity_complete, assign_complete, inits_sound, inits_complete, limits_sound, limits_complete, entries_sound, entries_complete, starts_sound, results_complete, steps_sound}
 use Rattle.asm_check.proofs.Listed.{IsListed}
 use Rattle.asm_check.proofs.Noted.{noted_append}
 use Rattle.asm_check.proofs.LeastOfAll.{soonest_same, soonest_of_list, soonest_with}
@@ -26,8 +26,11 @@ module _ (spec : Spec) where
   abbrev from_uses : List (ℕ × ℕ)
   from_uses = use_faults spec ++ from_limits
 
+  abbrev from_starts : List (ℕ × ℕ)
+  from_starts = start_results spec ++ from_uses
+
   abbrev from_inits : List (ℕ × ℕ)
-  from_inits = init_faults spec ++ from_uses
+  from_inits = init_faults spec ++ from_starts
 
   abbrev pub listed : List (ℕ × ℕ)
   listed = twice_faults spec ++ from_inits
@@ -35,15 +38,19 @@ module _ (spec : Spec) where
   pub listed_sound : (at n : ℕ) → IsListed listed at n → IsFault spec at n
   listed_sound =
       either (twice_faults spec) from_inits (IsFault spec) (twice_sound spec)
-      (either (init_faults spec) from_uses (IsFault spec) (inits_sound spec)
+      (either (init_faults spec) from_starts (IsFault spec) (inits_sound spec)
+      (either (start_results spec) from_uses (IsFault spec) (starts_sound spec)
       (either (use_faults spec) from_limits (IsFault spec) (uses_sound spec)
-      (either (limit_faults spec) from_entries (IsFault spec) (limits_sound spec) (entries_sound spec))))
+      (either (limit_faults spec) from_entries (IsFault spec) (limits_sound spec) (entries_sound spec)))))
 
   of_inits : (at n : ℕ) → IsListed from_inits at n → IsListed listed at n
   of_inits at n c = Contains-append_right (twice_faults spec) from_inits (at, n) c
 
+  of_starts : (at n : ℕ) → IsListed from_starts at n → IsListed listed at n
+  of_starts at n c = of_inits at n (Contains-append_right (init_faults spec) from_starts (at, n) c)
+
   of_uses : (at n : ℕ) → IsListed from_uses at n → IsListed listed at n
-  of_uses at n c = of_inits at n (Contains-append_right (init_faults spec) from_uses (at, n) c)
+  of_uses at n c = of_starts at n (Contains-append_right (start_results spec) from_uses (at, n) c)
 
   of_limits : (at n : ℕ) → IsListed from_limits at n → IsListed listed at n
   of_limits at n c = of_uses at n (Contains-append_right (use_faults spec) from_limits (at, n) c)
@@ -58,16 +65,23 @@ module _ (spec : Spec) where
   listed_complete at n (not_controlled it) = inl (a_use at 11 (assign_complete spec at it))
   listed_complete at n (cyclic_rule it) = inr (steps.cyclic_rule it)
   listed_complete at n (cyclic_derived it) = inr (steps.cyclic_derived it)
-  listed_complete at n (init it) = inl (of_inits at 14 (Contains-append_left (init_faults spec) from_uses (at, 14) (inits_complete spec at it)))
+  listed_complete at n (init it) = inl (of_inits at 14 (Contains-append_left (init_faults spec) from_starts (at, 14) (inits_complete spec at it)))
   listed_complete at n (too_many it) =
       elim (limits_complete spec at it) [ inl c ↦ inl (of_limits at 15 (Contains-append_left (limit_faults spec) from_entries (at, 15) c)) | inr high ↦ inr high ]
   listed_complete at n (table_entry it) = inl (of_limits at 16 (Contains-append_right (limit_faults spec) from_entries (at, 16) (entries_complete spec at it)))
+  listed_complete at n (result_use it) =
+      elim (results_complete spec at it) [
+        | inl c ↦ inl (a_use at 17 c)
+        | inr c ↦ inl (of_starts at 17 (Contains-append_left (start_results spec) from_uses (at, 17) c))
+      ]
 
-  noted_all : (one two three four five six : Option (ℕ × ℕ)) → one ≡ None → two ≡ noted one (twice_faults spec) → three ≡ noted two (init_faults spec)
-      → four ≡ noted three (use_faults spec) → five ≡ noted four (limit_faults spec) → six ≡ noted five (entry_faults spec) → six ≡ noted None listed
-  noted_all one two three four five six e f g h i j =
-      j ∙ ap (λ o. noted o from_entries) i ∙ sym (noted_append four (limit_faults spec) from_entries) ∙ ap (λ o. noted o from_limits) h
-      ∙ sym (noted_append three (use_faults spec) from_limits) ∙ ap (λ o. noted o from_uses) g ∙ sym (noted_append two (init_faults spec) from_uses)
+  noted_all : (one two three four five six seven : Option (ℕ × ℕ)) → one ≡ None → two ≡ noted one (twice_faults spec) → three ≡ noted two (init_faults spec)
+      → four ≡ noted three (start_results spec) → five ≡ noted four (use_faults spec) → six ≡ noted five (limit_faults spec) → seven ≡ noted six (entry_faults spec)
+      → seven ≡ noted None listed
+  noted_all one two three four five six seven e f g h i j k =
+      k ∙ ap (λ o. noted o from_entries) j ∙ sym (noted_append five (limit_faults spec) from_entries) ∙ ap (λ o. noted o from_limits) i
+      ∙ sym (noted_append four (use_faults spec) from_limits) ∙ ap (λ o. noted o from_uses) h ∙ sym (noted_append three (start_results spec) from_uses)
+      ∙ ap (λ o. noted o from_starts) g ∙ sym (noted_append two (init_faults spec) from_starts)
       ∙ ap (λ o. noted o from_inits) f ∙ sym (noted_append one (twice_faults spec) from_inits) ∙ ap (λ o. noted o listed) e
 
   pub all_found : (before after : Option (ℕ × ℕ)) → before ≡ noted None listed → IsSoonestWith (IsStepFault spec) before after → IsSoonest (IsFault spec) after
@@ -78,7 +92,7 @@ module _ (spec : Spec) where
       (subst (IsSoonest (IsListed listed)) (sym e) (soonest_of_list (IsListed listed) listed (λ at n c. c) (λ at n c. c))) it)
 
   -- the search goes on from one list to the next
-  pub search_ends : (one two three four five six last : Option (ℕ × ℕ)) → one ≡ None → two ≡ noted one (twice_faults spec) → three ≡ noted two (init_faults spec)
-      → four ≡ noted three (use_faults spec) → five ≡ noted four (limit_faults spec) → six ≡ noted five (entry_faults spec)
-      → IsSoonestWith (IsStepFault spec) six last → IsSoonest (IsFault spec) last
-  search_ends one two three four five six last e f g h i j it = all_found six last (noted_all one two three four five six e f g h i j) it
+  pub search_ends : (one two three four five six seven last : Option (ℕ × ℕ)) → one ≡ None → two ≡ noted one (twice_faults spec) → three ≡ noted two (init_faults spec)
+      → four ≡ noted three (start_results spec) → five ≡ noted four (use_faults spec) → six ≡ noted five (limit_faults spec) → seven ≡ noted six (entry_faults spec)
+      → IsSoonestWith (IsStepFault spec) seven last → IsSoonest (IsFault spec) last
+  search_ends one two three four five six seven last e f g h i j k it = all_found seven last (noted_all one two three four five six seven e f g h i j k) it

@@ -1,22 +1,24 @@
 -- The lists of faults are the faults: what stands in a list is a fault, and each fault stands in its list.
 --     twice_sound, twice_complete      8
---     uses_sound      9, 10, 11;  unknown_complete, arity_complete, assign_complete
+--     uses_sound      9, 10, 11, and 17 of uses;  unknown_complete, arity_complete, assign_complete
 --     inits_sound, inits_complete      14
 --     limits_sound, limits_complete      15, but for ranks
 --     entries_sound, entries_complete      16
+--     starts_sound      17 of starting rules;  results_complete      17
 use Rattle.std.proofs.Common.{◌≡◌, ◌≢◌, ◌⊎◌, ℕ, ◌+◌, Bool, true, false, not, cond, ◌&&◌, ◌||◌, nat_eq, List, [], ◌∷◌, ◌++◌, map, length, Option, Some, None, refl, sym, ap, subst, ◌∙◌, inl, inr}
-use Rattle.std.specs.Prelude.{Contains, flat_map}
+use Rattle.std.specs.Prelude.{Contains, filter_map, flat_map}
 use Rattle.std.specs.List.{list_all}
 use Rattle.std.proofs.lemmas.Bool.{false≢true, not-true, not_from_false, eqb-false, ne_eqb, ltb-true, lt-ltb, and_parts, and_from, or_cases, or_left, or_right}
 use Rattle.std.proofs.lemmas.List.Elements.{Contains-append_left, Contains-append_right, Contains-append_cases}
 use Rattle.asm_state.proofs.Lists.{Contains-cons_cases, Contains-first, Contains-flat_map, Contains-from_flat_map, Contains-from_map, Contains-later, Contains-map, Contains-none}
-use Rattle.asm_syntax.specs.SourceTree.{Name, Entry, Spec}
+use Rattle.asm_syntax.specs.SourceTree as source
+use Rattle.asm_syntax.specs.SourceTree.{Name, Entry, Item, Spec}
 use Rattle.asm_check.specs.Names as names
-use Rattle.asm_check.specs.Names.{Text, Declaration, Meaning, Role, InTerm, AsTarget, AsRule, Use, declarations, first_declarations, declared, uses, is_among, text_of, is_known, arguments_of, is_assignable, is_start, uses_of_entry}
+use Rattle.asm_check.specs.Names.{Text, Declaration, Meaning, Role, InTerm, AsTarget, AsRule, AsAnswering, AsResult, Use, declarations, first_declarations, declared, uses, is_among, text_of, is_known, arguments_of, is_assignable, is_result, answers, is_start, uses_of_entry}
 use Rattle.asm_check.specs.Limits as limits
 use Rattle.asm_check.specs.Limits.{is_universe, is_function, is_controlled, is_static, is_rule, size_of, domain_of, lists_of, max_universes, max_elements, max_functions, max_domain, max_locations, max_static_lists, max_rules, Passes, PassesLimit}
-use Rattle.asm_check.specs.Faults.{IsRepeated, IsTwice, IsUnknown, IsMiscounted, IsUnassignable, IsBadInit, IsOverLimit, IsBadEntry, IsFault, twice, unknown, arity, not_controlled, cyclic_rule, cyclic_derived, init, another, no_start, missing, too_many, table_entry, parameters_of, is_known_use, inits, table_of}
-use Rattle.asm_check.specs.FaultLists.{repeats, at_with, twice_faults, miscounts, is_target, faults_of_use, use_faults, unfit_starts, faults_of_inits, init_faults, passes, passes_limit, limit_faults_from, limit_faults, is_bad_entry, bad_entries, entry_faults}
+use Rattle.asm_check.specs.Faults.{IsRepeated, IsTwice, IsUnknown, IsMiscounted, IsUnassignable, IsBadInit, IsOverLimit, IsBadEntry, IsResultUse, IsFault, twice, unknown, arity, not_controlled, cyclic_rule, cyclic_derived, init, another, no_start, missing, too_many, table_entry, result_use, outside, plain_call, start, init_of, parameters_of, is_known_use, inits, table_of}
+use Rattle.asm_check.specs.FaultLists.{repeats, at_with, twice_faults, miscounts, is_target, is_plain_call, is_misused, misuse, faults_of_use, all_of_use, use_faults, unfit_starts, faults_of_inits, init_faults, passes, passes_limit, limit_faults_from, limit_faults, is_bad_entry, bad_entries, entry_faults, start_result, start_results}
 use Rattle.asm_check.specs.Steps as steps
 use Rattle.asm_check.specs.Steps.{IsStepFault}
 use Rattle.asm_check.proofs.Heights.{split}
@@ -141,6 +143,14 @@ target_from : (r : Role) → is_target r ≡ true → r ≡ AsTarget
 target_from AsTarget h = refl
 target_from r h = absurd (false≢true h)
 
+result_from : (r : Role) → is_result r ≡ true → r ≡ AsResult
+result_from AsResult h = refl
+result_from r h = absurd (false≢true h)
+
+plain_from : (r : Role) → is_plain_call r ≡ true → r ≡ AsRule
+plain_from AsRule h = refl
+plain_from r h = absurd (false≢true h)
+
 -- what has a number of arguments is known
 counted_is_known : (r : Role) (b : Bool) (m : Option Meaning) (k : ℕ) → arguments_of r b m ≡ Some k → is_known r b m ≡ true
 counted_is_known InTerm true m k h = refl
@@ -150,6 +160,7 @@ counted_is_known InTerm false (Some (names.Static domain)) k h = refl
 counted_is_known InTerm false (Some (names.Derived xs t)) k h = refl
 counted_is_known AsTarget false (Some (names.Controlled domain)) k h = refl
 counted_is_known AsRule b (Some (names.NamedRule xs P)) k h = refl
+counted_is_known AsAnswering b (Some (names.NamedRule xs P)) k h = refl
 counted_is_known r b m k h = cc
 
 -- what isn't assignable has no number of arguments as a target
@@ -202,6 +213,44 @@ module _ (spec : Spec) (u : Use) where
           subst (λ f. IsFault spec f.0 f.1) (the_only (u.name.at, 9) (at, n) c)
           (unknown (record { use_of = u; stands = stands; unknown = e; offset = refl }))
 
+  -- 17
+  abbrev is_outside : Bool
+  is_outside = is_result u.role && not u.is_bound
+
+  abbrev is_plain : Bool
+  is_plain = is_plain_call u.role && answers (declared spec u.name.text)
+
+  misuse_sound : Contains (uses spec) u → (at n : ℕ) → IsListed (misuse spec u) at n → IsFault spec at n
+  misuse_sound stands at n c = by_test (is_misused spec u) refl c
+    where
+      why : is_misused spec u ≡ true → IsResultUse spec u.name.at
+      why e =
+          elim (or_cases is_outside is_plain e) [
+            | inl out ↦ let parts = and_parts (is_result u.role) (not u.is_bound) out in outside u stands (result_from u.role parts.0) (not-true u.is_bound parts.1) refl
+            | inr call ↦ let parts = and_parts (is_plain_call u.role) (answers (declared spec u.name.text)) call in plain_call u stands (plain_from u.role parts.0) parts.1 refl
+          ]
+
+      by_test : (b : Bool) → is_misused spec u ≡ b → IsListed (cond b ((u.name.at, 17) ∷ []) []) at n → IsFault spec at n
+      by_test true e c = subst (λ f. IsFault spec f.0 f.1) (the_only (u.name.at, 17) (at, n) c) (result_use (why e))
+      by_test false e c = absurd (Contains-none (at, n) c)
+
+  misused : is_misused spec u ≡ true → IsListed (all_of_use spec u) u.name.at 17
+  misused e =
+      Contains-append_right (faults_of_use spec u) (misuse spec u) (u.name.at, 17)
+      (in_then (is_misused spec u) ((u.name.at, 17) ∷ []) [] (u.name.at, 17) e (Contains-first (u.name.at, 17) []))
+
+  use_outside : u.role ≡ AsResult → u.is_bound ≡ false → IsListed (all_of_use spec u) u.name.at 17
+  use_outside role free =
+      misused (or_left is_outside is_plain (and_from (is_result u.role) (not u.is_bound) (ap is_result role) (not_from_false u.is_bound free)))
+
+  use_plain : u.role ≡ AsRule → answers (declared spec u.name.text) ≡ true → IsListed (all_of_use spec u) u.name.at 17
+  use_plain role so =
+      misused (or_right is_outside is_plain (and_from (is_plain_call u.role) (answers (declared spec u.name.text)) (ap is_plain_call role) so))
+
+  -- one of the first three
+  of_three : (n : ℕ) → IsListed (faults_of_use spec u) u.name.at n → IsListed (all_of_use spec u) u.name.at n
+  of_three n c = Contains-append_left (faults_of_use spec u) (misuse spec u) (u.name.at, n) c
+
   use_unknown : is_known_use spec u ≡ false → IsListed (faults_of_use spec u) u.name.at 9
   use_unknown e = in_else (is_known_use spec u) as_known ((u.name.at, 9) ∷ []) (u.name.at, 9) e (Contains-first (u.name.at, 9) [])
 
@@ -225,21 +274,26 @@ module _ (spec : Spec) (u : Use) where
 module _ (spec : Spec) where
   pub uses_sound : (at n : ℕ) → IsListed (use_faults spec) at n → IsFault spec at n
   unfolding use_faults
-  uses_sound at n c = let of = Contains-from_flat_map (faults_of_use spec) (uses spec) (at, n) c in use_sound spec of.0 of.1 at n of.2
+  uses_sound at n c =
+      let of = Contains-from_flat_map (all_of_use spec) (uses spec) (at, n) c in
+      elim (Contains-append_cases (faults_of_use spec of.0) (misuse spec of.0) (at, n) of.2) [
+        | inl three ↦ use_sound spec of.0 of.1 at n three
+        | inr result ↦ misuse_sound spec of.0 of.1 at n result
+      ]
 
-  of_a_use : (u : Use) → Contains (uses spec) u → (at n : ℕ) → u.name.at ≡ at → IsListed (faults_of_use spec u) u.name.at n → IsListed (use_faults spec) at n
+  of_a_use : (u : Use) → Contains (uses spec) u → (at n : ℕ) → u.name.at ≡ at → IsListed (all_of_use spec u) u.name.at n → IsListed (use_faults spec) at n
   unfolding use_faults
   of_a_use u stands at n offset c =
-      Contains-flat_map (faults_of_use spec) (uses spec) u (at, n) stands (subst (λ (a : ℕ). IsListed (faults_of_use spec u) a n) offset c)
+      Contains-flat_map (all_of_use spec) (uses spec) u (at, n) stands (subst (λ (a : ℕ). IsListed (all_of_use spec u) a n) offset c)
 
   pub unknown_complete : (at : ℕ) → IsUnknown spec at → IsListed (use_faults spec) at 9
-  unknown_complete at it = of_a_use it.use_of it.stands at 9 it.offset (use_unknown spec it.use_of it.unknown)
+  unknown_complete at it = of_a_use it.use_of it.stands at 9 it.offset (of_three spec it.use_of 9 (use_unknown spec it.use_of it.unknown))
 
   pub arity_complete : (at : ℕ) → IsMiscounted spec at → IsListed (use_faults spec) at 10
-  arity_complete at it = of_a_use it.use_of it.stands at 10 it.offset (use_miscounted spec it.use_of it.count it.has it.differs)
+  arity_complete at it = of_a_use it.use_of it.stands at 10 it.offset (of_three spec it.use_of 10 (use_miscounted spec it.use_of it.count it.has it.differs))
 
   pub assign_complete : (at : ℕ) → IsUnassignable spec at → IsListed (use_faults spec) at 11
-  assign_complete at it = of_a_use it.use_of it.stands at 11 it.offset (use_unassignable spec it.use_of it.is_target it.known it.unassignable)
+  assign_complete at it = of_a_use it.use_of it.stands at 11 it.offset (of_three spec it.use_of 11 (use_unassignable spec it.use_of it.is_target it.known it.unassignable))
 
 -- ---- 14
 
@@ -420,6 +474,57 @@ module _ (spec : Spec) where
       (subst (λ es. IsListed (bad_entries spec it.domain [] es) at 16) (sym it.parts)
       (subst (λ a. IsListed (bad_entries spec it.domain [] (it.before ++ it.entry ∷ it.after)) a 16) it.offset
       (walk_complete (is_bad_entry spec it.domain) (λ e. e.at) 16 (bad_entries spec it.domain) (λ before. refl) (λ before e es. refl) [] it.before it.entry it.after holds)))
+
+-- ---- 17 of starting rules
+
+module _ (spec : Spec) where
+  -- what stands behind `init`
+  init_item : (items : List Item) (x : Name) → Contains (filter_map init_of items) x → Contains items (source.Init x)
+  init_item [] x c = absurd (Contains-none x c)
+  init_item (item ∷ items) x c = by_item item (init_item items x) c
+    where
+      by_item : (item : Item) → (Contains (filter_map init_of items) x → Contains items (source.Init x)) → Contains (filter_map init_of (item ∷ items)) x → Contains (item ∷ items) (source.Init x)
+      by_item (source.Init y) behind c =
+          elim (Contains-cons_cases y (filter_map init_of items) x c) [
+            | inl same ↦ subst (λ z. Contains (source.Init y ∷ items) (source.Init z)) same (Contains-first (source.Init y) items)
+            | inr rest ↦ Contains-later (source.Init y) items (source.Init x) (behind rest)
+          ]
+      by_item item behind c = Contains-later item items (source.Init x) (behind c)
+
+  item_init : (items : List Item) (x : Name) → Contains items (source.Init x) → Contains (filter_map init_of items) x
+  item_init [] x c = absurd (Contains-none (source.Init x) c)
+  item_init (item ∷ items) x c =
+      elim (Contains-cons_cases item items (source.Init x) c) [
+        | inl same ↦ subst (λ i. Contains (filter_map init_of (i ∷ items)) x) (sym same) (Contains-first x (filter_map init_of items))
+        | inr rest ↦ later item (item_init items x rest)
+      ]
+    where
+      later : (item : Item) → Contains (filter_map init_of items) x → Contains (filter_map init_of (item ∷ items)) x
+      later (source.Init y) c = Contains-later y (filter_map init_of items) x c
+      later item c = c
+
+  start_sound : (item : Item) → Contains spec.items item → (at n : ℕ) → IsListed (start_result spec item) at n → IsFault spec at n
+  start_sound (source.Init x) stands at n c = by_test (answers (declared spec x.text)) refl c
+    where
+      by_test : (b : Bool) → answers (declared spec x.text) ≡ b → IsListed (cond b ((x.at, 17) ∷ []) []) at n → IsFault spec at n
+      by_test true e c = subst (λ f. IsFault spec f.0 f.1) (the_only (x.at, 17) (at, n) c) (result_use (start x (item_init spec.items x stands) e refl))
+      by_test false e c = absurd (Contains-none (at, n) c)
+  start_sound item stands at n c = absurd (Contains-none (at, n) c)
+
+  pub starts_sound : (at n : ℕ) → IsListed (start_results spec) at n → IsFault spec at n
+  unfolding start_results
+  starts_sound at n c = let of = Contains-from_flat_map (start_result spec) spec.items (at, n) c in start_sound of.0 of.1 at n of.2
+
+  start_listed : (x : Name) → Contains (inits spec) x → answers (declared spec x.text) ≡ true → IsListed (start_results spec) x.at 17
+  unfolding start_results
+  start_listed x c so =
+      Contains-flat_map (start_result spec) spec.items (source.Init x) (x.at, 17) (init_item spec.items x c)
+      (in_then (answers (declared spec x.text)) ((x.at, 17) ∷ []) [] (x.at, 17) so (Contains-first (x.at, 17) []))
+
+  pub results_complete : (at : ℕ) → IsResultUse spec at → IsListed (use_faults spec) at 17 ⊎ IsListed (start_results spec) at 17
+  results_complete at (outside u stands role free offset) = inl (of_a_use spec u stands at 17 offset (use_outside spec u role free))
+  results_complete at (plain_call u stands role so offset) = inl (of_a_use spec u stands at 17 offset (use_plain spec u role so))
+  results_complete at (start x c so offset) = inr (subst (λ (a : ℕ). IsListed (start_results spec) a 17) offset (start_listed x c so))
 
 -- ---- 12, 13, and 15 by ranks
 

@@ -6,14 +6,18 @@ use Rattle.std.proofs.lemmas.Bool.{false≢true}
 use Rattle.std.proofs.lemmas.List.Elements.{Contains-append_left, Contains-append_right}
 use Rattle.asm_state.proofs.Lists.{Contains-cons_cases, Contains-first, Contains-flat_map, Contains-later, Contains-none}
 use Rattle.asm_syntax.specs.SourceTree as source
-use Rattle.asm_syntax.specs.SourceTree.{Name, Term, Constant, Named, Chain, Not, Negative, Exists, Every, Terms, no_terms, term_then, Links, no_links, link_then, Rule, Skip, Assign, Call, Par, Seq, If, Let, Forall, Choose, Iterate, Rules, no_rules, rule_then, Branch, left_out, written, Const, Entry, Given, Item, Spec}
+use Rattle.asm_syntax.specs.SourceTree.{Name, Term, Constant, Named, Chain, Not, Negative, Exists, Every, Answer, Terms, no_terms, term_then, Links, no_links, link_then, Rule, Skip, Assign, Call, Par, Seq, If, Let, Forall, Choose, Iterate, While, SetResult, Rules, no_rules, rule_then, Branch, left_out, written, Const, Entry, Given, Item, Spec}
 use Rattle.asm_check.specs.Names as names
-use Rattle.asm_check.specs.Names.{Text, Meaning, NamedRule, Derived, Role, InTerm, AsTarget, AsRule, AsUniverse, AsCodomain, AsElement, Use, use_of, plain_use, term_count, text_of, is_among, is_known, arguments_of, is_assignable, is_start, declared, uses, uses_of, uses_of_rule, uses_of_rules, uses_of_branch, uses_of_term, uses_of_terms, uses_of_links, uses_of_test, uses_of_const, uses_of_entry, uses_of_codomain, uses_of_table}
-use Rattle.asm_check.specs.Faults.{IsWellFormed, is_known_use, inits, unknown, arity, not_controlled, init, another, no_start, missing}
-use Rattle.asm_check.specs.Fit.{IsUniverseName, IsCodomainName, IsFitConst, IsFitTable, IsFitFunction, IsFitTerm, AreFitTerms, AreFitLinks, IsFitTest, IsFitRule, AreFitRules, IsFitBranch, HasStart}
+use Rattle.asm_check.specs.Names.{Text, Meaning, NamedRule, Derived, Role, InTerm, AsTarget, AsRule, AsAnswering, AsUniverse, AsCodomain, AsElement, AsResult, Use, use_of, plain_use, term_count, text_of, is_among, is_known, arguments_of, is_assignable, answers, is_start, declared, uses, uses_of, uses_of_rule, uses_of_rules, uses_of_branch, uses_of_term, uses_of_terms, uses_of_links, uses_of_test, uses_of_target, rule_role, rule_scope, uses_of_const, uses_of_entry, uses_of_codomain, uses_of_table}
+use Rattle.asm_check.specs.Faults.{IsWellFormed, is_known_use, inits, unknown, arity, not_controlled, init, another, no_start, missing, result_use, outside, plain_call, start}
+use Rattle.asm_check.specs.Fit.{IsUniverseName, IsCodomainName, IsFitConst, IsFitTable, IsFitFunction, IsFitTerm, AreFitTerms, AreFitLinks, IsFitTest, IsFitTargetOf, IsFitCallTo, IsFitRule, AreFitRules, IsFitBranch, HasStart}
 use Rattle.asm_check.specs.Laws.{BodiesAreFit}
 use Rattle.asm_check.proofs.Declared.{body_uses}
 use Rattle.asm_check.proofs.Suited.{IsSuited, IsGood, suited}
+
+not_true : (b : Bool) → ¬ (b ≡ true) → b ≡ false
+not_true true h = absurd (h refl)
+not_true false h = refl
 
 not_false : (b : Bool) → ¬ (b ≡ false) → b ≡ true
 not_false true h = refl
@@ -41,6 +45,8 @@ module _ (spec : Spec) where
         counted = λ n has. same_number u.count n (λ differs. good u.name.at 10 (arity (record { use_of = u; stands = c; count = n; has = has; differs = differs; offset = refl })));
         assignable = λ target. not_false (is_assignable u.is_bound (declared spec u.name.text))
             (λ no'. good u.name.at 11 (not_controlled (record { use_of = u; stands = c; is_target = target; known = known; unassignable = no'; offset = refl })));
+        plain = λ role. not_true (answers (declared spec u.name.text)) (λ so. good u.name.at 17 (result_use (plain_call u c role so refl)));
+        inside = λ role. not_false u.is_bound (λ free. good u.name.at 17 (result_use (outside u c role free refl)));
       }
 
   front : (us vs : List Use) → AreGood (us ++ vs) → AreGood us
@@ -73,6 +79,7 @@ module _ (spec : Spec) where
         (plain AsUniverse over (uses_of_term t (x.text ∷ bound)) h, fit_term t (x.text ∷ bound) (tail _ (uses_of_term t (x.text ∷ bound)) h))
     fit_term (Every x over t) bound h =
         (plain AsUniverse over (uses_of_term t (x.text ∷ bound)) h, fit_term t (x.text ∷ bound) (tail _ (uses_of_term t (x.text ∷ bound)) h))
+    fit_term (Answer x) bound h = first AsResult x 0 bound [] h
 
     fit_terms : (ts : Terms) (bound : List Text) → AreGood (uses_of_terms ts bound) → AreFitTerms spec ts bound
     fit_terms no_terms bound h = tt
@@ -83,6 +90,14 @@ module _ (spec : Spec) where
     fit_links no_links bound h = tt
     fit_links (link_then o t links) bound h =
         (fit_term t bound (front (uses_of_term t bound) (uses_of_links links bound) h), fit_links links bound (back (uses_of_term t bound) (uses_of_links links bound) h))
+
+  fit_target : (to : Option (Name × Terms)) (bound : List Text) → AreGood (uses_of_target to bound) → IsFitTargetOf spec to bound
+  fit_target None bound h = tt
+  fit_target (Some (f, ts)) bound h = (first AsTarget f (term_count ts) bound (uses_of_terms ts bound) h, fit_terms ts bound (tail _ (uses_of_terms ts bound) h))
+
+  fit_call : (to : Option (Name × Terms)) (r : Name) (ts : Terms) (bound : List Text) → AreGood (use_of (rule_role to) r (term_count ts) bound ∷ uses_of_terms ts bound) → IsFitCallTo spec to r (term_count ts)
+  fit_call None r ts bound h = first AsRule r (term_count ts) bound (uses_of_terms ts bound) h
+  fit_call (Some to) r ts bound h = first AsAnswering r (term_count ts) bound (uses_of_terms ts bound) h
 
   fit_test : (t : Option Term) (bound : List Text) → AreGood (uses_of_test t bound) → IsFitTest spec t bound
   fit_test None bound h = tt
@@ -108,7 +123,10 @@ module _ (spec : Spec) where
           fit_terms ts bound (front (uses_of_terms ts bound) (uses_of_term t bound) rest),
           fit_term t bound (back (uses_of_terms ts bound) (uses_of_term t bound) rest),
         )
-    fit_rule (Call r ts) bound h = (first AsRule r (term_count ts) bound (uses_of_terms ts bound) h, fit_terms ts bound (tail _ (uses_of_terms ts bound) h))
+    fit_rule (Call to r ts) bound h =
+        let call = use_of (rule_role to) r (term_count ts) bound ∷ uses_of_terms ts bound in
+        let rest = back (uses_of_target to bound) call h in
+        (fit_target to bound (front (uses_of_target to bound) call h), fit_call to r ts bound rest, fit_terms ts bound (tail _ (uses_of_terms ts bound) rest))
     fit_rule (Par Ps) bound h = fit_rules Ps bound h
     fit_rule (Seq Ps) bound h = fit_rules Ps bound h
     fit_rule (If t P Q) bound h =
@@ -125,6 +143,9 @@ module _ (spec : Spec) where
         let it = parts x over t P bound (front head (uses_of_branch Q bound) h) in
         (it.0, it.1, fit_rule P (x.text ∷ bound) it.2, fit_branch Q bound (back head (uses_of_branch Q bound) h))
     fit_rule (Iterate P) bound h = fit_rule P bound h
+    fit_rule (While t P) bound h =
+        (fit_term t bound (front (uses_of_term t bound) (uses_of_rule P bound) h), fit_rule P bound (back (uses_of_term t bound) (uses_of_rule P bound) h))
+    fit_rule (SetResult x t) bound h = (first AsResult x 0 bound (uses_of_term t bound) h, fit_term t bound (tail _ (uses_of_term t bound) h))
 
     fit_rules : (Ps : Rules) (bound : List Text) → AreGood (uses_of_rules Ps bound) → AreFitRules spec Ps bound
     fit_rules no_rules bound h = tt
@@ -210,7 +231,14 @@ starts spec good (x ∷ y ∷ more) e = absurd (good y.at 14 (init (another x (y
 starts spec good (x ∷ []) e =
     let it = starting (declared spec x.text) (not_false (is_start (declared spec x.text))
     (λ no'. good x.at 14 (init (no_start x (subst (λ xs. Contains xs x) (sym e) (Contains-first x [])) no' refl)))) in
-    record { name = x; body = it.0; only = e; rule = it.1 }
+    record {
+      name = x;
+      body = it.0;
+      only = e;
+      rule = it.1;
+      plain = not_true (answers (declared spec x.text))
+          (λ so. good x.at 17 (result_use (start x (subst (λ xs. Contains xs x) (sym e) (Contains-first x [])) so refl)));
+    }
 
 in_uses : (spec : Spec) (item : Item) → Contains spec.items item → (u : Use) → Contains (uses_of item) u → Contains (uses spec) u
 unfolding uses
@@ -218,7 +246,7 @@ in_uses spec item it u c = Contains-flat_map uses_of spec.items item u it c
 
 pub bodies_are_fit : BodiesAreFit
 bodies_are_fit spec good = record {
-  rules = λ f xs P is. fit_rule spec P (map text_of xs) (λ u c. good_use spec good u (body_uses spec f (NamedRule xs P) is u c));
+  rules = λ f xs P is. fit_rule spec P (rule_scope xs) (λ u c. good_use spec good u (body_uses spec f (NamedRule xs P) is u c));
   derived = λ f xs t is. fit_term spec t (map text_of xs) (λ u c. good_use spec good u (body_uses spec f (Derived xs t) is u c));
   functions = λ x kind domain codomain table it. fit_function spec domain codomain table (λ u c. good_use spec good u (in_uses spec (source.Function x kind domain codomain table) it u c));
   start = starts spec good (inits spec) refl;

@@ -1,4 +1,6 @@
+pub mod Alike
 pub mod AllFaults
+pub mod AnsweringRules
 pub mod Apart
 pub mod ArgumentCounts
 pub mod BadEntries

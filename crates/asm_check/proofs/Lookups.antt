@@ -1,12 +1,10 @@
 -- What a look-up in the table of names answers.
-use Rattle.std.proofs.Common.{◌≡◌, ℕ, suc, ◌<◌, nat_eq, Bool, true, false, cond, List, [], ◌∷◌, length, map, Option, Some, None, refl, sym, ap, subst, ◌∙◌, arith, position, is_some}
-use Rattle.std.specs.Prelude.{find, option_map, IfSome, IfNone, not, nat_lt, ◌+◌}
+use Rattle.std.proofs.Common.{◌≡◌, ℕ, suc, nat_eq, Bool, true, false, cond, List, [], ◌∷◌, map, Option, Some, None, refl, sym, ap, subst, ◌∙◌, is_some}
+use Rattle.std.specs.Prelude.{find, option_map, IfSome, IfNone}
 use Rattle.std.specs.Bool.{one_answer}
-use Rattle.std.specs.Borrow.{Bor}
 use Rattle.std.specs.Cmp.{unsigned_Decides}
 use Rattle.std.specs.Cmp.Lexicographic.{pointwise}
-use Rattle.std.specs.List.{position_or_len}
-use Rattle.std.specs.Map.{keys_of, lookup}
+use Rattle.std.specs.Map.{lookup}
 use Rattle.std.proofs.lemmas.Slice.Eq.{slice_eq-Decides}
 use Rattle.asm_syntax.specs.SourceTree.{Spec}
 use Rattle.asm_check.specs.declared.meaning.Declaration.{Declaration as CodeDeclaration}

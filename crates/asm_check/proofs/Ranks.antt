@@ -1,26 +1,27 @@
 -- A well-formed specification has ranks.
-use Rattle.std.proofs.Common.{◌≡◌, ◌≢◌, ℕ, ◌<◌, Bool, true, false, cond, List, [], ◌∷◌, ◌++◌, map, Option, Some, None, refl, sym, ap, subst, ◌∙◌, inl, inr}
+use Rattle.std.proofs.Common.{◌≡◌, ◌≢◌, ◌⊎◌, ℕ, ◌<◌, Bool, true, false, cond, List, [], ◌∷◌, ◌++◌, map, Option, Some, None, refl, sym, ap, subst, ◌∙◌, inl, inr}
 use Rattle.std.specs.Prelude.{Contains, filter}
 use Rattle.std.proofs.lemmas.Bool.{false≢true}
 use Rattle.std.proofs.lemmas.List.Elements.{Contains-append_left, Contains-append_right}
 use Rattle.asm_state.proofs.Lists.{Contains-cons_cases, Contains-first, Contains-later, Contains-map, Contains-none}
-use Rattle.asm_syntax.specs.SourceTree.{Name, Term, Constant, Named, Chain, Not, Negative, Exists, Every, Terms, no_terms, term_then, Links, no_links, link_then, Rule, Skip, Assign, Call, Par, Seq, If, Let, Forall, Choose, Iterate, Rules, no_rules, rule_then, Branch, left_out, written, Spec}
+use Rattle.asm_syntax.specs.SourceTree.{Name, Term, Constant, Named, Chain, Not, Negative, Exists, Every, Answer, Terms, no_terms, term_then, Links, no_links, link_then, Rule, Skip, Assign, Call, Par, Seq, If, Let, Forall, Choose, Iterate, While, SetResult, Rules, no_rules, rule_then, Branch, left_out, written, Spec}
 use Rattle.asm_check.specs.Names as names
-use Rattle.asm_check.specs.Names.{Text, Meaning, NamedRule, Derived, Role, InTerm, AsRule, Use, use_of, term_count, is_known, is_among, text_of, declared, uses, uses_of_rule, uses_of_rules, uses_of_branch, uses_of_term, uses_of_terms, uses_of_links, uses_of_test}
+use Rattle.asm_check.specs.Names.{Text, Meaning, NamedRule, Derived, Role, InTerm, AsRule, AsAnswering, AsResult, Use, use_of, term_count, rule_role, is_known, is_among, text_of, declared, uses, uses_of_rule, uses_of_rules, uses_of_branch, uses_of_term, uses_of_terms, uses_of_links, uses_of_test, uses_of_target, rule_scope}
 use Rattle.asm_check.specs.Ways.{called, used, is_call, is_use, calls_in, uses_in, LeadsTo, at_once, by_way_of, ReachesCycle, IsOnWay, height}
 use Rattle.asm_check.specs.Limits.{rule_rank, derived_rank}
-use Rattle.asm_check.specs.Faults.{IsWellFormed, IsCyclic, is_known_use, unknown, cyclic_rule, cyclic_derived, too_many}
+use Rattle.asm_check.specs.Faults.{IsWellFormed, IsCyclic, is_known_use, unknown, cyclic_rule, cyclic_derived, too_many, result_use, outside}
 use Rattle.asm_check.specs.Ranks as ranks
 use Rattle.asm_check.specs.Ranks.{IsCallable, CallsBelow, EachCallsBelow, BranchCallsBelow, UsesBelow, EachUsesBelow, LinksUseBelow, HasRanks}
 use Rattle.asm_check.specs.Laws.{RanksExist}
 use Rattle.asm_check.proofs.Heights.{AreRanks, heights_are_ranks}
 use Rattle.asm_check.proofs.Declared.{first_is, body_uses}
+use Rattle.asm_check.proofs.Alike.{known_alike, called_alike}
 
 -- ---- from facts on the uses in a body to facts on its calls
 
 module _ (spec : Spec) (rank : Text → ℕ) (n : ℕ) where
   abbrev CallsAreBelow : List Use → Type 0
-  CallsAreBelow us = (u : Use) → Contains us u → u.role ≡ AsRule → IsCallable spec rank n u.name.text
+  CallsAreBelow us = (u : Use) → Contains us u → (to : Option (Name × Terms)) → u.role ≡ rule_role to → IsCallable spec rank n u.name.text
 
   first_part : (us vs : List Use) → CallsAreBelow (us ++ vs) → CallsAreBelow us
   first_part us vs h u c = h u (Contains-append_left us vs u c)
@@ -35,7 +36,9 @@ module _ (spec : Spec) (rank : Text → ℕ) (n : ℕ) where
     calls_below : (R : Rule) (bound : List Text) → CallsAreBelow (uses_of_rule R bound) → CallsBelow spec rank n R
     calls_below Skip bound h = tt
     calls_below (Assign f ts t) bound h = tt
-    calls_below (Call f ts) bound h = h (use_of AsRule f (term_count ts) bound) (Contains-first _ (uses_of_terms ts bound)) refl
+    calls_below (Call to f ts) bound h =
+        let call = use_of (rule_role to) f (term_count ts) bound in
+        h call (Contains-append_right (uses_of_target to bound) (call ∷ uses_of_terms ts bound) call (Contains-first call (uses_of_terms ts bound))) to refl
     calls_below (Par Ps) bound h = each_below Ps bound h
     calls_below (Seq Ps) bound h = each_below Ps bound h
     calls_below (If t P Q) bound h =
@@ -53,6 +56,8 @@ module _ (spec : Spec) (rank : Text → ℕ) (n : ℕ) where
           branch_below Q bound (last_part (front ++ uses_of_rule P (x.text ∷ bound)) (uses_of_branch Q bound) h),
         )
     calls_below (Iterate P) bound h = calls_below P bound h
+    calls_below (While t P) bound h = calls_below P bound (last_part (uses_of_term t bound) (uses_of_rule P bound) h)
+    calls_below (SetResult x t) bound h = tt
 
     each_below : (Ps : Rules) (bound : List Text) → CallsAreBelow (uses_of_rules Ps bound) → EachCallsBelow spec rank n Ps
     each_below no_rules bound h = tt
@@ -65,9 +70,10 @@ module _ (spec : Spec) (rank : Text → ℕ) (n : ℕ) where
     branch_below left_out bound h = tt
     branch_below (written P) bound h = calls_below P bound h
 
+  -- a name that isn't bound, in a term or as the word `result`
   abbrev UsesAreBelow : List Use → Type 0
   UsesAreBelow us =
-      (u : Use) → Contains us u → u.role ≡ InTerm → u.is_bound ≡ false
+      (u : Use) → Contains us u → (u.role ≡ InTerm) ⊎ (u.role ≡ AsResult) → u.is_bound ≡ false
       → (xs : List Name) (t : Term) → declared spec u.name.text ≡ Some (Derived xs t) → rank u.name.text < n
 
   front_uses : (us vs : List Use) → UsesAreBelow (us ++ vs) → UsesAreBelow us
@@ -83,7 +89,7 @@ module _ (spec : Spec) (rank : Text → ℕ) (n : ℕ) where
     uses_below : (t : Term) (bound : List Text) → UsesAreBelow (uses_of_term t bound) → UsesBelow spec rank n t bound
     uses_below (Constant v) bound h = tt
     uses_below (Named x ts) bound h = (
-      λ free xs t is. h (use_of InTerm x (term_count ts) bound) (Contains-first _ (uses_of_terms ts bound)) refl free xs t is,
+      λ free xs t is. h (use_of InTerm x (term_count ts) bound) (Contains-first _ (uses_of_terms ts bound)) (inl refl) free xs t is,
       each_uses ts bound (tail_uses _ (uses_of_terms ts bound) h),
     )
     uses_below (Chain t links) bound h = (
@@ -94,6 +100,7 @@ module _ (spec : Spec) (rank : Text → ℕ) (n : ℕ) where
     uses_below (Negative t) bound h = uses_below t bound h
     uses_below (Exists x over t) bound h = uses_below t (x.text ∷ bound) (tail_uses _ (uses_of_term t (x.text ∷ bound)) h)
     uses_below (Every x over t) bound h = uses_below t (x.text ∷ bound) (tail_uses _ (uses_of_term t (x.text ∷ bound)) h)
+    uses_below (Answer x) bound h = λ free xs t is. h (use_of AsResult x 0 bound) (Contains-first _ []) (inr refl) free xs t is
 
     each_uses : (ts : Terms) (bound : List Text) → UsesAreBelow (uses_of_terms ts bound) → EachUsesBelow spec rank n ts bound
     each_uses no_terms bound h = tt
@@ -186,12 +193,12 @@ derived_ranked spec good =
 -- ---- each call is a step
 
 in_called : (spec : Spec) (f : Text) (xs : List Name) (P : Rule) → declared spec f ≡ Some (NamedRule xs P)
-    → (u : Use) → Contains (uses_of_rule P (map text_of xs)) u → is_call u.role (declared spec u.name.text) ≡ true → Contains (called spec f) u.name.text
+    → (u : Use) → Contains (uses_of_rule P (rule_scope xs)) u → is_call u.role (declared spec u.name.text) ≡ true → Contains (called spec f) u.name.text
 unfolding called
 in_called spec f xs P is u c e =
     subst (λ m. Contains (map (λ u. u.name.text) (calls_in spec m)) u.name.text) (sym is)
     (Contains-map (λ u. u.name.text) (calls_in spec (Some (NamedRule xs P))) u
-    (in_filter (λ u. is_call u.role (declared spec u.name.text)) (uses_of_rule P (map text_of xs)) u e c))
+    (in_filter (λ u. is_call u.role (declared spec u.name.text)) (uses_of_rule P (rule_scope xs)) u e c))
 
 in_used : (spec : Spec) (f : Text) (xs : List Name) (t : Term) → declared spec f ≡ Some (Derived xs t)
     → (u : Use) → Contains (uses_of_term t (map text_of xs)) u → is_use u.role u.is_bound (declared spec u.name.text) ≡ true → Contains (used spec f) u.name.text
@@ -204,14 +211,16 @@ in_used spec f xs t is u c e =
 -- what is known as called is a rule
 known_rule : (b : Bool) (m : Option Meaning) → is_known AsRule b m ≢ false → (xs : List Name) × (P : Rule) × (m ≡ Some (NamedRule xs P))
 known_rule b (Some (NamedRule xs P)) h = (xs, P, refl)
-known_rule b (Some names.Predeclared) h = absurd (h refl)
-known_rule b (Some (names.Range first last)) h = absurd (h refl)
-known_rule b (Some (names.Enumeration k)) h = absurd (h refl)
-known_rule b (Some (names.Element k)) h = absurd (h refl)
-known_rule b (Some (names.Controlled domain)) h = absurd (h refl)
-known_rule b (Some (names.Static domain)) h = absurd (h refl)
-known_rule b (Some (Derived xs t)) h = absurd (h refl)
-known_rule b None h = absurd (h refl)
+known_rule b m h = absurd (h refl)
+
+-- behind a `<-` too
+known_there : (to : Option (Name × Terms)) (b : Bool) (m : Option Meaning) → is_known (rule_role to) b m ≡ is_known AsRule b m
+known_there None b m = refl
+known_there (Some t) b m = known_alike b m
+
+called_there : (to : Option (Name × Terms)) (m : Option Meaning) → is_call (rule_role to) m ≡ is_call AsRule m
+called_there None m = refl
+called_there (Some t) m = called_alike m
 
 pub ranks_exist : RanksExist
 unfolding ranks.rule_rank ranks.derived_rank
@@ -220,20 +229,27 @@ ranks_exist spec good = record { rules = rules; rules_low = (rules_ranked spec g
     known : (u : Use) → Contains (uses spec) u → is_known_use spec u ≢ false
     known u c no' = good u.name.at 9 (unknown (record { use_of = u; stands = c; unknown = no'; offset = refl }))
 
-    callable : (f : Text) (xs : List Name) (P : Rule) → declared spec f ≡ Some (NamedRule xs P) → (u : Use) → Contains (uses_of_rule P (map text_of xs)) u → u.role ≡ AsRule
-        → IsCallable spec (height (called spec) 17) (height (called spec) 17 f) u.name.text
-    callable f xs P is u c role =
-        let it = known_rule u.is_bound (declared spec u.name.text) (subst (λ r. is_known r u.is_bound (declared spec u.name.text) ≢ false) role (known u (body_uses spec f (NamedRule xs P) is u c))) in
-        let call : is_call u.role (declared spec u.name.text) ≡ true = ap (λ r. is_call r (declared spec u.name.text)) role ∙ ap (is_call AsRule) it.2 in
+    callable : (f : Text) (xs : List Name) (P : Rule) → declared spec f ≡ Some (NamedRule xs P) → (u : Use) → Contains (uses_of_rule P (rule_scope xs)) u
+        → (to : Option (Name × Terms)) → u.role ≡ rule_role to → IsCallable spec (height (called spec) 17) (height (called spec) 17 f) u.name.text
+    callable f xs P is u c to role =
+        let m = declared spec u.name.text in
+        let same : is_known u.role u.is_bound m ≡ is_known AsRule u.is_bound m = ap (λ r. is_known r u.is_bound m) role ∙ known_there to u.is_bound m in
+        let it = known_rule u.is_bound m (subst (λ b. b ≢ false) same (known u (body_uses spec f (NamedRule xs P) is u c))) in
+        let call : is_call u.role m ≡ true = ap (λ r. is_call r m) role ∙ called_there to m ∙ ap (is_call AsRule) it.2 in
         record { parameters = it.0; body = it.1; is_declared = it.2; is_below = (rules_ranked spec good).1 f u.name.text (in_called spec f xs P is u c call) }
 
     rules : ranks.AreRulesRanked spec (height (called spec) 17)
-    rules f xs P is = calls_below spec (height (called spec) 17) (height (called spec) 17 f) P (map text_of xs) (callable f xs P is)
+    rules f xs P is = calls_below spec (height (called spec) 17) (height (called spec) 17 f) P (rule_scope xs) (callable f xs P is)
+
+    -- `result` is bound, where it stands
+    bound_result : (u : Use) → Contains (uses spec) u → u.role ≡ AsResult → u.is_bound ≡ false → ⊥
+    bound_result u c role free = good u.name.at 17 (result_use (outside u c role free refl))
 
     usable : (f : Text) (xs : List Name) (t : Term) → declared spec f ≡ Some (Derived xs t) → UsesAreBelow spec (height (used spec) 17) (height (used spec) 17 f) (uses_of_term t (map text_of xs))
-    usable f xs t is u c role free ys s d =
+    usable f xs t is u c (inl role) free ys s d =
         let using : is_use u.role u.is_bound (declared spec u.name.text) ≡ true = (λ i. is_use (role i) (free i) (d i)) in
         (derived_ranked spec good).1 f u.name.text (in_used spec f xs t is u c using)
+    usable f xs t is u c (inr role) free ys s d = absurd (bound_result u (body_uses spec f (Derived xs t) is u c) role free)
 
     derived : ranks.AreDerivedRanked spec (height (used spec) 17)
     derived f xs t is = uses_below spec (height (used spec) 17) (height (used spec) 17 f) t (map text_of xs) (usable f xs t is)

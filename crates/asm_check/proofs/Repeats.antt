@@ -1,10 +1,9 @@
 -- Names that stand in a list once more.
-use Rattle.std.proofs.Common.{◌≡◌, ℕ, Bool, true, false, cond, ◌||◌, List, [], ◌∷◌, ◌++◌, map, refl, sym, ap, subst, ◌∙◌}
+use Rattle.std.proofs.Common.{◌≡◌, ℕ, Bool, true, false, cond, ◌||◌, List, [], ◌∷◌, ◌++◌, map, refl, sym, ap, ◌∙◌}
 use Rattle.std.proofs.Math.Bool.{or-false}
 use Rattle.asm_syntax.specs.SourceTree.{Name}
 use Rattle.asm_check.specs.Names.{Text, is_text, is_among, text_of}
 use Rattle.asm_check.specs.FaultLists.{repeats, at_with}
-use Rattle.asm_check.proofs.Declared.{same_text}
 use Rattle.asm_check.proofs.Firsts.{covered, turn}
 
 -- one more name

@@ -1,7 +1,6 @@
 -- Names of a list that stood in it before.
-use Rattle.std.proofs.Common.{◌≡◌, ℕ, ◌+◌, ◌<◌, nat_eq, Bool, true, false, cond, not, ◌||◌, List, [], ◌∷◌, ◌++◌, length, take, get_or, map, flat_map, Option, refl, sym, ap, subst, ◌∙◌, append-nil}
+use Rattle.std.proofs.Common.{◌≡◌, ℕ, ◌+◌, ◌<◌, Bool, true, false, cond, not, ◌||◌, List, [], ◌∷◌, ◌++◌, length, take, get_or, map, flat_map, Option, refl, sym, ap, subst, ◌∙◌, append-nil}
 use Rattle.std.specs.Borrow.{Bor}
-use Rattle.std.specs.Cmp.Lexicographic.{pointwise}
 use Rattle.std.specs.List.{list_any}
 use Rattle.std.proofs.lemmas.Grind.{flat_map-append}
 use Rattle.std.proofs.lemmas.List.{map-append, take_more}
@@ -12,7 +11,6 @@ use Rattle.asm_check.specs.Faults.{parameters_of}
 use Rattle.asm_check.specs.FaultLists.{repeats, at_with}
 use Rattle.asm_check.specs.Gathering.{IsSeen, parameter_faults}
 use Rattle.asm_check.specs.Soonest.{noted}
-use Rattle.asm_check.proofs.Declared.{same_text}
 use Rattle.asm_check.specs.Positions.{is_key, is_spelled}
 use Rattle.asm_check.proofs.Positioned.{has_text, one_more_key}
 use Rattle.asm_check.proofs.Lookups.{text_turned}

@@ -1,5 +1,5 @@
 -- Ways of one graph, as ways of another that it is a picture of.
-use Rattle.std.proofs.Common.{◌≡◌, ℕ, zero, suc, List, [], ◌∷◌, map, refl, sym, ap, subst, inl, inr}
+use Rattle.std.proofs.Common.{◌≡◌, ℕ, zero, suc, List, map, refl, sym, ap, subst, inl, inr}
 use Rattle.std.specs.Prelude.{Contains}
 use Rattle.asm_state.proofs.Lists.{Contains-from_map, Contains-map}
 use Rattle.asm_check.specs.Ways.{LeadsTo, at_once, by_way_of, ReachesCycle, IsOnWay}

@@ -5,7 +5,7 @@ use Rattle.std.proofs.lemmas.List.{append_assoc, map-append, get_or-map, length-
 use Rattle.std.proofs.lemmas.List.Elements.{All-append, All-cons, All-nil}
 use Rattle.asm_syntax.specs.SourceTree.{Spec}
 use Rattle.asm_check.specs.Graph.{next_of}
-use Rattle.asm_check.specs.Names.{Text, Meaning, Role, InTerm, AsTarget, AsRule, AsUniverse, AsCodomain, AsElement, Use, declared}
+use Rattle.asm_check.specs.Names.{Text, Meaning, Role, InTerm, AsTarget, AsRule, AsAnswering, AsUniverse, AsCodomain, AsElement, AsResult, Use, declared}
 use Rattle.asm_check.specs.Onward.{onward}
 use Rattle.asm_check.specs.Stepping.{is_stepping, stepping_to, onward_from}
 use Rattle.asm_check.specs.Tables.{Entry, IsTableOf, text_at, meaning_of}
@@ -38,18 +38,22 @@ no_call : (role : Role) → is_call role None ≡ false
 no_call InTerm = refl
 no_call AsTarget = refl
 no_call AsRule = refl
+no_call AsAnswering = refl
 no_call AsUniverse = refl
 no_call AsCodomain = refl
 no_call AsElement = refl
+no_call AsResult = refl
 
 no_use : (role : Role) (b : Bool) → is_use role b None ≡ false
 no_use InTerm true = refl
 no_use InTerm false = refl
 no_use AsTarget b = refl
 no_use AsRule b = refl
+no_use AsAnswering b = refl
 no_use AsUniverse b = refl
 no_use AsCodomain b = refl
 no_use AsElement b = refl
+no_use AsResult b = refl
 
 -- what isn't declared has no step
 pub undeclared_stepping : (spec : Spec) (in_rule : Bool) (u : Use) → declared spec u.name.text ≡ None → is_stepping spec in_rule u ≡ false
@@ -117,6 +121,11 @@ entry_taken spec entries rest more lists e ns left before within texts = record 
       ∙ before.steps;
 }
 
+pub got : (es : List Entry) (i : ℕ) (e : Entry) → slice_get es i ≡ Some e → get_or es i e ≡ e
+got [] i e at = refl
+got (f ∷ es) zero e at = cc
+got (f ∷ es) (suc i) e at = got es i e at
+
 -- the steps from a position of the table
 pub onward_at : (spec : Spec) (entries : List Entry) (lists : List (List ℕ)) → IsTableOf spec entries → length lists ≡ length entries
     → map (map (text_at entries)) lists ≡ map (entry_onward spec) entries
@@ -130,8 +139,3 @@ onward_at spec entries lists table same all n below =
     ∙ get_or-map (entry_onward spec) entries n there.0 [] below
     ∙ ap (entry_onward spec) (got entries n there.0 there.1)
     ∙ ap (onward_from spec) (sym (position_declared spec entries table n there.0 there.1))
-  where
-    got : (es : List Entry) (i : ℕ) (e : Entry) → slice_get es i ≡ Some e → get_or es i e ≡ e
-    got [] i e at = refl
-    got (f ∷ es) zero e at = cc
-    got (f ∷ es) (suc i) e at = got es i e at

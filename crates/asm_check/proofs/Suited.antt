@@ -9,12 +9,13 @@ use Rattle.asm_syntax.specs.SourceTree.{Name, Spec}
 use Rattle.asm_check.specs.Fit.{IsUniverseName, IsElementName, IsCodomainName, IsFitName, IsFitUse, IsFitTarget, IsFitCall, element, controlled, static, derived}
 use Rattle.asm_check.specs.Limits.{is_universe, is_rule}
 use Rattle.asm_check.specs.Names as names
-use Rattle.asm_check.specs.Names.{Text, Meaning, Role, InTerm, AsTarget, AsRule, AsUniverse, AsCodomain, AsElement, is_known, is_text, is_among, arguments_of, is_assignable, declared}
+use Rattle.asm_check.specs.Names.{Text, Meaning, Role, InTerm, AsTarget, AsRule, AsAnswering, AsUniverse, AsCodomain, AsElement, AsResult, is_known, is_text, is_among, arguments_of, is_assignable, answers, declared}
 use Rattle.asm_check.specs.Numbers.{is_element, is_table, is_derived, all_of, number_in, named_as, named, meaning_at}
 use Rattle.asm_check.specs.declared.checked.Named.{Named}
 use Rattle.asm_check.specs.declared.checked.Named.TheVariants as number
 use Rattle.asm_check.proofs.Declared.{same_text, text_itself}
 use Rattle.asm_check.proofs.NamesNumbered.{index_like}
+use Rattle.asm_check.proofs.Alike.{known_alike, counted_alike}
 use Rattle.asm_check.proofs.Sole.{left_false, right_false}
 
 module _ (spec : Spec) (x : Name) where
@@ -125,16 +126,20 @@ module _ (spec : Spec) where
   abbrev pub IsSuited : Role → Name → ℕ → (bound : List Text) → Type 0
   IsSuited InTerm x n bound = IsFitUse spec x n bound
   IsSuited AsTarget x n bound = IsFitTarget spec x n bound
-  IsSuited AsRule x n bound = IsFitCall spec x n
+  IsSuited AsRule x n bound = IsFitCall spec x n × (answers (declared spec x.text) ≡ false)
+  IsSuited AsAnswering x n bound = IsFitCall spec x n
   IsSuited AsUniverse x n bound = IsUniverseName spec x
   IsSuited AsCodomain x n bound = IsCodomainName spec x
   IsSuited AsElement x n bound = IsElementName spec x
+  IsSuited AsResult x n bound = Contains bound x.text
 
-  -- a use without the faults 9, 10 and 11
+  -- a use without the faults 9, 10, 11 and 17
   pub record IsGood (role : Role) (x : Name) (n : ℕ) (b : Bool) : Type 0 where
     pub known : is_known role b (declared spec x.text) ≡ true
     pub counted : (k : ℕ) → arguments_of role b (declared spec x.text) ≡ Some k → n ≡ k
     pub assignable : role ≡ AsTarget → is_assignable b (declared spec x.text) ≡ true
+    pub plain : role ≡ AsRule → answers (declared spec x.text) ≡ false
+    pub inside : role ≡ AsResult → b ≡ true
 
   module _ (x : Name) (n : ℕ) (bound : List Text) where
     term_suited : (b : Bool) → is_among bound x.text ≡ b → IsGood InTerm x n b → IsFitUse spec x n bound
@@ -148,7 +153,11 @@ module _ (spec : Spec) where
     pub suited : (role : Role) (b : Bool) → is_among bound x.text ≡ b → IsGood role x n b → IsSuited role x n bound
     suited InTerm b e good = term_suited b e good
     suited AsTarget b e good = target_suited b e good
-    suited AsRule b e good = as_rule spec x n b (declared spec x.text) refl good.known good.counted
+    suited AsRule b e good = (as_rule spec x n b (declared spec x.text) refl good.known good.counted, good.plain refl)
+    suited AsAnswering b e good =
+        let m = declared spec x.text in
+        as_rule spec x n b m refl (sym (known_alike b m) ∙ good.known) (λ k has. good.counted k (counted_alike b m ∙ has))
     suited AsUniverse b e good = as_universe spec x n b (declared spec x.text) refl good.known
     suited AsCodomain b e good = as_codomain spec x n b (declared spec x.text) refl good.known
     suited AsElement b e good = as_element spec x n b (declared spec x.text) refl good.known
+    suited AsResult b e good = among bound x.text (e ∙ good.inside refl)

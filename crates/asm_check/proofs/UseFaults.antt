@@ -8,7 +8,7 @@ use Rattle.asm_syntax.specs.SourceTree.{Spec}
 use Rattle.asm_syntax.specs.Views.{item_of}
 use Rattle.asm_syntax.specs.declared.spec.Item.{Item}
 use Rattle.asm_check.specs.Names.{Meaning, Use, uses_of, uses, declared, is_known, arguments_of, is_assignable}
-use Rattle.asm_check.specs.FaultLists.{faults_of_use, use_faults, miscounts, is_target}
+use Rattle.asm_check.specs.FaultLists.{faults_of_use, all_of_use, use_faults, miscounts, is_target}
 use Rattle.asm_check.specs.Soonest.{noted}
 use Rattle.asm_check.proofs.Noted.{noted_after}
 
@@ -21,7 +21,7 @@ one_step faults start before after xs i x below rest e =
     ∙ rest
 
 abbrev pub item_faults : Spec → Item → List (ℕ × ℕ)
-item_faults spec item = flat_map (faults_of_use spec) (uses_of (item_of item))
+item_faults spec item = flat_map (all_of_use spec) (uses_of (item_of item))
 
 flat_twice : {A B C : Type 0} (f : A → List B) (g : B → List C) (xs : List A) → flat_map g (flat_map f xs) ≡ flat_map (λ x. flat_map g (f x)) xs
 flat_twice f g [] = refl
@@ -30,9 +30,9 @@ flat_twice f g (x ∷ xs) = flat_map-append g (f x) (flat_map f xs) ∙ ap (λ y
 pub faults_of_items : (spec : Spec) (items : List Item) → spec.items ≡ map item_of items → use_faults spec ≡ flat_map (item_faults spec) items
 unfolding use_faults uses
 faults_of_items spec items e =
-    ap (λ ys. flat_map (faults_of_use spec) (flat_map uses_of ys)) e
-    ∙ flat_twice uses_of (faults_of_use spec) (map item_of items)
-    ∙ flat_map-map (λ y. flat_map (faults_of_use spec) (uses_of y)) item_of items
+    ap (λ ys. flat_map (all_of_use spec) (flat_map uses_of ys)) e
+    ∙ flat_twice uses_of (all_of_use spec) (map item_of items)
+    ∙ flat_map-map (λ y. flat_map (all_of_use spec) (uses_of y)) item_of items
 
 -- ---- of one use
 

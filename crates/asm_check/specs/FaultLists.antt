@@ -1,6 +1,6 @@
 -- The faults of a specification as lists, as a search meets them. Each is equal as a set to the faults of its numbers.
---     twice_faults    8;  use_faults    9, 10, 11;  init_faults    14;  limit_faults    15, but for ranks;  entry_faults    16;
---     result_faults   17
+--     twice_faults    8;  use_faults    9, 10, 11, and 17 of uses;  init_faults    14;  limit_faults    15, but for ranks;
+--     entry_faults    16;  start_results    17 of starting rules
 use Rattle.std.specs.Prelude.{ℕ, ◌+◌, Bool, true, false, not, cond, ◌&&◌, ◌||◌, nat_eq, nat_lt, List, [], ◌∷◌, ◌++◌, map, flat_map, filter, length, sum_by, Option, Some, None}
 use Rattle.std.specs.List.{list_any, list_all}
 use Rattle.asm_syntax.specs.SourceTree as source
@@ -39,8 +39,22 @@ faults_of_use spec u =
     (cond (is_target u.role && not (is_assignable u.is_bound (declared spec u.name.text))) ((u.name.at, 11) ∷ []) []))
     ((u.name.at, 9) ∷ [])
 
+-- 17: `result` where it isn't bound, or a plain call of a rule that answers
+abbrev pub is_plain_call : Role → Bool
+is_plain_call AsRule = true
+is_plain_call role = false
+
+abbrev pub is_misused : Spec → Use → Bool
+is_misused spec u = (is_result u.role && not u.is_bound) || (is_plain_call u.role && answers (declared spec u.name.text))
+
+abbrev pub misuse : Spec → Use → List (ℕ × ℕ)
+misuse spec u = cond (is_misused spec u) ((u.name.at, 17) ∷ []) []
+
+abbrev pub all_of_use : Spec → Use → List (ℕ × ℕ)
+all_of_use spec u = faults_of_use spec u ++ misuse spec u
+
 unfoldable pub use_faults : Spec → List (ℕ × ℕ)
-use_faults spec = flat_map (faults_of_use spec) (uses spec)
+use_faults spec = flat_map (all_of_use spec) (uses spec)
 
 -- ---- 14
 
@@ -94,25 +108,12 @@ bad_entries spec domain before (e ∷ es) = cond (is_bad_entry spec domain befor
 unfoldable pub entry_faults : Spec → List (ℕ × ℕ)
 entry_faults spec = flat_map (λ t. bad_entries spec t.0 [] t.1) (flat_map table_of spec.items)
 
--- ---- 17
-
-abbrev pub is_plain_call : Role → Bool
-is_plain_call AsRule = true
-is_plain_call role = false
-
-abbrev pub is_misused : Spec → Use → Bool
-is_misused spec u = (is_result u.role && not u.is_bound) || (is_plain_call u.role && answers (declared spec u.name.text))
-
-abbrev pub misuses : Spec → Use → List (ℕ × ℕ)
-misuses spec u = cond (is_misused spec u) ((u.name.at, 17) ∷ []) []
+-- ---- 17 of starting rules
 
 -- a rule that answers can't be a starting rule
-abbrev pub misused_start : Spec → Name → List (ℕ × ℕ)
-misused_start spec x = cond (answers (declared spec x.text)) ((x.at, 17) ∷ []) []
+abbrev pub start_result : Spec → Item → List (ℕ × ℕ)
+start_result spec (source.Init x) = cond (answers (declared spec x.text)) ((x.at, 17) ∷ []) []
+start_result spec item = []
 
-abbrev pub starts_misused : Spec → Item → List (ℕ × ℕ)
-starts_misused spec (source.Init x) = misused_start spec x
-starts_misused spec item = []
-
-unfoldable pub result_faults : Spec → List (ℕ × ℕ)
-result_faults spec = flat_map (misuses spec) (uses spec) ++ flat_map (starts_misused spec) spec.items
+unfoldable pub start_results : Spec → List (ℕ × ℕ)
+start_results spec = flat_map (start_result spec) spec.items

@@ -146,8 +146,8 @@ pub record IsBadEntry (spec : Spec) (at : ℕ) : Type 0 where
 
 -- ---- 17: the word `result`
 
--- it stands outside of every rule, so in the body of a derived function; or a rule in whose body it stands is called without a target, or
--- is a starting rule
+-- it stands where it isn't bound, so outside of every rule, in the body of a derived function; or a rule in whose body it stands is called
+-- without a target, or is a starting rule
 pub data IsResultUse (spec : Spec) (at : ℕ) : Type 0 where
   outside : (u : Use) → Contains (uses spec) u → u.role ≡ AsResult → u.is_bound ≡ false → u.name.at ≡ at → IsResultUse spec at
   plain_call : (u : Use) → Contains (uses spec) u → u.role ≡ AsRule → answers (declared spec u.name.text) ≡ true → u.name.at ≡ at → IsResultUse spec at

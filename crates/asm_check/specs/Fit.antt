@@ -3,11 +3,11 @@
 --     IsFitFunction spec domain codomain table           so it is in the declaration of a function
 --     HasStart spec                                      the one starting rule
 --     IsReady spec                                       all of it
-use Rattle.std.specs.Prelude.{◌≡◌, ◌⊎◌, ℕ, List, [], ◌∷◌, map, length, Contains, Option, Some, None}
+use Rattle.std.specs.Prelude.{◌≡◌, ◌⊎◌, ℕ, false, List, [], ◌∷◌, map, length, Contains, Option, Some, None}
 use Rattle.asm_state.specs.declared.function.FunctionKind.{FunctionKind}
 use Rattle.asm_syntax.specs.SourceTree as source
 use Rattle.asm_syntax.specs.SourceTree.{Name, Term, Constant, Named, Chain, Not, Negative, Exists, Every, Answer, Terms, no_terms, term_then, Links, no_links, link_then, Rule, Skip, Assign, Call, Par, Seq, If, Let, Forall, Choose, Iterate, While, SetResult, Rules, no_rules, rule_then, Branch, left_out, written, Const, Given, Spec}
-use Rattle.asm_check.specs.Names.{Text, Predeclared, Controlled, Static, NamedRule, Derived, declared, term_count, rule_scope, text_of}
+use Rattle.asm_check.specs.Names.{Text, Predeclared, Controlled, Static, NamedRule, Derived, answers, declared, term_count, rule_scope, text_of}
 use Rattle.asm_check.specs.Numbers.{functions_of, derived_of, rules_of, meaning_at, named}
 use Rattle.asm_check.specs.declared.checked.Named as checked
 use Rattle.asm_check.specs.declared.checked.Named.TheVariants as number
@@ -82,6 +82,11 @@ module _ (spec : Spec) where
     pub means : meaning_at (rules_of spec) rule ≡ Some (NamedRule parameters body)
     pub counted : n ≡ length parameters
 
+  -- a rule that answers is called behind a `<-` only
+  abbrev pub IsFitCallTo : Option (Name × Terms) → Name → ℕ → Type 0
+  IsFitCallTo None r n = IsFitCall r n × (answers (declared spec r.text) ≡ false)
+  IsFitCallTo (Some to) r n = IsFitCall r n
+
   -- the target of a `<-`, if there is one
   abbrev pub IsFitTargetOf : Option (Name × Terms) → (bound : List Text) → Type 0
   IsFitTargetOf None bound = Unit {0}
@@ -91,7 +96,7 @@ module _ (spec : Spec) where
     pub IsFitRule : Rule → (bound : List Text) → Type 0
     IsFitRule Skip bound = Unit {0}
     IsFitRule (Assign f ts t) bound = IsFitTarget f (term_count ts) bound × AreFitTerms ts bound × IsFitTerm t bound
-    IsFitRule (Call to r ts) bound = IsFitTargetOf to bound × IsFitCall r (term_count ts) × AreFitTerms ts bound
+    IsFitRule (Call to r ts) bound = IsFitTargetOf to bound × IsFitCallTo to r (term_count ts) × AreFitTerms ts bound
     IsFitRule (Par Ps) bound = AreFitRules Ps bound
     IsFitRule (Seq Ps) bound = AreFitRules Ps bound
     IsFitRule (If t P Q) bound = IsFitTerm t bound × IsFitRule P bound × IsFitBranch Q bound
@@ -133,6 +138,8 @@ module _ (spec : Spec) where
     pub body : Rule
     pub only : inits spec ≡ name ∷ []
     pub rule : declared spec name.text ≡ Some (NamedRule [] body)
+    -- it doesn't answer
+    pub plain : answers (declared spec name.text) ≡ false
 
   pub record IsReady : Type 0 where
     pub rules : (f : Text) (xs : List Name) (P : Rule) → declared spec f ≡ Some (NamedRule xs P) → IsFitRule P (rule_scope xs)

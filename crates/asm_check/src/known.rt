@@ -1,9 +1,10 @@
-//! Uses of unknown names, with wrong numbers of arguments, or as targets that can't be assigned.
+//! Uses of unknown names, with wrong numbers of arguments, or as targets that can't be assigned; with them, misuses of `result`.
 ghost use Rattle.std.specs.Prelude.{◌≡◌, OnOk, map, flat_map};
 ghost use Rattle.asm_syntax.specs.SourceTree as source;
 ghost use Rattle.asm_syntax.specs.Views.{spec_of};
+ghost use Rattle.asm_check.specs.Answering.{AreAnswering};
 ghost use Rattle.asm_check.specs.Errors.{found_of};
-ghost use Rattle.asm_check.specs.FaultLists.{use_faults, faults_of_use, miscounts};
+ghost use Rattle.asm_check.specs.FaultLists.{use_faults, all_of_use, faults_of_use, miscounts};
 ghost use Rattle.asm_check.specs.FaultLists as fault_lists;
 ghost use Rattle.asm_check.specs.Soonest.{noted};
 ghost use Rattle.asm_check.specs.Tables.{IsTableOf};
@@ -13,6 +14,7 @@ use crate::error::FaultKind;
 use crate::least::Least;
 use crate::name_table::Names;
 use crate::names::meaning;
+use crate::results::note_misuse;
 use crate::roles::{arguments_of, is_assignable, is_known};
 use crate::uses::{Role, Use, uses_of_item};
 use asm_syntax::spec::Spec;
@@ -23,30 +25,34 @@ pub(crate) fn note_uses(
     alloc: Global,
     spec: &Spec,
     names: &Names,
+    answering: &[bool],
     least: &mut Least,
 ) -> Result<(), AllocError>
-    requires { IsTableOf (spec_of spec.now) names.now }
+    requires table { IsTableOf (spec_of spec.now) names.now }
+    requires answering { AreAnswering names.now answering.now }
     ensures { OnOk result (found_of least.new.found ≡ noted (found_of least.old.found) (use_faults (spec_of spec.now))) }
 {
     for item in &spec.items {
         let uses = uses_of_item(alloc, item)?;
-        note_each(names, &uses, least);
+        note_each(names, answering, &uses, least);
     }
     Ok(())
 }
 
 /// Notes the faults of these uses.
-fn note_each(names: &Names, uses: &[Use], least: &mut Least)
+fn note_each(names: &Names, answering: &[bool], uses: &[Use], least: &mut Least)
+    requires { AreAnswering names.now answering.now }
     ensures { (spec : source.Spec) → IsTableOf spec names.now →
-        found_of least.new.found ≡ noted (found_of least.old.found) (flat_map (faults_of_use spec) (map use_of uses.now)) }
+        found_of least.new.found ≡ noted (found_of least.old.found) (flat_map (all_of_use spec) (map use_of uses.now)) }
 {
     for used in uses {
         note_use(names, *used, least);
+        note_misuse(names, answering, *used, least);
     }
 }
 
-/// Notes the fault of a use, if it has one.
-pub(crate) fn note_use(names: &Names, used: Use, least: &mut Least)
+/// Notes the fault of a use, if it has one of the first three.
+fn note_use(names: &Names, used: Use, least: &mut Least)
     ensures { (spec : source.Spec) → IsTableOf spec names.now →
         found_of least.new.found ≡ noted (found_of least.old.found) (faults_of_use spec (use_of used.entry)) }
 {

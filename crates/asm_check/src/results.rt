@@ -1,10 +1,11 @@
-//! Uses of `result` where no rule answers.
-ghost use Rattle.std.specs.Prelude.{◌≡◌, IfOk, OnOk, Some, map, flat_map};
+//! Rules that answer: those in whose bodies the word `result` stands.
+ghost use Rattle.std.specs.Prelude.{◌≡◌, IfOk, Some};
+ghost use Rattle.std.specs.List.{list_any};
 ghost use Rattle.asm_syntax.specs.SourceTree as source;
 ghost use Rattle.asm_syntax.specs.Views.{spec_of, item_of};
 ghost use Rattle.asm_check.specs.Answering.{AreAnswering};
 ghost use Rattle.asm_check.specs.Errors.{found_of};
-ghost use Rattle.asm_check.specs.FaultLists.{result_faults, misuses};
+ghost use Rattle.asm_check.specs.FaultLists.{misuse, start_result, start_results};
 ghost use Rattle.asm_check.specs.FaultLists as fault_lists;
 ghost use Rattle.asm_check.specs.Names.{declared};
 ghost use Rattle.asm_check.specs.Names as meanings;
@@ -17,55 +18,41 @@ use crate::least::Least;
 use crate::meaning::Meaning;
 use crate::name_table::Names;
 use crate::names::position;
-use crate::uses::{Role, Use, uses_of_item, uses_of_named_rule};
+use crate::uses::{Role, Use, uses_of_named_rule};
 use asm_syntax::name::Text;
 use asm_syntax::spec::{Item, Spec};
 use std::alloc::{AllocError, Global};
 
-/// Notes each `result` outside of a rule, and each rule with `result` that is called without a target or is a starting rule.
-pub(crate) fn note_results(
-    alloc: Global,
-    spec: &Spec,
-    names: &Names,
-    least: &mut Least,
-) -> Result<(), AllocError>
-    requires { IsTableOf (spec_of spec.now) names.now }
-    ensures { OnOk result (found_of least.new.found ≡ noted (found_of least.old.found) (result_faults (spec_of spec.now))) }
+/// Of each declaration, by its position in the table, whether it is a rule that answers.
+pub(crate) fn answering_rules(alloc: Global, names: &Names) -> Result<Vec<bool>, AllocError>
+    ensures { IfOk result (λ answering. AreAnswering names.now answering.items) }
 {
-    let flags = answering(alloc, names)?;
-    for item in &spec.items {
-        let uses = uses_of_item(alloc, item)?;
-        note_each(names, &flags, &uses, least);
-    }
-    for item in &spec.items {
-        note_start(names, &flags, item, least);
-    }
-    Ok(())
-}
-
-/// Of each declaration, by its position in the table, whether it is a rule in whose body `result` stands.
-fn answering(alloc: Global, names: &Names) -> Result<Vec<bool>, AllocError>
-    ensures { IfOk result (λ flags. AreAnswering names.now flags.items) }
-{
-    let mut flags = Vec::new(alloc);
+    let mut answering = Vec::new(alloc);
     let entries = names.entries();
     for entry in entries {
-        flags.push(is_answering(alloc, entry.1.meaning)?)?;
+        answering.push(is_answering(alloc, entry.1.meaning)?)?;
     }
-    Ok(flags)
+    Ok(answering)
 }
 
-/// Whether it is a rule in whose body `result` stands.
+/// Whether it is a rule that answers.
 fn is_answering(alloc: Global, meaning: Meaning) -> Result<bool, AllocError>
     ensures { IfOk result (λ b. b ≡ meanings.answers (Some (meaning_of meaning.entry))) }
 {
     match meaning {
         Meaning::Rule(parameters, body) => {
             let uses = uses_of_named_rule(alloc, parameters, body)?;
-            Ok(uses.iter().any(|used| is_result(used.role)))
+            Ok(has_result(&uses))
         }
         _ => Ok(false),
     }
+}
+
+/// Whether the word `result` is among these uses.
+fn has_result(uses: &[Use]) -> bool
+    ensures { result ≡ list_any (λ u. meanings.is_result (role_of u.role)) uses.now }
+{
+    uses.iter().any(|used| is_result(used.role))
 }
 
 fn is_result(role: Role) -> bool
@@ -74,51 +61,59 @@ fn is_result(role: Role) -> bool
     matches!(role, Role::AsResult)
 }
 
-/// Whether the name is declared as such a rule.
-fn answers(names: &Names, flags: &[bool], name: &Text) -> bool
-    requires { AreAnswering names.now flags.now }
+/// Whether the name is declared as a rule that answers.
+fn answers(names: &Names, answering: &[bool], name: &Text) -> bool
+    requires { AreAnswering names.now answering.now }
     ensures { (spec : source.Spec) → IsTableOf spec names.now → result ≡ meanings.answers (declared spec name.now) }
 {
     match position(names, name) {
-        Some(i) => flags[i],
+        Some(i) => answering[i],
         None => false,
     }
 }
 
-/// Notes the faults of these uses.
-fn note_each(names: &Names, flags: &[bool], uses: &[Use], least: &mut Least)
-    requires { AreAnswering names.now flags.now }
+/// Notes a `result` outside of a rule, or a rule that answers where it is called without a target.
+pub(crate) fn note_misuse(names: &Names, answering: &[bool], used: Use, least: &mut Least)
+    requires { AreAnswering names.now answering.now }
     ensures { (spec : source.Spec) → IsTableOf spec names.now →
-        found_of least.new.found ≡ noted (found_of least.old.found) (flat_map (misuses spec) (map use_of uses.now)) }
+        found_of least.new.found ≡ noted (found_of least.old.found) (misuse spec (use_of used.entry)) }
 {
-    for used in uses {
-        if is_misused(names, flags, *used) {
-            least.note(FaultKind::ResultUse, used.name.at);
-        }
+    if is_misused(names, answering, used) {
+        least.note(FaultKind::ResultUse, used.name.at);
     }
 }
 
-/// Whether the word stands outside of a rule, or a rule that answers is called without a target.
-fn is_misused(names: &Names, flags: &[bool], used: Use) -> bool
-    requires { AreAnswering names.now flags.now }
+fn is_misused(names: &Names, answering: &[bool], used: Use) -> bool
+    requires { AreAnswering names.now answering.now }
     ensures { (spec : source.Spec) → IsTableOf spec names.now → result ≡ fault_lists.is_misused spec (use_of used.entry) }
 {
     match used.role {
         Role::AsResult => !used.is_bound,
-        Role::AsRule => answers(names, flags, &used.name.text),
+        Role::AsRule => answers(names, answering, &used.name.text),
         _ => false,
     }
 }
 
-/// Notes a starting rule that answers.
-fn note_start(names: &Names, flags: &[bool], item: &Item, least: &mut Least)
-    requires { AreAnswering names.now flags.now }
-    ensures { (spec : source.Spec) → IsTableOf spec names.now →
-        found_of least.new.found ≡ noted (found_of least.old.found) (fault_lists.starts_misused spec (item_of item.now)) }
+/// Notes each starting rule that answers.
+pub(crate) fn note_start_results(spec: &Spec, names: &Names, answering: &[bool], least: &mut Least)
+    requires table { IsTableOf (spec_of spec.now) names.now }
+    requires answering { AreAnswering names.now answering.now }
+    ensures { found_of least.new.found ≡ noted (found_of least.old.found) (start_results (spec_of spec.now)) }
 {
-    if let Item::Init(name) = item {
-        if answers(names, flags, &name.text) {
-            least.note(FaultKind::ResultUse, name.at);
-        }
+    for item in &spec.items {
+        note_start_result(names, answering, item, least);
+    }
+}
+
+/// Notes the rule behind `init`, if it answers.
+fn note_start_result(names: &Names, answering: &[bool], item: &Item, least: &mut Least)
+    requires { AreAnswering names.now answering.now }
+    ensures { (spec : source.Spec) → IsTableOf spec names.now →
+        found_of least.new.found ≡ noted (found_of least.old.found) (start_result spec (item_of item.now)) }
+{
+    if let Item::Init(name) = item
+        && answers(names, answering, &name.text)
+    {
+        least.note(FaultKind::ResultUse, name.at);
     }
 }

@@ -73,3 +73,8 @@ bound_term (y ∷ ys) (t ∷ ts) caller x = by (is_of x y) (bound_term ys ts cal
         ≡ term_at (t ∷ ts) caller (cond b (Some 0) (option_map suc (position (is_of x) ys)))
     by true h = refl
     by false h = h ∙ term_later t ts caller (position (is_of x) ys)
+
+-- a name that no term is there for
+pub no_term_there : (xs : List syntax.Name) (ts : List Term) (caller : Environment) (x : Name) → None ≡ beside (position (is_of x) xs) ts
+    → None ≡ bound_to (bind_terms (map text_of xs) (plain_terms (terms_of (map term_of ts))) caller) x
+no_term_there xs ts caller x none = ap (option_map (λ (t : Term). ToTerm (plain_term (term_of t)) caller)) none ∙ sym (bound_term xs ts caller x)

@@ -36,6 +36,7 @@ use Rattle.asm_eval.specs.Does.{Outcome, Meaning as Does, nothing, called, meani
 use Rattle.asm_eval.specs.Environments.{text_of}
 use Rattle.asm_eval.specs.Evaluated.{state_at, meant, meant_terms}
 use Rattle.asm_eval.specs.Program.{Program, Declared, Universe, NamedRule, Environment, declared, bind_terms}
+use Rattle.asm_eval.specs.Targets.{answering}
 use Rattle.asm_eval.specs.Valued.{program}
 use Rattle.asm_eval.specs.Weights.{called_size, rule_size, rule_sizes, rule_size_within, rule_weight}
 use Rattle.asm_eval.specs.Yields.{Path, at}
@@ -65,7 +66,7 @@ module _ (program : Program) (body : tree.Rule → ℕ) where
     size_is : (R : tree.Rule) → rules_in of_called R ≡ rule_size program body R
     size_is tree.Skip = refl
     size_is (tree.Assign f ts t) = refl
-    size_is (tree.Call f ts) = refl
+    size_is (tree.Call to f ts) = refl
     size_is (tree.Par Ps) = ap (λ k. 1 + k) (sizes_are Ps)
     size_is (tree.Seq Ps) = ap (λ k. 1 + k) (sizes_are Ps)
     size_is (tree.If c P Q) = λ i. 1 + (size_is P i + size_is Q i)
@@ -81,15 +82,15 @@ module _ (program : Program) (body : tree.Rule → ℕ) where
 pub weight_is : (checked : Checked) (R : tree.Rule) → rules_in (in_body checked) R ≡ rule_weight (program checked) R
 weight_is checked R = size_is (program checked) (rule_size_within (program checked) 16) R ∙ sym (rule_within (program checked) R)
 
-pub call_is_less : (checked : Checked) (f : tree.Name) (ts : tree.Terms) (r : ℕ) (xs : List syntax.Name) (R : Rule) → named (spec_of checked.spec) f ≡ Some (number.Rule r)
+pub call_is_less : (checked : Checked) (to : Option (tree.Name × tree.Terms)) (f : tree.Name) (ts : tree.Terms) (r : ℕ) (xs : List syntax.Name) (R : Rule) → named (spec_of checked.spec) f ≡ Some (number.Rule r)
     → meaning_at (rules_of (spec_of checked.spec)) r ≡ Some (names.NamedRule (map name_of xs) (rule_of R))
-    → rules_in (in_body checked) (plain_rule (rule_of R)) < rules_in (in_body checked) (tree.Call f ts)
-call_is_less checked f ts r xs R is says =
+    → rules_in (in_body checked) (plain_rule (rule_of R)) < rules_in (in_body checked) (tree.Call to f ts)
+call_is_less checked to f ts r xs R is says =
     let spec = spec_of checked.spec in
-    let fall = (call_weights_fall (program checked) (rule_rank spec) (rules_ranked spec checked.well_formed)).at_call f ts (map text_of xs) (plain_rule (rule_of R))
+    let fall = (call_weights_fall (program checked) (rule_rank spec) (rules_ranked spec checked.well_formed)).at_call to f ts (map text_of xs) (plain_rule (rule_of R))
     (declared_rule checked f r xs R is says) (rule_rank_low spec f checked.well_formed) in
     let small = weight_is checked (plain_rule (rule_of R)) in
-    let great = weight_is checked (tree.Call f ts) in
+    let great = weight_is checked (tree.Call to f ts) in
     omega (arith, fall, small, great)
 
 -- ---- what a name stands for that is no rule
@@ -98,9 +99,9 @@ abbrev pub rule_number : Option Named → Option ℕ
 rule_number (Some (number.Rule r)) = Some r
 rule_number it = None
 
-module _ (program : Program) (turns : ℕ) (chosen : Path → ℕ) (body : tree.Rule → Does) (ts : tree.Terms) (A : State) (e : Environment) (p : Path) where
+module _ (program : Program) (turns : ℕ) (chosen : Path → ℕ) (body : tree.Rule → Does) (to : Option (tree.Name × tree.Terms)) (ts : tree.Terms) (A : State) (e : Environment) (p : Path) where
   abbrev calls : Option Declared → Outcome
-  calls it = called program turns chosen body it ts A e p
+  calls it = called program turns chosen body it to ts A e p
 
   held_is_no_rule : (shape : Shape) (f : ℕ) (it : state.Function) (k : FunctionKind) → nothing ≡ calls (Some (held_as shape f it k))
   held_is_no_rule shape f it kind.Controlled = refl
@@ -134,29 +135,29 @@ module _ (program : Program) (turns : ℕ) (chosen : Path → ℕ) (body : tree.
 -- ---- what calls do
 
 -- the body of the rule that is called is run one nesting further down
-call_does : (program : Program) (turns : ℕ) (script : Script) (step : ℕ) (A : State) (e : Environment) (p : Path) (f : tree.Name) (ts : tree.Terms)
-    → does program turns script step A e p (tree.Call f ts)
-    ≡ called program turns (pick script step) (does_within program turns (pick script step) 16) (declared program f) ts A e p
+call_does : (program : Program) (turns : ℕ) (script : Script) (step : ℕ) (A : State) (e : Environment) (p : Path) (to : Option (tree.Name × tree.Terms)) (f : tree.Name) (ts : tree.Terms)
+    → does program turns script step A e p (tree.Call to f ts)
+    ≡ called program turns (pick script step) (does_within program turns (pick script step) 16) (declared program f) to ts A e p
 unfolding does does_within meaning
-call_does program turns script step A e p f ts = refl
+call_does program turns script step A e p to f ts = refl
 
-module _ {P : Type 0} {picks : Ghosts P} (on : Evaluation P picks) (e : Environment) (p : Path) (f : tree.Name) (ts : List Term) where
+module _ {P : Type 0} {picks : Ghosts P} (on : Evaluation P picks) (e : Environment) (p : Path) (to : Option (tree.Name × tree.Terms)) (f : tree.Name) (ts : List Term) where
   abbrev terms : tree.Terms
   terms = meant_terms ts
 
   pub called_does : (r : ℕ) (xs : List syntax.Name) (R : Rule) → named (spec_of on.scene.checked.now.spec) f ≡ Some (number.Rule r)
       → meaning_at (rules_of (spec_of on.scene.checked.now.spec)) r ≡ Some (names.NamedRule (map name_of xs) (rule_of R))
-      → rule_does on (bind_terms (map text_of xs) terms e) (at p 0) R ≡ plain_does on e p (tree.Call f terms)
+      → rule_does on (answering (program on.scene.checked.now) (state_at on) e to (bind_terms (map text_of xs) terms e)) (at p 0) R ≡ plain_does on e p (tree.Call to f terms)
   called_does r xs R is says =
-      sym ((cases on).of_call f terms (map text_of xs) (meant R) (state_at on) e p
+      sym ((cases on).of_call to f terms (map text_of xs) (meant R) (state_at on) e p
       (declared_rule on.scene.checked.now f r xs R is says) (rule_rank_low (spec_of on.scene.checked.now.spec) f on.scene.checked.now.well_formed))
 
   pub not_called_does : (it : Option Named) → it ≡ named (spec_of on.scene.checked.now.spec) f → rule_number it ≡ None
-      → nothing ≡ plain_does on e p (tree.Call f terms)
+      → nothing ≡ plain_does on e p (tree.Call to f terms)
   not_called_does it is other =
       let spec = spec_of on.scene.checked.now.spec in
       let runs = called (program on.scene.checked.now) on.turns (pick (picks.script on.choices.now.script.now) on.choices.now.step) (does_within (program on.scene.checked.now) on.turns (pick (picks.script on.choices.now.script.now) on.choices.now.step) 16) in
-      no_rule (program on.scene.checked.now) on.turns (pick (picks.script on.choices.now.script.now) on.choices.now.step) (does_within (program on.scene.checked.now) on.turns (pick (picks.script on.choices.now.script.now) on.choices.now.step) 16) terms (state_at on) e p spec it other
-      ∙ ap (λ n. runs (numbered spec n) terms (state_at on) e p) is
-      ∙ ap (λ it. runs it terms (state_at on) e p) (sym (program_declares spec f))
-      ∙ sym (call_does (program on.scene.checked.now) on.turns (picks.script on.choices.now.script.now) on.choices.now.step (state_at on) e p f terms)
+      no_rule (program on.scene.checked.now) on.turns (pick (picks.script on.choices.now.script.now) on.choices.now.step) (does_within (program on.scene.checked.now) on.turns (pick (picks.script on.choices.now.script.now) on.choices.now.step) 16) to terms (state_at on) e p spec it other
+      ∙ ap (λ n. runs (numbered spec n) to terms (state_at on) e p) is
+      ∙ ap (λ it. runs it to terms (state_at on) e p) (sym (program_declares spec f))
+      ∙ sym (call_does (program on.scene.checked.now) on.turns (picks.script on.choices.now.script.now) on.choices.now.step (state_at on) e p to f terms)

@@ -134,7 +134,7 @@ unfolding does does_within meaning value values reading reading_within readings_
 for_no_element = refl
 
 -- the parameter is the caller's i, and not the one that is bound around it
-for_each_element : done [] [] (Let (codes "i") (constant (pos 5)) (Call (codes "fill") (of_one (name (codes "i")))))
+for_each_element : done [] [] (Let (codes "i") (constant (pos 5)) (Call None (codes "fill") (of_one (name (codes "i")))))
     ≡ giving (together (one (Proper 0 (number (pos 0) ∷ [])) (number (pos 5)))
     (together (one (Proper 0 (number (pos 1) ∷ [])) (number (pos 5))) (together (one (Proper 0 (number (pos 2) ∷ [])) (number (pos 5))) none))) 3
 unfolding does does_within meaning value values reading reading_within readings_of number_or_undef
@@ -191,7 +191,7 @@ the_later_part =
     ∙ ap (following (one at_x (number (pos 1))) 0) (good_part 1 [] (number (pos 2)) 0 nothing)
 
 -- the parameter stands for the term x, whose value is another one after the first part
-called_by_name : done [] [] (Call (codes "next") (of_one (name (codes "x")))) ≡ giving (merge (one at_x (number (pos 2))) (merge (one at_y (number (pos 2))) none)) 0
+called_by_name : done [] [] (Call None (codes "next") (of_one (name (codes "x")))) ≡ giving (merge (one at_x (number (pos 2))) (merge (one at_y (number (pos 2))) none)) 0
 unfolding does does_within meaning value values reading reading_within readings_of number_or_undef
 called_by_name =
     let v : Value = fire start (one at_x (number (pos 2))) at_x in

@@ -10,11 +10,11 @@ use Rattle.std.proofs.Common.{◌≡◌, ℕ, zero, suc, ◌+◌, ◌*◌, ◌�
 use Rattle.std.specs.Prelude.{slice_get, Result, Ok, Err, IsErrAnd}
 use Rattle.std.proofs.lemmas.Result.{IfErr-at_err}
 use Rattle.std.proofs.lemmas.List.{at_drop_more, drop_all}
+use Rattle.std.proofs.lemmas.Option.{slice_get-get_or}
 use Rattle.std.proofs.lemmas.Option.{slice_get_within, get_or_from_slice_get}
 use Rattle.asm_state.specs.declared.value.Value.{Value}
-use Rattle.asm_state.specs.Location.{State}
-use Rattle.asm_state.specs.Signature.{Shape, domain_of, location_at}
-use Rattle.asm_state.specs.Tables.{location_in}
+use Rattle.asm_state.specs.Location.{Location, Stray, State}
+use Rattle.asm_state.specs.Signature.{Shape, count_of, locations, location_at}
 use Rattle.asm_state.specs.Updates.{UpdateSet, none, one, together}
 use Rattle.asm_state.proofs.Algebra.{union_laws}
 use Rattle.asm_updates.specs.Entries.{Entries}
@@ -26,7 +26,7 @@ use Rattle.asm_syntax.specs.declared.rule.Rule.TheVariants as rule
 use Rattle.asm_syntax.specs.Tree as tree
 use Rattle.asm_syntax.specs.PlainTree.{plain_rule, plain_rules}
 use Rattle.asm_syntax.specs.Views.{rule_of, rules_of, spec_of}
-use Rattle.asm_syntax.specs.ViewCases.{rule_of-Skip, rule_of-Par, rule_of-Seq}
+use Rattle.asm_syntax.specs.ViewCases.{rule_of-Skip, rule_of-Par, rule_of-Seq, rule_of-SetResult}
 use Rattle.asm_check.specs.Ranks.{rule_rank}
 use Rattle.asm_check.specs.declared.checked.Checked.{Checked}
 use Rattle.asm_reader.specs.ScriptLines.{pick}
@@ -42,12 +42,14 @@ use Rattle.asm_eval.specs.Formed.{Forms, Follows, IsStoppedAt, greatest_count}
 use Rattle.asm_eval.specs.Cases.{ScriptedCases, runs, all_run}
 use Rattle.asm_eval.specs.Scenes.{is_candidate, scene_candidates, with_element}
 use Rattle.asm_eval.specs.Setting.{Setting, outcome}
-use Rattle.asm_eval.specs.Program.{Environment, Controlled, declared, with_value}
+use Rattle.asm_eval.specs.Environments.{location_numbered}
+use Rattle.asm_eval.specs.Program.{Environment, declared, with_value}
+use Rattle.asm_eval.specs.Targets.{location, update}
 use Rattle.asm_eval.specs.Taken.{taken}
 use Rattle.asm_eval.specs.Value.{is_true, values, universe}
 use Rattle.asm_eval.specs.Valued.{program, term_value, condition}
 use Rattle.asm_eval.specs.Weights.{called_size, rule_size_within}
-use Rattle.asm_eval.specs.Yields.{Path, Gives, Exhausted, at, assigned, beside}
+use Rattle.asm_eval.specs.Yields.{Path, Gives, Exhausted, at, beside}
 use Rattle.asm_eval.proofs.Beside.{right_unit}
 use Rattle.asm_eval.proofs.Cases.{scripted_by_cases}
 use Rattle.asm_eval.proofs.ExhaustedPaths.{first_part_first, first_element_first}
@@ -171,7 +173,7 @@ module _ (of_called : tree.Name → ℕ) where
     pub rules_in : tree.Rule → ℕ
     rules_in tree.Skip = 1
     rules_in (tree.Assign f ts t) = 1
-    rules_in (tree.Call f ts) = 1 + of_called f
+    rules_in (tree.Call to f ts) = 1 + of_called f
     rules_in (tree.Par Ps) = 1 + rules_in_all Ps
     rules_in (tree.Seq Ps) = 1 + rules_in_all Ps
     rules_in (tree.If c P Q) = 1 + (rules_in P + rules_in Q)
@@ -200,7 +202,7 @@ in_body checked f = called_size (program checked) (rule_size_within (program che
 
 -- Where a function calls one for the same rule, its own rank is the higher
 abbrev pub left_to_form : Checked → (rank : ℕ) → tree.Rule → ℕ
-left_to_form checked rank R = 4 * rules_in (in_body checked) R + rank
+left_to_form checked rank R = 5 * rules_in (in_body checked) R + rank
 
 -- ---- the candidate that is taken
 
@@ -219,8 +221,8 @@ module _ (s : Setting) where
   abbrev pub rules_do_in_order : Environment → Path → ℕ → List Rule → State → Outcome
   rules_do_in_order e p k rs A = in_order (all_run s.program s.turns s.script s.step (meant_rules rs)) k A e p
 
-  abbrev pub turns_do : Environment → Path → (left : ℕ) → (t : ℕ) → Rule → State → Outcome
-  turns_do e p left t R A = turns_of (runs s.program s.turns s.script s.step (meant R)) left t A e p
+  abbrev pub turns_do : Environment → Path → (left : ℕ) → (t : ℕ) → tree.Rule → State → Outcome
+  turns_do e p left t R A = turns_of (runs s.program s.turns s.script s.step R) left t A e p
 
 module _ {P : Type 0} {picks : Ghosts P} (on : Evaluation P picks) where
   abbrev pub plain_does : Environment → Path → tree.Rule → Outcome
@@ -256,18 +258,13 @@ module _ {P : Type 0} {picks : Ghosts P} (on : Evaluation P picks) where
   cases = scripted_by_cases (program on.scene.checked.now) (rule_rank (spec_of on.scene.checked.now.spec)) on.turns (picks.script on.choices.now.script.now) on.choices.now.step (rules_ranked (spec_of on.scene.checked.now.spec) on.scene.checked.now.well_formed)
 
   module _ (e : Environment) where
-    values_are : (ts : List Term) → map (term_value on.scene.checked.now on.scene.view.now e) ts ≡ values (program on.scene.checked.now) (state_at on) e (meant_terms ts)
-    unfolding values
-    values_are [] = refl
-    values_are (t ∷ ts) = ap (λ vs. term_value on.scene.checked.now on.scene.view.now e t ∷ vs) (values_are ts)
-
     module _ (p : Path) where
-      abbrev assigned_set : syntax.Name → List Term → Term → UpdateSet
-      assigned_set x ts t = assigned (declared (program on.scene.checked.now) x.text) (values (program on.scene.checked.now) (state_at on) e (meant_terms ts)) (term_value on.scene.checked.now on.scene.view.now e t)
+      abbrev location_here : syntax.Name → List Term → Option Location
+      location_here x ts = location (program on.scene.checked.now) (state_at on) e x.text (meant_terms ts)
 
       -- a set that is the assignment's
       forms_assigned : (shape : Shape) (old new : Entries) (n : ℕ) (x : syntax.Name) (ts : List Term) (t : Term) (V : UpdateSet) → n ≤ greatest_count
-          → assigned_set x ts t ≡ V → Adds shape V old new → Forms shape (assign_does e p x ts t) old new n n
+          → update (location_here x ts) (term_value on.scene.checked.now on.scene.view.now e t) ≡ V → Adds shape V old new → Forms shape (assign_does e p x ts t) old new n n
       forms_assigned shape old new n x ts t V small is adds = record {
         set = V;
         gives = ap (λ o. o.result) (cases.of_assign x.text (meant_terms ts) (meant_term t) (state_at on) e p) ∙ ap Gives is;
@@ -276,21 +273,25 @@ module _ {P : Type 0} {picks : Ghosts P} (on : Evaluation P picks) where
             ∙ ap (λ o. min (n + o.instances) greatest_count) (sym (cases.of_assign x.text (meant_terms ts) (meant_term t) (state_at on) e p));
       }
 
-      -- the update of a controlled function at the number of its location
-      pub forms_update : (shape : Shape) (old new : Entries) (m : ℕ) (x : syntax.Name) (ts : List Term) (t : Term) (f n : ℕ) (v : Value) → m ≤ greatest_count
-          → declared (program on.scene.checked.now) x.text ≡ Some (Controlled f (domain_of shape f))
-          → location_at shape n ≡ location_in f (domain_of shape f) (map (term_value on.scene.checked.now on.scene.view.now e) ts) → v ≡ term_value on.scene.checked.now on.scene.view.now e t
+      -- the update at the number of the location that is named
+      pub forms_update : (shape : Shape) (old new : Entries) (m : ℕ) (x : syntax.Name) (ts : List Term) (t : Term) (n : ℕ) (v : Value) → m ≤ greatest_count
+          → n < count_of shape → location_numbered shape (Some n) ≡ location_here x ts → v ≡ term_value on.scene.checked.now on.scene.view.now e t
           → Adds shape (one (location_at shape n) v) old new → Forms shape (assign_does e p x ts t) old new m m
-      forms_update shape old new m x ts t f n v small d l is =
+      forms_update shape old new m x ts t n v small low there is =
           forms_assigned shape old new m x ts t (one (location_at shape n) v) small
-          (ap (λ it. assigned it (values (program on.scene.checked.now) (state_at on) e (meant_terms ts)) (term_value on.scene.checked.now on.scene.view.now e t)) d
-          ∙ ap (λ vs. one (location_in f (domain_of shape f) vs) (term_value on.scene.checked.now on.scene.view.now e t)) (sym (values_are ts))
-          ∙ ap (one (location_in f (domain_of shape f) (map (term_value on.scene.checked.now on.scene.view.now e) ts))) (sym is) ∙ ap (λ k. one k v) (sym l))
+          (ap (λ (l : Option Location). update l (term_value on.scene.checked.now on.scene.view.now e t)) (sym there ∙ slice_get-get_or (locations shape) n (Stray 0) low)
+          ∙ ap (one (location_at shape n)) (sym is))
 
-      -- a name that no update is of
+      -- a name that stands for no location
       pub forms_no_update : (shape : Shape) (s : Entries) (m : ℕ) (x : syntax.Name) (ts : List Term) (t : Term) → m ≤ greatest_count
-          → ((vs : List Value) (v : Value) → assigned (declared (program on.scene.checked.now) x.text) vs v ≡ none) → Forms shape (assign_does e p x ts t) s s m m
-      forms_no_update shape s m x ts t small no_set = forms_assigned shape s s m x ts t none small (no_set _ _) (adds_none shape s)
+          → None ≡ location_here x ts → Forms shape (assign_does e p x ts t) s s m m
+      forms_no_update shape s m x ts t small no_location =
+          forms_assigned shape s s m x ts t none small
+          (ap (λ (l : Option Location). update l (term_value on.scene.checked.now on.scene.view.now e t)) (sym no_location)) (adds_none shape s)
+
+      -- `result := t`
+      pub answer_does : (R : Rule) (x : syntax.Name) (t : Term) → R ≡ rule.SetResult x t → assign_does e p x [] t ≡ rule_does e p R
+      answer_does R x t is = sym (ap (rule_does e p) is ∙ ap (λ P. plain_does e p (plain_rule P)) (rule_of-SetResult x t))
 
       pub skip_does : (R : Rule) → R ≡ rule.Skip → nothing ≡ rule_does e p R
       skip_does R is =
@@ -312,8 +313,19 @@ module _ {P : Type 0} {picks : Ghosts P} (on : Evaluation P picks) where
           ∙ sym (ap (rule_does e p) is ∙ ap (λ P. plain_does e p (plain_rule P)) (rule_of-Seq Ps)
           ∙ cases.of_seq (meant_rules Ps.items) (state_at on) e p)
 
-      pub iterate_does : (R : Rule) → turns_do (setting on) e p on.turns 0 R (state_at on) ≡ plain_does e p (tree.Iterate (meant R))
-      iterate_does R = sym (cases.of_iterate (meant R) (state_at on) e p)
+      pub iterate_does : (R : tree.Rule) → turns_do (setting on) e p on.turns 0 R (state_at on) ≡ plain_does e p (tree.Iterate R)
+      iterate_does R = sym (cases.of_iterate R (state_at on) e p)
+
+      -- a rule behind a condition
+      pub passed_does : (c : Term) (R : tree.Rule) → is_true (term_value on.scene.checked.now on.scene.view.now e c) ≡ true → plain_does e (at p 0) R ≡ plain_does e p (tree.If (meant_term c) R tree.Skip)
+      passed_does c R test =
+          ap (λ b. cond b (plain_does e (at p 0) R) (plain_does e (at p 1) tree.Skip)) (sym test)
+          ∙ sym (cases.of_if (meant_term c) R tree.Skip (state_at on) e p)
+
+      pub failed_does : (c : Term) (R : tree.Rule) → is_true (term_value on.scene.checked.now on.scene.view.now e c) ≡ false → nothing ≡ plain_does e p (tree.If (meant_term c) R tree.Skip)
+      failed_does c R test =
+          sym (cases.of_if (meant_term c) R tree.Skip (state_at on) e p
+          ∙ ap (λ b. cond b (plain_does e (at p 0) R) (plain_does e (at p 1) tree.Skip)) test ∙ cases.of_skip (state_at on) e (at p 1))
 
       pub first_does : (c : Term) (R : Rule) (Q : Option (Box Rule Global)) → is_true (term_value on.scene.checked.now on.scene.view.now e c) ≡ true → rule_does e (at p 0) R ≡ if_does e p c R Q
       first_does c R Q test =

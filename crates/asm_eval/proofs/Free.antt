@@ -10,6 +10,7 @@ use Rattle.asm_state.specs.Updates.{UpdateSet, IsConsistent, is_consistent, is_n
 use Rattle.asm_state.proofs.Updates.{test_laws}
 use Rattle.asm_syntax.specs.Tree.{Name, Term, Rule, Skip, Assign, Call, Par, Seq, If, Let, Forall, Choose, Iterate, Rules, no_rules, rule_then}
 use Rattle.asm_eval.specs.Program.{Program, NamedRule, declared, Environment, with_value, bind_terms}
+use Rattle.asm_eval.specs.Targets.{answering}
 use Rattle.asm_eval.specs.Value.{value, holds, candidates, universe, nesting}
 use Rattle.asm_eval.specs.Yields.{Path, at, Result, Gives, Exhausted, beside, all_beside, Yields, YieldsParts, YieldsInOrder, YieldsEach, YieldsTurns, skip, assign, call, par, seq, if_true, if_false, bind, forall, choose, if_none, iterate, no_part, part_then, end, faulty, exhausted, go_on, no_element, left_out, element_then, turn_limit, last_turn, exhausted_turn, turn_then}
 use Rattle.asm_reader.specs.ScriptLines.{pick}
@@ -109,9 +110,9 @@ module _ (program : Program) (turns : ℕ) where
       yields : (R : Rule) → CallsBelow program rank n R → (A : State) (e : Environment) (p : Path) → Yields program turns A e p R (means R A e p).result
       yields Skip c A e p = skip
       yields (Assign f ts t) c A e p = assign
-      yields (Call f ts) c A e p =
-          subst (λ d. Yields program turns A e p (Call f ts) (called program turns chosen body d ts A e p).result) (sym c.is_declared)
-          (call c.is_declared (bodies f c.parameters c.body c.is_declared c.is_below A (bind_terms c.parameters ts e) (at p 0)))
+      yields (Call to f ts) c A e p =
+          subst (λ d. Yields program turns A e p (Call to f ts) (called program turns chosen body d to ts A e p).result) (sym c.is_declared)
+          (call c.is_declared (bodies f c.parameters c.body c.is_declared c.is_below A (answering program A e to (bind_terms c.parameters ts e)) (at p 0)))
       yields (Par Ps) c A e p =
           let all = part_results Ps c A e p 0 in
           subst (Yields program turns A e p (Par Ps)) all.2 (par all.1)

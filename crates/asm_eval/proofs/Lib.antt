@@ -19,6 +19,7 @@ pub mod Evaluating
 pub mod Quantified
 pub mod Fired
 pub mod Applied
+pub mod Answered
 pub mod ArgumentWeights
 pub mod NumberedValues
 pub mod Targets

@@ -9,11 +9,12 @@ use Rattle.std.specs.Ordering.{nat_cmp, is_lt}
 use Rattle.asm_state.specs.declared.value.Value.{Value}
 use Rattle.asm_state.specs.Location.{State}
 use Rattle.asm_state.specs.Updates.{UpdateSet, is_consistent, is_none, fire}
-use Rattle.asm_syntax.specs.Tree.{Terms, Rule, Skip, Assign, Call, Par, Seq, If, Let, Forall, Choose, Iterate, Rules, no_rules, rule_then}
+use Rattle.asm_syntax.specs.Tree.{Name, Terms, Rule, Skip, Assign, Call, Par, Seq, If, Let, Forall, Choose, Iterate, Rules, no_rules, rule_then}
 use Rattle.asm_reader.specs.ScriptLines.{Script, pick}
 use Rattle.asm_eval.specs.Cases.{all_run}
 use Rattle.asm_eval.specs.Does.{Outcome, Meaning, parts, in_order, part_and, turns_of, turn_and, each, one_of, called, meaning, meanings, does_within, does}
 use Rattle.asm_eval.specs.Program.{Program, Declared, Universe, Enumerated, Controlled, Static, Derived, NamedRule, declared, Environment, with_value, bind_terms}
+use Rattle.asm_eval.specs.Targets.{answering}
 use Rattle.asm_eval.specs.Value.{value, holds, candidates, universe, nesting}
 use Rattle.asm_eval.specs.Yields.{Path, at, Result, Gives, Exhausted, beside, after}
 use Rattle.asm_eval.proofs.Free.{by_test}
@@ -120,15 +121,15 @@ one_within p n (v ∷ vs) m other nest none = nest (slice_index_or (v ∷ vs) (n
 -- ---- rules
 
 module _ (program : Program) (turns : ℕ) (chosen : Path → ℕ) (body : Rule → Meaning) (nest : (P : Rule) → Nests (body P)) where
-  called_within : (d : Option Declared) (ts : Terms) → Nests (called program turns chosen body d ts)
-  called_within None ts A e p = tt
-  called_within (Some (Universe vs)) ts A e p = tt
-  called_within (Some (Enumerated v)) ts A e p = tt
-  called_within (Some (Controlled f domain)) ts A e p = tt
-  called_within (Some (Static domain table)) ts A e p = tt
-  called_within (Some (Derived xs t)) ts A e p = tt
-  called_within (Some (NamedRule xs P)) ts A e p =
-      descent_is_within p 0 (body P A (bind_terms xs ts e) (at p 0)).result (nest P A (bind_terms xs ts e) (at p 0))
+  called_within : (d : Option Declared) (to : Option (Name × Terms)) (ts : Terms) → Nests (called program turns chosen body d to ts)
+  called_within None to ts A e p = tt
+  called_within (Some (Universe vs)) to ts A e p = tt
+  called_within (Some (Enumerated v)) to ts A e p = tt
+  called_within (Some (Controlled f domain)) to ts A e p = tt
+  called_within (Some (Static domain table)) to ts A e p = tt
+  called_within (Some (Derived xs t)) to ts A e p = tt
+  called_within (Some (NamedRule xs P)) to ts A e p =
+      descent_is_within p 0 (body P A (answering program A e to (bind_terms xs ts e)) (at p 0)).result (nest P A (answering program A e to (bind_terms xs ts e)) (at p 0))
 
   abbrev means : Rule → Meaning
   means = meaning program turns chosen body
@@ -139,7 +140,7 @@ module _ (program : Program) (turns : ℕ) (chosen : Path → ℕ) (body : Rule 
     rule_nests : (R : Rule) → Nests (means R)
     rule_nests Skip A e p = tt
     rule_nests (Assign f ts t) A e p = tt
-    rule_nests (Call f ts) A e p = called_within (declared program f) ts A e p
+    rule_nests (Call to f ts) A e p = called_within (declared program f) to ts A e p
     rule_nests (Par Ps) A e p = behind_is_within p 0 (parts (meanings program turns chosen body Ps) 0 A e p).result (parts_behind (meanings program turns chosen body Ps) (all_nest Ps) 0 A e p)
     rule_nests (Seq Ps) A e p = in_order_within (meanings program turns chosen body Ps) (all_nest Ps) 0 A e p
     rule_nests (If t P Q) A e p =

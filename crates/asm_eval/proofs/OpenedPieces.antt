@@ -230,7 +230,7 @@ pub not_closed : (R : tree.Rule) → has_one_beneath R ≡ true → is_closed R 
 not_closed (tree.If c P Q) one = refl
 not_closed (tree.Let x t P) one = refl
 not_closed (tree.Choose x u c P Q) one = refl
-not_closed (tree.Call f ts) one = refl
+not_closed (tree.Call to f ts) one = refl
 not_closed R one = absurd (false≢true one)
 
 module _ (s : Setting) (A : State) (cut : ℕ) where

@@ -11,6 +11,7 @@ use Rattle.asm_state.specs.Signature.{Shape}
 use Rattle.asm_state.specs.Updates.{UpdateSet, IsConsistent, none, fire}
 use Rattle.asm_updates.specs.Entries.{Entries}
 use Rattle.asm_updates.specs.Stands.{Stands, Adds}
+use Rattle.asm_syntax.specs.Tree as tree
 use Rattle.asm_syntax.specs.declared.rule.Rule.{Rule}
 use Rattle.asm_eval.specs.Does.{Outcome, part_and, turn_and}
 use Rattle.asm_eval.specs.Evaluated.{meant}
@@ -26,12 +27,15 @@ module _ (s : Setting) (e : Environment) (p : Path) where
   abbrev pub parts_left : List Rule → ℕ → State → Outcome
   parts_left rs i = rules_do_in_order s e p i (drop i rs)
 
-  abbrev pub turns_left : ℕ → Rule → ℕ → State → Outcome
+  abbrev pub turns_left : ℕ → tree.Rule → ℕ → State → Outcome
   turns_left limit r t = turns_do s e p (limit - t) t r
 
   -- the part or the turn with this number
+  abbrev pub turn_numbered : Path → ℕ → tree.Rule → State → Outcome
+  turn_numbered q k R A = outcome s A e (at q k) R
+
   abbrev pub numbered : Path → ℕ → Rule → State → Outcome
-  numbered q k r A = outcome s A e (at q k) (meant r)
+  numbered q k r = turn_numbered q k (meant r)
 
   abbrev part_then : Outcome → (UpdateSet → Outcome) → Outcome
   part_then o rest = part_and o.result o.instances rest
@@ -56,15 +60,15 @@ module _ (s : Setting) (e : Environment) (p : Path) where
   no_part : (rs : List Rule) (i : ℕ) (A : State) → length rs ≤ i → parts_left rs i A ≡ rules_do_in_order s e p i [] A
   no_part rs i A past = at_drop_all (λ (some : List Rule). rules_do_in_order s e p i some A) rs i past
 
-  next_turn : (q : Path) (limit t n : ℕ) (r : Rule) (A : State) → q ≡ p → t < limit → n ≡ t
-      → turns_left limit r t A ≡ turn_then (numbered q n r A) (λ U. turns_left limit r (t + 1) (fire A U))
+  next_turn : (q : Path) (limit t n : ℕ) (r : tree.Rule) (A : State) → q ≡ p → t < limit → n ≡ t
+      → turns_left limit r t A ≡ turn_then (turn_numbered q n r A) (λ U. turns_left limit r (t + 1) (fire A U))
   next_turn q limit t n r A same low is =
       ap (λ m. turns_do s e p m t r A) (one_left limit t low)
-      ∙ ap (λ k. turn_then (numbered p t r A) (λ U. turns_do s e p (limit - (t + 1)) k r (fire A U))) (sym (add-one t))
-      ∙ ap (λ there. turn_then (numbered there t r A) (λ U. turns_left limit r (t + 1) (fire A U))) (sym same)
-      ∙ ap (λ m. turn_then (numbered q m r A) (λ U. turns_left limit r (t + 1) (fire A U))) (sym is)
+      ∙ ap (λ k. turn_then (turn_numbered p t r A) (λ U. turns_do s e p (limit - (t + 1)) k r (fire A U))) (sym (add-one t))
+      ∙ ap (λ there. turn_then (turn_numbered there t r A) (λ U. turns_left limit r (t + 1) (fire A U))) (sym same)
+      ∙ ap (λ m. turn_then (turn_numbered q m r A) (λ U. turns_left limit r (t + 1) (fire A U))) (sym is)
 
-  no_turn : (limit t : ℕ) (r : Rule) (A : State) → limit ≤ t → (turns_left limit r t A).result ≡ Exhausted p
+  no_turn : (limit t : ℕ) (r : tree.Rule) (A : State) → limit ≤ t → (turns_left limit r t A).result ≡ Exhausted p
   no_turn limit t r A past = ap (λ n. (turns_do s e p n t r A).result) (none_left limit t past)
 
   module _ (shape : Shape) (A : State) (total : Outcome) (so_far : Entries) (before now : ℕ) where
@@ -105,10 +109,10 @@ module _ (s : Setting) (e : Environment) (p : Path) where
 
     -- ---- turns
 
-    module _ (limit : ℕ) (r : Rule) (t : ℕ) (under : IsUnderway shape A total (turns_left limit r t) so_far before now) where
+    module _ (limit : ℕ) (r : tree.Rule) (t : ℕ) (under : IsUnderway shape A total (turns_left limit r t) so_far before now) where
       module _ (q : Path) (number : ℕ) (same : q ≡ p) (low : t < limit) (is : number ≡ t) where
         abbrev turn : Outcome
-        turn = numbered q number r (fire A under.set)
+        turn = turn_numbered q number r (fire A under.set)
 
         then_turn : turns_left limit r t (fire A under.set) ≡ turn_then turn (λ U. turns_left limit r (t + 1) (fire (fire A under.set) U))
         then_turn = next_turn q limit t number r (fire A under.set) same low is

@@ -3,7 +3,7 @@ use Rattle.std.proofs.Common.{◌≡◌, ◌∙◌, ap, map, Box, Vec, Global}
 use Rattle.asm_state.specs.declared.operation.Op.{Op}
 use Rattle.asm_syntax.specs.Tree as tree
 use Rattle.asm_syntax.specs.PlainTree.{literal_value, plain_term, plain_terms, plain_links}
-use Rattle.asm_syntax.specs.ViewCases.{term_of-Constant, term_of-Named, term_of-Chain, term_of-Not, term_of-Negative, term_of-Exists, term_of-Every}
+use Rattle.asm_syntax.specs.ViewCases.{term_of-Constant, term_of-Named, term_of-Chain, term_of-Not, term_of-Negative, term_of-Exists, term_of-Every, term_of-Answer}
 use Rattle.asm_syntax.specs.Views.{term_of, terms_of, links_of}
 use Rattle.asm_syntax.specs.declared.name.Name.{Name}
 use Rattle.asm_syntax.specs.declared.term.Literal.{Literal}
@@ -39,3 +39,6 @@ plain_exists t x over test is = ap plain is ∙ ap plain_term (term_of-Exists x 
 pub plain_every : (t : Term) (x over : Name) (test : Box Term Global) → t ≡ term.Every x over test
     → plain_term (term_of t) ≡ tree.Every x.text over.text (plain_term (term_of test.value))
 plain_every t x over test is = ap plain is ∙ ap plain_term (term_of-Every x over test)
+
+pub plain_answer : (t : Term) (x : Name) → t ≡ term.Answer x → plain_term (term_of t) ≡ tree.Named x.text tree.no_terms
+plain_answer t x is = ap plain is ∙ ap plain_term (term_of-Answer x)

@@ -142,6 +142,7 @@ module _ (law : NamesHaveNumbers) (spec : Spec) (rank : Name → ℕ) (n : ℕ) 
     plain_uses (source.Negative t) bound h = plain_uses t bound h
     plain_uses (source.Exists x over t) bound h = plain_uses t (x.text ∷ bound) h
     plain_uses (source.Every x over t) bound h = plain_uses t (x.text ∷ bound) h
+    plain_uses (source.Answer x) bound h = (usable bound x.text h, tt)
 
     each_plain : (ts : source.Terms) (bound : List Name) → source_ranks.EachUsesBelow spec rank n ts bound → EachUsesBelow (program_of spec) rank n (plain_terms ts) bound
     each_plain source.no_terms bound h = tt
@@ -180,7 +181,7 @@ module _ (law : NamesHaveNumbers) (spec : Spec) (rank : Name → ℕ) (n : ℕ) 
     plain_calls : (R : source.Rule) → source_ranks.CallsBelow spec rank n R → CallsBelow (program_of spec) rank n (plain_rule R)
     plain_calls source.Skip c = tt
     plain_calls (source.Assign f ts t) c = tt
-    plain_calls (source.Call f ts) c = callable f.text c
+    plain_calls (source.Call to f ts) c = callable f.text c
     plain_calls (source.Par Ps) c = each_called Ps c
     plain_calls (source.Seq Ps) c = each_called Ps c
     plain_calls (source.If t P Q) c = (plain_calls P c.0, branch_called Q c.1)
@@ -188,6 +189,8 @@ module _ (law : NamesHaveNumbers) (spec : Spec) (rank : Name → ℕ) (n : ℕ) 
     plain_calls (source.Forall x u t P) c = plain_calls P c
     plain_calls (source.Choose x u t P Q) c = (plain_calls P c.0, branch_called Q c.1)
     plain_calls (source.Iterate P) c = plain_calls P c
+    plain_calls (source.While t P) c = (plain_calls P c, tt)
+    plain_calls (source.SetResult x t) c = tt
 
     each_called : (Ps : source.Rules) → source_ranks.EachCallsBelow spec rank n Ps → EachCallsBelow (program_of spec) rank n (plain_rules Ps)
     each_called source.no_rules c = tt

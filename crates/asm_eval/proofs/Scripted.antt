@@ -13,6 +13,7 @@ use Rattle.asm_state.specs.Updates.{UpdateSet, IsConsistent, is_consistent, is_n
 use Rattle.asm_state.proofs.Updates.{test_laws}
 use Rattle.asm_syntax.specs.Tree.{Name, Term, Rule, Rules}
 use Rattle.asm_eval.specs.Program.{Program, NamedRule, declared, Environment, with_value, bind_terms}
+use Rattle.asm_eval.specs.Targets.{answering}
 use Rattle.asm_eval.specs.Value.{holds, candidates, nesting}
 use Rattle.asm_eval.specs.Yields.{Path, at, Result, Gives, Exhausted, beside, all_beside, after, Yields, YieldsParts, YieldsInOrder, YieldsEach, YieldsTurns, skip, assign, call, par, seq, if_true, if_false, bind, forall, choose, if_none, iterate, no_part, part_then, end, faulty, exhausted, go_on, no_element, left_out, element_then, turn_limit, last_turn, exhausted_turn, turn_then}
 use Rattle.asm_reader.specs.ScriptLines.{Script, pick}
@@ -103,9 +104,9 @@ module _ (program : Program) (turns : ℕ) (rank : Name → ℕ) (body : (Path �
         → Scripts (λ chosen. (means chosen R A e p).result) p r
     scripted (skip {p = p}) c = whole (unscripted 0 _ p _ (λ _. refl))
     scripted (assign {p = p}) c = whole (unscripted 0 _ p _ (λ _. refl))
-    scripted (call {A = A} {e = e} {p = p} {f = f} {ts = ts} {xs = xs} {P = P} {r = r} d y) c =
-        whole (single _ r (bodies f xs P d c.is_below A (bind_terms xs ts e) (at p 0) r y)
-        (λ chosen is. ap (λ it. (called program turns chosen (body chosen) it ts A e p).result) d ∙ is))
+    scripted (call {A = A} {e = e} {p = p} {to = to} {f = f} {ts = ts} {xs = xs} {P = P} {r = r} d y) c =
+        whole (single _ r (bodies f xs P d c.is_below A (answering program A e to (bind_terms xs ts e)) (at p 0) r y)
+        (λ chosen is. ap (λ it. (called program turns chosen (body chosen) it to ts A e p).result) d ∙ is))
     scripted (par {Ps = Ps} ys) c = whole (scripted_parts ys c)
     scripted (seq {Ps = Ps} y) c = whole (scripted_in_order y c)
     scripted (if_true {r = r} h y) c = whole (single _ r (scripted y c.0) (λ chosen is. at_true _ _ _ h ∙ is))

@@ -40,7 +40,7 @@ module _ (program : Program) (from to : ℕ) (R : Rule) (is : IsPartOf program (
   at_layer : ((x u : Name) (c : Option Term) (P : Box Rule Global) → R ≡ rule.Forall x u c P → ⊥) → (L : Rule-F Rule) → R ≡ roll-Rule L → ⊥
   at_layer other (open_rule.Skip) e = subst IsSpanned (fold-roll-Rule source.Rule rule_step open_rule.Skip) (rolled open_rule.Skip e)
   at_layer other (open_rule.Assign f ts t) e = subst IsSpanned (fold-roll-Rule source.Rule rule_step (open_rule.Assign f ts t)) (rolled (open_rule.Assign f ts t) e)
-  at_layer other (open_rule.Call f ts) e = subst IsSpanned (fold-roll-Rule source.Rule rule_step (open_rule.Call f ts)) (rolled (open_rule.Call f ts) e)
+  at_layer other (open_rule.Call to f ts) e = subst IsSpanned (fold-roll-Rule source.Rule rule_step (open_rule.Call to f ts)) (rolled (open_rule.Call to f ts) e)
   at_layer other (open_rule.Par Ps) e = subst IsSpanned (fold-roll-Rule source.Rule rule_step (open_rule.Par Ps)) (rolled (open_rule.Par Ps) e)
   at_layer other (open_rule.Seq Ps) e = subst IsSpanned (fold-roll-Rule source.Rule rule_step (open_rule.Seq Ps)) (rolled (open_rule.Seq Ps) e)
   at_layer other (open_rule.If c P Q) e = subst IsSpanned (fold-roll-Rule source.Rule rule_step (open_rule.If c P Q)) (rolled (open_rule.If c P Q) e)
@@ -48,6 +48,8 @@ module _ (program : Program) (from to : ℕ) (R : Rule) (is : IsPartOf program (
   at_layer other (open_rule.Forall x u c P) e = other x u c P (e ∙ rule.rolls-Forall x u c P)
   at_layer other (open_rule.Choose x u c P Q) e = subst IsSpanned (fold-roll-Rule source.Rule rule_step (open_rule.Choose x u c P Q)) (rolled (open_rule.Choose x u c P Q) e)
   at_layer other (open_rule.Iterate P) e = subst IsSpanned (fold-roll-Rule source.Rule rule_step (open_rule.Iterate P)) (rolled (open_rule.Iterate P) e)
+  at_layer other (open_rule.While c P) e = subst IsSpanned (fold-roll-Rule source.Rule rule_step (open_rule.While c P)) (rolled (open_rule.While c P) e)
+  at_layer other (open_rule.SetResult x t) e = subst IsSpanned (fold-roll-Rule source.Rule rule_step (open_rule.SetResult x t)) (rolled (open_rule.SetResult x t) e)
 
   pub only_forall : ((x u : Name) (c : Option Term) (P : Box Rule Global) → R ≡ rule.Forall x u c P → ⊥) → ⊥
   only_forall other = at_layer other (out-Rule R) (sym (roll-out-Rule R))

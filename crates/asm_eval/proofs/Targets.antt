@@ -5,7 +5,6 @@ use Rattle.asm_state.specs.declared.value.Value.{Value}
 use Rattle.asm_state.specs.declared.function.Function as state
 use Rattle.asm_state.specs.declared.function.FunctionKind.TheVariants as kind
 use Rattle.asm_state.specs.Signature.{Shape, functions_of, domain_by, domain_of}
-use Rattle.asm_state.specs.Updates.{none}
 use Rattle.asm_syntax.specs.SourceTree.{Spec}
 use Rattle.asm_syntax.specs.Tree.{Name}
 use Rattle.asm_check.proofs.SignatureNumbers.{signature_numbers}
@@ -20,7 +19,7 @@ use Rattle.asm_check.specs.declared.checked.Named.{Named}
 use Rattle.asm_check.specs.declared.checked.Named.TheVariants as number
 use Rattle.asm_eval.specs.Program.{Universe, Controlled, declared}
 use Rattle.asm_eval.specs.Declarations.{held_as, function_at, body_of, numbered, program_of}
-use Rattle.asm_eval.specs.Yields.{assigned}
+use Rattle.asm_eval.specs.Targets.{location_of}
 use Rattle.asm_eval.proofs.Meant.{program_declares}
 
 -- the number of a controlled or static function
@@ -41,10 +40,10 @@ module _ (spec : Spec) (x : Name) (shape : Shape) (shaped : shape ≡ shape_of s
   is_controlled f it is at held =
       declared_at f it is at ∙ ap (λ k. Some (held_as shape f it k)) held ∙ ap (λ o. Some (Controlled f (domain_by shape.universes o))) (sym at)
 
-  pub static_assigns_none : (f : ℕ) (it : state.Function) → Some (number.Function f) ≡ named spec x → slice_get shape.functions f ≡ Some it → it.kind ≡ kind.Static
-      → (vs : List Value) (v : Value) → assigned (declared (program_of spec) x) vs v ≡ none
-  static_assigns_none f it is at held vs v =
-      ap (λ o. assigned o vs v) (declared_at f it is at ∙ ap (λ k. Some (held_as shape f it k)) held)
+  pub static_names_none : (f : ℕ) (it : state.Function) → Some (number.Function f) ≡ named spec x → slice_get shape.functions f ≡ Some it → it.kind ≡ kind.Static
+      → (vs : List Value) → location_of (declared (program_of spec) x) vs ≡ None
+  static_names_none f it is at held vs =
+      ap (λ o. location_of o vs) (declared_at f it is at ∙ ap (λ k. Some (held_as shape f it k)) held)
 
 -- the numbers of functions are those of the signature
 pub function_below : (spec : Spec) (shape : Shape) (it : Option Named) (f : ℕ) → IsWellFormed spec → shape ≡ shape_of spec → IsInRange spec it
@@ -54,31 +53,31 @@ function_below spec shape it f good shaped below is =
     let low : f < length (numbers.functions_of spec) = subst (IsInRange spec) is below in
     subst (λ (s : Shape). f < functions_of s) (sym shaped) (omega (arith, same, low))
 
-body_assigns_none : (m : Option Meaning) (vs : List Value) (v : Value) → assigned (body_of m) vs v ≡ none
-body_assigns_none None vs v = refl
-body_assigns_none (Some names.Predeclared) vs v = refl
-body_assigns_none (Some (names.Range first last)) vs v = refl
-body_assigns_none (Some (names.Enumeration k)) vs v = refl
-body_assigns_none (Some (names.Element k)) vs v = refl
-body_assigns_none (Some (names.Controlled domain)) vs v = refl
-body_assigns_none (Some (names.Static domain)) vs v = refl
-body_assigns_none (Some (names.Derived xs t)) vs v = refl
-body_assigns_none (Some (names.NamedRule xs P)) vs v = refl
+body_names_none : (m : Option Meaning) (vs : List Value) → location_of (body_of m) vs ≡ None
+body_names_none None vs = refl
+body_names_none (Some names.Predeclared) vs = refl
+body_names_none (Some (names.Range first last)) vs = refl
+body_names_none (Some (names.Enumeration k)) vs = refl
+body_names_none (Some (names.Element k)) vs = refl
+body_names_none (Some (names.Controlled domain)) vs = refl
+body_names_none (Some (names.Static domain)) vs = refl
+body_names_none (Some (names.Derived xs t)) vs = refl
+body_names_none (Some (names.NamedRule xs P)) vs = refl
 
-universe_assigns_none : (us : Option (List Value)) (vs : List Value) (v : Value) → assigned (option_map Universe us) vs v ≡ none
-universe_assigns_none None vs v = refl
-universe_assigns_none (Some us) vs v = refl
+universe_names_none : (us : Option (List Value)) (vs : List Value) → location_of (option_map Universe us) vs ≡ None
+universe_names_none None vs = refl
+universe_names_none (Some us) vs = refl
 
-number_assigns_none : (spec : Spec) (it : Option Named) → function_number it ≡ None → (vs : List Value) (v : Value) → assigned (numbered spec it) vs v ≡ none
-number_assigns_none spec None is vs v = refl
-number_assigns_none spec (Some (number.Universe n)) is vs v = universe_assigns_none (slice_get (shape_of spec).universes n) vs v
-number_assigns_none spec (Some (number.Element n)) is vs v = refl
-number_assigns_none spec (Some (number.Function f)) is vs v = cc
-number_assigns_none spec (Some (number.Derived d)) is vs v = body_assigns_none (meaning_at (numbers.derived_of spec) d) vs v
-number_assigns_none spec (Some (number.Rule r)) is vs v = body_assigns_none (meaning_at (numbers.rules_of spec) r) vs v
+number_names_none : (spec : Spec) (it : Option Named) → function_number it ≡ None → (vs : List Value) → location_of (numbered spec it) vs ≡ None
+number_names_none spec None is vs = refl
+number_names_none spec (Some (number.Universe n)) is vs = universe_names_none (slice_get (shape_of spec).universes n) vs
+number_names_none spec (Some (number.Element n)) is vs = refl
+number_names_none spec (Some (number.Function f)) is vs = cc
+number_names_none spec (Some (number.Derived d)) is vs = body_names_none (meaning_at (numbers.derived_of spec) d) vs
+number_names_none spec (Some (number.Rule r)) is vs = body_names_none (meaning_at (numbers.rules_of spec) r) vs
 
 -- a name that stands for no function is updated nowhere
-pub other_assigns_none : (spec : Spec) (x : Name) (it : Option Named) → it ≡ named spec x → function_number it ≡ None → (vs : List Value) (v : Value)
-    → assigned (declared (program_of spec) x) vs v ≡ none
-other_assigns_none spec x it is other vs v =
-    ap (λ o. assigned o vs v) (program_declares spec x ∙ ap (numbered spec) (sym is)) ∙ number_assigns_none spec it other vs v
+pub other_names_none : (spec : Spec) (x : Name) (it : Option Named) → it ≡ named spec x → function_number it ≡ None → (vs : List Value)
+    → location_of (declared (program_of spec) x) vs ≡ None
+other_names_none spec x it is other vs =
+    ap (λ o. location_of o vs) (program_declares spec x ∙ ap (numbered spec) (sym is)) ∙ number_names_none spec it other vs

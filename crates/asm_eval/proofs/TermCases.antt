@@ -7,8 +7,8 @@ use Rattle.asm_state.specs.declared.operation.Op.TheVariants.{Not, Negate}
 use Rattle.asm_state.specs.Operation.{op}
 use Rattle.asm_state.specs.Location.{State}
 use Rattle.asm_syntax.specs.Tree.{Name, Term, Constant, Named, Chain, Not as not_term, Negative, Exists, Every, Terms, no_terms, term_then, Links, no_links, link_then}
-use Rattle.asm_eval.specs.Program.{Program, Declared, Universe, Enumerated, Controlled, Static, Derived, NamedRule, declared, look_up, is_name, Environment, nothing_bound, with_value, with_term, bind_values, Binding, ToValue, ToTerm, bound_to}
-use Rattle.asm_eval.specs.Value.{Reading, Readings, reading, readings, chained, applied, named, constants, reading_within, readings_of, value, values, is_true, universe, nesting}
+use Rattle.asm_eval.specs.Program.{Program, Declared, Universe, Enumerated, Controlled, Static, Derived, NamedRule, declared, look_up, is_name, Environment, nothing_bound, with_value, with_term, with_location, bind_values, Binding, ToValue, ToTerm, ToLocation, bound_to}
+use Rattle.asm_eval.specs.Value.{Reading, Readings, reading, readings, chained, applied, named, constants, reading_within, readings_of, value, values, is_true, read, universe, nesting}
 use Rattle.asm_eval.specs.Ranks.{is_among, IsUsable, UsesBelow, EachUsesBelow, LinksUseBelow, AreDerivedRanked}
 use Rattle.asm_eval.specs.TermCases.{chain_value, ValuedByCases}
 
@@ -120,6 +120,7 @@ module _ (program : Program) where
   reading_at None = None
   reading_at (Some (ToValue v)) = Some (λ _. v)
   reading_at (Some (ToTerm t caller)) = Some (λ A. value program A caller t)
+  reading_at (Some (ToLocation l)) = Some (λ A. read A l)
 
   look_up_readings : (e : Environment) (x : Name) → look_up (readings_of program e) x ≡ reading_at (bound_to e x)
   unfolding readings_of value
@@ -131,6 +132,12 @@ module _ (program : Program) where
       ]
   look_up_readings (with_term y t caller e) x =
       elim (is_name y x) as (λ b. cond b (Some (λ A. reading_within program nesting t (readings_of program caller) A)) (look_up (readings_of program e) x) ≡ reading_at (cond b (Some (ToTerm t caller)) (bound_to e x))) [
+        | true ↦ refl
+        | false ↦ look_up_readings e x
+      ]
+
+  look_up_readings (with_location y l e) x =
+      elim (is_name y x) as (λ b. cond b (Some (λ A. read A l)) (look_up (readings_of program e) x) ≡ reading_at (cond b (Some (ToLocation l)) (bound_to e x))) [
         | true ↦ refl
         | false ↦ look_up_readings e x
       ]
@@ -191,6 +198,7 @@ valued_by_cases program rank A e ranked = record {
   of_constant = λ v. refl;
   of_value = λ x ts v is. of_bound program A e x ts (ToValue v) is;
   of_term = λ x ts t caller is. of_bound program A e x ts (ToTerm t caller) is;
+  of_location = λ x ts l is. of_bound program A e x ts (ToLocation l) is;
   of_element = λ x ts v free d. of_declared program A e x ts (Enumerated v) free d;
   of_controlled = λ x ts f domain free d. of_declared program A e x ts (Controlled f domain) free d;
   of_static = λ x ts domain table free d. of_declared program A e x ts (Static domain table) free d;

@@ -3,7 +3,7 @@ use Rattle.std.proofs.Common.{◌≡◌, ℕ, zero, suc, ◌+◌, ◌<◌, ◌�
 use Rattle.asm_state.specs.declared.value.Value.{Value}
 use Rattle.asm_state.specs.declared.operation.Op.{Op}
 use Rattle.asm_syntax.specs.Tree.{Name, Term, Constant, Named, Chain, Not, Negative, Exists, Every, Terms, no_terms, term_then, Links, no_links, link_then, Rule, Skip, Assign, Call, Par, Seq, If, Let, Forall, Choose, Iterate, Rules, no_rules, rule_then}
-use Rattle.asm_eval.specs.Program.{Program, Declared, Universe, Enumerated, Controlled, Static, Derived, NamedRule, declared, is_name, Environment, nothing_bound, with_value, with_term, bind_values, Binding, ToValue, ToTerm, bound_to}
+use Rattle.asm_eval.specs.Program.{Program, Declared, Universe, Enumerated, Controlled, Static, Derived, NamedRule, declared, is_name, Environment, nothing_bound, with_value, with_term, with_location, bind_values, Binding, ToValue, ToTerm, ToLocation, bound_to}
 use Rattle.asm_eval.specs.Value.{nesting}
 use Rattle.asm_eval.specs.Ranks.{is_among, UsesBelow, EachUsesBelow, LinksUseBelow, AreDerivedRanked, IsRanked, CallsBelow, EachCallsBelow, lower}
 use Rattle.asm_eval.specs.Weights.{names_of, used, size, sizes, link_sizes, size_within, load, weight, TermWeightsFall, called_size, rule_size, rule_sizes, rule_size_within, rule_weight, CallWeightsFall}
@@ -72,6 +72,12 @@ unbound (with_term y t caller e) x free =
       | false ↦ λ h. unbound e x h
     ] free
 
+unbound (with_location y l e) x free =
+    elim (is_name y x) as (λ b. ◌≡◌ {A = Option Binding} (cond b (Some (ToLocation l)) (bound_to e x)) None → (b || is_among (names_of e) x) ≡ false) [
+      | true ↦ λ h. cc
+      | false ↦ λ h. unbound e x h
+    ] free
+
 module _ (program : Program) where
   load-values : (xs : List Name) (vs : List Value) → load program (bind_values xs vs) ≡ 0
   unfolding load
@@ -86,6 +92,11 @@ module _ (program : Program) where
   load_bounds nothing_bound x t caller is = cc
   load_bounds (with_value y v e) x t caller is =
       elim (is_name y x) as (λ b. cond b (Some (ToValue v)) (bound_to e x) ≡ Some (ToTerm t caller) → size_within program nesting t (names_of caller) + load program caller ≤ load program e) [
+        | true ↦ λ h. cc
+        | false ↦ λ h. load_bounds e x t caller h
+      ] is
+  load_bounds (with_location y l e) x t caller is =
+      elim (is_name y x) as (λ b. cond b (Some (ToLocation l)) (bound_to e x) ≡ Some (ToTerm t caller) → size_within program nesting t (names_of caller) + load program caller ≤ load program e) [
         | true ↦ λ h. cc
         | false ↦ λ h. load_bounds e x t caller h
       ] is
@@ -208,7 +219,7 @@ module _ (program : Program) (rank : Name → ℕ) (body₁ body₂ : Rule → �
     rule_same : (R : Rule) → CallsBelow program rank n R → rule_size program body₁ R ≡ rule_size program body₂ R
     rule_same Skip c = refl
     rule_same (Assign f ts t) c = refl
-    rule_same (Call f ts) c =
+    rule_same (Call to f ts) c =
         subst (λ d. 1 + called_size program body₁ d ≡ 1 + called_size program body₂ d) (sym c.is_declared)
         (ap (λ k. 1 + k) (alike f c.parameters c.body c.is_declared c.is_below))
     rule_same (Par Ps) c = ap (λ k. 1 + k) (rules_same Ps c)
@@ -223,9 +234,9 @@ module _ (program : Program) (rank : Name → ℕ) (body₁ body₂ : Rule → �
     rules_same no_rules c = refl
     rules_same (rule_then P Ps) c = λ i. rule_same P c.0 i + rules_same Ps c.1 i
 
-above_called : (program : Program) (n : ℕ) (f : Name) (ts : Terms) (xs : List Name) (P : Rule) → declared program f ≡ Some (NamedRule xs P) → rule_size_within program n P < rule_size_within program (suc n) (Call f ts)
+above_called : (program : Program) (n : ℕ) (to : Option (Name × Terms)) (f : Name) (ts : Terms) (xs : List Name) (P : Rule) → declared program f ≡ Some (NamedRule xs P) → rule_size_within program n P < rule_size_within program (suc n) (Call to f ts)
 unfolding rule_size_within rule_size
-above_called program n f ts xs P d =
+above_called program n to f ts xs P d =
     let is : called_size program (rule_size_within program n) (declared program f) ≡ rule_size_within program n P = ap (called_size program (rule_size_within program n)) d in
     omega (arith, is)
 
@@ -239,12 +250,12 @@ module _ (program : Program) (rank : Name → ℕ) (ranked : IsRanked program ra
       rule_same program rank _ _ (suc n)
       (λ f xs P d below. rule_deep_enough n m P (lower program rank (rank f) n (omega arith) P (ranked f xs P d)) (omega arith)) R c
 
-  at_call : (f : Name) (ts : Terms) (xs : List Name) (P : Rule) → declared program f ≡ Some (NamedRule xs P) → rank f < nesting → rule_weight program P < rule_weight program (Call f ts)
+  at_call : (to : Option (Name × Terms)) (f : Name) (ts : Terms) (xs : List Name) (P : Rule) → declared program f ≡ Some (NamedRule xs P) → rank f < nesting → rule_weight program P < rule_weight program (Call to f ts)
   unfolding rule_weight
-  at_call f ts xs P d below =
+  at_call to f ts xs P d below =
       let deep : rule_size_within program 16 P ≡ rule_size_within program nesting P =
       rule_deep_enough 16 nesting P (lower program rank (rank f) 16 (omega arith) P (ranked f xs P d)) (omega arith) in
-      let above : rule_size_within program 16 P < rule_size_within program nesting (Call f ts) = above_called program 16 f ts xs P d in
+      let above : rule_size_within program 16 P < rule_size_within program nesting (Call to f ts) = above_called program 16 to f ts xs P d in
       omega (arith, deep, above)
 
 module _ (program : Program) (body : Rule → ℕ) where
@@ -252,7 +263,7 @@ module _ (program : Program) (body : Rule → ℕ) where
   unfolding rule_size
   some_rule_size Skip = omega arith
   some_rule_size (Assign f ts t) = omega arith
-  some_rule_size (Call f ts) = omega arith
+  some_rule_size (Call to f ts) = omega arith
   some_rule_size (Par Ps) = omega arith
   some_rule_size (Seq Ps) = omega arith
   some_rule_size (If t P Q) = omega arith

@@ -2,7 +2,8 @@
 --     environment shape e      names with values, or with terms and the environment of their caller, and `result` with the location that
 --                              has its number in the signature
 --     environment_in checked e     the same in the signature of a specification
---     binding found      what a look-up answered
+--     binding shape found          what a look-up answered
+--     bound_around                 what a name is bound to around other bindings
 use Rattle.std.specs.Prelude.{List, ℕ, map, Option, Some, None, slice_get, option_map}
 use Rattle.asm_state.specs.Location.{Location}
 use Rattle.asm_state.specs.Signature.{Shape, locations}
@@ -12,7 +13,7 @@ use Rattle.asm_syntax.specs.Views.{term_of, terms_of, spec_of}
 use Rattle.asm_syntax.specs.PlainTree.{plain_term, plain_terms}
 use Rattle.asm_syntax.specs.declared.name.Name as syntax
 use Rattle.asm_syntax.specs.Tree.{Name}
-use Rattle.asm_eval.specs.Program.{Environment, nothing_bound, with_value, bind_values, bind_terms, Binding, ToValue, ToTerm, ToLocation, located}
+use Rattle.asm_eval.specs.Program.{Environment, nothing_bound, with_value, bind_values, bind_terms, Binding, ToValue, ToTerm, ToLocation, bound_to, located}
 use Rattle.asm_eval.specs.declared.env.Env.{Env}
 use Rattle.asm_eval.specs.declared.env.Env.TheVariants as env
 use Rattle.asm_eval.specs.declared.env.Binding.{Binding as Found}
@@ -25,6 +26,10 @@ text_of x = x.text
 abbrev pub location_numbered : Shape → Option ℕ → Option Location
 location_numbered shape None = None
 location_numbered shape (Some n) = slice_get (locations shape) n
+
+-- what a name is bound to where `result` may stand for the location with a number
+abbrev pub bound_around : Shape → Name → (inner : Environment) → Option ℕ → Option Binding
+bound_around shape x inner answer = bound_to (located (location_numbered shape answer) inner) x
 
 module _ (shape : Shape) where
   abbrev pub environment : Env → Environment

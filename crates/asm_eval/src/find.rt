@@ -1,11 +1,12 @@
 //! What a name is bound to in an environment.
-ghost use Rattle.std.specs.Prelude.{◌≡◌, slice_index_or};
+ghost use Rattle.std.specs.Prelude.{◌≡◌, Some, IfSome, IfNone, slice_index_or};
 ghost use Rattle.std.specs.List.{position};
 ghost use Rattle.std.specs.Option.{option_map};
 ghost use Rattle.asm_state.specs.declared.value.Value.TheVariants.{Undef};
+ghost use Rattle.asm_state.specs.Signature.{Shape};
 ghost use Rattle.asm_syntax.specs.Tree as tree;
-ghost use Rattle.asm_eval.specs.Environments.{environment, binding, text_of, beside};
-ghost use Rattle.asm_eval.specs.Program.{bound_to, is_name};
+ghost use Rattle.asm_eval.specs.Environments.{environment, binding, bound_around, location_numbered, text_of, beside};
+ghost use Rattle.asm_eval.specs.Program.{Environment, ToLocation, bound_to, is_name};
 
 use crate::env::{Binding, Env};
 use asm_state::signature::Signature;
@@ -16,7 +17,7 @@ use asm_syntax::term::Term;
 /// What the name is bound to, by the innermost binder of its text.
 #[tactic(auto, using(crate::proofs::Bound::bound_value, crate::proofs::Bound::bound_term))]
 pub(crate) fn find<'a>(signature: &Signature, env: &'a Env<'a>, name: &Name) -> Binding<'a>
-    ensures { binding signature.now result ≡ bound_to (environment signature.now env.now) name.now.text }
+    ensures { (shape : Shape) → signature.now ≡ shape → binding shape result ≡ bound_to (environment shape env.now) name.now.text }
 {
     let mut rest = env;
     while let Env::One {
@@ -42,10 +43,7 @@ pub(crate) fn find<'a>(signature: &Signature, env: &'a Env<'a>, name: &Name) -> 
             caller,
             answer,
         } => {
-            if let Some(n) = answer
-                && n < signature.count()
-                && is_result(name)
-            {
+            if let Some(n) = located(signature, answer, name) {
                 return Binding::Located(n);
             }
             match term_of(names, terms, name) {
@@ -53,6 +51,20 @@ pub(crate) fn find<'a>(signature: &Signature, env: &'a Env<'a>, name: &Name) -> 
                 Some(term) => Binding::ByName(term, caller),
             }
         }
+    }
+}
+
+/// The number of the location that the name stands for, if it is `result` and stands for one.
+#[inline(always)]
+fn located(signature: &Signature, answer: Option<usize>, name: &Name) -> Option<usize>
+    ensures found { IfSome result (λ n. (inner : Environment) → bound_around signature.now name.now.text inner answer ≡ option_map ToLocation (location_numbered signature.now (Some n))) }
+    ensures other { IfNone result ((inner : Environment) → bound_around signature.now name.now.text inner answer ≡ bound_to inner name.now.text) }
+{
+    let n = answer?;
+    if n < signature.count() && is_result(name) {
+        Some(n)
+    } else {
+        None
     }
 }
 

@@ -195,7 +195,7 @@ fn open_spans<'a>(
     requires cut { 0 < cut }
     requires rises { from ≤ to }
     ensures { (s : Setting) (A : State) → IsPartOf s.program (meant piece.now.rule.now) (part.Span from to)
-        → IfOk result (OpensTo s A cut false (span_does s A (environment_in evaluation.now.scene.checked.now piece.now.env) piece.now.path (meant piece.now.rule.now) from to)) }
+        → IfOk result (OpensTo s A cut false (span_does s A (environment s.shape piece.now.env) piece.now.path (meant piece.now.rule.now) from to)) }
 {
     let mut pieces = Vec::with_capacity(alloc, (to - from).div_ceil(cut))?;
     let mut next = from;

@@ -2,9 +2,9 @@
 use Rattle.std.proofs.Common.{◌≡◌, ℕ, suc, true, false, List, [], ◌∷◌, ◌++◌, Option, None, refl}
 use Rattle.asm_syntax.specs.declared.token.Kind.{Kind}
 use Rattle.asm_syntax.specs.declared.token.Kind.TheVariants.{Symbol, Word}
-use Rattle.asm_syntax.specs.declared.token.Symbol.TheVariants.{Assign, Equal}
+use Rattle.asm_syntax.specs.declared.token.Symbol.TheVariants.{Assign, LeftArrow, Equal}
 use Rattle.asm_syntax.specs.declared.token.Word.{Word as Keyword}
-use Rattle.asm_syntax.specs.declared.token.Word.TheVariants.{Par, EndPar, Seq, EndSeq, If, Then, Else, EndIf, Let, In, EndLet, Forall, With, Do, EndForall, Choose, IfNone, EndChoose, Iterate, EndIterate}
+use Rattle.asm_syntax.specs.declared.token.Word.TheVariants.{Par, EndPar, Seq, EndSeq, If, Then, Else, EndIf, Let, In, EndLet, Forall, With, Do, EndForall, Choose, IfNone, EndChoose, Iterate, EndIterate, While, EndWhile}
 use Rattle.asm_syntax.specs.SourceTree as source
 use Rattle.asm_syntax.specs.Views.{rules_of}
 use Rattle.asm_reader.specs.Kinds.{is_one_of}
@@ -13,8 +13,8 @@ use Rattle.asm_reader.specs.Parts.{Part, ◌then◌, ◌or◌, optional, repeate
 use Rattle.asm_reader.specs.Steps.{Reader, pair_of, mapped, either_of, option_of, repeated_of, past_of, several_of, between_of}
 use Rattle.asm_reader.specs.TermGrammar.{name, binding}
 use Rattle.asm_reader.specs.TermReading.{name_at, binding_at}
-use Rattle.asm_reader.specs.RuleGrammar.{branch, par_rule, seq_rule, if_rule, let_rule, forall_rule, choose_rule, iterate_rule, block_rule}
-use Rattle.asm_reader.specs.RuleReading.{rule_starts, branch_at, condition_at, par_at, seq_at, if_at, let_at, forall_at, choose_at, iterate_at, block_at}
+use Rattle.asm_reader.specs.RuleGrammar.{branch, par_rule, seq_rule, if_rule, let_rule, forall_rule, choose_rule, iterate_rule, while_rule, block_rule}
+use Rattle.asm_reader.specs.RuleReading.{rule_starts, branch_at, condition_at, par_at, seq_at, if_at, let_at, forall_at, choose_at, iterate_at, while_at, block_at}
 use Rattle.asm_reader.proofs.Lists.{alike_symbol, alike_word, alike_self, apart, within}
 use Rattle.asm_reader.proofs.Readers.{IsExact, Begins, HasText, exact_pair, exact_makes, exact_optional, exact_repeated, repeated_ends, ends_none, ends_by}
 use Rattle.asm_reader.proofs.Exact.{depth, IsPlain, exact_past, has_past, has_makes, has_then, begins_makes, begins_then, begins_past, begins_or, exact_or, optional_ends}
@@ -24,8 +24,11 @@ use Rattle.asm_reader.proofs.TermExact.{term_more, has_name, has_binding, exact_
 -- ---- sets of kinds
 
 -- what the rules begin with, from one of them on
+abbrev iterate_first : List Kind
+iterate_first = Word Iterate ∷ Word While ∷ []
+
 abbrev choose_first : List Kind
-choose_first = Word Choose ∷ Word Iterate ∷ []
+choose_first = Word Choose ∷ iterate_first
 
 abbrev forall_first : List Kind
 forall_first = Word Forall ∷ choose_first
@@ -47,7 +50,7 @@ rule_first = rule_starts
 
 -- what carries on a rule that is whole
 abbrev pub rule_more : List Kind
-rule_more = Symbol Assign ∷ term_more
+rule_more = Symbol Assign ∷ Symbol LeftArrow ∷ term_more
 
 -- what carries on rules that follow one another
 abbrev several_more : List Kind
@@ -78,6 +81,9 @@ module _ (text : List ℕ) (X : Part source.Term) (S : Part source.Rule) where
 
   abbrev pub choose_body : Part ((source.Name × source.Name) × (Option source.Term × (source.Rule × Option source.Rule)))
   choose_body = binding text then condition then behind Do then optional (behind IfNone)
+
+  abbrev pub while_body : Part (source.Term × source.Rule)
+  while_body = X then behind Do
 
   begins_frame : {A : Type 0} (k close : Keyword) (B : Part A) (f : A → source.Rule) → Begins (Word k ∷ []) (between (Word k) (Word close) B makes f)
   begins_frame k close B f = begins_makes (Word k ∷ []) (between (Word k) (Word close) B) f (begins_between (Word k) (Word close) B)
@@ -110,9 +116,16 @@ module _ (text : List ℕ) (X : Part source.Term) (S : Part source.Rule) where
   unfolding iterate_rule
   begins_iterate = begins_frame Iterate EndIterate S source.Iterate
 
+  begins_while : Begins (Word While ∷ []) (while_rule text X S)
+  unfolding while_rule
+  begins_while = begins_frame While EndWhile while_body (λ r. source.While r.0 r.1)
+
   -- the rules from one of them on
+  abbrev from_iterate : Part source.Rule
+  from_iterate = iterate_rule text X S or while_rule text X S
+
   abbrev from_choose : Part source.Rule
-  from_choose = choose_rule text X S or iterate_rule text X S
+  from_choose = choose_rule text X S or from_iterate
 
   abbrev from_forall : Part source.Rule
   from_forall = forall_rule text X S or from_choose
@@ -126,8 +139,11 @@ module _ (text : List ℕ) (X : Part source.Term) (S : Part source.Rule) where
   abbrev from_seq : Part source.Rule
   from_seq = seq_rule text X S or from_if
 
+  begins_from_iterate : Begins iterate_first from_iterate
+  begins_from_iterate = begins_or (Word Iterate ∷ []) (Word While ∷ []) iterate_first (iterate_rule text X S) (while_rule text X S) begins_iterate begins_while refl refl
+
   begins_from_choose : Begins choose_first from_choose
-  begins_from_choose = begins_or (Word Choose ∷ []) (Word Iterate ∷ []) choose_first (choose_rule text X S) (iterate_rule text X S) begins_choose begins_iterate refl refl
+  begins_from_choose = begins_or (Word Choose ∷ []) iterate_first choose_first (choose_rule text X S) from_iterate begins_choose begins_from_iterate refl refl
 
   begins_from_forall : Begins forall_first from_forall
   begins_from_forall = begins_or (Word Forall ∷ []) choose_first forall_first (forall_rule text X S) from_choose begins_forall begins_from_choose refl refl
@@ -260,6 +276,14 @@ module _ (text : List ℕ) (n : ℕ) (term : Reader source.Term) (P N : Part sou
       done_at : Reader (source.Rule × Option source.Rule)
       done_at = pair_of (past_of (Word Do) rule) (option_of (Word IfNone ∷ []) (past_of (Word IfNone) rule))
 
+  exact_while_body : (m : ℕ) → n ≡ suc m → IsExact (depth m false) (depth m false) rule_more (while_body text P Q) (while_body text N M) (pair_of term (past_of (Word Do) rule))
+  exact_while_body m e = exact_pair (depth m false) (depth m false) (depth m false) term_more rule_more P N (past (Word Do) Q) (past (Word Do) M) (ends_by term_more rule_more (Word Do ∷ []) (past (Word Do) M) (begins_past (Word Do) M) refl) (has_past (Word Do) Q has)
+      term (past_of (Word Do) rule) (exact m e) (exact_behind Do (refl, refl, refl) m e)
+
+  exact_while : IsExact (depth n false) (depth n false) [] (while_rule text P Q) (while_rule text N M) (while_at text n term rule)
+  unfolding while_rule while_at
+  exact_while = exact_frame n While EndWhile (refl, refl, refl) rule_more refl (while_body text P Q) (while_body text N M) (has_then P (past (Word Do) Q) some (has_past (Word Do) Q has)) (pair_of term (past_of (Word Do) rule)) exact_while_body (λ r. source.While r.0 r.1)
+
   -- ---- one rule or another
 
   exact_both : (ks js : List Kind) (B C D E : Part source.Rule) → Begins ks C → Begins js E → apart js ks ≡ true → (f h : Reader source.Rule) → IsExact (depth n false) (depth n false) [] B C f → IsExact (depth n false) (depth n false) [] D E h
@@ -273,10 +297,14 @@ module _ (text : List ℕ) (n : ℕ) (term : Reader source.Term) (P N : Part sou
       (exact_both (Word If ∷ []) let_first (if_rule text P Q) (if_rule text N M) (from_let text P Q) (from_let text N M) (begins_if text N M) (begins_from_let text N M) refl (if_at text n term rule) let_on exact_if
       (exact_both (Word Let ∷ []) forall_first (let_rule text P Q) (let_rule text N M) (from_forall text P Q) (from_forall text N M) (begins_let text N M) (begins_from_forall text N M) refl (let_at text n term rule) forall_on exact_let
       (exact_both (Word Forall ∷ []) choose_first (forall_rule text P Q) (forall_rule text N M) (from_choose text P Q) (from_choose text N M) (begins_forall text N M) (begins_from_choose text N M) refl (forall_at text n term rule) choose_on exact_forall
-      (exact_both (Word Choose ∷ []) (Word Iterate ∷ []) (choose_rule text P Q) (choose_rule text N M) (iterate_rule text P Q) (iterate_rule text N M) (begins_choose text N M) (begins_iterate text N M) refl (choose_at text n term rule) (iterate_at text n term rule) exact_choose exact_iterate)))))
+      (exact_both (Word Choose ∷ []) iterate_first (choose_rule text P Q) (choose_rule text N M) (from_iterate text P Q) (from_iterate text N M) (begins_choose text N M) (begins_from_iterate text N M) refl (choose_at text n term rule) iterate_on exact_choose
+      (exact_both (Word Iterate ∷ []) (Word While ∷ []) (iterate_rule text P Q) (iterate_rule text N M) (while_rule text P Q) (while_rule text N M) (begins_iterate text N M) (begins_while text N M) refl (iterate_at text n term rule) (while_at text n term rule) exact_iterate exact_while))))))
     where
+      iterate_on : Reader source.Rule
+      iterate_on = either_of (Word Iterate ∷ []) (iterate_at text n term rule) (while_at text n term rule)
+
       choose_on : Reader source.Rule
-      choose_on = either_of (Word Choose ∷ []) (choose_at text n term rule) (iterate_at text n term rule)
+      choose_on = either_of (Word Choose ∷ []) (choose_at text n term rule) iterate_on
 
       forall_on : Reader source.Rule
       forall_on = either_of (Word Forall ∷ []) (forall_at text n term rule) choose_on

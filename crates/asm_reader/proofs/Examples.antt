@@ -16,8 +16,8 @@ use Rattle.asm_reader.specs.ScriptText.{line_of, IsScript, IsScriptRefusal}
 use Rattle.asm_reader.specs.Specification.{AreSpelling}
 use Rattle.asm_reader.specs.Refusals.{IsUnexpected, IsUnexpectedEnd, IsTooDeep}
 use Rattle.asm_reader.specs.Steps.{turns}
-use Rattle.asm_reader.specs.TermReading.{name_at, arguments_at, applied_at, parenthesized_at, primary_at, factor_at, product_at, sum_at, comparison_at, negation_at, conjunction_at, disjunction_at, inner_at, term_at}
-use Rattle.asm_reader.specs.RuleReading.{skip_at, named_rule_at, par_at, iterate_at, block_at, rule_over_at, rule_at}
+use Rattle.asm_reader.specs.TermReading.{name_at, result_at, answer_at, arguments_at, applied_at, parenthesized_at, primary_at, factor_at, product_at, sum_at, comparison_at, negation_at, conjunction_at, disjunction_at, inner_at, term_at}
+use Rattle.asm_reader.specs.RuleReading.{skip_at, named_rule_at, result_rule_at, par_at, iterate_at, while_at, block_at, rule_over_at, rule_at}
 use Rattle.asm_reader.specs.Reading.{parameters_at, rule_item_at, item_at, specification_at}
 use Rattle.asm_reader.proofs.EachScript.{answers as script_answers}
 use Rattle.asm_reader.proofs.EachText.{answers}
@@ -122,6 +122,17 @@ pars (suc n) at more = token (Word words.Par) at (at + 3) ∷ pars n (at + 4) mo
 abbrev text_with : List ℕ → List ℕ
 text_with body = codes "CoreASM T rule M = " ++ body
 
+-- the word `result`
+abbrev result : ℕ → Token
+result i = token (Word words.Result) i (i + 6)
+
+-- a name of one letter, and another in parentheses, with spaces between
+abbrev applied_tokens : ℕ → List Token → List Token
+applied_tokens i more = variable i ∷ token (Symbol symbols.Open) (i + 2) (i + 3) ∷ variable (i + 4) ∷ token (Symbol symbols.Close) (i + 6) (i + 7) ∷ more
+
+abbrev one : source.Term → source.Terms
+one t = source.term_then t source.no_terms
+
 record Trees : Type 0 where
   header_alone : AreSpelling (codes "CoreASM T") (token (Word words.CoreAsm) 0 7 ∷ token kind.Name 8 9 ∷ []) (record { name = name 8 (codes "T"); items = []; length = 9 })
   word : AreSpelling (text_with (codes "skip")) (with_body (token (Word words.Skip) 19 23 ∷ [])) (spec_with source.Skip 23)
@@ -132,10 +143,18 @@ record Trees : Type 0 where
   parentheses_make_no_node : AreSpelling (text_with (codes "x := ( a )")) (with_body (variable 19 ∷ token (Symbol symbols.Assign) 21 23 ∷ token (Symbol symbols.Open) 24 25 ∷ variable 26 ∷ token (Symbol symbols.Close) 28 29 ∷ []))
       (spec_with (source.Assign (name 19 (codes "x")) source.no_terms (named 26 (codes "a"))) 29)
   followed_by_its_arguments : AreSpelling (text_with (codes "r ( a )")) (with_body (variable 19 ∷ token (Symbol symbols.Open) 21 22 ∷ variable 23 ∷ token (Symbol symbols.Close) 25 26 ∷ []))
-      (spec_with (source.Call None (name 19 (codes "r")) (source.term_then (named 23 (codes "a")) source.no_terms)) 26)
+      (spec_with (source.Call None (name 19 (codes "r")) (one (named 23 (codes "a")))) 26)
+  while_a_test_holds : AreSpelling (text_with (codes "while a do skip endwhile")) (with_body (token (Word words.While) 19 24 ∷ variable 25 ∷ token (Word words.Do) 27 29 ∷ token (Word words.Skip) 30 34 ∷ token (Word words.EndWhile) 35 43 ∷ []))
+      (spec_with (source.While (named 25 (codes "a")) source.Skip) 43)
+  answer_into_a_location : AreSpelling (text_with (codes "f ( a ) <- r ( b )")) (with_body (applied_tokens 19 (token (Symbol symbols.LeftArrow) 27 29 ∷ applied_tokens 30 [])))
+      (spec_with (source.Call (Some (name 19 (codes "f"), one (named 23 (codes "a")))) (name 30 (codes "r")) (one (named 34 (codes "b")))) 37)
+  answer_without_arguments : AreSpelling (text_with (codes "f <- r")) (with_body (variable 19 ∷ token (Symbol symbols.LeftArrow) 21 23 ∷ variable 24 ∷ []))
+      (spec_with (source.Call (Some (name 19 (codes "f"), source.no_terms)) (name 24 (codes "r")) source.no_terms) 25)
+  result_is_set : AreSpelling (text_with (codes "result := result + a")) (with_body (result 19 ∷ token (Symbol symbols.Assign) 26 28 ∷ result 29 ∷ token (Symbol symbols.Plus) 36 37 ∷ variable 38 ∷ []))
+      (spec_with (source.SetResult (name 19 (codes "result")) (source.Chain (source.Answer (name 29 (codes "result"))) (source.link_then Add (named 38 (codes "a")) source.no_links))) 39)
 
 trees : Trees
-unfolding specification_at item_at rule_item_at parameters_at turns name_at rule_at rule_over_at skip_at named_rule_at applied_at arguments_at term_at disjunction_at conjunction_at negation_at comparison_at sum_at product_at factor_at primary_at parenthesized_at inner_at
+unfolding specification_at item_at rule_item_at parameters_at turns name_at result_at answer_at rule_at rule_over_at skip_at block_at while_at named_rule_at result_rule_at applied_at arguments_at term_at disjunction_at conjunction_at negation_at comparison_at sum_at product_at factor_at primary_at parenthesized_at inner_at
 trees = record {
   header_alone = answers _ _ (Ok _) refl;
   word = answers _ _ (Ok _) refl;
@@ -143,6 +162,10 @@ trees = record {
   product_first = answers _ _ (Ok _) refl;
   parentheses_make_no_node = answers _ _ (Ok _) refl;
   followed_by_its_arguments = answers _ _ (Ok _) refl;
+  while_a_test_holds = answers _ _ (Ok _) refl;
+  answer_into_a_location = answers _ _ (Ok _) refl;
+  answer_without_arguments = answers _ _ (Ok _) refl;
+  result_is_set = answers _ _ (Ok _) refl;
 }
 
 -- ---- refused tokens, whatever their names are
@@ -155,12 +178,17 @@ module _ (text : List ℕ) where
     arrow_to_the_left : IsUnexpected text (with_body (variable 19 ∷ token (Symbol symbols.Assign) 21 23 ∷ variable 24 ∷ token (Symbol symbols.LeftArrow) 26 28 ∷ variable 29 ∷ [])) 26
     parentheses_first : IsUnexpected text (with_body (token (Symbol symbols.Open) 19 20 ∷ variable 21 ∷ [])) 19
     second_rule : IsUnexpected text (with_body (token (Word words.Skip) 19 23 ∷ token (Word words.Skip) 24 28 ∷ [])) 24
-    word_of_no_rule : IsUnexpected text (with_body (token (Word words.While) 19 24 ∷ [])) 19
+    word_of_no_rule : IsUnexpected text (with_body (token (Word words.Do) 19 21 ∷ [])) 19
+    arrow_behind_result : IsUnexpected text (with_body (result 19 ∷ token (Symbol symbols.LeftArrow) 26 28 ∷ variable 29 ∷ [])) 26
+    arrow_in_front_of_result : IsUnexpected text (with_body (variable 19 ∷ token (Symbol symbols.LeftArrow) 21 23 ∷ result 24 ∷ [])) 24
+    second_arrow : IsUnexpected text (with_body (variable 19 ∷ token (Symbol symbols.LeftArrow) 21 23 ∷ variable 24 ∷ token (Symbol symbols.LeftArrow) 26 28 ∷ variable 29 ∷ [])) 26
+    while_of_no_test : IsUnexpected text (with_body (token (Word words.While) 19 24 ∷ token (Word words.Do) 25 27 ∷ [])) 25
+    while_opens_a_level : IsTooDeep text (with_body (pars 64 26 (token (Word words.While) 282 287 ∷ []))) 282
     level_too_many : IsTooDeep text (with_body (pars 65 26 (token (Word words.Skip) 286 290 ∷ []))) 282
     unexpected_opens_nothing : IsUnexpected text (with_body (pars 64 26 (token (Symbol symbols.Open) 282 283 ∷ []))) 282
 
   refused : Refused
-  unfolding specification_at item_at rule_item_at parameters_at turns name_at rule_at rule_over_at skip_at block_at par_at iterate_at named_rule_at applied_at arguments_at term_at disjunction_at conjunction_at negation_at comparison_at sum_at product_at factor_at primary_at parenthesized_at inner_at
+  unfolding specification_at item_at rule_item_at parameters_at turns name_at result_at answer_at rule_at rule_over_at skip_at block_at par_at iterate_at while_at named_rule_at result_rule_at applied_at arguments_at term_at disjunction_at conjunction_at negation_at comparison_at sum_at product_at factor_at primary_at parenthesized_at inner_at
   refused = record {
     no_token = answers text [] (Err UnexpectedEnd) refl;
     not_ended = answers text _ (Err UnexpectedEnd) refl;
@@ -169,6 +197,11 @@ module _ (text : List ℕ) where
     parentheses_first = answers text _ (Err (Unexpected 19)) refl;
     second_rule = answers text _ (Err (Unexpected 24)) refl;
     word_of_no_rule = answers text _ (Err (Unexpected 19)) refl;
+    arrow_behind_result = answers text _ (Err (Unexpected 26)) refl;
+    arrow_in_front_of_result = answers text _ (Err (Unexpected 24)) refl;
+    second_arrow = answers text _ (Err (Unexpected 26)) refl;
+    while_of_no_test = answers text _ (Err (Unexpected 25)) refl;
+    while_opens_a_level = answers text _ (Err (TooDeep 282)) refl;
     level_too_many = answers text _ (Err (TooDeep 282)) refl;
     unexpected_opens_nothing = answers text _ (Err (Unexpected 282)) refl;
   }

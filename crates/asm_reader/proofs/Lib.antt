@@ -17,6 +17,8 @@ pub mod RuleExact
 pub mod ContentExact
 pub mod ItemExact
 pub mod ItemWider
+pub mod OldTokens
+pub mod OldTexts
 pub mod Consuming
 pub mod Separated
 pub mod Ranks

@@ -1,27 +1,38 @@
 -- The readers of rules are exact.
-use Rattle.std.proofs.Common.{◌≡◌, ℕ, zero, suc, ◌+◌, Bool, false, List, [], ◌∷◌, Option, Some, None, refl, sym, subst, arith, inl, inr}
+use Rattle.std.proofs.Common.{◌≡◌, ◌⊎◌, ℕ, zero, suc, ◌+◌, Bool, false, List, [], ◌∷◌, Option, Some, None, refl, sym, subst, arith, inl, inr}
 use Rattle.std.proofs.lemmas.List.{append-nil}
+use Rattle.asm_syntax.specs.declared.token.Kind.{Kind}
 use Rattle.asm_syntax.specs.declared.token.Kind.TheVariants as kind
 use Rattle.asm_syntax.specs.declared.token.Kind.TheVariants.{Symbol, Word}
-use Rattle.asm_syntax.specs.declared.token.Symbol.TheVariants.{Assign}
-use Rattle.asm_syntax.specs.declared.token.Word.TheVariants.{Skip}
+use Rattle.asm_syntax.specs.declared.token.Symbol.TheVariants.{Assign, LeftArrow}
+use Rattle.asm_syntax.specs.declared.token.Word.TheVariants.{Skip, Result}
 use Rattle.asm_syntax.specs.declared.token.Token.{Token}
 use Rattle.asm_syntax.specs.SourceTree as source
 use Rattle.asm_reader.specs.Parts.{Part, token, ◌then◌, ◌or◌, optional, ◌makes◌, nothing, past}
 use Rattle.asm_reader.specs.Steps.{Reader, refuse, expect, pair_of, either_of, option_of, past_of, mapped}
-use Rattle.asm_reader.specs.TermGrammar.{applied, term_over, term_within, any_term}
-use Rattle.asm_reader.specs.TermReading.{applied_at, disjunction_at, term_at}
-use Rattle.asm_reader.specs.RuleGrammar.{skip_rule, call, assignment, block_rule, rule_over, rule_within, any_rule}
-use Rattle.asm_reader.specs.RuleReading.{named_rule, skip_at, named_rule_at, block_at, rule_over_at, rule_at}
+use Rattle.asm_reader.specs.TermGrammar.{applied, result_name, term_within, any_term}
+use Rattle.asm_reader.specs.TermReading.{applied_at, result_at, disjunction_at, term_at}
+use Rattle.asm_reader.specs.RuleGrammar.{skip_rule, call, assignment, answering_call, value, result_rule, block_rule, rule_over, rule_within, any_rule}
+use Rattle.asm_reader.specs.RuleReading.{Applied, named_rule, skip_at, value_at, called_at, behind_name_at, named_rule_at, result_rule_at, block_at, rule_over_at, rule_at}
 use Rattle.asm_reader.proofs.Lists.{alike_symbol, alike_word, within_self}
-use Rattle.asm_reader.proofs.Readers.{IsExact, Begins, HasText, exact_pair, exact_makes, exact_optional, exact_wider, ends_by, has_token, begins_token}
-use Rattle.asm_reader.proofs.Exact.{depth, exact_plain, exact_past, has_makes, begins_makes, begins_then, begins_past, begins_or, exact_or, optional_ends}
+use Rattle.asm_reader.proofs.Readers.{IsExact, Begins, HasText, exact_pair, exact_makes, exact_optional, exact_wider, ends_by, ends_none, has_token, begins_token}
+use Rattle.asm_reader.proofs.Exact.{depth, exact_plain, exact_past, has_past, has_makes, begins_makes, begins_then, begins_past, begins_or, exact_or, optional_ends}
 use Rattle.asm_reader.proofs.Wider.{Includes}
-use Rattle.asm_reader.proofs.TermExact.{term_first, primary_more, term_more, begins_applied, has_disjunction, has_term, begins_term, exact_applied, exact_disjunction}
+use Rattle.asm_reader.proofs.TermExact.{term_first, primary_more, term_more, begins_result_name, begins_applied, has_applied, has_disjunction, has_term, begins_term, exact_result_name, exact_applied, exact_disjunction}
 use Rattle.asm_reader.proofs.TermWider.{begins_any_term, deeper, exact_any_term}
 use Rattle.asm_reader.proofs.Blocks.{block_first, begins_block, exact_block}
 pub use Rattle.asm_reader.proofs.Blocks.{rule_first, rule_more}
 pub use Rattle.asm_reader.proofs.RuleWider.{wider_rule}
+
+-- ---- sets of kinds
+
+-- what stands behind a name with its arguments
+abbrev behind_first : List Kind
+behind_first = Symbol Assign ∷ Symbol LeftArrow ∷ []
+
+-- what the rules begin with that begin neither with `skip` nor with a name
+abbrev last_first : List Kind
+last_first = Word Result ∷ block_first
 
 -- ---- what rules begin with, and that there are some
 
@@ -33,38 +44,94 @@ has_skip : HasText skip_rule
 unfolding skip_rule
 has_skip = has_makes (token (Word Skip)) (λ _. source.Skip) (has_token (Word Skip))
 
+abbrev as_value : source.Term → source.Term ⊎ Applied
+as_value t = inl t
+
+abbrev as_called : Applied → source.Term ⊎ Applied
+as_called c = inr c
+
 module _ (text : List ℕ) (X : Part source.Term) (S : Part source.Rule) where
   -- ":=" term
-  abbrev value : Part source.Term
-  value = past (Symbol Assign) (term_over text X)
+  abbrev assigned : Part source.Term
+  assigned = past (Symbol Assign) (value text X S)
 
-  -- the two productions that begin with a name, as one
+  -- "<-" name [ arguments ]
+  abbrev called : Part Applied
+  called = past (Symbol LeftArrow) (applied text X)
+
+  -- what stands behind a name with its arguments
+  abbrev behind_name : Part (source.Term ⊎ Applied)
+  behind_name = (assigned makes as_value) or (called makes as_called)
+
+  -- the three productions that begin with a name, as one
   abbrev named : Part source.Rule
-  named = (applied text X then optional value) makes named_rule
+  named = (applied text X then optional behind_name) makes named_rule
 
   -- and as the grammar has them
   abbrev named_rules : Part source.Rule
-  named_rules = call text X S or assignment text X S
+  named_rules = call text X S or assignment text X S (value text X S) or answering_call text X S
+
+  is_assigned : (ts : List Token) (t : source.Term) → behind_name ts (inl t) → assigned ts t
+  is_assigned ts t (inl p) = subst (assigned ts) (same_term p.0 p.2) p.1
+    where
+      same_term : (u : source.Term) → ◌≡◌ {A = source.Term ⊎ Applied} (inl t) (inl u) → u ≡ t
+      same_term u e = cc
+  is_assigned ts t (inr p) = absurd (not_both p.0 p.2)
+    where
+      not_both : (c : Applied) → ◌≡◌ {A = source.Term ⊎ Applied} (inl t) (inr c) → ⊥
+      not_both c e = cc
+
+  is_called : (ts : List Token) (c : Applied) → behind_name ts (inr c) → called ts c
+  is_called ts c (inl p) = absurd (not_both p.0 p.2)
+    where
+      not_both : (t : source.Term) → ◌≡◌ {A = source.Term ⊎ Applied} (inr c) (inl t) → ⊥
+      not_both t e = cc
+  is_called ts c (inr p) = subst (called ts) (same_call p.0 p.2) p.1
+    where
+      same_call : (d : Applied) → ◌≡◌ {A = source.Term ⊎ Applied} (inr c) (inr d) → d ≡ c
+      same_call d e = cc
 
   named_wide : Includes named named_rules
-  unfolding call assignment
+  unfolding call assignment answering_call
   named_wide ts x ((v, None), s, e) = inl (v, rw (s.whole, s.second) (rw (append-nil s.front) s.first), e)
-  named_wide ts x ((v, Some t), s, e) = inr ((v, t), record { front = s.front; back = s.back; whole = s.whole; first = s.first; second = s.second }, e)
+  named_wide ts x ((v, Some (inl t)), s, e) = inr (inl ((v, t), record { front = s.front; back = s.back; whole = s.whole; first = s.first; second = is_assigned s.back t s.second }, e))
+  named_wide ts x ((v, Some (inr c)), s, e) = inr (inr ((v, c), record { front = s.front; back = s.back; whole = s.whole; first = s.first; second = is_called s.back c s.second }, e))
 
   named_narrow : Includes named_rules named
-  unfolding call assignment
+  unfolding call assignment answering_call
   named_narrow ts x (inl c) = ((c.0, None), record { front = ts; back = []; whole = sym (append-nil ts); first = c.1; second = refl }, c.2)
-  named_narrow ts x (inr c) = ((c.0.0, Some c.0.1), record { front = c.1.front; back = c.1.back; whole = c.1.whole; first = c.1.first; second = c.1.second }, c.2)
+  named_narrow ts x (inr (inl c)) = ((c.0.0, Some (inl c.0.1)), record { front = c.1.front; back = c.1.back; whole = c.1.whole; first = c.1.first; second = inl (c.0.1, c.1.second, refl) }, c.2)
+  named_narrow ts x (inr (inr c)) = ((c.0.0, Some (inr c.0.1)), record { front = c.1.front; back = c.1.back; whole = c.1.whole; first = c.1.first; second = inr (c.0.1, c.1.second, refl) }, c.2)
+
+  begins_assigned : Begins (Symbol Assign ∷ []) (assigned makes as_value)
+  begins_assigned = begins_makes (Symbol Assign ∷ []) assigned as_value (begins_past (Symbol Assign) (value text X S))
+
+  begins_called : Begins (Symbol LeftArrow ∷ []) (called makes as_called)
+  begins_called = begins_makes (Symbol LeftArrow ∷ []) called as_called (begins_past (Symbol LeftArrow) (applied text X))
+
+  begins_behind_name : Begins behind_first behind_name
+  begins_behind_name = begins_or (Symbol Assign ∷ []) (Symbol LeftArrow ∷ []) behind_first (assigned makes as_value) (called makes as_called) begins_assigned begins_called refl refl
 
   begins_named : Begins (kind.Name ∷ []) named_rules
-  begins_named ts x p = begins_makes (kind.Name ∷ []) (applied text X then optional value) named_rule (begins_then (kind.Name ∷ []) (applied text X) (optional value) (begins_applied text X)) ts x (named_narrow ts x p)
+  begins_named ts x p = begins_makes (kind.Name ∷ []) (applied text X then optional behind_name) named_rule (begins_then (kind.Name ∷ []) (applied text X) (optional behind_name) (begins_applied text X)) ts x (named_narrow ts x p)
 
-  begins_other : Begins (kind.Name ∷ block_first) (named_rules or block_rule text X S)
-  begins_other = begins_or (kind.Name ∷ []) block_first (kind.Name ∷ block_first) named_rules (block_rule text X S) begins_named (begins_block text X S) refl refl
+  begins_result_rule : Begins (Word Result ∷ []) (result_rule text X S (value text X S))
+  unfolding result_rule
+  begins_result_rule = begins_makes (Word Result ∷ []) (result_name text then assigned) (λ r. source.SetResult r.0 r.1) (begins_then (Word Result ∷ []) (result_name text) assigned (begins_result_name text))
+
+  -- the rules that begin with `result` and those with an end word, and with them those that begin with a name
+  abbrev last_rules : Part source.Rule
+  last_rules = result_rule text X S (value text X S) or block_rule text X S
+
+  begins_last : Begins last_first last_rules
+  begins_last = begins_or (Word Result ∷ []) block_first last_first (result_rule text X S (value text X S)) (block_rule text X S) begins_result_rule (begins_block text X S) refl refl
+
+  begins_other : Begins (kind.Name ∷ last_first) (named_rules or last_rules)
+  begins_other = begins_or (kind.Name ∷ []) last_first (kind.Name ∷ last_first) named_rules last_rules begins_named begins_last refl refl
 
   begins_rule_over : Begins rule_first (rule_over text X S)
   unfolding rule_over
-  begins_rule_over = begins_or (Word Skip ∷ []) (kind.Name ∷ block_first) rule_first skip_rule (named_rules or block_rule text X S) begins_skip begins_other refl refl
+  begins_rule_over = begins_or (Word Skip ∷ []) (kind.Name ∷ last_first) rule_first skip_rule (named_rules or last_rules) begins_skip begins_other refl refl
 
   has_rule_over : HasText (rule_over text X S)
   unfolding rule_over
@@ -81,30 +148,50 @@ module _ (text : List ℕ) (n : ℕ) (term : Reader source.Term) (P N : Part sou
     (exact : (m : ℕ) (q : Bool) → n ≡ suc m → IsExact (depth m q) (depth m false) term_more P N term)
     (rule : Reader source.Rule) (Q M : Part source.Rule) (has : HasText Q) (starts_rule : Begins rule_first Q) (first_rule : Begins rule_first M)
     (exact_rule : (m : ℕ) → n ≡ suc m → IsExact (depth m false) (depth m false) rule_more Q M rule) where
-  exact_value : IsExact (depth n false) (depth n false) term_more (value text P Q) (value text N M) (past_of (Symbol Assign) (disjunction_at text n term))
-  exact_value = exact_past n false (depth n false) term_more (Symbol Assign) (alike_symbol Assign) (refl, refl, refl) (term_over text P) (term_over text N) (has_disjunction text P) (disjunction_at text n term)
+  abbrev behind_at : Reader (source.Term ⊎ Applied)
+  behind_at = either_of (Symbol Assign ∷ []) (mapped as_value (value_at text n term rule)) (mapped as_called (called_at text n term rule))
+
+  exact_value : IsExact (depth n false) (depth n false) term_more (assigned text P Q) (assigned text N M) (value_at text n term rule)
+  exact_value = exact_past n false (depth n false) term_more (Symbol Assign) (alike_symbol Assign) (refl, refl, refl) (value text P Q) (value text N M) (has_disjunction text P) (disjunction_at text n term)
       (exact_disjunction text n term P N some starts first exact false)
+
+  exact_called : IsExact (depth n false) (depth n false) primary_more (called text P Q) (called text N M) (called_at text n term rule)
+  exact_called = exact_past n false (depth n false) primary_more (Symbol LeftArrow) (alike_symbol LeftArrow) (refl, refl, refl) (applied text P) (applied text N) (has_applied text P) (applied_at text n term)
+      (exact_applied text n term P N some starts first exact false)
+
+  exact_behind_name : IsExact (depth n false) (depth n false) term_more (behind_name text P Q) (behind_name text N M) behind_at
+  exact_behind_name = exact_or (depth n false) (depth n false) term_more primary_more term_more (Symbol Assign ∷ []) (Symbol LeftArrow ∷ []) (assigned text P Q makes as_value) (called text P Q makes as_called) (assigned text N M makes as_value) (called text N M makes as_called)
+      (begins_assigned text N M) (begins_called text N M) refl refl refl (mapped as_value (value_at text n term rule)) (mapped as_called (called_at text n term rule))
+      (exact_makes (depth n false) (depth n false) term_more (assigned text P Q) (assigned text N M) as_value (value_at text n term rule) exact_value)
+      (exact_makes (depth n false) (depth n false) primary_more (called text P Q) (called text N M) as_called (called_at text n term rule) exact_called)
 
   exact_named : IsExact (depth n false) (depth n false) rule_more (named_rules text P Q) (named_rules text N M) (named_rule_at text n term rule)
   unfolding named_rule_at
   exact_named = exact_wider (depth n false) (depth n false) rule_more rule_more (named text P Q) (named text N M) (named_rules text P Q) (named_rules text N M) (named_wide text P Q) (named_narrow text N M) (within_self rule_more)
-      (mapped named_rule (pair_of (applied_at text n term) value_at))
-      (exact_makes (depth n false) (depth n false) rule_more (applied text P then optional (value text P Q)) (applied text N then optional (value text N M)) named_rule (pair_of (applied_at text n term) value_at)
-      (exact_pair (depth n false) (depth n false) (depth n false) primary_more rule_more (applied text P) (applied text N) (optional (value text P Q)) (optional (value text N M))
-      (optional_ends primary_more rule_more (Symbol Assign ∷ []) (value text N M) (ends_by primary_more rule_more (Symbol Assign ∷ []) (value text N M) (begins_past (Symbol Assign) (term_over text N)) refl) refl)
-      ([], None, refl) (applied_at text n term) value_at (exact_applied text n term P N some starts first exact false)
-      (exact_optional (depth n false) term_more rule_more (Symbol Assign ∷ []) (value text P Q) (value text N M) (begins_past (Symbol Assign) (term_over text N)) refl refl (past_of (Symbol Assign) (disjunction_at text n term)) exact_value)))
-    where
-      value_at : Reader (Option source.Term)
-      value_at = option_of (Symbol Assign ∷ []) (past_of (Symbol Assign) (disjunction_at text n term))
+      (mapped named_rule (pair_of (applied_at text n term) (behind_name_at text n term rule)))
+      (exact_makes (depth n false) (depth n false) rule_more (applied text P then optional (behind_name text P Q)) (applied text N then optional (behind_name text N M)) named_rule (pair_of (applied_at text n term) (behind_name_at text n term rule))
+      (exact_pair (depth n false) (depth n false) (depth n false) primary_more rule_more (applied text P) (applied text N) (optional (behind_name text P Q)) (optional (behind_name text N M))
+      (optional_ends primary_more rule_more behind_first (behind_name text N M) (ends_by primary_more rule_more behind_first (behind_name text N M) (begins_behind_name text N M) refl) refl)
+      ([], None, refl) (applied_at text n term) (behind_name_at text n term rule) (exact_applied text n term P N some starts first exact false)
+      (exact_optional (depth n false) term_more rule_more behind_first (behind_name text P Q) (behind_name text N M) (begins_behind_name text N M) refl refl behind_at exact_behind_name)))
+
+  exact_result_rule : IsExact (depth n false) (depth n false) term_more (result_rule text P Q (value text P Q)) (result_rule text N M (value text N M)) (result_rule_at text n term rule)
+  unfolding result_rule result_rule_at
+  exact_result_rule = exact_makes (depth n false) (depth n false) term_more (result_name text then assigned text P Q) (result_name text then assigned text N M) (λ r. source.SetResult r.0 r.1) (pair_of (result_at text) (value_at text n term rule))
+      (exact_pair (depth n false) (depth n false) (depth n false) [] term_more (result_name text) (result_name text) (assigned text P Q) (assigned text N M) (ends_none term_more (assigned text N M)) (has_past (Symbol Assign) (value text P Q) (has_disjunction text P))
+      (result_at text) (value_at text n term rule) (exact_result_name text n false) exact_value)
+
+  exact_last : IsExact (depth n false) (depth n false) rule_more (last_rules text P Q) (last_rules text N M) (either_of (Word Result ∷ []) (result_rule_at text n term rule) (block_at text n term rule))
+  exact_last = exact_or (depth n false) (depth n false) term_more [] rule_more (Word Result ∷ []) block_first (result_rule text P Q (value text P Q)) (block_rule text P Q) (result_rule text N M (value text N M)) (block_rule text N M)
+      (begins_result_rule text N M) (begins_block text N M) refl refl refl (result_rule_at text n term rule) (block_at text n term rule) exact_result_rule
+      (exact_block text n term P N some (λ m e. exact m false e) rule Q M has starts_rule first_rule exact_rule)
 
   exact_rule_over : IsExact (depth n false) (depth n false) rule_more (rule_over text P Q) (rule_over text N M) (rule_over_at text n term rule)
   unfolding rule_over rule_over_at
-  exact_rule_over = exact_or (depth n false) (depth n false) [] rule_more rule_more (Word Skip ∷ []) (kind.Name ∷ block_first) skip_rule (named_rules text P Q or block_rule text P Q) skip_rule (named_rules text N M or block_rule text N M)
-      begins_skip (begins_other text N M) refl refl refl skip_at (either_of (kind.Name ∷ []) (named_rule_at text n term rule) (block_at text n term rule)) (exact_skip n)
-      (exact_or (depth n false) (depth n false) rule_more [] rule_more (kind.Name ∷ []) block_first (named_rules text P Q) (block_rule text P Q) (named_rules text N M) (block_rule text N M)
-      (begins_named text N M) (begins_block text N M) refl refl refl (named_rule_at text n term rule) (block_at text n term rule) exact_named
-      (exact_block text n term P N some (λ m e. exact m false e) rule Q M has starts_rule first_rule exact_rule))
+  exact_rule_over = exact_or (depth n false) (depth n false) [] rule_more rule_more (Word Skip ∷ []) (kind.Name ∷ last_first) skip_rule (named_rules text P Q or last_rules text P Q) skip_rule (named_rules text N M or last_rules text N M)
+      begins_skip (begins_other text N M) refl refl refl skip_at (either_of (kind.Name ∷ []) (named_rule_at text n term rule) (either_of (Word Result ∷ []) (result_rule_at text n term rule) (block_at text n term rule))) (exact_skip n)
+      (exact_or (depth n false) (depth n false) rule_more rule_more rule_more (kind.Name ∷ []) last_first (named_rules text P Q) (last_rules text P Q) (named_rules text N M) (last_rules text N M)
+      (begins_named text N M) (begins_last text N M) refl refl refl (named_rule_at text n term rule) (either_of (Word Result ∷ []) (result_rule_at text n term rule) (block_at text n term rule)) exact_named exact_last)
 
 -- ---- rules at any depth
 

@@ -1,42 +1,57 @@
 -- Rules over more terms and more rules are more rules.
-use Rattle.std.proofs.Common.{ℕ, List, None, inl, inr}
+use Rattle.std.proofs.Common.{ℕ, List, None, Some, inl, inr}
 use Rattle.asm_syntax.specs.declared.token.Kind.{Kind}
 use Rattle.asm_syntax.specs.declared.token.Kind.TheVariants.{Symbol, Word}
-use Rattle.asm_syntax.specs.declared.token.Symbol.TheVariants.{Assign, Equal}
-use Rattle.asm_syntax.specs.declared.token.Word.TheVariants.{Par, EndPar, Seq, EndSeq, If, Then, Else, EndIf, Let, In, EndLet, Forall, With, Do, EndForall, Choose, IfNone, EndChoose, Iterate, EndIterate}
+use Rattle.asm_syntax.specs.declared.token.Symbol.TheVariants.{Assign, LeftArrow, Equal}
+use Rattle.asm_syntax.specs.declared.token.Word.TheVariants.{Par, EndPar, Seq, EndSeq, If, Then, Else, EndIf, Let, In, EndLet, Forall, With, Do, EndForall, Choose, IfNone, EndChoose, Iterate, EndIterate, While, EndWhile}
 use Rattle.asm_syntax.specs.SourceTree as source
 use Rattle.asm_syntax.specs.Views.{rules_of}
 use Rattle.asm_reader.specs.Parts.{Part, ◌then◌, optional, ◌makes◌, past, several, between}
-use Rattle.asm_reader.specs.TermGrammar.{name, binding, applied, term_over}
-use Rattle.asm_reader.specs.RuleGrammar.{branch, call, assignment, par_rule, seq_rule, if_rule, let_rule, forall_rule, choose_rule, iterate_rule, block_rule, rule_over}
+use Rattle.asm_reader.specs.TermGrammar.{name, result_name, binding, applied, answer}
+use Rattle.asm_reader.specs.RuleGrammar.{branch, call, assignment, answering_call, result_rule, value, par_rule, seq_rule, if_rule, let_rule, forall_rule, choose_rule, iterate_rule, while_rule, block_rule, rule_over}
 use Rattle.asm_reader.proofs.TermWider.{wider_applied, wider_disjunction}
 use Rattle.asm_reader.proofs.Wider.{Includes, same_part, wider_then, wider_optional, wider_makes, wider_past, wider_several, wider_between}
-use Rattle.asm_reader.proofs.Blocks.{if_body, let_body, forall_body, choose_body}
+use Rattle.asm_reader.proofs.Blocks.{if_body, let_body, forall_body, choose_body, while_body}
 
 module _ (text : List ℕ) (X Y : Part source.Term) (S T : Part source.Rule) (h : Includes X Y) (k : Includes S T) where
-  wider_call : Includes (call text X S) (call text Y T)
+  pub wider_call : Includes (call text X S) (call text Y T)
   unfolding call
   wider_call = wider_makes (applied text X) (applied text Y) (λ r. source.Call None r.0 r.1) (wider_applied text X Y h)
 
-  wider_assignment : Includes (assignment text X S) (assignment text Y T)
-  unfolding assignment
-  wider_assignment = wider_makes (applied text X then past (Symbol Assign) (term_over text X)) (applied text Y then past (Symbol Assign) (term_over text Y)) (λ r. source.Assign r.0.0 r.0.1 r.1)
-      (wider_then (applied text X) (applied text Y) (past (Symbol Assign) (term_over text X)) (past (Symbol Assign) (term_over text Y)) (wider_applied text X Y h)
-      (wider_past (Symbol Assign) (term_over text X) (term_over text Y) (wider_disjunction text X Y h)))
+  wider_answering_call : Includes (answering_call text X S) (answering_call text Y T)
+  unfolding answering_call
+  wider_answering_call = wider_makes (applied text X then past (Symbol LeftArrow) (applied text X)) (applied text Y then past (Symbol LeftArrow) (applied text Y)) (λ r. source.Call (Some r.0) r.1.0 r.1.1)
+      (wider_then (applied text X) (applied text Y) (past (Symbol LeftArrow) (applied text X)) (past (Symbol LeftArrow) (applied text Y)) (wider_applied text X Y h)
+      (wider_past (Symbol LeftArrow) (applied text X) (applied text Y) (wider_applied text X Y h)))
+
+  -- with more terms that are assigned
+  module _ (V W : Part source.Term) (i : Includes V W) where
+    pub wider_assignment : Includes (assignment text X S V) (assignment text Y T W)
+    unfolding assignment
+    wider_assignment = wider_makes (applied text X then past (Symbol Assign) V) (applied text Y then past (Symbol Assign) W) (λ r. source.Assign r.0.0 r.0.1 r.1)
+        (wider_then (applied text X) (applied text Y) (past (Symbol Assign) V) (past (Symbol Assign) W) (wider_applied text X Y h) (wider_past (Symbol Assign) V W i))
+
+    wider_result_rule : Includes (result_rule text X S V) (result_rule text Y T W)
+    unfolding result_rule
+    wider_result_rule = wider_makes (result_name text then past (Symbol Assign) V) (result_name text then past (Symbol Assign) W) (λ r. source.SetResult r.0 r.1)
+        (wider_then (result_name text) (result_name text) (past (Symbol Assign) V) (past (Symbol Assign) W) (same_part (result_name text)) (wider_past (Symbol Assign) V W i))
+
+  wider_value : Includes (value text X S) (value text Y T)
+  wider_value = wider_disjunction text X Y h (answer text) (answer text) (same_part (answer text))
 
   -- what stands between two tokens
   wider_frame : {A : Type 0} (opener close : Kind) (B C : Part A) (f : A → source.Rule) → Includes B C → Includes (between opener close B makes f) (between opener close C makes f)
   wider_frame opener close B C f i = wider_makes (between opener close B) (between opener close C) f (wider_between opener close B C i)
 
-  wider_par : Includes (par_rule text X S) (par_rule text Y T)
+  pub wider_par : Includes (par_rule text X S) (par_rule text Y T)
   unfolding par_rule
   wider_par = wider_frame (Word Par) (Word EndPar) (several S) (several T) (λ r. source.Par (rules_of r)) (wider_several S T k)
 
-  wider_seq : Includes (seq_rule text X S) (seq_rule text Y T)
+  pub wider_seq : Includes (seq_rule text X S) (seq_rule text Y T)
   unfolding seq_rule
   wider_seq = wider_frame (Word Seq) (Word EndSeq) (several S) (several T) (λ r. source.Seq (rules_of r)) (wider_several S T k)
 
-  wider_iterate : Includes (iterate_rule text X S) (iterate_rule text Y T)
+  pub wider_iterate : Includes (iterate_rule text X S) (iterate_rule text Y T)
   unfolding iterate_rule
   wider_iterate = wider_frame (Word Iterate) (Word EndIterate) S T source.Iterate k
 
@@ -44,12 +59,12 @@ module _ (text : List ℕ) (X Y : Part source.Term) (S T : Part source.Rule) (h 
   wider_two : (a b : Kind) → Includes (past a S then optional (past b S)) (past a T then optional (past b T))
   wider_two a b = wider_then (past a S) (past a T) (optional (past b S)) (optional (past b T)) (wider_past a S T k) (wider_optional (past b S) (past b T) (wider_past b S T k))
 
-  wider_if : Includes (if_rule text X S) (if_rule text Y T)
+  pub wider_if : Includes (if_rule text X S) (if_rule text Y T)
   unfolding if_rule
   wider_if = wider_frame (Word If) (Word EndIf) (if_body text X S) (if_body text Y T) (λ r. source.If r.0 r.1.0 (branch r.1.1))
       (wider_then X Y (past (Word Then) S then optional (past (Word Else) S)) (past (Word Then) T then optional (past (Word Else) T)) h (wider_two (Word Then) (Word Else)))
 
-  wider_let : Includes (let_rule text X S) (let_rule text Y T)
+  pub wider_let : Includes (let_rule text X S) (let_rule text Y T)
   unfolding let_rule
   wider_let = wider_frame (Word Let) (Word EndLet) (let_body text X S) (let_body text Y T) (λ r. source.Let r.0 r.1.0 r.1.1)
       (wider_then (name text) (name text) (past (Symbol Equal) X then past (Word In) S) (past (Symbol Equal) Y then past (Word In) T) (same_part (name text))
@@ -60,15 +75,19 @@ module _ (text : List ℕ) (X Y : Part source.Term) (S T : Part source.Rule) (h 
   wider_bound B C i = wider_then (binding text) (binding text) (optional (past (Word With) X) then B) (optional (past (Word With) Y) then C) (same_part (binding text))
       (wider_then (optional (past (Word With) X)) (optional (past (Word With) Y)) B C (wider_optional (past (Word With) X) (past (Word With) Y) (wider_past (Word With) X Y h)) i)
 
-  wider_forall : Includes (forall_rule text X S) (forall_rule text Y T)
+  pub wider_forall : Includes (forall_rule text X S) (forall_rule text Y T)
   unfolding forall_rule
   wider_forall = wider_frame (Word Forall) (Word EndForall) (forall_body text X S) (forall_body text Y T) (λ r. source.Forall r.0.0 r.0.1 r.1.0 r.1.1)
       (wider_bound (past (Word Do) S) (past (Word Do) T) (wider_past (Word Do) S T k))
 
-  wider_choose : Includes (choose_rule text X S) (choose_rule text Y T)
+  pub wider_choose : Includes (choose_rule text X S) (choose_rule text Y T)
   unfolding choose_rule
   wider_choose = wider_frame (Word Choose) (Word EndChoose) (choose_body text X S) (choose_body text Y T) (λ r. source.Choose r.0.0 r.0.1 r.1.0 r.1.1.0 (branch r.1.1.1))
       (wider_bound (past (Word Do) S then optional (past (Word IfNone) S)) (past (Word Do) T then optional (past (Word IfNone) T)) (wider_two (Word Do) (Word IfNone)))
+
+  wider_while : Includes (while_rule text X S) (while_rule text Y T)
+  unfolding while_rule
+  wider_while = wider_frame (Word While) (Word EndWhile) (while_body text X S) (while_body text Y T) (λ r. source.While r.0 r.1) (wider_then X Y (past (Word Do) S) (past (Word Do) T) h (wider_past (Word Do) S T k))
 
   wider_block : Includes (block_rule text X S) (block_rule text Y T)
   unfolding block_rule
@@ -78,11 +97,14 @@ module _ (text : List ℕ) (X Y : Part source.Term) (S T : Part source.Rule) (h 
   wider_block ts x (inr (inr (inr (inl p)))) = inr (inr (inr (inl (wider_let ts x p))))
   wider_block ts x (inr (inr (inr (inr (inl p))))) = inr (inr (inr (inr (inl (wider_forall ts x p)))))
   wider_block ts x (inr (inr (inr (inr (inr (inl p)))))) = inr (inr (inr (inr (inr (inl (wider_choose ts x p))))))
-  wider_block ts x (inr (inr (inr (inr (inr (inr p)))))) = inr (inr (inr (inr (inr (inr (wider_iterate ts x p))))))
+  wider_block ts x (inr (inr (inr (inr (inr (inr (inl p))))))) = inr (inr (inr (inr (inr (inr (inl (wider_iterate ts x p)))))))
+  wider_block ts x (inr (inr (inr (inr (inr (inr (inr p))))))) = inr (inr (inr (inr (inr (inr (inr (wider_while ts x p)))))))
 
   pub wider_rule : Includes (rule_over text X S) (rule_over text Y T)
   unfolding rule_over
   wider_rule ts x (inl p) = inl p
   wider_rule ts x (inr (inl (inl p))) = inr (inl (inl (wider_call ts x p)))
-  wider_rule ts x (inr (inl (inr p))) = inr (inl (inr (wider_assignment ts x p)))
-  wider_rule ts x (inr (inr p)) = inr (inr (wider_block ts x p))
+  wider_rule ts x (inr (inl (inr (inl p)))) = inr (inl (inr (inl (wider_assignment (value text X S) (value text Y T) wider_value ts x p))))
+  wider_rule ts x (inr (inl (inr (inr p)))) = inr (inl (inr (inr (wider_answering_call ts x p))))
+  wider_rule ts x (inr (inr (inl p))) = inr (inr (inl (wider_result_rule (value text X S) (value text Y T) wider_value ts x p)))
+  wider_rule ts x (inr (inr (inr p))) = inr (inr (inr (wider_block ts x p)))

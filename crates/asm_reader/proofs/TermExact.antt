@@ -6,7 +6,7 @@ use Rattle.asm_syntax.specs.declared.token.Kind.{Kind}
 use Rattle.asm_syntax.specs.declared.token.Kind.TheVariants as kind
 use Rattle.asm_syntax.specs.declared.token.Kind.TheVariants.{Number, Symbol, Word}
 use Rattle.asm_syntax.specs.declared.token.Symbol.TheVariants.{Open, Close, Comma, Plus, Minus, Times, Equal, NotEqual, Less, AtMost, Greater, AtLeast}
-use Rattle.asm_syntax.specs.declared.token.Word.TheVariants.{Or, And, Not, Div, Mod, Exists, Forall, In, With, Holds, True, False, Undef}
+use Rattle.asm_syntax.specs.declared.token.Word.TheVariants.{Or, And, Not, Div, Mod, Exists, Forall, In, With, Holds, True, False, Undef, Result}
 use Rattle.asm_syntax.specs.declared.token.Token.{Token}
 use Rattle.asm_syntax.specs.declared.term.Literal.TheVariants as literal
 use Rattle.asm_syntax.specs.SourceTree as source
@@ -30,7 +30,7 @@ pub use Rattle.asm_reader.proofs.Choices.{some_choice, PlainRows, exact_choice, 
 
 -- what a term begins with
 abbrev pub primary_first : List Kind
-primary_first = Number 0 ∷ Word True ∷ Word False ∷ Word Undef ∷ kind.Name ∷ Symbol Open ∷ []
+primary_first = Number 0 ∷ Word True ∷ Word False ∷ Word Undef ∷ kind.Name ∷ Word Result ∷ Symbol Open ∷ []
 
 abbrev pub factor_first : List Kind
 factor_first = Symbol Minus ∷ primary_first
@@ -73,6 +73,26 @@ module _ (text : List ℕ) where
   pub begins_name : Begins (kind.Name ∷ []) (g.name text)
   begins_name = begins_makes (kind.Name ∷ []) (token kind.Name) (name_at_token text) (begins_token kind.Name)
 
+  -- the word `result`
+
+  pub exact_result_name : (n : ℕ) (q : Bool) → IsExact (depth n q) (depth n false) [] (g.result_name text) (g.result_name text) (r.result_at text)
+  unfolding r.result_at
+  exact_result_name n q = exact_makes (depth n q) (depth n false) [] (token (Word Result)) (token (Word Result)) (name_at_token text) (expect (Word Result)) (exact_plain n q (Word Result) (alike_word Result) (refl, refl, refl))
+
+  pub has_result_name : HasText (g.result_name text)
+  has_result_name = has_makes (token (Word Result)) (name_at_token text) (has_token (Word Result))
+
+  pub begins_result_name : Begins (Word Result ∷ []) (g.result_name text)
+  begins_result_name = begins_makes (Word Result ∷ []) (token (Word Result)) (name_at_token text) (begins_token (Word Result))
+
+  exact_answer : (n : ℕ) (q : Bool) → IsExact (depth n q) (depth n false) [] (g.answer text) (g.answer text) (r.answer_at text)
+  unfolding g.answer r.answer_at
+  exact_answer n q = exact_makes (depth n q) (depth n false) [] (g.result_name text) (g.result_name text) source.Answer (r.result_at text) (exact_result_name n q)
+
+  begins_answer : Begins (Word Result ∷ []) (g.answer text)
+  unfolding g.answer
+  begins_answer = begins_makes (Word Result ∷ []) (g.result_name text) source.Answer begins_result_name
+
   pub exact_binding : (n : ℕ) (q : Bool) → IsExact (depth n q) (depth n false) [] (g.binding text) (g.binding text) (r.binding_at text)
   unfolding g.binding r.binding_at
   exact_binding n q = exact_pair (depth n q) (depth n false) (depth n false) [] [] (g.name text) (g.name text) (past (Word In) (g.name text)) (past (Word In) (g.name text)) (ends_none [] (past (Word In) (g.name text))) (has_past (Word In) (g.name text) has_name)
@@ -96,9 +116,12 @@ begins_number_term = begins_makes (Number 0 ∷ []) number (λ v. source.Constan
 begins_constant_term : Begins (keys constants) constant_term
 begins_constant_term = begins_makes (keys constants) (choice constants) source.Constant (begins_choice 0 false constants has_constant constants_plain)
 
--- what begins with a name, and what with that or a parenthesis, or with a constant
+-- what begins with `result` or a parenthesis, what with these or a name, and what with these or a constant
+abbrev word_first : List Kind
+word_first = Word Result ∷ Symbol Open ∷ []
+
 abbrev last_first : List Kind
-last_first = kind.Name ∷ Symbol Open ∷ []
+last_first = kind.Name ∷ word_first
 
 abbrev later_first : List Kind
 later_first = Word True ∷ Word False ∷ Word Undef ∷ last_first
@@ -140,92 +163,98 @@ module _ (text : List ℕ) (X : Part source.Term) where
   begins_parenthesized : Begins (Symbol Open ∷ []) parenthesized
   begins_parenthesized = begins_between (Symbol Open) (Symbol Close) (g.inner text X)
 
-  begins_last : Begins last_first (named_term or parenthesized)
-  begins_last = begins_or (kind.Name ∷ []) (Symbol Open ∷ []) last_first named_term parenthesized begins_named begins_parenthesized refl refl
+  abbrev worded : Part source.Term
+  worded = g.answer text or parenthesized
 
-  begins_later : Begins later_first (constant_term or named_term or parenthesized)
-  begins_later = begins_or (keys constants) last_first later_first constant_term (named_term or parenthesized) begins_constant_term begins_last refl refl
+  begins_worded : Begins word_first worded
+  begins_worded = begins_or (Word Result ∷ []) (Symbol Open ∷ []) word_first (g.answer text) parenthesized (begins_answer text) begins_parenthesized refl refl
 
-  begins_primary : Begins primary_first (g.primary text X)
+  begins_last : Begins last_first (named_term or worded)
+  begins_last = begins_or (kind.Name ∷ []) word_first last_first named_term worded begins_named begins_worded refl refl
+
+  begins_later : Begins later_first (constant_term or named_term or worded)
+  begins_later = begins_or (keys constants) last_first later_first constant_term (named_term or worded) begins_constant_term begins_last refl refl
+
+  begins_primary : Begins primary_first (g.primary text X (g.answer text))
   unfolding g.primary
-  begins_primary = begins_or (Number 0 ∷ []) later_first primary_first number_term (constant_term or named_term or parenthesized) begins_number_term begins_later refl refl
+  begins_primary = begins_or (Number 0 ∷ []) later_first primary_first number_term (constant_term or named_term or worded) begins_number_term begins_later refl refl
 
-  has_primary : HasText (g.primary text X)
+  has_primary : HasText (g.primary text X (g.answer text))
   unfolding g.primary
   has_primary = let one = has_makes number (λ v. source.Constant (literal.Number v)) (has_number false) in (one.0, one.1, inl one.2)
 
   abbrev negative : Part source.Term
-  negative = past (Symbol Minus) (g.primary text X) makes source.Negative
+  negative = past (Symbol Minus) (g.primary text X (g.answer text)) makes source.Negative
 
   begins_negative : Begins (Symbol Minus ∷ []) negative
-  begins_negative = begins_makes (Symbol Minus ∷ []) (past (Symbol Minus) (g.primary text X)) source.Negative (begins_past (Symbol Minus) (g.primary text X))
+  begins_negative = begins_makes (Symbol Minus ∷ []) (past (Symbol Minus) (g.primary text X (g.answer text))) source.Negative (begins_past (Symbol Minus) (g.primary text X (g.answer text)))
 
-  pub begins_factor : Begins factor_first (g.factor text X)
+  pub begins_factor : Begins factor_first (g.factor text X (g.answer text))
   unfolding g.factor
-  begins_factor = begins_or (Symbol Minus ∷ []) primary_first factor_first negative (g.primary text X) begins_negative begins_primary refl refl
+  begins_factor = begins_or (Symbol Minus ∷ []) primary_first factor_first negative (g.primary text X (g.answer text)) begins_negative begins_primary refl refl
 
-  pub has_factor : HasText (g.factor text X)
+  pub has_factor : HasText (g.factor text X (g.answer text))
   unfolding g.factor
   has_factor = let one = has_primary in (one.0, one.1, inr one.2)
 
   -- the same of what they are put together to
 
-  pub has_product : HasText (g.product text X)
+  pub has_product : HasText (g.product text X (g.answer text))
   unfolding g.product
-  has_product = has_chain products (g.factor text X) has_factor
+  has_product = has_chain products (g.factor text X (g.answer text)) has_factor
 
-  has_sum : HasText (g.sum text X)
+  has_sum : HasText (g.sum text X (g.answer text))
   unfolding g.sum
-  has_sum = has_chain additions (g.product text X) has_product
+  has_sum = has_chain additions (g.product text X (g.answer text)) has_product
 
-  pub begins_product : Begins factor_first (g.product text X)
+  pub begins_product : Begins factor_first (g.product text X (g.answer text))
   unfolding g.product
-  begins_product = begins_chain products factor_first (g.factor text X) begins_factor
+  begins_product = begins_chain products factor_first (g.factor text X (g.answer text)) begins_factor
 
-  begins_sum : Begins factor_first (g.sum text X)
+  begins_sum : Begins factor_first (g.sum text X (g.answer text))
   unfolding g.sum
-  begins_sum = begins_chain additions factor_first (g.product text X) begins_product
+  begins_sum = begins_chain additions factor_first (g.product text X (g.answer text)) begins_product
 
   abbrev compared : Part (Op × source.Term)
-  compared = link comparisons (g.sum text X)
+  compared = link comparisons (g.sum text X (g.answer text))
 
-  has_comparison : HasText (g.comparison text X)
+  has_comparison : HasText (g.comparison text X (g.answer text))
   unfolding g.comparison
-  has_comparison = has_makes (g.sum text X then optional compared) (λ v. chain_of (v.0, option_to_list v.1)) (has_then (g.sum text X) (optional compared) has_sum ([], None, refl))
+  has_comparison = has_makes (g.sum text X (g.answer text) then optional compared) (λ v. chain_of (v.0, option_to_list v.1)) (has_then (g.sum text X (g.answer text)) (optional compared) has_sum ([], None, refl))
 
-  begins_comparison : Begins factor_first (g.comparison text X)
+  begins_comparison : Begins factor_first (g.comparison text X (g.answer text))
   unfolding g.comparison
-  begins_comparison = begins_makes factor_first (g.sum text X then optional compared) (λ v. chain_of (v.0, option_to_list v.1)) (begins_then factor_first (g.sum text X) (optional compared) begins_sum)
+  begins_comparison = begins_makes factor_first (g.sum text X (g.answer text) then optional compared) (λ v. chain_of (v.0, option_to_list v.1)) (begins_then factor_first (g.sum text X (g.answer text)) (optional compared) begins_sum)
 
   abbrev denied : Part source.Term
-  denied = past (Word Not) (g.comparison text X) makes source.Not
+  denied = past (Word Not) (g.comparison text X (g.answer text)) makes source.Not
 
   begins_denied : Begins (Word Not ∷ []) denied
-  begins_denied = begins_makes (Word Not ∷ []) (past (Word Not) (g.comparison text X)) source.Not (begins_past (Word Not) (g.comparison text X))
+  begins_denied = begins_makes (Word Not ∷ []) (past (Word Not) (g.comparison text X (g.answer text))) source.Not (begins_past (Word Not) (g.comparison text X (g.answer text)))
 
-  pub has_negation : HasText (g.negation text X)
+  pub has_negation : HasText (g.negation text X (g.answer text))
   unfolding g.negation
   has_negation = let one = has_comparison in (one.0, one.1, inr one.2)
 
-  pub begins_negation : Begins term_first (g.negation text X)
+  pub begins_negation : Begins term_first (g.negation text X (g.answer text))
   unfolding g.negation
-  begins_negation = begins_or (Word Not ∷ []) factor_first term_first denied (g.comparison text X) begins_denied begins_comparison refl refl
+  begins_negation = begins_or (Word Not ∷ []) factor_first term_first denied (g.comparison text X (g.answer text)) begins_denied begins_comparison refl refl
 
-  pub has_conjunction : HasText (g.conjunction text X)
+  pub has_conjunction : HasText (g.conjunction text X (g.answer text))
   unfolding g.conjunction
-  has_conjunction = has_chain conjunctions (g.negation text X) has_negation
+  has_conjunction = has_chain conjunctions (g.negation text X (g.answer text)) has_negation
 
-  pub begins_conjunction : Begins term_first (g.conjunction text X)
+  pub begins_conjunction : Begins term_first (g.conjunction text X (g.answer text))
   unfolding g.conjunction
-  begins_conjunction = begins_chain conjunctions term_first (g.negation text X) begins_negation
+  begins_conjunction = begins_chain conjunctions term_first (g.negation text X (g.answer text)) begins_negation
 
-  pub has_disjunction : HasText (g.term_over text X)
+  pub has_disjunction : HasText (g.term_over text X (g.answer text))
   unfolding g.term_over
-  has_disjunction = has_chain disjunctions (g.conjunction text X) has_conjunction
+  has_disjunction = has_chain disjunctions (g.conjunction text X (g.answer text)) has_conjunction
 
-  pub begins_disjunction : Begins term_first (g.term_over text X)
+  pub begins_disjunction : Begins term_first (g.term_over text X (g.answer text))
   unfolding g.term_over
-  begins_disjunction = begins_chain disjunctions term_first (g.conjunction text X) begins_conjunction
+  begins_disjunction = begins_chain disjunctions term_first (g.conjunction text X (g.answer text)) begins_conjunction
 
 -- ---- parentheses
 
@@ -315,73 +344,80 @@ module _ (text : List ℕ) (n : ℕ) (deeper : Reader source.Term) (P N : Part s
   abbrev named_at : Reader source.Term
   named_at = mapped (λ v. source.Named v.0 v.1) (r.applied_at text n deeper)
 
+  abbrev worded_at : Reader source.Term
+  worded_at = either_of (Word Result ∷ []) (r.answer_at text) (r.parenthesized_at text n deeper)
+
   abbrev last_at : Reader source.Term
-  last_at = either_of (kind.Name ∷ []) named_at (r.parenthesized_at text n deeper)
+  last_at = either_of (kind.Name ∷ []) named_at worded_at
 
   abbrev constant_at : Reader source.Term
   constant_at = mapped source.Constant (choice_at constants)
 
-  exact_last : (q : Bool) → IsExact (depth n q) (depth n false) primary_more (named_term text P or parenthesized text P) (named_term text N or parenthesized text N) last_at
-  exact_last q = exact_or (depth n q) (depth n false) primary_more [] primary_more (kind.Name ∷ []) (Symbol Open ∷ []) (named_term text P) (parenthesized text P) (named_term text N) (parenthesized text N)
-      (begins_named text N) (begins_parenthesized text N) refl refl refl named_at (r.parenthesized_at text n deeper)
-      (exact_makes (depth n q) (depth n false) primary_more (g.applied text P) (g.applied text N) (λ v. source.Named v.0 v.1) (r.applied_at text n deeper) (exact_applied q)) (exact_parenthesized q)
+  exact_worded : (q : Bool) → IsExact (depth n q) (depth n false) [] (worded text P) (worded text N) worded_at
+  exact_worded q = exact_or (depth n q) (depth n false) [] [] [] (Word Result ∷ []) (Symbol Open ∷ []) (g.answer text) (parenthesized text P) (g.answer text) (parenthesized text N)
+      (begins_answer text) (begins_parenthesized text N) refl refl refl (r.answer_at text) (r.parenthesized_at text n deeper) (exact_answer text n q) (exact_parenthesized q)
 
-  exact_later : (q : Bool) → IsExact (depth n q) (depth n false) primary_more (constant_term or named_term text P or parenthesized text P) (constant_term or named_term text N or parenthesized text N) (either_of (keys constants) constant_at last_at)
-  exact_later q = exact_or (depth n q) (depth n false) [] primary_more primary_more (keys constants) last_first constant_term (named_term text P or parenthesized text P) constant_term (named_term text N or parenthesized text N)
+  exact_last : (q : Bool) → IsExact (depth n q) (depth n false) primary_more (named_term text P or worded text P) (named_term text N or worded text N) last_at
+  exact_last q = exact_or (depth n q) (depth n false) primary_more [] primary_more (kind.Name ∷ []) word_first (named_term text P) (worded text P) (named_term text N) (worded text N)
+      (begins_named text N) (begins_worded text N) refl refl refl named_at worded_at
+      (exact_makes (depth n q) (depth n false) primary_more (g.applied text P) (g.applied text N) (λ v. source.Named v.0 v.1) (r.applied_at text n deeper) (exact_applied q)) (exact_worded q)
+
+  exact_later : (q : Bool) → IsExact (depth n q) (depth n false) primary_more (constant_term or named_term text P or worded text P) (constant_term or named_term text N or worded text N) (either_of (keys constants) constant_at last_at)
+  exact_later q = exact_or (depth n q) (depth n false) [] primary_more primary_more (keys constants) last_first constant_term (named_term text P or worded text P) constant_term (named_term text N or worded text N)
       begins_constant_term (begins_last text N) refl refl refl constant_at last_at
       (exact_makes (depth n q) (depth n false) [] (choice constants) (choice constants) source.Constant (choice_at constants) (exact_choice n q constants has_constant constants_plain)) (exact_last q)
 
-  exact_primary : (q : Bool) → IsExact (depth n q) (depth n false) primary_more (g.primary text P) (g.primary text N) (r.primary_at text n deeper)
+  exact_primary : (q : Bool) → IsExact (depth n q) (depth n false) primary_more (g.primary text P (g.answer text)) (g.primary text N (g.answer text)) (r.primary_at text n deeper)
   unfolding g.primary r.primary_at
-  exact_primary q = exact_or (depth n q) (depth n false) [] primary_more primary_more (Number 0 ∷ []) later_first number_term (constant_term or named_term text P or parenthesized text P) number_term (constant_term or named_term text N or parenthesized text N)
+  exact_primary q = exact_or (depth n q) (depth n false) [] primary_more primary_more (Number 0 ∷ []) later_first number_term (constant_term or named_term text P or worded text P) number_term (constant_term or named_term text N or worded text N)
       begins_number_term (begins_later text N) refl refl refl (mapped (λ v. source.Constant (literal.Number v)) (number_at false)) (either_of (keys constants) constant_at last_at)
       (exact_makes (depth n q) (depth n false) [] number number (λ v. source.Constant (literal.Number v)) (number_at false) (exact_number false n q)) (exact_later q)
 
-  pub exact_factor : (q : Bool) → IsExact (depth n q) (depth n false) primary_more (g.factor text P) (g.factor text N) (r.factor_at text n deeper)
+  pub exact_factor : (q : Bool) → IsExact (depth n q) (depth n false) primary_more (g.factor text P (g.answer text)) (g.factor text N (g.answer text)) (r.factor_at text n deeper)
   unfolding g.factor r.factor_at
-  exact_factor q = exact_or (depth n q) (depth n false) primary_more primary_more primary_more (Symbol Minus ∷ []) primary_first (negative text P) (g.primary text P) (negative text N) (g.primary text N)
+  exact_factor q = exact_or (depth n q) (depth n false) primary_more primary_more primary_more (Symbol Minus ∷ []) primary_first (negative text P) (g.primary text P (g.answer text)) (negative text N) (g.primary text N (g.answer text))
       (begins_negative text N) (begins_primary text N) refl refl refl (mapped source.Negative (past_of (Symbol Minus) (r.primary_at text n deeper))) (r.primary_at text n deeper)
-      (exact_makes (depth n q) (depth n false) primary_more (past (Symbol Minus) (g.primary text P)) (past (Symbol Minus) (g.primary text N)) source.Negative (past_of (Symbol Minus) (r.primary_at text n deeper))
-      (exact_past n q (depth n false) primary_more (Symbol Minus) (alike_symbol Minus) (refl, refl, refl) (g.primary text P) (g.primary text N) (has_primary text P) (r.primary_at text n deeper) (exact_primary false)))
+      (exact_makes (depth n q) (depth n false) primary_more (past (Symbol Minus) (g.primary text P (g.answer text))) (past (Symbol Minus) (g.primary text N (g.answer text))) source.Negative (past_of (Symbol Minus) (r.primary_at text n deeper))
+      (exact_past n q (depth n false) primary_more (Symbol Minus) (alike_symbol Minus) (refl, refl, refl) (g.primary text P (g.answer text)) (g.primary text N (g.answer text)) (has_primary text P) (r.primary_at text n deeper) (exact_primary false)))
       (exact_primary q)
 
-  pub exact_product : (q : Bool) → IsExact (depth n q) (depth n false) product_more (g.product text P) (g.product text N) (r.product_at text n deeper)
+  pub exact_product : (q : Bool) → IsExact (depth n q) (depth n false) product_more (g.product text P (g.answer text)) (g.product text N (g.answer text)) (r.product_at text n deeper)
   unfolding g.product r.product_at
-  exact_product = exact_chain n products has_products products_plain primary_more (g.factor text P) (g.factor text N) (has_factor text P) (r.factor_at text n deeper) exact_factor product_more refl refl refl
+  exact_product = exact_chain n products has_products products_plain primary_more (g.factor text P (g.answer text)) (g.factor text N (g.answer text)) (has_factor text P) (r.factor_at text n deeper) exact_factor product_more refl refl refl
 
-  exact_sum : (q : Bool) → IsExact (depth n q) (depth n false) sum_more (g.sum text P) (g.sum text N) (r.sum_at text n deeper)
+  exact_sum : (q : Bool) → IsExact (depth n q) (depth n false) sum_more (g.sum text P (g.answer text)) (g.sum text N (g.answer text)) (r.sum_at text n deeper)
   unfolding g.sum r.sum_at
-  exact_sum = exact_chain n additions has_additions additions_plain product_more (g.product text P) (g.product text N) (has_product text P) (r.product_at text n deeper) exact_product sum_more refl refl refl
+  exact_sum = exact_chain n additions has_additions additions_plain product_more (g.product text P (g.answer text)) (g.product text N (g.answer text)) (has_product text P) (r.product_at text n deeper) exact_product sum_more refl refl refl
 
   abbrev compared_at : Reader (Op × source.Term)
   compared_at = link_of comparisons (r.sum_at text n deeper)
 
   exact_compared : IsExact (depth n false) (depth n false) comparison_more (optional (compared text P)) (optional (compared text N)) (option_of (keys comparisons) compared_at)
-  exact_compared = exact_optional (depth n false) sum_more comparison_more (keys comparisons) (compared text P) (compared text N) (begins_link n comparisons has_comparisons comparisons_plain (g.sum text N)) refl refl compared_at
-      (exact_link n comparisons has_comparisons comparisons_plain sum_more (g.sum text P) (g.sum text N) (has_sum text P) (r.sum_at text n deeper) exact_sum)
+  exact_compared = exact_optional (depth n false) sum_more comparison_more (keys comparisons) (compared text P) (compared text N) (begins_link n comparisons has_comparisons comparisons_plain (g.sum text N (g.answer text))) refl refl compared_at
+      (exact_link n comparisons has_comparisons comparisons_plain sum_more (g.sum text P (g.answer text)) (g.sum text N (g.answer text)) (has_sum text P) (r.sum_at text n deeper) exact_sum)
 
-  exact_comparison : (q : Bool) → IsExact (depth n q) (depth n false) comparison_more (g.comparison text P) (g.comparison text N) (r.comparison_at text n deeper)
+  exact_comparison : (q : Bool) → IsExact (depth n q) (depth n false) comparison_more (g.comparison text P (g.answer text)) (g.comparison text N (g.answer text)) (r.comparison_at text n deeper)
   unfolding g.comparison r.comparison_at
-  exact_comparison q = exact_makes (depth n q) (depth n false) comparison_more (g.sum text P then optional (compared text P)) (g.sum text N then optional (compared text N)) (λ v. chain_of (v.0, option_to_list v.1)) (pair_of (r.sum_at text n deeper) (option_of (keys comparisons) compared_at))
-      (exact_pair (depth n q) (depth n false) (depth n false) sum_more comparison_more (g.sum text P) (g.sum text N) (optional (compared text P)) (optional (compared text N))
-      (optional_ends sum_more comparison_more (keys comparisons) (compared text N) (ends_by sum_more comparison_more (keys comparisons) (compared text N) (begins_link n comparisons has_comparisons comparisons_plain (g.sum text N)) refl) refl)
+  exact_comparison q = exact_makes (depth n q) (depth n false) comparison_more (g.sum text P (g.answer text) then optional (compared text P)) (g.sum text N (g.answer text) then optional (compared text N)) (λ v. chain_of (v.0, option_to_list v.1)) (pair_of (r.sum_at text n deeper) (option_of (keys comparisons) compared_at))
+      (exact_pair (depth n q) (depth n false) (depth n false) sum_more comparison_more (g.sum text P (g.answer text)) (g.sum text N (g.answer text)) (optional (compared text P)) (optional (compared text N))
+      (optional_ends sum_more comparison_more (keys comparisons) (compared text N) (ends_by sum_more comparison_more (keys comparisons) (compared text N) (begins_link n comparisons has_comparisons comparisons_plain (g.sum text N (g.answer text))) refl) refl)
       ([], None, refl) (r.sum_at text n deeper) (option_of (keys comparisons) compared_at) (exact_sum q) exact_compared)
 
-  pub exact_negation : (q : Bool) → IsExact (depth n q) (depth n false) comparison_more (g.negation text P) (g.negation text N) (r.negation_at text n deeper)
+  pub exact_negation : (q : Bool) → IsExact (depth n q) (depth n false) comparison_more (g.negation text P (g.answer text)) (g.negation text N (g.answer text)) (r.negation_at text n deeper)
   unfolding g.negation r.negation_at
-  exact_negation q = exact_or (depth n q) (depth n false) comparison_more comparison_more comparison_more (Word Not ∷ []) factor_first (denied text P) (g.comparison text P) (denied text N) (g.comparison text N)
+  exact_negation q = exact_or (depth n q) (depth n false) comparison_more comparison_more comparison_more (Word Not ∷ []) factor_first (denied text P) (g.comparison text P (g.answer text)) (denied text N) (g.comparison text N (g.answer text))
       (begins_denied text N) (begins_comparison text N) refl refl refl (mapped source.Not (past_of (Word Not) (r.comparison_at text n deeper))) (r.comparison_at text n deeper)
-      (exact_makes (depth n q) (depth n false) comparison_more (past (Word Not) (g.comparison text P)) (past (Word Not) (g.comparison text N)) source.Not (past_of (Word Not) (r.comparison_at text n deeper))
-      (exact_past n q (depth n false) comparison_more (Word Not) (alike_word Not) (refl, refl, refl) (g.comparison text P) (g.comparison text N) (has_comparison text P) (r.comparison_at text n deeper) (exact_comparison false)))
+      (exact_makes (depth n q) (depth n false) comparison_more (past (Word Not) (g.comparison text P (g.answer text))) (past (Word Not) (g.comparison text N (g.answer text))) source.Not (past_of (Word Not) (r.comparison_at text n deeper))
+      (exact_past n q (depth n false) comparison_more (Word Not) (alike_word Not) (refl, refl, refl) (g.comparison text P (g.answer text)) (g.comparison text N (g.answer text)) (has_comparison text P) (r.comparison_at text n deeper) (exact_comparison false)))
       (exact_comparison q)
 
-  pub exact_conjunction : (q : Bool) → IsExact (depth n q) (depth n false) conjunction_more (g.conjunction text P) (g.conjunction text N) (r.conjunction_at text n deeper)
+  pub exact_conjunction : (q : Bool) → IsExact (depth n q) (depth n false) conjunction_more (g.conjunction text P (g.answer text)) (g.conjunction text N (g.answer text)) (r.conjunction_at text n deeper)
   unfolding g.conjunction r.conjunction_at
-  exact_conjunction = exact_chain n conjunctions has_conjunctions conjunctions_plain comparison_more (g.negation text P) (g.negation text N) (has_negation text P) (r.negation_at text n deeper) exact_negation conjunction_more refl refl refl
+  exact_conjunction = exact_chain n conjunctions has_conjunctions conjunctions_plain comparison_more (g.negation text P (g.answer text)) (g.negation text N (g.answer text)) (has_negation text P) (r.negation_at text n deeper) exact_negation conjunction_more refl refl refl
 
-  pub exact_disjunction : (q : Bool) → IsExact (depth n q) (depth n false) term_more (g.term_over text P) (g.term_over text N) (r.disjunction_at text n deeper)
+  pub exact_disjunction : (q : Bool) → IsExact (depth n q) (depth n false) term_more (g.term_over text P (g.answer text)) (g.term_over text N (g.answer text)) (r.disjunction_at text n deeper)
   unfolding g.term_over r.disjunction_at
-  exact_disjunction = exact_chain n disjunctions has_disjunctions disjunctions_plain conjunction_more (g.conjunction text P) (g.conjunction text N) (has_conjunction text P) (r.conjunction_at text n deeper) exact_conjunction term_more refl refl refl
+  exact_disjunction = exact_chain n disjunctions has_disjunctions disjunctions_plain conjunction_more (g.conjunction text P (g.answer text)) (g.conjunction text N (g.answer text)) (has_conjunction text P) (r.conjunction_at text n deeper) exact_conjunction term_more refl refl refl
 
 -- ---- terms in which parentheses nest so deep at most
 

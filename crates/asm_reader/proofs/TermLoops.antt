@@ -44,11 +44,11 @@ module _ (text : List ℕ) where
     any = any_term text
 
     pub links_consume : (c : Precedence) → Consumes (r.link_at text n deeper c)
-    links_consume precedence.Disjunction = link_consumes n disjunctions has_disjunctions disjunctions_plain conjunction_more (g.conjunction text within) (g.conjunction text any) (e.has_conjunction text within) (r.conjunction_at text n deeper)
+    links_consume precedence.Disjunction = link_consumes n disjunctions has_disjunctions disjunctions_plain conjunction_more (g.conjunction text within (g.answer text)) (g.conjunction text any (g.answer text)) (e.has_conjunction text within) (r.conjunction_at text n deeper)
         (e.exact_conjunction text n deeper within any (has_term text n) (begins_term text n) (begins_any_term text) (below_exact n))
-    links_consume precedence.Conjunction = link_consumes n conjunctions has_conjunctions conjunctions_plain comparison_more (g.negation text within) (g.negation text any) (e.has_negation text within) (r.negation_at text n deeper)
+    links_consume precedence.Conjunction = link_consumes n conjunctions has_conjunctions conjunctions_plain comparison_more (g.negation text within (g.answer text)) (g.negation text any (g.answer text)) (e.has_negation text within) (r.negation_at text n deeper)
         (e.exact_negation text n deeper within any (has_term text n) (begins_term text n) (begins_any_term text) (below_exact n))
-    links_consume precedence.Sum = link_consumes n additions has_additions additions_plain product_more (g.product text within) (g.product text any) (e.has_product text within) (r.product_at text n deeper)
+    links_consume precedence.Sum = link_consumes n additions has_additions additions_plain product_more (g.product text within (g.answer text)) (g.product text any (g.answer text)) (e.has_product text within) (r.product_at text n deeper)
         (e.exact_product text n deeper within any (has_term text n) (begins_term text n) (begins_any_term text) (below_exact n))
-    links_consume precedence.Product = link_consumes n products has_products products_plain primary_more (g.factor text within) (g.factor text any) (e.has_factor text within) (r.factor_at text n deeper)
+    links_consume precedence.Product = link_consumes n products has_products products_plain primary_more (g.factor text within (g.answer text)) (g.factor text any (g.answer text)) (e.has_factor text within) (r.factor_at text n deeper)
         (e.exact_factor text n deeper within any (has_term text n) (begins_term text n) (begins_any_term text) (below_exact n))

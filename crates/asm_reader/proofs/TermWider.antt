@@ -47,52 +47,55 @@ module _ (text : List ℕ) (X Y : Part source.Term) (h : Includes X Y) where
   unfolding g.inner
   wider_inner = wider_or (g.exists_term text X) (g.exists_term text Y) (g.every_term text X or X) (g.every_term text Y or Y) wider_exists (wider_or (g.every_term text X) (g.every_term text Y) X Y wider_every h)
 
-  wider_primary : Includes (g.primary text X) (g.primary text Y)
-  unfolding g.primary
-  wider_primary ts x (inl p) = inl p
-  wider_primary ts x (inr (inl p)) = inr (inl p)
-  wider_primary ts x (inr (inr (inl p))) = inr (inr (inl (wider_makes (g.applied text X) (g.applied text Y) (λ v. source.Named v.0 v.1) wider_applied ts x p)))
-  wider_primary ts x (inr (inr (inr p))) = inr (inr (inr (wider_between (Symbol Open) (Symbol Close) (g.inner text X) (g.inner text Y) wider_inner ts x p)))
+  -- and over more words that are terms
+  module _ (V W : Part source.Term) (i : Includes V W) where
+    wider_primary : Includes (g.primary text X V) (g.primary text Y W)
+    unfolding g.primary
+    wider_primary ts x (inl p) = inl p
+    wider_primary ts x (inr (inl p)) = inr (inl p)
+    wider_primary ts x (inr (inr (inl p))) = inr (inr (inl (wider_makes (g.applied text X) (g.applied text Y) (λ v. source.Named v.0 v.1) wider_applied ts x p)))
+    wider_primary ts x (inr (inr (inr (inl p)))) = inr (inr (inr (inl (i ts x p))))
+    wider_primary ts x (inr (inr (inr (inr p)))) = inr (inr (inr (inr (wider_between (Symbol Open) (Symbol Close) (g.inner text X) (g.inner text Y) wider_inner ts x p))))
 
-  wider_factor : Includes (g.factor text X) (g.factor text Y)
-  unfolding g.factor
-  wider_factor = wider_or (past (Symbol Minus) (g.primary text X) makes source.Negative) (past (Symbol Minus) (g.primary text Y) makes source.Negative) (g.primary text X) (g.primary text Y)
-      (wider_makes (past (Symbol Minus) (g.primary text X)) (past (Symbol Minus) (g.primary text Y)) source.Negative (wider_past (Symbol Minus) (g.primary text X) (g.primary text Y) wider_primary)) wider_primary
+    wider_factor : Includes (g.factor text X V) (g.factor text Y W)
+    unfolding g.factor
+    wider_factor = wider_or (past (Symbol Minus) (g.primary text X V) makes source.Negative) (past (Symbol Minus) (g.primary text Y W) makes source.Negative) (g.primary text X V) (g.primary text Y W)
+        (wider_makes (past (Symbol Minus) (g.primary text X V)) (past (Symbol Minus) (g.primary text Y W)) source.Negative (wider_past (Symbol Minus) (g.primary text X V) (g.primary text Y W) wider_primary)) wider_primary
 
-  wider_sum : Includes (g.sum text X) (g.sum text Y)
-  unfolding g.sum g.product
-  wider_sum = wider_chain additions (g.product text X) (g.product text Y) (wider_chain products (g.factor text X) (g.factor text Y) wider_factor)
+    wider_sum : Includes (g.sum text X V) (g.sum text Y W)
+    unfolding g.sum g.product
+    wider_sum = wider_chain additions (g.product text X V) (g.product text Y W) (wider_chain products (g.factor text X V) (g.factor text Y W) wider_factor)
 
-  wider_comparison : Includes (g.comparison text X) (g.comparison text Y)
-  unfolding g.comparison
-  wider_comparison = wider_makes (g.sum text X then optional (link comparisons (g.sum text X))) (g.sum text Y then optional (link comparisons (g.sum text Y))) (λ v. chain_of (v.0, option_to_list v.1))
-      (wider_then (g.sum text X) (g.sum text Y) (optional (link comparisons (g.sum text X))) (optional (link comparisons (g.sum text Y))) wider_sum
-      (wider_optional (link comparisons (g.sum text X)) (link comparisons (g.sum text Y)) (wider_link comparisons (g.sum text X) (g.sum text Y) wider_sum)))
+    wider_comparison : Includes (g.comparison text X V) (g.comparison text Y W)
+    unfolding g.comparison
+    wider_comparison = wider_makes (g.sum text X V then optional (link comparisons (g.sum text X V))) (g.sum text Y W then optional (link comparisons (g.sum text Y W))) (λ v. chain_of (v.0, option_to_list v.1))
+        (wider_then (g.sum text X V) (g.sum text Y W) (optional (link comparisons (g.sum text X V))) (optional (link comparisons (g.sum text Y W))) wider_sum
+        (wider_optional (link comparisons (g.sum text X V)) (link comparisons (g.sum text Y W)) (wider_link comparisons (g.sum text X V) (g.sum text Y W) wider_sum)))
 
-  wider_negation : Includes (g.negation text X) (g.negation text Y)
-  unfolding g.negation
-  wider_negation = wider_or (past (Word Not) (g.comparison text X) makes source.Not) (past (Word Not) (g.comparison text Y) makes source.Not) (g.comparison text X) (g.comparison text Y)
-      (wider_makes (past (Word Not) (g.comparison text X)) (past (Word Not) (g.comparison text Y)) source.Not (wider_past (Word Not) (g.comparison text X) (g.comparison text Y) wider_comparison)) wider_comparison
+    wider_negation : Includes (g.negation text X V) (g.negation text Y W)
+    unfolding g.negation
+    wider_negation = wider_or (past (Word Not) (g.comparison text X V) makes source.Not) (past (Word Not) (g.comparison text Y W) makes source.Not) (g.comparison text X V) (g.comparison text Y W)
+        (wider_makes (past (Word Not) (g.comparison text X V)) (past (Word Not) (g.comparison text Y W)) source.Not (wider_past (Word Not) (g.comparison text X V) (g.comparison text Y W) wider_comparison)) wider_comparison
 
-  pub wider_disjunction : Includes (g.term_over text X) (g.term_over text Y)
-  unfolding g.term_over g.conjunction
-  wider_disjunction = wider_chain disjunctions (g.conjunction text X) (g.conjunction text Y) (wider_chain conjunctions (g.negation text X) (g.negation text Y) wider_negation)
+    pub wider_disjunction : Includes (g.term_over text X V) (g.term_over text Y W)
+    unfolding g.term_over g.conjunction
+    wider_disjunction = wider_chain disjunctions (g.conjunction text X V) (g.conjunction text Y W) (wider_chain conjunctions (g.negation text X V) (g.negation text Y W) wider_negation)
 
 -- ---- terms at any depth
 
 module _ (text : List ℕ) where
-  opened_at : (ts : List Token) (x : source.Term) (n : ℕ) → g.term_within text n ts x → g.term_over text (any_term text) ts x
+  opened_at : (ts : List Token) (x : source.Term) (n : ℕ) → g.term_within text n ts x → g.term_over text (any_term text) (g.answer text) ts x
   unfolding g.term_within
-  opened_at ts x zero p = wider_disjunction text nothing (any_term text) (λ us y v. absurd v) ts x p
-  opened_at ts x (suc n) p = wider_disjunction text (g.term_within text n) (any_term text) (λ us y v. (n, v)) ts x p
+  opened_at ts x zero p = wider_disjunction text nothing (any_term text) (λ us y v. absurd v) (g.answer text) (g.answer text) (same_part (g.answer text)) ts x p
+  opened_at ts x (suc n) p = wider_disjunction text (g.term_within text n) (any_term text) (λ us y v. (n, v)) (g.answer text) (g.answer text) (same_part (g.answer text)) ts x p
 
   pub begins_any_term : Begins term_first (any_term text)
   begins_any_term ts x p = begins_term text p.0 ts x p.1
 
   -- what a disjunction over any terms is exact for, terms are too
   closed : (n d : ℕ) (q : Bool) (deeper : Reader source.Term) → ((m : ℕ) (p : Bool) → n ≡ suc m → IsExact (depth m p) (depth m false) term_more (g.term_within text (n + d)) (any_term text) deeper)
-      → IsExact (depth n q) (depth n false) term_more (g.term_over text (g.term_within text (n + d))) (any_term text) (r.disjunction_at text n deeper)
-  closed n d q deeper h = exact_wider (depth n q) (depth n false) term_more term_more (g.term_over text (g.term_within text (n + d))) (g.term_over text (any_term text)) (g.term_over text (g.term_within text (n + d))) (any_term text)
+      → IsExact (depth n q) (depth n false) term_more (g.term_over text (g.term_within text (n + d)) (g.answer text)) (any_term text) (r.disjunction_at text n deeper)
+  closed n d q deeper h = exact_wider (depth n q) (depth n false) term_more term_more (g.term_over text (g.term_within text (n + d)) (g.answer text)) (g.term_over text (any_term text) (g.answer text)) (g.term_over text (g.term_within text (n + d)) (g.answer text)) (any_term text)
       (λ _ _ p. p) (λ ts x p. opened_at ts x p.0 p.1) (within_self term_more) (r.disjunction_at text n deeper)
       (exact_disjunction text n deeper (g.term_within text (n + d)) (any_term text) (has_term text (n + d)) (begins_term text (n + d)) begins_any_term h q)
 

@@ -23,20 +23,31 @@ abbrev pub less_one : ℕ → Option ℕ
 less_one zero = None
 less_one (suc n) = Some n
 
--- `forall` behind a `(` is that of a term, which has no end word
+-- where the first of these kinds open levels, and the second close them
+module _ (opening closing : List Kind) where
+  -- `forall` behind a `(` is that of a term, which has no end word
+  abbrev pub opens_by : Bool → Kind → Bool
+  opens_by true k = if alike (Word words.Forall) k then false else is_one_of opening k
+  opens_by false k = is_one_of opening k
+
+  abbrev pub after_token_by : Depth → Token → Depth
+  after_token_by d t = record {
+    left = if opens_by d.in_front t.kind then option_and_then less_one d.left else (if is_one_of closing t.kind then option_and_then (λ n. Some (suc n)) d.left else d.left);
+    in_front = alike (Symbol symbols.Open) t.kind;
+  }
+
+  abbrev pub depth_by : Depth → List Token → Depth
+  depth_by d [] = d
+  depth_by d (t ∷ ts) = depth_by (after_token_by d t) ts
+
 abbrev pub opens : Bool → Kind → Bool
-opens true k = if alike (Word words.Forall) k then false else is_one_of openers k
-opens false k = is_one_of openers k
+opens = opens_by openers closers
 
 abbrev pub after_token : Depth → Token → Depth
-after_token d t = record {
-  left = if opens d.in_front t.kind then option_and_then less_one d.left else (if is_one_of closers t.kind then option_and_then (λ n. Some (suc n)) d.left else d.left);
-  in_front = alike (Symbol symbols.Open) t.kind;
-}
+after_token = after_token_by openers closers
 
 abbrev pub depth_after : Depth → List Token → Depth
-depth_after d [] = d
-depth_after d (t ∷ ts) = depth_after (after_token d t) ts
+depth_after = depth_by openers closers
 
 -- n more levels may open, behind a token that is no `(`
 abbrev pub at_depth : ℕ → Depth

@@ -1,13 +1,22 @@
--- The grammar before there were `while`, `<-` and `result`.
---     old_specification           the tokens spell the tree by it, at any depth
---     StillSpells                 what tokens spelled by it, they spell still
-use Rattle.std.specs.Prelude.{ℕ, zero, suc, List}
+-- The grammar and the levels before there were `while`, `<-` and `result`.
+--     old_specification           the tokens spelled the tree, at any depth
+--     IsOldSpecification          the text had tokens that spelled the tree, and nested no deeper than they might
+--     StillSpells                 what tokens spelled, they spell still
+--     StillIsSpecification        what a text spelled, it spells still
+use Rattle.std.specs.Prelude.{ℕ, zero, suc, List, [], ◌∷◌, IsSome}
+use Rattle.asm_syntax.specs.declared.token.Kind.{Kind}
+use Rattle.asm_syntax.specs.declared.token.Kind.TheVariants.{Symbol, Word}
+use Rattle.asm_syntax.specs.declared.token.Symbol.TheVariants.{Open, Close}
+use Rattle.asm_syntax.specs.declared.token.Word.TheVariants.{Par, EndPar, Seq, EndSeq, If, EndIf, Let, EndLet, Forall, EndForall, Choose, EndChoose, Iterate, EndIterate}
 use Rattle.asm_syntax.specs.declared.token.Token.{Token}
 use Rattle.asm_syntax.specs.SourceTree as source
+use Rattle.asm_syntax.specs.Tokens.{AreTokens}
+use Rattle.asm_reader.specs.Levels.{Depth, at_depth, depth_by}
 use Rattle.asm_reader.specs.Parts.{Part, ◌or◌, nothing, at_any_depth}
 use Rattle.asm_reader.specs.TermGrammar.{term_over}
 use Rattle.asm_reader.specs.RuleGrammar.{skip_rule, call, assignment, par_rule, seq_rule, if_rule, let_rule, forall_rule, choose_rule, iterate_rule}
 use Rattle.asm_reader.specs.Grammar.{specification_over, specification}
+use Rattle.asm_reader.specs.Specification.{max_nesting, IsSpecification}
 
 module _ (text : List ℕ) where
   -- a term in which parentheses nest at most n deep
@@ -28,5 +37,24 @@ module _ (text : List ℕ) where
   abbrev pub old_specification : Part source.Spec
   old_specification = specification_over text (at_any_depth old_term_within) (at_any_depth old_rule_within)
 
+-- ---- levels
+
+abbrev pub old_openers : List Kind
+old_openers = Symbol Open ∷ Word Par ∷ Word Seq ∷ Word If ∷ Word Let ∷ Word Forall ∷ Word Choose ∷ Word Iterate ∷ []
+
+abbrev pub old_closers : List Kind
+old_closers = Symbol Close ∷ Word EndPar ∷ Word EndSeq ∷ Word EndIf ∷ Word EndLet ∷ Word EndForall ∷ Word EndChoose ∷ Word EndIterate ∷ []
+
+abbrev pub old_depth_after : Depth → List Token → Depth
+old_depth_after = depth_by old_openers old_closers
+
+-- ---- texts
+
+abbrev pub IsOldSpecification : List ℕ → source.Spec → Type 0
+IsOldSpecification text s = (ts : List Token) × AreTokens text ts × old_specification text ts s × IsSome (old_depth_after (at_depth max_nesting) ts).left
+
 abbrev pub StillSpells : Type 0
 StillSpells = (text : List ℕ) (ts : List Token) (s : source.Spec) → old_specification text ts s → specification text ts s
+
+abbrev pub StillIsSpecification : Type 0
+StillIsSpecification = (text : List ℕ) (s : source.Spec) → IsOldSpecification text s → IsSpecification text s

@@ -5,7 +5,7 @@ ghost use Rattle.asm_syntax.specs.declared.token.Token.{Token};
 ghost use Rattle.asm_syntax.specs.SourceTree as source;
 ghost use Rattle.asm_reader.specs.declared.error.ReadError.{ReadError};
 ghost use Rattle.asm_reader.specs.Grammar.{specification};
-ghost use Rattle.asm_reader.specs.OldGrammar.{StillSpells};
+ghost use Rattle.asm_reader.specs.OldGrammar.{StillSpells, StillIsSpecification};
 ghost use Rattle.asm_reader.specs.Specification.{IsSpecification};
 ghost use Rattle.asm_reader.specs.Refusals.{IsRefusal};
 ghost use Rattle.asm_reader.specs.ScriptLines.{Line, Script};
@@ -19,9 +19,11 @@ pub fn one_tree_of_tokens()
     ensures { (text : List ℕ) (ts : List Token) (s t : source.Spec) → specification text ts s → specification text ts t → s ≡ t }
 {}
 
-/// Tokens that spelled a specification before there were `while`, `<-` and `result` spell the same one still.
+/// What spelled a specification before there were `while`, `<-` and `result` spells the same one still:
+/// tokens, at any depth, and texts.
 pub fn old_texts()
-    ensures { StillSpells }
+    ensures tokens { StillSpells }
+    ensures texts { StillIsSpecification }
 {}
 
 /// A text has one specification at most.

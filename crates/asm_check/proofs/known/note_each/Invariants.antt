@@ -2,7 +2,7 @@ use Rattle.std.proofs.Common.{◌≡◌, drop}
 use Rattle.std.specs.Prelude.{flat_map}
 use Rattle.asm_syntax.specs.SourceTree.{Spec}
 use Rattle.asm_check.specs.Errors.{found_of}
-use Rattle.asm_check.specs.FaultLists.{faults_of_use}
+use Rattle.asm_check.specs.FaultLists.{all_of_use}
 use Rattle.asm_check.specs.Soonest.{noted}
 use Rattle.asm_check.specs.Tables.{IsTableOf}
 use Rattle.asm_check.specs.UseViews.{use_of}
@@ -11,4 +11,4 @@ use Rattle.asm_check.proofs.known.note_each.Given as goal
 -- the faults of the uses that are left make of what is found what all of them make of it
 abbrev pub invariant-loop-used : goal.invariant-loop-used
 invariant-loop-used l = (spec : Spec) → IsTableOf spec l.names
-    → noted (found_of l.least.found) (flat_map (λ u. faults_of_use spec (use_of u)) (drop l.used-index l.uses)) ≡ noted (found_of l.initial.least.found) (flat_map (λ u. faults_of_use spec (use_of u)) l.uses)
+    → noted (found_of l.least.found) (flat_map (λ u. all_of_use spec (use_of u)) (drop l.used-index l.uses)) ≡ noted (found_of l.initial.least.found) (flat_map (λ u. all_of_use spec (use_of u)) l.uses)

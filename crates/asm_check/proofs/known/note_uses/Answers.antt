@@ -3,7 +3,7 @@ use Rattle.std.proofs.lemmas.List.{at_drop_all}
 use Rattle.std.specs.Prelude.{flat_map, map, ◌<◌, ◌≤◌}
 use Rattle.asm_syntax.specs.Views.{spec_of}
 use Rattle.asm_check.specs.Errors.{found_of}
-use Rattle.asm_check.specs.FaultLists.{faults_of_use}
+use Rattle.asm_check.specs.FaultLists.{all_of_use}
 use Rattle.asm_check.specs.Soonest.{noted}
 use Rattle.asm_check.specs.UseViews.{use_of}
 use Rattle.asm_check.proofs.UseFaults.{one_step, item_faults, faults_of_items}
@@ -18,9 +18,9 @@ loop-item-preserved c =
     let below : i < length items = subst (λ xs. i < length xs) c.deref-item-items.ensures.value c.loop-item-test.true in
     let same : c.item-item.result ≡ _ = c.item-item.is ∙ ap (λ xs. get_or xs i c.item-item.result) c.deref-item-items.ensures.value in
     one_step (item_faults spec) _ before _ items i c.item-item.result below c.loop-item.invariant
-    (c.note_each.ensures spec c.requires
-    ∙ ap (λ us. noted before (flat_map (faults_of_use spec) (map use_of us))) c.deref.ensures.value
-    ∙ ap (λ us. noted before (flat_map (faults_of_use spec) us)) c.in_ok-uses.ensures
+    (c.note_each.ensures spec c.requires.table
+    ∙ ap (λ us. noted before (flat_map (all_of_use spec) (map use_of us))) c.deref.ensures.value
+    ∙ ap (λ us. noted before (flat_map (all_of_use spec) us)) c.in_ok-uses.ensures
     ∙ ap (λ x. noted before (item_faults spec x)) same)
 
 pub returns : goal.returns

@@ -1,4 +1,4 @@
-use Rattle.std.proofs.Common.{◌≡◌, Bool, true, false, not, map, refl, ap, ◌∙◌}
+use Rattle.std.proofs.Common.{not, map, ap, ◌∙◌}
 use Rattle.std.proofs.Math.Bool.{not-not}
 use Rattle.asm_syntax.specs.Views.{const_of, entry_of}
 use Rattle.asm_check.specs.EntryArguments.{key}

@@ -1,6 +1,6 @@
 use Rattle.std.proofs.Common.{ap, ◌∙◌, map, ◌++◌}
 use Rattle.asm_syntax.specs.Views.{name_of, rule_of}
-use Rattle.asm_check.specs.Names.{text_of, uses_of_rule}
+use Rattle.asm_check.specs.Names.{rule_scope, uses_of_rule}
 use Rattle.asm_check.specs.UseViews.{use_of}
 use Rattle.asm_check.specs.Collected.{bound_of}
 use Rattle.asm_check.proofs.Scopes.{same_rule}
@@ -10,4 +10,4 @@ pub returns : goal.returns
 returns c =
     let scope = c.in_ok-collector.collector in
     let nothing = ap (λ us. map use_of us ++ uses_of_rule (rule_of c.args.body.now) (bound_of scope)) c.in_ok-collector.ensures.found in
-    c.in_ok-rule.ensures.found ∙ nothing ∙ same_rule (rule_of c.args.body.now) (bound_of scope) (map text_of (map name_of c.args.parameters.now)) c.in_ok-collector.ensures.bound
+    c.in_ok-rule.ensures.found ∙ nothing ∙ same_rule (rule_of c.args.body.now) (bound_of scope) (rule_scope (map name_of c.args.parameters.now)) c.in_ok-collector.ensures.bound

@@ -13,5 +13,5 @@ returns-in-If g c = λ one.
 pub returns-in-Call : goal.returns-in-Call
 returns-in-Call g c = λ one.
     let a = c.args in
-    let is = meant_call a.rule.now c.in-Call.name c.in-Call.arguments c.as_slice.result.now c.in-Call.is c.as_slice.ensures.value in
-    subst (λ R. IsBeneath a.evaluation.now a.env.now a.path.now R c.beneath_call.result) (sym is) (c.beneath_call.ensures a.path.now)
+    let is = meant_call a.rule.now c.in-Call.target c.in-Call.name c.in-Call.arguments c.as_slice.result.now c.in-Call.is c.as_slice.ensures.value in
+    subst (λ R. IfOk c.beneath_call.result (IsBeneath a.evaluation.now a.env.now a.path.now R)) (sym is) (c.beneath_call.ensures a.path.now)

@@ -1,6 +1,6 @@
 use Rattle.std.proofs.Common.{◌≡◌, ◌∙◌, ap, sym, refl, rules, Some, None}
-use Rattle.asm_eval.specs.Environments.{environment}
-use Rattle.asm_eval.specs.Evaluated.{meant, meant_terms}
+use Rattle.asm_eval.specs.Environments.{environment_in}
+use Rattle.asm_eval.specs.Evaluated.{meant, meant_target, meant_terms}
 use Rattle.asm_eval.proofs.BeneathRules.{some_beneath, called_weighs_less}
 use Rattle.asm_eval.proofs.CalledRules.{called_does, rule_number, not_called_does}
 use Rattle.asm_eval.proofs.beneath.beneath_call.Goals as goal
@@ -11,14 +11,14 @@ returns-in-Some-Rule g c = λ p.
     let a = c.args in
     let is = sym c.named.ensures.named ∙ c.in-Some-Rule.is ∙ ap Some c.in-Some-Rule.field-0-is in
     some_beneath a.evaluation.now a.env.now p _ (meant c.rule.result.1.now) _ refl
-    (called_does a.evaluation.now (environment a.env.now) p a.name.now.text a.arguments.now c.in-Some-Rule.r c.rule.result.0.now c.rule.result.1.now is c.rule.ensures)
-    (called_weighs_less a.evaluation.now.scene.checked.now a.name.now.text (meant_terms a.arguments.now) c.in-Some-Rule.r c.rule.result.0.now c.rule.result.1.now is c.rule.ensures)
+    (called_does a.evaluation.now (environment_in a.evaluation.now.scene.checked.now a.env.now) p (meant_target a.target.now) a.name.now.text a.arguments.now c.in-Some-Rule.r c.rule.result.0.now c.rule.result.1.now is c.rule.ensures)
+    (called_weighs_less a.evaluation.now.scene.checked.now (meant_target a.target.now) a.name.now.text (meant_terms a.arguments.now) c.in-Some-Rule.r c.rule.result.0.now c.rule.result.1.now is c.rule.ensures)
 
 pub returns-in_default : goal.returns-in_default
 returns-in_default g c = λ p.
     let a = c.args in
     let other : rule_number c.named.result ≡ None = elim c.in_default.branch [ in_default-via-in-Some+in_default w ↦ search rules | in_default-via-in_default w ↦ search rules ] in
     record {
-      does = sym (not_called_does a.evaluation.now (environment a.env.now) p a.name.now.text a.arguments.now c.named.result c.named.ensures.named other);
+      does = sym (not_called_does a.evaluation.now (environment_in a.evaluation.now.scene.checked.now a.env.now) p (meant_target a.target.now) a.name.now.text a.arguments.now c.named.result c.named.ensures.named other);
       less = tt;
     }

@@ -1,5 +1,5 @@
 use Rattle.std.proofs.Common.{◌∙◌, ap, sym, refl, rules, ◌≡◌, None}
-use Rattle.asm_eval.specs.Environments.{environment}
+use Rattle.asm_eval.specs.Environments.{environment_in}
 use Rattle.asm_eval.specs.Evaluated.{meant, meant_branch}
 use Rattle.asm_eval.specs.Valued.{condition}
 use Rattle.asm_eval.specs.Yields.{at}
@@ -12,7 +12,7 @@ returns-in-Some g c =
     let a = c.args in
     let b = a.binder.now in
     some_beneath a.evaluation.now a.env.now a.path.now _ (meant a.body.now) _ refl
-    (chosen_does a.evaluation.now (environment a.env.now) a.path.now a.binder.now a.body.now a.none.now c.in-Some.value (sym c.in-Some.is ∙ c.in_ok-value.ensures))
+    (chosen_does a.evaluation.now (environment_in a.evaluation.now.scene.checked.now a.env.now) a.path.now a.binder.now a.body.now a.none.now c.in-Some.value (sym c.in-Some.is ∙ c.in_ok-value.ensures))
     ((weights_fall a.evaluation.now.scene.checked.now).at_choose b.name.now.text b.over.now.text (condition b.test.now) (meant a.body.now) (meant_branch a.none.now))
 
 pub returns-in-Some-none : goal.returns-in-Some-none
@@ -21,7 +21,7 @@ returns-in-Some-none g c =
     let b = a.binder.now in
     let nothing_there : None ≡ c.in_ok-value.field-0 = search rules in
     some_beneath a.evaluation.now a.env.now a.path.now _ (meant_branch a.none.now) _ (ap meant c.deref.ensures ∙ sym (ap meant_branch c.in-Some-none.is))
-    (none_does a.evaluation.now (environment a.env.now) a.path.now a.binder.now a.body.now a.none.now (nothing_there ∙ c.in_ok-value.ensures))
+    (none_does a.evaluation.now (environment_in a.evaluation.now.scene.checked.now a.env.now) a.path.now a.binder.now a.body.now a.none.now (nothing_there ∙ c.in_ok-value.ensures))
     ((weights_fall a.evaluation.now.scene.checked.now).at_ifnone b.name.now.text b.over.now.text (condition b.test.now) (meant a.body.now) (meant_branch a.none.now))
 
 pub returns-in-None : goal.returns-in-None
@@ -29,7 +29,7 @@ returns-in-None g c =
     let a = c.args in
     let nothing_there : None ≡ c.in_ok-value.field-0 = search rules in
     record {
-      does = sym (left_out_does a.evaluation.now (environment a.env.now) (at a.path.now 1) a.none.now c.in-None.is
-          ∙ none_does a.evaluation.now (environment a.env.now) a.path.now a.binder.now a.body.now a.none.now (nothing_there ∙ c.in_ok-value.ensures));
+      does = sym (left_out_does a.evaluation.now (environment_in a.evaluation.now.scene.checked.now a.env.now) (at a.path.now 1) a.none.now c.in-None.is
+          ∙ none_does a.evaluation.now (environment_in a.evaluation.now.scene.checked.now a.env.now) a.path.now a.binder.now a.body.now a.none.now (nothing_there ∙ c.in_ok-value.ensures));
       less = tt;
     }

@@ -1,6 +1,6 @@
 use Rattle.std.proofs.Common.{◌≡◌, filter, ap, sym, ◌∙◌, arith}
 use Rattle.asm_eval.specs.declared.choose.Walk.TheVariants.{Met}
-use Rattle.asm_eval.specs.Environments.{environment}
+use Rattle.asm_eval.specs.Environments.{environment_in}
 use Rattle.asm_eval.specs.Scenes.{is_candidate}
 use Rattle.asm_eval.specs.Taken.{walk_to}
 use Rattle.asm_eval.proofs.Candidates.{all_hold, one_more_passes, none_more_passes, met_at, passed_all}
@@ -11,13 +11,13 @@ use Rattle.asm_eval.proofs.choose.find_candidate.Goals.{then-branch+else-met-num
 pub returns-then-is_none : goal.returns-then-is_none
 returns-then-is_none g c =
     let a = c.args in
-    c.element_at.ensures ∙ ap (walk_to a.number) (all_hold a.evaluation.now.scene.checked.now a.evaluation.now.scene.view.now (environment a.env.now) a.binder.now.name.now.text a.binder.now.test.now a.universe.now c.if-is_none.ensures)
+    c.element_at.ensures ∙ ap (walk_to a.number) (all_hold a.evaluation.now.scene.checked.now a.evaluation.now.scene.view.now (environment_in a.evaluation.now.scene.checked.now a.env.now) a.binder.now.name.now.text a.binder.now.test.now a.universe.now c.if-is_none.ensures)
 
 -- src/choose.rt:88:17
 pub returns-then-met-number : goal.returns-then-met-number
 returns-then-met-number g c =
     let a = c.args in
-    let p = is_candidate a.evaluation.now.scene (environment a.env.now) a.binder.now in
+    let p = is_candidate a.evaluation.now.scene (environment_in a.evaluation.now.scene.checked.now a.env.now) a.binder.now in
     let same : c.element-then-met-number.result ≡ c.element.result = cc in
     ap Met same ∙ met_at p a.universe.now c.loop-i.i c.element.result c.loop-i.met c.element.ensures (sym c.in_ok-holds.ensures ∙ c.if-branch.true) c.loop-i.invariant.counted
     ∙ ap (λ n. walk_to n (filter p a.universe.now)) c.if-met-number.true
@@ -26,7 +26,7 @@ returns-then-met-number g c =
 pub loop-i-preserved : goal.loop-i-preserved
 loop-i-preserved g c =
     let a = c.args in
-    let p = is_candidate a.evaluation.now.scene (environment a.env.now) a.binder.now in
+    let p = is_candidate a.evaluation.now.scene (environment_in a.evaluation.now.scene.checked.now a.env.now) a.binder.now in
     elim c.if-branch.branch [
       | then-branch+else-met-number w ↦ record {
         counted = w.met-is ∙ one_more_passes p a.universe.now c.loop-i.i c.element.result c.loop-i.met c.element.ensures (sym c.in_ok-holds.ensures ∙ w.if-branch.true) c.loop-i.invariant.counted;
@@ -42,5 +42,5 @@ loop-i-preserved g c =
 pub returns : goal.returns
 returns g c =
     let a = c.args in
-    let p = is_candidate a.evaluation.now.scene (environment a.env.now) a.binder.now in
+    let p = is_candidate a.evaluation.now.scene (environment_in a.evaluation.now.scene.checked.now a.env.now) a.binder.now in
     passed_all p a.universe.now c.loop-i.i c.loop-i.met a.number (omega (arith, c.size-i-end.ensures.size)) c.loop-i.invariant.counted c.loop-i.invariant.behind

@@ -2,7 +2,7 @@ use Rattle.std.proofs.Common.{◌∙◌, ℕ, ap, sym, subst, All, arith, refl}
 use Rattle.std.proofs.lemmas.List.Elements.{All-nil}
 use Rattle.asm_state.specs.declared.value.Value.{Value}
 use Rattle.asm_eval.specs.Does.{each}
-use Rattle.asm_eval.specs.Environments.{environment}
+use Rattle.asm_eval.specs.Environments.{environment_in}
 use Rattle.asm_eval.specs.Evaluated.{setting, state_at}
 use Rattle.asm_eval.specs.Pieces.{piece_does, IsPiece, IsCut, between}
 use Rattle.asm_eval.specs.Scenes.{with_element, is_candidate}
@@ -16,8 +16,8 @@ pub loop-i-init : goal.loop-i-init
 loop-i-init g c =
     let a = c.args in
     let none = c.new-pieces.ensures.items in
-    let m = λ (v : Value) (k : ℕ). rule_does a.evaluation.now (with_element a.binder.now v (environment a.piece.now.env)) (at a.piece.now.path k) a.body.now in
-    let test = is_candidate a.evaluation.now.scene (environment a.piece.now.env) a.binder.now in
+    let m = λ (v : Value) (k : ℕ). rule_does a.evaluation.now (with_element a.binder.now v (environment_in a.evaluation.now.scene.checked.now a.piece.now.env)) (at a.piece.now.path k) a.body.now in
+    let test = is_candidate a.evaluation.now.scene (environment_in a.evaluation.now.scene.checked.now a.piece.now.env) a.binder.now in
     record {
       low = omega arith;
       few = omega arith;
@@ -31,8 +31,8 @@ loop-i-preserved g c =
     let a = c.args in
     let l = c.loop-i in
     let f = piece_does (setting a.evaluation.now) (state_at a.evaluation.now) in
-    let m = λ (v : Value) (k : ℕ). rule_does a.evaluation.now (with_element a.binder.now v (environment a.piece.now.env)) (at a.piece.now.path k) a.body.now in
-    let test = is_candidate a.evaluation.now.scene (environment a.piece.now.env) a.binder.now in
+    let m = λ (v : Value) (k : ℕ). rule_does a.evaluation.now (with_element a.binder.now v (environment_in a.evaluation.now.scene.checked.now a.piece.now.env)) (at a.piece.now.path k) a.body.now in
+    let test = is_candidate a.evaluation.now.scene (environment_in a.evaluation.now.scene.checked.now a.piece.now.env) a.binder.now in
     elim c.if-branch.branch [
       | then-branch+in_ok-path+in_ok-push w ↦
           let more = ap (λ v. v.items) w.pieces-is ∙ w.in_ok-push.ensures.items in
@@ -41,7 +41,7 @@ loop-i-preserved g c =
             few = omega (arith, l.invariant.few, w.instances-is);
             does = bodies_then f m test a.to c.in-Some.universe.now l.i l.instances c.if-branch.instances l.pieces.items c.if-branch.pieces.items _ c.element.result _
                 c.loop-i-test.true c.element.ensures (sym w.if-branch.true ∙ c.in_ok-holds.ensures) w.instances-is more
-                (ap (λ q. rule_does a.evaluation.now (with_element a.binder.now c.element.result (environment a.piece.now.env)) q a.body.now)
+                (ap (λ q. rule_does a.evaluation.now (with_element a.binder.now c.element.result (environment_in a.evaluation.now.scene.checked.now a.piece.now.env)) q a.body.now)
                 (w.in_ok-path.ensures ∙ ap (λ q. at q l.i) w.as_slice.ensures))
                 l.invariant.does;
             are_pieces = all_more (IsPiece (setting a.evaluation.now).program) _ _ _ more l.invariant.are_pieces tt;
@@ -62,8 +62,8 @@ returns g c = λ cut.
     let a = c.args in
     let l = c.loop-i in
     let f = piece_does (setting a.evaluation.now) (state_at a.evaluation.now) in
-    let m = λ (v : Value) (k : ℕ). rule_does a.evaluation.now (with_element a.binder.now v (environment a.piece.now.env)) (at a.piece.now.path k) a.body.now in
-    let test = is_candidate a.evaluation.now.scene (environment a.piece.now.env) a.binder.now in (
+    let m = λ (v : Value) (k : ℕ). rule_does a.evaluation.now (with_element a.binder.now v (environment_in a.evaluation.now.scene.checked.now a.piece.now.env)) (at a.piece.now.path k) a.body.now in
+    let test = is_candidate a.evaluation.now.scene (environment_in a.evaluation.now.scene.checked.now a.piece.now.env) a.binder.now in (
       refl,
       record {
         loses_nothing = ap (λ vs. each m test a.from (between a.from a.to vs)) (sym c.in-Some.ensures.some)

@@ -1,7 +1,7 @@
 use Rattle.std.proofs.Common.{◌≡◌, ℕ, ◌≤◌, All}
 use Rattle.asm_state.specs.declared.value.Value.{Value}
 use Rattle.asm_eval.specs.Does.{both, each}
-use Rattle.asm_eval.specs.Environments.{environment}
+use Rattle.asm_eval.specs.Environments.{environment_in}
 use Rattle.asm_eval.specs.Evaluated.{setting, state_at}
 use Rattle.asm_eval.specs.Pieces.{counting, between, pieces_do, IsPiece, IsCut}
 use Rattle.asm_eval.specs.Scenes.{with_element, is_candidate}
@@ -12,8 +12,8 @@ use Rattle.asm_eval.proofs.open.open_bodies.Given as goal
 -- the pieces so far do what the elements so far do
 abbrev pub invariant-loop-i : goal.invariant-loop-i
 invariant-loop-i g l =
-    let m = λ (v : Value) (k : ℕ). rule_does l.evaluation (with_element l.binder v (environment l.piece.env)) (at l.piece.path k) l.body in
-    let test = is_candidate l.evaluation.scene (environment l.piece.env) l.binder in
+    let m = λ (v : Value) (k : ℕ). rule_does l.evaluation (with_element l.binder v (environment_in l.evaluation.scene.checked.now l.piece.env)) (at l.piece.path k) l.body in
+    let test = is_candidate l.evaluation.scene (environment_in l.evaluation.scene.checked.now l.piece.env) l.binder in
     record {
       low : l.from ≤ l.i;
       few : l.instances ≤ l.i;

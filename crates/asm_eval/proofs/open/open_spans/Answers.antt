@@ -16,8 +16,8 @@ loop-next-init c =
     record {
       low = omega arith;
       high = c.requires.rises;
-      does = λ s A is. ap (λ ps. both (pieces_do s A ps) (span_does s A (environment a.piece.now.env) a.piece.now.path R a.from a.to)) none
-          ∙ beside_laws.first_unit (span_does s A (environment a.piece.now.env) a.piece.now.path R a.from a.to);
+      does = λ s A is. ap (λ ps. both (pieces_do s A ps) (span_does s A (environment s.shape a.piece.now.env) a.piece.now.path R a.from a.to)) none
+          ∙ beside_laws.first_unit (span_does s A (environment s.shape a.piece.now.env) a.piece.now.path R a.from a.to);
       are_pieces = λ s is. subst (All (IsPiece s.program)) (sym none) (All-nil (IsPiece s.program));
       are_cut = subst (All (IsCut a.cut)) (sym none) (All-nil (IsCut a.cut));
     }
@@ -27,7 +27,6 @@ loop-next-preserved c =
     let a = c.args in
     let l = c.loop-next in
     let R = meant a.piece.now.rule.now in
-    let e = environment a.piece.now.env in
     let p = a.piece.now.path in
     let more = c.in_ok-push.ensures.items in
     let least = c.min.ensures in
@@ -43,6 +42,7 @@ loop-next-preserved c =
       low = omega (arith, low);
       high = off;
       does = λ s A is.
+          let e = environment s.shape a.piece.now.env in
           let rest = span_does s A e p R end a.to in
           more_both (piece_does s A) l.pieces.items c.push.new.self.items _ rest more
           ∙ ap (both (pieces_do s A l.pieces.items))
@@ -60,7 +60,7 @@ returns c = λ s A is.
       refl,
       record {
         loses_nothing = sym (l.invariant.does s A is)
-            ∙ ap (both (pieces_do s A l.pieces.items)) (span_none s A (environment a.piece.now.env) a.piece.now.path (meant a.piece.now.rule.now) l.next a.to (omega (arith, c.loop-next-test.false)))
+            ∙ ap (both (pieces_do s A l.pieces.items)) (span_none s A (environment s.shape a.piece.now.env) a.piece.now.path (meant a.piece.now.rule.now) l.next a.to (omega (arith, c.loop-next-test.false)))
             ∙ beside_laws.last_unit (pieces_do s A l.pieces.items) ∙ sym (counting_none (pieces_do s A l.pieces.items));
         are_pieces = l.invariant.are_pieces s is;
         are_cut = l.invariant.are_cut;

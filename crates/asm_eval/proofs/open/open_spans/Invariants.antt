@@ -17,8 +17,8 @@ invariant-loop-next l = record {
   low : l.from ≤ l.next;
   high : l.next ≤ l.to;
   does : (s : Setting) (A : State) → IsPartOf s.program (meant l.piece.rule.now) (part.Span l.from l.to)
-      → both (pieces_do s A l.pieces.items) (span_does s A (environment l.piece.env) l.piece.path (meant l.piece.rule.now) l.next l.to)
-      ≡ span_does s A (environment l.piece.env) l.piece.path (meant l.piece.rule.now) l.from l.to;
+      → both (pieces_do s A l.pieces.items) (span_does s A (environment s.shape l.piece.env) l.piece.path (meant l.piece.rule.now) l.next l.to)
+      ≡ span_does s A (environment s.shape l.piece.env) l.piece.path (meant l.piece.rule.now) l.from l.to;
   are_pieces : (s : Setting) → IsPartOf s.program (meant l.piece.rule.now) (part.Span l.from l.to) → All (IsPiece s.program) l.pieces.items;
   are_cut : All (IsCut l.cut) l.pieces.items;
 }

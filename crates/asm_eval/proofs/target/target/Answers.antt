@@ -1,6 +1,6 @@
 use Rattle.std.proofs.Common.{rules, ◌≡◌, Some, None, ap, ◌∙◌}
 use Rattle.asm_syntax.specs.Views.{spec_of}
-use Rattle.asm_eval.proofs.Targets.{function_number, is_controlled, static_assigns_none, function_below, other_assigns_none}
+use Rattle.asm_eval.proofs.Targets.{function_number, is_controlled, static_names_none, function_below, other_names_none}
 use Rattle.asm_eval.proofs.target.target.Goals as goal
 
 pub function-requires : goal.function-requires
@@ -15,14 +15,14 @@ returns-in-Controlled-clause-some c =
 
 pub returns-in-Static-clause-none : goal.returns-in-Static-clause-none
 returns-in-Static-clause-none c =
-    static_assigns_none (spec_of c.args.scene.now.checked.now.spec) c.args.name.now.text c.args.scene.now.view.now.signature.now c.args.scene.now.shaped
+    static_names_none (spec_of c.args.scene.now.checked.now.spec) c.args.name.now.text c.args.scene.now.view.now.signature.now c.args.scene.now.shaped
     c.in-Some-Function.f c.function.result.now (cc (c.named.ensures.named)) c.function.ensures c.in-Static.is
 
 pub returns-in_default : goal.returns-in_default
 returns-in_default c =
     let other : function_number c.named.result ≡ None = search rules in
-    record { kind = tt; some = tt; none = other_assigns_none (spec_of c.args.scene.now.checked.now.spec) c.args.name.now.text c.named.result c.named.ensures.named other }
+    record { kind = tt; some = tt; none = other_names_none (spec_of c.args.scene.now.checked.now.spec) c.args.name.now.text c.named.result c.named.ensures.named other }
 
 pub returns-in_default-2-clause-none : goal.returns-in_default-2-clause-none
 returns-in_default-2-clause-none c =
-    other_assigns_none (spec_of c.args.scene.now.checked.now.spec) c.args.name.now.text c.named.result c.named.ensures.named (ap function_number c.in_default.is)
+    other_names_none (spec_of c.args.scene.now.checked.now.spec) c.args.name.now.text c.named.result c.named.ensures.named (ap function_number c.in_default.is)

@@ -10,8 +10,8 @@ use Rattle.asm_eval.specs.declared.env.Env.{Env}
 use Rattle.asm_eval.specs.declared.evaluation.Evaluation.{Evaluation}
 use Rattle.asm_eval.specs.Beneath.{IsBeneath, beneath_does}
 use Rattle.asm_eval.specs.Does.{Outcome, nothing}
-use Rattle.asm_eval.specs.Environments.{environment}
-use Rattle.asm_eval.specs.Evaluated.{setting, shape_at, state_at, outcome_at, meant}
+use Rattle.asm_eval.specs.Environments.{environment_in}
+use Rattle.asm_eval.specs.Evaluated.{setting, shape_at, state_at, outcome_at, meant, meant_guarded}
 use Rattle.asm_eval.specs.Formed.{Forms}
 use Rattle.asm_eval.specs.Setting.{outcome}
 use Rattle.asm_eval.specs.Valued.{shown}
@@ -53,7 +53,7 @@ pub form_by_regions-returns-in-Seq : goal.form_by_regions-returns-in-Seq
 form_by_regions-returns-in-Seq g t c =
     let a = c.args in
     follows_same (shape_at a.evaluation.now) c.walk_in_order.result _ _ _ _
-    (seq_does a.evaluation.now (environment a.env.now) a.made.now.path.items a.rule.now c.in-Seq.rules c.as_slice.result.now c.in-Seq.is c.as_slice.ensures.value)
+    (seq_does a.evaluation.now (environment_in a.evaluation.now.scene.checked.now a.env.now) a.made.now.path.items a.rule.now c.in-Seq.rules c.as_slice.result.now c.in-Seq.is c.as_slice.ensures.value)
     c.walk_in_order.ensures
 
 pub walk_in_order-loop-i-init : goal.walk_in_order-loop-i-init
@@ -65,7 +65,7 @@ walk_in_order-loop-i-init g t c =
       same_before = refl;
       counted = c.new-so_far.ensures.count ∙ c.count-2.ensures.count;
       underway = begins (shape_at a.evaluation.now) (state_at a.evaluation.now) _
-          (rules_do_in_order (setting a.evaluation.now) (environment a.env.now) a.made.now.path.items 0 a.rules.now)
+          (rules_do_in_order (setting a.evaluation.now) (environment_in a.evaluation.now.scene.checked.now a.env.now) a.made.now.path.items 0 a.rules.now)
           c.new-so_far.result a.made.now.instances refl (omega (arith, a.made.now.in_range)) (c.new-so_far.ensures.empty (shape_at a.evaluation.now) c.count-2.ensures.sound c.count-2.ensures.count);
     }
 
@@ -88,7 +88,7 @@ walk_in_order-loop-i-preserved g t c =
       same_path = c.in_ok-walk_next.ensures.path ∙ l.invariant.same_path;
       same_before = l.invariant.same_before;
       counted = c.in_ok-walk_next.ensures.so_far_count ∙ l.invariant.counted;
-      underway = part_goes_on (setting a.evaluation.now) (environment a.env.now) a.made.now.path.items
+      underway = part_goes_on (setting a.evaluation.now) (environment_in a.evaluation.now.scene.checked.now a.env.now) a.made.now.path.items
           (shape_at a.evaluation.now) (state_at a.evaluation.now) _ _ _ _ a.rules.now l.i under
           l.made.path.items c.index-rules-i.result l.invariant.same_path c.loop-i-test.true c.index-rules-i.is
           c.walk_next.new.so_far c.walk_next.new.made.set c.walk_next.new.made.instances on
@@ -112,12 +112,12 @@ walk_in_order-returns g t c =
     record {
       count = c.put_back-2.ensures.count ∙ ap (λ (s : Entries). s.count) (c.loop-i.invariant.same_before ∙ c.replace-before.ensures.value);
       path = search rules;
-      formed = parts_end (setting a.evaluation.now) (environment a.env.now) a.made.now.path.items
+      formed = parts_end (setting a.evaluation.now) (environment_in a.evaluation.now.scene.checked.now a.env.now) a.made.now.path.items
           (shape_at a.evaluation.now) (state_at a.evaluation.now) _ _ _ _ a.rules.now l.i l.invariant.underway
           l.before a.made.now.set c.put_back-2.new.made.set c.put_back-2.new.made.instances c.put_back-2.result c.loop-i-test.false (l.invariant.same_before ∙ c.replace-before.ensures.value)
           c.put_back-2.ensures.instances (c.put_back-2.ensures.adds (shape_at a.evaluation.now));
       exhausted = stopped_for_memory
-          (rules_do_in_order (setting a.evaluation.now) (environment a.env.now) a.made.now.path.items 0 a.rules.now (state_at a.evaluation.now)) _ c.put_back-2.result c.put_back-2.ensures.stopped;
+          (rules_do_in_order (setting a.evaluation.now) (environment_in a.evaluation.now.scene.checked.now a.env.now) a.made.now.path.items 0 a.rules.now (state_at a.evaluation.now)) _ c.put_back-2.result c.put_back-2.ensures.stopped;
     }
 
 pub walk_in_order-returns-then-is_some : goal.walk_in_order-returns-then-is_some
@@ -129,14 +129,14 @@ walk_in_order-returns-then-is_some g t c =
     record {
       count = c.put_back.ensures.count ∙ ap (λ (s : Entries). s.count) (c.loop-i.invariant.same_before ∙ c.replace-before.ensures.value);
       path = search rules;
-      formed = part_ends (setting a.evaluation.now) (environment a.env.now) a.made.now.path.items
+      formed = part_ends (setting a.evaluation.now) (environment_in a.evaluation.now.scene.checked.now a.env.now) a.made.now.path.items
           (shape_at a.evaluation.now) (state_at a.evaluation.now) _ _ _ _ a.rules.now l.i under
           l.made.path.items c.index-rules-i.result l.invariant.same_path c.loop-i-test.true c.index-rules-i.is
           c.walk_next.new.so_far c.walk_next.new.made.set l.before a.made.now.set c.put_back.new.made.set c.walk_next.new.made.instances c.put_back.new.made.instances c.put_back.result on
           (fault_found (shape_at a.evaluation.now) c.walk_next.new.made.set on.set c.first_fault.result (sym c.is_some.ensures ∙ c.if-is_some.true) c.first_fault.ensures.first on.stands)
           (l.invariant.same_before ∙ c.replace-before.ensures.value) c.put_back.ensures.instances (c.put_back.ensures.adds (shape_at a.evaluation.now));
       exhausted = stopped_for_memory
-          (rules_do_in_order (setting a.evaluation.now) (environment a.env.now) a.made.now.path.items 0 a.rules.now (state_at a.evaluation.now)) _ c.put_back.result c.put_back.ensures.stopped;
+          (rules_do_in_order (setting a.evaluation.now) (environment_in a.evaluation.now.scene.checked.now a.env.now) a.made.now.path.items 0 a.rules.now (state_at a.evaluation.now)) _ c.put_back.result c.put_back.ensures.stopped;
     }
 
 pub walk_in_order-returns-in_err-walk_next : goal.walk_in_order-returns-in_err-walk_next
@@ -148,7 +148,7 @@ walk_in_order-returns-in_err-walk_next g t c =
       count = search rules;
       path = search rules;
       formed = search rules;
-      exhausted = part_stops (setting a.evaluation.now) (environment a.env.now) a.made.now.path.items
+      exhausted = part_stops (setting a.evaluation.now) (environment_in a.evaluation.now.scene.checked.now a.env.now) a.made.now.path.items
           (shape_at a.evaluation.now) (state_at a.evaluation.now) _ _ _ _ a.rules.now l.i under
           l.made.path.items c.index-rules-i.result l.invariant.same_path c.loop-i-test.true c.index-rules-i.is
           c.walk_next.new.made.path.items c.walk_next.result c.from_residual.result c.in_err-walk_next.field-0.0 c.in_err-walk_next.was c.from_residual.ensures.1
@@ -165,14 +165,14 @@ walk_next-returns g t c =
       formed = λ U stands consistent.
           let shape = (shape_at a.evaluation.now) in
           let v = c.upon-view.result in
-          goes_upon shape _ U c.clear.new.self a.so_far.now c.then.new.self c.walk_part.new.made.set a.made.now.instances c.walk_part.new.made.instances
+          goes_upon shape _ U c.clear.new.self a.so_far.now c.then.new.self c.walk_guarded.new.made.set a.made.now.instances c.walk_guarded.new.made.instances
           (c.clear.ensures.empty shape a.evaluation.now.scene.view.now.sound c.requires.fits)
           stands
           (c.in_ok-then.ensures.merge shape)
           (forms_same shape _ _ _ _ _ _
-          (ap (λ A. outcome (setting a.evaluation.now) A (environment a.env.now) (at a.made.now.path.items a.number) (meant a.rule.now)) (c.upon-view.ensures.fired U stands consistent))
-          (subst (λ s. Forms s (outcome (setting a.evaluation.now) (shown v) (environment a.env.now) (at a.made.now.path.items a.number) (meant a.rule.now)) c.clear.new.self c.walk_part.new.made.set a.made.now.instances c.walk_part.new.made.instances) c.upon-view.ensures.signature
-          c.in_ok-walk_part.ensures.formed));
+          (ap (λ A. outcome (setting a.evaluation.now) A (environment_in a.evaluation.now.scene.checked.now a.env.now) (at a.made.now.path.items a.number) (meant_guarded a.guarded)) (c.upon-view.ensures.fired U stands consistent))
+          (subst (λ s. Forms s (outcome (setting a.evaluation.now) (shown v) (environment_in a.evaluation.now.scene.checked.now a.env.now) (at a.made.now.path.items a.number) (meant_guarded a.guarded)) c.clear.new.self c.walk_guarded.new.made.set a.made.now.instances c.walk_guarded.new.made.instances) c.upon-view.ensures.signature
+          c.in_ok-walk_guarded.ensures.formed));
       exhausted = λ U stands consistent. tt;
     }
 
@@ -185,9 +185,9 @@ walk_turns-loop-turn-init g t c =
       same_before = refl;
       counted = c.new-so_far.ensures.count ∙ c.count-2.ensures.count;
       underway = begins (shape_at a.evaluation.now) (state_at a.evaluation.now) _
-          (turns_do (setting a.evaluation.now) (environment a.env.now) a.made.now.path.items (a.evaluation.now.turns - 0) 0 a.body.now)
+          (turns_do (setting a.evaluation.now) (environment_in a.evaluation.now.scene.checked.now a.env.now) a.made.now.path.items (a.evaluation.now.turns - 0) 0 (meant_guarded a.body))
           c.new-so_far.result a.made.now.instances
-          (ap (λ n. turns_do (setting a.evaluation.now) (environment a.env.now) a.made.now.path.items n 0 a.body.now
+          (ap (λ n. turns_do (setting a.evaluation.now) (environment_in a.evaluation.now.scene.checked.now a.env.now) a.made.now.path.items n 0 (meant_guarded a.body)
           (state_at a.evaluation.now)) (omega arith)) (omega (arith, a.made.now.in_range)) (c.new-so_far.ensures.empty (shape_at a.evaluation.now) c.count-2.ensures.sound c.count-2.ensures.count);
     }
 
@@ -202,8 +202,8 @@ walk_turns-loop-turn-preserved g t c =
       same_path = c.in_ok-walk_next.ensures.path ∙ l.invariant.same_path;
       same_before = l.invariant.same_before;
       counted = c.in_ok-walk_next.ensures.so_far_count ∙ l.invariant.counted;
-      underway = turn_goes_on (setting a.evaluation.now) (environment a.env.now) a.made.now.path.items
-          (shape_at a.evaluation.now) (state_at a.evaluation.now) _ _ _ _ a.evaluation.now.turns a.body.now l.turn under
+      underway = turn_goes_on (setting a.evaluation.now) (environment_in a.evaluation.now.scene.checked.now a.env.now) a.made.now.path.items
+          (shape_at a.evaluation.now) (state_at a.evaluation.now) _ _ _ _ a.evaluation.now.turns (meant_guarded a.body) l.turn under
           l.made.path.items c.from.result l.invariant.same_path c.loop-turn-test.true c.from.ensures
           c.walk_next.new.so_far c.walk_next.new.made.set c.walk_next.new.made.instances on
           (λ is. false≢true (sym c.if-is_empty.false ∙ (c.is_empty.ensures.empty (shape_at a.evaluation.now) on.set on.stands).1 is))
@@ -227,17 +227,17 @@ walk_turns-returns-then-is_empty g t c =
           (sym w.is_some.ensures ∙ w.if-is_some.true) w.first_fault.ensures.first on.stands)
     ] in
     follows_same (shape_at a.evaluation.now) _ _ _ _ _
-    (iterate_does a.evaluation.now (environment a.env.now) a.made.now.path.items a.body.now)
+    (iterate_does a.evaluation.now (environment_in a.evaluation.now.scene.checked.now a.env.now) a.made.now.path.items (meant_guarded a.body))
     (record {
       count = c.put_back.ensures.count ∙ ap (λ (s : Entries). s.count) (c.loop-turn.invariant.same_before ∙ c.replace-before.ensures.value);
       path = search rules;
-      formed = turn_ends (setting a.evaluation.now) (environment a.env.now) a.made.now.path.items
-          (shape_at a.evaluation.now) (state_at a.evaluation.now) _ _ _ _ a.evaluation.now.turns a.body.now l.turn under
+      formed = turn_ends (setting a.evaluation.now) (environment_in a.evaluation.now.scene.checked.now a.env.now) a.made.now.path.items
+          (shape_at a.evaluation.now) (state_at a.evaluation.now) _ _ _ _ a.evaluation.now.turns (meant_guarded a.body) l.turn under
           l.made.path.items c.from.result l.invariant.same_path c.loop-turn-test.true c.from.ensures
           c.walk_next.new.so_far c.walk_next.new.made.set l.before a.made.now.set c.put_back.new.made.set c.walk_next.new.made.instances c.put_back.new.made.instances c.put_back.result on
           last (l.invariant.same_before ∙ c.replace-before.ensures.value) c.put_back.ensures.instances (c.put_back.ensures.adds (shape_at a.evaluation.now));
       exhausted = stopped_for_memory
-          (turns_do (setting a.evaluation.now) (environment a.env.now) a.made.now.path.items a.evaluation.now.turns 0 a.body.now (state_at a.evaluation.now)) _ c.put_back.result c.put_back.ensures.stopped;
+          (turns_do (setting a.evaluation.now) (environment_in a.evaluation.now.scene.checked.now a.env.now) a.made.now.path.items a.evaluation.now.turns 0 (meant_guarded a.body) (state_at a.evaluation.now)) _ c.put_back.result c.put_back.ensures.stopped;
     })
 
 pub walk_turns-returns-in_err-walk_next : goal.walk_turns-returns-in_err-walk_next
@@ -246,13 +246,13 @@ walk_turns-returns-in_err-walk_next g t c =
     let l = c.loop-turn in
     let under = l.invariant.underway in
     follows_same (shape_at a.evaluation.now) _ _ _ _ _
-    (iterate_does a.evaluation.now (environment a.env.now) a.made.now.path.items a.body.now)
+    (iterate_does a.evaluation.now (environment_in a.evaluation.now.scene.checked.now a.env.now) a.made.now.path.items (meant_guarded a.body))
     (record {
       count = search rules;
       path = search rules;
       formed = search rules;
-      exhausted = turn_stops (setting a.evaluation.now) (environment a.env.now) a.made.now.path.items
-          (shape_at a.evaluation.now) (state_at a.evaluation.now) _ _ _ _ a.evaluation.now.turns a.body.now l.turn under
+      exhausted = turn_stops (setting a.evaluation.now) (environment_in a.evaluation.now.scene.checked.now a.env.now) a.made.now.path.items
+          (shape_at a.evaluation.now) (state_at a.evaluation.now) _ _ _ _ a.evaluation.now.turns (meant_guarded a.body) l.turn under
           l.made.path.items c.from.result l.invariant.same_path c.loop-turn-test.true c.from.ensures
           c.walk_next.new.made.path.items c.walk_next.result c.from_residual.result c.in_err-walk_next.field-0.0 c.in_err-walk_next.was c.from_residual.ensures.1
           (c.walk_next.ensures.exhausted under.set under.stands under.consistent);
@@ -267,8 +267,8 @@ walk_turns-returns g t c =
       path = search rules;
       formed = search rules;
       exhausted = ap (λ (o : Outcome). o.result)
-          (sym (iterate_does a.evaluation.now (environment a.env.now) a.made.now.path.items a.body.now))
-          ∙ turns_stop (setting a.evaluation.now) (environment a.env.now) a.made.now.path.items
-          (shape_at a.evaluation.now) (state_at a.evaluation.now) _ _ _ _ a.evaluation.now.turns a.body.now l.turn l.invariant.underway c.loop-turn-test.false
+          (sym (iterate_does a.evaluation.now (environment_in a.evaluation.now.scene.checked.now a.env.now) a.made.now.path.items (meant_guarded a.body)))
+          ∙ turns_stop (setting a.evaluation.now) (environment_in a.evaluation.now.scene.checked.now a.env.now) a.made.now.path.items
+          (shape_at a.evaluation.now) (state_at a.evaluation.now) _ _ _ _ a.evaluation.now.turns (meant_guarded a.body) l.turn l.invariant.underway c.loop-turn-test.false
           ∙ ap Exhausted (sym l.invariant.same_path);
     }

@@ -1,8 +1,8 @@
 use Rattle.std.proofs.Common.{◌≡◌, ◌-◌, drop}
 use Rattle.asm_state.specs.Signature.{count_of}
 use Rattle.asm_syntax.specs.Tree as tree
-use Rattle.asm_eval.specs.Environments.{environment}
-use Rattle.asm_eval.specs.Evaluated.{setting, shape_at, state_at, meant, meant_rules}
+use Rattle.asm_eval.specs.Environments.{environment_in}
+use Rattle.asm_eval.specs.Evaluated.{setting, shape_at, state_at, meant, meant_guarded, meant_rules}
 use Rattle.asm_eval.proofs.FormedRules.{left_to_form, rules_do_in_order, turns_do}
 use Rattle.asm_eval.proofs.Sequences.{IsUnderway}
 use Rattle.asm_eval.proofs.walk.+walk.Given as goal
@@ -22,10 +22,13 @@ abbrev pub decreases-walk_in_order : goal.decreases-walk_in_order
 decreases-walk_in_order g l = left_to_form l.evaluation.now.scene.checked.now 0 (tree.Seq (meant_rules l.rules.now))
 
 abbrev pub decreases-walk_turns : goal.decreases-walk_turns
-decreases-walk_turns g l = left_to_form l.evaluation.now.scene.checked.now 0 (tree.Iterate (meant l.body.now))
+decreases-walk_turns g l = left_to_form l.evaluation.now.scene.checked.now 0 (tree.Iterate (meant_guarded l.body))
 
 abbrev pub decreases-walk_next : goal.decreases-walk_next
-decreases-walk_next g l = left_to_form l.evaluation.now.scene.checked.now 3 (meant l.rule.now)
+decreases-walk_next g l = left_to_form l.evaluation.now.scene.checked.now 4 (meant_guarded l.guarded)
+
+abbrev pub decreases-walk_guarded : goal.decreases-walk_guarded
+decreases-walk_guarded g l = left_to_form l.evaluation.now.scene.checked.now 3 (meant_guarded l.guarded)
 
 -- ---- the loops
 
@@ -37,8 +40,8 @@ invariant-walk_in_order-loop-i g l = record {
   same_before : l.before ≡ l.initial.before;
   counted : l.so_far.count ≡ count_of (shape_at l.evaluation);
   underway : IsUnderway (shape_at l.evaluation) (state_at l.evaluation)
-      (rules_do_in_order (setting l.evaluation) (environment l.env) l.initial.made.path.items 0 l.rules (state_at l.evaluation))
-      (rules_do_in_order (setting l.evaluation) (environment l.env) l.initial.made.path.items l.i (drop l.i l.rules))
+      (rules_do_in_order (setting l.evaluation) (environment_in l.evaluation.scene.checked.now l.env) l.initial.made.path.items 0 l.rules (state_at l.evaluation))
+      (rules_do_in_order (setting l.evaluation) (environment_in l.evaluation.scene.checked.now l.env) l.initial.made.path.items l.i (drop l.i l.rules))
       l.so_far l.initial.made.instances l.made.instances;
 }
 
@@ -50,7 +53,7 @@ invariant-walk_turns-loop-turn g l = record {
   same_before : l.before ≡ l.initial.before;
   counted : l.so_far.count ≡ count_of (shape_at l.evaluation);
   underway : IsUnderway (shape_at l.evaluation) (state_at l.evaluation)
-      (turns_do (setting l.evaluation) (environment l.env) l.initial.made.path.items l.evaluation.turns 0 l.body (state_at l.evaluation))
-      (turns_do (setting l.evaluation) (environment l.env) l.initial.made.path.items (l.evaluation.turns - l.turn) l.turn l.body)
+      (turns_do (setting l.evaluation) (environment_in l.evaluation.scene.checked.now l.env) l.initial.made.path.items l.evaluation.turns 0 (meant_guarded l.body) (state_at l.evaluation))
+      (turns_do (setting l.evaluation) (environment_in l.evaluation.scene.checked.now l.env) l.initial.made.path.items (l.evaluation.turns - l.turn) l.turn (meant_guarded l.body))
       l.so_far l.initial.made.instances l.made.instances;
 }

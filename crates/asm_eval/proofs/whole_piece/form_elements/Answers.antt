@@ -1,7 +1,7 @@
 use Rattle.std.proofs.Common.{◌∙◌, ap, sym, subst, length, arith}
 use Rattle.asm_syntax.specs.Tree as tree
 use Rattle.asm_syntax.specs.declared.rule.Rule.{Rule}
-use Rattle.asm_eval.specs.Environments.{environment}
+use Rattle.asm_eval.specs.Environments.{environment_in}
 use Rattle.asm_eval.specs.Evaluated.{setting, shape_at, state_at, meant}
 use Rattle.asm_eval.specs.Pieces.{IsPartOf, IsInterval, span_does}
 use Rattle.asm_eval.specs.Valued.{condition}
@@ -36,15 +36,15 @@ returns-in_default-universe_of g c =
     let same = forall_meant a.rule.now it.name it.over it.test it.body it.is in
     let interval : IsInterval s.program it.over.text a.from a.to = subst (λ (R : tree.Rule). IsPartOf s.program R (part.Span a.from a.to)) same c.requires.part in
     follows_nothing (shape_at a.evaluation.now) tt _ a.made.now
-    (span_of_nothing s (state_at a.evaluation.now) (environment a.env.now) a.made.now.path.items it.name.text it.over.text (condition it.test) (meant it.body.value) a.from a.to
+    (span_of_nothing s (state_at a.evaluation.now) (environment_in a.evaluation.now.scene.checked.now a.env.now) a.made.now.path.items it.name.text it.over.text (condition it.test) (meant it.body.value) a.from a.to
     interval c.in_default-universe_of.ensures.none
-    ∙ ap (λ (R : tree.Rule). span_does s (state_at a.evaluation.now) (environment a.env.now) a.made.now.path.items R a.from a.to) (sym same))
+    ∙ ap (λ (R : tree.Rule). span_does s (state_at a.evaluation.now) (environment_in a.evaluation.now.scene.checked.now a.env.now) a.made.now.path.items R a.from a.to) (sym same))
 
 pub returns : goal.returns
 returns g c =
     let a = c.args in
     let it = c.in-Forall in
-    let does = λ (R : tree.Rule). span_does (setting a.evaluation.now) (state_at a.evaluation.now) (environment a.env.now) a.made.now.path.items R a.from a.to in
+    let does = λ (R : tree.Rule). span_does (setting a.evaluation.now) (state_at a.evaluation.now) (environment_in a.evaluation.now.scene.checked.now a.env.now) a.made.now.path.items R a.from a.to in
     follows_same (shape_at a.evaluation.now) c.form_span.result _ _ _ _
     (ap (λ (P : Rule). does (tree.Forall it.name.text it.over.text (condition it.test) (meant P))) c.deref.ensures
     ∙ ap does (sym (forall_meant a.rule.now it.name it.over it.test it.body it.is)))

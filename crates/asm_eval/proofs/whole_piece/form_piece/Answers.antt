@@ -1,5 +1,5 @@
 use Rattle.std.proofs.Common.{◌≡◌, ◌∙◌, ◌++◌, List, ℕ, ap, subst}
-use Rattle.asm_eval.specs.Environments.{environment}
+use Rattle.asm_eval.specs.Environments.{environment_in}
 use Rattle.asm_eval.specs.Evaluated.{setting, shape_at, state_at, meant}
 use Rattle.asm_eval.specs.Pieces.{IsPartOf, span_does}
 use Rattle.asm_eval.specs.Setting.{outcome}
@@ -19,8 +19,8 @@ returns-in-Whole g c =
     let A = state_at a.evaluation.now in
     let path : c.extend_from_slice.new.self.items ≡ a.piece.now.path = c.in_ok-extend_from_slice.ensures.items ∙ ap (λ (ns : List ℕ). ns ++ c.as_slice.result.now) c.clear.ensures.items ∙ c.as_slice.ensures in
     let follows = follows_same (shape_at a.evaluation.now) c.form.result _ _ _ _
-    (ap (λ q. outcome s A (environment a.piece.now.env) q (meant a.piece.now.rule.now)) path
-    ∙ is_whole s A (environment a.piece.now.env) a.piece.now.path (meant a.piece.now.rule.now) a.piece.now.part c.in-Whole.is)
+    (ap (λ q. outcome s A (environment_in a.evaluation.now.scene.checked.now a.piece.now.env) q (meant a.piece.now.rule.now)) path
+    ∙ is_whole s A (environment_in a.evaluation.now.scene.checked.now a.piece.now.env) a.piece.now.path (meant a.piece.now.rule.now) a.piece.now.part c.in-Whole.is)
     c.form.ensures in
     record { count = follows.count; formed = follows.formed; exhausted = follows.exhausted }
 
@@ -31,7 +31,7 @@ returns-in-Span g c =
     let A = state_at a.evaluation.now in
     let path : c.extend_from_slice.new.self.items ≡ a.piece.now.path = c.in_ok-extend_from_slice.ensures.items ∙ ap (λ (ns : List ℕ). ns ++ c.as_slice.result.now) c.clear.ensures.items ∙ c.as_slice.ensures in
     let follows = follows_same (shape_at a.evaluation.now) c.form_elements.result _ _ _ _
-    (ap (λ q. span_does s A (environment a.piece.now.env) q (meant a.piece.now.rule.now) c.in-Span.from c.in-Span.to) path
-    ∙ is_span s A (environment a.piece.now.env) a.piece.now.path (meant a.piece.now.rule.now) a.piece.now.part c.in-Span.from c.in-Span.to c.in-Span.is)
+    (ap (λ q. span_does s A (environment_in a.evaluation.now.scene.checked.now a.piece.now.env) q (meant a.piece.now.rule.now) c.in-Span.from c.in-Span.to) path
+    ∙ is_span s A (environment_in a.evaluation.now.scene.checked.now a.piece.now.env) a.piece.now.path (meant a.piece.now.rule.now) a.piece.now.part c.in-Span.from c.in-Span.to c.in-Span.is)
     c.form_elements.ensures in
     record { count = follows.count; formed = follows.formed; exhausted = follows.exhausted }

@@ -2,11 +2,11 @@ use Rattle.std.proofs.Common.{◌≡◌, refl, sym, ap, ◌∙◌, true, false, 
 use Rattle.std.proofs.lemmas.Result.{err_from_is_err_and}
 use Rattle.asm_syntax.specs.declared.token.Kind.{Kind}
 use Rattle.asm_syntax.specs.Views.{rule_of}
-use Rattle.asm_syntax.specs.ViewCases.{rule_of-Par, rule_of-Seq, rule_of-Let, rule_of-Forall, rule_of-Iterate}
+use Rattle.asm_syntax.specs.ViewCases.{rule_of-Par, rule_of-Seq, rule_of-Let, rule_of-Forall, rule_of-Iterate, rule_of-While}
 use Rattle.asm_reader.specs.Kinds.{begins}
 use Rattle.asm_reader.specs.Steps.{each_of, repeated_of}
 use Rattle.asm_reader.specs.TermReading.{term_at}
-use Rattle.asm_reader.specs.RuleReading.{rule_starts, rule_at, par_at, seq_at, if_at, let_at, forall_at, choose_at, iterate_at}
+use Rattle.asm_reader.specs.RuleReading.{rule_starts, rule_at, par_at, seq_at, if_at, let_at, forall_at, choose_at, iterate_at, while_at}
 use Rattle.asm_reader.proofs.Loops.{with_front, turn_seen, one_before, no_turn, bad_turn}
 use Rattle.asm_reader.proofs.TermSteps.{below_less}
 use Rattle.asm_reader.proofs.RuleSteps.{several_is}
@@ -189,3 +189,25 @@ iterate-returns-in_err-expect t c =
 pub iterate-returns : goal.iterate-returns
 unfolding iterate_at
 iterate-returns t c = rw (below_less (rule_at c.args.text.now) c.args.levels c.in_ok-enter.ensures.left, c.in_ok-enter.ensures.read, c.in_ok-body.ensures, c.in_ok-expect.ensures.read) (rw (rule_of-Iterate c.in_ok-body-2.body, c.in_ok-body-2.ensures.ok) refl)
+
+pub while_rule-returns-in_err-expect : goal.while_rule-returns-in_err-expect
+unfolding while_at
+while_rule-returns-in_err-expect t c =
+    let p = err_from_is_err_and c.from_residual-in_err-expect.result c.from_residual-in_err-expect.ensures.1 in
+    rw (p.1, p.2) (λ reason is. rw (below_less (term_at c.args.text.now) c.args.levels c.in_ok-enter.ensures.left, c.in_ok-enter.ensures.read, c.in_ok-test.ensures, c.in_err-expect.ensures.read reason is) (refl {a = Err reason}))
+
+pub while_rule-returns-in_err-body : goal.while_rule-returns-in_err-body
+unfolding while_at
+while_rule-returns-in_err-body t c =
+    let p = err_from_is_err_and c.from_residual-in_err-body.result c.from_residual-in_err-body.ensures.1 in
+    rw (p.1, p.2) (λ reason is. rw (below_less (term_at c.args.text.now) c.args.levels c.in_ok-enter.ensures.left, below_less (rule_at c.args.text.now) c.args.levels c.in_ok-enter.ensures.left, c.in_ok-enter.ensures.read, c.in_ok-test.ensures, c.in_ok-expect.ensures.read, c.in_err-body.ensures reason is) (refl {a = Err reason}))
+
+pub while_rule-returns-in_err-expect-2 : goal.while_rule-returns-in_err-expect-2
+unfolding while_at
+while_rule-returns-in_err-expect-2 t c =
+    let p = err_from_is_err_and c.from_residual-in_err-expect-2.result c.from_residual-in_err-expect-2.ensures.1 in
+    rw (p.1, p.2) (λ reason is. rw (below_less (term_at c.args.text.now) c.args.levels c.in_ok-enter.ensures.left, below_less (rule_at c.args.text.now) c.args.levels c.in_ok-enter.ensures.left, c.in_ok-enter.ensures.read, c.in_ok-test.ensures, c.in_ok-expect.ensures.read, c.in_ok-body.ensures, c.in_err-expect-2.ensures.read reason is) (refl {a = Err reason}))
+
+pub while_rule-returns : goal.while_rule-returns
+unfolding while_at
+while_rule-returns t c = rw (below_less (term_at c.args.text.now) c.args.levels c.in_ok-enter.ensures.left, below_less (rule_at c.args.text.now) c.args.levels c.in_ok-enter.ensures.left, c.in_ok-enter.ensures.read, c.in_ok-test.ensures, c.in_ok-expect.ensures.read, c.in_ok-body.ensures, c.in_ok-expect-2.ensures.read) (rw (rule_of-While c.in_ok-test.test c.in_ok-body-2.body, c.in_ok-body-2.ensures.ok) refl)

@@ -1,6 +1,5 @@
 use Rattle.std.proofs.Common.{◌≡◌, length}
-use Rattle.asm_check.specs.Names.{AsRule}
-use Rattle.asm_check.proofs.Collecting.{on_ok, adds_applied}
+use Rattle.asm_check.proofs.Collecting.{on_ok, adds_called}
 use Rattle.asm_check.proofs.collector.Collector.call.Goals as goal
 
 pub returns : goal.returns
@@ -8,4 +7,4 @@ returns c =
     let ok = c.args.arguments.now.ok in
     let len = c.len.ensures in
     let count : c.len.result ≡ length c.args.arguments.now.items = cc in
-    on_ok _ (adds_applied AsRule c.args.name.now c.args.arguments.now.items c.len.result _ _ _ count c.in_ok-add.ensures) c.terms.ensures
+    on_ok _ (adds_called _ _ _ c.args.name.now c.args.arguments.now.items c.len.result _ _ _ _ c.rule_role.ensures count c.in_ok-target.ensures c.in_ok-add.ensures) c.terms.ensures

@@ -1,4 +1,4 @@
-use Rattle.std.proofs.Common.{ap, ◌∙◌, Some}
+use Rattle.std.proofs.Common.{ap, Some}
 use Rattle.std.specs.Prelude.{option_map}
 use Rattle.asm_check.specs.Positions.{is_key}
 use Rattle.asm_check.proofs.Positioned.{found_at}

@@ -1,4 +1,4 @@
-use Rattle.std.proofs.Common.{◌≡◌, ap, sym, subst, refl, ◌∙◌, ◌++◌, ◌∷◌, [], length, cond, Some, None}
+use Rattle.std.proofs.Common.{ap, sym, subst, refl, ◌∙◌, ◌++◌, ◌∷◌, [], length, cond, Some}
 use Rattle.std.specs.Map.{lookup}
 use Rattle.asm_check.specs.Positions.{ArePositions, is_spelled, position_of, is_key}
 use Rattle.asm_check.proofs.Positioned.{more_positions, none_of}

@@ -1,8 +1,7 @@
-use Rattle.std.proofs.Common.{ap, sym, ◌∙◌, Some, None, nat_eq, refl}
+use Rattle.std.proofs.Common.{ap, ◌∙◌, Some, None, nat_eq, refl}
 use Rattle.std.specs.Prelude.{option_map}
 use Rattle.std.specs.Cmp.Lexicographic.{pointwise}
 use Rattle.std.specs.Map.{lookup}
-use Rattle.asm_check.specs.Positions.{position_of}
 use Rattle.asm_check.proofs.Positioned.{found_at}
 use Rattle.asm_check.proofs.numbered_names.NumberedNames.get.Goals as goal
 

@@ -1,6 +1,4 @@
-use Rattle.std.proofs.Common.{sym, ap, refl, ◌∙◌}
-use Rattle.asm_check.specs.Names.{is_among}
-use Rattle.asm_check.specs.Shapes.{texts_of}
+use Rattle.std.proofs.Common.{refl}
 use Rattle.asm_check.specs.Tables.{meaning_of}
 use Rattle.asm_check.proofs.Numbered.{numbering_grows}
 use Rattle.asm_check.proofs.numbering.Numbering.add.Goals as goal
