@@ -4,7 +4,7 @@ ghost use Rattle.asm_check.specs.contracts.checked.Checked.{the_row};
 
 use crate::numbering::Numbering;
 use asm_state::signature::Signature;
-use asm_syntax::rule::Rule;
+use asm_syntax::shared::rules_are_shared;
 use asm_syntax::spec::Given;
 use asm_syntax::term::Term;
 
@@ -13,7 +13,7 @@ pub fn checked_is_shared()
     ensures { IsSync the_row }
 {
     is_shared::<Term>();
-    is_shared::<Rule>();
+    rules_are_shared();
     is_shared::<Given>();
     is_shared::<Signature>();
     is_shared::<Numbering>();

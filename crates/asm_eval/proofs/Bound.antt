@@ -21,7 +21,7 @@ position_cons test y ys = by (test y)
     by true = grind (arith)
     by false = grind (arith)
 
-abbrev is_of : Name → syntax.Name → Bool
+abbrev pub is_of : Name → syntax.Name → Bool
 is_of x y = is_name (text_of y) x
 
 abbrev pub value_at : List Value → Option ℕ → Option Binding

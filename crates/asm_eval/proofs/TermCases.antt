@@ -135,7 +135,6 @@ module _ (program : Program) where
         | true ↦ refl
         | false ↦ look_up_readings e x
       ]
-
   look_up_readings (with_location y l e) x =
       elim (is_name y x) as (λ b. cond b (Some (λ A. read A l)) (look_up (readings_of program e) x) ≡ reading_at (cond b (Some (ToLocation l)) (bound_to e x))) [
         | true ↦ refl

@@ -71,7 +71,6 @@ unbound (with_term y t caller e) x free =
       | true ↦ λ h. cc
       | false ↦ λ h. unbound e x h
     ] free
-
 unbound (with_location y l e) x free =
     elim (is_name y x) as (λ b. ◌≡◌ {A = Option Binding} (cond b (Some (ToLocation l)) (bound_to e x)) None → (b || is_among (names_of e) x) ≡ false) [
       | true ↦ λ h. cc

@@ -4,9 +4,9 @@
 --     environment_in checked e     the same in the signature of a specification
 --     binding shape found          what a look-up answered
 --     bound_around                 what a name is bound to around other bindings
-use Rattle.std.specs.Prelude.{List, ℕ, map, Option, Some, None, slice_get, option_map}
+use Rattle.std.specs.Prelude.{◌<◌, List, ℕ, map, Option, Some, None, slice_get, option_map}
 use Rattle.asm_state.specs.Location.{Location}
-use Rattle.asm_state.specs.Signature.{Shape, locations}
+use Rattle.asm_state.specs.Signature.{Shape, count_of, locations}
 use Rattle.asm_check.specs.Shapes.{shape_of}
 use Rattle.asm_check.specs.declared.checked.Checked.{Checked}
 use Rattle.asm_syntax.specs.Views.{term_of, terms_of, spec_of}
@@ -44,6 +44,13 @@ module _ (shape : Shape) where
   binding (found.Known v) = Some (ToValue v)
   binding (found.ByName t caller) = Some (ToTerm (plain_term (term_of t.now)) (environment caller.now))
   binding (found.Located n) = option_map ToLocation (location_numbered shape (Some n))
+
+-- a location that is found is one of the signature
+abbrev pub IsWithin : Shape → Found → Type 0
+IsWithin shape (found.Located n) = n < count_of shape
+IsWithin shape found.Unbound = Unit {0}
+IsWithin shape (found.Known v) = Unit {0}
+IsWithin shape (found.ByName t caller) = Unit {0}
 
 abbrev pub environment_in : Checked → Env → Environment
 environment_in checked e = environment (shape_of (spec_of checked.spec)) e

@@ -1,11 +1,11 @@
 //! What a name is bound to in an environment.
-ghost use Rattle.std.specs.Prelude.{◌≡◌, Some, IfSome, IfNone, slice_index_or};
+ghost use Rattle.std.specs.Prelude.{◌≡◌, ◌<◌, Some, IfSome, IfNone, slice_index_or};
 ghost use Rattle.std.specs.List.{position};
 ghost use Rattle.std.specs.Option.{option_map};
 ghost use Rattle.asm_state.specs.declared.value.Value.TheVariants.{Undef};
-ghost use Rattle.asm_state.specs.Signature.{Shape};
+ghost use Rattle.asm_state.specs.Signature.{Shape, count_of};
 ghost use Rattle.asm_syntax.specs.Tree as tree;
-ghost use Rattle.asm_eval.specs.Environments.{environment, binding, bound_around, location_numbered, text_of, beside};
+ghost use Rattle.asm_eval.specs.Environments.{IsWithin, environment, binding, bound_around, location_numbered, text_of, beside};
 ghost use Rattle.asm_eval.specs.Program.{Environment, ToLocation, bound_to, is_name};
 
 use crate::env::{Binding, Env};
@@ -17,7 +17,8 @@ use asm_syntax::term::Term;
 /// What the name is bound to, by the innermost binder of its text.
 #[tactic(auto, using(crate::proofs::Bound::bound_value, crate::proofs::Bound::bound_term))]
 pub(crate) fn find<'a>(signature: &Signature, env: &'a Env<'a>, name: &Name) -> Binding<'a>
-    ensures { (shape : Shape) → signature.now ≡ shape → binding shape result ≡ bound_to (environment shape env.now) name.now.text }
+    ensures bound { (shape : Shape) → signature.now ≡ shape → binding shape result ≡ bound_to (environment shape env.now) name.now.text }
+    ensures within { IsWithin signature.now result }
 {
     let mut rest = env;
     while let Env::One {
@@ -57,6 +58,7 @@ pub(crate) fn find<'a>(signature: &Signature, env: &'a Env<'a>, name: &Name) -> 
 /// The number of the location that the name stands for, if it is `result` and stands for one.
 #[inline(always)]
 fn located(signature: &Signature, answer: Option<usize>, name: &Name) -> Option<usize>
+    ensures within { IfSome result (λ n. n < count_of signature.now) }
     ensures found { IfSome result (λ n. (inner : Environment) → bound_around signature.now name.now.text inner answer ≡ option_map ToLocation (location_numbered signature.now (Some n))) }
     ensures other { IfNone result ((inner : Environment) → bound_around signature.now name.now.text inner answer ≡ bound_to inner name.now.text) }
 {

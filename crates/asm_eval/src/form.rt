@@ -168,13 +168,32 @@ fn form_guarded<'e, P: Picks>(
         None => form_part(alloc, evaluation, env, guarded.rule, number, made),
         Some(test) => {
             made.path.push(number)?;
-            let tested = value(alloc, &evaluation.scene, env, test)?;
-            if is_true(tested) {
-                form_part(alloc, evaluation, env, guarded.rule, 0, made)?;
-            }
+            form_tested(alloc, evaluation, env, test, guarded.rule, made)?;
             made.path.pop();
             Ok(())
         }
+    }
+}
+
+/// Forms a rule if the condition holds.
+#[cycle(form)]
+fn form_tested<'e, P: Picks>(
+    alloc: Global,
+    evaluation: &Evaluation<'_, '_, P>,
+    env: &'e Env<'e>,
+    test: &'e Term,
+    rule: &'e Rule,
+    made: &mut Forming,
+) -> Result<(), Stopped>
+    requires { Fits evaluation.now made.old }
+    ensures { let R = tree.If (meant_term test.now) (meant rule.now) tree.Skip in
+        Follows (shape_at evaluation.now) (outcome_at evaluation.now env.now made.old.path.items R) made.old made.new result }
+{
+    let tested = value(alloc, &evaluation.scene, env, test)?;
+    if is_true(tested) {
+        form_part(alloc, evaluation, env, rule, 0, made)
+    } else {
+        Ok(())
     }
 }
 

@@ -6,7 +6,7 @@ ghost use Rattle.asm_eval.specs.contracts.view.View as view;
 
 use asm_state::signature::Signature;
 use asm_state::state::State;
-use asm_syntax::rule::{Rule, Target};
+use asm_syntax::shared::rules_are_shared;
 use asm_syntax::term::Term;
 use asm_updates::summary::Summary;
 
@@ -17,8 +17,7 @@ pub fn views_and_pieces_are_shared()
     ensures sent { (a : NamedLft) → IsSend (piece.the_row a) }
 {
     is_shared::<Term>();
-    is_shared::<Target>();
-    is_shared::<Rule>();
+    rules_are_shared();
     is_shared::<Signature>();
     is_shared::<State>();
     is_shared::<Summary>();

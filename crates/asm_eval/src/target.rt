@@ -1,15 +1,17 @@
 //! The location that an assignment updates.
-ghost use Rattle.std.specs.Prelude.{◌≡◌, ◌<◌, List, Some, None, map, IfOk, IfSome, IfNone};
+ghost use Rattle.std.specs.Prelude.{◌≡◌, ◌<◌, List, Option, Some, None, map, IfOk, IfSome, IfNone};
 ghost use Rattle.asm_state.specs.declared.function.FunctionKind.TheVariants.{Controlled};
 ghost use Rattle.asm_state.specs.declared.value.Value.{Value};
 ghost use Rattle.asm_state.specs.Signature.{HasKind, count_of, domain_of, location_at};
 ghost use Rattle.asm_state.specs.Tables.{location_in};
+ghost use Rattle.asm_syntax.specs.Views.{spec_of};
+ghost use Rattle.asm_check.specs.Shapes.{shape_of};
 ghost use Rattle.asm_eval.specs.Environments.{environment_in, location_numbered};
 ghost use Rattle.asm_eval.specs.Evaluated.{meant_target, meant_terms};
 ghost use Rattle.asm_eval.specs.Scenes.{scene_value};
 ghost use Rattle.asm_eval.specs.Program as declared;
 ghost use Rattle.asm_eval.specs.Valued.{program, shown};
-ghost use Rattle.asm_eval.specs.Targets.{answering, location as named_location, location_of};
+ghost use Rattle.asm_eval.specs.Targets.{answering, bound_location, location as named_location, location_of};
 
 use crate::env::{Binding, Env};
 use crate::evaluation::Scene;
@@ -36,9 +38,7 @@ pub(crate) fn location<'e>(
     ensures location { IfOk result (λ o. location_numbered scene.now.view.now.signature.now o
         ≡ named_location (program scene.now.checked.now) (shown scene.now.view.now) (environment_in scene.now.checked.now env.now) name.now.text (meant_terms arguments.now)) }
 {
-    if is_result(name)
-        && let Binding::Located(n) = find(scene.view.signature, env, name)
-    {
+    if let Some(n) = bound_number(scene, env, name) {
         return Ok(Some(n));
     }
     let Some(f) = target(scene, name) else {
@@ -48,6 +48,23 @@ pub(crate) fn location<'e>(
     Ok(Some(n))
 }
 
+/// The number of the location that the name is bound to, if it is `result` and bound to one.
+fn bound_number<'e>(scene: &Scene, env: &'e Env<'e>, name: &Name) -> Option<usize>
+    ensures in_range { IfSome result (λ n. n < count_of scene.now.view.now.signature.now) }
+    ensures found { IfSome result (λ n. (it : Option declared.Declared) (vs : List Value) → location_numbered scene.now.view.now.signature.now (Some n)
+        ≡ bound_location (declared.bound_to (environment_in scene.now.checked.now env.now) name.now.text) it vs) }
+    ensures other { IfNone result ((it : Option declared.Declared) (vs : List Value)
+        → bound_location (declared.bound_to (environment_in scene.now.checked.now env.now) name.now.text) it vs ≡ location_of it vs) }
+{
+    if !is_result(name) {
+        return None;
+    }
+    match find(scene.view.signature, env, name) {
+        Binding::Located(n) => Some(n),
+        Binding::Unbound | Binding::Known(_) | Binding::ByName(_, _) => None,
+    }
+}
+
 /// The number of the location that `result` stands for in the body of a rule that is called for this target.
 pub(crate) fn answer<'e>(
     alloc: Global,
@@ -55,7 +72,7 @@ pub(crate) fn answer<'e>(
     env: &'e Env<'e>,
     target: &'e Option<Target>,
 ) -> Result<Option<usize>, AllocError>
-    ensures { IfOk result (λ o. (inner : declared.Environment) → declared.located (location_numbered scene.now.view.now.signature.now o) inner
+    ensures { IfOk result (λ o. (inner : declared.Environment) → declared.located (location_numbered (shape_of (spec_of scene.now.checked.now.spec)) o) inner
         ≡ answering (program scene.now.checked.now) (shown scene.now.view.now) (environment_in scene.now.checked.now env.now) (meant_target target.now) inner) }
 {
     match target {

@@ -1,12 +1,12 @@
 //! The values of terms in a scene.
-ghost use Rattle.std.specs.Prelude.{◌≡◌, ◌≤◌, Some, None, IfOk, length};
-ghost use Rattle.asm_state.specs.Location.{Location};
+ghost use Rattle.std.specs.Prelude.{◌≡◌, ◌≤◌, ◌<◌, None, IfOk, length};
+ghost use Rattle.asm_state.specs.Signature.{count_of, location_at};
 ghost use Rattle.asm_syntax.specs.PlainTree as plain;
 ghost use Rattle.asm_syntax.specs.Tree as tree;
 ghost use Rattle.asm_syntax.specs.Views.{spec_of, term_of};
 ghost use Rattle.asm_check.specs.NumberTables.{IsInRange};
 ghost use Rattle.asm_eval.specs.Declarations.{numbered};
-ghost use Rattle.asm_eval.specs.Environments.{environment_in, location_numbered};
+ghost use Rattle.asm_eval.specs.Environments.{environment_in};
 ghost use Rattle.asm_eval.specs.Scenes.{scene_value, scene_named};
 ghost use Rattle.asm_eval.specs.Program.{bound_to};
 ghost use Rattle.asm_eval.specs.Valued.{program, shown, declared_value};
@@ -121,15 +121,14 @@ fn named<'e>(
     }
 }
 
-/// The content of the location with this number, if there is one: `Undef` at a stray one.
+/// The content of the location with this number: `Undef` at a stray one.
 fn located(scene: &Scene, n: usize) -> Value
-    ensures { (l : Location) → location_numbered scene.now.view.now.signature.now (Some n) ≡ Some l → result ≡ spec.read (shown scene.now.view.now) l }
+    requires { n < count_of scene.now.view.now.signature.now }
+    ensures { result ≡ spec.read (shown scene.now.view.now) (location_at scene.now.view.now.signature.now n) }
 {
-    let signature = scene.view.signature;
-    if n < signature.count() && signature.stray(n).is_none() {
-        scene.view.content(n)
-    } else {
-        Value::Undef
+    match scene.view.signature.stray(n) {
+        Some(_) => Value::Undef,
+        None => scene.view.content(n),
     }
 }
 

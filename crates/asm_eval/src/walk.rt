@@ -8,7 +8,7 @@ ghost use Rattle.asm_check.specs.Shapes.{shape_of};
 ghost use Rattle.asm_eval.specs.Beneath.{has_one_beneath};
 ghost use Rattle.asm_eval.specs.Does.{does};
 ghost use Rattle.asm_eval.specs.Environments.{environment_in};
-ghost use Rattle.asm_eval.specs.Evaluated.{Fits, setting, shape_at, outcome_at, outcome_upon, in_order_at, meant, meant_guarded};
+ghost use Rattle.asm_eval.specs.Evaluated.{Fits, setting, shape_at, outcome_at, outcome_upon, in_order_at, meant, meant_guarded, meant_term};
 ghost use Rattle.asm_eval.specs.Formed.{Follows, FollowsUpon, IsFormed};
 ghost use Rattle.asm_eval.specs.Regions.{TakesRegions, FormsRegions};
 ghost use Rattle.asm_eval.specs.Setting.{setting_with};
@@ -29,6 +29,7 @@ use crate::view::View;
 use asm_check::Checked;
 use asm_reader::Picks;
 use asm_syntax::rule::Rule;
+use asm_syntax::term::Term;
 use asm_updates::summary::Summary;
 use std::alloc::{AllocError, Global};
 use std::mem;
@@ -303,13 +304,39 @@ fn walk_guarded<
         None => walk_part(alloc, regions, evaluation, env, guarded.rule, number, made),
         Some(test) => {
             made.path.push(number)?;
-            let tested = value(alloc, &evaluation.scene, env, test)?;
-            if is_true(tested) {
-                walk_part(alloc, regions, evaluation, env, guarded.rule, 0, made)?;
-            }
+            walk_tested(alloc, regions, evaluation, env, test, guarded.rule, made)?;
             made.path.pop();
             Ok(())
         }
+    }
+}
+
+/// Forms a rule if the condition holds.
+#[cycle(walk)]
+fn walk_tested<
+    'e,
+    P: Picks,
+    F: Fn(Global, &View<'_>, &Env<'_>, &Rule, &mut Forming) -> Result<(), Stopped>,
+>(
+    alloc: Global,
+    regions: &F,
+    evaluation: &Evaluation<'_, '_, P>,
+    env: &'e Env<'e>,
+    test: &'e Term,
+    rule: &'e Rule,
+    made: &mut Forming,
+) -> Result<(), Stopped>
+    requires fits { Fits evaluation.now made.old }
+    requires callable { TakesRegions evaluation.now.scene.checked.now (F.pre regions.now) }
+    requires meets { FormsRegions (setting evaluation.now) (F.post regions.now) }
+    ensures { let R = tree.If (meant_term test.now) (meant rule.now) tree.Skip in
+        Follows (shape_at evaluation.now) (outcome_at evaluation.now env.now made.old.path.items R) made.old made.new result }
+{
+    let tested = value(alloc, &evaluation.scene, env, test)?;
+    if is_true(tested) {
+        walk_part(alloc, regions, evaluation, env, rule, 0, made)
+    } else {
+        Ok(())
     }
 }
 

@@ -15,3 +15,4 @@ pub mod OneAnswer
 pub mod TokenOffsets
 pub mod EachText
 pub mod Examples
+pub mod SharedParts

@@ -9,6 +9,7 @@ pub mod name;
 mod numbers;
 pub mod refused;
 pub mod rule;
+pub mod shared;
 pub mod spec;
 mod symbols;
 pub mod term;

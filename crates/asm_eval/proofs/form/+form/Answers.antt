@@ -1,10 +1,11 @@
-use Rattle.std.proofs.Common.{◌≡◌, Some, None, rules, sym, ap, ◌∙◌, arith, ◌-◌, ◌⊎◌, inl, inr, refl, subst}
+use Rattle.std.proofs.Common.{◌≡◌, map, Some, None, rules, sym, ap, ◌∙◌, arith, ◌-◌, ◌⊎◌, inl, inr, refl, subst}
 use Rattle.std.proofs.lemmas.Bool.{false≢true}
 use Rattle.asm_state.specs.Updates.{IsConsistent, none}
 use Rattle.asm_updates.specs.Entries.{Entries}
 use Rattle.asm_reader.specs.ScriptLines.{pick}
 use Rattle.asm_eval.specs.Does.{Outcome}
-use Rattle.asm_eval.specs.Environments.{environment_in}
+use Rattle.asm_eval.specs.Environments.{environment_in, text_of}
+use Rattle.asm_eval.specs.Program.{bind_terms}
 use Rattle.asm_eval.specs.Evaluated.{setting, shape_at, state_at, meant, meant_guarded, meant_target, meant_terms}
 use Rattle.asm_eval.specs.Formed.{Forms}
 use Rattle.asm_eval.specs.Scenes.{scene_candidates, with_element}
@@ -14,7 +15,7 @@ use Rattle.asm_eval.specs.Value.{is_true}
 use Rattle.asm_eval.specs.Valued.{shown}
 use Rattle.asm_eval.specs.Yields.{at, Exhausted}
 use Rattle.asm_eval.proofs.CalledRules.{call_is_less, called_does, rule_number, not_called_does}
-use Rattle.asm_eval.proofs.FormedRules.{follows_same, follows_nothing, follows_both, follows_counted, follows_stopped, forms_same, in_body, part_is_less, rule_does, skip_does, left_out_does, par_does, first_does, other_does, let_does, chosen_does, none_does, next_rule_does, exhausted_rule_does, no_rule_does, forall_of, seq_does, iterate_does, rules_do_in_order, turns_do}
+use Rattle.asm_eval.proofs.FormedRules.{follows_same, follows_nothing, follows_both, follows_counted, follows_stopped, forms_same, in_body, part_is_less, rule_does, skip_does, left_out_does, par_does, first_does, other_does, passed_does, failed_does, answer_does, let_does, chosen_does, none_does, next_rule_does, exhausted_rule_does, no_rule_does, forall_of, seq_does, iterate_does, rules_do_in_order, turns_do}
 use Rattle.asm_eval.proofs.Sequences.{begins, goes_upon, no_fault_found, fault_found, stopped_for_memory}
 use Rattle.asm_eval.proofs.Spans.{span_left, span_of_all, span_element_does, span_passed_does, span_exhausted_does, span_end_does}
 use Rattle.asm_eval.proofs.OrderedRules.{part_goes_on, part_ends, part_stops, parts_end, turn_goes_on, turn_ends, turn_stops, turns_stop}
@@ -198,11 +199,14 @@ form_call-form_part-requires g t c κs within =
     (sym c.named.ensures.named ∙ c.in-Some-Rule.is ∙ ap Some c.in-Some-Rule.field-0-is) c.rule.ensures in
     (omega (arith, c.decreases, less), (search rules, c.requires))
 
-pub form_call-returns-in-Some-Rule : goal.form_call-returns-in-Some-Rule
-form_call-returns-in-Some-Rule g t c =
+pub form_call-returns-in_ok-answer-in-Some-Rule : goal.form_call-returns-in_ok-answer-in-Some-Rule
+form_call-returns-in_ok-answer-in-Some-Rule g t c =
     let a = c.args in
+    let e = environment_in a.evaluation.now.scene.checked.now a.env.now in
+    let inner = bind_terms (map text_of c.rule.result.0.now) (meant_terms a.arguments.now) e in
     follows_same (shape_at a.evaluation.now) c.form_part.result _ _ _ _
-    (called_does a.evaluation.now (environment_in a.evaluation.now.scene.checked.now a.env.now) a.made.now.path.items (meant_target a.target.now) a.name.now.text a.arguments.now c.in-Some-Rule.r c.rule.result.0.now c.rule.result.1.now
+    (ap (λ there. rule_does a.evaluation.now there (at a.made.now.path.items 0) c.rule.result.1.now) (c.in_ok-answer-in-Some-Rule.ensures inner)
+    ∙ called_does a.evaluation.now e a.made.now.path.items (meant_target a.target.now) a.name.now.text a.arguments.now c.in-Some-Rule.r c.rule.result.0.now c.rule.result.1.now
     (sym c.named.ensures.named ∙ c.in-Some-Rule.is ∙ ap Some c.in-Some-Rule.field-0-is) c.rule.ensures)
     c.form_part.ensures
 
@@ -438,3 +442,25 @@ form_turns-returns g t c =
           (shape_at a.evaluation.now) (state_at a.evaluation.now) _ _ _ _ a.evaluation.now.turns (meant_guarded a.body) l.turn l.invariant.underway c.loop-turn-test.false
           ∙ ap Exhausted (sym l.invariant.same_path);
     }
+
+-- ---- rules behind conditions
+
+pub form_tested-returns-then-is_true : goal.form_tested-returns-then-is_true
+form_tested-returns-then-is_true g t c =
+    let a = c.args in
+    follows_same (shape_at a.evaluation.now) c.form_part.result _ _ _ _
+    (passed_does a.evaluation.now (environment_in a.evaluation.now.scene.checked.now a.env.now) a.made.now.path.items a.test.now (meant a.rule.now) (ap is_true (sym c.in_ok-tested.ensures) ∙ sym c.is_true.ensures ∙ c.if-is_true.true))
+    c.form_part.ensures
+
+pub form_tested-returns-else-is_true : goal.form_tested-returns-else-is_true
+form_tested-returns-else-is_true g t c =
+    let a = c.args in
+    follows_nothing (shape_at a.evaluation.now) tt _ a.made.now
+    (failed_does a.evaluation.now (environment_in a.evaluation.now.scene.checked.now a.env.now) a.made.now.path.items a.test.now (meant a.rule.now) (ap is_true (sym c.in_ok-tested.ensures) ∙ sym c.is_true.ensures ∙ c.if-is_true.false))
+
+pub form-returns-in-SetResult : goal.form-returns-in-SetResult
+form-returns-in-SetResult g t c =
+    let a = c.args in
+    follows_same (shape_at a.evaluation.now) c.assign-in-SetResult.result _ _ _ _
+    (answer_does a.evaluation.now (environment_in a.evaluation.now.scene.checked.now a.env.now) a.made.now.path.items a.rule.now c.in-SetResult.name c.in-SetResult.value c.in-SetResult.is)
+    c.assign-in-SetResult.ensures

@@ -56,6 +56,9 @@ decreases-form_next g l = left_to_form l.evaluation.now.scene.checked.now 4 (mea
 abbrev pub decreases-form_guarded : goal.decreases-form_guarded
 decreases-form_guarded g l = left_to_form l.evaluation.now.scene.checked.now 3 (meant_guarded l.guarded)
 
+abbrev pub decreases-form_tested : goal.decreases-form_tested
+decreases-form_tested g l = left_to_form l.evaluation.now.scene.checked.now 0 (tree.If (meant_term l.test.now) (meant l.rule.now) tree.Skip)
+
 -- ---- the loops
 
 -- whatever follows what the rules do that are left follows what all of them do, from the start on

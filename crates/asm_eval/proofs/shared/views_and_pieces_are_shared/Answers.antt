@@ -10,10 +10,10 @@ use Rattle.asm_eval.proofs.shared.views_and_pieces_are_shared.Goals as goal
 pub returns : goal.returns
 returns c =
     let term : IsSync Term.the_row = record { shared = c.is_shared.ensures.shared } in
-    let rule : IsSync Rule.the_row = record { shared = c.is_shared-3.ensures.shared } in
-    let signature : IsSync Signature.the_row = record { shared = c.is_shared-4.ensures.shared } in
-    let state : IsSync State.the_row = record { shared = c.is_shared-5.ensures.shared } in
-    let summary : IsSync Summary.the_row = record { shared = c.is_shared-6.ensures.shared } in
+    let rule : IsSync Rule.the_row = record { shared = c.rules_are_shared.ensures.shared } in
+    let signature : IsSync Signature.the_row = record { shared = c.is_shared-2.ensures.shared } in
+    let state : IsSync State.the_row = record { shared = c.is_shared-3.ensures.shared } in
+    let summary : IsSync Summary.the_row = record { shared = c.is_shared-4.ensures.shared } in
     record {
       views = λ a. view_shared a signature state summary;
       pieces = λ a. piece_shared a term rule;

@@ -1,13 +1,18 @@
-use Rattle.std.proofs.Common.{[], Some, refl, sym, arith, ap, ◌∙◌, map, take, ◌≡◌, length, subst, IfOk}
+use Rattle.std.proofs.Common.{[], Some, refl, sym, arith, ap, ◌∙◌, map, take, ◌≡◌, ◌<◌, length, subst, IfOk}
+use Rattle.std.specs.Prelude.{option_map}
+use Rattle.std.proofs.lemmas.Option.{slice_get-get_or}
 use Rattle.std.proofs.lemmas.Grind.{common_steps}
 use Rattle.std.proofs.lemmas.List.{length-set, take_all}
 use Rattle.asm_state.proofs.ValueLaws.{value_laws}
+use Rattle.asm_state.specs.Location.{Stray}
+use Rattle.asm_state.specs.Signature.{count_of, locations, location_at}
 use Rattle.asm_syntax.specs.PlainTree as plain
 use Rattle.asm_syntax.specs.Views.{term_of, terms_of, spec_of}
 use Rattle.asm_check.specs.Shapes.{shape_of}
 use Rattle.asm_check.specs.declared.checked.Named.TheVariants as number
 use Rattle.asm_eval.specs.Declarations.{numbered}
-use Rattle.asm_eval.specs.Environments.{environment_in, binding}
+use Rattle.asm_eval.specs.Environments.{IsWithin, environment_in, binding, location_numbered}
+use Rattle.asm_eval.specs.Program.{ToLocation}
 use Rattle.asm_eval.specs.Value as spec
 use Rattle.asm_eval.specs.Valued.{term_value, program, shown, declared_value}
 use Rattle.asm_eval.proofs.Applied.{declared_is_named, none_valued, all_valued, one_more_value}
@@ -80,26 +85,39 @@ pub named-operand-requires : goal.named-operand-requires
 named-operand-requires t c =
     let a = c.args in
     let e = environment_in a.scene.now.checked.now a.env.now in
-    let is = sym (c.find.ensures (shape_of (spec_of a.scene.now.checked.now.spec)) a.scene.now.shaped) ∙ ap (binding (shape_of (spec_of a.scene.now.checked.now.spec))) c.in-ByName.is in
+    let is = sym (c.find.ensures.bound (shape_of (spec_of a.scene.now.checked.now.spec)) a.scene.now.shaped) ∙ ap (binding (shape_of (spec_of a.scene.now.checked.now.spec))) c.in-ByName.is in
     let it = (falls a.scene.now.checked.now e).at_bound a.name.now.text (plain.plain_terms (terms_of (map term_of a.arguments.now))) (plain.plain_term (term_of c.in-ByName.term.now)) (environment_in a.scene.now.checked.now c.in-ByName.caller.now) is in
     omega (arith, c.decreases, it)
 
 pub named-value_of-requires : goal.named-value_of-requires
 named-value_of-requires t c =
     let a = c.args in
-    let unbound = sym (c.find.ensures (shape_of (spec_of a.scene.now.checked.now.spec)) a.scene.now.shaped) ∙ ap (binding (shape_of (spec_of a.scene.now.checked.now.spec))) c.in-Unbound.is in
+    let unbound = sym (c.find.ensures.bound (shape_of (spec_of a.scene.now.checked.now.spec)) a.scene.now.shaped) ∙ ap (binding (shape_of (spec_of a.scene.now.checked.now.spec))) c.in-Unbound.is in
     let it = body_lighter a.scene.now.checked.now (environment_in a.scene.now.checked.now a.env.now) a.name.now.text a.arguments.now c.named.result [] unbound c.named.ensures.named in
     (omega (arith, c.decreases, it), c.named.ensures.in_range)
 
 pub named-returns-in-Known : goal.named-returns-in-Known
 named-returns-in-Known t c =
     let a = c.args in
-    sym ((cases a.scene.now.checked.now a.scene.now.view.now (environment_in a.scene.now.checked.now a.env.now)).of_value a.name.now.text (plain.plain_terms (terms_of (map term_of a.arguments.now))) c.in-Known.value (sym (c.find.ensures (shape_of (spec_of a.scene.now.checked.now.spec)) a.scene.now.shaped) ∙ ap (binding (shape_of (spec_of a.scene.now.checked.now.spec))) c.in-Known.is))
+    sym ((cases a.scene.now.checked.now a.scene.now.view.now (environment_in a.scene.now.checked.now a.env.now)).of_value a.name.now.text (plain.plain_terms (terms_of (map term_of a.arguments.now))) c.in-Known.value (sym (c.find.ensures.bound (shape_of (spec_of a.scene.now.checked.now.spec)) a.scene.now.shaped) ∙ ap (binding (shape_of (spec_of a.scene.now.checked.now.spec))) c.in-Known.is))
+
+pub named-located-requires : goal.named-located-requires
+named-located-requires t c = subst (IsWithin c.args.scene.now.view.now.signature.now) c.in-Located.is c.find.ensures.within
+
+pub named-returns-in-Located : goal.named-returns-in-Located
+named-returns-in-Located t c =
+    let a = c.args in
+    let shape = a.scene.now.view.now.signature.now in
+    let low : c.in-Located.n < count_of shape = subst (IsWithin shape) c.in-Located.is c.find.ensures.within in
+    let bound = sym (c.find.ensures.bound (shape_of (spec_of a.scene.now.checked.now.spec)) a.scene.now.shaped) ∙ ap (binding (shape_of (spec_of a.scene.now.checked.now.spec))) c.in-Located.is
+    ∙ ap (λ s. option_map ToLocation (location_numbered s (Some c.in-Located.n))) (sym a.scene.now.shaped) ∙ ap (option_map ToLocation) (slice_get-get_or (locations shape) c.in-Located.n (Stray 0) low) in
+    let it = (cases a.scene.now.checked.now a.scene.now.view.now (environment_in a.scene.now.checked.now a.env.now)).of_location a.name.now.text (plain.plain_terms (terms_of (map term_of a.arguments.now))) (location_at shape c.in-Located.n) bound in
+    c.located.ensures ∙ sym it
 
 pub named-returns-in-ByName : goal.named-returns-in-ByName
 named-returns-in-ByName t c =
     let a = c.args in
-    let it = (cases a.scene.now.checked.now a.scene.now.view.now (environment_in a.scene.now.checked.now a.env.now)).of_term a.name.now.text (plain.plain_terms (terms_of (map term_of a.arguments.now))) (plain.plain_term (term_of c.in-ByName.term.now)) (environment_in a.scene.now.checked.now c.in-ByName.caller.now) (sym (c.find.ensures (shape_of (spec_of a.scene.now.checked.now.spec)) a.scene.now.shaped) ∙ ap (binding (shape_of (spec_of a.scene.now.checked.now.spec))) c.in-ByName.is) in
+    let it = (cases a.scene.now.checked.now a.scene.now.view.now (environment_in a.scene.now.checked.now a.env.now)).of_term a.name.now.text (plain.plain_terms (terms_of (map term_of a.arguments.now))) (plain.plain_term (term_of c.in-ByName.term.now)) (environment_in a.scene.now.checked.now c.in-ByName.caller.now) (sym (c.find.ensures.bound (shape_of (spec_of a.scene.now.checked.now.spec)) a.scene.now.shaped) ∙ ap (binding (shape_of (spec_of a.scene.now.checked.now.spec))) c.in-ByName.is) in
     subst (λ x. IfOk c.operand.result (λ v. v ≡ x)) (sym it) c.operand.ensures
 
 pub named-returns-then-is_empty : goal.named-returns-then-is_empty
@@ -107,7 +125,7 @@ named-returns-then-is_empty t c =
     let a = c.args in
     let f = term_value a.scene.now.checked.now a.scene.now.view.now (environment_in a.scene.now.checked.now a.env.now) in
     let none : length a.arguments.now ≡ 0 = grind (arith, common_steps, sym c.is_empty.ensures ∙ c.if-is_empty.true) in
-    let unbound = sym (c.find.ensures (shape_of (spec_of a.scene.now.checked.now.spec)) a.scene.now.shaped) ∙ ap (binding (shape_of (spec_of a.scene.now.checked.now.spec))) c.in-Unbound.is in
+    let unbound = sym (c.find.ensures.bound (shape_of (spec_of a.scene.now.checked.now.spec)) a.scene.now.shaped) ∙ ap (binding (shape_of (spec_of a.scene.now.checked.now.spec))) c.in-Unbound.is in
     let it = declared_is_named a.scene.now.checked.now a.scene.now.view.now (environment_in a.scene.now.checked.now a.env.now) a.name.now.text a.arguments.now c.named.result [] unbound c.named.ensures.named (none_valued f a.arguments.now none) in
     subst (λ x. IfOk c.value_of.result (λ v. v ≡ x)) it c.value_of.ensures
 

@@ -14,11 +14,12 @@ use Rattle.asm_eval.specs.Environments.{environment_in}
 use Rattle.asm_eval.specs.Evaluated.{setting, shape_at, state_at, outcome_at, meant, meant_guarded}
 use Rattle.asm_eval.specs.Formed.{Forms}
 use Rattle.asm_eval.specs.Setting.{outcome}
+use Rattle.asm_eval.specs.Value.{is_true}
 use Rattle.asm_eval.specs.Valued.{shown}
 use Rattle.asm_eval.specs.Weights.{rule_weight}
 use Rattle.asm_eval.specs.Yields.{Path, at, Exhausted}
 use Rattle.asm_eval.proofs.BeneathRules.{weighs_less}
-use Rattle.asm_eval.proofs.FormedRules.{follows_same, follows_nothing, forms_same, in_body, part_is_less, seq_does, iterate_does, rules_do_in_order, turns_do}
+use Rattle.asm_eval.proofs.FormedRules.{follows_same, follows_nothing, forms_same, in_body, part_is_less, seq_does, passed_does, failed_does, iterate_does, rules_do_in_order, turns_do}
 use Rattle.asm_eval.proofs.Sequences.{begins, goes_upon, no_fault_found, fault_found, stopped_for_memory}
 use Rattle.asm_eval.proofs.OrderedRules.{part_goes_on, part_ends, part_stops, parts_end, turn_goes_on, turn_ends, turn_stops, turns_stop}
 use Rattle.asm_eval.proofs.walk.+walk.Goals as goal
@@ -272,3 +273,18 @@ walk_turns-returns g t c =
           (shape_at a.evaluation.now) (state_at a.evaluation.now) _ _ _ _ a.evaluation.now.turns (meant_guarded a.body) l.turn l.invariant.underway c.loop-turn-test.false
           ∙ ap Exhausted (sym l.invariant.same_path);
     }
+
+-- ---- rules behind conditions
+
+pub walk_tested-returns-then-is_true : goal.walk_tested-returns-then-is_true
+walk_tested-returns-then-is_true g t c =
+    let a = c.args in
+    follows_same (shape_at a.evaluation.now) c.walk_part.result _ _ _ _
+    (passed_does a.evaluation.now (environment_in a.evaluation.now.scene.checked.now a.env.now) a.made.now.path.items a.test.now (meant a.rule.now) (ap is_true (sym c.in_ok-tested.ensures) ∙ sym c.is_true.ensures ∙ c.if-is_true.true))
+    c.walk_part.ensures
+
+pub walk_tested-returns-else-is_true : goal.walk_tested-returns-else-is_true
+walk_tested-returns-else-is_true g t c =
+    let a = c.args in
+    follows_nothing (shape_at a.evaluation.now) tt _ a.made.now
+    (failed_does a.evaluation.now (environment_in a.evaluation.now.scene.checked.now a.env.now) a.made.now.path.items a.test.now (meant a.rule.now) (ap is_true (sym c.in_ok-tested.ensures) ∙ sym c.is_true.ensures ∙ c.if-is_true.false))

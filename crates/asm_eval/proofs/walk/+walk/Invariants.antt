@@ -2,7 +2,7 @@ use Rattle.std.proofs.Common.{◌≡◌, ◌-◌, drop}
 use Rattle.asm_state.specs.Signature.{count_of}
 use Rattle.asm_syntax.specs.Tree as tree
 use Rattle.asm_eval.specs.Environments.{environment_in}
-use Rattle.asm_eval.specs.Evaluated.{setting, shape_at, state_at, meant, meant_guarded, meant_rules}
+use Rattle.asm_eval.specs.Evaluated.{setting, shape_at, state_at, meant, meant_guarded, meant_rules, meant_term}
 use Rattle.asm_eval.proofs.FormedRules.{left_to_form, rules_do_in_order, turns_do}
 use Rattle.asm_eval.proofs.Sequences.{IsUnderway}
 use Rattle.asm_eval.proofs.walk.+walk.Given as goal
@@ -29,6 +29,9 @@ decreases-walk_next g l = left_to_form l.evaluation.now.scene.checked.now 4 (mea
 
 abbrev pub decreases-walk_guarded : goal.decreases-walk_guarded
 decreases-walk_guarded g l = left_to_form l.evaluation.now.scene.checked.now 3 (meant_guarded l.guarded)
+
+abbrev pub decreases-walk_tested : goal.decreases-walk_tested
+decreases-walk_tested g l = left_to_form l.evaluation.now.scene.checked.now 0 (tree.If (meant_term l.test.now) (meant l.rule.now) tree.Skip)
 
 -- ---- the loops
 
