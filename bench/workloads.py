@@ -103,6 +103,21 @@ def turns(count):
     )
 
 
+def whiles(count):
+    """A `while` of so many turns, the last of which is empty."""
+    return HEAD + COUNTED + f"rule M = seq x := 0 while x < {count - 1} do x := x + 1 endwhile endseq\n"
+
+
+def answers(count):
+    """So many calls that answer, by a hundred elements in each turn: each reads its own location and, by name, its neighbour's."""
+    return (
+        HEAD + "universe I = 0 .. 99\nfunction controlled f : I initially 1\n" + COUNTED
+        + f"rule M = seq x := 0 while x < {count // 100} do par x := x + 1 forall i in I do f(i) <- Mix(f((i + 1) mod 100) + i * x) endforall endpar"
+        " endwhile endseq\n"
+        "rule Mix(n) = seq result := result * 3 + n result := result mod 1000 endseq\n"
+    )
+
+
 def fresh(rows):
     """A turn for each of so many rows and 127 columns, which changes a location that no turn before has changed, and reads the last one."""
     return (
@@ -161,9 +176,12 @@ class Workload:
     script: Optional[Callable[[int], str]] = None
     # How many calls of the program make one run: more than one where a call is short.
     calls: int = 1
+    # The limit of turns, where it isn't the usual one.
+    turns: Optional[int] = None
 
     def words(self, size):
-        return ["--steps", str(self.steps if self.steps is not None else size)]
+        limit = ["--turns", str(self.turns)] if self.turns else []
+        return ["--steps", str(self.steps if self.steps is not None else size), *limit]
 
 
 WORKLOADS = {
@@ -183,6 +201,8 @@ WORKLOADS = {
     "scripted": Workload("rows of 64", 64, grid, 300, script=grid_script),
     # Sequences, iteration and calls.
     "turns": Workload("turns", 1_000_000, turns, 5),
+    "while": Workload("turns", 1_000_000, whiles, 5, turns=1_000_000),
+    "answers": Workload("calls", 100_000, answers, 10, turns=1_000_000),
     # Nearly as many locations as a text may have, each changed by a turn of its own.
     "fresh": Workload("rows of 127", 128, fresh, 40),
     "parts": Workload("parts", 4096, parts, 1000),

@@ -115,7 +115,7 @@ impl<'a> Evaluator<'a> {
             Kind::Ge => return truth(x >= y),
             _ => return UNDEF,
         };
-        if n.abs() <= self.p.most {
+        if n.unsigned_abs() <= self.p.most as u64 {
             number(n)
         } else {
             UNDEF

@@ -77,7 +77,6 @@ pub struct Parser<'p> {
     pub t: &'p [Token],
     pub i: usize,
     pub depth: u32,
-    pub new: bool,
     pub saw_result: bool,
 }
 
@@ -287,8 +286,8 @@ impl<'p> Parser<'p> {
         use Kind::*;
         matches!(
             self.k(),
-            Name | Skip | Par | Seq | If | Let | Forall | Choose | Iterate
-        ) || (self.new && matches!(self.k(), While | Result))
+            Name | Skip | Par | Seq | If | Let | Forall | Choose | Iterate | While | Result
+        )
     }
     pub fn block(&mut self, end: Kind) -> Parsed<Vec<RuleTree>> {
         self.deeper()?;
@@ -391,7 +390,7 @@ impl<'p> Parser<'p> {
                 let args = self.list(|p| p.expr(0))?;
                 if self.opt(Kind::Becomes) {
                     RuleTree::Set(f, args, self.expr(0)?)
-                } else if self.new && self.opt(Kind::Into) {
+                } else if self.opt(Kind::Into) {
                     let r = self.name()?;
                     RuleTree::Into(f, args, r, self.list(|p| p.expr(0))?)
                 } else {
@@ -446,7 +445,7 @@ impl<'p> Parser<'p> {
                 let n = self.name()?;
                 Ok(TermTree::Ref(n, self.list(|p| p.expr(0))?))
             }
-            Kind::Result if self.new => {
+            Kind::Result => {
                 self.saw_result = true;
                 let at = self.t[self.i].at;
                 self.i += 1;

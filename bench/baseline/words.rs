@@ -116,8 +116,7 @@ pub fn words() -> Option<(Option<String>, Option<String>, HashMap<String, u64>)>
             "--workers" => (1, 32),
             "--cut" => (1, 4096),
             "--rounds" => (0, 64),
-            "--edition" => (13, 15),
-            "--stage" => (0, 99),
+            "--edition" => (14, 15),
             _ => return None,
         };
         let x: u64 = v.parse().ok()?;
@@ -135,7 +134,7 @@ pub fn status() -> i32 {
         return 4;
     };
     let get = |k: &str, d: u64| *n.get(k).unwrap_or(&d);
-    let edition = get("--edition", 13);
+    let edition = get("--edition", 14);
     let Some(text) = slurp(spec.as_deref()) else {
         eprintln!("file");
         return 3;
@@ -165,7 +164,6 @@ pub fn status() -> i32 {
             t: &t,
             i: 0,
             depth: 0,
-            new: edition >= 14,
             saw_result: false,
         };
         let items = p.spec()?;

@@ -2,7 +2,7 @@
 use asm_state::function::FunctionKind;
 use asm_state::operation::Op;
 use asm_syntax::name::Name;
-use asm_syntax::rule::Rule;
+use asm_syntax::rule::{Rule, Target};
 use asm_syntax::spec::{Const, Entry, Given, Item, Spec};
 use asm_syntax::term::{Literal, Term};
 use std::alloc::{AllocError, Global};
@@ -101,6 +101,7 @@ fn push_term(out: &mut String, term: &Term) -> Pushed {
             push_binding(out, "(forall ", name, over)?;
             push_operand(out, " holds ", test)
         }
+        Term::Answer(name) => push_name(out, name),
     }
 }
 
@@ -125,6 +126,17 @@ fn push_condition(out: &mut String, test: &Option<Term>) -> Pushed {
         Some(test) => {
             out.push_str(" with ")?;
             push_term(out, test)
+        }
+    }
+}
+
+/// Where the answer of a call goes, if it goes anywhere.
+fn push_target(out: &mut String, target: &Option<Target>) -> Pushed {
+    match target {
+        None => Ok(()),
+        Some(target) => {
+            push_applied(out, &target.name, &target.arguments)?;
+            out.push_str(" <- ")
         }
     }
 }
@@ -178,9 +190,30 @@ fn push_rule(out: &mut String, rule: &Rule) -> Pushed {
             out.push_str(" := ")?;
             push_term(out, value)
         }
-        Rule::Call { name, arguments } => push_applied(out, name, arguments),
+        Rule::SetResult { name, value } => {
+            push_name(out, name)?;
+            out.push_str(" := ")?;
+            push_term(out, value)
+        }
+        Rule::Call {
+            target,
+            name,
+            arguments,
+        } => {
+            push_target(out, target)?;
+            push_applied(out, name, arguments)
+        }
         Rule::Par(rules) => push_rules(out, "par{", rules),
         Rule::Seq(rules) => push_rules(out, "seq{", rules),
+        Rule::Iterate(body) => push_body(out, "iterate{", body),
+        _ => push_tested(out, rule),
+    }
+}
+
+/// A rule with a condition in front.
+#[cycle(printed_rules)]
+fn push_tested(out: &mut String, rule: &Rule) -> Pushed {
+    match rule {
         Rule::If { test, yes, no } => {
             out.push_str("if{")?;
             push_term(out, test)?;
@@ -188,7 +221,11 @@ fn push_rule(out: &mut String, rule: &Rule) -> Pushed {
             push_rule(out, yes)?;
             push_branch(out, " else ", no)
         }
-        Rule::Iterate(body) => push_body(out, "iterate{", body),
+        Rule::While { test, body } => {
+            out.push_str("while{")?;
+            push_term(out, test)?;
+            push_body(out, " do ", body)
+        }
         _ => push_binder(out, rule),
     }
 }

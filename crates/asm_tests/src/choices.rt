@@ -45,7 +45,8 @@ impl Picks for Counting {
 const BEFORE: &str = "CoreASM T init M \
 enum Color = { red, green, blue } enum Two = { one, two } universe Idx = 0 .. 2 universe Empty = 1 .. 0 \
 function controlled c : Idx function controlled x \
-rule Pick(n) = choose i in Idx do x := i endchoose rule M = ";
+rule Pick(n) = choose i in Idx do x := i endchoose \
+rule Count(n) = seq result := n choose i in Idx with i > 0 do result := result + i endchoose endseq rule M = ";
 
 /// The specification with a main rule with this body.
 pub fn specification(alloc: Global, body: &str) -> Result<Checked, Fail> {
@@ -78,7 +79,7 @@ fn yielded(alloc: Global, body: &str) -> Result<(Outcome, u64), Fail> {
 }
 
 /// Bodies, and how often they ask.
-pub static ASKING: [(&str, u64); 23] = [
+pub static ASKING: [(&str, u64); 25] = [
     ("skip", 0),
     ("choose k in Color do skip endchoose", 1),
     ("choose k in Color with k != red do skip endchoose", 1),
@@ -145,6 +146,11 @@ pub static ASKING: [(&str, u64); 23] = [
         "seq x := 0 iterate choose i in Idx with i > x do x := i endchoose enditerate endseq",
         2,
     ),
+    (
+        "seq x := 0 while x < 2 do choose i in Idx with i > x do x := i endchoose endwhile endseq",
+        2,
+    ),
+    ("c(0) <- Count(x)", 1),
     ("Pick(x)", 1),
     ("seq Pick(x) Pick(x + 1) endseq", 2),
 ];
@@ -178,10 +184,14 @@ const CLASHES: &str = "forall i in Idx do par x := i c(i + 1) := i endpar endfor
 const SEQUENCE: &str = "seq x := 1 forall i in Idx with i <= x do c(i) := x + i endforall \
 iterate if x < 5 then x := x + 2 endif enditerate endseq";
 
+/// Answers into two locations, and a `while`.
+const ANSWERS: &str =
+    "seq x <- Count(3) c(1) <- Count(x - 3) while x < 5 do x := x + 1 endwhile endseq";
+
 /// A body, how often it asks, the number of its instances, and its set.
 pub type Yielded = (&'static str, u64, u64, &'static [Entry]);
 
-pub static YIELDED: [Yielded; 3] = [
+pub static YIELDED: [Yielded; 4] = [
     (
         ALL,
         1,
@@ -211,6 +221,7 @@ pub static YIELDED: [Yielded; 3] = [
         2,
         &[(0, ONE, ONE), (1, TWO, TWO), (4, FIVE, FIVE)],
     ),
+    (ANSWERS, 2, 0, &[(1, TWO, TWO), (4, FIVE, FIVE)]),
 ];
 
 /// Whether an outcome is a set, and has these instances and entries.

@@ -61,11 +61,12 @@ fn opened(alloc: Global, checked: &Checked) -> Result<Option<Parts>, AllocError>
 }
 
 /// Bodies, and what each is opened to.
-static OPENED: [(&str, Option<Parts>); 12] = [
+static OPENED: [(&str, Option<Parts>); 14] = [
     ("skip", None),
     ("x := 1", None),
     ("seq skip skip endseq", None),
     ("iterate skip enditerate", None),
+    ("while true do skip endwhile", None),
     ("par skip skip skip endpar", Some((3, 0))),
     ("forall i in Idx do skip endforall", Some((2, 0))),
     (
@@ -77,6 +78,7 @@ static OPENED: [(&str, Option<Parts>); 12] = [
     ("let v = 1 in skip endlet", Some((1, 0))),
     ("choose i in Empty do skip endchoose", Some((0, 0))),
     ("Pick(1)", Some((1, 0))),
+    ("c(1) <- Count(2)", Some((1, 0))),
 ];
 
 #[test]

@@ -9,7 +9,7 @@ pub const STEPS: &str = "At most so many steps are made: 0 to 1000000";
 
 pub const SCRIPT: &str = "The file that has the choices [without it: none]";
 
-pub const TURNS: &str = "So many turns exhaust an iterate: 1 to 1000000";
+pub const TURNS: &str = "So many turns exhaust an iterate or a while: 1 to 1000000";
 
 pub const WORKERS: &str = "At most so many workers share a step: 1 to 32";
 

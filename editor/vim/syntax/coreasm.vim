@@ -5,17 +5,16 @@ endif
 
 syntax keyword coreasmItem CoreASM use init enum universe function controlled static initially derived rule
 syntax keyword coreasmRule skip par endpar seq endseq if then else endif let in endlet
-syntax keyword coreasmRule forall with do endforall choose ifnone endchoose iterate enditerate
+syntax keyword coreasmRule forall with do endforall choose ifnone endchoose iterate enditerate while endwhile
 syntax keyword coreasmOperator and or not div mod exists holds
-syntax keyword coreasmConstant true false undef
+syntax keyword coreasmConstant true false undef result
 syntax keyword coreasmCodomain NUMBER BOOLEAN ANY
 syntax match coreasmNumber '\<\d\+\>'
 syntax match coreasmComment '//.*$' contains=coreasmTodo
 syntax region coreasmComment start='/\*' end='\*/' contains=coreasmTodo
 syntax keyword coreasmTodo TODO FIXME contained
 
-" Reserved words that stand in no rule of the grammar, bytes that begin no token, and numbers with letters.
-syntax keyword coreasmError while endwhile result
+" Bytes that begin no token, and numbers with letters.
 syntax match coreasmError '==\|[][;"''%&|@$?\\]\|!=\@!'
 syntax match coreasmError '\<\d\+[A-Za-z_]\w*'
 

@@ -61,7 +61,7 @@ fn is_of_beginning(told: Told, written: usize, length: usize) -> bool {
     match told {
         Told::Read(2 | 3 | 5, Some(at)) => at < length && written == 0,
         Told::Read(6, None) => written == 0,
-        Told::Check(8..=16, at) => at <= length && written == 0,
+        Told::Check(8..=17, at) => at <= length && written == 0,
         Told::Ran(End::Limit) => written > 0,
         _ => false,
     }
@@ -97,6 +97,18 @@ fn beginnings_of_skip(rt: HostRuntime) -> Result<(), Fail> {
 fn beginnings_of_choices_in_forall(rt: HostRuntime) -> Result<(), Fail> {
     let row = &CHOICES_IN_FORALL;
     assert_eq!(rt; first_other(&rt, row.text, row.script)?, None);
+    Ok(())
+}
+
+/// A text with each rule that has to do with answers, and a `while`.
+const ANSWERS: &[u8] =
+    b"CoreASM T\ninit M\nfunction controlled x initially 0\nfunction controlled y initially 0\n\
+rule M = while x < 3 do seq x <- r(y, 1) y := -x endseq endwhile\n\
+rule r(p, q) = if result < p then result := q else result := result + q endif\n";
+
+#[test]
+fn beginnings_of_answers(rt: HostRuntime) -> Result<(), Fail> {
+    assert_eq!(rt; first_other(&rt, ANSWERS, b"")?, None);
     Ok(())
 }
 

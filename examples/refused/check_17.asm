@@ -1,0 +1,5 @@
+CoreASM Area
+init Main
+function controlled area
+rule Main = Square(3)
+rule Square(n) = result := n * n
