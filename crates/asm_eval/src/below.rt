@@ -19,6 +19,7 @@ pub enum Below<'a> {
 
 impl<'a> Below<'a> {
     /// What the last of the sets that names the location with this number has there.
+    #[inline(always)]
     pub(crate) fn content(&self, n: usize) -> Option<Value>
         ensures { (v : value) → content_or result v ≡ content_below self.now n v }
     {

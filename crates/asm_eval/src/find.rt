@@ -16,6 +16,7 @@ use asm_syntax::term::Term;
 
 /// What the name is bound to, by the innermost binder of its text.
 #[tactic(auto, using(crate::proofs::Bound::bound_value, crate::proofs::Bound::bound_term))]
+#[inline(always)]
 pub(crate) fn find<'a>(signature: &Signature, env: &'a Env<'a>, name: &Name) -> Binding<'a>
     ensures bound { (shape : Shape) → signature.now ≡ shape → binding shape result ≡ bound_to (environment shape env.now) name.now.text }
     ensures within { IsWithin signature.now result }

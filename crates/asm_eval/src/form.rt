@@ -462,6 +462,7 @@ fn form_turns<'e, P: Picks>(
 /// Forms the part with this number in the state in which the set so far has been fired, in place of what was formed before, and goes on
 /// with it.
 #[cycle(form)]
+#[inline(always)]
 fn form_next<'e, P: Picks>(
     alloc: Global,
     evaluation: &Evaluation<'_, '_, P>,

@@ -27,6 +27,7 @@ use std::alloc::{AllocError, Global};
 
 /// The number of the location that a name with arguments stands for: that of `result`, where it is bound to one, or that of a controlled
 /// function.
+#[inline(always)]
 pub(crate) fn location<'e>(
     alloc: Global,
     scene: &Scene,
@@ -97,6 +98,7 @@ pub(crate) fn target(scene: &Scene, name: &Name) -> Option<usize>
 }
 
 /// The number of the location of a controlled function with these arguments: the stray one where they are outside its domain.
+#[inline(always)]
 pub(crate) fn location_number<'e>(
     alloc: Global,
     scene: &Scene,

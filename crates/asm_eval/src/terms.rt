@@ -122,6 +122,7 @@ fn named<'e>(
 }
 
 /// The content of the location with this number: `Undef` at a stray one.
+#[inline(never)]
 fn located(scene: &Scene, n: usize) -> Value
     requires { n < count_of scene.now.view.now.signature.now }
     ensures { result ≡ spec.read (shown scene.now.view.now) (location_at scene.now.view.now.signature.now n) }

@@ -77,6 +77,7 @@ impl<'a> View<'a> {
     }
 
     /// What the view shows at the location with this number.
+    #[inline(always)]
     pub fn content(&self, n: usize) -> Value
         requires { n < count_of self.now.signature.now }
         ensures kept { result ≡ overwritten (entry self.now.over.now n) (content_below self.now.below n (slice_index_or self.now.state.now n Undef)) }
@@ -87,6 +88,7 @@ impl<'a> View<'a> {
     }
 
     /// What the last of the sets that names this number has there, or else the state.
+    #[inline(always)]
     fn kept(&self, n: usize) -> Value
         requires { n < count_of self.now.signature.now }
         ensures { result ≡ overwritten (entry self.now.over.now n) (content_below self.now.below n (slice_index_or self.now.state.now n Undef)) }
