@@ -6,17 +6,17 @@ use Rattle.asm_state.specs.declared.value.Value.TheVariants.{Undef, Truth}
 use Rattle.asm_state.specs.declared.operation.Op.TheVariants.{Add, Multiply, Divide, Greater, Equal}
 use Rattle.asm_state.specs.declared.function.Table.TheVariants.{Entries}
 use Rattle.asm_state.specs.Location.{Location, Proper, Stray, State}
-use Rattle.asm_state.specs.Operation.{number_or_undef}
+use Rattle.asm_state.specs.Operation.{op, number_or_undef}
 use Rattle.asm_state.specs.Updates.{UpdateSet, Has, IsConsistent, is_consistent, is_none, none, one, together, merge, fire}
 use Rattle.asm_state.proofs.Members.{member_laws}
 use Rattle.asm_state.proofs.Summaries.{fire_laws}
 use Rattle.asm_state.proofs.Updates.{test_laws}
-use Rattle.asm_syntax.specs.Tree.{Name, Term, Constant, Named, Chain, Exists, Every, Terms, no_terms, term_then, no_links, link_then, Rule, Skip, Assign, Call, Par, Seq, If, Let, Forall, Choose, Iterate, Rules, no_rules, rule_then}
+use Rattle.asm_syntax.specs.Tree.{Name, Term, Constant, Named, Chain, Exists, Every, Terms, no_terms, term_then, no_links, link_then, Rule, Skip, Assign, Call, Par, Seq, If, Let, Forall, Choose, Iterate, Rules, no_rules, rule_then, result as answer}
 use Rattle.asm_reader.specs.ScriptLines.{Script}
 use Rattle.asm_eval.specs.Program.{Program, Universe, Controlled, Static, Derived, NamedRule, nothing_bound, with_value}
-use Rattle.asm_eval.specs.Value.{value, values, reading, reading_within, readings_of}
+use Rattle.asm_eval.specs.Value.{is_true, value, values, reading, reading_within, readings_of}
 use Rattle.asm_eval.specs.Yields.{Path, Gives, Exhausted, beside}
-use Rattle.asm_eval.specs.Does.{Outcome, nothing, following, meaning, does_within, does}
+use Rattle.asm_eval.specs.Does.{Outcome, nothing, following, turn_and, meaning, does_within, does}
 use Rattle.asm_eval.specs.Run.{AtLimit, run}
 
 abbrev number : ℤ → Value
@@ -40,8 +40,11 @@ greater s t = Chain s (link_then Greater t no_links)
 abbrev two_rules : Rule → Rule → Rules
 two_rules P Q = rule_then P (rule_then Q no_rules)
 
+abbrev sum : Term → Term → Term
+sum s t = Chain s (link_then Add t no_links)
+
 -- a universe of three numbers, controlled functions f over it, x and y, a static g over it, a
--- derived function, and two rules
+-- derived function, two rules, and rules that answer
 abbrev sample : Program
 sample =
     (codes "Idx", Universe three)
@@ -57,6 +60,12 @@ sample =
           (Assign (codes "x") no_terms (Chain (name (codes "p")) (link_then Add (constant (pos 1)) no_links)))
           (Assign (codes "y") no_terms (name (codes "p"))))),
     )
+    ∷ (codes "give", NamedRule (codes "p" ∷ []) (Assign answer no_terms (name (codes "p"))))
+    ∷ (codes "raise", NamedRule (codes "p" ∷ []) (Assign answer no_terms (sum (name answer) (name (codes "p")))))
+    ∷ (codes "raise_plainly", NamedRule [] (Call None (codes "raise") (of_one (constant (pos 3)))))
+    ∷ (codes "give_to_y", NamedRule [] (Call (Some (codes "y", no_terms)) (codes "give") (of_one (sum (name answer) (constant (pos 1))))))
+    ∷ (codes "give_twice", NamedRule (codes "p" ∷ []) (Seq (two_rules (Assign answer no_terms (name (codes "p"))) (Assign (codes "y") no_terms (name answer)))))
+    ∷ (codes "give_next", NamedRule (codes "p" ∷ []) (Seq (two_rules (Assign (codes "x") no_terms (sum (name (codes "p")) (constant (pos 1)))) (Assign answer no_terms (name (codes "p"))))))
     ∷ []
 
 -- x is 1 and y is 2
@@ -203,12 +212,12 @@ called_by_name =
 
 -- ---- turns: with a limit of one, the turn that has a set is the last one
 
-has_one : is_none (one at_x (number (pos 1))) ≡ false
-has_one =
-    elim (is_none (one at_x (number (pos 1)))) as (λ b. is_none (one at_x (number (pos 1))) ≡ b → b ≡ false) [
+has_one : (v : Value) → is_none (one at_x v) ≡ false
+has_one v =
+    elim (is_none (one at_x v)) as (λ b. is_none (one at_x v) ≡ b → b ≡ false) [
       | true ↦ λ e.
-          let has : Has (one at_x (number (pos 1))) at_x (number (pos 1)) = (member_laws.of_one at_x at_x (number (pos 1)) (number (pos 1))).1 (refl, refl) in
-          absurd (member_laws.of_none at_x (number (pos 1)) (subst (λ U. Has U at_x (number (pos 1))) ((test_laws.emptiness (one at_x (number (pos 1)))).0 e) has))
+          let has : Has (one at_x v) at_x v = (member_laws.of_one at_x at_x v v).1 (refl, refl) in
+          absurd (member_laws.of_none at_x v (subst (λ U. Has U at_x v) ((test_laws.emptiness (one at_x v)).0 e) has))
       | false ↦ λ e. refl
     ] refl
 
@@ -219,7 +228,94 @@ exhausted_at_its_path : (p : Path) → (done [] p repeated).result ≡ Exhausted
 unfolding does does_within meaning value values reading reading_within readings_of number_or_undef
 exhausted_at_its_path p =
     let U : UpdateSet = one at_x (number (pos 1)) in
-    (λ i. (cond (has_one i || not (passes 1 [] (number (pos 1)) i)) (giving U 0) (following U 0 (record { result = Exhausted p; instances = 0 }))).result)
+    (λ i. (cond (has_one (number (pos 1)) i || not (passes 1 [] (number (pos 1)) i)) (giving U 0) (following U 0 (record { result = Exhausted p; instances = 0 }))).result)
+
+-- ---- a condition before each turn, as `while` has it
+
+abbrev while : Term → Rule → Rule
+while c P = Iterate (If c P Skip)
+
+without_updates : is_none none ≡ true
+without_updates = (test_laws.emptiness none).1 refl
+
+no_turn : done [] [] (while (greater (name (codes "x")) (constant (pos 1))) (Assign (codes "x") no_terms (constant (pos 5)))) ≡ giving none 0
+unfolding does does_within meaning value values reading reading_within readings_of number_or_undef
+no_turn = ap (λ b. cond (b || not (is_consistent none)) (giving none 0) (following none 0 (record { result = Exhausted []; instances = 0 }))) without_updates
+
+-- the last turn of two, where x has the value v, and is increased while it is below 2
+abbrev last_turn : Value → Outcome
+last_turn v =
+    let o : Outcome = cond (is_true (op Greater (number (pos 2)) v)) (giving (one at_x (op Add v (number (pos 1)))) 0) nothing in
+    turn_and o.result o.instances (λ U. record { result = Exhausted []; instances = 0 })
+
+-- the second turn's condition is valued in the state after the first
+one_turn : does sample 2 [] 1 start nothing_bound [] (while (greater (constant (pos 2)) (name (codes "x"))) (Assign (codes "x") no_terms (sum (name (codes "x")) (constant (pos 1)))))
+    ≡ giving (merge (one at_x (number (pos 2))) none) 0
+unfolding does does_within meaning value values reading reading_within readings_of number_or_undef
+one_turn =
+    let U : UpdateSet = one at_x (number (pos 2)) in
+    (λ i. cond (has_one (number (pos 2)) i || not (passes 1 [] (number (pos 2)) i)) (giving U 0) (following U 0 (last_turn (fire start U at_x))))
+    ∙ ap (λ v. following U 0 (last_turn v))
+    (fire_laws.named start U at_x (number (pos 2)) (one_is_consistent 1 [] (number (pos 2))) ((member_laws.of_one at_x at_x (number (pos 2)) (number (pos 2))).1 (refl, refl)))
+    ∙ ap (λ b. following U 0 (cond (b || not (is_consistent none)) (giving none 0) (following none 0 (record { result = Exhausted []; instances = 0 })))) without_updates
+
+-- ---- calls that answer
+
+abbrev answers : Name → Terms → Name → Terms → Rule
+answers f ts r us = Call (Some (f, ts)) r us
+
+raised : done [] [] (answers (codes "x") no_terms (codes "raise") (of_one (constant (pos 3)))) ≡ giving (one at_x (number (pos 4))) 0
+unfolding does does_within meaning value values reading reading_within readings_of number_or_undef
+raised = refl
+
+-- a stray location is written, and read as undef whatever a state has there
+raised_outside : does sample 1 [] 1 (λ l. number (pos 5)) nothing_bound [] (answers (codes "f") (of_one (constant (pos 9))) (codes "raise") (of_one (constant (pos 3))))
+    ≡ giving (one (Stray 0) Undef) 0
+unfolding does does_within meaning value values reading reading_within readings_of number_or_undef
+raised_outside = refl
+
+-- the target's p is the caller's, and not the parameter
+the_target_is_the_callers : done [] [] (Let (codes "p") (constant (pos 2)) (answers (codes "f") (of_one (name (codes "p"))) (codes "give") (of_one (constant (pos 0)))))
+    ≡ giving (one (Proper 0 (number (pos 2) ∷ [])) (number (pos 0))) 0
+unfolding does does_within meaning value values reading reading_within readings_of number_or_undef
+the_target_is_the_callers = refl
+
+-- a plain call in the body of a rule that answers binds no `result`
+answers_nothing : done [] [] (answers (codes "x") no_terms (codes "raise_plainly") no_terms) ≡ giving none 0
+unfolding does does_within meaning value values reading reading_within readings_of number_or_undef
+answers_nothing = refl
+
+-- the argument has the caller's `result`, which is x, and the body's is y
+an_argument_has_result : done [] [] (answers (codes "x") no_terms (codes "give_to_y") no_terms) ≡ giving (one at_y (number (pos 2))) 0
+unfolding does does_within meaning value values reading reading_within readings_of number_or_undef
+an_argument_has_result = refl
+
+-- `result` has the content that its location has where it is used
+read_where_it_is_used : done [] [] (answers (codes "x") no_terms (codes "give_twice") (of_one (constant (pos 5))))
+    ≡ giving (merge (one at_x (number (pos 5))) (merge (one at_y (number (pos 5))) none)) 0
+unfolding does does_within meaning value values reading reading_within readings_of number_or_undef
+read_where_it_is_used =
+    let v : Value = fire start (one at_x (number (pos 5))) at_x in
+    good_part 1 [] (number (pos 5)) 0 (cond (is_consistent (one at_y v)) (following (one at_y v) 0 nothing) (giving (one at_y v) 0))
+    ∙ ap (following (one at_x (number (pos 5))) 0) (good_part 2 [] v 0 nothing)
+    ∙ ap (λ w. following (one at_x (number (pos 5))) 0 (following (one at_y w) 0 nothing))
+    (fire_laws.named start (one at_x (number (pos 5))) at_x (number (pos 5)) (one_is_consistent 1 [] (number (pos 5)))
+    ((member_laws.of_one at_x at_x (number (pos 5)) (number (pos 5))).1 (refl, refl)))
+
+-- the target is f(1), as x was 1 in the call, and the argument x is 2 where it is used
+located_in_the_call : done [] [] (answers (codes "f") (of_one (name (codes "x"))) (codes "give_next") (of_one (name (codes "x"))))
+    ≡ giving (merge (one at_x (number (pos 2))) (merge (one (Proper 0 (number (pos 1) ∷ [])) (number (pos 2))) none)) 0
+unfolding does does_within meaning value values reading reading_within readings_of number_or_undef
+located_in_the_call =
+    let at_f : Location = Proper 0 (number (pos 1) ∷ []) in
+    let v : Value = fire start (one at_x (number (pos 2))) at_x in
+    good_part 1 [] (number (pos 2)) 0 (cond (is_consistent (one at_f v)) (following (one at_f v) 0 nothing) (giving (one at_f v) 0))
+    ∙ ap (following (one at_x (number (pos 2))) 0) (good_part 0 (number (pos 1) ∷ []) v 0 nothing)
+    ∙ ap (λ w. following (one at_x (number (pos 2))) 0 (following (one at_f w) 0 nothing))
+    (fire_laws.named start (one at_x (number (pos 2))) at_x (number (pos 2)) (one_is_consistent 1 [] (number (pos 2)))
+    ((member_laws.of_one at_x at_x (number (pos 2)) (number (pos 2))).1 (refl, refl)))
+
+-- ---- the least of paths
 
 -- the least of two paths: lists are compared from their first numbers on
 the_least_path : beside (Exhausted (2 ∷ [])) (Exhausted (0 ∷ 7 ∷ [])) ≡ Exhausted (0 ∷ 7 ∷ [])
