@@ -153,6 +153,7 @@ fn form_part<'e, P: Picks>(
 
 /// Forms a rule behind a condition as the part with this number.
 #[cycle(form)]
+#[inline(always)]
 fn form_guarded<'e, P: Picks>(
     alloc: Global,
     evaluation: &Evaluation<'_, '_, P>,
