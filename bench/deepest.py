@@ -41,6 +41,7 @@ RULES = {
     "forall": lambda inside: f"forall i in U with x = 0 do {inside} endforall",
     "choose": lambda inside: f"choose i in U with x = 0 do {inside} endchoose",
     "iterate": lambda inside: f"iterate {inside} enditerate",
+    "while": lambda inside: f"while x = 0 do {inside} endwhile",
 }
 
 
