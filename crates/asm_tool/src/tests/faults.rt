@@ -90,7 +90,7 @@ static REFUSED: [(&str, &str); 20] = [
     ("CoreASM T\ninit M\nrule M = skip skip\n", "read 5 at 31\n"),
     (
         "CoreASM T\ninit M\nrule M = while true skip endwhile\n",
-        "read 5 at 26\n",
+        "read 5 at 37\n",
     ),
     ("CoreAS", "read 5 at 0\n"),
     ("CoreASM", "read 6\n"),
