@@ -1,13 +1,14 @@
 -- All faults of a specification, as one list: so there is a least one, or none.
 --     all_faults spec      the faults
 --     first_fault spec     the least of them
-use Rattle.std.proofs.Common.{◌≡◌, ◌⊎◌, ℕ, ◌≤◌, nat_le, Bool, true, false, cond, not, ◌&&◌, List, [], ◌∷◌, ◌++◌, map, Option, Some, None, refl, sym, ap, subst, inl, inr, arith, ◌∙◌}
+use Rattle.std.proofs.Common.{suc, ◌≡◌, ◌⊎◌, ℕ, ◌≤◌, nat_le, Bool, true, false, cond, not, ◌&&◌, List, [], ◌∷◌, ◌++◌, map, Option, Some, None, refl, sym, ap, subst, inl, inr, arith, ◌∙◌}
 use Rattle.std.specs.Prelude.{Contains, filter}
 use Rattle.std.proofs.lemmas.Bool.{false≢true, and_parts, and_from, not-true, not_from_false, false_from_ne_true}
 use Rattle.std.proofs.lemmas.Bool.Decides.{nat_tests}
 use Rattle.std.proofs.lemmas.List.Elements.{Contains-append_left, Contains-append_right, Contains-append_cases}
 use Rattle.asm_state.proofs.Lists.{Contains-cons_cases, Contains-first, Contains-from_map, Contains-later, Contains-map, Contains-none}
 use Rattle.asm_syntax.specs.SourceTree.{Spec}
+use Rattle.asm_check.specs.declared.cycles.TheConstants.{RANK}
 use Rattle.asm_check.specs.Faults.{IsFault, IsLeastFault, IsWellFormed, IsCyclic}
 use Rattle.asm_check.specs.Laws.{LeastExists}
 use Rattle.asm_check.specs.Names.{Text, Meaning, Declaration, first_declarations, declared}
@@ -85,12 +86,12 @@ module _ (spec : Spec) (next : Text → List Text)
   -- ---- ranks
 
   abbrev pub is_high : Text → Bool
-  is_high f = nat_le 17 (height next 17 f) && not (reaches next names all_begin f)
+  is_high f = nat_le (suc RANK) (height next (suc RANK) f) && not (reaches next names all_begin f)
 
   abbrev pub high_faults : List (ℕ × ℕ)
   high_faults = map (λ d. (d.name.at, 15)) (filter (λ d. is_high d.name.text) (first_declarations spec))
 
-  pub high_sound : (at n : ℕ) → IsListed high_faults at n → (n ≡ 15) × (d : Declaration) × Contains (first_declarations spec) d × IsOnWay next 17 d.name.text × (¬ (ReachesCycle next d.name.text)) × (d.name.at ≡ at)
+  pub high_sound : (at n : ℕ) → IsListed high_faults at n → (n ≡ 15) × (d : Declaration) × Contains (first_declarations spec) d × IsOnWay next (suc RANK) d.name.text × (¬ (ReachesCycle next d.name.text)) × (d.name.at ≡ at)
   high_sound at n c =
       let it = Contains-from_map (λ (d : Declaration). (d.name.at, 15)) (filter (λ d. is_high d.name.text) (first_declarations spec)) (at, n) c in
       let member = from_filter (λ d. is_high d.name.text) (first_declarations spec) it.0 it.1 in
@@ -98,18 +99,18 @@ module _ (spec : Spec) (next : Text → List Text)
         sym (ap (λ f. f.1) it.2),
         it.0,
         member.0,
-        is_long next 17 f (and_parts (nat_le 17 (height next 17 f)) (not (reaches next names all_begin f)) member.1).0,
-        λ cycle. false≢true (sym (not-true (reaches next names all_begin f) (and_parts (nat_le 17 (height next 17 f)) (not (reaches next names all_begin f)) member.1).1) ∙ reaches_complete next names all_begin f cycle),
+        is_long next (suc RANK) f (and_parts (nat_le (suc RANK) (height next (suc RANK) f)) (not (reaches next names all_begin f)) member.1).0,
+        λ cycle. false≢true (sym (not-true (reaches next names all_begin f) (and_parts (nat_le (suc RANK) (height next (suc RANK) f)) (not (reaches next names all_begin f)) member.1).1) ∙ reaches_complete next names all_begin f cycle),
         ap (λ f. f.0) it.2,
       )
 
-  pub high_complete : (d : Declaration) (at : ℕ) → Contains (first_declarations spec) d → IsOnWay next 17 d.name.text → ¬ (ReachesCycle next d.name.text) → d.name.at ≡ at → IsListed high_faults at 15
+  pub high_complete : (d : Declaration) (at : ℕ) → Contains (first_declarations spec) d → IsOnWay next (suc RANK) d.name.text → ¬ (ReachesCycle next d.name.text) → d.name.at ≡ at → IsListed high_faults at 15
   high_complete d at stands long none offset =
       let f = d.name.text in
       subst (λ a. IsListed high_faults a 15) offset
       (Contains-map (λ (d : Declaration). (d.name.at, 15)) (filter (λ d. is_high d.name.text) (first_declarations spec)) d
       (in_filter (λ d. is_high d.name.text) (first_declarations spec) d
-      (and_from (nat_le 17 (height next 17 f)) (not (reaches next names all_begin f)) (long_is next 17 f long)
+      (and_from (nat_le (suc RANK) (height next (suc RANK) f)) (not (reaches next names all_begin f)) (long_is next (suc RANK) f long)
       (not_from_false (reaches next names all_begin f) (false_from_ne_true (reaches next names all_begin f) (λ e. none (reaches_sound next names all_begin f e))))) stands))
 
 -- ---- all faults

@@ -4,21 +4,22 @@ use Rattle.std.proofs.lemmas.Bool.{le-leb, lt-leb}
 use Rattle.std.proofs.lemmas.List.{drop_more, drop_all, length-map}
 use Rattle.std.proofs.lemmas.Nat.{mul-le}
 use Rattle.std.proofs.Math.Nat.{pow-suc, pow-le-pow_right, mul_assoc}
+use Rattle.asm_state.specs.declared.limits.TheConstants.{VALUES, DOMAIN}
 use Rattle.asm_syntax.specs.SourceTree.{Spec}
 use Rattle.asm_syntax.specs.Views.{name_of}
 use Rattle.asm_syntax.specs.declared.name.Name.{Name}
 use Rattle.asm_check.specs.Limits.{product, counted_size, lists_of}
 
-pub product_fits : (p n i : ℕ) → p ≤ 4096 ^ i → n ≤ 4096 → p * n ≤ 4096 ^ (i + 1)
+pub product_fits : (p n i : ℕ) → p ≤ VALUES ^ i → n ≤ VALUES → p * n ≤ VALUES ^ (i + 1)
 product_fits p n i h k =
-    let next : 4096 ^ (i + 1) ≡ 4096 ^ i * 4096 = ap (λ j. 4096 ^ j) (omega arith) ∙ pow-suc 4096 i in
-    omega (arith, mul-le p n (4096 ^ i) 4096 h k, next)
+    let next : VALUES ^ (i + 1) ≡ VALUES ^ i * VALUES = ap (λ j. VALUES ^ j) (omega arith) ∙ pow-suc VALUES i in
+    omega (arith, mul-le p n (VALUES ^ i) VALUES h k, next)
 
-pub product_small : (p n i : ℕ) → i < 4 → p ≤ 4096 ^ i → n ≤ 4096 → p * n < 2 ^ 64
+pub product_small : (p n i : ℕ) → i < DOMAIN → p ≤ VALUES ^ i → n ≤ VALUES → p * n < 2 ^ 64
 product_small p n i low h k =
-    let up : i + 1 ≤ 4 = omega arith in
-    let some : 0 < 4096 = omega arith in
-    let most : 4096 ^ (i + 1) ≤ 4096 ^ 4 = pow-le-pow_right {n = 4096} some up in
+    let up : i + 1 ≤ DOMAIN = omega arith in
+    let some : 0 < VALUES = omega arith in
+    let most : VALUES ^ (i + 1) ≤ VALUES ^ DOMAIN = pow-le-pow_right {n = VALUES} some up in
     omega (arith, product_fits p n i h k, most)
 
 -- the product of the sizes of these names
@@ -32,14 +33,14 @@ product_more spec names i x p n inside is size h =
     ap (product_of spec) (drop_more names i x inside ∙ ap (λ y. y ∷ drop (i + 1) names) is) ∙ ap (λ m. m * product_of spec (drop (i + 1) names)) (sym size) in
     mul_assoc p n (product_of spec (drop (i + 1) names)) ∙ (ap (λ m. p * m) (sym step) ∙ h)
 
-pub product_whole : (spec : Spec) (names : List Name) (i p : ℕ) → length names ≤ i → length names ≤ 4
+pub product_whole : (spec : Spec) (names : List Name) (i p : ℕ) → length names ≤ i → length names ≤ DOMAIN
     → p * product_of spec (drop i names) ≡ product_of spec names → p ≡ lists_of spec (map name_of names)
 product_whole spec names i p all few h =
     let one : p * 1 ≡ product_of spec names = ap (λ ns. p * product_of spec ns) (sym (drop_all i names all)) ∙ h in
-    let few' : length (map name_of names) ≤ 4 = omega (arith, length-map names name_of) in
-    sym (ap (λ b. cond b (product_of spec names) 0) (le-leb (length (map name_of names)) 4 few') ∙ omega (arith, one))
+    let few' : length (map name_of names) ≤ DOMAIN = omega (arith, length-map names name_of) in
+    sym (ap (λ b. cond b (product_of spec names) 0) (le-leb (length (map name_of names)) DOMAIN few') ∙ omega (arith, one))
 
-pub none_of_many : (spec : Spec) (names : List Name) → 4 < length names → 0 ≡ lists_of spec (map name_of names)
+pub none_of_many : (spec : Spec) (names : List Name) → DOMAIN < length names → 0 ≡ lists_of spec (map name_of names)
 none_of_many spec names many =
-    let many' : 4 < length (map name_of names) = omega (arith, length-map names name_of) in
-    sym (ap (λ b. cond b (product_of spec names) 0) (lt-leb (length (map name_of names)) 4 many'))
+    let many' : DOMAIN < length (map name_of names) = omega (arith, length-map names name_of) in
+    sym (ap (λ b. cond b (product_of spec names) 0) (lt-leb (length (map name_of names)) DOMAIN many'))

@@ -6,6 +6,7 @@ use Rattle.std.proofs.lemmas.Bool.{leb-true, true≢false, or_right}
 use Rattle.std.proofs.lemmas.Option.{slice_get-map}
 use Rattle.std.proofs.lemmas.List.{drop_all, append-nil, append_assoc}
 use Rattle.std.proofs.lemmas.List.Elements.{All-nil, All-cons}
+use Rattle.asm_state.specs.declared.limits.TheConstants.{UNIVERSES, VALUES}
 use Rattle.asm_syntax.specs.SourceTree.{Name, Spec}
 use Rattle.asm_check.specs.declared.meaning.Declaration.{Declaration as CodeDeclaration}
 use Rattle.asm_check.specs.Names.{Text, Declaration, Meaning, declares, is_text, is_among, declarations, first_of_each, first_declarations, declared}
@@ -19,21 +20,21 @@ use Rattle.asm_check.proofs.TableSteps.{Stands}
 
 -- ---- by positions
 
-allowed_small : (n : ℕ) → allowed_size n ≤ 4096
-allowed_small n = of (nat_le n 4096) refl
+allowed_small : (n : ℕ) → allowed_size n ≤ VALUES
+allowed_small n = of (nat_le n VALUES) refl
   where
-    of : (b : Bool) → nat_le n 4096 ≡ b → cond b n 0 ≤ 4096
-    of true e = leb-true n 4096 e
+    of : (b : Bool) → nat_le n VALUES ≡ b → cond b n 0 ≤ VALUES
+    of true e = leb-true n VALUES e
     of false e = omega arith
 
 module _ (size : Meaning → ℕ) where
-  pub counted_small : (left : ℕ) (ds : List Declaration) → All (λ n. n ≤ 4096) (counted_from size left ds)
-  counted_small left [] = All-nil (λ n. n ≤ 4096)
-  counted_small zero (d ∷ ds) = All-cons (λ n. n ≤ 4096) 0 (counted_from size zero ds) (omega arith) (counted_small zero ds)
+  pub counted_small : (left : ℕ) (ds : List Declaration) → All (λ n. n ≤ VALUES) (counted_from size left ds)
+  counted_small left [] = All-nil (λ n. n ≤ VALUES)
+  counted_small zero (d ∷ ds) = All-cons (λ n. n ≤ VALUES) 0 (counted_from size zero ds) (omega arith) (counted_small zero ds)
   counted_small (suc left) (d ∷ ds) =
-      elim (is_universe d.meaning) as (λ b. All (λ n. n ≤ 4096) (cond b (allowed_size (size d.meaning) ∷ counted_from size left ds) (0 ∷ counted_from size (suc left) ds))) [
-        | true ↦ All-cons (λ n. n ≤ 4096) (allowed_size (size d.meaning)) (counted_from size left ds) (allowed_small (size d.meaning)) (counted_small left ds)
-        | false ↦ All-cons (λ n. n ≤ 4096) 0 (counted_from size (suc left) ds) (omega arith) (counted_small (suc left) ds)
+      elim (is_universe d.meaning) as (λ b. All (λ n. n ≤ VALUES) (cond b (allowed_size (size d.meaning) ∷ counted_from size left ds) (0 ∷ counted_from size (suc left) ds))) [
+        | true ↦ All-cons (λ n. n ≤ VALUES) (allowed_size (size d.meaning)) (counted_from size left ds) (allowed_small (size d.meaning)) (counted_small left ds)
+        | false ↦ All-cons (λ n. n ≤ VALUES) 0 (counted_from size (suc left) ds) (omega arith) (counted_small (suc left) ds)
       ]
 
   counted_universe : (left : ℕ) (d : Declaration) (ds : List Declaration) → 0 < left → is_universe d.meaning ≡ true
@@ -53,7 +54,7 @@ module _ (size : Meaning → ℕ) where
 
   -- those so far, and those that the rest gives
   abbrev pub AreSizesSoFar : List Declaration → (i left : ℕ) → List ℕ → Type 0
-  AreSizesSoFar ds i left sizes = sizes ++ counted_from size left (drop i ds) ≡ counted_from size 64 ds
+  AreSizesSoFar ds i left sizes = sizes ++ counted_from size left (drop i ds) ≡ counted_from size UNIVERSES ds
 
   next_size : (ds : List Declaration) (i left left' : ℕ) (sizes : List ℕ) (n : ℕ) (r : CodeDeclaration) (s : Stands ds i r)
       → counted_from size left (declares s.name (meaning_of r.meaning) ∷ drop (i + 1) ds) ≡ n ∷ counted_from size left' (drop (i + 1) ds)
@@ -77,7 +78,7 @@ module _ (size : Meaning → ℕ) where
   size_past ds i left sizes r s none h =
       next_size ds i left left sizes 0 r s (counted_past left (declares s.name (meaning_of r.meaning)) (drop (i + 1) ds) none) h
 
-  pub sizes_whole : (ds : List Declaration) (i left : ℕ) (sizes : List ℕ) → length ds ≤ i → AreSizesSoFar ds i left sizes → sizes ≡ counted_from size 64 ds
+  pub sizes_whole : (ds : List Declaration) (i left : ℕ) (sizes : List ℕ) → length ds ≤ i → AreSizesSoFar ds i left sizes → sizes ≡ counted_from size UNIVERSES ds
   sizes_whole ds i left sizes all h =
       sym (append-nil sizes) ∙ ap (λ xs. sizes ++ counted_from size left xs) (sym (drop_all i ds all)) ∙ h
 
@@ -150,7 +151,7 @@ distinct_firsts seen (d ∷ ds) =
 
 module _ (size : Meaning → ℕ) where
   abbrev is_small : Declaration → Bool
-  is_small d = nat_le (size d.meaning) 4096
+  is_small d = nat_le (size d.meaning) VALUES
 
   abbrev universes_in : List Declaration → List Declaration
   universes_in ds = filter (λ d. is_universe d.meaning) ds
@@ -230,20 +231,20 @@ none_past (e ∷ es) zero inside = λ s. cc
 none_past (e ∷ es) (suc i) inside = none_past es i (omega arith)
 
 module _ (spec : Spec) (entries : List Entry) (table : IsTableOf spec entries) where
-  at_entry : (sizes : List ℕ) → sizes ≡ counted_from (size_of spec) 64 (first_declarations spec) → (i : ℕ) (e : Entry) (x : Name)
+  at_entry : (sizes : List ℕ) → sizes ≡ counted_from (size_of spec) UNIVERSES (first_declarations spec) → (i : ℕ) (e : Entry) (x : Name)
       → slice_get entries i ≡ Some e → e.0.now ≡ x.text → slice_index sizes i ≡ counted_size spec x
   at_entry sizes same i e x s name =
       let found : slice_get (first_declarations spec) i ≡ Some (declaration_of e) =
       ap (λ ds. slice_get ds i) (sym table) ∙ (slice_get-map declaration_of entries i ∙ ap (option_map declaration_of) s) in
       ap (λ ns. slice_index ns i) same
-      ∙ (size_at (size_of spec) 64 (first_declarations spec) i (declaration_of e) (distinct spec) found
-      ∙ ap (λ x. size_in (size_of spec) 64 x (first_declarations spec)) name)
+      ∙ (size_at (size_of spec) UNIVERSES (first_declarations spec) i (declaration_of e) (distinct spec) found
+      ∙ ap (λ x. size_in (size_of spec) UNIVERSES x (first_declarations spec)) name)
 
-  pub counted_by_position : (counts sizes : List ℕ) → AreElementCounts spec counts → sizes ≡ counted_from (size_with counts) 64 (map declaration_of entries) → AreCountedSizes spec entries sizes
+  pub counted_by_position : (counts sizes : List ℕ) → AreElementCounts spec counts → sizes ≡ counted_from (size_with counts) UNIVERSES (map declaration_of entries) → AreCountedSizes spec entries sizes
   counted_by_position counts sizes h e i x inside name = of (slice_get entries i) refl
     where
-      same : sizes ≡ counted_from (size_of spec) 64 (first_declarations spec)
-      same = e ∙ (ap (counted_from (size_with counts) 64) table ∙ same_sizes (size_with counts) (size_of spec) (size_with_is spec counts h) 64 (first_declarations spec))
+      same : sizes ≡ counted_from (size_of spec) UNIVERSES (first_declarations spec)
+      same = e ∙ (ap (counted_from (size_with counts) UNIVERSES) table ∙ same_sizes (size_with counts) (size_of spec) (size_with_is spec counts h) UNIVERSES (first_declarations spec))
 
       of : (o : Option Entry) → slice_get entries i ≡ o → slice_index sizes i ≡ counted_size spec x
       of None s = absurd (none_past entries i inside s)
@@ -251,7 +252,7 @@ module _ (spec : Spec) (entries : List Entry) (table : IsTableOf spec entries) w
 
 -- a name that isn't declared has no size
 pub counted_none : (spec : Spec) (x : Name) → declared spec x.text ≡ None → counted_size spec x ≡ 0
-counted_none spec x h = missing_size (size_of spec) 64 x.text (first_declarations spec) (of (find (is_of x.text) (first_declarations spec)) refl)
+counted_none spec x h = missing_size (size_of spec) UNIVERSES x.text (first_declarations spec) (of (find (is_of x.text) (first_declarations spec)) refl)
   where
     none : option_map (λ d. d.meaning) (find (is_of x.text) (first_declarations spec)) ≡ None
     none = first_stands spec x.text ∙ h

@@ -1,7 +1,8 @@
 -- What is noted of one declaration, and of all in turn.
-use Rattle.std.proofs.Common.{◌≡◌, ◌⊎◌, ◌<◌, ◌≤◌, ℕ, ◌+◌, Bool, false, List, [], ◌∷◌, length, slice_get, Option, Some, None, refl, sym, ap, subst, ◌∙◌, inl, inr, arith}
+use Rattle.std.proofs.Common.{suc, ◌≡◌, ◌⊎◌, ◌<◌, ◌≤◌, ℕ, ◌+◌, Bool, false, List, [], ◌∷◌, length, slice_get, Option, Some, None, refl, sym, ap, subst, ◌∙◌, inl, inr, arith}
 use Rattle.std.specs.Prelude.{slice_index_or, option_map}
 use Rattle.std.proofs.lemmas.Option.{slice_get-get_or, slice_get_within}
+use Rattle.asm_check.specs.declared.cycles.TheConstants.{RANK}
 use Rattle.asm_check.specs.declared.error.FaultKind.{FaultKind}
 use Rattle.asm_check.specs.declared.meaning.Meaning.{Meaning}
 use Rattle.asm_check.specs.declared.meaning.Declaration.{Declaration}
@@ -56,7 +57,7 @@ module _ (lists : List (List ℕ)) (n : ℕ) (d : Declaration) where
       soonest_same (IsCycleAt lists n d.at d.meaning) (IsFaultOf lists n d) (λ at number p. inl p)
       (λ at number p. elim p [ inl cycle ↦ cycle | inr high ↦ absurd (high.1 reach) ]) found after s
 
-  pub node_high : ¬ (ReachesCycle (next_of lists) n) → IsOnWay (next_of lists) 17 n → (found after : Option (ℕ × ℕ)) → after ≡ noted found ((d.at, 15) ∷ []) → IsSoonestWith (IsFaultOf lists n d) found after
+  pub node_high : ¬ (ReachesCycle (next_of lists) n) → IsOnWay (next_of lists) (suc RANK) n → (found after : Option (ℕ × ℕ)) → after ≡ noted found ((d.at, 15) ∷ []) → IsSoonestWith (IsFaultOf lists n d) found after
   node_high none way found after is =
       subst (IsSoonestWith (IsFaultOf lists n d) found) (sym is)
       (soonest_same (λ at number. (d.at ≡ at) × (15 ≡ number)) (IsFaultOf lists n d)
@@ -64,7 +65,7 @@ module _ (lists : List (List ℕ)) (n : ℕ) (d : Declaration) where
       (λ at number p. elim p [ inl cycle ↦ absurd (none (n, inl refl, cycle.0)) | inr high ↦ (high.2, high.3) ])
       found (noted found ((d.at, 15) ∷ [])) (soonest_noted found d.at 15))
 
-  pub node_low : ¬ (ReachesCycle (next_of lists) n) → ¬ (IsOnWay (next_of lists) 17 n) → (found : Option (ℕ × ℕ)) → IsSoonestWith (IsFaultOf lists n d) found found
+  pub node_low : ¬ (ReachesCycle (next_of lists) n) → ¬ (IsOnWay (next_of lists) (suc RANK) n) → (found : Option (ℕ × ℕ)) → IsSoonestWith (IsFaultOf lists n d) found found
   node_low none short found =
       soonest_none (IsFaultOf lists n d) found (λ at number p. elim p [ inl cycle ↦ absurd (none (n, inl refl, cycle.0)) | inr high ↦ absurd (short high.0) ])
 

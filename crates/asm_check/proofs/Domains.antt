@@ -6,6 +6,7 @@ use Rattle.std.specs.Option.{option_map_or}
 use Rattle.std.proofs.lemmas.Bool.Decides.{nat_tests}
 use Rattle.std.proofs.lemmas.List.{length-map}
 use Rattle.std.proofs.lemmas.List.Elements.{All-nil, All-cons, Contains-append_left, Contains-append_right}
+use Rattle.asm_state.specs.declared.limits.TheConstants.{UNIVERSES, VALUES, DOMAIN}
 use Rattle.asm_state.proofs.Lists.{Contains-cons_cases, Contains-first, Contains-later, Contains-map, Contains-none}
 use Rattle.asm_state.specs.declared.function.Function as state
 use Rattle.asm_state.specs.declared.value.Value.{Value}
@@ -75,7 +76,7 @@ module _ (spec : Spec) (good : IsWellFormed spec) where
   function_declared x how domain codomain table it = stands_first spec good (declares x (function_of how domain)) (function_stands 0 spec.items x how domain codomain table it)
 
   pub short_domain : (x : Name) (how : FunctionKind) (domain : List Name) (codomain : Option Name) (table : Option Given)
-      → Contains spec.items (source.Function x how domain codomain table) → length domain ≤ 4
+      → Contains spec.items (source.Function x how domain codomain table) → length domain ≤ DOMAIN
   short_domain x how domain codomain table it =
       let short = (limits_hold spec good).domains (declares x (function_of how domain)) (function_declared x how domain codomain table it) in
       let same = ap length (domain_kept how domain) in
@@ -115,8 +116,8 @@ module _ (spec : Spec) (good : IsWellFormed spec) where
   all_allowed =
       let few = few_universes spec good in
       let same = ap length (all_like spec good is_universe refl) in
-      ap (filter (λ d. nat_le (size_of spec d.meaning) 4096)) (take_all 64 (universes_of spec) (omega (arith, few, same)))
-      ∙ filter_all (λ d. nat_le (size_of spec d.meaning) 4096) (universes_of spec)
+      ap (filter (λ d. nat_le (size_of spec d.meaning) VALUES)) (take_all UNIVERSES (universes_of spec) (omega (arith, few, same)))
+      ∙ filter_all (λ d. nat_le (size_of spec d.meaning) VALUES) (universes_of spec)
       (λ d it. let small = (limits_hold spec good).elements d (filter_within (λ d. is_universe d.meaning) (first_declarations spec) d it) in grind (arith, nat_tests))
 
   size_or_none : (o : Option Declaration) → length (option_map_or (λ (d : Declaration). universe_values spec d.meaning) o []) ≡ option_map_or (λ (d : Declaration). size_of spec d.meaning) o 0
@@ -135,9 +136,9 @@ module _ (spec : Spec) (good : IsWellFormed spec) where
   sizes_at (u ∷ domain) = λ i. size_at u i ∷ sizes_at domain i
 
   -- a domain has as many argument lists as are counted
-  pub lists_are : (domain : List Name) → length domain ≤ 4 → length (argument_lists (domain_in values_of (domain_by (texts_of (universes_of spec)) domain))) ≡ lists_of spec domain
+  pub lists_are : (domain : List Name) → length domain ≤ DOMAIN → length (argument_lists (domain_in values_of (domain_by (texts_of (universes_of spec)) domain))) ≡ lists_of spec domain
   lists_are domain short =
-      let few : nat_le (length domain) 4 ≡ true = grind (arith, nat_tests) in
+      let few : nat_le (length domain) DOMAIN ≡ true = grind (arith, nat_tests) in
       length-lists values_of (domain_by (texts_of (universes_of spec)) domain)
       ∙ ap product (sizes_at domain)
       ∙ ap (λ b. cond b (product (map (counted_size spec) domain)) 0) (sym few)

@@ -3,6 +3,7 @@ use Rattle.std.proofs.Common.{◌≡◌, ◌⊎◌, ℕ, zero, suc, ◌+◌, ◌
 use Rattle.std.specs.Prelude.{find, slice_get}
 use Rattle.std.specs.List.{position_or_len}
 use Rattle.std.proofs.lemmas.Option.{slice_get_within}
+use Rattle.asm_state.specs.declared.element.TheConstants.{ELEMENTS}
 use Rattle.asm_state.specs.declared.function.FunctionKind.TheVariants as kind
 use Rattle.asm_syntax.specs.SourceTree as source
 use Rattle.asm_syntax.specs.SourceTree.{Name, Item, Spec}
@@ -109,7 +110,7 @@ module _ (spec : Spec) (good : IsWellFormed spec) where
   all_elements : elements_of spec ≡ like is_element (declarations_from 0 spec.items)
   all_elements = all_like spec good is_element refl
 
-  pub elements_few : length (elements_of spec) ≤ 262_144
+  pub elements_few : length (elements_of spec) ≤ ELEMENTS
   elements_few = let same : length (elements_of spec) ≡ elements_in spec.items = ap length all_elements ∙ length_elements 0 spec.items in let few = few_elements spec good in omega (arith, same, few)
 
   -- the element that has this number
@@ -118,7 +119,7 @@ module _ (spec : Spec) (good : IsWellFormed spec) where
       let same : 0 + n ≡ n = omega arith in
       subst (IsNumberIn (first_declarations spec) k) same (number_from (first_declarations spec) 0 0 spec.items (all_numbered spec good) n k d (ap (λ ds. slice_get ds n) (sym all_elements) ∙ at) is)
 
-  pub number_small : (n : ℕ) (d : Declaration) → slice_get (elements_of spec) n ≡ Some d → n < 262_144
+  pub number_small : (n : ℕ) (d : Declaration) → slice_get (elements_of spec) n ≡ Some d → n < ELEMENTS
   number_small n d at = let few = elements_few in let inside = slice_get_within (elements_of spec) n d at in omega (arith, few, inside)
 
   -- the declaration of an element, at its number

@@ -1,20 +1,23 @@
 -- Examples of faults of small specifications. Above each one stands its text, behind the line
 -- `CoreASM T` and, where nothing else is said, `init M`. Each line ends with a line feed, and indices
 -- are counted from 0.
-use Rattle.std.proofs.Common.{◌≡◌, ℕ, ◌≤◌, pos, List, [], ◌∷◌, None, Some, refl, arith}
+use Rattle.std.proofs.Common.{◌≡◌, ℕ, ◌+◌, ◌≤ℤ◌, pos, List, [], ◌∷◌, None, Some, refl, arith}
 use Rattle.std.specs.Prelude.{codes}
 use Rattle.std.proofs.lemmas.Int.{ints}
+use Rattle.asm_state.specs.Bounds.{greatest_number}
+use Rattle.asm_state.specs.declared.limits.TheConstants.{LOCATIONS}
 use Rattle.asm_state.specs.declared.number.Number.{Number}
 use Rattle.asm_state.specs.declared.function.FunctionKind.TheVariants.{Controlled, Static}
 use Rattle.asm_syntax.specs.declared.term.Literal.TheVariants as literal
 use Rattle.asm_syntax.specs.SourceTree.{Name, Term, Constant, Named, Answer, no_terms, term_then, Skip, Assign, Call, Let, While, SetResult, Const, Plain, Entry, Each, Entries, Item, Init, Enum, Universe, Function, Derived, NamedRule, Spec}
 use Rattle.asm_check.specs.FaultLists.{twice_faults, use_faults, init_faults, limit_faults, entry_faults, start_results}
 use Rattle.asm_check.specs.Faults.{IsLeastFault, IsWellFormed}
-use Rattle.asm_check.specs.Limits.{size_of}
+use Rattle.asm_check.specs.Limits.{is_controlled, size_of, domain_of, lists_of}
 use Rattle.asm_check.specs.Names as names
 use Rattle.asm_check.specs.Names.{Meaning, declared, declarations, first_declarations, uses}
 use Rattle.asm_check.specs.Numbers.{elements_of, rules_of}
 use Rattle.asm_check.specs.Shapes.{texts_of}
+use Rattle.asm_check.specs.Sizes.{total}
 use Rattle.asm_check.specs.Ways.{called, used, height}
 use Rattle.asm_check.proofs.AllFaults.{least_is, none_is}
 
@@ -23,14 +26,14 @@ use Rattle.asm_check.proofs.AllFaults.{least_is, none_is}
 abbrev name : ℕ → List ℕ → Name
 name at text = record { at = at; text = text }
 
-abbrev number : (n : ℕ) → n ≤ 1_000_000_000_000_000 → Number
-number n small = record { value = pos n; low = omega (arith, ints); high = omega (arith, ints, small) }
+abbrev number : (n : ℕ) → pos n ≤ℤ greatest_number → Number
+number n small = record { value = pos n; low = omega (arith, ints); high = small }
 
 abbrev zero' : Number
-zero' = number 0 (omega arith)
+zero' = number 0 (omega (arith, ints))
 
 abbrev one : Number
-one = number 1 (omega arith)
+one = number 1 (omega (arith, ints))
 
 abbrev nought : Term
 nought = Constant (literal.Number zero')
@@ -80,6 +83,9 @@ M' = codes "M"
 
 abbrev U' : List ℕ
 U' = codes "U"
+
+abbrev V' : List ℕ
+V' = codes "V"
 
 abbrev with_length : ℕ → List Item → Spec
 with_length length items = record { name = name 8 (codes "T"); items = items; length = length }
@@ -134,6 +140,23 @@ tabled = text 114 (Universe (name 26 U') zero' one ∷ Function (name 53 g') Sta
 no_fault_in_tabled : IsWellFormed tabled
 unfolding declared declarations first_declarations uses called used height twice_faults use_faults init_faults limit_faults entry_faults start_results
 no_fault_in_tabled = none_is tabled refl
+
+-- universe U = 0 .. 254
+-- universe V = 0 .. 256
+-- function controlled x : U * V
+-- rule M = skip
+abbrev all_locations : Spec
+all_locations =
+    text 105 (Universe (name 26 U') zero' (number 254 (omega (arith, ints))) ∷ Universe (name 48 V') zero' (number 256 (omega (arith, ints))) ∷ Function (name 81 x') Controlled (name 85 U' ∷ name 89 V' ∷ []) None None ∷ main 96 ∷ [])
+
+-- 255 * 257 of argument lists, and the stray location
+as_many_as_there_can_be : total is_controlled (λ m. lists_of all_locations (domain_of m) + 1) (first_declarations all_locations) ≡ LOCATIONS
+unfolding declarations first_declarations
+as_many_as_there_can_be = refl
+
+no_fault_in_all_locations : IsWellFormed all_locations
+unfolding declared declarations first_declarations uses called used height twice_faults use_faults init_faults limit_faults entry_faults start_results
+no_fault_in_all_locations = none_is all_locations refl
 
 -- ---- one fault of each number, or the least of several
 
@@ -319,11 +342,23 @@ fault_in_start_with_parameter = least_is start_with_parameter 15 14 refl
 -- universe U = 0 .. 4096
 -- rule M = skip
 abbrev wide_universe : Spec
-wide_universe = text 54 (Universe (name 26 U') zero' (number 4096 (omega arith)) ∷ main 45 ∷ [])
+wide_universe = text 54 (Universe (name 26 U') zero' (number 4096 (omega (arith, ints))) ∷ main 45 ∷ [])
 
 fault_in_wide_universe : IsLeastFault wide_universe 26 15
 unfolding declared declarations first_declarations uses called used height twice_faults use_faults init_faults limit_faults entry_faults start_results
 fault_in_wide_universe = least_is wide_universe 26 15 refl
+
+-- universe U = 0 .. 255
+-- universe V = 0 .. 255
+-- function controlled x : U * V
+-- rule M = skip
+abbrev too_many_locations : Spec
+too_many_locations =
+    text 105 (Universe (name 26 U') zero' (number 255 (omega (arith, ints))) ∷ Universe (name 48 V') zero' (number 255 (omega (arith, ints))) ∷ Function (name 81 x') Controlled (name 85 U' ∷ name 89 V' ∷ []) None None ∷ main 96 ∷ [])
+
+fault_in_too_many_locations : IsLeastFault too_many_locations 81 15
+unfolding declared declarations first_declarations uses called used height twice_faults use_faults init_faults limit_faults entry_faults start_results
+fault_in_too_many_locations = least_is too_many_locations 81 15 refl
 
 -- universe U = 0 .. 0
 -- function static g : U initially { (0) -> undef, (0) -> undef }

@@ -10,13 +10,15 @@ use Rattle.std.specs.Prelude.{Contains, filter_map, flat_map}
 use Rattle.std.specs.List.{list_all}
 use Rattle.std.proofs.lemmas.Bool.{false≢true, not-true, not_from_false, eqb-false, ne_eqb, ltb-true, lt-ltb, and_parts, and_from, or_cases, or_left, or_right}
 use Rattle.std.proofs.lemmas.List.Elements.{Contains-append_left, Contains-append_right, Contains-append_cases}
+use Rattle.asm_state.specs.declared.limits.TheConstants.{UNIVERSES, VALUES, FUNCTIONS, DOMAIN, LOCATIONS, STATIC_LISTS}
 use Rattle.asm_state.proofs.Lists.{Contains-cons_cases, Contains-first, Contains-flat_map, Contains-from_flat_map, Contains-from_map, Contains-later, Contains-map, Contains-none}
 use Rattle.asm_syntax.specs.SourceTree as source
 use Rattle.asm_syntax.specs.SourceTree.{Name, Entry, Item, Spec}
+use Rattle.asm_check.specs.declared.limits.TheConstants.{RULES}
 use Rattle.asm_check.specs.Names as names
 use Rattle.asm_check.specs.Names.{Text, Declaration, Meaning, Role, InTerm, AsTarget, AsRule, AsAnswering, AsResult, Use, declarations, first_declarations, declared, uses, is_among, text_of, is_known, arguments_of, is_assignable, is_result, answers, is_start, uses_of_entry}
 use Rattle.asm_check.specs.Limits as limits
-use Rattle.asm_check.specs.Limits.{is_universe, is_function, is_controlled, is_static, is_rule, size_of, domain_of, lists_of, max_universes, max_elements, max_functions, max_domain, max_locations, max_static_lists, max_rules, Passes, PassesLimit}
+use Rattle.asm_check.specs.Limits.{is_universe, is_function, is_controlled, is_static, is_rule, size_of, domain_of, lists_of, Passes, PassesLimit}
 use Rattle.asm_check.specs.Faults.{IsRepeated, IsTwice, IsUnknown, IsMiscounted, IsUnassignable, IsBadInit, IsOverLimit, IsBadEntry, IsResultUse, IsFault, twice, unknown, arity, not_controlled, cyclic_rule, cyclic_derived, init, another, no_start, missing, too_many, table_entry, result_use, outside, plain_call, start, init_of, parameters_of, is_known_use, inits, table_of}
 use Rattle.asm_check.specs.FaultLists.{repeats, at_with, twice_faults, miscounts, is_target, is_plain_call, is_misused, misuse, faults_of_use, all_of_use, use_faults, unfit_starts, faults_of_inits, init_faults, passes, passes_limit, limit_faults_from, limit_faults, is_bad_entry, bad_entries, entry_faults, start_result, start_results}
 use Rattle.asm_check.specs.Steps as steps
@@ -373,18 +375,18 @@ module _ (spec : Spec) where
   limit_sound : (before : List Declaration) (d : Declaration) → passes_limit spec before d ≡ true → PassesLimit spec before d
   limit_sound before d h =
       elim (or_cases _ _ h) [
-        | inr r ↦ limits.rules (passes_sound max_rules is_rule (λ m. 1) before d r)
+        | inr r ↦ limits.rules (passes_sound RULES is_rule (λ m. 1) before d r)
         | inl h ↦ elim (or_cases _ _ h) [
-          | inr s ↦ limits.static_lists (passes_sound max_static_lists is_static (λ m. lists_of spec (domain_of m)) before d s)
+          | inr s ↦ limits.static_lists (passes_sound STATIC_LISTS is_static (λ m. lists_of spec (domain_of m)) before d s)
           | inl h ↦ elim (or_cases _ _ h) [
-            | inr l ↦ limits.locations (passes_sound max_locations is_controlled (λ m. lists_of spec (domain_of m) + 1) before d l)
+            | inr l ↦ limits.locations (passes_sound LOCATIONS is_controlled (λ m. lists_of spec (domain_of m) + 1) before d l)
             | inl h ↦ elim (or_cases _ _ h) [
-              | inr long ↦ limits.domain (ltb-true max_domain (length (domain_of d.meaning)) long)
+              | inr long ↦ limits.domain (ltb-true DOMAIN (length (domain_of d.meaning)) long)
               | inl h ↦ elim (or_cases _ _ h) [
-                | inr f ↦ limits.functions (passes_sound max_functions is_function (λ m. 1) before d f)
+                | inr f ↦ limits.functions (passes_sound FUNCTIONS is_function (λ m. 1) before d f)
                 | inl h ↦ elim (or_cases _ _ h) [
-                  | inr e ↦ limits.elements (ltb-true max_elements (size_of spec d.meaning) e)
-                  | inl u ↦ limits.universes (passes_sound max_universes is_universe (λ m. 1) before d u)
+                  | inr e ↦ limits.elements (ltb-true VALUES (size_of spec d.meaning) e)
+                  | inl u ↦ limits.universes (passes_sound UNIVERSES is_universe (λ m. 1) before d u)
                 ]
               ]
             ]
@@ -395,17 +397,17 @@ module _ (spec : Spec) where
   -- the limits of ranks are faults of steps
   limit_complete : (before : List Declaration) (d : Declaration) → PassesLimit spec before d → (passes_limit spec before d ≡ true) ⊎ steps.IsTooHigh spec d
   limit_complete before d (limits.universes p) =
-      inl (or_left _ _ (or_left _ _ (or_left _ _ (or_left _ _ (or_left _ _ (or_left _ _ (passes_complete max_universes is_universe (λ m. 1) before d p)))))))
+      inl (or_left _ _ (or_left _ _ (or_left _ _ (or_left _ _ (or_left _ _ (or_left _ _ (passes_complete UNIVERSES is_universe (λ m. 1) before d p)))))))
   limit_complete before d (limits.elements p) =
-      inl (or_left _ _ (or_left _ _ (or_left _ _ (or_left _ _ (or_left _ _ (or_right _ _ (lt-ltb max_elements (size_of spec d.meaning) p)))))))
+      inl (or_left _ _ (or_left _ _ (or_left _ _ (or_left _ _ (or_left _ _ (or_right _ _ (lt-ltb VALUES (size_of spec d.meaning) p)))))))
   limit_complete before d (limits.functions p) =
-      inl (or_left _ _ (or_left _ _ (or_left _ _ (or_left _ _ (or_right _ _ (passes_complete max_functions is_function (λ m. 1) before d p))))))
-  limit_complete before d (limits.domain p) = inl (or_left _ _ (or_left _ _ (or_left _ _ (or_right _ _ (lt-ltb max_domain (length (domain_of d.meaning)) p)))))
+      inl (or_left _ _ (or_left _ _ (or_left _ _ (or_left _ _ (or_right _ _ (passes_complete FUNCTIONS is_function (λ m. 1) before d p))))))
+  limit_complete before d (limits.domain p) = inl (or_left _ _ (or_left _ _ (or_left _ _ (or_right _ _ (lt-ltb DOMAIN (length (domain_of d.meaning)) p)))))
   limit_complete before d (limits.locations p) =
-      inl (or_left _ _ (or_left _ _ (or_right _ _ (passes_complete max_locations is_controlled (λ m. lists_of spec (domain_of m) + 1) before d p))))
+      inl (or_left _ _ (or_left _ _ (or_right _ _ (passes_complete LOCATIONS is_controlled (λ m. lists_of spec (domain_of m) + 1) before d p))))
   limit_complete before d (limits.static_lists p) =
-      inl (or_left _ _ (or_right _ _ (passes_complete max_static_lists is_static (λ m. lists_of spec (domain_of m)) before d p)))
-  limit_complete before d (limits.rules p) = inl (or_right _ _ (passes_complete max_rules is_rule (λ m. 1) before d p))
+      inl (or_left _ _ (or_right _ _ (passes_complete STATIC_LISTS is_static (λ m. lists_of spec (domain_of m)) before d p)))
+  limit_complete before d (limits.rules p) = inl (or_right _ _ (passes_complete RULES is_rule (λ m. 1) before d p))
   limit_complete before d (limits.rule_rank way none) = inr (steps.rule_rank way none)
   limit_complete before d (limits.derived_rank way none) = inr (steps.derived_rank way none)
 

@@ -1,8 +1,9 @@
--- Where no way is longer than 16 steps, heights are ranks.
+-- Where no way is longer than the greatest rank, heights are ranks.
 use Rattle.std.proofs.Common.{◌≡◌, ℕ, zero, suc, ◌<◌, ◌≤◌, max, List, [], ◌∷◌, ◌++◌, map, ap, sym, subst, arith, inl, inr}
 use Rattle.std.specs.Prelude.{Contains}
 use Rattle.std.proofs.lemmas.Bool.{cases_lt}
 use Rattle.asm_state.proofs.Lists.{Contains-cons_cases, Contains-first, Contains-later, Contains-map, Contains-none}
+use Rattle.asm_check.specs.declared.cycles.TheConstants.{RANK}
 use Rattle.asm_check.specs.Names.{Text}
 use Rattle.asm_check.specs.Ways.{greatest, IsOnWay, height}
 
@@ -39,9 +40,9 @@ attained h (x ∷ xs) some =
       | inr above ↦ (x, Contains-first x xs, omega (arith, above))
     ]
 
--- each height is at most 16, and falls with each step
+-- each height is at most the greatest rank, and falls with each step
 abbrev pub AreRanks : (Text → List Text) → (Text → ℕ) → Type 0
-AreRanks next rank = ((f : Text) → rank f ≤ 16) × ((f g : Text) → Contains (next f) g → rank g < rank f)
+AreRanks next rank = ((f : Text) → rank f ≤ RANK) × ((f g : Text) → Contains (next f) g → rank g < rank f)
 
 module _ (next : Text → List Text) where
   pub way : (n : ℕ) (f : Text) → IsOnWay next (height next n f) f
@@ -78,17 +79,17 @@ module _ (next : Text → List Text) where
         | inr none ↦ omega (arith, none)
       ]
 
-  module _ (short : (f : Text) → ¬ (IsOnWay next 17 f)) where
-    low : (f : Text) → height next 17 f ≤ 16
+  module _ (short : (f : Text) → ¬ (IsOnWay next (suc RANK) f)) where
+    low : (f : Text) → height next (suc RANK) f ≤ RANK
     low f =
-        elim (cases_lt (height next 17 f) 17) [
+        elim (cases_lt (height next (suc RANK) f) (suc RANK)) [
           | inl below ↦ omega (arith, below)
           | inr above ↦
-              let up = within 17 f in
-              let is : height next 17 f ≡ 17 = omega (arith, above, up) in
-              absurd (short f (subst (λ k. IsOnWay next k f) is (way 17 f)))
+              let up = within (suc RANK) f in
+              let is : height next (suc RANK) f ≡ (suc RANK) = omega (arith, above, up) in
+              absurd (short f (subst (λ k. IsOnWay next k f) is (way (suc RANK) f)))
         ]
 
-    pub heights_are_ranks : AreRanks next (height next 17)
+    pub heights_are_ranks : AreRanks next (height next (suc RANK))
     heights_are_ranks =
-        (low, λ f g c. let below = low g in let up = high 17 (suc (height next 17 g)) f (omega (arith, below)) (g, c, way 17 g) in omega (arith, up))
+        (low, λ f g c. let below = low g in let up = high (suc RANK) (suc (height next (suc RANK) g)) f (omega (arith, below)) (g, c, way (suc RANK) g) in omega (arith, up))

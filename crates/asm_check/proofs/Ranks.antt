@@ -1,10 +1,11 @@
 -- A well-formed specification has ranks.
-use Rattle.std.proofs.Common.{◌≡◌, ◌≢◌, ◌⊎◌, ℕ, ◌<◌, Bool, true, false, cond, List, [], ◌∷◌, ◌++◌, map, Option, Some, None, refl, sym, ap, subst, ◌∙◌, inl, inr}
+use Rattle.std.proofs.Common.{suc, ◌≡◌, ◌≢◌, ◌⊎◌, ℕ, ◌<◌, Bool, true, false, cond, List, [], ◌∷◌, ◌++◌, map, Option, Some, None, refl, sym, ap, subst, ◌∙◌, inl, inr}
 use Rattle.std.specs.Prelude.{Contains, filter}
 use Rattle.std.proofs.lemmas.Bool.{false≢true}
 use Rattle.std.proofs.lemmas.List.Elements.{Contains-append_left, Contains-append_right}
 use Rattle.asm_state.proofs.Lists.{Contains-cons_cases, Contains-first, Contains-later, Contains-map, Contains-none}
 use Rattle.asm_syntax.specs.SourceTree.{Name, Term, Constant, Named, Chain, Not, Negative, Exists, Every, Answer, Terms, no_terms, term_then, Links, no_links, link_then, Rule, Skip, Assign, Call, Par, Seq, If, Let, Forall, Choose, Iterate, While, SetResult, Rules, no_rules, rule_then, Branch, left_out, written, Spec}
+use Rattle.asm_check.specs.declared.cycles.TheConstants.{RANK}
 use Rattle.asm_check.specs.Names as names
 use Rattle.asm_check.specs.Names.{Text, Meaning, NamedRule, Derived, Role, InTerm, AsRule, AsAnswering, AsResult, Use, use_of, term_count, rule_role, is_known, is_among, text_of, declared, uses, uses_of_rule, uses_of_rules, uses_of_branch, uses_of_term, uses_of_terms, uses_of_links, uses_of_test, uses_of_target, rule_scope}
 use Rattle.asm_check.specs.Ways.{called, used, is_call, is_use, calls_in, uses_in, LeadsTo, at_once, by_way_of, ReachesCycle, IsOnWay, height}
@@ -163,12 +164,12 @@ module _ (spec : Spec) (next : Text → List Text)
   reaches_none f (g, way, back) = never_back g back
 
   no_long_way : ((before after : List names.Declaration) (d : names.Declaration) → names.first_declarations spec ≡ before ++ d ∷ after
-      → IsOnWay next 17 d.name.text → ¬ (ReachesCycle next d.name.text) → ⊥)
-      → (f : Text) → ¬ (IsOnWay next 17 f)
+      → IsOnWay next (suc RANK) d.name.text → ¬ (ReachesCycle next d.name.text) → ⊥)
+      → (f : Text) → ¬ (IsOnWay next (suc RANK) f)
   no_long_way limit f (g, c, way) =
       let given = begun f g c in
       let first = first_is spec f given.0 given.1 in
-      limit first.before first.after first.it first.parts (subst (IsOnWay next 17) (sym first.name) (g, c, way)) (reaches_none first.it.name.text)
+      limit first.before first.after first.it first.parts (subst (IsOnWay next (suc RANK)) (sym first.name) (g, c, way)) (reaches_none first.it.name.text)
 
 pub rules_begun : (spec : Spec) (f g : Text) → Contains (called spec f) g → (m : Meaning) × (declared spec f ≡ Some m)
 unfolding called
@@ -178,13 +179,13 @@ pub derived_begun : (spec : Spec) (f g : Text) → Contains (used spec f) g → 
 unfolding used
 derived_begun spec f g c = starts_declared spec (uses_in spec) (λ u bad. absurd (Contains-none u bad)) f g c
 
-rules_ranked : (spec : Spec) → IsWellFormed spec → AreRanks (called spec) (height (called spec) 17)
+rules_ranked : (spec : Spec) → IsWellFormed spec → AreRanks (called spec) (height (called spec) (suc RANK))
 rules_ranked spec good =
     heights_are_ranks (called spec)
     (no_long_way spec (called spec) (rules_begun spec) (λ at bad. good at 12 (cyclic_rule bad))
     (λ before after d parts way short. good d.name.at 15 (too_many (record { before = before; passing = d; after = after; parts = parts; passes = rule_rank way short; offset = refl }))))
 
-derived_ranked : (spec : Spec) → IsWellFormed spec → AreRanks (used spec) (height (used spec) 17)
+derived_ranked : (spec : Spec) → IsWellFormed spec → AreRanks (used spec) (height (used spec) (suc RANK))
 derived_ranked spec good =
     heights_are_ranks (used spec)
     (no_long_way spec (used spec) (derived_begun spec) (λ at bad. good at 13 (cyclic_derived bad))
@@ -230,7 +231,7 @@ ranks_exist spec good = record { rules = rules; rules_low = (rules_ranked spec g
     known u c no' = good u.name.at 9 (unknown (record { use_of = u; stands = c; unknown = no'; offset = refl }))
 
     callable : (f : Text) (xs : List Name) (P : Rule) → declared spec f ≡ Some (NamedRule xs P) → (u : Use) → Contains (uses_of_rule P (rule_scope xs)) u
-        → (to : Option (Name × Terms)) → u.role ≡ rule_role to → IsCallable spec (height (called spec) 17) (height (called spec) 17 f) u.name.text
+        → (to : Option (Name × Terms)) → u.role ≡ rule_role to → IsCallable spec (height (called spec) (suc RANK)) (height (called spec) (suc RANK) f) u.name.text
     callable f xs P is u c to role =
         let m = declared spec u.name.text in
         let same : is_known u.role u.is_bound m ≡ is_known AsRule u.is_bound m = ap (λ r. is_known r u.is_bound m) role ∙ known_there to u.is_bound m in
@@ -238,18 +239,18 @@ ranks_exist spec good = record { rules = rules; rules_low = (rules_ranked spec g
         let call : is_call u.role m ≡ true = ap (λ r. is_call r m) role ∙ called_there to m ∙ ap (is_call AsRule) it.2 in
         record { parameters = it.0; body = it.1; is_declared = it.2; is_below = (rules_ranked spec good).1 f u.name.text (in_called spec f xs P is u c call) }
 
-    rules : ranks.AreRulesRanked spec (height (called spec) 17)
-    rules f xs P is = calls_below spec (height (called spec) 17) (height (called spec) 17 f) P (rule_scope xs) (callable f xs P is)
+    rules : ranks.AreRulesRanked spec (height (called spec) (suc RANK))
+    rules f xs P is = calls_below spec (height (called spec) (suc RANK)) (height (called spec) (suc RANK) f) P (rule_scope xs) (callable f xs P is)
 
     -- `result` is bound, where it stands
     bound_result : (u : Use) → Contains (uses spec) u → u.role ≡ AsResult → u.is_bound ≡ false → ⊥
     bound_result u c role free = good u.name.at 17 (result_use (outside u c role free refl))
 
-    usable : (f : Text) (xs : List Name) (t : Term) → declared spec f ≡ Some (Derived xs t) → UsesAreBelow spec (height (used spec) 17) (height (used spec) 17 f) (uses_of_term t (map text_of xs))
+    usable : (f : Text) (xs : List Name) (t : Term) → declared spec f ≡ Some (Derived xs t) → UsesAreBelow spec (height (used spec) (suc RANK)) (height (used spec) (suc RANK) f) (uses_of_term t (map text_of xs))
     usable f xs t is u c (inl role) free ys s d =
         let using : is_use u.role u.is_bound (declared spec u.name.text) ≡ true = (λ i. is_use (role i) (free i) (d i)) in
         (derived_ranked spec good).1 f u.name.text (in_used spec f xs t is u c using)
     usable f xs t is u c (inr role) free ys s d = absurd (bound_result u (body_uses spec f (Derived xs t) is u c) role free)
 
-    derived : ranks.AreDerivedRanked spec (height (used spec) 17)
-    derived f xs t is = uses_below spec (height (used spec) 17) (height (used spec) 17 f) t (map text_of xs) (usable f xs t is)
+    derived : ranks.AreDerivedRanked spec (height (used spec) (suc RANK))
+    derived f xs t is = uses_below spec (height (used spec) (suc RANK)) (height (used spec) (suc RANK) f) t (map text_of xs) (usable f xs t is)

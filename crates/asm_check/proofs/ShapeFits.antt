@@ -3,6 +3,7 @@ use Rattle.std.proofs.Common.{◌≡◌, ℕ, suc, ◌+◌, ◌≤◌, List, [],
 use Rattle.std.specs.Prelude.{filter_map}
 use Rattle.std.proofs.lemmas.List.{length-map, length-append}
 use Rattle.std.proofs.lemmas.List.Elements.{All-map, All-filter}
+use Rattle.asm_state.specs.declared.limits.TheConstants.{UNIVERSES, VALUES, FUNCTIONS}
 use Rattle.asm_state.specs.declared.value.Value.{Value}
 use Rattle.asm_state.specs.Fits.{IsDomainOf}
 use Rattle.asm_state.specs.Signature.{domain_in}
@@ -32,18 +33,18 @@ module _ (spec : Spec) (good : IsWellFormed spec) where
   abbrev values : Declaration → List Value
   values d = universe_values spec d.meaning
 
-  universes_few : length (map values (universes_of spec)) ≤ 64
+  universes_few : length (map values (universes_of spec)) ≤ UNIVERSES
   universes_few =
       let few = few_universes spec good in
       let same : length (universes_of spec) ≡ length (like is_universe (declarations_from 0 spec.items)) = ap length (all_like spec good is_universe refl) in
       let long = length-map (universes_of spec) values in
       omega (arith, few, same, long)
 
-  values_few : All (λ (vs : List Value). length vs ≤ 4096) (map values (universes_of spec))
+  values_few : All (λ (vs : List Value). length vs ≤ VALUES) (map values (universes_of spec))
   values_few =
-      All-map (λ (vs : List Value). length vs ≤ 4096) values (universes_of spec)
-      (All-filter (λ d. is_universe d.meaning) (λ d. length (values d) ≤ 4096) (first_declarations spec)
-      (All-from_contained (λ d. length (values d) ≤ 4096) (first_declarations spec)
+      All-map (λ (vs : List Value). length vs ≤ VALUES) values (universes_of spec)
+      (All-filter (λ d. is_universe d.meaning) (λ d. length (values d) ≤ VALUES) (first_declarations spec)
+      (All-from_contained (λ d. length (values d) ≤ VALUES) (first_declarations spec)
       (λ d it. let small = (limits_hold spec good).elements d it in let long = length_values spec d.meaning in omega (arith, small, long))))
 
   functions_next : (k : ℕ) (item : Item) (items : List Item) → length (like is_function (declarations_from k (item ∷ items))) ≡ length (like is_function (declarations_of k item)) + length (like is_function (declarations_from (suc k) items))
@@ -60,7 +61,7 @@ module _ (spec : Spec) (good : IsWellFormed spec) where
   fewer_functions k (source.Derived x xs t ∷ items) = let rest = fewer_functions (suc k) items in omega (arith, rest)
   fewer_functions k (source.NamedRule x xs P ∷ items) = fewer_functions (suc k) items
 
-  functions_few : length (filter_map (function_given spec) spec.items) ≤ 256
+  functions_few : length (filter_map (function_given spec) spec.items) ≤ FUNCTIONS
   functions_few =
       let all : total is_function (λ m. 1) (first_declarations spec) ≡ length (like is_function (declarations_from 0 spec.items)) =
       total_ones is_function (first_declarations spec) ∙ ap length (all_like spec good is_function refl) in

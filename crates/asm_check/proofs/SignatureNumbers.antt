@@ -3,6 +3,7 @@ use Rattle.std.proofs.Common.{◌≡◌, ℕ, ◌+◌, ◌≤◌, length, Some, 
 use Rattle.std.specs.Prelude.{Contains, slice_get, option_map}
 use Rattle.std.proofs.lemmas.List.{length-map}
 use Rattle.std.proofs.lemmas.Option.{slice_get-map}
+use Rattle.asm_state.specs.declared.element.TheConstants.{ELEMENTS}
 use Rattle.asm_state.specs.Universe.{element}
 use Rattle.asm_syntax.specs.SourceTree.{Spec}
 use Rattle.asm_check.specs.Names.{Declaration, Enumeration, Element, declarations_from, first_declarations}
@@ -28,7 +29,7 @@ module _ (spec : Spec) (good : IsWellFormed spec) where
       subst (λ m. Contains (universe_values spec (Enumeration k)) (element m)) same
       (element_indexed (first_declarations spec) 0 0 spec.items (all_numbered spec good) n k d (ap (λ ds. slice_get ds n) (sym elements_all) ∙ e) is)
 
-  elements_few : length (elements_of spec) ≤ 262_144
+  elements_few : length (elements_of spec) ≤ ELEMENTS
   elements_few =
       let same = ap length elements_all ∙ length_elements 0 spec.items in
       let few = few_elements spec good in

@@ -4,6 +4,8 @@ use Rattle.std.specs.Prelude.{Contains, filter, sum_by}
 use Rattle.std.proofs.lemmas.List.{length-append}
 use Rattle.std.proofs.lemmas.List.Elements.{Contains-append_left, Contains-append_right}
 use Rattle.std.proofs.lemmas.List.Sums.{sum_by-cons}
+use Rattle.asm_state.specs.declared.element.TheConstants.{ELEMENTS}
+use Rattle.asm_state.specs.declared.limits.TheConstants.{UNIVERSES, VALUES}
 use Rattle.asm_state.proofs.Lists.{Contains-cons_cases, Contains-first, Contains-none}
 use Rattle.asm_state.specs.Universe.{count_between}
 use Rattle.asm_syntax.specs.SourceTree as source
@@ -28,12 +30,12 @@ total_ones is_like (d ∷ ds) =
     ]
 
 abbrev pub IsSmallItem : Item → Type 0
-IsSmallItem (source.Enum x xs) = length xs ≤ 4096
-IsSmallItem (source.Universe x first last) = count_between first.value last.value ≤ 4096
+IsSmallItem (source.Enum x xs) = length xs ≤ VALUES
+IsSmallItem (source.Universe x first last) = count_between first.value last.value ≤ VALUES
 IsSmallItem item = Unit {0}
 
 module _ (spec : Spec) (good : IsWellFormed spec) where
-  own_small : (k : ℕ) (item : Item) → size_of spec (Enumeration k) ≡ elements_of_item item → ((d : Declaration) → Contains (declarations_of k item) d → size_of spec d.meaning ≤ 4096) → IsSmallItem item
+  own_small : (k : ℕ) (item : Item) → size_of spec (Enumeration k) ≡ elements_of_item item → ((d : Declaration) → Contains (declarations_of k item) d → size_of spec d.meaning ≤ VALUES) → IsSmallItem item
   own_small k (source.Enum x xs) is small = let h = small (declares x (Enumeration k)) (Contains-first (declares x (Enumeration k)) (element_declarations k xs)) in omega (arith, is, h)
   own_small k (source.Universe x first last) is small = small (declares x (Range first.value last.value)) (Contains-first (declares x (Range first.value last.value)) [])
   own_small k (source.Uses x) is small = tt
@@ -42,7 +44,7 @@ module _ (spec : Spec) (good : IsWellFormed spec) where
   own_small k (source.Derived x xs t) is small = tt
   own_small k (source.NamedRule x xs P) is small = tt
 
-  small_from : (k first : ℕ) (items : List Item) → AreNumbered (first_declarations spec) k first items → ((d : Declaration) → Contains (declarations_from k items) d → size_of spec d.meaning ≤ 4096)
+  small_from : (k first : ℕ) (items : List Item) → AreNumbered (first_declarations spec) k first items → ((d : Declaration) → Contains (declarations_from k items) d → size_of spec d.meaning ≤ VALUES)
       → (item : Item) → Contains items item → IsSmallItem item
   small_from k first [] n small item it = absurd (Contains-none item it)
   small_from k first (head ∷ items) n small item it =
@@ -63,7 +65,7 @@ module _ (spec : Spec) (good : IsWellFormed spec) where
   universes_next : (k : ℕ) (item : Item) (items : List Item) → length (like is_universe (declarations_from k (item ∷ items))) ≡ length (like is_universe (declarations_of k item)) + length (like is_universe (declarations_from (suc k) items))
   universes_next k item items = ap length (like_next is_universe k item items) ∙ length-append (like is_universe (declarations_of k item)) (like is_universe (declarations_from (suc k) items))
 
-  own_few : (k : ℕ) (item : Item) → IsSmallItem item → elements_of_item item ≤ 4096 * length (like is_universe (declarations_of k item))
+  own_few : (k : ℕ) (item : Item) → IsSmallItem item → elements_of_item item ≤ VALUES * length (like is_universe (declarations_of k item))
   own_few k (source.Enum x xs) small =
       let own : length (like is_universe (declarations_of k (source.Enum x xs))) ≡ 1 = ap (λ ds. length (declares x (Enumeration k) ∷ ds)) (elements_dropped is_universe k xs refl) in
       omega (arith, own, small)
@@ -74,7 +76,7 @@ module _ (spec : Spec) (good : IsWellFormed spec) where
   own_few k (source.Derived x xs t) small = omega arith
   own_few k (source.NamedRule x xs P) small = omega arith
 
-  few_from : (k : ℕ) (items : List Item) → ((item : Item) → Contains items item → IsSmallItem item) → elements_in items ≤ 4096 * length (like is_universe (declarations_from k items))
+  few_from : (k : ℕ) (items : List Item) → ((item : Item) → Contains items item → IsSmallItem item) → elements_in items ≤ VALUES * length (like is_universe (declarations_from k items))
   few_from k [] small = omega arith
   few_from k (item ∷ items) small =
       let own = own_few k item (small item (Contains-first item items)) in
@@ -82,16 +84,16 @@ module _ (spec : Spec) (good : IsWellFormed spec) where
       let next = universes_next k item items in
       omega (arith, own, rest, next)
 
-  pub few_universes : length (like is_universe (declarations_from 0 spec.items)) ≤ 64
+  pub few_universes : length (like is_universe (declarations_from 0 spec.items)) ≤ UNIVERSES
   few_universes =
       let all : total is_universe (λ m. 1) (first_declarations spec) ≡ length (like is_universe (declarations_from 0 spec.items)) =
       total_ones is_universe (first_declarations spec) ∙ ap (λ ds. length (like is_universe ds)) (all_count spec good) in
       let most = (limits_hold spec good).universes in
       omega (arith, all, most)
 
-  pub few_elements : elements_in spec.items ≤ 262_144
+  pub few_elements : elements_in spec.items ≤ ELEMENTS
   few_elements = let few = few_universes in let each = few_from 0 spec.items all_small in omega (arith, few, each)
 
   -- where the elements from an item on, and those before it, are all there are
-  pub room_for : (count n : ℕ) (item : Item) (rest : List Item) → count + elements_in (item ∷ rest) ≡ elements_in spec.items → elements_of_item item ≡ n → count + n ≤ 262_144
+  pub room_for : (count n : ℕ) (item : Item) (rest : List Item) → count + elements_in (item ∷ rest) ≡ elements_in spec.items → elements_of_item item ≡ n → count + n ≤ ELEMENTS
   room_for count n item rest all own = let few = few_elements in omega (arith, all, own, few)

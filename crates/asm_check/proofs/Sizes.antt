@@ -4,7 +4,9 @@ use Rattle.std.specs.Prelude.{Contains, filter, sum_by}
 use Rattle.std.proofs.lemmas.Bool.{cases_lt}
 use Rattle.std.proofs.lemmas.List.{map-append}
 use Rattle.std.proofs.lemmas.List.Elements.{filter-append}
+use Rattle.asm_state.specs.declared.limits.TheConstants.{UNIVERSES, VALUES, FUNCTIONS, DOMAIN, LOCATIONS, STATIC_LISTS}
 use Rattle.asm_syntax.specs.SourceTree.{Spec}
+use Rattle.asm_check.specs.declared.limits.TheConstants.{RULES}
 use Rattle.asm_check.specs.Names.{Declaration, Meaning, first_declarations}
 use Rattle.asm_check.specs.Limits.{is_universe, is_function, is_controlled, is_static, is_rule, size_of, domain_of, lists_of, Passes, PassesLimit, universes, elements, functions, domain, locations, static_lists, rules}
 use Rattle.asm_check.specs.Faults.{too_many}
@@ -36,13 +38,13 @@ module _ (spec : Spec) (most : ℕ) (is_counted : Meaning → Bool) (adds : Mean
 
 pub limits_hold : LimitsHold
 limits_hold spec good = record {
-  universes = stays_below spec 64 is_universe (λ m. 1) [] ds (λ b a d e p. never b a d e (universes p)) (omega arith);
-  elements = λ d c. small d c (size_of spec d.meaning) 4096 (λ p before. elements p);
-  functions = stays_below spec 256 is_function (λ m. 1) [] ds (λ b a d e p. never b a d e (functions p)) (omega arith);
-  domains = λ d c. small d c (length (domain_of d.meaning)) 4 (λ p before. domain p);
-  locations = stays_below spec 16384 is_controlled (λ m. lists_of spec (domain_of m) + 1) [] ds (λ b a d e p. never b a d e (locations p)) (omega arith);
-  static_lists = stays_below spec 16384 is_static (λ m. lists_of spec (domain_of m)) [] ds (λ b a d e p. never b a d e (static_lists p)) (omega arith);
-  rules = stays_below spec 256 is_rule (λ m. 1) [] ds (λ b a d e p. never b a d e (rules p)) (omega arith);
+  universes = stays_below spec UNIVERSES is_universe (λ m. 1) [] ds (λ b a d e p. never b a d e (universes p)) (omega arith);
+  elements = λ d c. small d c (size_of spec d.meaning) VALUES (λ p before. elements p);
+  functions = stays_below spec FUNCTIONS is_function (λ m. 1) [] ds (λ b a d e p. never b a d e (functions p)) (omega arith);
+  domains = λ d c. small d c (length (domain_of d.meaning)) DOMAIN (λ p before. domain p);
+  locations = stays_below spec LOCATIONS is_controlled (λ m. lists_of spec (domain_of m) + 1) [] ds (λ b a d e p. never b a d e (locations p)) (omega arith);
+  static_lists = stays_below spec STATIC_LISTS is_static (λ m. lists_of spec (domain_of m)) [] ds (λ b a d e p. never b a d e (static_lists p)) (omega arith);
+  rules = stays_below spec RULES is_rule (λ m. 1) [] ds (λ b a d e p. never b a d e (rules p)) (omega arith);
 }
   where
     ds : List Declaration

@@ -1,6 +1,7 @@
 -- The universes of a well-formed specification have no value twice.
 use Rattle.std.proofs.Common.{ℕ, ◌+◌, ◌≤◌, List, [], ◌∷◌, length, map, All, refl, sym, ap, subst, ◌∙◌, arith}
 use Rattle.std.proofs.lemmas.List.Elements.{All-nil, All-cons, All-append}
+use Rattle.asm_state.specs.declared.element.TheConstants.{ELEMENTS}
 use Rattle.asm_state.specs.declared.value.Value.{Value}
 use Rattle.asm_state.specs.Universe.{elements, numbers_between, IsUniverse}
 use Rattle.asm_state.proofs.Domains.{universe_laws}
@@ -15,7 +16,7 @@ use Rattle.asm_check.proofs.ItemLists.{universe_lists_are}
 use Rattle.asm_check.proofs.Sized.{all_numbered, few_elements}
 use Rattle.asm_check.proofs.Sole.{all_like}
 
-own_universes : (n : ℕ) (item : Item) → n + elements_of_item item ≤ 262_144 → All IsUniverse (universe_of_item n item)
+own_universes : (n : ℕ) (item : Item) → n + elements_of_item item ≤ ELEMENTS → All IsUniverse (universe_of_item n item)
 own_universes n (source.Uses x) room = All-nil IsUniverse
 own_universes n (source.Init x) room = All-nil IsUniverse
 own_universes n (source.Enum x xs) room = All-cons IsUniverse (elements n (length xs)) [] (universe_laws.elements_rise n (length xs) room) (All-nil IsUniverse)
@@ -25,7 +26,7 @@ own_universes n (source.Function x how domain codomain table) room = All-nil IsU
 own_universes n (source.Derived x xs t) room = All-nil IsUniverse
 own_universes n (source.NamedRule x xs P) room = All-nil IsUniverse
 
-universes_from : (n : ℕ) (items : List Item) → n + elements_in items ≤ 262_144 → All IsUniverse (universe_lists n items)
+universes_from : (n : ℕ) (items : List Item) → n + elements_in items ≤ ELEMENTS → All IsUniverse (universe_lists n items)
 universes_from n [] room = All-nil IsUniverse
 universes_from n (item ∷ items) room =
     All-append IsUniverse (universe_of_item n item) (universe_lists (n + elements_of_item item) items)

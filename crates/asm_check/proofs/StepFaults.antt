@@ -6,6 +6,7 @@ use Rattle.std.proofs.lemmas.List.Elements.{Contains-get_or, Contains-append_cas
 use Rattle.std.proofs.lemmas.Option.{slice_get_within, get_or_from_slice_get}
 use Rattle.asm_state.proofs.Lists.{Contains-cons_cases, Contains-from_map, Contains-map, Contains-none}
 use Rattle.asm_syntax.specs.SourceTree.{Spec}
+use Rattle.asm_check.specs.declared.cycles.TheConstants.{RANK}
 use Rattle.asm_check.specs.declared.meaning.Meaning.{Meaning}
 use Rattle.asm_check.specs.declared.meaning.Meaning.TheVariants as code
 use Rattle.asm_check.specs.Faults.{IsCyclic}
@@ -187,18 +188,18 @@ module _ (spec : Spec) (entries : List Entry) (lists : List (List ℕ)) (are : A
 
     high_fault : (n : ℕ) (e : Entry) (at number : ℕ) → slice_get entries n ≡ Some e → IsHighAt lists n e.1.at at number → IsStepFault spec at number
     high_fault n e at number is (way, short, offset, fifteen) =
-        let long : IsOnWay (onward spec) 17 e.0.now = subst (IsOnWay (onward spec) 17) (text_is n e is) (at_way 17 n (inside n e is) way) in
+        let long : IsOnWay (onward spec) (suc RANK) e.0.now = subst (IsOnWay (onward spec) (suc RANK)) (text_is n e is) (at_way (suc RANK) n (inside n e is) way) in
         let none : ¬ (ReachesCycle (onward spec) e.0.now) = λ r. short (at_reaches_back n (inside n e is) (subst (ReachesCycle (onward spec)) (sym (text_is n e is)) r)) in
         subst (IsStepFault spec at) fifteen (too_high (declaration_of e) (stands n e is) (too_high_by long none) offset)
       where
-        too_high_by : IsOnWay (onward spec) 17 e.0.now → ¬ (ReachesCycle (onward spec) e.0.now) → IsTooHigh spec (declaration_of e)
+        too_high_by : IsOnWay (onward spec) (suc RANK) e.0.now → ¬ (ReachesCycle (onward spec) e.0.now) → IsTooHigh spec (declaration_of e)
         too_high_by (g, c, w) none =
             elim (members_of spec e.0.now g c) [
               | inl r ↦ rule_rank
-                  (part_way_back spec (called spec) (λ f. IsRule (declared spec f)) (all_calls spec) (λ f g i c. callee spec f g c) 17 e.0.now r (g, c, w))
+                  (part_way_back spec (called spec) (λ f. IsRule (declared spec f)) (all_calls spec) (λ f g i c. callee spec f g c) (suc RANK) e.0.now r (g, c, w))
                   (λ bad. none (part_reaches spec (called spec) (λ f. IsRule (declared spec f)) (all_calls spec) (λ f g i c. callee spec f g c) e.0.now r bad))
               | inr d ↦ derived_rank
-                  (part_way_back spec (used spec) (λ f. IsDerived (declared spec f)) (all_uses spec) (λ f g i c. usee spec f g c) 17 e.0.now d (g, c, w))
+                  (part_way_back spec (used spec) (λ f. IsDerived (declared spec f)) (all_uses spec) (λ f g i c. usee spec f g c) (suc RANK) e.0.now d (g, c, w))
                   (λ bad. none (part_reaches spec (used spec) (λ f. IsDerived (declared spec f)) (all_uses spec) (λ f g i c. usee spec f g c) e.0.now d bad))
             ]
 
@@ -258,7 +259,7 @@ module _ (spec : Spec) (entries : List Entry) (lists : List (List ℕ)) (are : A
         let first = begins (used spec) f f way in
         number_of_derived m (derived_passes (Some (meaning_of m)) (subst IsDerived is (user spec f first.0 first.1)))
 
-    high_at : (d : Declaration) → Contains (first_declarations spec) d → IsOnWay (onward spec) 17 d.name.text → ¬ (ReachesCycle (onward spec) d.name.text)
+    high_at : (d : Declaration) → Contains (first_declarations spec) d → IsOnWay (onward spec) (suc RANK) d.name.text → ¬ (ReachesCycle (onward spec) d.name.text)
         → (at : ℕ) → d.name.at ≡ at → IsFaultBelow lists entries (length entries) at 15
     high_at d c long none at offset =
         let it = at_entry d d.name.text c refl in
@@ -269,7 +270,7 @@ module _ (spec : Spec) (entries : List Entry) (lists : List (List ℕ)) (are : A
             e,
             it.2.0,
             inr (
-              at_way_back 17 it.0 (inside it.0 e it.2.0) (subst (IsOnWay (onward spec) 17) (sym it.2.2) long),
+              at_way_back (suc RANK) it.0 (inside it.0 e it.2.0) (subst (IsOnWay (onward spec) (suc RANK)) (sym it.2.2) long),
               (λ bad. none (subst (ReachesCycle (onward spec)) it.2.2 (at_reaches it.0 (inside it.0 e it.2.0) bad))),
               ap (λ d. d.name.at) it.2.1 ∙ offset,
               refl,
@@ -277,15 +278,15 @@ module _ (spec : Spec) (entries : List Entry) (lists : List (List ℕ)) (are : A
           ),
         )
 
-    high_of : (d : Declaration) → IsTooHigh spec d → IsOnWay (onward spec) 17 d.name.text × (¬ (ReachesCycle (onward spec) d.name.text))
+    high_of : (d : Declaration) → IsTooHigh spec d → IsOnWay (onward spec) (suc RANK) d.name.text × (¬ (ReachesCycle (onward spec) d.name.text))
     high_of d (rule_rank (g, c, w) short) =
         let r = caller spec d.name.text g c in (
-          part_way spec (called spec) (λ f. IsRule (declared spec f)) (all_calls spec) (λ f g i c. callee spec f g c) 17 d.name.text r (g, c, w),
+          part_way spec (called spec) (λ f. IsRule (declared spec f)) (all_calls spec) (λ f g i c. callee spec f g c) (suc RANK) d.name.text r (g, c, w),
           (λ bad. short (part_reaches_back spec (called spec) (λ f. IsRule (declared spec f)) (all_calls spec) (λ f g i c. callee spec f g c) d.name.text r bad)),
         )
     high_of d (derived_rank (g, c, w) short) =
         let r = user spec d.name.text g c in (
-          part_way spec (used spec) (λ f. IsDerived (declared spec f)) (all_uses spec) (λ f g i c. usee spec f g c) 17 d.name.text r (g, c, w),
+          part_way spec (used spec) (λ f. IsDerived (declared spec f)) (all_uses spec) (λ f g i c. usee spec f g c) (suc RANK) d.name.text r (g, c, w),
           (λ bad. short (part_reaches_back spec (used spec) (λ f. IsDerived (declared spec f)) (all_uses spec) (λ f g i c. usee spec f g c) d.name.text r bad)),
         )
 

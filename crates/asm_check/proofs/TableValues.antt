@@ -10,12 +10,14 @@ use Rattle.std.proofs.lemmas.List.Elements.{All-map, Contains-append_left, Conta
 use Rattle.std.proofs.lemmas.List.Folds.{list_any_at}
 use Rattle.std.proofs.lemmas.List.Kept.{AllPairs-cons}
 use Rattle.std.proofs.lemmas.Option.{get_or_from_slice_get}
+use Rattle.asm_state.specs.declared.element.TheConstants.{ELEMENTS}
 use Rattle.asm_state.specs.declared.element.Element.{Element as Member}
 use Rattle.asm_state.specs.declared.number.Number.{Number as WholeNumber}
 use Rattle.asm_state.specs.declared.value.Value.{Value}
 use Rattle.asm_state.specs.declared.value.Value.TheVariants as value
 use Rattle.asm_state.specs.Codes.{code_of}
-use Rattle.asm_state.specs.Operation.{at_most, is_same, number_or_undef}
+use Rattle.asm_state.specs.Operation.{is_same, number_or_undef}
+use Rattle.asm_state.specs.Numbers.{at_most}
 use Rattle.asm_state.specs.Signature.{domain_in}
 use Rattle.asm_state.specs.Tables.{is_in, is_list, AreEntriesIn, IsTableOf}
 use Rattle.asm_state.specs.Universe.{element, elements, numbers, count_between, numbers_between}
@@ -106,7 +108,7 @@ pairs_from R (x ∷ xs) each =
     (All-from_contained (R x) xs (λ y it. let parts = split xs y it in each (x ∷ parts.0) parts.1 x y (ap (λ zs. x ∷ zs) parts.2) (Contains-first x parts.0)))
     (pairs_from R xs (λ before after w y parts it. each (x ∷ before) after w y (ap (λ zs. x ∷ zs) parts) (Contains-later x before w it)))
 
-same_member : (n : ℕ) → n < 262_144 → (e : Member) × (element n ≡ value.Element e)
+same_member : (n : ℕ) → n < ELEMENTS → (e : Member) × (element n ≡ value.Element e)
 same_member n below = (record { index = n; in_range = below }, sym (value_laws.element_at n (record { index = n; in_range = below }) refl))
 
 truths : (b c : Bool) → b ≡ c → ((b && c) || (not b && not c)) ≡ true

@@ -5,6 +5,7 @@ use Rattle.std.specs.List.{enumerate_from}
 use Rattle.std.proofs.lemmas.List.{length-append, map-append}
 use Rattle.std.proofs.lemmas.List.Elements.{filter-append}
 use Rattle.std.proofs.lemmas.List.Sums.{sum_by-append, sum_by-cons}
+use Rattle.asm_state.specs.declared.limits.TheConstants.{LOCATIONS, STATIC_LISTS}
 use Rattle.asm_state.proofs.Lists.{Contains-first, Contains-later}
 use Rattle.asm_state.specs.Fits.{static_lists}
 use Rattle.asm_state.specs.Signature.{domain_in, function_locations}
@@ -114,14 +115,14 @@ module _ (spec : Spec) (good : IsWellFormed spec) where
   all_counted : AreCounted spec.items
   all_counted x how domain codomain table it = lists_are spec good domain (short_domain spec good x how domain codomain table it)
 
-  pub locations_few : locations_from 0 spec.items ≤ 16_384
+  pub locations_few : locations_from 0 spec.items ≤ LOCATIONS
   locations_few =
       let all = count_locations 0 0 spec.items all_counted in
       let same : total is_controlled held (first_declarations spec) ≡ total is_controlled held (declarations_from 0 spec.items) = ap (total is_controlled held) (all_count spec good) in
       let few = (limits_hold spec good).locations in
       omega (arith, all, same, few)
 
-  pub statics_few : statics_in spec.items ≤ 16_384
+  pub statics_few : statics_in spec.items ≤ STATIC_LISTS
   statics_few =
       let all = count_statics 0 spec.items all_counted in
       let same : total is_static lists (first_declarations spec) ≡ total is_static lists (declarations_from 0 spec.items) = ap (total is_static lists) (all_count spec good) in

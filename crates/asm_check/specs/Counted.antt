@@ -4,6 +4,7 @@
 --     counted_from size left ds       the sizes that are counted, by positions in the table, of which so many more universes are allowed
 --     AreTotals spec before totals    what the declarations so far add together
 use Rattle.std.specs.Prelude.{◌≡◌, ◌<◌, ◌+◌, ◌-◌, ◌^◌, ℕ, zero, suc, cond, nat_le, min, List, [], ◌∷◌, length, slice_index}
+use Rattle.asm_state.specs.declared.limits.TheConstants.{VALUES}
 use Rattle.asm_syntax.specs.SourceTree.{Name, Spec}
 use Rattle.asm_check.specs.declared.limits.Totals.{Totals}
 use Rattle.asm_check.specs.declared.meaning.Declaration.{Declaration as CodeDeclaration}
@@ -24,7 +25,7 @@ abbrev pub AreElementCounts : Spec → List ℕ → Type 0
 AreElementCounts spec counts = (k : ℕ) → slice_index counts k ≡ size_of spec (Enumeration k)
 
 abbrev pub allowed_size : ℕ → ℕ
-allowed_size n = cond (nat_le n 4096) n 0
+allowed_size n = cond (nat_le n VALUES) n 0
 
 abbrev pub counted_from : (size : Meaning → ℕ) → (left : ℕ) → List Declaration → List ℕ
 counted_from size left [] = []

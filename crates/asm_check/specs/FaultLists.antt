@@ -3,10 +3,12 @@
 --     entry_faults    16;  start_results    17 of starting rules
 use Rattle.std.specs.Prelude.{ℕ, ◌+◌, Bool, true, false, not, cond, ◌&&◌, ◌||◌, nat_eq, nat_lt, List, [], ◌∷◌, ◌++◌, map, flat_map, filter, length, sum_by, Option, Some, None}
 use Rattle.std.specs.List.{list_any, list_all}
+use Rattle.asm_state.specs.declared.limits.TheConstants.{UNIVERSES, VALUES, FUNCTIONS, DOMAIN, LOCATIONS, STATIC_LISTS}
 use Rattle.asm_syntax.specs.SourceTree as source
 use Rattle.asm_syntax.specs.SourceTree.{Name, Entry, Item, Spec}
+use Rattle.asm_check.specs.declared.limits.TheConstants.{RULES}
 use Rattle.asm_check.specs.Names.{Text, Declaration, Meaning, Role, AsTarget, AsRule, Use, declarations, first_declarations, declared, uses, is_among, arguments_of, is_assignable, is_result, answers, is_start, uses_of_entry}
-use Rattle.asm_check.specs.Limits.{is_universe, is_function, is_controlled, is_static, is_rule, size_of, domain_of, lists_of, max_universes, max_elements, max_functions, max_domain, max_locations, max_static_lists, max_rules}
+use Rattle.asm_check.specs.Limits.{is_universe, is_function, is_controlled, is_static, is_rule, size_of, domain_of, lists_of}
 use Rattle.asm_check.specs.Faults.{parameters_of, is_known_use, inits, table_of, fits_domain, same_arguments}
 
 -- ---- 8
@@ -79,13 +81,13 @@ passes most is_counted adds before d = is_counted d.meaning && nat_lt most (tota
 
 abbrev pub passes_limit : Spec → (before : List Declaration) → Declaration → Bool
 passes_limit spec before d =
-    passes max_universes is_universe (λ m. 1) before d
-    || nat_lt max_elements (size_of spec d.meaning)
-    || passes max_functions is_function (λ m. 1) before d
-    || nat_lt max_domain (length (domain_of d.meaning))
-    || passes max_locations is_controlled (λ m. lists_of spec (domain_of m) + 1) before d
-    || passes max_static_lists is_static (λ m. lists_of spec (domain_of m)) before d
-    || passes max_rules is_rule (λ m. 1) before d
+    passes UNIVERSES is_universe (λ m. 1) before d
+    || nat_lt VALUES (size_of spec d.meaning)
+    || passes FUNCTIONS is_function (λ m. 1) before d
+    || nat_lt DOMAIN (length (domain_of d.meaning))
+    || passes LOCATIONS is_controlled (λ m. lists_of spec (domain_of m) + 1) before d
+    || passes STATIC_LISTS is_static (λ m. lists_of spec (domain_of m)) before d
+    || passes RULES is_rule (λ m. 1) before d
 
 abbrev pub limit_faults_from : Spec → (before : List Declaration) → List Declaration → List (ℕ × ℕ)
 limit_faults_from spec before [] = []

@@ -1,5 +1,6 @@
 -- Laws of faults.
 use Rattle.std.specs.Prelude.{◌≡◌, ◌≢◌, ◌≤◌, ◌⊎◌, ℕ, true, List, length, slice_get, Option, Some, Contains}
+use Rattle.asm_state.specs.declared.element.TheConstants.{ELEMENTS}
 use Rattle.asm_state.specs.declared.function.Function as state
 use Rattle.asm_state.specs.Fits.{Fits}
 use Rattle.asm_state.specs.Signature.{IsSound}
@@ -74,7 +75,7 @@ pub record HasNumbers (spec : Spec) : Type 0 where
   pub count_of_functions : length (shape_of spec).functions ≡ length (functions_of spec)
   pub functions : (f : ℕ) (d : Declaration) → slice_get (functions_of spec) f ≡ Some d → IsDeclaredBy spec d (slice_get (shape_of spec).functions f)
   pub elements : (n k : ℕ) (d : Declaration) → slice_get (elements_of spec) n ≡ Some d → d.meaning ≡ Element k → Contains (universe_values spec (Enumeration k)) (element n)
-  pub few_elements : length (elements_of spec) ≤ 262_144
+  pub few_elements : length (elements_of spec) ≤ ELEMENTS
 
 -- the numbers of names are those of the signature
 abbrev pub SignatureNumbers : Type 0

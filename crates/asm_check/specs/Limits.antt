@@ -1,33 +1,12 @@
 -- The limits of what a specification declares.
 use Rattle.std.specs.Prelude.{◌≡◌, ◌<◌, ℕ, suc, ◌+◌, ◌*◌, ℤ, ◌-ℤ◌, nat_abs, int_le, nat_eq, nat_le, Bool, true, false, cond, List, [], ◌∷◌, ◌++◌, map, length, take, filter, find, count_by, sum_by}
 use Rattle.std.specs.Option.{option_map_or}
+use Rattle.asm_state.specs.declared.limits.TheConstants.{UNIVERSES, VALUES, FUNCTIONS, DOMAIN, LOCATIONS, STATIC_LISTS}
 use Rattle.asm_syntax.specs.SourceTree.{Name, Spec}
+use Rattle.asm_check.specs.declared.cycles.TheConstants.{RANK}
+use Rattle.asm_check.specs.declared.limits.TheConstants.{RULES}
 use Rattle.asm_check.specs.Names.{Declaration, Meaning, Range, Enumeration, Element, Controlled, Static, Derived, NamedRule, first_declarations, is_text}
 use Rattle.asm_check.specs.Ways.{called, used, ReachesCycle, IsOnWay}
-
-abbrev pub max_universes : ℕ
-max_universes = 64
-
-abbrev pub max_elements : ℕ
-max_elements = 4096
-
-abbrev pub max_functions : ℕ
-max_functions = 256
-
-abbrev pub max_domain : ℕ
-max_domain = 4
-
-abbrev pub max_locations : ℕ
-max_locations = 16384
-
-abbrev pub max_static_lists : ℕ
-max_static_lists = 16384
-
-abbrev pub max_rules : ℕ
-max_rules = 256
-
-abbrev pub max_rank : ℕ
-max_rank = 16
 
 abbrev pub is_universe : Meaning → Bool
 is_universe (Range first last) = true
@@ -77,7 +56,7 @@ module _ (spec : Spec) where
 
   -- the universes that pass no limit
   abbrev pub allowed_universes : List Declaration
-  allowed_universes = filter (λ d. nat_le (size_of d.meaning) max_elements) (take max_universes (filter (λ d. is_universe d.meaning) (first_declarations spec)))
+  allowed_universes = filter (λ d. nat_le (size_of d.meaning) VALUES) (take UNIVERSES (filter (λ d. is_universe d.meaning) (first_declarations spec)))
 
   -- the size that is counted: of all others, none
   abbrev pub counted_size : Name → ℕ
@@ -85,7 +64,7 @@ module _ (spec : Spec) where
 
   -- how many argument lists a domain has
   abbrev pub lists_of : List Name → ℕ
-  lists_of domain = cond (nat_le (length domain) max_domain) (product (map counted_size domain)) 0
+  lists_of domain = cond (nat_le (length domain) DOMAIN) (product (map counted_size domain)) 0
 
   -- The declaration is counted, and the total up to and with it is above the limit.
   abbrev pub Passes : (most : ℕ) → (is_counted : Meaning → Bool) → (adds : Meaning → ℕ) → (before : List Declaration) → Declaration → Type 0
@@ -93,12 +72,12 @@ module _ (spec : Spec) where
 
   -- the limit that a declaration passes which stands behind these others
   pub data PassesLimit (before : List Declaration) (d : Declaration) : Type 0 where
-    universes : Passes max_universes is_universe (λ m. 1) before d → PassesLimit before d
-    elements : max_elements < size_of d.meaning → PassesLimit before d
-    functions : Passes max_functions is_function (λ m. 1) before d → PassesLimit before d
-    domain : max_domain < length (domain_of d.meaning) → PassesLimit before d
-    locations : Passes max_locations is_controlled (λ m. lists_of (domain_of m) + 1) before d → PassesLimit before d
-    static_lists : Passes max_static_lists is_static (λ m. lists_of (domain_of m)) before d → PassesLimit before d
-    rules : Passes max_rules is_rule (λ m. 1) before d → PassesLimit before d
-    rule_rank : IsOnWay (called spec) (suc max_rank) d.name.text → ¬ (ReachesCycle (called spec) d.name.text) → PassesLimit before d
-    derived_rank : IsOnWay (used spec) (suc max_rank) d.name.text → ¬ (ReachesCycle (used spec) d.name.text) → PassesLimit before d
+    universes : Passes UNIVERSES is_universe (λ m. 1) before d → PassesLimit before d
+    elements : VALUES < size_of d.meaning → PassesLimit before d
+    functions : Passes FUNCTIONS is_function (λ m. 1) before d → PassesLimit before d
+    domain : DOMAIN < length (domain_of d.meaning) → PassesLimit before d
+    locations : Passes LOCATIONS is_controlled (λ m. lists_of (domain_of m) + 1) before d → PassesLimit before d
+    static_lists : Passes STATIC_LISTS is_static (λ m. lists_of (domain_of m)) before d → PassesLimit before d
+    rules : Passes RULES is_rule (λ m. 1) before d → PassesLimit before d
+    rule_rank : IsOnWay (called spec) (suc RANK) d.name.text → ¬ (ReachesCycle (called spec) d.name.text) → PassesLimit before d
+    derived_rank : IsOnWay (used spec) (suc RANK) d.name.text → ¬ (ReachesCycle (used spec) d.name.text) → PassesLimit before d

@@ -4,9 +4,9 @@
 --     HasRanks spec                       the heights of calls and uses are such ranks, and within the limit
 use Rattle.std.specs.Prelude.{◌≡◌, ℕ, suc, ◌<◌, ◌≤◌, false, List, ◌∷◌, map, Some}
 use Rattle.asm_syntax.specs.SourceTree.{Name, Term, Constant, Named, Chain, Not, Negative, Exists, Every, Answer, Terms, no_terms, term_then, Links, no_links, link_then, Rule, Skip, Assign, Call, Par, Seq, If, Let, Forall, Choose, Iterate, While, SetResult, Rules, no_rules, rule_then, Branch, left_out, written, Spec}
+use Rattle.asm_check.specs.declared.cycles.TheConstants.{RANK}
 use Rattle.asm_check.specs.Names.{Text, NamedRule, Derived, declared, is_among, text_of}
 use Rattle.asm_check.specs.Ways.{called, used, height}
-use Rattle.asm_check.specs.Limits.{max_rank}
 
 module _ (spec : Spec) (rank : Text → ℕ) (n : ℕ) where
   pub record IsCallable (f : Text) : Type 0 where
@@ -73,13 +73,13 @@ AreDerivedRanked spec rank =
 
 -- No way is longer than the limit, so the height up to one more is the whole height.
 unfoldable pub rule_rank : Spec → Text → ℕ
-rule_rank spec = height (called spec) (suc max_rank)
+rule_rank spec = height (called spec) (suc RANK)
 
 unfoldable pub derived_rank : Spec → Text → ℕ
-derived_rank spec = height (used spec) (suc max_rank)
+derived_rank spec = height (used spec) (suc RANK)
 
 pub record HasRanks (spec : Spec) : Type 0 where
   pub rules : AreRulesRanked spec (rule_rank spec)
-  pub rules_low : (f : Text) → rule_rank spec f ≤ max_rank
+  pub rules_low : (f : Text) → rule_rank spec f ≤ RANK
   pub derived : AreDerivedRanked spec (derived_rank spec)
-  pub derived_low : (f : Text) → derived_rank spec f ≤ max_rank
+  pub derived_low : (f : Text) → derived_rank spec f ≤ RANK

@@ -1,11 +1,11 @@
 -- Steps between positions of the table of names, and the faults at one position.
 use Rattle.std.specs.Prelude.{◌≡◌, ◌⊎◌, ◌<◌, ℕ, suc, List, map, length, slice_get, Option, Some, None}
 use Rattle.asm_syntax.specs.SourceTree.{Spec}
+use Rattle.asm_check.specs.declared.cycles.TheConstants.{RANK}
 use Rattle.asm_check.specs.declared.meaning.Meaning.{Meaning}
 use Rattle.asm_check.specs.declared.meaning.Meaning.TheVariants as code
 use Rattle.asm_check.specs.declared.meaning.Declaration.{Declaration}
 use Rattle.asm_check.specs.Graph.{IsGraph, next_of}
-use Rattle.asm_check.specs.Limits.{max_rank}
 use Rattle.asm_check.specs.Onward.{onward}
 use Rattle.asm_check.specs.Tables.{Entry, text_at}
 use Rattle.asm_check.specs.Ways.{LeadsTo, ReachesCycle, IsOnWay}
@@ -27,7 +27,7 @@ module _ (lists : List (List ℕ)) (n : ℕ) where
   IsCycleAt offset m at number = LeadsTo (next_of lists) n n × (offset ≡ at) × (cycle_number m ≡ Some number)
 
   abbrev pub IsHighAt : (offset : ℕ) → (at number : ℕ) → Type 0
-  IsHighAt offset at number = IsOnWay (next_of lists) (suc max_rank) n × (¬ (ReachesCycle (next_of lists) n)) × (offset ≡ at) × (15 ≡ number)
+  IsHighAt offset at number = IsOnWay (next_of lists) (suc RANK) n × (¬ (ReachesCycle (next_of lists) n)) × (offset ≡ at) × (15 ≡ number)
 
   abbrev pub IsFaultOf : Declaration → (at number : ℕ) → Type 0
   IsFaultOf d at number = IsCycleAt d.at d.meaning at number ⊎ IsHighAt d.at at number

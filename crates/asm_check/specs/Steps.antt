@@ -1,14 +1,14 @@
 -- The faults of steps: cycles, and ranks above the limit.
 use Rattle.std.specs.Prelude.{◌≡◌, ℕ, suc, Contains}
 use Rattle.asm_syntax.specs.SourceTree.{Spec}
+use Rattle.asm_check.specs.declared.cycles.TheConstants.{RANK}
 use Rattle.asm_check.specs.Names.{Declaration, first_declarations}
 use Rattle.asm_check.specs.Ways.{called, used, ReachesCycle, IsOnWay}
-use Rattle.asm_check.specs.Limits.{max_rank}
 use Rattle.asm_check.specs.Faults.{IsCyclic}
 
 pub data IsTooHigh (spec : Spec) (d : Declaration) : Type 0 where
-  rule_rank : IsOnWay (called spec) (suc max_rank) d.name.text → ¬ (ReachesCycle (called spec) d.name.text) → IsTooHigh spec d
-  derived_rank : IsOnWay (used spec) (suc max_rank) d.name.text → ¬ (ReachesCycle (used spec) d.name.text) → IsTooHigh spec d
+  rule_rank : IsOnWay (called spec) (suc RANK) d.name.text → ¬ (ReachesCycle (called spec) d.name.text) → IsTooHigh spec d
+  derived_rank : IsOnWay (used spec) (suc RANK) d.name.text → ¬ (ReachesCycle (used spec) d.name.text) → IsTooHigh spec d
 
 pub data IsStepFault (spec : Spec) (at : ℕ) : ℕ → Type 0 where
   cyclic_rule : IsCyclic spec (called spec) at → IsStepFault spec at 12

@@ -1,5 +1,5 @@
 //! Cycles of calls or uses, and ranks that are too great.
-ghost use Rattle.std.specs.Prelude.{◌≡◌, ◌<◌, OnOk, length, option_map, true, false};
+ghost use Rattle.std.specs.Prelude.{◌≡◌, ◌<◌, suc, OnOk, length, option_map, true, false};
 ghost use Rattle.asm_syntax.specs.Views.{spec_of};
 ghost use Rattle.asm_check.specs.Errors.{found_of, number_of};
 ghost use Rattle.asm_check.specs.Graph.{IsGraph, next_of, step_lists};
@@ -67,8 +67,8 @@ fn note_node(
     requires node { node < length steps.now }
     requires reaching { is_reaching ≡ true → ReachesCycle (next_of (step_lists steps.now)) node }
     requires settled { is_reaching ≡ false → ¬ (ReachesCycle (next_of (step_lists steps.now)) node) }
-    requires long { is_long ≡ true → IsOnWay (next_of (step_lists steps.now)) 17 node }
-    requires short { is_long ≡ false → ¬ (IsOnWay (next_of (step_lists steps.now)) 17 node) }
+    requires long { is_long ≡ true → IsOnWay (next_of (step_lists steps.now)) (suc RANK) node }
+    requires short { is_long ≡ false → ¬ (IsOnWay (next_of (step_lists steps.now)) (suc RANK) node) }
     ensures { OnOk result (IsSoonestWith (IsFaultOf (step_lists steps.now) node declared.entry) (found_of least.old.found) (found_of least.new.found)) }
 {
     if is_reaching {

@@ -1,5 +1,7 @@
-//! Limits on what is declared.
+//! Limits on what is declared. Those of a signature are limits of its specification too, where functions of all three
+//! kinds count as functions. Rules have a limit of their own.
 ghost use Rattle.std.specs.Prelude.{◌≡◌, ◌<◌, ◌≤◌, ℕ, IfOk, OnOk, Some, map, List, [], ◌∷◌, ◌++◌, length, option_map, slice_get, All};
+ghost use Rattle.asm_state.specs.declared.limits.TheConstants.{UNIVERSES, VALUES};
 ghost use Rattle.asm_syntax.specs.SourceTree as source;
 ghost use Rattle.asm_syntax.specs.Views.{name_of, spec_of};
 ghost use Rattle.asm_check.specs.Counted.{AreCountedSizes, AreElementCounts, AreTotals, counted_from, value_of_entry, size_with};
@@ -16,28 +18,11 @@ use crate::least::Least;
 use crate::meaning::{Declaration, Meaning};
 use crate::name_table::Names;
 use crate::names::position;
+use asm_state::limits::{DOMAIN, FUNCTIONS, LOCATIONS, STATIC_LISTS, UNIVERSES, VALUES};
 use asm_state::number::Number;
 use asm_syntax::name::{Name, Text};
 use asm_syntax::spec::Spec;
 use std::alloc::{AllocError, Global};
-
-/// How many universes there can be.
-pub(crate) const UNIVERSES: usize = 64;
-
-/// How many elements one universe can have.
-pub(crate) const ELEMENTS: usize = 4096;
-
-/// How many functions of all three kinds there can be.
-pub(crate) const FUNCTIONS: usize = 256;
-
-/// How many universes a domain can have.
-pub(crate) const DOMAIN: usize = 4;
-
-/// How many locations of controlled functions there can be, stray ones with them.
-pub(crate) const LOCATIONS: usize = 16_384;
-
-/// How many argument lists all static functions together can have.
-pub(crate) const STATIC_LISTS: usize = 16_384;
 
 /// How many rules there can be.
 pub(crate) const RULES: usize = 256;
@@ -128,8 +113,8 @@ pub(crate) fn counted_sizes(
     names: &Names,
     elements: &[usize],
 ) -> Result<Vec<usize>, AllocError>
-    ensures small { IfOk result (λ sizes. All (λ n. n ≤ 4096) sizes.items) }
-    ensures sizes { IfOk result (λ sizes. sizes.items ≡ counted_from (size_with elements.now) 64 (map declaration_of names.now)) }
+    ensures small { IfOk result (λ sizes. All (λ n. n ≤ VALUES) sizes.items) }
+    ensures sizes { IfOk result (λ sizes. sizes.items ≡ counted_from (size_with elements.now) UNIVERSES (map declaration_of names.now)) }
 {
     let mut sizes = Vec::new(alloc);
     let mut left = UNIVERSES;
@@ -139,7 +124,7 @@ pub(crate) fn counted_sizes(
         if left > 0 && is_universe(&meaning) {
             left -= 1;
             let size = size(&meaning, elements);
-            if size <= ELEMENTS {
+            if size <= VALUES {
                 counted = size;
             }
         }
@@ -150,8 +135,8 @@ pub(crate) fn counted_sizes(
 
 /// The size of the universe of this name, if it passes no limit, and else 0.
 fn counted_size(names: &Names, name: &Text, sizes: &[usize]) -> usize
-    requires { All (λ n. n ≤ 4096) sizes.now }
-    ensures small { result ≤ 4096 }
+    requires { All (λ n. n ≤ VALUES) sizes.now }
+    ensures small { result ≤ VALUES }
     ensures size { (spec : source.Spec) (at : ℕ) → IsTableOf spec names.now → AreCountedSizes spec names.now sizes.now
         → result ≡ counted_size spec (record { at = at; text = name.now }) }
 {
@@ -163,7 +148,7 @@ fn counted_size(names: &Names, name: &Text, sizes: &[usize]) -> usize
 
 /// How many argument lists a domain has: none where it or one of its universes passes a limit.
 pub(crate) fn lists(domain: &[Name], names: &Names, sizes: &[usize]) -> usize
-    requires { All (λ n. n ≤ 4096) sizes.now }
+    requires { All (λ n. n ≤ VALUES) sizes.now }
     ensures { (spec : source.Spec) → IsTableOf spec names.now → AreCountedSizes spec names.now sizes.now
         → result ≡ lists_of spec (map name_of domain.now) }
 {
@@ -222,7 +207,7 @@ impl Totals {
             Meaning::Predeclared | Meaning::Element(_) => false,
             Meaning::Range { .. } | Meaning::Enumeration(_) => {
                 self.universes = self.universes.saturating_add(1);
-                self.universes > UNIVERSES || size > ELEMENTS
+                self.universes > UNIVERSES || size > VALUES
             }
             Meaning::Controlled(domain) => {
                 self.functions = self.functions.saturating_add(1);

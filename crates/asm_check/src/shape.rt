@@ -13,7 +13,7 @@ use crate::checked::Named;
 use crate::numbering::Numbering;
 use asm_state::arguments::Arguments;
 use asm_state::domain::Domain;
-use asm_state::element::Element;
+use asm_state::element::{ELEMENTS, Element};
 use asm_state::entries::Entries;
 use asm_state::function::{Function, Table};
 use asm_state::signature::Signature;
@@ -199,7 +199,7 @@ fn value_of(constant: &Const, numbered: &Numbered) -> Value
 fn element(number: usize) -> Value
     ensures { result ≡ elements.element number }
 {
-    if number < 262_144 {
+    if number < ELEMENTS as usize {
         Value::Element(Element {
             index: number as u32,
         })

@@ -3,7 +3,7 @@
 --     answer_past       a number past the last location binds nothing;  other_name     nor is another name bound
 --     names_none        a name other than `result` is bound to no location
 --     found_none, found_location     by what a look-up answered
-use Rattle.std.proofs.Common.{◌≡◌, ◌≤◌, ◌<◌, ℕ, true, false, cond, List, map, length, Option, Some, None, refl, sym, ap, ◌∙◌}
+use Rattle.std.proofs.Common.{◌≡◌, ◌≤◌, ◌<◌, ℕ, true, false, cond, List, map, length, Option, Some, None, refl, ap, ◌∙◌}
 use Rattle.std.specs.List.{position}
 use Rattle.std.specs.Prelude.{option_map, slice_get}
 use Rattle.std.proofs.lemmas.Option.{slice_get-get_or, slice_get_past}

@@ -6,13 +6,14 @@ use Rattle.asm_state.specs.declared.value.Value.TheVariants.{Undef, Truth}
 use Rattle.asm_state.specs.declared.operation.Op.TheVariants.{Add, Multiply, Divide, Greater, Equal}
 use Rattle.asm_state.specs.declared.function.Table.TheVariants.{Entries}
 use Rattle.asm_state.specs.Location.{Location, Proper, Stray, State}
+use Rattle.asm_state.specs.Numbers.{number_with}
 use Rattle.asm_state.specs.Operation.{op, number_or_undef}
 use Rattle.asm_state.specs.Updates.{UpdateSet, Has, IsConsistent, is_consistent, is_none, none, one, together, merge, fire}
 use Rattle.asm_state.proofs.Members.{member_laws}
 use Rattle.asm_state.proofs.Summaries.{fire_laws}
 use Rattle.asm_state.proofs.Updates.{test_laws}
 use Rattle.asm_syntax.specs.Tree.{Name, Term, Constant, Named, Chain, Exists, Every, Terms, no_terms, term_then, no_links, link_then, Rule, Skip, Assign, Call, Par, Seq, If, Let, Forall, Choose, Iterate, Rules, no_rules, rule_then, result as answer}
-use Rattle.asm_reader.specs.ScriptLines.{Script}
+use Rattle.asm_reader.specs.ScriptLines.{Script, no_lines}
 use Rattle.asm_eval.specs.Program.{Program, Universe, Controlled, Static, Derived, NamedRule, nothing_bound, with_value}
 use Rattle.asm_eval.specs.Value.{is_true, value, values, reading, reading_within, readings_of}
 use Rattle.asm_eval.specs.Yields.{Path, Gives, Exhausted, beside}
@@ -91,87 +92,87 @@ giving U n = record { result = Gives U; instances = n }
 -- ---- terms
 
 of_a_location : valued (name (codes "x")) ≡ number (pos 1)
-unfolding value values reading reading_within readings_of number_or_undef
+unfolding value values reading reading_within readings_of number_with
 of_a_location = refl
 
 outside_the_domain : valued (Named (codes "f") (of_one (constant (pos 9)))) ≡ Undef
-unfolding value values reading reading_within readings_of number_or_undef
+unfolding value values reading reading_within readings_of number_with
 outside_the_domain = refl
 
 of_a_table : valued (Named (codes "g") (of_one (name (codes "x")))) ≡ number (pos 3)
-unfolding value values reading reading_within readings_of number_or_undef
+unfolding value values reading reading_within readings_of number_with
 of_a_table = refl
 
 without_an_entry : valued (Named (codes "g") (of_one (name (codes "y")))) ≡ Undef
-unfolding value values reading reading_within readings_of number_or_undef
+unfolding value values reading reading_within readings_of number_with
 without_an_entry = refl
 
 of_a_derived_function : valued (Named (codes "twice") (of_one (name (codes "y")))) ≡ number (pos 4)
-unfolding value values reading reading_within readings_of number_or_undef
+unfolding value values reading reading_within readings_of number_with
 of_a_derived_function = refl
 
 undef_is_undef : valued (Chain (Constant Undef) (link_then Equal (Chain (constant (pos 1)) (link_then Divide (constant (pos 0)) no_links)) no_links)) ≡ Truth true
-unfolding value values reading reading_within readings_of number_or_undef
+unfolding value values reading reading_within readings_of number_with
 undef_is_undef = refl
 
 some_is_greater : valued (Exists (codes "i") (codes "Idx") (greater (name (codes "i")) (name (codes "x")))) ≡ Truth true
-unfolding value values reading reading_within readings_of number_or_undef
+unfolding value values reading reading_within readings_of number_with
 some_is_greater = refl
 
 -- where a test is undef, it isn't true
 each_is_undef : valued (Every (codes "i") (codes "Idx") (greater (name (codes "i")) (Constant Undef))) ≡ Truth false
-unfolding value values reading reading_within readings_of number_or_undef
+unfolding value values reading reading_within readings_of number_with
 each_is_undef = refl
 
 the_binder_hides_the_function : value sample start (with_value (codes "x") (number (pos 5)) nothing_bound) (name (codes "x")) ≡ number (pos 5)
-unfolding value values reading reading_within readings_of number_or_undef
+unfolding value values reading reading_within readings_of number_with
 the_binder_hides_the_function = refl
 
 -- ---- rules without an order
 
-an_update_outside : done [] [] (Assign (codes "f") (of_one (constant (pos 9))) (constant (pos 1))) ≡ giving (one (Stray 0) (number (pos 1))) 0
-unfolding does does_within meaning value values reading reading_within readings_of number_or_undef
+an_update_outside : done no_lines [] (Assign (codes "f") (of_one (constant (pos 9))) (constant (pos 1))) ≡ giving (one (Stray 0) (number (pos 1))) 0
+unfolding does does_within meaning value values reading reading_within readings_of number_with
 an_update_outside = refl
 
-exchanged : done [] [] (Par (two_rules (Assign (codes "x") no_terms (name (codes "y"))) (Assign (codes "y") no_terms (name (codes "x")))))
+exchanged : done no_lines [] (Par (two_rules (Assign (codes "x") no_terms (name (codes "y"))) (Assign (codes "y") no_terms (name (codes "x")))))
     ≡ giving (together (one at_x (number (pos 2))) (together (one at_y (number (pos 1))) none)) 0
-unfolding does does_within meaning value values reading reading_within readings_of number_or_undef
+unfolding does does_within meaning value values reading reading_within readings_of number_with
 exchanged = refl
 
-for_no_element : done [] [] (Forall (codes "i") (codes "Idx") (Some (greater (name (codes "i")) (constant (pos 5)))) (Assign (codes "x") no_terms (name (codes "i")))) ≡ giving none 0
-unfolding does does_within meaning value values reading reading_within readings_of number_or_undef
+for_no_element : done no_lines [] (Forall (codes "i") (codes "Idx") (Some (greater (name (codes "i")) (constant (pos 5)))) (Assign (codes "x") no_terms (name (codes "i")))) ≡ giving none 0
+unfolding does does_within meaning value values reading reading_within readings_of number_with
 for_no_element = refl
 
 -- the parameter is the caller's i, and not the one that is bound around it
-for_each_element : done [] [] (Let (codes "i") (constant (pos 5)) (Call None (codes "fill") (of_one (name (codes "i")))))
+for_each_element : done no_lines [] (Let (codes "i") (constant (pos 5)) (Call None (codes "fill") (of_one (name (codes "i")))))
     ≡ giving (together (one (Proper 0 (number (pos 0) ∷ [])) (number (pos 5)))
     (together (one (Proper 0 (number (pos 1) ∷ [])) (number (pos 5))) (together (one (Proper 0 (number (pos 2) ∷ [])) (number (pos 5))) none))) 3
-unfolding does does_within meaning value values reading reading_within readings_of number_or_undef
+unfolding does does_within meaning value values reading reading_within readings_of number_with
 for_each_element = refl
 
 -- ---- choices: candidate 4 of three is the one with number 1
 
 abbrev one_line : Path → Script
-one_line p = record { step = 1; path = p; choice = 4 } ∷ []
+one_line p = record { exact = record { step = 1; path = p; choice = 4 } ∷ []; every = [] }
 
 abbrev some_number : Rule
 some_number = Choose (codes "k") (codes "Idx") None (Assign (codes "x") no_terms (name (codes "k"))) Skip
 
-the_first_candidate : done [] [] some_number ≡ giving (one at_x (number (pos 0))) 0
-unfolding does does_within meaning value values reading reading_within readings_of number_or_undef
+the_first_candidate : done no_lines [] some_number ≡ giving (one at_x (number (pos 0))) 0
+unfolding does does_within meaning value values reading reading_within readings_of number_with
 the_first_candidate = refl
 
 the_line_of_a_part : done (one_line (0 ∷ 1 ∷ [])) (0 ∷ []) (Par (two_rules Skip some_number)) ≡ giving (together none (together (one at_x (number (pos 1))) none)) 0
-unfolding does does_within meaning value values reading reading_within readings_of number_or_undef
+unfolding does does_within meaning value values reading reading_within readings_of number_with
 the_line_of_a_part = refl
 
 -- an undef condition doesn't hold
 the_line_of_a_branch : done (one_line (1 ∷ [])) [] (If (Constant Undef) Skip some_number) ≡ giving (one at_x (number (pos 1))) 0
-unfolding does does_within meaning value values reading reading_within readings_of number_or_undef
+unfolding does does_within meaning value values reading reading_within readings_of number_with
 the_line_of_a_branch = refl
 
-without_candidates : done [] [] (Choose (codes "i") (codes "Idx") (Some (greater (name (codes "i")) (constant (pos 5)))) Skip (Assign (codes "y") no_terms (Constant Undef))) ≡ giving (one at_y Undef) 0
-unfolding does does_within meaning value values reading reading_within readings_of number_or_undef
+without_candidates : done no_lines [] (Choose (codes "i") (codes "Idx") (Some (greater (name (codes "i")) (constant (pos 5)))) Skip (Assign (codes "y") no_terms (Constant Undef))) ≡ giving (one at_y Undef) 0
+unfolding does does_within meaning value values reading reading_within readings_of number_with
 without_candidates = refl
 
 -- ---- one after the other
@@ -191,17 +192,17 @@ good_part : (f : ℕ) (vs : List Value) (v : Value) (n : ℕ) (rest : Outcome)
     → cond (is_consistent (one (Proper f vs) v)) (following (one (Proper f vs) v) n rest) (giving (one (Proper f vs) v) n) ≡ following (one (Proper f vs) v) n rest
 good_part f vs v n rest = ap (λ b. cond b (following (one (Proper f vs) v) n rest) (giving (one (Proper f vs) v) n)) (passes f vs v)
 
-the_later_part : done [] [] (Seq (two_rules (Assign (codes "x") no_terms (constant (pos 1))) (Assign (codes "x") no_terms (constant (pos 2)))))
+the_later_part : done no_lines [] (Seq (two_rules (Assign (codes "x") no_terms (constant (pos 1))) (Assign (codes "x") no_terms (constant (pos 2)))))
     ≡ giving (merge (one at_x (number (pos 1))) (merge (one at_x (number (pos 2))) none)) 0
-unfolding does does_within meaning value values reading reading_within readings_of number_or_undef
+unfolding does does_within meaning value values reading reading_within readings_of number_with
 the_later_part =
     good_part 1 [] (number (pos 1)) 0
     (cond (is_consistent (one at_x (number (pos 2)))) (following (one at_x (number (pos 2))) 0 nothing) (giving (one at_x (number (pos 2))) 0))
     ∙ ap (following (one at_x (number (pos 1))) 0) (good_part 1 [] (number (pos 2)) 0 nothing)
 
 -- the parameter stands for the term x, whose value is another one after the first part
-called_by_name : done [] [] (Call None (codes "next") (of_one (name (codes "x")))) ≡ giving (merge (one at_x (number (pos 2))) (merge (one at_y (number (pos 2))) none)) 0
-unfolding does does_within meaning value values reading reading_within readings_of number_or_undef
+called_by_name : done no_lines [] (Call None (codes "next") (of_one (name (codes "x")))) ≡ giving (merge (one at_x (number (pos 2))) (merge (one at_y (number (pos 2))) none)) 0
+unfolding does does_within meaning value values reading reading_within readings_of number_with
 called_by_name =
     let v : Value = fire start (one at_x (number (pos 2))) at_x in
     good_part 1 [] (number (pos 2)) 0 (cond (is_consistent (one at_y v)) (following (one at_y v) 0 nothing) (giving (one at_y v) 0))
@@ -224,8 +225,8 @@ has_one v =
 abbrev repeated : Rule
 repeated = Iterate (Assign (codes "x") no_terms (name (codes "x")))
 
-exhausted_at_its_path : (p : Path) → (done [] p repeated).result ≡ Exhausted p
-unfolding does does_within meaning value values reading reading_within readings_of number_or_undef
+exhausted_at_its_path : (p : Path) → (done no_lines p repeated).result ≡ Exhausted p
+unfolding does does_within meaning value values reading reading_within readings_of number_with
 exhausted_at_its_path p =
     let U : UpdateSet = one at_x (number (pos 1)) in
     (λ i. (cond (has_one (number (pos 1)) i || not (passes 1 [] (number (pos 1)) i)) (giving U 0) (following U 0 (record { result = Exhausted p; instances = 0 }))).result)
@@ -238,8 +239,8 @@ while c P = Iterate (If c P Skip)
 without_updates : is_none none ≡ true
 without_updates = (test_laws.emptiness none).1 refl
 
-no_turn : done [] [] (while (greater (name (codes "x")) (constant (pos 1))) (Assign (codes "x") no_terms (constant (pos 5)))) ≡ giving none 0
-unfolding does does_within meaning value values reading reading_within readings_of number_or_undef
+no_turn : done no_lines [] (while (greater (name (codes "x")) (constant (pos 1))) (Assign (codes "x") no_terms (constant (pos 5)))) ≡ giving none 0
+unfolding does does_within meaning value values reading reading_within readings_of number_with
 no_turn = ap (λ b. cond (b || not (is_consistent none)) (giving none 0) (following none 0 (record { result = Exhausted []; instances = 0 }))) without_updates
 
 -- the last turn of two, where x has the value v, and is increased while it is below 2
@@ -249,9 +250,9 @@ last_turn v =
     turn_and o.result o.instances (λ U. record { result = Exhausted []; instances = 0 })
 
 -- the second turn's condition is valued in the state after the first
-one_turn : does sample 2 [] 1 start nothing_bound [] (while (greater (constant (pos 2)) (name (codes "x"))) (Assign (codes "x") no_terms (sum (name (codes "x")) (constant (pos 1)))))
+one_turn : does sample 2 no_lines 1 start nothing_bound [] (while (greater (constant (pos 2)) (name (codes "x"))) (Assign (codes "x") no_terms (sum (name (codes "x")) (constant (pos 1)))))
     ≡ giving (merge (one at_x (number (pos 2))) none) 0
-unfolding does does_within meaning value values reading reading_within readings_of number_or_undef
+unfolding does does_within meaning value values reading reading_within readings_of number_with
 one_turn =
     let U : UpdateSet = one at_x (number (pos 2)) in
     (λ i. cond (has_one (number (pos 2)) i || not (passes 1 [] (number (pos 2)) i)) (giving U 0) (following U 0 (last_turn (fire start U at_x))))
@@ -264,36 +265,36 @@ one_turn =
 abbrev answers : Name → Terms → Name → Terms → Rule
 answers f ts r us = Call (Some (f, ts)) r us
 
-raised : done [] [] (answers (codes "x") no_terms (codes "raise") (of_one (constant (pos 3)))) ≡ giving (one at_x (number (pos 4))) 0
-unfolding does does_within meaning value values reading reading_within readings_of number_or_undef
+raised : done no_lines [] (answers (codes "x") no_terms (codes "raise") (of_one (constant (pos 3)))) ≡ giving (one at_x (number (pos 4))) 0
+unfolding does does_within meaning value values reading reading_within readings_of number_with
 raised = refl
 
 -- a stray location is written, and read as undef whatever a state has there
-raised_outside : does sample 1 [] 1 (λ l. number (pos 5)) nothing_bound [] (answers (codes "f") (of_one (constant (pos 9))) (codes "raise") (of_one (constant (pos 3))))
+raised_outside : does sample 1 no_lines 1 (λ l. number (pos 5)) nothing_bound [] (answers (codes "f") (of_one (constant (pos 9))) (codes "raise") (of_one (constant (pos 3))))
     ≡ giving (one (Stray 0) Undef) 0
-unfolding does does_within meaning value values reading reading_within readings_of number_or_undef
+unfolding does does_within meaning value values reading reading_within readings_of number_with
 raised_outside = refl
 
 -- the target's p is the caller's, and not the parameter
-the_target_is_the_callers : done [] [] (Let (codes "p") (constant (pos 2)) (answers (codes "f") (of_one (name (codes "p"))) (codes "give") (of_one (constant (pos 0)))))
+the_target_is_the_callers : done no_lines [] (Let (codes "p") (constant (pos 2)) (answers (codes "f") (of_one (name (codes "p"))) (codes "give") (of_one (constant (pos 0)))))
     ≡ giving (one (Proper 0 (number (pos 2) ∷ [])) (number (pos 0))) 0
-unfolding does does_within meaning value values reading reading_within readings_of number_or_undef
+unfolding does does_within meaning value values reading reading_within readings_of number_with
 the_target_is_the_callers = refl
 
 -- a plain call in the body of a rule that answers binds no `result`
-answers_nothing : done [] [] (answers (codes "x") no_terms (codes "raise_plainly") no_terms) ≡ giving none 0
-unfolding does does_within meaning value values reading reading_within readings_of number_or_undef
+answers_nothing : done no_lines [] (answers (codes "x") no_terms (codes "raise_plainly") no_terms) ≡ giving none 0
+unfolding does does_within meaning value values reading reading_within readings_of number_with
 answers_nothing = refl
 
 -- the argument has the caller's `result`, which is x, and the body's is y
-an_argument_has_result : done [] [] (answers (codes "x") no_terms (codes "give_to_y") no_terms) ≡ giving (one at_y (number (pos 2))) 0
-unfolding does does_within meaning value values reading reading_within readings_of number_or_undef
+an_argument_has_result : done no_lines [] (answers (codes "x") no_terms (codes "give_to_y") no_terms) ≡ giving (one at_y (number (pos 2))) 0
+unfolding does does_within meaning value values reading reading_within readings_of number_with
 an_argument_has_result = refl
 
 -- `result` has the content that its location has where it is used
-read_where_it_is_used : done [] [] (answers (codes "x") no_terms (codes "give_twice") (of_one (constant (pos 5))))
+read_where_it_is_used : done no_lines [] (answers (codes "x") no_terms (codes "give_twice") (of_one (constant (pos 5))))
     ≡ giving (merge (one at_x (number (pos 5))) (merge (one at_y (number (pos 5))) none)) 0
-unfolding does does_within meaning value values reading reading_within readings_of number_or_undef
+unfolding does does_within meaning value values reading reading_within readings_of number_with
 read_where_it_is_used =
     let v : Value = fire start (one at_x (number (pos 5))) at_x in
     good_part 1 [] (number (pos 5)) 0 (cond (is_consistent (one at_y v)) (following (one at_y v) 0 nothing) (giving (one at_y v) 0))
@@ -303,9 +304,9 @@ read_where_it_is_used =
     ((member_laws.of_one at_x at_x (number (pos 5)) (number (pos 5))).1 (refl, refl)))
 
 -- the target is f(1), as x was 1 in the call, and the argument x is 2 where it is used
-located_in_the_call : done [] [] (answers (codes "f") (of_one (name (codes "x"))) (codes "give_next") (of_one (name (codes "x"))))
+located_in_the_call : done no_lines [] (answers (codes "f") (of_one (name (codes "x"))) (codes "give_next") (of_one (name (codes "x"))))
     ≡ giving (merge (one at_x (number (pos 2))) (merge (one (Proper 0 (number (pos 1) ∷ [])) (number (pos 2))) none)) 0
-unfolding does does_within meaning value values reading reading_within readings_of number_or_undef
+unfolding does does_within meaning value values reading reading_within readings_of number_with
 located_in_the_call =
     let at_f : Location = Proper 0 (number (pos 1) ∷ []) in
     let v : Value = fire start (one at_x (number (pos 2))) at_x in
@@ -329,5 +330,5 @@ outranks_a_clash U = refl
 
 -- ---- runs
 
-no_step : run (record { program = sample; initial = start; main = repeated }) 1 [] 0 ≡ record { steps = []; end = AtLimit; last = start }
+no_step : run (record { program = sample; initial = start; main = repeated }) 1 no_lines 0 ≡ record { steps = []; end = AtLimit; last = start }
 no_step = refl

@@ -46,7 +46,7 @@ use Rattle.asm_eval.specs.Environments.{location_numbered}
 use Rattle.asm_eval.specs.Program.{Environment, declared, with_value}
 use Rattle.asm_eval.specs.Targets.{location, update}
 use Rattle.asm_eval.specs.Taken.{taken}
-use Rattle.asm_eval.specs.Value.{is_true, values, universe}
+use Rattle.asm_eval.specs.Value.{is_true, universe}
 use Rattle.asm_eval.specs.Valued.{program, term_value, condition}
 use Rattle.asm_eval.specs.Weights.{called_size, rule_size_within}
 use Rattle.asm_eval.specs.Yields.{Path, Gives, Exhausted, at, beside}

@@ -18,6 +18,8 @@ use Rattle.asm_eval.specs.Ranks.{CallsBelow, IsRanked}
 use Rattle.asm_eval.specs.Run.{End, AtLimit, AtExhausted, AtFault, Run, sets_of, ended, fired, IsRunFrom, at_limit, at_exhausted, at_fault, step_then, step_and, run_from, ScriptedRuns, FreeRuns}
 use Rattle.asm_eval.proofs.Free.{by_test, scripted_is_free}
 use Rattle.asm_eval.proofs.Scripted.{has_script, not_true}
+use Rattle.asm_reader.specs.ExactLines.{exactly}
+use Rattle.asm_reader.proofs.MoreLines.{pick_line}
 use Rattle.asm_eval.proofs.Unrepeated.{unrepeated_script}
 
 -- a run without its instances
@@ -83,30 +85,33 @@ scripted_runs program rank turns main script n i A ranked c =
 -- ---- the script of a whole run
 
 -- the lines of one step
-abbrev of_step : ℕ → Script → Script
+abbrev of_step : ℕ → List Line → List Line
 of_step i s = filter (λ (line : Line). nat_eq line.step i) s
 
 itself : (k : ℕ) → nat_eq k k ≡ true
 itself k = grind (arith, nat_tests)
 
 -- before the lines of later steps, the lines of a step are what the step picks
-pick_here : (i : ℕ) (s rest : Script) (q : Path) → pick rest i q ≡ 0 → pick (of_step i s ++ rest) i q ≡ pick s i q
+pick_here : (i : ℕ) (s rest : List Line) (q : Path) → pick (exactly rest) i q ≡ 0 → pick (exactly (of_step i s ++ rest)) i q ≡ pick (exactly s) i q
 pick_here i [] rest q none = none
 pick_here i (line ∷ s) rest q none =
-    elim (nat_eq line.step i) as (λ b. nat_eq line.step i ≡ b → pick (cond b (line ∷ of_step i s) (of_step i s) ++ rest) i q ≡ cond (b && pointwise nat_eq line.path q) line.choice (pick s i q)) [
+    elim (nat_eq line.step i) as (λ b. nat_eq line.step i ≡ b → pick (exactly (cond b (line ∷ of_step i s) (of_step i s) ++ rest)) i q ≡ cond (b && pointwise nat_eq line.path q) line.choice (pick (exactly s) i q)) [
       | true ↦ λ e.
-          ap (λ b. cond (b && pointwise nat_eq line.path q) line.choice (pick (of_step i s ++ rest) i q)) e
+          pick_line line (of_step i s ++ rest) i q
+          ∙ ap (λ b. cond (b && pointwise nat_eq line.path q) line.choice (pick (exactly (of_step i s ++ rest)) i q)) e
           ∙ ap (cond (pointwise nat_eq line.path q) line.choice) (pick_here i s rest q none)
       | false ↦ λ e. pick_here i s rest q none
     ] refl
+    ∙ sym (pick_line line s i q)
 
 -- and other steps pick from the rest
-pick_elsewhere : (i j : ℕ) (s rest : Script) (q : Path) → i ≢ j → pick (of_step i s ++ rest) j q ≡ pick rest j q
+pick_elsewhere : (i j : ℕ) (s rest : List Line) (q : Path) → i ≢ j → pick (exactly (of_step i s ++ rest)) j q ≡ pick (exactly rest) j q
 pick_elsewhere i j [] rest q apart = refl
 pick_elsewhere i j (line ∷ s) rest q apart =
-    elim (nat_eq line.step i) as (λ b. nat_eq line.step i ≡ b → pick (cond b (line ∷ of_step i s) (of_step i s) ++ rest) j q ≡ pick rest j q) [
+    elim (nat_eq line.step i) as (λ b. nat_eq line.step i ≡ b → pick (exactly (cond b (line ∷ of_step i s) (of_step i s) ++ rest)) j q ≡ pick (exactly rest) j q) [
       | true ↦ λ e.
-          ap (λ b. cond (b && pointwise nat_eq line.path q) line.choice (pick (of_step i s ++ rest) j q)) (other line.step e)
+          pick_line line (of_step i s ++ rest) j q
+          ∙ ap (λ b. cond (b && pointwise nat_eq line.path q) line.choice (pick (exactly (of_step i s ++ rest)) j q)) (other line.step e)
           ∙ pick_elsewhere i j s rest q apart
       | false ↦ λ e. pick_elsewhere i j s rest q apart
     ] refl
@@ -128,42 +133,42 @@ module _ (program : Program) (turns : ℕ) (main : Rule) where
       (λ U. runs_alike s t n (suc i) (fire A U) (λ j q later. alike j q (omega arith)) k)
 
   record Scripted (n i : ℕ) (A : State) (free : Course) : Type 0 where
-    script : Script
-    begins : (j : ℕ) (q : Path) → j < i → pick script j q ≡ 0
-    is : course_from program turns main script n i A ≡ free
+    lines : List Line
+    begins : (j : ℕ) (q : Path) → j < i → pick (exactly lines) j q ≡ 0
+    is : course_from program turns main (exactly lines) n i A ≡ free
 
   -- a step with its script, and nothing after it
-  last_step : (n i : ℕ) (A : State) (r : Result) (s : Script) (free : Course) → (does program turns s i A nothing_bound [] main).result ≡ r
+  last_step : (n i : ℕ) (A : State) (r : Result) (s : List Line) (free : Course) → (does program turns (exactly s) i A nothing_bound [] main).result ≡ r
       → ((rest : UpdateSet → Course) → course_and r i A rest ≡ free) → Scripted (suc n) i A free
   last_step n i A r s free e is = record {
-    script = of_step i s ++ [];
+    lines = of_step i s ++ [];
     begins = λ j q h. pick_elsewhere i j s [] q (λ e. absurd (omega arith));
-    is = ap (λ r. course_and r i A (λ U. course_from program turns main (of_step i s ++ []) n (suc i) (fire A U)))
-        (does_alike (of_step i s ++ []) s i A (λ q. pick_here i s [] q refl) ∙ e)
+    is = ap (λ r. course_and r i A (λ U. course_from program turns main (exactly (of_step i s ++ [])) n (suc i) (fire A U)))
+        (does_alike (exactly (of_step i s ++ [])) (exactly s) i A (λ q. pick_here i s [] q refl) ∙ e)
         ∙ is _;
   }
 
   -- a step with its script, and the run after it with the script of that
-  before : (n i : ℕ) (A : State) (U : UpdateSet) (free : Course) → IsConsistent U → (s : Script) → (does program turns s i A nothing_bound [] main).result ≡ Gives U
+  before : (n i : ℕ) (A : State) (U : UpdateSet) (free : Course) → IsConsistent U → (s : List Line) → (does program turns (exactly s) i A nothing_bound [] main).result ≡ Gives U
       → Scripted n (suc i) (fire A U) free → Scripted (suc n) i A (onwards U free)
   before n i A U free h s e rest =
-      let all : Script = of_step i s ++ rest.script in
+      let all : Script = exactly (of_step i s ++ rest.lines) in
       record {
-        script = of_step i s ++ rest.script;
-        begins = λ j q below. pick_elsewhere i j s rest.script q (λ e. absurd (omega arith)) ∙ rest.begins j q (omega arith);
+        lines = of_step i s ++ rest.lines;
+        begins = λ j q below. pick_elsewhere i j s rest.lines q (λ e. absurd (omega arith)) ∙ rest.begins j q (omega arith);
         is = ap (λ r. course_and r i A (λ U. course_from program turns main all n (suc i) (fire A U)))
-            (does_alike all s i A (λ q. pick_here i s rest.script q (rest.begins i q (omega arith))) ∙ e)
+            (does_alike all (exactly s) i A (λ q. pick_here i s rest.lines q (rest.begins i q (omega arith))) ∙ e)
             ∙ ap (λ b. cond b (onwards U (course_from program turns main all n (suc i) (fire A U))) (course [] (AtFault i U) A)) ((test_laws.consistency U).1 h)
             ∙ ap (λ r. onwards U r)
-            (runs_alike all rest.script n (suc i) (fire A U) (λ j q later. pick_elsewhere i j s rest.script q (λ e. absurd (omega arith))) ∙ rest.is);
+            (runs_alike all (exactly rest.lines) n (suc i) (fire A U) (λ j q later. pick_elsewhere i j s rest.lines q (λ e. absurd (omega arith))) ∙ rest.is);
       }
 
   module _ (rank : Name → ℕ) (ranked : IsRanked program rank) (c : CallsBelow program rank nesting main) where
-    script_of : {r : Result} (i : ℕ) (A : State) → Yields program turns A nothing_bound [] main r → (s : Script) × ((does program turns s i A nothing_bound [] main).result ≡ r)
+    script_of : {r : Result} (i : ℕ) (A : State) → Yields program turns A nothing_bound [] main r → (s : List Line) × ((does program turns (exactly s) i A nothing_bound [] main).result ≡ r)
     script_of {r} i A y = has_script program rank turns i A nothing_bound [] main r ranked c y
 
     scripted : {n i : ℕ} {A : State} {sets : List UpdateSet} {end : End} {last : State} → IsRunFrom program turns main n i A sets end last → Scripted n i A (course sets end last)
-    scripted (at_limit {i = i}) = record { script = []; begins = λ j q h. refl; is = refl }
+    scripted (at_limit {i = i}) = record { lines = []; begins = λ j q h. refl; is = refl }
     scripted (at_exhausted {n = n} {i = i} {A = A} {q = q} y) =
         last_step n i A (Exhausted q) (script_of i A y).0 _ (script_of i A y).1 (λ rest. refl)
     scripted (at_fault {n = n} {i = i} {A = A} {U = U} y h) =
@@ -177,9 +182,10 @@ module _ (program : Program) (turns : ℕ) (main : Rule) where
 pub free_runs : FreeRuns
 free_runs program rank turns main n i A sets end last ranked c r =
     let s : Scripted program turns main n i A (course sets end last) = scripted program turns main rank ranked c r in
-    let one = unrepeated_script s.script in
-    let is : course_of (run_from program turns main (unrepeated s.script) n i A) ≡ course sets end last =
-    course_is program turns main (unrepeated s.script) n i A
-    ∙ runs_alike program turns main (unrepeated s.script) s.script n i A (λ j q later. one.picks j q)
+    let script : Script = exactly s.lines in
+    let one = unrepeated_script script in
+    let is : course_of (run_from program turns main (unrepeated script) n i A) ≡ course sets end last =
+    course_is program turns main (unrepeated script) n i A
+    ∙ runs_alike program turns main (unrepeated script) script n i A (λ j q later. one.picks j q)
     ∙ s.is in
-    (unrepeated s.script, one.is_unrepeated, (ap (λ c. c.sets) is, ap (λ c. c.end) is, ap (λ c. c.last) is))
+    (unrepeated script, one.is_unrepeated, (ap (λ c. c.sets) is, ap (λ c. c.end) is, ap (λ c. c.last) is))

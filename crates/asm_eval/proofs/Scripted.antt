@@ -16,11 +16,13 @@ use Rattle.asm_eval.specs.Program.{Program, NamedRule, declared, Environment, wi
 use Rattle.asm_eval.specs.Targets.{answering}
 use Rattle.asm_eval.specs.Value.{holds, candidates, nesting}
 use Rattle.asm_eval.specs.Yields.{Path, at, Result, Gives, Exhausted, beside, all_beside, after, Yields, YieldsParts, YieldsInOrder, YieldsEach, YieldsTurns, skip, assign, call, par, seq, if_true, if_false, bind, forall, choose, if_none, iterate, no_part, part_then, end, faulty, exhausted, go_on, no_element, left_out, element_then, turn_limit, last_turn, exhausted_turn, turn_then}
-use Rattle.asm_reader.specs.ScriptLines.{Script, pick}
+use Rattle.asm_reader.specs.ScriptLines.{Line, Script, pick}
 use Rattle.asm_eval.specs.Does.{does, Outcome, Meaning, meaning, meanings, parts, in_order, part_and, turn_and, each, one_of, turns_of, called, nothing, does_within}
 use Rattle.asm_eval.specs.Ranks.{CallsBelow, EachCallsBelow, IsRanked, lower}
 use Rattle.asm_eval.specs.Law.{FreeHasScript}
 use Rattle.asm_eval.specs.Scripts.{unrepeated}
+use Rattle.asm_reader.specs.ExactLines.{exactly}
+use Rattle.asm_reader.proofs.MoreLines.{pick_line}
 use Rattle.asm_eval.proofs.Unrepeated.{unrepeated_script}
 use Rattle.asm_eval.proofs.Scripts.{Scripts, ScriptsFrom, Choices, choice_at, itself, unscripted, join, single, skipped, whole, choosing}
 
@@ -160,7 +162,7 @@ module _ (program : Program) (turns : ℕ) (rank : Name → ℕ) (ranked : IsRan
       (λ f xs P d below A e p r y. scripted_within n P (lower program rank (rank f) n (omega arith) P (ranked f xs P d)) A e p r y) y c
 
 -- the lines of some choices under p in a step
-lines : ℕ → Path → Choices → Script
+lines : ℕ → Path → Choices → List Line
 lines step p [] = []
 lines step p (c ∷ cs) = record { step = step; path = p ++ c.path; choice = c.choice } ∷ lines step p cs
 
@@ -168,23 +170,25 @@ same_front : (p q s : Path) → pointwise nat_eq (p ++ q) (p ++ s) ≡ pointwise
 same_front [] q s = refl
 same_front (k ∷ p) q s = ap (λ b. b && pointwise nat_eq (p ++ q) (p ++ s)) (itself k) ∙ same_front p q s
 
-pick-lines : (step : ℕ) (p : Path) (cs : Choices) (q : Path) → pick (lines step p cs) step (p ++ q) ≡ choice_at cs q
+pick-lines : (step : ℕ) (p : Path) (cs : Choices) (q : Path) → pick (exactly (lines step p cs)) step (p ++ q) ≡ choice_at cs q
 unfolding lines
 pick-lines step p [] q = refl
 pick-lines step p (c ∷ cs) q =
-    ap (λ b. cond b c.choice (pick (lines step p cs) step (p ++ q))) (ap (λ b. b && pointwise nat_eq (p ++ c.path) (p ++ q)) (itself step) ∙ same_front p c.path q)
+    pick_line (record { step = step; path = p ++ c.path; choice = c.choice }) (lines step p cs) step (p ++ q)
+    ∙ ap (λ b. cond b c.choice (pick (exactly (lines step p cs)) step (p ++ q))) (ap (λ b. b && pointwise nat_eq (p ++ c.path) (p ++ q)) (itself step) ∙ same_front p c.path q)
     ∙ ap (cond (pointwise nat_eq c.path q) c.choice) (pick-lines step p cs q)
 
 pub has_script : (program : Program) (rank : Name → ℕ) (turns step : ℕ) (A : State) (e : Environment) (p : Path) (R : Rule) (r : Result)
     → IsRanked program rank → CallsBelow program rank nesting R → Yields program turns A e p R r
-    → (script : Script) × ((does program turns script step A e p R).result ≡ r)
+    → (lines : List Line) × ((does program turns (exactly lines) step A e p R).result ≡ r)
 unfolding does
 has_script program rank turns step A e p R r ranked c y =
     let s : Scripts (λ chosen. (does_within program turns chosen nesting R A e p).result) p r = scripted_within program turns rank ranked nesting R c A e p r y in
-    (lines step p s.choices, s.gives (pick (lines step p s.choices) step) (pick-lines step p s.choices))
+    (lines step p s.choices, s.gives (pick (exactly (lines step p s.choices)) step) (pick-lines step p s.choices))
 
 pub free_has_script : FreeHasScript
 free_has_script program rank turns step A e p R r ranked c y =
     let some = has_script program rank turns step A e p R r ranked c y in
-    let one = unrepeated_script some.0 in
-    (unrepeated some.0, one.is_unrepeated, ap (λ (o : Outcome). o.result) (one.does_alike program turns step A e p R) ∙ some.1)
+    let script : Script = exactly some.0 in
+    let one = unrepeated_script script in
+    (unrepeated script, one.is_unrepeated, ap (λ (o : Outcome). o.result) (one.does_alike program turns step A e p R) ∙ some.1)

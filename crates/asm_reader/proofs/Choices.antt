@@ -15,7 +15,7 @@ use Rattle.asm_reader.specs.Steps.{number_at, number_of_kind, choice_at}
 use Rattle.asm_reader.specs.TermGrammar.{constants, disjunctions, conjunctions, comparisons, additions, products}
 use Rattle.asm_reader.proofs.Lists.{or_cases, alike_symbol, alike_word}
 use Rattle.asm_reader.proofs.Tables.{looked_up_keys}
-use Rattle.asm_reader.proofs.Numbers.{number_in_range, number_has}
+use Rattle.asm_state.proofs.ValueLaws.{value_laws}
 use Rattle.asm_reader.proofs.Readers.{IsExact, Begins, HasText, IsSingle, exact_wider}
 use Rattle.asm_reader.proofs.Exact.{depth, IsPlain, exact_one, begins_one}
 
@@ -118,7 +118,7 @@ module _ (b : Bool) where
 
   is_number : (k : Kind) (x : WholeNumber) → number_of_kind b k ≡ Some x → (m : ℕ) × (k ≡ Number m) × (x.value ≡ signed b m)
   is_number kind.Name x e = absurd cc
-  is_number (Number m) x e = (m, refl, number_has (signed b m) x e)
+  is_number (Number m) x e = (m, refl, (value_laws.with_value (signed b m) x).0 e)
   is_number (Symbol s) x e = absurd cc
   is_number (Word w) x e = absurd cc
 
@@ -126,7 +126,7 @@ module _ (b : Bool) where
   wide ts x m = let h = is_number m.0.kind x m.2 in (m.0, h.0, m.1, h.1, h.2)
 
   narrow : (ts : List Token) (x : WholeNumber) → number_by b ts x → numbers ts x
-  narrow ts x m = (m.0, m.2, ap (number_of_kind b) m.3 ∙ number_in_range (signed b m.1) x m.4)
+  narrow ts x m = (m.0, m.2, ap (number_of_kind b) m.3 ∙ (value_laws.with_value (signed b m.1) x).1 m.4)
 
   zero_number : (c : Bool) → (x : WholeNumber) × (x.value ≡ signed c 0)
   zero_number true = (record { value = pos 0; low = record { le = tt }; high = record { le = tt } }, refl)

@@ -11,7 +11,7 @@ use Rattle.asm_syntax.specs.declared.token.Token.{Token}
 use Rattle.asm_syntax.specs.SourceTree as source
 use Rattle.asm_reader.specs.declared.error.ReadError.TheVariants.{Unexpected, UnexpectedEnd, TooDeep}
 use Rattle.asm_reader.specs.declared.script_error.ScriptError.TheVariants.{BadLine, Repeated, TooLong}
-use Rattle.asm_reader.specs.ScriptLines.{Line, Script, pick}
+use Rattle.asm_reader.specs.ScriptLines.{Line, EveryLine, ForStep, ForEvery, Script, no_lines, pick}
 use Rattle.asm_reader.specs.ScriptText.{line_of, IsScript, IsScriptRefusal}
 use Rattle.asm_reader.specs.Specification.{AreSpelling}
 use Rattle.asm_reader.specs.Refusals.{IsUnexpected, IsUnexpectedEnd, IsTooDeep}
@@ -27,16 +27,19 @@ use Rattle.asm_reader.proofs.EachText.{answers}
 abbrev line : ℕ → List ℕ → ℕ → Line
 line i p k = record { step = i; path = p; choice = k }
 
-three_fields : line_of (codes "12 0.3 7") ≡ Some (line 12 (0 ∷ 3 ∷ []) 7)
+abbrev line_for_every : List ℕ → ℕ → EveryLine
+line_for_every p k = record { path = p; choice = k }
+
+three_fields : line_of (codes "12 0.3 7") ≡ Some (ForStep (line 12 (0 ∷ 3 ∷ []) 7))
 three_fields = refl
 
-no_number_in_the_path : line_of (codes "1 - 0") ≡ Some (line 1 [] 0)
+no_number_in_the_path : line_of (codes "1 - 0") ≡ Some (ForStep (line 1 [] 0))
 no_number_in_the_path = refl
 
-zeros_change_nothing : line_of (codes "01 00.1 007") ≡ Some (line 1 (0 ∷ 1 ∷ []) 7)
+zeros_change_nothing : line_of (codes "01 00.1 007") ≡ Some (ForStep (line 1 (0 ∷ 1 ∷ []) 7))
 zeros_change_nothing = refl
 
-nine_digits : line_of (codes "1 - 999999999") ≡ Some (line 1 [] 999_999_999)
+nine_digits : line_of (codes "1 - 999999999") ≡ Some (ForStep (line 1 [] 999_999_999))
 nine_digits = refl
 
 ten_digits : line_of (codes "1 - 0000000001") ≡ None
@@ -51,6 +54,15 @@ two_spaces = refl
 dot_at_the_end : line_of (codes "1 1. 2") ≡ None
 dot_at_the_end = refl
 
+star : line_of (codes "* 0.3 7") ≡ Some (ForEvery (line_for_every (0 ∷ 3 ∷ []) 7))
+star = refl
+
+two_stars : line_of (codes "** - 1") ≡ None
+two_stars = refl
+
+star_and_a_number : line_of (codes "*1 - 1") ≡ None
+star_and_a_number = refl
+
 two_fields : line_of (codes "1 -") ≡ None
 two_fields = refl
 
@@ -60,7 +72,7 @@ abbrev text_of_four : List ℕ
 text_of_four = codes "1 0.0 4\n1 3.0 2\r\n# 1 1.1 9\n\n1 1.1 1\n2 - 1"
 
 abbrev four_lines : Script
-four_lines = line 1 (0 ∷ 0 ∷ []) 4 ∷ line 1 (3 ∷ 0 ∷ []) 2 ∷ line 1 (1 ∷ 1 ∷ []) 1 ∷ line 2 [] 1 ∷ []
+four_lines = record { exact = line 1 (0 ∷ 0 ∷ []) 4 ∷ line 1 (3 ∷ 0 ∷ []) 2 ∷ line 1 (1 ∷ 1 ∷ []) 1 ∷ line 2 [] 1 ∷ []; every = [] }
 
 good_script : IsScript text_of_four four_lines
 good_script = script_answers text_of_four (Ok four_lines) refl
@@ -71,11 +83,46 @@ at_a_step_and_path = refl
 at_a_path_of_another_step : pick four_lines 2 (1 ∷ 1 ∷ []) ≡ 0
 at_a_path_of_another_step = refl
 
-no_line : IsScript (codes "") []
-no_line = script_answers (codes "") (Ok []) refl
+no_line : IsScript (codes "") no_lines
+no_line = script_answers (codes "") (Ok no_lines) refl
 
-skipped_lines : IsScript (codes "\n# 0 - 1\n\n") []
-skipped_lines = script_answers (codes "\n# 0 - 1\n\n") (Ok []) refl
+skipped_lines : IsScript (codes "\n# 0 - 1\n\n") no_lines
+skipped_lines = script_answers (codes "\n# 0 - 1\n\n") (Ok no_lines) refl
+
+-- a line for every step, and one for step 2
+abbrev star_and_step : Script
+star_and_step = record { exact = line 2 [] 2 ∷ []; every = line_for_every [] 1 ∷ [] }
+
+star_then_a_step : IsScript (codes "* - 1\n2 - 2\n") star_and_step
+star_then_a_step = script_answers (codes "* - 1\n2 - 2\n") (Ok star_and_step) refl
+
+step_then_a_star : IsScript (codes "2 - 2\n* - 1\n") star_and_step
+step_then_a_star = script_answers (codes "2 - 2\n* - 1\n") (Ok star_and_step) refl
+
+before_its_step : pick star_and_step 1 [] ≡ 1
+before_its_step = refl
+
+at_its_step : pick star_and_step 2 [] ≡ 2
+at_its_step = refl
+
+behind_its_step : pick star_and_step 3 [] ≡ 1
+behind_its_step = refl
+
+at_another_path : pick star_and_step 2 (0 ∷ []) ≡ 0
+at_another_path = refl
+
+-- a line for a step holds in it, even where it says the same
+star_beside_step_one : IsScript (codes "* - 1\n1 - 1") (record { exact = line 1 [] 1 ∷ []; every = line_for_every [] 1 ∷ [] })
+star_beside_step_one = script_answers (codes "* - 1\n1 - 1") (Ok _) refl
+
+step_one_beside_star : IsScript (codes "1 - 1\n* - 1") (record { exact = line 1 [] 1 ∷ []; every = line_for_every [] 1 ∷ [] })
+step_one_beside_star = script_answers (codes "1 - 1\n* - 1") (Ok _) refl
+
+star_repeated : IsScriptRefusal (codes "* - 1\n* - 2") (Repeated 2)
+star_repeated = script_answers (codes "* - 1\n* - 2") (Err (Repeated 2)) refl
+
+two_stars_are_bad : IsScriptRefusal (codes "** - 1") (BadLine 1)
+two_stars_are_bad = script_answers (codes "** - 1") (Err (BadLine 1)) refl
 
 repeated : IsScriptRefusal (codes "1 0 1\n1 0 2\n") (Repeated 2)
 repeated = script_answers (codes "1 0 1\n1 0 2\n") (Err (Repeated 2)) refl

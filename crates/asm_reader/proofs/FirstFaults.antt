@@ -3,26 +3,28 @@ use Rattle.std.proofs.Common.{◌≡◌, ℕ, suc, ◌+◌, ◌<◌, ◌≤◌, 
 use Rattle.std.proofs.lemmas.Bool.{or_left, or_right}
 use Rattle.std.proofs.lemmas.List.{append-nil, map-append, length-append, length-map, length-take-le, take-append-drop, take_more, drop_more}
 use Rattle.std.proofs.lemmas.Simd.{map-map}
-use Rattle.std.specs.List.{list_any, slice_split}
+use Rattle.std.specs.List.{slice_split}
 use Rattle.asm_syntax.specs.declared.refused.Refused.{Refused}
 use Rattle.asm_syntax.specs.declared.refused.Refused.TheVariants.{Memory, Named}
 use Rattle.std.specs.Str.Lines.{strip_carriage_return}
-use Rattle.asm_reader.specs.ScriptLines.{Line, Script, is_line_of}
-use Rattle.asm_reader.specs.ScriptText.{line_of, is_skipped, said, script_in, is_bad, says_again, is_repeated, AreFaultless, IsFirstFaulty, IsRefusalOfLines, IsScript, IsScriptRefusal, lines_of, max_script}
+use Rattle.asm_reader.specs.ScriptLines.{SaidLine, Script, script_of}
+use Rattle.asm_reader.specs.Spots.{then_line}
+use Rattle.asm_reader.specs.ScriptText.{line_of, is_skipped, said, said_in, script_in, has_line_of, is_bad, says_again, is_repeated, AreFaultless, IsFirstFaulty, IsRefusalOfLines, IsScript, IsScriptRefusal, lines_of, max_script}
 use Rattle.asm_reader.specs.ScriptRefusals.{ExplainsScript, ExplainsLines}
 use Rattle.asm_reader.specs.declared.script_error.ScriptError.{ScriptError}
 use Rattle.asm_reader.specs.declared.script_error.ScriptError.TheVariants.{BadLine, Repeated, TooLong}
 use Rattle.asm_reader.proofs.Fronts.{two_fronts}
+use Rattle.asm_reader.proofs.MoreLines.{script_of_push}
 
 -- ---- one line more
 
 module _ (before : List (List ℕ)) (bytes : List ℕ) where
-  pub script_push : script_in (before ++ bytes ∷ []) ≡ script_in before ++ said (is_skipped bytes) (line_of bytes)
-  script_push = by before
+  pub said_push : said_in (before ++ bytes ∷ []) ≡ said_in before ++ said (is_skipped bytes) (line_of bytes)
+  said_push = by before
     where
-      by : (lines : List (List ℕ)) → script_in (lines ++ bytes ∷ []) ≡ script_in lines ++ said (is_skipped bytes) (line_of bytes)
+      by : (lines : List (List ℕ)) → said_in (lines ++ bytes ∷ []) ≡ said_in lines ++ said (is_skipped bytes) (line_of bytes)
       by [] = append-nil _
-      by (l ∷ lines) = ap (λ more. said (is_skipped l) (line_of l) ++ more) (by lines) ∙ sym (append_assoc (said (is_skipped l) (line_of l)) (script_in lines) (said (is_skipped bytes) (line_of bytes)))
+      by (l ∷ lines) = ap (λ more. said (is_skipped l) (line_of l) ++ more) (by lines) ∙ sym (append_assoc (said (is_skipped l) (line_of l)) (said_in lines) (said (is_skipped bytes) (line_of bytes)))
 
   pub faultless_push : AreFaultless before → is_bad bytes || is_repeated before bytes ≡ false → AreFaultless (before ++ bytes ∷ [])
   faultless_push faultless fine front back line e = elim (two_fronts before front bytes line [] back e) [
@@ -52,8 +54,8 @@ module _ (lines : List (Bor (List ℕ))) (i : ℕ) (d : Bor (List ℕ)) (bytes :
   faultless_more : AreFaultless before → is_bad bytes || is_repeated before bytes ≡ false → AreFaultless up_to
   faultless_more faultless fine = subst AreFaultless (sym one_more) (faultless_push before bytes faultless fine)
 
-  script_more : script_in before ++ said (is_skipped bytes) (line_of bytes) ≡ script_in up_to
-  script_more = sym (script_push before bytes) ∙ ap script_in (sym one_more)
+  script_more : script_of (said_in before ++ said (is_skipped bytes) (line_of bytes)) ≡ script_in up_to
+  script_more = ap script_of (sym (said_push before bytes)) ∙ ap script_in (sym one_more)
 
   first_faulty : (has_fault : (before : List (List ℕ)) → List ℕ → Bool) → has_fault before bytes ≡ true → AreFaultless before → IsFirstFaulty has_fault (without_returns lines) (i + 1)
   first_faulty has_fault fault faultless = record {
@@ -75,23 +77,23 @@ module _ (lines : List (Bor (List ℕ))) (i : ℕ) (d : Bor (List ℕ)) (bytes :
     skipped_more faultless = faultless_more faultless (λ j. (not (s j) && is_none (line_of bytes)) || says_again (script_in before) (said (s j) (line_of bytes)))
 
     pub skipped_says : (script : Script) → script ≡ script_in before → script ≡ script_in up_to
-    skipped_says script e = e ∙ sym (append-nil _) ∙ ap (λ b. script_in before ++ said b (line_of bytes)) (sym s) ∙ script_more
+    skipped_says script e = e ∙ ap script_of (sym (append-nil _) ∙ ap (λ b. said_in before ++ said b (line_of bytes)) (sym s)) ∙ script_more
 
   -- a line of no form is the first that has a fault
   pub bad_line : is_skipped bytes ≡ false → line_of bytes ≡ None → AreFaultless before → IsFirstFaulty (λ before. is_bad) (without_returns lines) (i + 1)
   bad_line s o = first_faulty (λ before. is_bad) (λ j. not (s j) && is_none (o j))
 
-  module _ (s : is_skipped bytes ≡ false) (line : Line) (o : line_of bytes ≡ Some line) (script : Script) (says : script ≡ script_in before) where
+  module _ (s : is_skipped bytes ≡ false) (line : SaidLine) (o : line_of bytes ≡ Some line) (script : Script) (says : script ≡ script_in before) where
     -- so is one that repeats another
-    pub repeated_line : list_any (is_line_of line.step line.path) script ≡ true → AreFaultless before → IsFirstFaulty is_repeated (without_returns lines) (i + 1)
+    pub repeated_line : has_line_of script line ≡ true → AreFaultless before → IsFirstFaulty is_repeated (without_returns lines) (i + 1)
     repeated_line e = first_faulty is_repeated ((λ j. says_again (sym says j) (said (s j) (o j))) ∙ e)
 
     -- and any other has none
-    pub taken_more : list_any (is_line_of line.step line.path) script ≡ false → AreFaultless before → AreFaultless up_to
+    pub taken_more : has_line_of script line ≡ false → AreFaultless before → AreFaultless up_to
     taken_more e faultless = faultless_more faultless ((λ j. (not (s j) && is_none (o j)) || says_again (sym says j) (said (s j) (o j))) ∙ e)
 
-    pub taken_says : script ++ line ∷ [] ≡ script_in up_to
-    taken_says = (λ j. says j ++ said (sym s j) (sym o j)) ∙ script_more
+    pub taken_says : then_line script line ≡ script_in up_to
+    taken_says = ap (λ t. then_line t line) says ∙ sym (script_of_push (said_in before) line) ∙ (λ j. script_of (said_in before ++ said (sym s j) (sym o j))) ∙ script_more
 
 -- ---- the whole text
 
@@ -118,7 +120,7 @@ is_faulty before bytes = is_bad bytes || is_repeated before bytes
 not_both : (before : List (List ℕ)) (bytes : List ℕ) → is_bad bytes ≡ true → ¬ (is_repeated before bytes ≡ true)
 not_both before bytes = by (is_skipped bytes) (line_of bytes)
   where
-    by : (s : Bool) (o : Option Line) → not s && is_none o ≡ true → ¬ (says_again (script_in before) (said s o) ≡ true)
+    by : (s : Bool) (o : Option SaidLine) → not s && is_none o ≡ true → ¬ (says_again (script_in before) (said s o) ≡ true)
     by true o p q = true≢false (sym p)
     by false None p q = true≢false (sym q)
     by false (Some line) p q = true≢false (sym p)

@@ -19,6 +19,7 @@ pub mod ItemExact
 pub mod ItemWider
 pub mod OldTokens
 pub mod OldTexts
+pub mod OldScripts
 pub mod Consuming
 pub mod Separated
 pub mod Ranks
@@ -30,6 +31,7 @@ pub mod OneRefusal
 pub mod OneTree
 pub mod Whole
 pub mod Spellings
+pub mod MoreLines
 pub mod Placed
 pub mod PathNumbers
 pub mod Fields

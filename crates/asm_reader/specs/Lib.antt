@@ -13,7 +13,9 @@ pub mod TermReading
 pub mod RuleReading
 pub mod Reading
 pub mod ScriptLines
+pub mod ExactLines
 pub mod ScriptText
 pub mod ScriptRefusals
 pub mod Spots
 pub mod Places
+pub mod OldScripts

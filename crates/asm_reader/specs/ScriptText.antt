@@ -1,7 +1,8 @@
 -- The texts of scripts.
 --     lines_of text                 the lines, each without its end
---     line_of bytes                 what a line says, if it has the form: step, path and number
---     script_in lines               what the lines say, in their order
+--     line_of bytes                 what a line says, if it has the form: step or `*`, path and number
+--     said_in lines                 what the lines say, in their order
+--     script_in lines               the script of that
 --     IsScript text script          the text has no faulty line, and this is what it says
 --     IsScriptRefusal text e        why a text is no script
 use Rattle.std.specs.Prelude.{◌≡◌, ℕ, suc, ◌≤◌, ◌<◌, Bool, true, false, cond, not, ◌&&◌, ◌||◌, ◌==◌, nat_le, List, [], ◌∷◌, ◌++◌, length, map, Option, Some, None, is_none, codes}
@@ -10,7 +11,9 @@ use Rattle.std.specs.List.{list_all, list_any, slice_split}
 use Rattle.std.specs.Str.{bytes_eq}
 use Rattle.std.specs.Str.Lines.{strip_carriage_return}
 use Rattle.asm_syntax.specs.Fronts.{value_of}
-use Rattle.asm_reader.specs.ScriptLines.{Line, Script, is_line_of}
+use Rattle.asm_reader.specs.ScriptLines.{SaidLine, ForStep, ForEvery, Script, script_of, is_line_of, is_line_at}
+use Rattle.asm_reader.specs.declared.script.When.{When}
+use Rattle.asm_reader.specs.declared.script.When.TheVariants.{Step, EveryStep}
 use Rattle.asm_reader.specs.declared.script_error.ScriptError.{ScriptError}
 use Rattle.asm_reader.specs.declared.script_error.ScriptError.TheVariants.{BadLine, Repeated, TooLong}
 
@@ -40,16 +43,28 @@ abbrev pub path_of : List ℕ → Option (List ℕ)
 path_of bytes = cond (bytes_eq bytes (codes "-")) (Some []) (numbers_of (slice_split (λ b. b == 46) bytes))
 
 -- steps count from 1
-abbrev pub line_with : Option ℕ → Option (List ℕ) → Option ℕ → Option Line
-line_with (Some i) (Some p) (Some k) = cond (nat_le 1 i) (Some (record { step = i; path = p; choice = k })) None
+abbrev pub step_with : Option ℕ → Option When
+step_with None = None
+step_with (Some i) = cond (nat_le 1 i) (Some (Step i)) None
+
+-- `*`, or a step
+abbrev pub when_of : List ℕ → Option When
+when_of bytes = cond (bytes_eq bytes (codes "*")) (Some EveryStep) (step_with (number_of bytes))
+
+abbrev pub line_for : When → List ℕ → ℕ → SaidLine
+line_for (Step i) p k = ForStep (record { step = i; path = p; choice = k })
+line_for EveryStep p k = ForEvery (record { path = p; choice = k })
+
+abbrev pub line_with : Option When → Option (List ℕ) → Option ℕ → Option SaidLine
+line_with (Some w) (Some p) (Some k) = Some (line_for w p k)
 line_with _ _ _ = None
 
-abbrev pub line_of_fields : List (List ℕ) → Option Line
-line_of_fields (i ∷ p ∷ k ∷ []) = line_with (number_of i) (path_of p) (number_of k)
+abbrev pub line_of_fields : List (List ℕ) → Option SaidLine
+line_of_fields (w ∷ p ∷ k ∷ []) = line_with (when_of w) (path_of p) (number_of k)
 line_of_fields _ = None
 
 -- three fields with a space between each two
-abbrev pub line_of : List ℕ → Option Line
+abbrev pub line_of : List ℕ → Option SaidLine
 line_of bytes = line_of_fields (slice_split (λ b. b == 32) bytes)
 
 -- no byte, or a comment
@@ -59,22 +74,30 @@ is_skipped (b ∷ bytes) = b == 35
 
 -- ---- all lines
 
-abbrev pub said : Bool → Option Line → Script
+abbrev pub said : Bool → Option SaidLine → List SaidLine
 said false (Some line) = line ∷ []
 said _ _ = []
 
+abbrev pub said_in : List (List ℕ) → List SaidLine
+said_in [] = []
+said_in (bytes ∷ more) = said (is_skipped bytes) (line_of bytes) ++ said_in more
+
 abbrev pub script_in : List (List ℕ) → Script
-script_in [] = []
-script_in (bytes ∷ more) = said (is_skipped bytes) (line_of bytes) ++ script_in more
+script_in lines = script_of (said_in lines)
 
 -- a line of no form
 abbrev pub is_bad : List ℕ → Bool
 is_bad bytes = not (is_skipped bytes) && is_none (line_of bytes)
 
--- what is said with the step and the path of a line before it
-abbrev pub says_again : Script → Script → Bool
+-- The script has a line for the step and the path of this one; or one for every step with its path, where this is one for every step.
+abbrev pub has_line_of : Script → SaidLine → Bool
+has_line_of script (ForStep line) = list_any (is_line_of line.step line.path) script.exact
+has_line_of script (ForEvery line) = list_any (is_line_at line.path) script.every
+
+-- what is said where a line before it says it of the same
+abbrev pub says_again : Script → List SaidLine → Bool
 says_again before [] = false
-says_again before (line ∷ more) = list_any (is_line_of line.step line.path) before
+says_again before (line ∷ more) = has_line_of before line
 
 abbrev pub is_repeated : (before : List (List ℕ)) → List ℕ → Bool
 is_repeated before bytes = says_again (script_in before) (said (is_skipped bytes) (line_of bytes))

@@ -1,7 +1,14 @@
 -- What is read from a line of a script.
---     line_said                 what the line says
+--     line_said choice          what the line says
+--     then_line script line     the script with one more line, behind those that it has
+use Rattle.std.specs.Prelude.{[], ◌∷◌, ◌++◌}
 use Rattle.asm_reader.specs.declared.script.Choice.{Choice}
-use Rattle.asm_reader.specs.ScriptLines.{Line}
+use Rattle.asm_reader.specs.ScriptLines.{SaidLine, ForStep, ForEvery, Script}
+use Rattle.asm_reader.specs.ScriptText.{line_for}
 
-abbrev pub line_said : Choice → Line
-line_said c = record { step = c.step; path = c.path.items; choice = c.number }
+abbrev pub line_said : Choice → SaidLine
+line_said c = line_for c.when c.path.items c.number
+
+abbrev pub then_line : Script → SaidLine → Script
+then_line script (ForStep line) = record { exact = script.exact ++ line ∷ []; every = script.every }
+then_line script (ForEvery line) = record { exact = script.exact; every = script.every ++ line ∷ [] }

@@ -1,8 +1,8 @@
 -- The steps that readers of tokens are made of.
-use Rattle.std.specs.Prelude.{◌≡◌, ℕ, zero, suc, ℤ, pos, negsuc, int_le, Bool, true, false, if◌then◌else◌, List, [], ◌∷◌, map, length, Option, Some, None, Result, Ok, Err}
-use Rattle.std.proofs.Common.{refl, Vec, Global}
+use Rattle.std.specs.Prelude.{◌≡◌, ℕ, zero, suc, Bool, if◌then◌else◌, List, [], ◌∷◌, map, length, Option, Some, None, Result, Ok, Err}
+use Rattle.std.proofs.Common.{Vec, Global}
 use Rattle.asm_state.specs.declared.number.Number.{Number as WholeNumber}
-use Rattle.asm_state.specs.Operation.{at_most}
+use Rattle.asm_state.specs.Numbers.{number_with}
 use Rattle.asm_syntax.specs.declared.refused.Refused.{Refused}
 use Rattle.asm_syntax.specs.declared.refused.Refused.TheVariants.{Named}
 use Rattle.asm_syntax.specs.declared.token.Kind.{Kind}
@@ -80,16 +80,6 @@ itself x = x
 -- the elements of a `Vec`, each as it is seen
 abbrev pub each_of : {A B : Type 0} → (B → A) → Vec B Global → List A
 each_of view xs = map view xs.items
-
--- a number by whether it isn't too small and whether it isn't too great
-abbrev pub number_by_tests : (z : ℤ) (low high : Bool) → int_le (negsuc 999_999_999_999_999) z ≡ low → int_le z (pos 1_000_000_000_000_000) ≡ high → Option WholeNumber
-number_by_tests z true true low high = Some (record { value = z; low = at_most low; high = at_most high })
-number_by_tests z true false low high = None
-number_by_tests z false high_test low high = None
-
--- the number with this value, where it is in the range
-unfoldable pub number_with : ℤ → Option WholeNumber
-number_with z = number_by_tests z (int_le (negsuc 999_999_999_999_999) z) (int_le z (pos 1_000_000_000_000_000)) refl refl
 
 -- the number that a token stands for, or its negative
 abbrev pub number_of_kind : (is_negative : Bool) → Kind → Option WholeNumber

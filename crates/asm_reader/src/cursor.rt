@@ -1,6 +1,7 @@
 //! A cursor over tokens, with the steps that every production is made of. None of them takes memory.
 
 ghost use Rattle.std.specs.Prelude.{◌≡◌, ◌≢◌, ◌<◌, [], ◌∷◌, OnOk, IfErr};
+ghost use Rattle.asm_state.specs.Numbers.{number_with};
 ghost use Rattle.asm_syntax.specs.declared.refused.Refused.TheVariants.{Memory};
 ghost use Rattle.asm_reader.specs.Kinds as kinds;
 ghost use Rattle.asm_reader.specs.Parts.{signed};
@@ -8,11 +9,8 @@ ghost use Rattle.asm_reader.specs.Steps as steps;
 ghost use Rattle.asm_reader.specs.Steps.{Reads, itself};
 
 use crate::error::ReadError;
-use asm_state::number::Number;
+use asm_state::number::{GREATEST, Number};
 use asm_syntax::{Kind, Refused, Token};
-
-/// The greatest number. The least one is its negative.
-const GREATEST: u64 = 1_000_000_000_000_000;
 
 /// Whether the two are one kind, or both numbers.
 pub fn alike(a: Kind, b: Kind) -> bool
@@ -63,14 +61,13 @@ fn is_one_of(mut all: &[Kind], kind: Kind) -> bool
 
 /// The number with this value, or its negative, if it is in the range.
 fn number_with(value: u64, is_negative: bool) -> Option<Number>
-    ensures { result ≡ steps.number_with (signed is_negative value) }
+    ensures { result ≡ number_with (signed is_negative value) }
 {
-    if value > GREATEST {
+    if value > GREATEST as u64 {
         return None;
     }
     let value = value as i64;
-    let value = if is_negative { -value } else { value };
-    Some(Number { value })
+    Number::with_value(if is_negative { -value } else { value })
 }
 
 /// The tokens that are still to be read.

@@ -18,9 +18,9 @@ mod terms;
 
 pub use error::ReadError;
 pub use laws::{
-    no_script_beside_a_refusal, no_tree_beside_a_refusal, old_texts, one_refusal, one_script,
-    one_script_refusal, one_tree, one_tree_of_tokens, script_lines, script_or_a_refusal,
-    tree_or_a_refusal,
+    no_script_beside_a_refusal, no_tree_beside_a_refusal, old_scripts, old_texts, one_refusal,
+    one_script, one_script_refusal, one_tree, one_tree_of_tokens, pick_line, script_lines,
+    script_or_a_refusal, tree_or_a_refusal,
 };
 pub use picks::Picks;
 pub use reading::read;

@@ -6,7 +6,7 @@ ghost use Rattle.std.specs.Str.Lines.{strip_carriage_return};
 ghost use Rattle.asm_reader.specs.ScriptText as spec;
 ghost use Rattle.asm_reader.specs.Spots.{line_said};
 
-use crate::script::Choice;
+use crate::script::{Choice, When};
 use std::alloc::{AllocError, Global};
 
 /// So many digits a number may have.
@@ -53,6 +53,19 @@ fn number(digits: &[u8]) -> Option<u64>
     Some(value)
 }
 
+/// The steps for which the line holds whose first field this is. Steps count from 1.
+fn when(field: &[u8]) -> Option<When>
+    ensures { result ≡ spec.when_of field.now }
+{
+    if field == b"*".as_slice() {
+        return Some(When::EveryStep);
+    }
+    match number(field) {
+        None | Some(0) => None,
+        Some(step) => Some(When::Step(step)),
+    }
+}
+
 /// The path that is written so.
 fn path(alloc: Global, text: &[u8]) -> Result<Option<Vec<u64>>, AllocError>
     ensures { IfOk result (λ p. option_map (λ numbers. numbers.items) p ≡ spec.path_of text.now) }
@@ -75,15 +88,12 @@ pub(crate) fn choice(alloc: Global, line: &[u8]) -> Result<Option<Choice>, Alloc
     ensures { IfOk result (λ c. option_map line_said c ≡ spec.line_of line.now) }
 {
     let fields = parts(alloc, line, b' ')?;
-    let [step, at, chosen] = fields.as_slice() else {
+    let [at, place, chosen] = fields.as_slice() else {
         return Ok(None);
     };
-    let (Some(step), Some(path), Some(number)) = (number(step), path(alloc, at)?, number(chosen))
+    let (Some(when), Some(path), Some(number)) = (when(at), path(alloc, place)?, number(chosen))
     else {
         return Ok(None);
     };
-    if step == 0 {
-        return Ok(None);
-    }
-    Ok(Some(Choice { step, path, number }))
+    Ok(Some(Choice { when, path, number }))
 }

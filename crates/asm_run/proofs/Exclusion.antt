@@ -71,38 +71,38 @@ module _ (one_tree : (text : List ℕ) (s t : Spec) → IsSpecification text s �
       same_error e f same.0 same.1
 
   pub excludes : NoRunBesideARefusal
-  excludes text script_text steps turns workers cut rounds old new s script (error.Read e) h spelled in_range named k = no_tree text s e h.spelled k.0
-  excludes text script_text steps turns workers cut rounds old new s script (error.Check e) h spelled in_range named k = faulty_or_known text e s k.0 h
-  excludes text script_text steps turns workers cut rounds old new s script (error.Script e) h spelled in_range named k = no_script script_text script e spelled k.2
-  excludes text script_text steps turns workers cut rounds old new s script error.Limits h spelled in_range named k = let no : are_in_range steps turns workers cut rounds ≡ false = k.4 in absurd cc
-  excludes text script_text steps turns workers cut rounds old new s script error.Memory h spelled in_range named k = named
-  excludes text script_text steps turns workers cut rounds old new s script error.Write h spelled in_range named k = named
+  excludes text script_text limits old new s script (error.Read e) h spelled in_range named k = no_tree text s e h.spelled k.0
+  excludes text script_text limits old new s script (error.Check e) h spelled in_range named k = faulty_or_known text e s k.0 h
+  excludes text script_text limits old new s script (error.Script e) h spelled in_range named k = no_script script_text script e spelled k.2
+  excludes text script_text limits old new s script error.Limits h spelled in_range named k = let no : are_in_range limits ≡ false = k.4 in absurd cc
+  excludes text script_text limits old new s script error.Memory h spelled in_range named k = named
+  excludes text script_text limits old new s script error.Write h spelled in_range named k = named
 
   pub once : ((text : List ℕ) (e f : ReadError) → IsRefusal text e → IsRefusal text f → e ≡ f) → LeastIsOnly
       → ((text : List ℕ) (e f : ScriptError) → IsScriptRefusal text e → IsScriptRefusal text f → e ≡ f) → OneNamedRefusal
-  once one least one_script text script_text steps turns workers cut rounds old new other_old other_new (error.Read e) (error.Read f) n m h k = ap error.Read (one text e f h.0 k.0)
-  once one least one_script text script_text steps turns workers cut rounds old new other_old other_new (error.Read e) (error.Check f) n m h k = absurd (no_tree text k.0.0 e k.0.1 h.0)
-  once one least one_script text script_text steps turns workers cut rounds old new other_old other_new (error.Read e) (error.Script f) n m h k = absurd (no_tree text k.0 e k.1.spelled h.0)
-  once one least one_script text script_text steps turns workers cut rounds old new other_old other_new (error.Read e) error.Limits n m h k = absurd (no_tree text k.0 e k.1.spelled h.0)
-  once one least one_script text script_text steps turns workers cut rounds old new other_old other_new (error.Read e) error.Memory n m h k = absurd m
-  once one least one_script text script_text steps turns workers cut rounds old new other_old other_new (error.Read e) error.Write n m h k = absurd m
-  once one least one_script text script_text steps turns workers cut rounds old new other_old other_new (error.Check e) (error.Read f) n m h k = absurd (no_tree text h.0.0 f h.0.1 k.0)
-  once one least one_script text script_text steps turns workers cut rounds old new other_old other_new (error.Check e) (error.Check f) n m h k = ap error.Check (one_fault least text e f h.0 k.0)
-  once one least one_script text script_text steps turns workers cut rounds old new other_old other_new (error.Check e) (error.Script f) n m h k = absurd (faulty_or_known text e k.0 h.0 k.1)
-  once one least one_script text script_text steps turns workers cut rounds old new other_old other_new (error.Check e) error.Limits n m h k = absurd (faulty_or_known text e k.0 h.0 k.1)
-  once one least one_script text script_text steps turns workers cut rounds old new other_old other_new (error.Check e) error.Memory n m h k = absurd m
-  once one least one_script text script_text steps turns workers cut rounds old new other_old other_new (error.Check e) error.Write n m h k = absurd m
-  once one least one_script text script_text steps turns workers cut rounds old new other_old other_new (error.Script e) (error.Read f) n m h k = absurd (no_tree text h.0 f h.1.spelled k.0)
-  once one least one_script text script_text steps turns workers cut rounds old new other_old other_new (error.Script e) (error.Check f) n m h k = absurd (faulty_or_known text f h.0 k.0 h.1)
-  once one least one_script text script_text steps turns workers cut rounds old new other_old other_new (error.Script e) (error.Script f) n m h k = ap error.Script (one_script script_text e f h.2 k.2)
-  once one least one_script text script_text steps turns workers cut rounds old new other_old other_new (error.Script e) error.Limits n m h k = absurd (no_script script_text k.2 e k.3 h.2)
-  once one least one_script text script_text steps turns workers cut rounds old new other_old other_new (error.Script e) error.Memory n m h k = absurd m
-  once one least one_script text script_text steps turns workers cut rounds old new other_old other_new (error.Script e) error.Write n m h k = absurd m
-  once one least one_script text script_text steps turns workers cut rounds old new other_old other_new error.Limits (error.Read f) n m h k = absurd (no_tree text h.0 f h.1.spelled k.0)
-  once one least one_script text script_text steps turns workers cut rounds old new other_old other_new error.Limits (error.Check f) n m h k = absurd (faulty_or_known text f h.0 k.0 h.1)
-  once one least one_script text script_text steps turns workers cut rounds old new other_old other_new error.Limits (error.Script f) n m h k = absurd (no_script script_text h.2 f h.3 k.2)
-  once one least one_script text script_text steps turns workers cut rounds old new other_old other_new error.Limits error.Limits n m h k = refl
-  once one least one_script text script_text steps turns workers cut rounds old new other_old other_new error.Limits error.Memory n m h k = absurd m
-  once one least one_script text script_text steps turns workers cut rounds old new other_old other_new error.Limits error.Write n m h k = absurd m
-  once one least one_script text script_text steps turns workers cut rounds old new other_old other_new error.Memory f n m h k = absurd n
-  once one least one_script text script_text steps turns workers cut rounds old new other_old other_new error.Write f n m h k = absurd n
+  once one least one_script text script_text limits old new other_old other_new (error.Read e) (error.Read f) n m h k = ap error.Read (one text e f h.0 k.0)
+  once one least one_script text script_text limits old new other_old other_new (error.Read e) (error.Check f) n m h k = absurd (no_tree text k.0.0 e k.0.1 h.0)
+  once one least one_script text script_text limits old new other_old other_new (error.Read e) (error.Script f) n m h k = absurd (no_tree text k.0 e k.1.spelled h.0)
+  once one least one_script text script_text limits old new other_old other_new (error.Read e) error.Limits n m h k = absurd (no_tree text k.0 e k.1.spelled h.0)
+  once one least one_script text script_text limits old new other_old other_new (error.Read e) error.Memory n m h k = absurd m
+  once one least one_script text script_text limits old new other_old other_new (error.Read e) error.Write n m h k = absurd m
+  once one least one_script text script_text limits old new other_old other_new (error.Check e) (error.Read f) n m h k = absurd (no_tree text h.0.0 f h.0.1 k.0)
+  once one least one_script text script_text limits old new other_old other_new (error.Check e) (error.Check f) n m h k = ap error.Check (one_fault least text e f h.0 k.0)
+  once one least one_script text script_text limits old new other_old other_new (error.Check e) (error.Script f) n m h k = absurd (faulty_or_known text e k.0 h.0 k.1)
+  once one least one_script text script_text limits old new other_old other_new (error.Check e) error.Limits n m h k = absurd (faulty_or_known text e k.0 h.0 k.1)
+  once one least one_script text script_text limits old new other_old other_new (error.Check e) error.Memory n m h k = absurd m
+  once one least one_script text script_text limits old new other_old other_new (error.Check e) error.Write n m h k = absurd m
+  once one least one_script text script_text limits old new other_old other_new (error.Script e) (error.Read f) n m h k = absurd (no_tree text h.0 f h.1.spelled k.0)
+  once one least one_script text script_text limits old new other_old other_new (error.Script e) (error.Check f) n m h k = absurd (faulty_or_known text f h.0 k.0 h.1)
+  once one least one_script text script_text limits old new other_old other_new (error.Script e) (error.Script f) n m h k = ap error.Script (one_script script_text e f h.2 k.2)
+  once one least one_script text script_text limits old new other_old other_new (error.Script e) error.Limits n m h k = absurd (no_script script_text k.2 e k.3 h.2)
+  once one least one_script text script_text limits old new other_old other_new (error.Script e) error.Memory n m h k = absurd m
+  once one least one_script text script_text limits old new other_old other_new (error.Script e) error.Write n m h k = absurd m
+  once one least one_script text script_text limits old new other_old other_new error.Limits (error.Read f) n m h k = absurd (no_tree text h.0 f h.1.spelled k.0)
+  once one least one_script text script_text limits old new other_old other_new error.Limits (error.Check f) n m h k = absurd (faulty_or_known text f h.0 k.0 h.1)
+  once one least one_script text script_text limits old new other_old other_new error.Limits (error.Script f) n m h k = absurd (no_script script_text h.2 f h.3 k.2)
+  once one least one_script text script_text limits old new other_old other_new error.Limits error.Limits n m h k = refl
+  once one least one_script text script_text limits old new other_old other_new error.Limits error.Memory n m h k = absurd m
+  once one least one_script text script_text limits old new other_old other_new error.Limits error.Write n m h k = absurd m
+  once one least one_script text script_text limits old new other_old other_new error.Memory f n m h k = absurd n
+  once one least one_script text script_text limits old new other_old other_new error.Write f n m h k = absurd n

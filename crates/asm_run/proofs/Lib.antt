@@ -7,6 +7,7 @@ pub mod LocationFunctions
 pub mod ArgumentTexts
 pub mod Pieces
 pub mod Ranges
+mod RangeLaws
 mod Reached
 pub mod Running
 pub mod Answered

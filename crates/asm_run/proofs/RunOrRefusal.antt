@@ -20,6 +20,7 @@ use Rattle.asm_run.specs.declared.end.End.{End}
 use Rattle.asm_run.specs.declared.end.End.TheVariants as end
 use Rattle.asm_run.specs.declared.error.RunError.{RunError}
 use Rattle.asm_run.specs.declared.error.RunError.TheVariants as error
+use Rattle.asm_run.specs.declared.limits.Limits.{Limits}
 use Rattle.asm_run.specs.Exclusion.{IsNamed}
 use Rattle.asm_run.specs.Headline.{IsAccepted, IsAnswer, IsDone, Explains, book_run}
 use Rattle.asm_run.specs.Limits.{are_in_range}
@@ -58,18 +59,18 @@ error_of s at n least =
 module _ (tree_or_refusal : (text : List ℕ) → ((s : Spec) × IsSpecification text s) ⊎ ((e : ReadError) × IsRefusal text e))
     (sound_or_faulty : LeastExists)
     (script_or_refusal : (text : List ℕ) → ((s : Script) × IsScript text s) ⊎ ((e : ScriptError) × IsScriptRefusal text e))
-    (text script_text : List ℕ) (steps turns workers cut rounds : ℕ) where
+    (text script_text : List ℕ) (limits : Limits) where
   abbrev HasRun : Type 0
-  HasRun = (answer : End) × (trace : List ℕ) × IsDone text script_text steps turns workers cut rounds (Some []) (Some trace) answer
+  HasRun = (answer : End) × (trace : List ℕ) × IsDone text script_text limits (Some []) (Some trace) answer
 
   abbrev HasRefusal : Type 0
-  HasRefusal = (e : RunError) × IsNamed e × Explains text script_text steps turns workers cut rounds (Some []) (Some []) e
+  HasRefusal = (e : RunError) × IsNamed e × Explains text script_text limits (Some []) (Some []) e
 
   module _ (s : Spec) (accepted : IsAccepted text s) where
-    the_run : (script : Script) → IsScript script_text script → are_in_range steps turns workers cut rounds ≡ true → HasRun
+    the_run : (script : Script) → IsScript script_text script → are_in_range limits ≡ true → HasRun
     the_run script spelled in_range =
-        let t = some_trace s turns script steps in
-        let a = answer_of (names_in s) (book_run s turns script steps).end t.1.end_text t.1.is_end in (
+        let t = some_trace s limits.turns script limits.steps in
+        let a = answer_of (names_in s) (book_run s limits.turns script limits.steps).end t.1.end_text t.1.is_end in (
           a.0,
           t.0,
           record {
@@ -83,13 +84,13 @@ module _ (tree_or_refusal : (text : List ℕ) → ((s : Spec) × IsSpecification
           },
         )
 
-    by_limits : (script : Script) → IsScript script_text script → (b : Bool) → are_in_range steps turns workers cut rounds ≡ b → HasRun ⊎ HasRefusal
+    by_limits : (script : Script) → IsScript script_text script → (b : Bool) → are_in_range limits ≡ b → HasRun ⊎ HasRefusal
     by_limits script spelled true is = inl (the_run script spelled is)
     by_limits script spelled false is = inr (error.Limits, tt, (s, accepted, script, spelled, is, refl))
 
     by_script : HasRun ⊎ HasRefusal
     by_script = elim (script_or_refusal script_text) [
-      | inl h ↦ by_limits h.0 h.1 (are_in_range steps turns workers cut rounds) refl
+      | inl h ↦ by_limits h.0 h.1 (are_in_range limits) refl
       | inr h ↦ inr (error.Script h.0, tt, (s, accepted, h.1, refl))
     ]
 

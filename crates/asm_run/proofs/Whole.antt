@@ -16,6 +16,7 @@ use Rattle.asm_reader.specs.ScriptText.{IsScript}
 use Rattle.asm_run.specs.declared.end.End.{End}
 use Rattle.asm_run.specs.declared.error.RunError.{RunError}
 use Rattle.asm_run.specs.declared.error.RunError.TheVariants as error
+use Rattle.asm_run.specs.declared.limits.Limits.{Limits}
 use Rattle.asm_run.specs.Limits.{are_in_range}
 use Rattle.asm_run.specs.Refusal.{read_answer, check_answer, script_answer}
 use Rattle.asm_run.specs.Written.{names_in, locations_in}
@@ -23,30 +24,30 @@ use Rattle.asm_run.specs.Headline.{IsAccepted, IsDone, Explains, book_run}
 use Rattle.asm_run.specs.Reached.{Runs}
 use Rattle.asm_run.proofs.Running.{Appends-none}
 
-module _ (text script_text : List ℕ) (steps turns workers cut rounds : ℕ) where
+module _ (text script_text : List ℕ) (limits : Limits) where
   -- a text that the reader refuses
-  pub refused_text : (old : Option (List ℕ)) (r : Refused ReadError) → reader.Explains text r → Explains text script_text steps turns workers cut rounds old old (read_answer r)
+  pub refused_text : (old : Option (List ℕ)) (r : Refused ReadError) → reader.Explains text r → Explains text script_text limits old old (read_answer r)
   refused_text old refused.Memory h = inl (Appends-none old)
   refused_text old (refused.Named e) h = (h, Appends-none old)
 
   -- a specification that the check refuses
   pub refused_tree : (old : Option (List ℕ)) (s : Spec) → IsSpecification text s → (r : Refused CheckError) → checker.Explains s r
-      → Explains text script_text steps turns workers cut rounds old old (check_answer r)
+      → Explains text script_text limits old old (check_answer r)
   refused_tree old s spelled refused.Memory h = inl (Appends-none old)
   refused_tree old s spelled (refused.Named e) h = ((s, spelled, h), Appends-none old)
 
   -- a script that the reader refuses
   pub refused_script : (old : Option (List ℕ)) (s : Spec) → IsAccepted text s → (r : Refused ScriptError) → ExplainsScript script_text r
-      → Explains text script_text steps turns workers cut rounds old old (script_answer r)
+      → Explains text script_text limits old old (script_answer r)
   refused_script old s accepted refused.Memory h = inl (Appends-none old)
   refused_script old s accepted (refused.Named e) h = (s, accepted, h, Appends-none old)
 
   module _ (old new : Option (List ℕ)) where
     abbrev done : End → Type 0
-    done = IsDone text script_text steps turns workers cut rounds old new
+    done = IsDone text script_text limits old new
 
     abbrev explains : RunError → Type 0
-    explains = Explains text script_text steps turns workers cut rounds old new
+    explains = Explains text script_text limits old new
 
     at_ok : (result : Result End RunError) → MatchResult result done explains → IfOk result done
     at_ok (Ok e) h = h
@@ -56,9 +57,9 @@ module _ (text script_text : List ℕ) (steps turns workers cut rounds : ℕ) wh
     at_err (Ok e) h = tt
     at_err (Err e) h = h
 
-    module _ (failed : Bool) (s : Spec) (accepted : IsAccepted text s) (script : Script) (spelled : IsScript script_text script) (in_range : are_in_range steps turns workers cut rounds ≡ true) where
+    module _ (failed : Bool) (s : Spec) (accepted : IsAccepted text s) (script : Script) (spelled : IsScript script_text script) (in_range : are_in_range limits ≡ true) where
       abbrev all : Result End RunError → Type 0
-      all result = Runs (names_in s) (locations_in s) old new failed (book_run s turns script steps) result
+      all result = Runs (names_in s) (locations_in s) old new failed (book_run s limits.turns script limits.steps) result
 
       said : (result : Result End RunError) → all result → MatchResult result done explains
       said (Ok e) h = record { tree = s; accepted = accepted; script = script; spelled = spelled; in_range = in_range; written = h.0; answered = h.1 }
@@ -79,8 +80,8 @@ module _ (text script_text : List ℕ) (steps turns workers cut rounds : ℕ) wh
       fails (Err (error.Script e)) h = absurd h
 
       pub record Whole (result : Result End RunError) : Type 0 where
-        pub done : IfOk result (IsDone text script_text steps turns workers cut rounds old new)
-        pub refused : IfErr result (Explains text script_text steps turns workers cut rounds old new)
+        pub done : IfOk result (IsDone text script_text limits old new)
+        pub refused : IfErr result (Explains text script_text limits old new)
         pub fails_just_so : IsTrue failed ↔ (result ≡ Err error.Write)
 
       pub whole : (result : Result End RunError) → all result → Whole result

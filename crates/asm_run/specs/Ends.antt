@@ -1,9 +1,9 @@
 -- What an answer says of the texts, whatever became of the bytes.
---     MakesAllSteps text script_text steps turns    the texts are those of a specification without faults and of a script, and its run
---                                                   makes all its steps
---     EndsEarly text script_text steps turns        its run ends before
---     IsRefused text script_text                    one of the texts is refused
---     AnswersTell                                   the answer says which
+--     MakesAllSteps text script_text limits    the texts are those of a specification without faults and of a script, and its run
+--                                              makes all its steps
+--     EndsEarly text script_text limits        its run ends before
+--     IsRefused text script_text               one of the texts is refused
+--     AnswersTell                              the answer says which
 use Rattle.std.specs.Prelude.{◌≡◌, ◌≢◌, ℕ, List, Option, Ok, Err, Result, IfErr, IfOk, ⊤}
 use Rattle.asm_syntax.specs.SourceTree.{Spec}
 use Rattle.asm_reader.specs.Refusals.{IsRefusal}
@@ -19,6 +19,7 @@ use Rattle.asm_run.specs.declared.end.End.{End}
 use Rattle.asm_run.specs.declared.end.End.TheVariants as end
 use Rattle.asm_run.specs.declared.error.RunError.{RunError}
 use Rattle.asm_run.specs.declared.error.RunError.TheVariants as error
+use Rattle.asm_run.specs.declared.limits.Limits.{Limits}
 
 module _ (text script_text : List ℕ) where
   pub data IsRefused : Type 0 where
@@ -26,13 +27,13 @@ module _ (text script_text : List ℕ) where
     faulty : (e : CheckError) → IsFaulty text e → IsRefused
     unscripted : (s : Spec) (e : ScriptError) → IsAccepted text s → IsScriptRefusal script_text e → IsRefused
 
-  module _ (steps turns : ℕ) where
+  module _ (limits : Limits) where
     pub record HasEnd (P : run.End → Type 0) : Type 0 where
       pub tree : Spec
       pub accepted : IsAccepted text tree
       pub script : Script
       pub spelled : IsScript script_text script
-      pub ended : P (book_run tree turns script steps).end
+      pub ended : P (book_run tree limits.turns script limits.steps).end
 
     abbrev pub MakesAllSteps : Type 0
     MakesAllSteps = HasEnd (λ e. e ≡ AtLimit)
@@ -54,7 +55,7 @@ module _ (text script_text : List ℕ) where
 
 abbrev pub AnswersTell : Type 0
 AnswersTell =
-    (text script_text : List ℕ) (steps turns workers cut rounds : ℕ) (old new : Option (List ℕ)) (answer : Result End RunError)
-    → IfOk answer (IsDone text script_text steps turns workers cut rounds old new)
-    → IfErr answer (Explains text script_text steps turns workers cut rounds old new)
-    → Tells text script_text steps turns answer
+    (text script_text : List ℕ) (limits : Limits) (old new : Option (List ℕ)) (answer : Result End RunError)
+    → IfOk answer (IsDone text script_text limits old new)
+    → IfErr answer (Explains text script_text limits old new)
+    → Tells text script_text limits answer

@@ -12,6 +12,7 @@ use Rattle.asm_run.specs.Headline.{IsAccepted, IsDone, Explains}
 use Rattle.asm_run.specs.declared.end.End.{End}
 use Rattle.asm_run.specs.declared.error.RunError.{RunError}
 use Rattle.asm_run.specs.declared.error.RunError.TheVariants as error
+use Rattle.asm_run.specs.declared.limits.Limits.{Limits}
 
 abbrev pub IsNamed : RunError → Type 0
 IsNamed (error.Read e) = Unit {0}
@@ -23,17 +24,17 @@ IsNamed error.Write = ⊥
 
 abbrev pub OneNamedRefusal : Type 0
 OneNamedRefusal =
-    (text script_text : List ℕ) (steps turns workers cut rounds : ℕ) (old new other_old other_new : Option (List ℕ)) (e f : RunError) → IsNamed e → IsNamed f
-    → Explains text script_text steps turns workers cut rounds old new e → Explains text script_text steps turns workers cut rounds other_old other_new f → e ≡ f
+    (text script_text : List ℕ) (limits : Limits) (old new other_old other_new : Option (List ℕ)) (e f : RunError) → IsNamed e → IsNamed f
+    → Explains text script_text limits old new e → Explains text script_text limits other_old other_new f → e ≡ f
 
 abbrev pub NoRunBesideARefusal : Type 0
 NoRunBesideARefusal =
-    (text script_text : List ℕ) (steps turns workers cut rounds : ℕ) (old new : Option (List ℕ)) (s : Spec) (script : Script) (e : RunError) → IsAccepted text s
+    (text script_text : List ℕ) (limits : Limits) (old new : Option (List ℕ)) (s : Spec) (script : Script) (e : RunError) → IsAccepted text s
     → IsScript script_text script
-    → are_in_range steps turns workers cut rounds ≡ true → IsNamed e → ¬ Explains text script_text steps turns workers cut rounds old new e
+    → are_in_range limits ≡ true → IsNamed e → ¬ Explains text script_text limits old new e
 
 abbrev pub RunOrRefusal : Type 0
 RunOrRefusal =
-    (text script_text : List ℕ) (steps turns workers cut rounds : ℕ)
-    → ((answer : End) × (trace : List ℕ) × IsDone text script_text steps turns workers cut rounds (Some []) (Some trace) answer)
-    ⊎ ((e : RunError) × IsNamed e × Explains text script_text steps turns workers cut rounds (Some []) (Some []) e)
+    (text script_text : List ℕ) (limits : Limits)
+    → ((answer : End) × (trace : List ℕ) × IsDone text script_text limits (Some []) (Some trace) answer)
+    ⊎ ((e : RunError) × IsNamed e × Explains text script_text limits (Some []) (Some []) e)

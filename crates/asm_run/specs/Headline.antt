@@ -26,6 +26,7 @@ use Rattle.asm_run.specs.declared.end.End.{End}
 use Rattle.asm_run.specs.declared.end.End.TheVariants as end
 use Rattle.asm_run.specs.declared.error.RunError.{RunError}
 use Rattle.asm_run.specs.declared.error.RunError.TheVariants as error
+use Rattle.asm_run.specs.declared.limits.Limits.{Limits}
 
 pub record IsAccepted (text : List ℕ) (s : Spec) : Type 0 where
   pub spelled : IsSpecification text s
@@ -72,16 +73,16 @@ module _ (names : Names) (ls : List Location) (first : ℕ) where
 abbrev pub IsUnwritten : (old new : Option (List ℕ)) → Type 0
 IsUnwritten old new = Appends old new []
 
-module _ (text script_text : List ℕ) (steps turns workers cut rounds : ℕ) (old new : Option (List ℕ)) where
+module _ (text script_text : List ℕ) (limits : Limits) (old new : Option (List ℕ)) where
   -- The whole trace is written, and the answer is the end of the run.
   pub record IsDone (answer : End) : Type 0 where
     pub tree : Spec
     pub accepted : IsAccepted text tree
     pub script : Script
     pub spelled : IsScript script_text script
-    pub in_range : are_in_range steps turns workers cut rounds ≡ true
-    pub written : IsWritten (names_in tree) (locations_in tree) 1 old new (book_run tree turns script steps)
-    pub answered : IsAnswer (book_run tree turns script steps).end answer
+    pub in_range : are_in_range limits ≡ true
+    pub written : IsWritten (names_in tree) (locations_in tree) 1 old new (book_run tree limits.turns script limits.steps)
+    pub answered : IsAnswer (book_run tree limits.turns script limits.steps).end answer
 
   -- A run was begun, and what was written of it.
   pub record IsBegun (P : Spec → Run → Type 0) : Type 0 where
@@ -89,14 +90,14 @@ module _ (text script_text : List ℕ) (steps turns workers cut rounds : ℕ) (o
     pub accepted : IsAccepted text tree
     pub script : Script
     pub spelled : IsScript script_text script
-    pub in_range : are_in_range steps turns workers cut rounds ≡ true
-    pub holds : P tree (book_run tree turns script steps)
+    pub in_range : are_in_range limits ≡ true
+    pub holds : P tree (book_run tree limits.turns script limits.steps)
 
   abbrev pub Explains : RunError → Type 0
   Explains (error.Read e) = IsRefusal text e × IsUnwritten old new
   Explains (error.Check e) = IsFaulty text e × IsUnwritten old new
   Explains (error.Script e) = (s : Spec) × IsAccepted text s × IsScriptRefusal script_text e × IsUnwritten old new
   Explains error.Limits =
-      (s : Spec) × IsAccepted text s × (script : Script) × IsScript script_text script × (are_in_range steps turns workers cut rounds ≡ false) × IsUnwritten old new
+      (s : Spec) × IsAccepted text s × (script : Script) × IsScript script_text script × (are_in_range limits ≡ false) × IsUnwritten old new
   Explains error.Memory = IsUnwritten old new ⊎ IsBegun (λ s r. AreWholeSteps (names_in s) (locations_in s) 1 old new r)
   Explains error.Write = IsBegun (λ s r. IsCut (names_in s) (locations_in s) 1 old new r)

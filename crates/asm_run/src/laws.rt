@@ -1,5 +1,6 @@
-//! Laws of traces and of refusals.
+//! Laws of traces, of refusals and of limits.
 ghost use Rattle.asm_run.specs.Traces.{OneTrace, SomeTrace};
+ghost use Rattle.asm_run.specs.RangeLaws.{RangeLaws};
 ghost use Rattle.asm_run.specs.Ends.{AnswersTell};
 ghost use Rattle.asm_run.specs.Exclusion.{OneNamedRefusal, NoRunBesideARefusal, RunOrRefusal};
 
@@ -52,4 +53,9 @@ pub fn run_or_refusal()
 /// The answer of a run says whether it makes all its steps, ends before, or is one of a text that is refused.
 pub fn answers_tell()
     ensures { AnswersTell }
+{}
+
+/// The ranges of the limits.
+pub fn range_laws()
+    ensures { RangeLaws }
 {}

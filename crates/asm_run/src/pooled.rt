@@ -39,7 +39,7 @@ pub struct Pooled<'r, R, G> {
 impl<'r, R: Threads + Sync, G: Gate + Sync> Pooled<'r, R, G> {
     /// As many workers, elements of a piece and rounds as the limits say.
     pub fn new(rt: &'r R, limits: &Limits, gate: &'r G) -> Pooled<'r, R, G>
-        requires { IsTrue (are_in_range limits.now.steps limits.now.turns limits.now.workers limits.now.cut limits.now.rounds) }
+        requires { IsTrue (are_in_range limits.now) }
     {
         Pooled {
             rt,

@@ -4,6 +4,7 @@ ghost use Rattle.asm_state.specs.Signature.{count_of};
 ghost use Rattle.asm_eval.specs.Does as does;
 ghost use Rattle.asm_eval.specs.Evaluated.{setting, shape_at, state_at};
 ghost use Rattle.asm_eval.specs.Pieces.{IsPiece, pieces_do};
+ghost use Rattle.asm_run.specs.declared.limits.TheConstants.{WORKERS};
 ghost use Rattle.asm_run.specs.Hands.{TakesHand, parts_of};
 ghost use Rattle.asm_run.specs.Rounds.{Holds, IsRound, answers, first_of, least, news, tally};
 
@@ -101,7 +102,7 @@ pub(crate) struct Shares {
     pub cut: usize,
     /// In so many rounds pieces are opened.
     pub rounds: u32,
-    pub ghost in_range: { (0 < workers) × (workers ≤ 32) × (0 < cut) },
+    pub ghost in_range: { (0 < workers) × (workers ≤ WORKERS.most) × (0 < cut) },
 }
 
 /// What stays the same over the rounds of a region.

@@ -34,10 +34,10 @@ pub fn run<R: Threads + Sync, S: Sink>(
 ) -> Result<End, RunError>
     requires { S.has_failed out.old ≡ false }
     // The bytes grew by the trace of the book's run, and by nothing else.
-    ensures done { IfOk result (IsDone spec.now script.now limits.now.steps limits.now.turns limits.now.workers limits.now.cut limits.now.rounds (S.bytes out.old) (S.bytes out.new)) }
+    ensures done { IfOk result (IsDone spec.now script.now limits.now (S.bytes out.old) (S.bytes out.new)) }
     // What a refusal says of the text, of the script, of the limits, and of what was written. Those of texts and limits exclude one another,
     // and a run (`laws`).
-    ensures refused { IfErr result (Explains spec.now script.now limits.now.steps limits.now.turns limits.now.workers limits.now.cut limits.now.rounds (S.bytes out.old) (S.bytes out.new)) }
+    ensures refused { IfErr result (Explains spec.now script.now limits.now (S.bytes out.old) (S.bytes out.new)) }
     // A text that is too long is refused as that, whatever memory there is.
     ensures too_long { 1_048_576 < length spec.now → result ≡ Err (Read (Lex TooLong)) }
     // Memory is asked for where the text has a first token, and nowhere before.
@@ -60,10 +60,10 @@ pub fn run_gated<R: Threads + Sync, G: Gate + Sync, S: Sink>(
 ) -> Result<End, RunError>
     requires { S.has_failed out.old ≡ false }
     // The bytes grew by the trace of the book's run, and by nothing else.
-    ensures done { IfOk result (IsDone spec.now script.now limits.now.steps limits.now.turns limits.now.workers limits.now.cut limits.now.rounds (S.bytes out.old) (S.bytes out.new)) }
+    ensures done { IfOk result (IsDone spec.now script.now limits.now (S.bytes out.old) (S.bytes out.new)) }
     // What a refusal says of the text, of the script, of the limits, and of what was written. Those of texts and limits exclude one another,
     // and a run (`laws`).
-    ensures refused { IfErr result (Explains spec.now script.now limits.now.steps limits.now.turns limits.now.workers limits.now.cut limits.now.rounds (S.bytes out.old) (S.bytes out.new)) }
+    ensures refused { IfErr result (Explains spec.now script.now limits.now (S.bytes out.old) (S.bytes out.new)) }
     // A text that is too long is refused as that, whatever memory there is.
     ensures too_long { 1_048_576 < length spec.now → result ≡ Err (Read (Lex TooLong)) }
     // Memory is asked for where the text has a first token, and nowhere before.

@@ -1,5 +1,7 @@
 -- The bounds that the constants are.
-use Rattle.std.proofs.Common.{◌<◌, ◌≤ℤ◌, pos, negsuc, refl, subst}
+use Rattle.std.proofs.Common.{◌<◌, ◌≤ℤ◌, refl, subst}
+use Rattle.asm_state.specs.declared.element.TheConstants.{ELEMENTS}
+use Rattle.asm_state.specs.Bounds.{least_number, greatest_number}
 use Rattle.asm_state.specs.BoundLaws.{IsWithinBounds, BoundLaws}
 use Rattle.asm_state.specs.Fits.{Fits}
 use Rattle.asm_state.specs.Signature.{Shape}
@@ -29,8 +31,9 @@ fits_from shape bounds = record {
 
 pub bound_laws : BoundLaws
 bound_laws = record {
-  largest = refl;
+  greatest = refl;
   elements = refl;
+  values = refl;
   universes = refl;
   functions = refl;
   domain = refl;
@@ -38,11 +41,11 @@ bound_laws = record {
   static_lists = refl;
   signatures = λ shape. (bounds_from shape, fits_from shape);
   numbers = λ z. (
-    λ (n, same). (subst (λ y. negsuc 999_999_999_999_999 ≤ℤ y) same n.low, subst (λ y. y ≤ℤ pos 1_000_000_000_000_000) same n.high),
+    λ (n, same). (subst (λ y. least_number ≤ℤ y) same n.low, subst (λ y. y ≤ℤ greatest_number) same n.high),
     λ (low, high). (record { value = z; low = low; high = high }, refl),
   );
   indices = λ k. (
-    λ (e, same). subst (λ n. n < 262_144) same e.in_range,
+    λ (e, same). subst (λ n. n < ELEMENTS) same e.in_range,
     λ below. (record { index = k; in_range = below }, refl),
   );
 }

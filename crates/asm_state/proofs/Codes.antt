@@ -1,10 +1,11 @@
 -- Codes rise with values, and tell them apart.
-use Rattle.std.proofs.Common.{◌≡◌, ◌<◌, ◌≤◌, ℕ, ℤ, pos, negsuc, ◌<ℤ◌, ◌≤ℤ◌, Bool, true, false, refl, ap, arith}
+use Rattle.std.proofs.Common.{◌-◌, ◌≡◌, ◌<◌, ◌≤◌, ℕ, ℤ, pos, negsuc, ◌<ℤ◌, ◌≤ℤ◌, Bool, true, false, refl, ap, arith}
 use Rattle.std.specs.Cmp.{nat_cmp_is, int_ranks}
 use Rattle.std.specs.Ordering.{int_cmp, nat_cmp, ordering_then, MatchOrdering}
 use Rattle.std.specs.declared.cmp.Ordering.{Ordering}
 use Rattle.std.specs.declared.cmp.Ordering.TheVariants.{Less, Equal, Greater}
 use Rattle.std.proofs.lemmas.Int.{ints}
+use Rattle.asm_state.specs.Bounds.{least_number, greatest_number, code_of_first_element}
 use Rattle.asm_state.specs.declared.number.Number.{Number as WholeNumber}
 use Rattle.asm_state.specs.declared.element.Element.{Element as Member}
 use Rattle.asm_state.specs.declared.value.Value.{Value}
@@ -12,18 +13,18 @@ use Rattle.asm_state.specs.declared.value.Value.TheVariants.{Undef, Truth, Numbe
 use Rattle.asm_state.specs.Codes.{number_code, code_of}
 use Rattle.asm_state.specs.Value.{value_cmp, value_cmp-antisymmetric}
 
-number_codes_rise : (x y : ℤ) → negsuc 999_999_999_999_999 ≤ℤ x → x <ℤ y → number_code x < number_code y
+number_codes_rise : (x y : ℤ) → least_number ≤ℤ x → x <ℤ y → number_code x < number_code y
 number_codes_rise (pos m) (pos n) low h = omega (arith, ints)
 number_codes_rise (pos m) (negsuc n) low h = omega (arith, ints)
 number_codes_rise (negsuc m) (pos n) low h = omega (arith, ints)
 number_codes_rise (negsuc m) (negsuc n) low h = omega (arith, ints)
 
 -- the codes of each kind lie between those of its neighbours
-number_code_bounds : (x : ℤ) → negsuc 999_999_999_999_999 ≤ℤ x → x ≤ℤ pos 1_000_000_000_000_000 → (4 ≤ number_code x) × (number_code x ≤ 2_000_000_000_000_004)
+number_code_bounds : (x : ℤ) → least_number ≤ℤ x → x ≤ℤ greatest_number → (4 ≤ number_code x) × (number_code x ≤ code_of_first_element - 1)
 number_code_bounds (pos n) low high = (omega arith, omega (arith, ints))
 number_code_bounds (negsuc n) low high = (omega (arith, ints), omega arith)
 
-number_bounds : (n : WholeNumber) → (4 ≤ code_of (Number n)) × (code_of (Number n) ≤ 2_000_000_000_000_004)
+number_bounds : (n : WholeNumber) → (4 ≤ code_of (Number n)) × (code_of (Number n) ≤ code_of_first_element - 1)
 number_bounds n = number_code_bounds n.value n.low n.high
 
 truth_bounds : (b : Bool) → (2 ≤ code_of (Truth b)) × (code_of (Truth b) ≤ 3)

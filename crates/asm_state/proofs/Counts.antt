@@ -2,6 +2,7 @@
 use Rattle.std.proofs.Common.{◌≡◌, ℕ, ◌+◌, ◌*◌, ◌^◌, ◌<◌, ◌≤◌, ◌↔◌, nat_le, IsTrue, All, List, length, get_or, refl, sym, ap, subst, ◌∙◌, arith}
 use Rattle.std.proofs.lemmas.Bool.Decides.{nat_tests}
 use Rattle.std.proofs.lemmas.List.{length-append}
+use Rattle.asm_state.specs.declared.limits.TheConstants.{LOCATIONS, STATIC_LISTS}
 use Rattle.asm_state.specs.declared.function.Function.{Function}
 use Rattle.asm_state.specs.declared.function.FunctionKind.TheVariants.{Controlled, Static}
 use Rattle.asm_state.specs.Fits.{IsDomainOf, static_lists, static_lists_by, static_count}
@@ -73,14 +74,14 @@ known_lists shape f function domain lists domains h is same are bound =
     )
 
 -- two bounds by the tests of two numbers
-pub both_within : (a b m n : ℕ) → a ≡ m → b ≡ n → a ≤ 16_384 → IsTrue (nat_le b 16_384) ↔ ((m ≤ 16_384) × (n ≤ 16_384))
+pub both_within : (a b m n : ℕ) → a ≡ m → b ≡ n → a ≤ LOCATIONS → IsTrue (nat_le b STATIC_LISTS) ↔ ((m ≤ LOCATIONS) × (n ≤ STATIC_LISTS))
 both_within a b m n e f h = (
-  λ t. let low : b ≤ 16_384 = grind (arith, nat_tests) in (omega (arith, e, h), omega (arith, f, low)),
-  λ both. let low : b ≤ 16_384 = omega (arith, f, both.1) in grind (arith, nat_tests),
+  λ t. let low : b ≤ STATIC_LISTS = grind (arith, nat_tests) in (omega (arith, e, h), omega (arith, f, low)),
+  λ both. let low : b ≤ STATIC_LISTS = omega (arith, f, both.1) in grind (arith, nat_tests),
 )
 
-pub first_past : (a m n : ℕ) → a ≡ m → 16_384 < a → IsTrue (nat_le a 16_384) ↔ ((m ≤ 16_384) × (n ≤ 16_384))
+pub first_past : (a m n : ℕ) → a ≡ m → LOCATIONS < a → IsTrue (nat_le a LOCATIONS) ↔ ((m ≤ LOCATIONS) × (n ≤ STATIC_LISTS))
 first_past a m n e h = (
-  λ t. let low : a ≤ 16_384 = grind (arith, nat_tests) in absurd (omega (arith, low, h)),
+  λ t. let low : a ≤ LOCATIONS = grind (arith, nat_tests) in absurd (omega (arith, low, h)),
   λ both. absurd (omega (arith, e, both.0, h)),
 )

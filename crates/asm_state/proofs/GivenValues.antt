@@ -6,6 +6,7 @@ use Rattle.std.proofs.lemmas.List.{length-map, get_or-map}
 use Rattle.std.proofs.lemmas.List.Concat.{get_or-flat_map, length-flat_map}
 use Rattle.std.proofs.lemmas.List.Folds.{length-flat_map-take}
 use Rattle.std.proofs.lemmas.Option.{slice_get_within}
+use Rattle.asm_state.specs.declared.limits.TheConstants.{STATIC_LISTS}
 use Rattle.asm_state.specs.declared.function.Function.{Function}
 use Rattle.asm_state.specs.declared.function.FunctionKind.{FunctionKind}
 use Rattle.asm_state.specs.declared.function.FunctionKind.TheVariants.{Controlled, Static}
@@ -39,7 +40,7 @@ given_count shape =
 
 pub record IsGiven (shape : Shape) (layout : Layout) (f n : ℕ) (arguments : List Value) : Type 0 where
   pub in_range : n < length layout.given.items
-  pub few : length layout.given.items ≤ 16_384
+  pub few : length layout.given.items ≤ STATIC_LISTS
   pub value : (d : Value) → get_or layout.given.items n d ≡ held_value shape f arguments
 
 -- the value of a static function for a list in its domain
@@ -48,7 +49,7 @@ pub given_here : (shape : Shape) (layout : Layout) → IsLayoutOf shape layout �
     → k < length (lists_of shape function) → get_or (lists_of shape function) k [] ≡ arguments → IsGiven shape layout f (extent.start + k) arguments
 given_here shape layout laid_out f function extent arguments k has is of h at = record {
   in_range = subst (λ vs. extent.start + k < length vs) (sym laid_out.given) below;
-  few = subst (λ n. n ≤ 16_384) (sym (ap length laid_out.given ∙ given_count shape)) laid_out.fits.few_static_lists;
+  few = subst (λ n. n ≤ STATIC_LISTS) (sym (ap length laid_out.given ∙ given_count shape)) laid_out.fits.few_static_lists;
   value = λ d.
       ap (λ vs. get_or vs (extent.start + k) d) laid_out.given
       ∙ ap (λ n. get_or (flat_map (static_values shape.universes) shape.functions) (n + k) d) start

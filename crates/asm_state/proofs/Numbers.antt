@@ -1,30 +1,47 @@
 -- A number in the range is its own value, and what the code's arithmetic gives is the number that is meant.
-use Rattle.std.proofs.Common.{◌≡◌, Bool, true, false, refl, sym, ap, ◌∙◌, subst, ℤ, pos, negsuc, ◌≤ℤ◌, ◌+ℤ◌, ◌-ℤ◌, ◌*ℤ◌, neg_ℤ, to_z, of_z, w64, FitsSigned, arith}
+use Rattle.std.proofs.Common.{◌≡◌, Bool, true, false, Some, None, refl, sym, ap, ◌∙◌, subst, ℤ, pos, ◌≤ℤ◌, ◌+ℤ◌, ◌-ℤ◌, ◌*ℤ◌, neg_ℤ, to_z, of_z, w64, FitsSigned, arith}
 use Rattle.std.specs.Prelude.{int_le}
 use Rattle.std.proofs.lemmas.Int.{ints}
+use Rattle.asm_state.specs.Bounds.{least_number, greatest_number}
 use Rattle.asm_state.specs.declared.number.Number.{Number as WholeNumber}
 use Rattle.asm_state.specs.declared.value.Value.{Value}
 use Rattle.asm_state.specs.declared.value.Value.TheVariants.{Undef, Number}
 use Rattle.asm_state.specs.Kinds.{same_number}
-use Rattle.asm_state.specs.Operation.{at_most, number_by_tests, number_or_undef}
+use Rattle.asm_state.specs.Numbers.{number_with}
+use Rattle.asm_state.specs.Numbers.{at_most, number_by_tests, number_with}
+use Rattle.asm_state.specs.Operation.{number_or_undef, value_or_undef}
 
-tests_pass : (z : ℤ) (n : WholeNumber) → n.value ≡ z → (low high : Bool) (low_is : int_le (negsuc 999_999_999_999_999) z ≡ low) (high_is : int_le z (pos 1_000_000_000_000_000) ≡ high) → low ≡ true → high ≡ true → Number n ≡ number_by_tests z low high low_is high_is
-tests_pass z n e true true low_is high_is a b = ap Number (same_number n _ e)
+tests_pass : (z : ℤ) (n : WholeNumber) → n.value ≡ z → (low high : Bool) (low_is : int_le (least_number) z ≡ low) (high_is : int_le z greatest_number ≡ high) → low ≡ true → high ≡ true → Some n ≡ number_by_tests z low high low_is high_is
+tests_pass z n e true true low_is high_is a b = ap Some (same_number n _ e)
 tests_pass z n e true false low_is high_is a b = cc
 tests_pass z n e false high low_is high_is a b = cc
 
-pub number_in_range : (z : ℤ) (n : WholeNumber) → n.value ≡ z → Number n ≡ number_or_undef z
-unfolding number_or_undef
-number_in_range z n e =
-    let low : negsuc 999_999_999_999_999 ≤ℤ z = subst (λ y. negsuc 999_999_999_999_999 ≤ℤ y) e n.low in
-    let high : z ≤ℤ pos 1_000_000_000_000_000 = subst (λ y. y ≤ℤ pos 1_000_000_000_000_000) e n.high in
+-- the number with a value is the one that has it
+pub number_is : (z : ℤ) (n : WholeNumber) → n.value ≡ z → Some n ≡ number_with z
+unfolding number_with
+number_is z n e =
+    let low : least_number ≤ℤ z = subst (λ y. least_number ≤ℤ y) e n.low in
+    let high : z ≤ℤ greatest_number = subst (λ y. y ≤ℤ greatest_number) e n.high in
     tests_pass z n e _ _ _ _ (grind (arith, ints)) (grind (arith, ints))
 
+pub number_in_range : (z : ℤ) (n : WholeNumber) → n.value ≡ z → Number n ≡ number_or_undef z
+number_in_range z n e = ap value_or_undef (number_is z n e)
+
+tests_value : (z : ℤ) (n : WholeNumber) (low high : Bool) (low_is : int_le least_number z ≡ low) (high_is : int_le z greatest_number ≡ high) → number_by_tests z low high low_is high_is ≡ Some n → n.value ≡ z
+tests_value z n true true low_is high_is e = cc
+tests_value z n true false low_is high_is e = absurd cc
+tests_value z n false high low_is high_is e = absurd cc
+
+-- and has it
+pub number_has : (z : ℤ) (n : WholeNumber) → number_with z ≡ Some n → n.value ≡ z
+unfolding number_with
+number_has z n e = tests_value z n _ _ _ _ e
+
 -- what the code's arithmetic gives, whose terms show the numbers as bits and back
-pub kept : (z : ℤ) (low : negsuc 999_999_999_999_999 ≤ℤ to_z w64 (of_z w64 z)) (high : to_z w64 (of_z w64 z) ≤ℤ pos 1_000_000_000_000_000) → negsuc 999_999_999_999_999 ≤ℤ z → z ≤ℤ pos 1_000_000_000_000_000 → Number (record { value = to_z w64 (of_z w64 z); low = low; high = high }) ≡ number_or_undef z
+pub kept : (z : ℤ) (low : least_number ≤ℤ to_z w64 (of_z w64 z)) (high : to_z w64 (of_z w64 z) ≤ℤ greatest_number) → least_number ≤ℤ z → z ≤ℤ greatest_number → Some (record { value = to_z w64 (of_z w64 z); low = low; high = high }) ≡ number_with z
 kept z low high above below =
     let same : to_z w64 (of_z w64 z) ≡ z = omega (arith, ints) in
-    number_in_range z (record { value = to_z w64 (of_z w64 z); low = low; high = high }) same
+    number_is z (record { value = to_z w64 (of_z w64 z); low = low; high = high }) same
 
 pub sum_is : (m n : WholeNumber) (r : Value) → r ≡ number_or_undef (to_z w64 (of_z w64 (to_z w64 (of_z w64 m.value) +ℤ to_z w64 (of_z w64 n.value)))) → r ≡ number_or_undef (m.value +ℤ n.value)
 sum_is m n r e =
@@ -42,16 +59,16 @@ negative_is m r e =
     e ∙ ap number_or_undef same
 
 -- a number that 64 bits can't hold isn't in the range
-tests_fail : (z : ℤ) (low high : Bool) (low_is : int_le (negsuc 999_999_999_999_999) z ≡ low) (high_is : int_le z (pos 1_000_000_000_000_000) ≡ high) → ¬ (FitsSigned w64 z) → Undef ≡ number_by_tests z low high low_is high_is
+tests_fail : (z : ℤ) (low high : Bool) (low_is : int_le (least_number) z ≡ low) (high_is : int_le z greatest_number ≡ high) → ¬ (FitsSigned w64 z) → None ≡ number_by_tests z low high low_is high_is
 tests_fail z true true low_is high_is h =
-    let above : negsuc 999_999_999_999_999 ≤ℤ z = at_most low_is in
-    let below : z ≤ℤ pos 1_000_000_000_000_000 = at_most high_is in
+    let above : least_number ≤ℤ z = at_most low_is in
+    let below : z ≤ℤ greatest_number = at_most high_is in
     absurd (h (omega (arith, ints)))
 tests_fail z true false low_is high_is h = refl
 tests_fail z false high low_is high_is h = refl
 
-too_long : (z : ℤ) → ¬ (FitsSigned w64 z) → Undef ≡ number_or_undef z
-unfolding number_or_undef
+too_long : (z : ℤ) → ¬ (FitsSigned w64 z) → None ≡ number_with z
+unfolding number_with
 too_long z h = tests_fail z _ _ _ _ h
 
 bits_keep : (m : WholeNumber) → to_z w64 (of_z w64 m.value) ≡ m.value
@@ -59,4 +76,4 @@ bits_keep m = omega (arith, ints, m.low, m.high)
 
 pub no_product : (m n : WholeNumber) → ¬ (FitsSigned w64 (to_z w64 (of_z w64 m.value) *ℤ to_z w64 (of_z w64 n.value))) → Undef ≡ number_or_undef (m.value *ℤ n.value)
 no_product m n h =
-    too_long (m.value *ℤ n.value) (λ fits. h (subst (FitsSigned w64) (λ i. sym (bits_keep m) i *ℤ sym (bits_keep n) i) fits))
+    ap value_or_undef (too_long (m.value *ℤ n.value) (λ fits. h (subst (FitsSigned w64) (λ i. sym (bits_keep m) i *ℤ sym (bits_keep n) i) fits)))

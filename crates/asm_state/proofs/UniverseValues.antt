@@ -9,6 +9,8 @@ use Rattle.std.proofs.lemmas.Grind.{common_steps}
 use Rattle.std.proofs.lemmas.Int.{ints}
 use Rattle.std.proofs.lemmas.List.Sums.{position_or_len_is}
 use Rattle.std.proofs.lemmas.Option.{slice_get-get_or}
+use Rattle.asm_state.specs.declared.element.TheConstants.{ELEMENTS}
+use Rattle.asm_state.specs.Bounds.{least_number, greatest_number, code_of_first_element}
 use Rattle.asm_state.specs.declared.element.Element.{Element as Member}
 use Rattle.asm_state.specs.declared.number.Number.{Number as WholeNumber}
 use Rattle.asm_state.specs.declared.universe.First.{First}
@@ -17,7 +19,8 @@ use Rattle.asm_state.specs.declared.value.Value.{Value}
 use Rattle.asm_state.specs.declared.value.Value.TheVariants.{Undef, Number, Element}
 use Rattle.asm_state.specs.Codes.{number_code, code_of}
 use Rattle.asm_state.specs.Kinds.{same_element}
-use Rattle.asm_state.specs.Operation.{at_most, is_same, number_or_undef}
+use Rattle.asm_state.specs.Operation.{is_same, number_or_undef}
+use Rattle.asm_state.specs.Numbers.{at_most}
 use Rattle.asm_state.specs.Universe.{element_by_test, element, elements, numbers, count_between, numbers_between, IsUniverse}
 use Rattle.asm_state.specs.UniverseView.{values_from, first_code, IsWithin}
 use Rattle.asm_state.proofs.Codes.{codes_rise, codes_apart}
@@ -56,7 +59,7 @@ at_numbers first (suc n) (suc i) d within =
     at_numbers (first +ℤ pos 1) n i d (omega arith) ∙ ap number_or_undef same
 
 -- an element is the one that the test gives, where it passes
-test_passes : (k : ℕ) (e : Member) → e.index ≡ k → (test : Bool) (test_is : nat_lt k 262_144 ≡ test) → test ≡ true → Element e ≡ element_by_test k test test_is
+test_passes : (k : ℕ) (e : Member) → e.index ≡ k → (test : Bool) (test_is : nat_lt k ELEMENTS ≡ test) → test ≡ true → Element e ≡ element_by_test k test test_is
 test_passes k e same true test_is passes = ap Element (same_element e _ same)
 test_passes k e same false test_is passes = cc
 
@@ -64,26 +67,26 @@ test_passes k e same false test_is passes = cc
 pub element_in_range : (k : ℕ) (e : Member) → e.index ≡ k → Element e ≡ element k
 unfolding element
 element_in_range k e same =
-    let below : k < 262_144 = subst (λ n. n < 262_144) same e.in_range in
+    let below : k < ELEMENTS = subst (λ n. n < ELEMENTS) same e.in_range in
     test_passes k e same _ _ (grind (arith, nat_tests))
 
 -- the code of an element in the range
-pub element_code : (k : ℕ) → k < 262_144 → code_of (element k) ≡ 2_000_000_000_000_005 + k
+pub element_code : (k : ℕ) → k < ELEMENTS → code_of (element k) ≡ code_of_first_element + k
 element_code k below = sym (ap code_of (element_in_range k (record { index = k; in_range = below }) refl))
 
 -- the code of a number in the range
-pub number_code_is : (z : ℤ) → negsuc 999_999_999_999_999 ≤ℤ z → z ≤ℤ pos 1_000_000_000_000_000 → code_of (number_or_undef z) ≡ number_code z
+pub number_code_is : (z : ℤ) → least_number ≤ℤ z → z ≤ℤ greatest_number → code_of (number_or_undef z) ≡ number_code z
 number_code_is z low high = sym (ap code_of (number_in_range z (record { value = z; low = low; high = high }) refl))
 
 -- the number that is i more has the code that is i more
-code_further : (x y : ℤ) (i : ℕ) → negsuc 999_999_999_999_999 ≤ℤ x → y ≡ x +ℤ pos i → number_code y ≡ number_code x + i
+code_further : (x y : ℤ) (i : ℕ) → least_number ≤ℤ x → y ≡ x +ℤ pos i → number_code y ≡ number_code x + i
 code_further (pos m) (pos n) i low e = omega (arith, ints)
 code_further (pos m) (negsuc n) i low e = omega (arith, ints)
 code_further (negsuc m) (pos n) i low e = omega (arith, ints)
 code_further (negsuc m) (negsuc n) i low e = omega (arith, ints)
 
 -- a number whose code isn't beyond those of numbers isn't beyond the greatest one
-code_bounds : (y : ℤ) → number_code y < 2_000_000_000_000_005 → y ≤ℤ pos 1_000_000_000_000_000
+code_bounds : (y : ℤ) → number_code y < code_of_first_element → y ≤ℤ greatest_number
 code_bounds (pos n) h = omega (arith, ints)
 code_bounds (negsuc n) h = omega (arith, ints)
 
@@ -92,16 +95,16 @@ pub record AreInTurn (start : ℕ) (vs : List Value) : Type 0 where
   pub code_at : (i : ℕ) (d : Value) → i < length vs → code_of (slice_index_or vs i d) ≡ start + i
 
 -- those of elements in the range have them in turn from the first one's code
-elements_in_turn : (first count : ℕ) → first + count ≤ 262_144 → AreInTurn (2_000_000_000_000_005 + first) (elements first count)
+elements_in_turn : (first count : ℕ) → first + count ≤ ELEMENTS → AreInTurn (code_of_first_element + first) (elements first count)
 elements_in_turn first count room = record { code_at = each }
   where
-    each : (i : ℕ) (d : Value) → i < length (elements first count) → code_of (slice_index_or (elements first count) i d) ≡ 2_000_000_000_000_005 + first + i
+    each : (i : ℕ) (d : Value) → i < length (elements first count) → code_of (slice_index_or (elements first count) i d) ≡ code_of_first_element + first + i
     each i d here =
         let below : i < count = omega (arith, length-elements first count) in
         ap code_of (at_elements first count i d below) ∙ element_code (first + i) (omega (arith, room)) ∙ omega arith
 
 -- and those of numbers in the range
-numbers_in_turn : (first : ℤ) (count : ℕ) → negsuc 999_999_999_999_999 ≤ℤ first → number_code first + count ≤ 2_000_000_000_000_005 → AreInTurn (number_code first) (numbers first count)
+numbers_in_turn : (first : ℤ) (count : ℕ) → least_number ≤ℤ first → number_code first + count ≤ code_of_first_element → AreInTurn (number_code first) (numbers first count)
 numbers_in_turn first count low room = record { code_at = each }
   where
     each : (i : ℕ) (d : Value) → i < length (numbers first count) → code_of (slice_index_or (numbers first count) i d) ≡ number_code first + i
@@ -123,24 +126,24 @@ in_turn_rise start vs turn i j d before within =
     let high = turn.code_at j d within in
     codes_rise (slice_index_or vs i d) (slice_index_or vs j d) ∙ sym (nat_cmp_is (code_of (slice_index_or vs i d)) (code_of (slice_index_or vs j d)) Less (omega arith))
 
-pub elements_rise : (first count : ℕ) → first + count ≤ 262_144 → IsUniverse (elements first count)
-elements_rise first count room = in_turn_rise (2_000_000_000_000_005 + first) (elements first count) (elements_in_turn first count room)
+pub elements_rise : (first count : ℕ) → first + count ≤ ELEMENTS → IsUniverse (elements first count)
+elements_rise first count room = in_turn_rise (code_of_first_element + first) (elements first count) (elements_in_turn first count room)
 
 -- the codes of the numbers between two stay among those of numbers
-last_code : (x y : ℤ) → negsuc 999_999_999_999_999 ≤ℤ x → x ≤ℤ y → y ≤ℤ pos 1_000_000_000_000_000 → number_code x + unsigned_abs (y -ℤ x) ≤ 2_000_000_000_000_004
+last_code : (x y : ℤ) → least_number ≤ℤ x → x ≤ℤ y → y ≤ℤ greatest_number → number_code x + unsigned_abs (y -ℤ x) ≤ code_of_first_element - 1
 last_code (pos a) (pos b) low between high = omega (arith, ints)
 last_code (pos a) (negsuc b) low between high = absurd (omega (arith, ints))
 last_code (negsuc a) (pos b) low between high = omega (arith, ints)
 last_code (negsuc a) (negsuc b) low between high = omega (arith, ints)
 
-some_code : (x : ℤ) → x ≤ℤ pos 1_000_000_000_000_000 → number_code x ≤ 2_000_000_000_000_004
+some_code : (x : ℤ) → x ≤ℤ greatest_number → number_code x ≤ code_of_first_element - 1
 some_code (pos a) top = omega (arith, ints)
 some_code (negsuc a) top = omega (arith, ints)
 
-codes_fit : (first last : WholeNumber) → number_code first.value + count_between first.value last.value ≤ 2_000_000_000_000_005
+codes_fit : (first last : WholeNumber) → number_code first.value + count_between first.value last.value ≤ code_of_first_element
 codes_fit first last = by_test (int_le first.value last.value) refl
   where
-    by_test : (b : Bool) → int_le first.value last.value ≡ b → number_code first.value + cond b (unsigned_abs (last.value -ℤ first.value) + 1) 0 ≤ 2_000_000_000_000_005
+    by_test : (b : Bool) → int_le first.value last.value ≡ b → number_code first.value + cond b (unsigned_abs (last.value -ℤ first.value) + 1) 0 ≤ code_of_first_element
     by_test true e = let most = last_code first.value last.value first.low (at_most e) last.high in omega (arith, most)
     by_test false e = let most = some_code first.value first.high in omega (arith, most)
 
@@ -185,7 +188,7 @@ position_out_of_turn start vs turn v out =
     (position_or_len_is (is_same v) vs (length vs) Undef (omega arith) (λ k before. other_index start vs turn v k before (λ same. omega (arith, out (omega arith)))) (λ here. absurd (omega arith)))
 
 -- an element of a universe is in the range
-pub element_within : {start : First} {count : ℕ} {vs : List Value} {k i : ℕ} → IsWithin start count → values_from start count ≡ vs → start ≡ first.Element k → i < length vs → k + i < 262_144
+pub element_within : {start : First} {count : ℕ} {vs : List Value} {k i : ℕ} → IsWithin start count → values_from start count ≡ vs → start ≡ first.Element k → i < length vs → k + i < ELEMENTS
 element_within {start} {count} {vs} {k} {i} within view is here =
     let long = length-values_from start count in
     let known : IsWithin (first.Element k) count = subst (λ f. IsWithin f count) is within in
@@ -201,8 +204,8 @@ element_stands {start} {count} {vs} {k} {i} e within view is here same =
 -- a number, and the one so many further on, are in the range
 pub record IsNear (z : ℤ) (i : ℕ) : Type 0 where
   pub few : i < 4096
-  pub low : negsuc 999_999_999_999_999 ≤ℤ z
-  pub high : (z +ℤ pos i) ≤ℤ pos 1_000_000_000_000_000
+  pub low : least_number ≤ℤ z
+  pub high : (z +ℤ pos i) ≤ℤ greatest_number
 
 -- the first number of a universe, and each further one, are in the range
 pub number_within : {start : First} {count : ℕ} {vs : List Value} {z : ℤ} {i : ℕ} → IsWithin start count → values_from start count ≡ vs → start ≡ first.Number z → i < length vs → IsNear z i

@@ -1,5 +1,6 @@
 -- The limits of a signature.
 use Rattle.std.specs.Prelude.{◌≤◌, ◌<◌, ℕ, List, length, All, sum_by}
+use Rattle.asm_state.specs.declared.limits.TheConstants.{UNIVERSES, VALUES, FUNCTIONS, DOMAIN, LOCATIONS, STATIC_LISTS}
 use Rattle.asm_state.specs.declared.function.Function.{Function}
 use Rattle.asm_state.specs.declared.function.FunctionKind.{FunctionKind}
 use Rattle.asm_state.specs.declared.function.FunctionKind.TheVariants.{Controlled, Static}
@@ -7,9 +8,9 @@ use Rattle.asm_state.specs.declared.value.Value.{Value}
 use Rattle.asm_state.specs.Signature.{Shape, domain_in, count_of}
 use Rattle.asm_state.specs.Tables.{argument_lists, IsTableOf}
 
--- at most four universes, each of which there is
+-- not too many universes, each of which there is
 pub record IsDomainOf (universes : List (List Value)) (domain : List ℕ) : Type 0 where
-  pub few : length domain ≤ 4
+  pub few : length domain ≤ DOMAIN
   pub known : All (λ n. n < length universes) domain
 
 -- how many argument lists a static function has
@@ -24,10 +25,10 @@ abbrev pub static_count : Shape → ℕ
 static_count shape = sum_by (static_lists shape.universes) shape.functions
 
 pub record Fits (shape : Shape) : Type 0 where
-  pub few_universes : length shape.universes ≤ 64
-  pub few_values : All (λ (vs : List Value). length vs ≤ 4096) shape.universes
-  pub few_functions : length shape.functions ≤ 256
+  pub few_universes : length shape.universes ≤ UNIVERSES
+  pub few_values : All (λ (vs : List Value). length vs ≤ VALUES) shape.universes
+  pub few_functions : length shape.functions ≤ FUNCTIONS
   pub domains : All (λ (f : Function). IsDomainOf shape.universes f.domain) shape.functions
-  pub few_locations : count_of shape ≤ 16_384
-  pub few_static_lists : static_count shape ≤ 16_384
+  pub few_locations : count_of shape ≤ LOCATIONS
+  pub few_static_lists : static_count shape ≤ STATIC_LISTS
   pub tables : All (λ (f : Function). IsTableOf (domain_in shape.universes f.domain) f.table) shape.functions

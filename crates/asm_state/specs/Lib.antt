@@ -1,5 +1,7 @@
+pub mod Bounds
 pub mod Kinds
 pub mod Value
+pub mod Numbers
 pub mod Codes
 pub mod Operation
 pub mod Location

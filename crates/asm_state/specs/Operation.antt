@@ -1,30 +1,24 @@
 -- Operations on values.
 --     op o a b      the value of an operation, undef where an operand is of the wrong kind. One operand alone is a
-use Rattle.std.specs.Prelude.{◌≡◌, refl, zero, suc, Bool, true, false, not, ◌&&◌, ◌||◌, ℤ, pos, negsuc, ◌+ℤ◌, ◌-ℤ◌, ◌*ℤ◌, neg_ℤ, int_lt, int_le, ◌≤ℤ◌}
+use Rattle.std.specs.Prelude.{zero, suc, Bool, not, ◌&&◌, ◌||◌, ℤ, pos, negsuc, ◌+ℤ◌, ◌-ℤ◌, ◌*ℤ◌, neg_ℤ, int_lt, int_le, Option, Some, None}
 use Rattle.std.specs.Int.{int_div_euclid, int_rem_euclid}
 use Rattle.std.specs.Ordering.{eq_by_cmp}
-use Rattle.std.proofs.Common.{subst, sym}
-use lib.Dec.{T}
-use lib.Signed.{le_z_yes}
+use Rattle.asm_state.specs.declared.number.Number.{Number as WholeNumber}
 use Rattle.asm_state.specs.declared.operation.Op.{Op}
 use Rattle.asm_state.specs.declared.operation.Op.TheVariants.{Add, Subtract, Multiply, Divide, Remainder, Negate, Less, AtMost, Greater, AtLeast, Equal, Different, And, Or, Not}
 use Rattle.asm_state.specs.declared.value.Value.{Value}
 use Rattle.asm_state.specs.declared.value.Value.TheVariants.{Undef, Truth, Number}
+use Rattle.asm_state.specs.Numbers.{number_with}
 use Rattle.asm_state.specs.Value.{value_cmp}
 
--- a test that was passed
-pub at_most : {a b : ℤ} → int_le a b ≡ true → a ≤ℤ b
-at_most {a} {b} e = le_z_yes (subst T (sym e) tt)
+-- the value of a number, and undef where there is none
+abbrev pub value_or_undef : Option WholeNumber → Value
+value_or_undef (Some n) = Number n
+value_or_undef None = Undef
 
--- a number by whether it isn't too small and whether it isn't too great
-abbrev pub number_by_tests : (n : ℤ) (low high : Bool) → int_le (negsuc 999_999_999_999_999) n ≡ low → int_le n (pos 1_000_000_000_000_000) ≡ high → Value
-number_by_tests n true true low high = Number (record { value = n; low = at_most low; high = at_most high })
-number_by_tests n true false low high = Undef
-number_by_tests n false high_test low high = Undef
-
--- a number, or undef where it is below -10^15 or above 10^15
-unfoldable pub number_or_undef : ℤ → Value
-number_or_undef n = number_by_tests n (int_le (negsuc 999_999_999_999_999) n) (int_le n (pos 1_000_000_000_000_000)) refl refl
+-- a number, or undef where it is out of the range
+abbrev pub number_or_undef : ℤ → Value
+number_or_undef n = value_or_undef (number_with n)
 
 -- the quotient q and the remainder r of m by n other than 0: m is n * q + r, and r isn't below 0 and is below the size of n
 abbrev pub quotient_or_undef : ℤ → ℤ → Value

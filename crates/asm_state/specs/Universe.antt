@@ -7,18 +7,19 @@
 use Rattle.std.specs.Prelude.{◌≡◌, refl, ℕ, zero, suc, ◌+◌, nat_lt, Bool, true, false, cond, List, [], ◌∷◌, AllPairs, ℤ, pos, ◌+ℤ◌, ◌-ℤ◌, int_le, unsigned_abs}
 use Rattle.std.specs.declared.cmp.Ordering.TheVariants.{Less}
 use Rattle.std.proofs.lemmas.Bool.{ltb-true}
+use Rattle.asm_state.specs.declared.element.TheConstants.{ELEMENTS}
 use Rattle.asm_state.specs.declared.value.Value.{Value}
 use Rattle.asm_state.specs.declared.value.Value.TheVariants.{Undef, Element}
 use Rattle.asm_state.specs.Operation.{number_or_undef}
 use Rattle.asm_state.specs.Value.{value_cmp}
 
-abbrev pub element_by_test : (k : ℕ) (test : Bool) → nat_lt k 262_144 ≡ test → Value
-element_by_test k true e = Element (record { index = k; in_range = ltb-true k 262_144 e })
+abbrev pub element_by_test : (k : ℕ) (test : Bool) → nat_lt k ELEMENTS ≡ test → Value
+element_by_test k true e = Element (record { index = k; in_range = ltb-true k ELEMENTS e })
 element_by_test k false e = Undef
 
--- there are 262,144 elements
+-- there are so many elements as the bound says
 unfoldable pub element : ℕ → Value
-element k = element_by_test k (nat_lt k 262_144) refl
+element k = element_by_test k (nat_lt k ELEMENTS) refl
 
 abbrev pub elements : (first count : ℕ) → List Value
 elements first zero = []

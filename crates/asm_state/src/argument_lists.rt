@@ -1,5 +1,6 @@
 //! The argument lists in a domain, by their positions in order.
 ghost use Rattle.std.specs.Prelude.{◌≡◌, ◌<◌, ◌≤◌, ◌^◌, ◌++◌, [], false, length, slice_index_or, All, IfSome, IfNone, OnOk};
+ghost use Rattle.asm_state.specs.declared.limits.TheConstants.{VALUES};
 ghost use Rattle.asm_state.specs.Signature.{domain_in};
 ghost use Rattle.asm_state.specs.Tables.{argument_lists, is_in};
 
@@ -12,7 +13,7 @@ pub(crate) fn list_count(universes: &[Universe], domain: &[usize]) -> usize
     requires few { length domain.now ≤ 4 }
     requires known { All (λ n. n < length universes.now) domain.now }
     ensures count { result ≡ length (argument_lists (domain_in universes.now domain.now)) }
-    ensures bound { result ≤ 4096 ^ length domain.now }
+    ensures bound { result ≤ VALUES ^ length domain.now }
 {
     match domain.split_first() {
         None => 1,

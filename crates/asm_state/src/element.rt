@@ -1,5 +1,6 @@
 //! Elements of enumerations.
 ghost use Rattle.std.specs.Prelude.{◌<◌};
+ghost use Rattle.asm_state.specs.declared.element.TheConstants.{ELEMENTS};
 
 /// How many elements all enumerations together can have.
 pub const ELEMENTS: u32 = 262_144;
@@ -8,5 +9,5 @@ pub const ELEMENTS: u32 = 262_144;
 #[derive(Clone, Copy, Debug, PartialEq, Eq)]
 pub struct Element {
     pub index: u32,
-    pub ghost in_range: { index < 262_144 },
+    pub ghost in_range: { index < ELEMENTS },
 }

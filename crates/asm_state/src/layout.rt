@@ -1,5 +1,6 @@
 //! Where a signature keeps the values of functions.
 ghost use Rattle.std.specs.Prelude.{◌≡◌, ◌<◌, ◌≤◌, ◌+◌, ◌^◌, ◌++◌, [], ◌∷◌, length, map, replicate, All, IfOk, OnOk};
+ghost use Rattle.asm_state.specs.declared.limits.TheConstants.{VALUES};
 ghost use Rattle.asm_state.specs.declared.value.Value.TheVariants.{Undef};
 ghost use Rattle.asm_state.specs.Fits.{Fits, IsDomainOf};
 ghost use Rattle.asm_state.specs.Layout.{IsLayoutOf, IsNext};
@@ -137,10 +138,10 @@ impl Layout {
     }
 }
 
-/// A universe has no value twice, and at most 4,096 of them.
+/// A universe has no value twice, and no more of them than the bound says.
 pub(crate) fn check_universes(universes: &[Universe])
     ensures sound { All IsUniverse universes.now }
-    ensures few { All (λ vs. length vs ≤ 4096) universes.now }
+    ensures few { All (λ vs. length vs ≤ VALUES) universes.now }
 {
     for universe in universes {
         let _size = universe.size();

@@ -16,6 +16,9 @@ use crate::value::Value;
 /// How many universes there can be.
 pub const UNIVERSES: usize = 64;
 
+/// How many values a universe can have.
+pub const VALUES: usize = 4096;
+
 /// How many functions there can be.
 pub const FUNCTIONS: usize = 256;
 
@@ -23,7 +26,7 @@ pub const FUNCTIONS: usize = 256;
 pub const DOMAIN: usize = 4;
 
 /// How many locations there can be, stray ones with them.
-pub const LOCATIONS: usize = 16_384;
+pub const LOCATIONS: usize = 65_536;
 
 /// How many argument lists all static functions together can have.
 pub const STATIC_LISTS: usize = 16_384;
@@ -58,9 +61,9 @@ fn domain_fits(universes: &[Universe], domain: &[usize]) -> bool
 
 fn counts_fit(universes: &[Universe], functions: &[Function]) -> bool
     requires domains { All (λ f. IsDomainOf universes.now f.domain) functions.now }
-    requires few { length functions.now ≤ 256 }
-    ensures { IsTrue result ↔ ((count_of (record { universes = universes.now; functions = functions.now }) ≤ 16_384)
-        × (static_count (record { universes = universes.now; functions = functions.now }) ≤ 16_384)) }
+    requires few { length functions.now ≤ FUNCTIONS }
+    ensures { IsTrue result ↔ ((count_of (record { universes = universes.now; functions = functions.now }) ≤ LOCATIONS)
+        × (static_count (record { universes = universes.now; functions = functions.now }) ≤ STATIC_LISTS)) }
 {
     let mut locations = 0;
     let mut static_lists = 0;

@@ -2,7 +2,7 @@
 ghost use Rattle.std.specs.Prelude.{◌≡◌, ◌*ℤ◌};
 ghost use Rattle.asm_state.specs.Operation.{op, number_or_undef, quotient_or_undef, remainder_or_undef};
 
-use crate::number::{LARGEST, Number};
+use crate::number::Number;
 use crate::value::Value;
 
 /// An operation of terms.
@@ -56,10 +56,9 @@ pub fn apply(operation: Op, a: Value, b: Value) -> Value
 fn number(value: i64) -> Value
     ensures { result ≡ number_or_undef value }
 {
-    if -LARGEST <= value && value <= LARGEST {
-        Value::Number(Number { value })
-    } else {
-        Value::Undef
+    match Number::with_value(value) {
+        Some(number) => Value::Number(number),
+        None => Value::Undef,
     }
 }
 

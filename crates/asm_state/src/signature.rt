@@ -1,5 +1,6 @@
 //! The signature: which universes, functions and locations there are, by number.
 ghost use Rattle.std.specs.Prelude.{◌≡◌, ◌<◌, ◌≤◌, Some, IsTrue, IfOk, IfSome, IfNone, length, map, slice_get};
+ghost use Rattle.asm_state.specs.declared.limits.TheConstants.{LOCATIONS};
 ghost use Rattle.asm_state.specs.declared.function.FunctionKind.TheVariants.{Controlled, Static};
 ghost use Rattle.asm_state.specs.Fits.{Fits};
 ghost use Rattle.asm_state.specs.Location.{Stray};
@@ -82,7 +83,7 @@ impl Signature {
     /// How many locations there are, stray ones with them.
     pub fn count(&self) -> usize
         ensures count { result ≡ count_of self.now }
-        ensures few { result ≤ 16_384 }
+        ensures few { result ≤ LOCATIONS }
         ensures sound { IsSound self.now }
     {
         self.layout.owners.len()

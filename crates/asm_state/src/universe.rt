@@ -1,13 +1,16 @@
 //! Universes: enumerations and ranges.
 ghost use Rattle.std.specs.Prelude.{◌≡◌, ◌+◌, ◌≤◌, ◌<◌, Some, IfSome, length, slice_get};
 ghost use Rattle.std.specs.List.{position};
+ghost use Rattle.asm_state.specs.declared.element.TheConstants.{ELEMENTS};
+ghost use Rattle.asm_state.specs.declared.limits.TheConstants.{VALUES};
 ghost use Rattle.asm_state.specs.Operation.{is_same};
 ghost use Rattle.asm_state.specs.Universe.{elements, count_between, numbers_between, IsUniverse};
 ghost use Rattle.asm_state.specs.UniverseView.{first_code, IsFirst};
 
-use crate::element::Element;
+use crate::element::{ELEMENTS, Element};
+use crate::limits::VALUES;
 use crate::number::Number;
-use crate::value::Value;
+use crate::value::{FIRST_ELEMENT, Value, ZERO};
 use std::marker::Model;
 
 /// The first value of a universe.
@@ -24,8 +27,8 @@ impl First {
         ensures { result ≡ first_code self }
     {
         match self {
-            First::Element(index) => 2_000_000_000_000_005 + index as u64,
-            First::Number(value) => (value + 1_000_000_000_000_004) as u64,
+            First::Element(index) => FIRST_ELEMENT + index as u64,
+            First::Number(value) => (value + ZERO) as u64,
         }
     }
 }
@@ -53,8 +56,8 @@ impl Model for Universe {
 impl Universe {
     /// The elements from the number `first` on. Elements are numbered through over all enumerations.
     pub fn elements(first: u32, count: usize) -> Universe
-        requires few { count ≤ 4096 }
-        requires in_range { first + count ≤ 262_144 }
+        requires few { count ≤ VALUES }
+        requires in_range { first + count ≤ ELEMENTS }
         ensures { result ≡ elements first count }
     {
         Universe {
@@ -65,7 +68,7 @@ impl Universe {
 
     /// The numbers from the first to the last, both among them. There are none where the last is below the first.
     pub fn range(first: Number, last: Number) -> Universe
-        requires few { count_between first.value last.value ≤ 4096 }
+        requires few { count_between first.value last.value ≤ VALUES }
         ensures { result ≡ numbers_between first.value last.value }
     {
         let count = if first.value <= last.value {
@@ -82,7 +85,7 @@ impl Universe {
     /// How many values there are.
     pub fn size(&self) -> usize
         ensures size { result ≡ length self.now }
-        ensures few { result ≤ 4096 }
+        ensures few { result ≤ VALUES }
         ensures sound { IsUniverse self.now }
     {
         self.count
@@ -106,7 +109,7 @@ impl Universe {
     /// The position of a value, if the universe has it.
     pub fn position(&self, value: Value) -> Option<usize>
         ensures position { result ≡ position (is_same value) self.now }
-        ensures few { IfSome result (λ i. i < 4096) }
+        ensures few { IfSome result (λ i. i < VALUES) }
     {
         let first = self.first.code();
         let code = value.code();

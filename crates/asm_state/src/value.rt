@@ -2,8 +2,17 @@
 ghost use Rattle.std.specs.Prelude.{◌≡◌, ◌≢◌, ◌<◌, ◌≤◌, ◌^◌, IfSome, IfNone};
 ghost use Rattle.asm_state.specs.Codes.{code_of};
 
-use crate::element::Element;
-use crate::number::Number;
+use crate::element::{ELEMENTS, Element};
+use crate::number::{GREATEST, Number};
+
+/// The code of the number 0. Those of the other numbers lie round it.
+pub(crate) const ZERO: i64 = GREATEST + 4;
+
+/// The code of element 0, behind those of all numbers.
+pub(crate) const FIRST_ELEMENT: u64 = 2 * GREATEST as u64 + 5;
+
+/// What no value has as its code from here on.
+const PAST_ELEMENTS: u64 = FIRST_ELEMENT + ELEMENTS as u64;
 
 /// What a term can have as its value.
 #[derive(Clone, Copy, Debug, PartialEq, Eq)]
@@ -25,8 +34,8 @@ impl Value {
             Value::Undef => 1,
             Value::Truth(false) => 2,
             Value::Truth(true) => 3,
-            Value::Number(number) => (number.value + 1_000_000_000_000_004) as u64,
-            Value::Element(element) => 2_000_000_000_000_005 + element.index as u64,
+            Value::Number(number) => (number.value + ZERO) as u64,
+            Value::Element(element) => FIRST_ELEMENT + element.index as u64,
         }
     }
 
@@ -39,11 +48,11 @@ impl Value {
             1 => Some(Value::Undef),
             2 => Some(Value::Truth(false)),
             3 => Some(Value::Truth(true)),
-            4..=2_000_000_000_000_004 => Some(Value::Number(Number {
-                value: code as i64 - 1_000_000_000_000_004,
+            4..FIRST_ELEMENT => Some(Value::Number(Number {
+                value: code as i64 - ZERO,
             })),
-            2_000_000_000_000_005..=2_000_000_000_262_148 => Some(Value::Element(Element {
-                index: (code - 2_000_000_000_000_005) as u32,
+            FIRST_ELEMENT..PAST_ELEMENTS => Some(Value::Element(Element {
+                index: (code - FIRST_ELEMENT) as u32,
             })),
             _ => None,
         }

@@ -5,6 +5,7 @@ use Rattle.std.proofs.lemmas.List.Elements.{All-cons, All-nil, All-head, All-tai
 use Rattle.std.specs.Prelude.{IfSome}
 use mathlib.Core.Logic.{dite}
 use native.Mathlib.Decide.{ℕ_discrete}
+use Rattle.asm_state.specs.Bounds.{least_number, greatest_number}
 use Rattle.asm_state.specs.declared.value.Value.{Value}
 use Rattle.asm_state.specs.declared.value.Value.TheVariants.{Undef, Truth, Number, Element}
 use Rattle.asm_state.specs.Codes.{number_code, code_of}
@@ -19,7 +20,7 @@ use Rattle.asm_striped.proofs.Members.{In, hit, miss}
 
 -- ---- no mark is a code
 
-number_code_bounds : (x : ℤ) → negsuc 999_999_999_999_999 ≤ℤ x → x ≤ℤ pos 1_000_000_000_000_000 → (0 < number_code x) × (number_code x < low_mark)
+number_code_bounds : (x : ℤ) → least_number ≤ℤ x → x ≤ℤ greatest_number → (0 < number_code x) × (number_code x < low_mark)
 number_code_bounds (pos n) low high = (omega arith, omega (arith, ints))
 number_code_bounds (negsuc n) low high = (omega (arith, ints), omega arith)
 

@@ -36,8 +36,8 @@ words_and_names = answers (codes "while par1 _par Par par") (Ok _) refl
 leading_zeros : AreTokens (codes "007") (token (Number 7) 0 3 ∷ [])
 leading_zeros = answers (codes "007") (Ok _) refl
 
-greatest_number : AreTokens (codes "1000000000000000") (token (Number 1_000_000_000_000_000) 0 16 ∷ [])
-greatest_number = answers (codes "1000000000000000") (Ok _) refl
+greatest_number : AreTokens (codes "100000000000000000") (token (Number 100_000_000_000_000_000) 0 18 ∷ [])
+greatest_number = answers (codes "100000000000000000") (Ok _) refl
 
 comments_between : AreTokens (codes "x// $ /*\ny/* /* 1a $ */z//") (token Name 0 1 ∷ token Name 9 10 ∷ token Name 23 24 ∷ [])
 comments_between = answers (codes "x// $ /*\ny/* /* 1a $ */z//") (Ok _) refl
@@ -65,8 +65,8 @@ unclosed = answers (codes "CoreASM T /*") (Err (OpenComment 10)) refl
 closed_by_itself : IsFault (codes "/*/") (OpenComment 0)
 closed_by_itself = answers (codes "/*/") (Err (OpenComment 0)) refl
 
-too_great : IsFault (codes "x := 1000000000000001") (BadNumber 5)
-too_great = answers (codes "x := 1000000000000001") (Err (BadNumber 5)) refl
+too_great : IsFault (codes "x := 100000000000000001") (BadNumber 5)
+too_great = answers (codes "x := 100000000000000001") (Err (BadNumber 5)) refl
 
 letter_behind : IsFault (codes "x := 12a") (BadNumber 5)
 letter_behind = answers (codes "x := 12a") (Err (BadNumber 5)) refl

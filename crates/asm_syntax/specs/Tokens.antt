@@ -1,6 +1,7 @@
 -- What the tokens of a text are, and what its first fault is. A text is its bytes.
-use Rattle.std.specs.Prelude.{◌≡◌, ◌≢◌, ℕ, ◌+◌, ◌-◌, ◌*◌, ◌^◌, ◌<◌, ◌≤◌, ◌⊎◌, Bool, ◌||◌, IsTrue, nat_eq, List, [], ◌∷◌, ◌++◌, length, All, fold, flat_map, codes}
+use Rattle.std.specs.Prelude.{◌≡◌, ◌≢◌, ℕ, ◌+◌, ◌-◌, ◌*◌, ◌^◌, ◌<◌, ◌≤◌, ◌⊎◌, Bool, ◌||◌, IsTrue, nat_eq, unsigned_abs, List, [], ◌∷◌, ◌++◌, length, All, fold, flat_map, codes}
 use Rattle.std.specs.Char.{is_ascii_digit, is_ascii_alphabetic}
+use Rattle.asm_state.specs.Bounds.{greatest_number}
 use Rattle.asm_syntax.specs.declared.token.Kind.{Kind}
 use Rattle.asm_syntax.specs.declared.token.Kind.TheVariants.{Name, Number, Symbol, Word}
 use Rattle.asm_syntax.specs.declared.token.Word as word
@@ -15,7 +16,7 @@ max_length = 1048576
 
 -- the greatest number of a text
 abbrev pub max_number : ℕ
-max_number = 10 ^ 15
+max_number = unsigned_abs greatest_number
 
 -- ---- bytes
 

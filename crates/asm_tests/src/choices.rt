@@ -1,5 +1,5 @@
 //! What rules yield in the initial state, and how often a `choose` asks for its number.
-ghost use Rattle.std.specs.Prelude.{[]};
+ghost use Rattle.asm_reader.specs.ScriptLines.{no_lines};
 
 use crate::plain::{Entry, FIVE, ONE, Plain, TWO, has_entries};
 use crate::text::checked_of;
@@ -33,7 +33,7 @@ impl Counting {
 }
 
 impl Picks for Counting {
-    ghost script = { λ _. [] };
+    ghost script = { λ _. no_lines };
 
     fn pick(&self, _step: u64, _path: &[u64]) -> u64 {
         self.asked.fetch_add(1, Ordering::SeqCst);

@@ -75,7 +75,14 @@ fn faults(rt: HostRuntime) -> Result<(), Fail> {
     assert!(rt; fails(alloc, b"a.", LexError::BadByte { at: 1 }));
     assert!(rt; fails(alloc, b"!", LexError::BadByte { at: 0 }));
     assert!(rt; fails(alloc, b"x 12_ $", LexError::BadNumber { at: 2 }));
-    assert!(rt; fails(alloc, b"1000000000000001", LexError::BadNumber { at: 0 }));
+    assert!(rt; fails(alloc, b"100000000000000001", LexError::BadNumber { at: 0 }));
+    assert!(rt;
+        fails(
+            alloc,
+            b"18446744073709551617",
+            LexError::BadNumber { at: 0 }
+        )
+    );
     assert!(rt;
         fails(
             alloc,
@@ -83,8 +90,10 @@ fn faults(rt: HostRuntime) -> Result<(), Fail> {
             LexError::BadNumber { at: 0 }
         )
     );
-    let greatest = [token(Kind::Number(1_000_000_000_000_000), 0, 18)];
-    assert!(rt; gives(alloc, b"001000000000000000", &greatest));
+    let greatest = [token(Kind::Number(100_000_000_000_000_000), 0, 20)];
+    assert!(rt; gives(alloc, b"00100000000000000000", &greatest));
+    let inside = [token(Kind::Number(1_000_000_000_000_001), 0, 16)];
+    assert!(rt; gives(alloc, b"1000000000000001", &inside));
     Ok(())
 }
 

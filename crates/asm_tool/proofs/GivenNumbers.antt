@@ -19,6 +19,7 @@ use Rattle.clap.proofs.CallerLemmas.{default_present, present_has_entry, require
 use Rattle.clap.proofs.SimpleLemmas.{is_false, is_nil}
 use Rattle.clap.proofs.TakesLemmas.{each_rule}
 use Rattle.clap.proofs.WalkLemmas.{both}
+use Rattle.asm_run.specs.declared.limits.Bounds.{Bounds}
 use Rattle.asm_tool.specs.Said.{HasNumber}
 use Rattle.asm_tool.proofs.GivenValues.{is_found, is_read}
 use Rattle.asm_tool.proofs.Rules.{alone, is_alone, index_low, plain_arg, undelimited, unconditional, rule_at}
@@ -30,11 +31,11 @@ pub record IsUnrelated (app : App) : Type 0 where
   pub plain : app.top.is_plain ≡ true
   pub negates : app.top.subcommand_negates_reqs ≡ false
 
--- a number in this range, which is required or has a default
-pub record IsNumberRule (rule : Rule) (name : Text) (least most : ℕ) : Type 0 where
+-- a number within these bounds, which is required or has a default
+pub record IsNumberRule (rule : Rule) (name : Text) (bounds : Bounds) : Type 0 where
   pub id : rule.id ≡ name
   pub set : rule.action ≡ Some Set
-  pub parser : rule.parser ≡ Some (Signed (pos least) (pos most))
+  pub parser : rule.parser ≡ Some (Signed (pos bounds.least) (pos bounds.most))
   pub range : rule.range ≡ None
   pub stands : (rule.required ≡ true) ⊎ (0 < length rule.defaults)
 
@@ -66,10 +67,10 @@ module _ (c : Command) (m : ArgMatches) (p : IsParsedFrom c m) (app : App) (know
   plain : IsPlain c
   plain = (λ k d low. plain_arg (slice_index_or (args_of c) k d) (simple k d low) (free k d low), (fields u.plain).0)
 
-  pub has_number : (k : ℕ) (name : Text) (least most : ℕ) (r : Rule) → is_alone name app.top.rules k ≡ true
-      → IsNumberRule (slice_index_or app.top.rules k r) name least most → (name ≡ [] → ⊥) → (name ≡ codes "help" → ⊥) → (name ≡ codes "version" → ⊥)
-      → HasNumber (found_of m) name least most
-  has_number k name least most r once is named no_help no_version =
+  pub has_number : (k : ℕ) (name : Text) (bounds : Bounds) (r : Rule) → is_alone name app.top.rules k ≡ true
+      → IsNumberRule (slice_index_or app.top.rules k r) name bounds → (name ≡ [] → ⊥) → (name ≡ codes "help" → ⊥) → (name ≡ codes "version" → ⊥)
+      → HasNumber (found_of m) name bounds
+  has_number k name bounds r once is named no_help no_version =
       let once' : is_alone name (map rule_of (args_of c)) k ≡ true = rw rules once in
       let low = index_low name (args_of c) k once' in
       let d = any_of (args_of c) (omega arith) in
@@ -91,7 +92,7 @@ module _ (c : Command) (m : ArgMatches) (p : IsParsedFrom c m) (app : App) (know
       (λ j e low same-id. alone name (args_of c) k once' j e low (rw same at same-id))
       (λ nameless. named (sym same ∙ nameless))
       (λ auto. elim auto [ inl h ↦ no_help (sym same ∙ h) | inr v ↦ no_version (sym same ∙ v) ])
-      (ap (λ x. x.action) rule ∙ is.set) (undelimited a (simple k d low)) some_value (Signed (pos least) (pos most))
+      (ap (λ x. x.action) rule ∙ is.set) (undelimited a (simple k d low)) some_value (Signed (pos bounds.least) (pos bounds.most))
       (ap (λ x. x.parser) rule ∙ is.parser) stands in
       record {
         text = read.text;

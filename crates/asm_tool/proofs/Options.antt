@@ -7,6 +7,7 @@ use Rattle.clap.specs.Simple.{app_of, is_simple}
 use Rattle.clap.specs.Walk.{Rule, Text}
 use Rattle.clap.specs.declared.builder.command.Command.{Command}
 use Rattle.clap.specs.declared.parser.matches.ArgMatches.{ArgMatches}
+use Rattle.asm_run.specs.declared.limits.TheConstants.{STEPS, TURNS, WORKERS, CUT, ROUNDS}
 use Rattle.asm_tool.specs.CommandLine.{command, positional}
 use Rattle.asm_tool.specs.Said.{HasNumber}
 use Rattle.asm_tool.proofs.GivenNumbers.{IsUnrelated, has_number}
@@ -31,32 +32,32 @@ apart : (name other : Text) → (slice_index name 0 ≡ slice_index other 0 → 
 apart name other differ same = differ (ap (λ t. slice_index t 0) same)
 
 module _ (c : Command) (m : ArgMatches) (p : IsParsedFrom c m) (is : app_of c ≡ command) where
-  pub steps : HasNumber (found_of m) (codes "steps") 0 1_000_000
+  pub steps : HasNumber (found_of m) (codes "steps") STEPS
   unfolding command
-  steps = has_number c m p command is unrelated 1 (codes "steps") 0 1_000_000 no_rule refl
+  steps = has_number c m p command is unrelated 1 (codes "steps") STEPS no_rule refl
       (record { id = refl; set = refl; parser = refl; range = refl; stands = inl refl }) (apart (codes "steps") [] (λ e. omega arith)) (apart (codes "steps") (codes "help") (λ e. omega arith))
       (apart (codes "steps") (codes "version") (λ e. omega arith))
 
-  pub turns : HasNumber (found_of m) (codes "turns") 1 1_000_000
+  pub turns : HasNumber (found_of m) (codes "turns") TURNS
   unfolding command
-  turns = has_number c m p command is unrelated 3 (codes "turns") 1 1_000_000 no_rule refl
+  turns = has_number c m p command is unrelated 3 (codes "turns") TURNS no_rule refl
       (record { id = refl; set = refl; parser = refl; range = refl; stands = inr (omega arith) }) (apart (codes "turns") [] (λ e. omega arith)) (apart (codes "turns") (codes "help") (λ e. omega arith))
       (apart (codes "turns") (codes "version") (λ e. omega arith))
 
-  pub workers : HasNumber (found_of m) (codes "workers") 1 32
+  pub workers : HasNumber (found_of m) (codes "workers") WORKERS
   unfolding command
-  workers = has_number c m p command is unrelated 4 (codes "workers") 1 32 no_rule refl
+  workers = has_number c m p command is unrelated 4 (codes "workers") WORKERS no_rule refl
       (record { id = refl; set = refl; parser = refl; range = refl; stands = inr (omega arith) }) (apart (codes "workers") [] (λ e. omega arith)) (apart (codes "workers") (codes "help") (λ e. omega arith))
       (apart (codes "workers") (codes "version") (λ e. omega arith))
 
-  pub cut : HasNumber (found_of m) (codes "cut") 1 4096
+  pub cut : HasNumber (found_of m) (codes "cut") CUT
   unfolding command
-  cut = has_number c m p command is unrelated 5 (codes "cut") 1 4096 no_rule refl
+  cut = has_number c m p command is unrelated 5 (codes "cut") CUT no_rule refl
       (record { id = refl; set = refl; parser = refl; range = refl; stands = inr (omega arith) }) (apart (codes "cut") [] (λ e. omega arith)) (apart (codes "cut") (codes "help") (λ e. omega arith))
       (apart (codes "cut") (codes "version") (λ e. omega arith))
 
-  pub rounds : HasNumber (found_of m) (codes "rounds") 0 64
+  pub rounds : HasNumber (found_of m) (codes "rounds") ROUNDS
   unfolding command
-  rounds = has_number c m p command is unrelated 6 (codes "rounds") 0 64 no_rule refl
+  rounds = has_number c m p command is unrelated 6 (codes "rounds") ROUNDS no_rule refl
       (record { id = refl; set = refl; parser = refl; range = refl; stands = inr (omega arith) }) (apart (codes "rounds") [] (λ e. omega arith)) (apart (codes "rounds") (codes "help") (λ e. omega arith))
       (apart (codes "rounds") (codes "version") (λ e. omega arith))

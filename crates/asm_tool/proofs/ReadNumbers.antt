@@ -13,11 +13,13 @@ use Rattle.clap.proofs.WalkLemmas.{find_row}
 use Rattle.clap.specs.declared.parser.matches.MatchedArg.{MatchedArg}
 use Rattle.clap.specs.declared.parser.matches.Found.{Found}
 use Rattle.asm_run.specs.Limits.{is_within}
+use Rattle.asm_run.specs.declared.limits.Bounds.{Bounds}
 use Rattle.asm_tool.specs.Said.{HasNumber, IsNumber}
 
--- an entry in some range has a number in a wider one
-pub wider : (f : Found) (name : Text) (least most : ℕ) → most ≤ 4_294_967_295 → HasNumber f name least most → HasNumber f name 0 4_294_967_295
-wider f name least most low has = record {
+-- an entry within some bounds has a number within wider ones
+pub wider : (f : Found) (name : Text) (bounds : Bounds) → bounds.most ≤ 4_294_967_295 → HasNumber f name bounds
+    → HasNumber f name (record { least = 0; most = 4_294_967_295 })
+wider f name bounds low has = record {
   text = has.text;
   is_first = has.is_first;
   is_handed = has.is_handed;
@@ -39,14 +41,14 @@ first_of_rows f name =
     go None = refl
     go (Some e) = first_text e.1.vals.items
 
-module _ (f : Found) (name : Text) (least most : ℕ) (has : HasNumber f name least most) (n : ℕ)
+module _ (f : Found) (name : Text) (bounds : Bounds) (has : HasNumber f name bounds) (n : ℕ)
     (read : (text : Text) → first_value f name ≡ Some text → signed_digits_value 10 text ≡ pos n) where
-  pub is_in_range : is_within least most n ≡ true
+  pub is_in_range : is_within bounds n ≡ true
   is_in_range =
       let is = read has.text has.is_first in
-      let low = subst (λ (i : ℤ). pos least ≤ℤ i) is has.is_within.2 in
-      let high = subst (λ (i : ℤ). i ≤ℤ pos most) is has.is_within.3 in
-      and_from (nat_le least n) (nat_le n most) (le-leb least n (omega (arith, ints))) (le-leb n most (omega (arith, ints)))
+      let low = subst (λ (i : ℤ). pos bounds.least ≤ℤ i) is has.is_within.2 in
+      let high = subst (λ (i : ℤ). i ≤ℤ pos bounds.most) is has.is_within.3 in
+      and_from (nat_le bounds.least n) (nat_le n bounds.most) (le-leb bounds.least n (omega (arith, ints))) (le-leb n bounds.most (omega (arith, ints)))
 
   pub is_number : (rows : List Row) → rows_of f ≡ rows → IsNumber rows name n
   is_number rows is = record {

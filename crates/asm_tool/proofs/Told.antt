@@ -18,38 +18,39 @@ use Rattle.asm_reader.specs.declared.script_error.ScriptError.{ScriptError}
 use Rattle.asm_reader.specs.declared.script_error.ScriptError.TheVariants as script_error
 use Rattle.asm_eval.specs.Run as run_of
 use Rattle.asm_eval.specs.Run.{AtLimit}
-use Rattle.asm_run.specs.Headline.{IsAccepted, IsFaulty}
+use Rattle.asm_run.specs.Headline.{IsAccepted, IsFaulty, book_run}
 use Rattle.asm_run.specs.Ends as run
 use Rattle.asm_run.specs.Ends.{EndsEarly, HasEnd, IsRefused, MakesAllSteps}
 use Rattle.asm_run.specs.declared.end.End.{End}
 use Rattle.asm_run.specs.declared.end.End.TheVariants.{Limit, Clash, Outside, Exhausted}
 use Rattle.asm_run.specs.declared.error.RunError.{RunError}
 use Rattle.asm_run.specs.declared.error.RunError.TheVariants as error
+use Rattle.asm_run.specs.declared.limits.Limits.{Limits}
 use Rattle.asm_tool.specs.Statuses.{IsFront, Tells, TellsOfWords, bytes_of, run_fault, status_at, status_of}
 use Rattle.asm_tool.specs.CommandLine.{command}
 use Rattle.asm_tool.specs.Said.{AreSaid, IsNumber}
 use Rattle.asm_tool.specs.declared.settings.Settings.{Settings}
 
-module _ (text script_text : List ℕ) (steps turns : ℕ) where
-  pub at_zero : MakesAllSteps text script_text steps turns → Tells text script_text steps turns 0
+module _ (text script_text : List ℕ) (limits : Limits) where
+  pub at_zero : MakesAllSteps text script_text limits → Tells text script_text limits 0
   at_zero whole = record { whole = λ e. whole; early = λ e. absurd (omega arith); refused = λ e. absurd (omega arith) }
 
-  pub at_one : EndsEarly text script_text steps turns → Tells text script_text steps turns 1
+  pub at_one : EndsEarly text script_text limits → Tells text script_text limits 1
   at_one early = record { whole = λ e. absurd (omega arith); early = λ e. early; refused = λ e. absurd (omega arith) }
 
-  pub at_two : IsRefused text script_text → Tells text script_text steps turns 2
+  pub at_two : IsRefused text script_text → Tells text script_text limits 2
   at_two refused = record { whole = λ e. absurd (omega arith); early = λ e. absurd (omega arith); refused = λ e. refused }
 
-  pub beyond : (n : ℕ) → 3 ≤ n → Tells text script_text steps turns n
+  pub beyond : (n : ℕ) → 3 ≤ n → Tells text script_text limits n
   beyond n high = record { whole = λ e. absurd (omega arith); early = λ e. absurd (omega arith); refused = λ e. absurd (omega arith) }
 
-  pub at_end : (end : End) → run.Tells text script_text steps turns (Ok end) → Tells text script_text steps turns (status_at end)
+  pub at_end : (end : End) → run.Tells text script_text limits (Ok end) → Tells text script_text limits (status_at end)
   at_end Limit told = at_zero told
   at_end Clash told = at_one told
   at_end Outside told = at_one told
   at_end Exhausted told = at_one told
 
-  pub at_fault : (e : RunError) → run.Tells text script_text steps turns (Err e) → Tells text script_text steps turns (status_of (run_fault e))
+  pub at_fault : (e : RunError) → run.Tells text script_text limits (Err e) → Tells text script_text limits (status_of (run_fault e))
   at_fault (error.Read e) told = at_two told
   at_fault (error.Check e) told = at_two told
   at_fault (error.Script e) told = at_two told
@@ -102,8 +103,8 @@ refused_fronts text script_text (run.faulty e faulty) =
 refused_fronts text script_text (run.unscripted s e accepted refusal) =
     refused_script text script_text s e (subst (λ (x : List ℕ). IsAccepted x s) (whole_text text s accepted.spelled) accepted) refusal
 
-module _ (text script_text : List ℕ) (steps turns : ℕ) where
-  ended_fronts : (P : run_of.End → Type 0) → HasEnd (take most_bytes text) (take most_bytes script_text) steps turns P → HasEnd text script_text steps turns P
+module _ (text script_text : List ℕ) (limits : Limits) where
+  ended_fronts : (P : run_of.End → Type 0) → HasEnd (take most_bytes text) (take most_bytes script_text) limits P → HasEnd text script_text limits P
   ended_fronts P h = record {
     tree = h.tree;
     accepted = subst (λ (x : List ℕ). IsAccepted x h.tree) (whole_text text h.tree h.accepted.spelled) h.accepted;
@@ -112,35 +113,57 @@ module _ (text script_text : List ℕ) (steps turns : ℕ) where
     ended = h.ended;
   }
 
-  of_fronts : (status : ℕ) → Tells (take most_bytes text) (take most_bytes script_text) steps turns status → Tells text script_text steps turns status
+  of_fronts : (status : ℕ) → Tells (take most_bytes text) (take most_bytes script_text) limits status → Tells text script_text limits status
   of_fronts status told = record {
     whole = λ e. ended_fronts (λ a. a ≡ AtLimit) (told.whole e);
     early = λ e. ended_fronts (λ a. a ≢ AtLimit) (told.early e);
     refused = λ e. refused_fronts text script_text (told.refused e);
   }
 
+-- ---- of other limits with as many steps and turns
+
+module _ (text script_text : List ℕ) (limits other : Limits) (steps : limits.steps ≡ other.steps) (turns : limits.turns ≡ other.turns) where
+  ended_alike : (P : run_of.End → Type 0) → HasEnd text script_text limits P → HasEnd text script_text other P
+  ended_alike P h = record {
+    tree = h.tree;
+    accepted = h.accepted;
+    script = h.script;
+    spelled = h.spelled;
+    ended =
+        subst (λ (n : ℕ). P (book_run h.tree other.turns h.script n).end) steps
+        (subst (λ (n : ℕ). P (book_run h.tree n h.script limits.steps).end) turns h.ended);
+  }
+
+  told_alike : (status : ℕ) → Tells text script_text limits status → Tells text script_text other status
+  told_alike status told = record {
+    whole = λ e. ended_alike (λ a. a ≡ AtLimit) (told.whole e);
+    early = λ e. ended_alike (λ a. a ≢ AtLimit) (told.early e);
+    refused = told.refused;
+  }
+
 -- ---- of words that say so many steps and turns
 
-module _ (rows : List Row) (steps turns : ℕ) (are_steps : IsNumber rows (codes "steps") steps) (are_turns : IsNumber rows (codes "turns") turns) where
+module _ (rows : List Row) (limits : Limits) (are_steps : IsNumber rows (codes "steps") limits.steps) (are_turns : IsNumber rows (codes "turns") limits.turns) where
   of_known : (known known_script : Option (List ℕ)) (text script_text : List ℕ) (status : ℕ)
-      → IsFront known most_bytes text → IsFront known_script most_bytes script_text → Tells text script_text steps turns status
-      → IfSome known (λ bytes. IfSome known_script (λ script_bytes. (n m : ℕ) → IsNumber rows (codes "steps") n → IsNumber rows (codes "turns") m → Tells bytes script_bytes n m status))
+      → IsFront known most_bytes text → IsFront known_script most_bytes script_text → Tells text script_text limits status
+      → IfSome known (λ bytes. IfSome known_script (λ script_bytes. (other : Limits) → IsNumber rows (codes "steps") other.steps → IsNumber rows (codes "turns") other.turns → Tells bytes script_bytes other status))
   of_known None known_script text script_text status read read_script told = tt
   of_known (Some bytes) None text script_text status read read_script told = tt
-  of_known (Some bytes) (Some script_bytes) text script_text status read read_script told = λ n m is_n is_m.
-      of_fronts bytes script_bytes n m status
-      (subst (λ (x : List ℕ). Tells x (take most_bytes script_bytes) n m status) read
-      (subst (λ (x : List ℕ). Tells text x n m status) read_script
-      (subst (λ (x : ℕ). Tells text script_text x m status) (one_number rows (codes "steps") steps n are_steps is_n)
-      (subst (λ (x : ℕ). Tells text script_text steps x status) (one_number rows (codes "turns") turns m are_turns is_m) told))))
+  of_known (Some bytes) (Some script_bytes) text script_text status read read_script told = λ other steps turns.
+      of_fronts bytes script_bytes other status
+      (subst (λ (x : List ℕ). Tells x (take most_bytes script_bytes) other status) read
+      (subst (λ (x : List ℕ). Tells text x other status) read_script
+      (told_alike text script_text limits other
+      (one_number rows (codes "steps") limits.steps other.steps are_steps steps)
+      (one_number rows (codes "turns") limits.turns other.turns are_turns turns) status told)))
 
 pub of_words : (words : List Text) (contents : Text → Option (List ℕ)) (input : Option (List ℕ)) (s : Settings) (text script_text : List ℕ) (status : ℕ)
     → AreSaid words s → IsFront (bytes_of contents input (option_map (λ name. name.now) s.spec)) most_bytes text
     → IsFront (bytes_of contents (Some []) (option_map (λ name. name.now) s.script)) most_bytes script_text
-    → Tells text script_text s.limits.steps s.limits.turns status → TellsOfWords words contents input status
+    → Tells text script_text s.limits status → TellsOfWords words contents input status
 of_words words contents input s text script_text status said read read_script told =
     let rows = matches_of command words in
-    of_known rows s.limits.steps s.limits.turns said.steps said.turns
+    of_known rows s.limits said.steps said.turns
     (bytes_of contents input (first_of (codes "spec") rows)) (bytes_of contents (Some []) (first_of (codes "script") rows)) text script_text status
     (subst (λ (o : Option Text). IsFront (bytes_of contents input o) most_bytes text) said.spec read)
     (subst (λ (o : Option Text). IsFront (bytes_of contents (Some []) o) most_bytes script_text) said.script read_script) told

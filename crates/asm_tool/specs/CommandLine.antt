@@ -1,13 +1,15 @@
 -- The words that the program takes, in the terms of the library that reads them.
 --     command      its arguments: the text's file, and an option for each limit and for the script's file
 --     refusals words    the kinds of what is wrong with the words, none where they are taken
-use Rattle.std.specs.Prelude.{ℕ, true, List, [], ◌∷◌, Some, codes, pos}
+use Rattle.std.specs.Prelude.{true, List, [], ◌∷◌, Some, codes, pos}
 use Rattle.clap.specs.Faults.{fault_of}
 use Rattle.clap.specs.Kinds.{Kinds}
 use Rattle.clap.specs.Simple.{App, new_rule, new_shape}
 use Rattle.clap.specs.Walk.{Rule, Text}
 use Rattle.clap.specs.declared.builder.action.ArgAction.TheVariants.{Set}
 use Rattle.clap.specs.declared.builder.value_parser.ValueParser.TheVariants.{Signed}
+use Rattle.asm_run.specs.declared.limits.Bounds.{Bounds}
+use Rattle.asm_run.specs.declared.limits.TheConstants.{STEPS, TURNS, WORKERS, CUT, ROUNDS}
 
 -- a word that stands for itself
 abbrev pub positional : Text → Rule
@@ -17,9 +19,9 @@ positional name = record (new_rule name) { action = Some Set; value_names = 1 }
 abbrev pub option : Text → Rule
 option name = record (positional name) { long = Some name }
 
--- the same, with a number in this range
-abbrev pub number : (least most : ℕ) → Text → Rule
-number least most name = record (option name) { parser = Some (Signed (pos least) (pos most)) }
+-- the same, with a number within these bounds
+abbrev pub number : Bounds → Text → Rule
+number bounds name = record (option name) { parser = Some (Signed (pos bounds.least) (pos bounds.most)) }
 
 -- it may not be left out
 abbrev pub required : Rule → Rule
@@ -34,12 +36,12 @@ command = record {
   top = record (new_shape (codes "asm")) {
     no_binary_name = true;
     rules = positional (codes "spec")
-        ∷ required (number 0 1_000_000 (codes "steps"))
+        ∷ required (number STEPS (codes "steps"))
         ∷ option (codes "script")
-        ∷ or_else (codes "1000") (number 1 1_000_000 (codes "turns"))
-        ∷ or_else (codes "1") (number 1 32 (codes "workers"))
-        ∷ or_else (codes "64") (number 1 4096 (codes "cut"))
-        ∷ or_else (codes "4") (number 0 64 (codes "rounds"))
+        ∷ or_else (codes "1000") (number TURNS (codes "turns"))
+        ∷ or_else (codes "1") (number WORKERS (codes "workers"))
+        ∷ or_else (codes "64") (number CUT (codes "cut"))
+        ∷ or_else (codes "4") (number ROUNDS (codes "rounds"))
         ∷ [];
   };
   subs = [];

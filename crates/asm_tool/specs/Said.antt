@@ -13,26 +13,28 @@ use Rattle.clap.specs.declared.error.Error.{Error}
 use Rattle.clap.specs.declared.error.kind.ErrorKind.TheVariants.{OutOfMemory}
 use Rattle.clap.specs.declared.parser.matches.ArgMatches.{ArgMatches}
 use Rattle.clap.specs.declared.parser.matches.Found.{Found}
+use Rattle.asm_run.specs.declared.limits.Bounds.{Bounds}
+use Rattle.asm_run.specs.declared.limits.TheConstants.{STEPS, TURNS, WORKERS, CUT, ROUNDS}
 use Rattle.asm_tool.specs.CommandLine.{command, refusals}
 use Rattle.asm_tool.specs.declared.settings.Settings.{Settings}
 use Rattle.asm_tool.specs.declared.settings.WordFault.{WordFault}
 use Rattle.asm_tool.specs.declared.settings.WordFault.TheVariants.{Memory, Words}
 
--- the entry of an argument has a text, of a number in this range, and is read without the minus that it may have
-pub record HasNumber (found : Found) (name : Text) (least most : ℕ) : Type 0 where
+-- the entry of an argument has a text, of a number within these bounds, and is read without the minus that it may have
+pub record HasNumber (found : Found) (name : Text) (bounds : Bounds) : Type 0 where
   pub text : Text
   pub is_first : first_value found name ≡ Some text
   pub is_handed : one_text found name ≡ Some (without_minus text)
-  pub is_within : IsSignedIn (pos least) (pos most) text
+  pub is_within : IsSignedIn (pos bounds.least) (pos bounds.most) text
 
 -- what a parse of the words finds
 pub record AreParsed (words : List Text) (matches : ArgMatches) : Type 0 where
   pub rows : rows_of (found_of matches) ≡ matches_of command words
-  pub steps : HasNumber (found_of matches) (codes "steps") 0 1_000_000
-  pub turns : HasNumber (found_of matches) (codes "turns") 1 1_000_000
-  pub workers : HasNumber (found_of matches) (codes "workers") 1 32
-  pub cut : HasNumber (found_of matches) (codes "cut") 1 4096
-  pub rounds : HasNumber (found_of matches) (codes "rounds") 0 64
+  pub steps : HasNumber (found_of matches) (codes "steps") STEPS
+  pub turns : HasNumber (found_of matches) (codes "turns") TURNS
+  pub workers : HasNumber (found_of matches) (codes "workers") WORKERS
+  pub cut : HasNumber (found_of matches) (codes "cut") CUT
+  pub rounds : HasNumber (found_of matches) (codes "rounds") ROUNDS
 
 -- ---- settings
 

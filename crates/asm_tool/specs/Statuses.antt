@@ -2,7 +2,7 @@
 --     status_of fault                              the status of a fault
 --     word_fault, read_fault, buffer_fault         the fault of words, of a read or of a buffer that failed with an error of this kind
 --     run_fault error                              the fault of a refused run
---     Tells text script_text steps turns status    0: their run makes all its steps; 1: it ends before; 2: one of the texts is refused
+--     Tells text script_text limits status         0: their run makes all its steps; 1: it ends before; 2: one of the texts is refused
 --     TellsOfWords words contents input status     the same of words, of files with these contents and of an input with these bytes
 use Rattle.std.specs.Prelude.{◌≡◌, ◌≢◌, ◌≤◌, ◌⊎◌, ℕ, List, [], Option, None, Some, IfSome, Ok, Err, Result, codes, take}
 use Rattle.std.specs.declared.io.ErrorKind.{ErrorKind}
@@ -14,6 +14,7 @@ use Rattle.asm_run.specs.declared.end.End.{End}
 use Rattle.asm_run.specs.declared.end.End.TheVariants.{Limit, Clash, Outside, Exhausted}
 use Rattle.asm_run.specs.declared.error.RunError.{RunError}
 use Rattle.asm_run.specs.declared.error.RunError.TheVariants as run
+use Rattle.asm_run.specs.declared.limits.Limits.{Limits}
 use Rattle.asm_tool.specs.CommandLine.{command, refusals}
 use Rattle.asm_tool.specs.Said.{IsNumber}
 use Rattle.asm_tool.specs.declared.fault.Fault.{Fault}
@@ -63,10 +64,10 @@ pub record IsFaultOfWords (words : List Text) (fault : Fault) : Type 0 where
 
 -- ---- what a status says of the texts and the limits
 
-module _ (text script_text : List ℕ) (steps turns : ℕ) where
+module _ (text script_text : List ℕ) (limits : Limits) where
   pub record Tells (status : ℕ) : Type 0 where
-    pub whole : status ≡ 0 → MakesAllSteps text script_text steps turns
-    pub early : status ≡ 1 → EndsEarly text script_text steps turns
+    pub whole : status ≡ 0 → MakesAllSteps text script_text limits
+    pub early : status ≡ 1 → EndsEarly text script_text limits
     pub refused : status ≡ 2 → IsRefused text script_text
 
 abbrev pub status_at : End → ℕ
@@ -96,5 +97,5 @@ TellsOfWords words contents input status =
     let rows : List Row = matches_of command words in
     IfSome (bytes_of contents input (first_of (codes "spec") rows)) (λ text.
     IfSome (bytes_of contents (Some []) (first_of (codes "script") rows)) (λ script_text.
-    (steps turns : ℕ) → IsNumber rows (codes "steps") steps → IsNumber rows (codes "turns") turns
-    → Tells text script_text steps turns status))
+    (limits : Limits) → IsNumber rows (codes "steps") limits.steps → IsNumber rows (codes "turns") limits.turns
+    → Tells text script_text limits status))

@@ -37,7 +37,8 @@ the run ended; then the last state:
 A script has a line for each choice: the step, the path of the choose, and a number, as in `3 0.1 2`.
 A path is made of the numbers of parts, from 0, on the way from the main rule's body, whose path is
 `-`; the trace says `place` before one. The number says which candidate is taken, from 0, modulo how
-many there are. Where there is no line, the first candidate is taken.
+many there are. Where there is no line, the first candidate is taken. A line with `*` in the place
+of the step, as in `* 0.1 2`, is for every step that has no line of its own with this path.
 
 Workers, cut and rounds are about speed alone: the trace is the same for all of them. Workers share
 each par and forall that stands in no other one; one worker starts no thread and cuts nothing.

@@ -99,9 +99,9 @@ fn written<R: Threads + Sync, O: Write + Finish>(
     limits: &Limits,
     out: &mut O,
 ) -> Result<End, Fault>
-    requires { IsTrue (are_in_range limits.now.steps limits.now.turns limits.now.workers limits.now.cut limits.now.rounds) }
+    requires { IsTrue (are_in_range limits.now) }
     ensures low { IfErr result (λ fault. status_of fault ≤ 3) }
-    ensures told { Tells text.now script.now limits.now.steps limits.now.turns (status_in result) }
+    ensures told { Tells text.now script.now limits.now (status_in result) }
     ensures finished { IfOk result (λ _. IsTrue (O.is_finished out.new)) }
 {
     answers_tell();

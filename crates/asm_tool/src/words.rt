@@ -9,14 +9,14 @@ ghost use Rattle.asm_tool.specs.Said.{AreParsed, AreSaid, Explains, HasNumber};
 
 use crate::help;
 use crate::settings::{Settings, WordFault};
-use asm_run::limits::Limits;
+use asm_run::limits::{Bounds, CUT, Limits, ROUNDS, STEPS, TURNS, WORKERS};
 use clap::{Arg, ArgAction, ArgMatches, Command};
 use std::alloc::{AllocError, Global};
 use std::convert::AsStr;
 
 /// The settings that the words give, the program's name not among them.
 pub fn settings<'w, S: AsStr>(alloc: Global, words: &'w [S]) -> Result<Settings<'w>, WordFault>
-    ensures in_range { IfOk result (λ s. IsTrue (are_in_range s.limits.steps s.limits.turns s.limits.workers s.limits.cut s.limits.rounds)) }
+    ensures in_range { IfOk result (λ s. IsTrue (are_in_range s.limits)) }
     ensures taken { IfOk result (λ _. refusals (map S.text words.entry.now) ≡ []) }
     ensures said { IfOk result (AreSaid (map S.text words.entry.now)) }
     ensures refused { IfErr result (Explains (map S.text words.entry.now)) }
@@ -51,11 +51,11 @@ fn given<'w, S: AsStr>(alloc: Global, words: &'w [S]) -> Result<ArgMatches<'w>, 
 fn command<'w>(alloc: Global) -> Result<Command<'w>, AllocError>
     ensures { IfOk result (λ c. app_of c ≡ line.command) }
 {
-    let steps = number(alloc, "steps", 0, 1_000_000, help::STEPS).required(true);
-    let turns = number(alloc, "turns", 1, 1_000_000, help::TURNS).default_value("1000");
-    let workers = number(alloc, "workers", 1, 32, help::WORKERS).default_value("1");
-    let cut = number(alloc, "cut", 1, 4096, help::CUT).default_value("64");
-    let rounds = number(alloc, "rounds", 0, 64, help::ROUNDS).default_value("4");
+    let steps = number(alloc, "steps", STEPS, help::STEPS).required(true);
+    let turns = number(alloc, "turns", TURNS, help::TURNS).default_value("1000");
+    let workers = number(alloc, "workers", WORKERS, help::WORKERS).default_value("1");
+    let cut = number(alloc, "cut", CUT, help::CUT).default_value("64");
+    let rounds = number(alloc, "rounds", ROUNDS, help::ROUNDS).default_value("4");
     Command::new(alloc, "asm")
         .about(help::ABOUT)
         .after_help(help::AFTER)
@@ -79,21 +79,23 @@ fn file<'w>(alloc: Global, name: &'w str, shown: &'w str, help: &'w str) -> Arg<
         .action(ArgAction::Set)
 }
 
-/// The word `--name`, with a number from `least` to `most`.
-fn number<'w>(alloc: Global, name: &'w str, least: u32, most: u32, help: &'w str) -> Arg<'w>
-    ensures { rule_of result ≡ line.number least most name.entry.now }
+/// The word `--name`, with a number within these bounds.
+fn number<'w>(alloc: Global, name: &'w str, bounds: Bounds, help: &'w str) -> Arg<'w>
+    ensures { rule_of result ≡ line.number bounds name.entry.now }
 {
     Arg::new(alloc, name)
         .long(name)
         .value_name("N")
         .help(help)
         .action(ArgAction::Set)
-        .value_parser(clap::value_parser!(u32).range(i64::from(least)..=i64::from(most)))
+        .value_parser(clap::value_parser!(u32).range(
+            i64::from(bounds.least)..=i64::from(bounds.most),
+        ))
 }
 
 /// The number of an option that has one.
 fn number_of(given: &ArgMatches<'_>, name: &str) -> u32
-    requires { HasNumber (found_of given.now) name.now 0 4_294_967_295 }
+    requires { HasNumber (found_of given.now) name.now (record { least = 0; most = 4_294_967_295 }) }
     ensures { (text : _) → first_value (found_of given.now) name.now ≡ Some text → signed_digits_value 10 text ≡ pos result }
 {
     given.get_one::<u32>(name).unwrap()

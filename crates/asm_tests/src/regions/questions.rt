@@ -1,5 +1,5 @@
 //! Two workers ask which candidates are taken.
-ghost use Rattle.std.specs.Prelude.{[]};
+ghost use Rattle.asm_reader.specs.ScriptLines.{no_lines};
 
 use super::meetings::Meeting;
 use crate::plain::{Entry, Plain, has_entries};
@@ -25,7 +25,7 @@ struct Holding {
 }
 
 impl Picks for Holding {
-    ghost script = { λ _. [] };
+    ghost script = { λ _. no_lines };
 
     fn pick(&self, _step: u64, path: &[u64]) -> u64 {
         if path == [0].as_slice() {

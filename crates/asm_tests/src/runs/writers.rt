@@ -57,11 +57,11 @@ const FULL: Option<io::ErrorKind> = Some(io::ErrorKind::StorageFull);
 
 /// The numbers at the edges of the range, and those about zero.
 const TEXT: &[u8] =
-    b"CoreASM T\ninit M\nfunction controlled a\nfunction controlled b initially 1000000000000000\n\
-function controlled c initially 9\nrule M = par a := -1000000000000000 c := -10 endpar\n";
+    b"CoreASM T\ninit M\nfunction controlled a\nfunction controlled b initially 100000000000000000\n\
+function controlled c initially 9\nrule M = par a := -100000000000000000 c := -10 endpar\n";
 
-const TRACE: &[u8] = b"step 1 instances 0\na := -1000000000000000\nc := -10\nend limit\nstate\n\
-a = -1000000000000000\nb = 1000000000000000\nc = -10\n";
+const TRACE: &[u8] = b"step 1 instances 0\na := -100000000000000000\nc := -10\nend limit\nstate\n\
+a = -100000000000000000\nb = 100000000000000000\nc = -10\n";
 
 #[test]
 fn a_trace_is_written_through_short_writes(rt: HostRuntime) -> Result<(), Fail> {

@@ -4,28 +4,34 @@ use super::*;
 /// The domains of functions, and whether they fit.
 type Domains = (&'static [&'static [usize]], bool);
 
-/// Controlled functions: 4,096 locations over universe 0, 4,097 over universe 1, the stray one alone over universe 2,
-/// and two without arguments.
-static CONTROLLED: [Domains; 16] = [
-    (&[], true),
-    (&[&[]], true),
-    (&[&[1]], true),
-    // From 16,384 locations on.
-    (&[&[0], &[0], &[0], &[0]], true),
-    (&[&[0], &[0], &[0], &[0], &[2]], false),
-    (&[&[0], &[0], &[0], &[0], &[]], false),
-    (&[&[1], &[1], &[1]], true),
-    (&[&[1], &[1], &[1], &[1]], false),
-    (&[&[3, 3]], false),
-    (&[&[1, 1, 1, 1]], false),
+/// How many controlled functions over universe 0, and others behind them. There are 4,096 locations over universe 0, 4,097 over
+/// universe 1, the stray one alone over universe 2, and two without arguments.
+static CONTROLLED: [(usize, Domains); 22] = [
+    (0, (&[], true)),
+    (0, (&[&[]], true)),
+    (0, (&[&[1]], true)),
+    // From 65,536 locations on.
+    (16, (&[], true)),
+    (16, (&[&[2]], false)),
+    (16, (&[&[]], false)),
+    (15, (&[&[3], &[3]], true)),
+    (15, (&[&[1]], false)),
+    (14, (&[&[1]], true)),
+    (14, (&[&[1], &[1]], false)),
+    (0, (&[&[3, 3, 4], &[3, 3]], true)),
+    (0, (&[&[3, 3, 4], &[3, 3, 4]], false)),
+    (0, (&[&[3, 3, 4, 4]], false)),
+    (0, (&[&[0, 4, 4, 4], &[0, 4, 4]], true)),
+    (0, (&[&[1, 1, 1, 1]], false)),
     // Universes in a domain.
-    (&[&[4, 4, 4, 4]], true),
-    (&[&[4, 4, 4, 4, 4]], false),
-    (&[&[2, 2, 2, 2]], true),
-    (&[&[2, 2, 2, 2, 2]], false),
+    (0, (&[&[4, 4, 4, 4]], true)),
+    (0, (&[&[4, 4, 4, 4, 4]], false)),
+    (0, (&[&[2, 2, 2, 2]], true)),
+    (0, (&[&[2, 2, 2, 2, 2]], false)),
     // Universes that aren't there.
-    (&[&[5]], false),
-    (&[&[], &[4, 5]], false),
+    (0, (&[&[5]], false)),
+    (0, (&[&[], &[4, 5]], false)),
+    (1, (&[&[5]], false)),
 ];
 
 /// Static functions: 4,096 argument lists over universe 1, none over universe 2, and one without arguments.
@@ -85,23 +91,27 @@ fn push_functions(
     Ok(())
 }
 
-/// Whether functions of one kind over these domains fit.
+/// Whether functions of one kind over these domains fit, behind so many over universe 0.
 fn domains_fit(
     alloc: Global,
     kind: FunctionKind,
+    before: usize,
     domains: &[&[usize]],
 ) -> Result<bool, AllocError> {
     let universes = universes_of(alloc)?;
     let mut functions = Vec::new(alloc);
+    for _ in 0..before {
+        push_functions(alloc, kind, &[&[0]], &mut functions)?;
+    }
     push_functions(alloc, kind, domains, &mut functions)?;
     Ok(fits(&universes, &functions))
 }
 
 #[test]
 fn as_many_locations_as_fit(rt: HostRuntime) -> Result<(), Fail> {
-    for (domains, expected) in &CONTROLLED {
-        let fit = domains_fit(rt.alloc(), FunctionKind::Controlled, domains)?;
-        assert!(rt; fit == *expected, "{domains:?}");
+    for (before, (domains, expected)) in &CONTROLLED {
+        let fit = domains_fit(rt.alloc(), FunctionKind::Controlled, *before, domains)?;
+        assert!(rt; fit == *expected, "{before} {domains:?}");
     }
     Ok(())
 }
@@ -109,21 +119,18 @@ fn as_many_locations_as_fit(rt: HostRuntime) -> Result<(), Fail> {
 #[test]
 fn as_many_lists_as_fit(rt: HostRuntime) -> Result<(), Fail> {
     for (domains, expected) in &STATIC {
-        let fit = domains_fit(rt.alloc(), FunctionKind::Static, domains)?;
+        let fit = domains_fit(rt.alloc(), FunctionKind::Static, 0, domains)?;
         assert!(rt; fit == *expected, "{domains:?}");
     }
     Ok(())
 }
 
-/// The signature of four functions with all locations, and four with all argument lists.
+/// The signature of sixteen functions with all locations, and four with all argument lists.
 fn greatest_signature(alloc: Global) -> Result<Signature, Fail> {
     let mut functions = Vec::new(alloc);
-    push_functions(
-        alloc,
-        FunctionKind::Controlled,
-        &[&[0], &[0], &[0], &[0]],
-        &mut functions,
-    )?;
+    for _ in 0..16 {
+        push_functions(alloc, FunctionKind::Controlled, &[&[0]], &mut functions)?;
+    }
     push_functions(
         alloc,
         FunctionKind::Static,
@@ -136,13 +143,13 @@ fn greatest_signature(alloc: Global) -> Result<Signature, Fail> {
 /// Whether that signature has its last location, its last stray one and its last list.
 fn reaches_its_ends(alloc: Global) -> Result<bool, Fail> {
     let signature = greatest_signature(alloc)?;
-    let is_stray = is_stray(alloc, &signature, 16_383, 3)?;
+    let is_stray = is_stray(alloc, &signature, 65_535, 15)?;
     let (location, list) = (value(Plain::Element(4094)), value(Plain::Element(4095)));
     Ok(
         is_stray
-            && signature.count() == 16_384
-            && number_of(&signature, 3, &[location]) == Some(16_382)
-            && given(&signature, 7, &[list]) == Some(Value::Undef),
+            && signature.count() == 65_536
+            && number_of(&signature, 15, &[location]) == Some(65_534)
+            && given(&signature, 19, &[list]) == Some(Value::Undef),
     )
 }
 

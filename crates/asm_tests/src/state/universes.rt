@@ -1,6 +1,6 @@
 //! Universes, and positions in them.
 use asm_state::element::Element;
-use asm_state::number::{LARGEST, Number};
+use asm_state::number::{GREATEST, Number};
 use asm_state::universe::Universe;
 use asm_state::value::Value;
 
@@ -31,7 +31,7 @@ fn numbers_of_a_range(rt: HostRuntime) {
 
 #[test]
 fn the_least_number_alone(rt: HostRuntime) {
-    let least = Number { value: -LARGEST };
+    let least = Number { value: -GREATEST };
     let universe = Universe::range(least, least);
     assert_eq!(rt; universe.size(), 1);
     assert!(rt; universe.element(0) == Value::Number(least));

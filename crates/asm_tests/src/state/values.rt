@@ -1,6 +1,6 @@
 //! Codes of values.
 use asm_state::element::{ELEMENTS, Element};
-use asm_state::number::{LARGEST, Number};
+use asm_state::number::{GREATEST, Number};
 use asm_state::value::Value;
 
 #[test]
@@ -9,18 +9,21 @@ fn code_edges(rt: HostRuntime) {
         (Value::Undef, 1),
         (Value::Truth(false), 2),
         (Value::Truth(true), 3),
-        (Value::Number(Number { value: -LARGEST }), 4),
-        (Value::Number(Number { value: 0 }), 1_000_000_000_000_004),
+        (Value::Number(Number { value: -GREATEST }), 4),
+        (Value::Number(Number { value: 0 }), 100_000_000_000_000_004),
         (
-            Value::Number(Number { value: LARGEST }),
-            2_000_000_000_000_004,
+            Value::Number(Number { value: GREATEST }),
+            200_000_000_000_000_004,
         ),
-        (Value::Element(Element { index: 0 }), 2_000_000_000_000_005),
+        (
+            Value::Element(Element { index: 0 }),
+            200_000_000_000_000_005,
+        ),
         (
             Value::Element(Element {
                 index: ELEMENTS - 1,
             }),
-            2_000_000_000_262_148,
+            200_000_000_000_262_148,
         ),
     ];
     for (value, code) in cases {
@@ -30,8 +33,13 @@ fn code_edges(rt: HostRuntime) {
 }
 
 #[test]
+fn the_largest_number(rt: HostRuntime) {
+    assert_eq!(rt; GREATEST, 100_000_000_000_000_000);
+}
+
+#[test]
 fn no_value_has_a_code_outside(rt: HostRuntime) {
-    for code in [0, 2_000_000_000_262_149, u64::MAX] {
+    for code in [0, 200_000_000_000_262_149, u64::MAX] {
         assert!(rt; Value::from_code(code) == None);
     }
 }

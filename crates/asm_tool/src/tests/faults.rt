@@ -83,7 +83,7 @@ static REFUSED: [(&str, &str); 20] = [
     ("CoreASM T\ninit M\nrule M = par skip\n", "read 6\n"),
     ("CoreASM T\ninit M\nrule M = par endpar\n", "read 5 at 30\n"),
     (
-        "CoreASM T\ninit M\nrule M = x := 1000000000000001\n",
+        "CoreASM T\ninit M\nrule M = x := 100000000000000001\n",
         "read 4 at 31\n",
     ),
     ("CoreASM T\ninit M\nrule M = x := 1x\n", "read 4 at 31\n"),

@@ -12,7 +12,7 @@ struct Row {
     status: u8,
 }
 
-static ROWS: [Row; 16] = [
+static ROWS: [Row; 18] = [
     Row {
         name: "counter",
         text: "CoreASM T\n\
@@ -123,6 +123,39 @@ static ROWS: [Row; 16] = [
         trace: "end clash step 1 y least -1000000000000000 greatest 1000000000000000\n\
             state\n",
         status: 1,
+    },
+    Row {
+        name: "wide_numbers",
+        text: "CoreASM T\n\
+            init M\n\
+            function controlled x\n\
+            function controlled y\n\
+            rule M = par x := 100000000000000000 + 1 y := 100000000000000000 endpar\n",
+        steps: "1",
+        trace: "step 1 instances 0\n\
+            x := undef\n\
+            y := 100000000000000000\n\
+            end limit\n\
+            state\n\
+            y = 100000000000000000\n",
+        status: 0,
+    },
+    Row {
+        name: "undefined_operations",
+        text: "CoreASM T\n\
+            init M\n\
+            function controlled x\n\
+            function controlled y\n\
+            rule M = par x := 1000000000000000 + 1 y := (undef = 1 div 0) endpar\n",
+        steps: "1",
+        trace: "step 1 instances 0\n\
+            x := 1000000000000001\n\
+            y := true\n\
+            end limit\n\
+            state\n\
+            x = 1000000000000001\n\
+            y = true\n",
+        status: 0,
     },
     Row {
         name: "parentheses_change_nothing",
@@ -244,6 +277,38 @@ static ROWS: [Row; 16] = [
     },
 ];
 
+/// Fifteen functions over a universe of 4,096 numbers, and one over a universe of 4,080: 65,536 locations.
+static LOCATIONS: &str = "CoreASM T\n\
+    init M\n\
+    universe A = 0 .. 4095\n\
+    universe B = 0 .. 4079\n\
+    function controlled f0 : A\n\
+    function controlled f1 : A\n\
+    function controlled f2 : A\n\
+    function controlled f3 : A\n\
+    function controlled f4 : A\n\
+    function controlled f5 : A\n\
+    function controlled f6 : A\n\
+    function controlled f7 : A\n\
+    function controlled f8 : A\n\
+    function controlled f9 : A\n\
+    function controlled f10 : A\n\
+    function controlled f11 : A\n\
+    function controlled f12 : A\n\
+    function controlled f13 : A\n\
+    function controlled f14 : A\n\
+    function controlled g : B\n\
+    rule M = g(4079) := 1\n";
+
+#[test]
+fn as_many_locations_as_there_can_be(rt: HostRuntime) {
+    let shown = shown_by(&rt, &["--steps", "1"], LOCATIONS.as_bytes());
+    let trace = b"step 1 instances 0\ng(4079) := 1\nend limit\nstate\ng(4079) = 1\n";
+    assert_eq!(rt; shown.trace.as_slice(), trace.as_slice());
+    assert_eq!(rt; shown.line.len(), 0);
+    assert_eq!(rt; shown.status, 0);
+}
+
 #[test]
 fn rows_are_shown(rt: HostRuntime) {
     for row in &ROWS {
@@ -294,7 +359,7 @@ fn sixty_five_levels_are_too_deep(rt: HostRuntime) -> Result<(), Fail> {
 }
 
 /// Specifications with faults, and what is said of them.
-static FAULTY: [(&str, &str); 21] = [
+static FAULTY: [(&str, &str); 22] = [
     ("CoreASM T", "check 14 at 9\n"),
     ("CoreASM T\nrule M = skip\n", "check 14 at 24\n"),
     ("CoreASM T\ninit N\nrule M = skip\n", "check 14 at 15\n"),
@@ -310,6 +375,10 @@ static FAULTY: [(&str, &str); 21] = [
     ("CoreASM T\ninit M\nrule M = r\n", "check 9 at 26\n"),
     ("CoreASM T\ninit M\nrule M = ski", "check 9 at 26\n"),
     ("CoreASM T\ninit M\nrule M = x := 1\n", "check 9 at 26\n"),
+    (
+        "CoreASM T\ninit M\nrule M = x := 1000000000000001\n",
+        "check 9 at 26\n",
+    ),
     (
         "CoreASM T\ninit M\nfunction controlled x\nrule M = x := y\n",
         "check 9 at 53\n",
@@ -350,13 +419,25 @@ static FAULTY: [(&str, &str); 21] = [
         "CoreASM T\n\
          init M\n\
          universe A = 0 .. 4095\n\
-         universe B = 0 .. 4092\n\
+         universe B = 0 .. 4080\n\
+         function controlled f0 : A\n\
          function controlled f1 : A\n\
          function controlled f2 : A\n\
          function controlled f3 : A\n\
-         function controlled f4 : B\n\
+         function controlled f4 : A\n\
+         function controlled f5 : A\n\
+         function controlled f6 : A\n\
+         function controlled f7 : A\n\
+         function controlled f8 : A\n\
+         function controlled f9 : A\n\
+         function controlled f10 : A\n\
+         function controlled f11 : A\n\
+         function controlled f12 : A\n\
+         function controlled f13 : A\n\
+         function controlled f14 : A\n\
+         function controlled g : B\n\
          rule M = skip\n",
-        "check 15 at 164\n",
+        "check 15 at 493\n",
     ),
     (
         "CoreASM T\n\

@@ -89,3 +89,54 @@ fn a_script_with_a_fault_is_told_with_its_line(rt: HostRuntime) -> Result<(), Fa
     fs::remove_file(&rt, name)?;
     Ok(())
 }
+
+const CHOICE: &[u8] =
+    b"CoreASM T\ninit M\nenum Color = { red, green, blue }\nfunction controlled c\n\
+rule M = choose k in Color do c := k endchoose\n";
+
+/// What the choice shows in three steps by a line for every step and one for the second.
+const GREEN_BLUE_GREEN: &[u8] = b"step 1 instances 0\nc := green\nstep 2 instances 0\nc := blue\n\
+step 3 instances 0\nc := green\nend limit\nstate\nc = green\n";
+
+#[test]
+fn lines_for_every_step(rt: HostRuntime) -> Result<(), Fail> {
+    let name = "asm_tool_every_step";
+    // A line for one step comes before one for every step, wherever it stands.
+    let scripts = [
+        "* - 1\n2 - 2\n",
+        "2 - 2\n* - 1",
+        "* - 1\r\n# 3 - 0\r\n002 - 5\r\n",
+    ];
+    for script in scripts {
+        fs::write(&rt, name, script.as_bytes())?;
+        let words = ["--steps", "3", "--script", name];
+        let shown = shown_by(&rt, words.as_slice(), CHOICE);
+        assert_eq!(rt; shown.trace.as_slice(), GREEN_BLUE_GREEN, "{script}");
+        assert_eq!(rt; shown.line.len(), 0, "{script}");
+        assert_eq!(rt; shown.status, 0, "{script}");
+    }
+    fs::remove_file(&rt, name)?;
+    Ok(())
+}
+
+#[test]
+fn bad_star_lines(rt: HostRuntime) -> Result<(), Fail> {
+    let name = "asm_tool_stars";
+    let refused = [
+        ("* - 1\n* - 2\n", "script 2 line 2\n"),
+        ("* 0.1 1\n1 0.1 1\n* 0.01 2", "script 2 line 3\n"),
+        ("** - 1\n", "script 1 line 1\n"),
+        ("* - 1\n*1 0 1\n", "script 1 line 2\n"),
+        ("* * 1\n", "script 1 line 1\n"),
+    ];
+    for (script, line) in refused {
+        fs::write(&rt, name, script.as_bytes())?;
+        let words = ["--steps", "1", "--script", name];
+        let shown = shown_by(&rt, words.as_slice(), CHOICE);
+        assert_eq!(rt; shown.line.as_slice(), line.as_bytes(), "{script}");
+        assert_eq!(rt; shown.trace.len(), 0, "{script}");
+        assert_eq!(rt; shown.status, 2, "{script}");
+    }
+    fs::remove_file(&rt, name)?;
+    Ok(())
+}

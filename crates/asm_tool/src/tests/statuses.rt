@@ -65,7 +65,7 @@ static LINES: [Line; 10] = [
         status: 2,
     },
     Line {
-        text: "rule M = x := 1000000000000001\n",
+        text: "rule M = x := 100000000000000001\n",
         words: &[],
         line: "read 4 at 31\n",
         status: 2,

@@ -2,13 +2,14 @@ use Rattle.std.proofs.Common.{◌≡◌, ◌+◌, ◌++◌, ◌∷◌, [], ◌�
 use Rattle.std.specs.Prelude.{All}
 use Rattle.std.proofs.lemmas.Bool.{le-leb, lt-leb}
 use Rattle.std.proofs.lemmas.List.{length-map}
+use Rattle.asm_state.specs.declared.limits.TheConstants.{UNIVERSES, VALUES}
 use Rattle.asm_check.specs.Limits.{is_universe}
 use Rattle.asm_check.specs.Counted.{size_with, allowed_size}
 use Rattle.asm_check.specs.Tables.{declaration_of, meaning_of}
 use Rattle.asm_check.proofs.CountedSizes.{AreSizesSoFar, counted_small, size_of_universe, size_of_other, size_past, sizes_whole}
 use Rattle.asm_check.proofs.TableSteps.{stands}
 use Rattle.asm_check.proofs.limits.counted_sizes.Goals as goal
-use Rattle.asm_check.proofs.limits.counted_sizes.Goals.{then-left-gt0+then-is_universe+then-size-le-ELEMENTS, then-left-gt0+then-is_universe+else-size-le-ELEMENTS, else-left-gt0, else-left-gt0-via-then-left-gt0+else-is_universe, else-left-gt0-via-else-left-gt0}
+use Rattle.asm_check.proofs.limits.counted_sizes.Goals.{then-left-gt0+then-is_universe+then-size-le-VALUES, then-left-gt0+then-is_universe+else-size-le-VALUES, else-left-gt0, else-left-gt0-via-then-left-gt0+else-is_universe, else-left-gt0-via-else-left-gt0}
 
 pub loop-i-preserved : goal.loop-i-preserved
 loop-i-preserved c =
@@ -19,15 +20,15 @@ loop-i-preserved c =
     let So_far = λ (left : ℕ) (ns : List ℕ). AreSizesSoFar size ds (c.loop-i.i + 1) left ns in
     let it : So_far c.if-left-gt0.left (c.loop-i.sizes.items ++ c.if-left-gt0.counted ∷ []) =
     elim c.if-left-gt0.branch [
-      | then-left-gt0+then-is_universe+then-size-le-ELEMENTS w ↦
+      | then-left-gt0+then-is_universe+then-size-le-VALUES w ↦
           let is : is_universe (meaning_of r.meaning) ≡ true = sym w.is_universe.ensures ∙ w.if-is_universe.true in
           let same : c.if-left-gt0.counted ≡ allowed_size (size (meaning_of r.meaning)) =
-          w.counted-is ∙ (sym (ap (λ b. cond b w.size-size.result 0) (le-leb w.size-size.result 4096 w.if-size-le-ELEMENTS.true)) ∙ ap allowed_size w.size-size.ensures) in
+          w.counted-is ∙ (sym (ap (λ b. cond b w.size-size.result 0) (le-leb w.size-size.result VALUES w.if-size-le-VALUES.true)) ∙ ap allowed_size w.size-size.ensures) in
           rw (w.left-is, same) (size_of_universe size ds c.loop-i.i c.loop-i.left c.loop-i.sizes.items r s w.if-left-gt0.true is c.loop-i.invariant)
-      | then-left-gt0+then-is_universe+else-size-le-ELEMENTS w ↦
+      | then-left-gt0+then-is_universe+else-size-le-VALUES w ↦
           let is : is_universe (meaning_of r.meaning) ≡ true = sym w.is_universe.ensures ∙ w.if-is_universe.true in
           let same : c.if-left-gt0.counted ≡ allowed_size (size (meaning_of r.meaning)) =
-          w.counted-is ∙ (sym (ap (λ b. cond b w.size-size.result 0) (lt-leb w.size-size.result 4096 w.if-size-le-ELEMENTS.false)) ∙ ap allowed_size w.size-size.ensures) in
+          w.counted-is ∙ (sym (ap (λ b. cond b w.size-size.result 0) (lt-leb w.size-size.result VALUES w.if-size-le-VALUES.false)) ∙ ap allowed_size w.size-size.ensures) in
           rw (w.left-is, same) (size_of_universe size ds c.loop-i.i c.loop-i.left c.loop-i.sizes.items r s w.if-left-gt0.true is c.loop-i.invariant)
       | else-left-gt0 w ↦ rw (w.left-is, w.counted-is) (elim w.else-left-gt0.branch [
         | else-left-gt0-via-then-left-gt0+else-is_universe w' ↦
@@ -42,4 +43,4 @@ returns-clause-small c =
     let size = size_with c.args.elements.now in
     let ds = map declaration_of c.args.names.now in
     let whole : length ds ≤ c.loop-i.i = omega (arith, length-map c.args.names.now declaration_of) in
-    subst (All (λ n. n ≤ 4096)) (sym (sizes_whole size ds c.loop-i.i c.loop-i.left c.loop-i.sizes.items whole c.loop-i.invariant)) (counted_small size 64 ds)
+    subst (All (λ n. n ≤ VALUES)) (sym (sizes_whole size ds c.loop-i.i c.loop-i.left c.loop-i.sizes.items whole c.loop-i.invariant)) (counted_small size UNIVERSES ds)

@@ -1,10 +1,11 @@
 use Rattle.std.proofs.Common.{sym, arith, ◌<◌}
+use Rattle.asm_state.specs.declared.limits.TheConstants.{DOMAIN}
 use Rattle.asm_check.proofs.ArgumentCounts.{product_fits, product_small, product_more}
 use Rattle.asm_check.proofs.limits.lists.Goals as goal
 
 pub overflow_mul-product : goal.overflow_mul-product
 overflow_mul-product c =
-    let low : c.loop-name.name-index < 4 = omega arith in
+    let low : c.loop-name.name-index < DOMAIN = omega arith in
     let small = product_small c.loop-name.product c.counted_size-product.result c.loop-name.name-index low c.loop-name.invariant.small c.counted_size-product.ensures.small in
     omega (arith, small)
 

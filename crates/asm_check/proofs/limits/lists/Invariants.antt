@@ -1,4 +1,5 @@
 use Rattle.std.proofs.Common.{◌≡◌, ◌≤◌, ◌*◌, ◌^◌, drop}
+use Rattle.asm_state.specs.declared.limits.TheConstants.{VALUES}
 use Rattle.asm_syntax.specs.SourceTree as source
 use Rattle.asm_check.specs.Counted.{AreCountedSizes}
 use Rattle.asm_check.specs.Tables.{IsTableOf}
@@ -7,7 +8,7 @@ use Rattle.asm_check.proofs.limits.lists.Given as goal
 
 abbrev pub invariant-loop-name : goal.invariant-loop-name
 invariant-loop-name l = record {
-  small : l.product ≤ 4096 ^ l.name-index;
+  small : l.product ≤ VALUES ^ l.name-index;
   product : (spec : source.Spec) → IsTableOf spec l.names → AreCountedSizes spec l.names l.sizes
       → l.product * product_of spec (drop l.name-index l.domain) ≡ product_of spec l.domain;
 }

@@ -1,5 +1,6 @@
 use Rattle.std.proofs.Common.{◌≡◌, ◌∷◌, [], ◌≤◌, length, map, take, refl, sym, ap, subst, ◌∙◌, arith, cond}
 use Rattle.std.proofs.lemmas.List.{length-map}
+use Rattle.asm_state.specs.declared.limits.TheConstants.{UNIVERSES}
 use Rattle.asm_syntax.specs.SourceTree.{Spec}
 use Rattle.asm_syntax.specs.Views.{spec_of}
 use Rattle.asm_check.specs.Counted.{AreCountedSizes, AreElementCounts, AreTotals, counted_from, size_with}
@@ -27,8 +28,8 @@ loop-i-preserved c =
     let counts : AreElementCounts spec c.in_ok-elements.elements.items = c.in_ok-elements.ensures in
     let size : c.size-size.result ≡ size_of spec (meaning_of r.meaning) =
     c.size-size.ensures ∙ (ap (λ xs. size_with xs (meaning_of r.meaning)) c.as_slice-in-loop-i.ensures.value ∙ size_with_is spec c.in_ok-elements.elements.items counts (meaning_of r.meaning)) in
-    let same : c.in_ok-counted.counted.items ≡ counted_from (size_with c.in_ok-elements.elements.items) 64 ds =
-    c.in_ok-counted.ensures.sizes ∙ ap (λ xs. counted_from (size_with xs) 64 ds) c.as_slice.ensures.value in
+    let same : c.in_ok-counted.counted.items ≡ counted_from (size_with c.in_ok-elements.elements.items) UNIVERSES ds =
+    c.in_ok-counted.ensures.sizes ∙ ap (λ xs. counted_from (size_with xs) UNIVERSES ds) c.as_slice.ensures.value in
     let sizes : AreCountedSizes spec entries c.as_slice-in-loop-i-2.result.now =
     subst (AreCountedSizes spec entries) (sym c.as_slice-in-loop-i-2.ensures.value)
     (counted_by_position spec entries c.requires c.in_ok-elements.elements.items c.in_ok-counted.counted.items counts same) in

@@ -1,5 +1,7 @@
 use Rattle.std.proofs.Common.{◌≡◌, ◌≤◌, ◌+◌, ◌∷◌, ◌++◌, List, ℕ, ◌<◌, map, drop, suc, length, get_or, Vec, vec_len, Global, sym, ap, subst, ◌∙◌, refl, append-nil, arith}
 use Rattle.std.proofs.lemmas.List.{length-map}
+use Rattle.asm_state.specs.declared.element.TheConstants.{ELEMENTS}
+use Rattle.asm_state.specs.declared.limits.TheConstants.{VALUES}
 use Rattle.asm_syntax.specs.declared.name.Name.{Name}
 use Rattle.asm_syntax.specs.declared.spec.Item.TheVariants.{Enum}
 use Rattle.asm_syntax.specs.declared.spec.Spec.{Spec}
@@ -17,7 +19,7 @@ use Rattle.asm_check.proofs.shape.universes.Goals as goal
 
 pub elements-requires-clause-few : goal.elements-requires-clause-few
 elements-requires-clause-few c =
-    let small : length (map name_of c.in-Enum.elements.items) ≤ 4096 =
+    let small : length (map name_of c.in-Enum.elements.items) ≤ VALUES =
     subst (λ x. IsSmallItem (item_of x)) c.in-Enum.is
     (all_small (spec_of c.args.spec.now) c.requires (item_of c.item-item.result)
     (item_among item_of c.args.spec.now.items.items c.deref-item-items.result.now c.loop-item.item-index c.item-item.result c.deref-item-items.ensures.value c.loop-item-test.true c.item-item.is)) in
@@ -26,7 +28,7 @@ elements-requires-clause-few c =
 -- the elements of the item find room
 module _ (spec : Spec) (good : IsWellFormed (spec_of spec)) (seen : List Item) (i count size : ℕ) (item : Item) (name : Name) (elements : Vec Name Global) where
   room : seen ≡ spec.items.items → i < length seen → item ≡ get_or seen i item → item ≡ Enum name elements → size ≡ vec_len elements
-      → count + elements_in (map item_of (drop i spec.items.items)) ≡ elements_in (map item_of spec.items.items) → count + size ≤ 262_144
+      → count + elements_in (map item_of (drop i spec.items.items)) ≡ elements_in (map item_of spec.items.items) → count + size ≤ ELEMENTS
   room same h is enum long so_far =
       let next : drop i spec.items.items ≡ item ∷ drop (suc i) spec.items.items = subst (λ xs. drop i xs ≡ item ∷ drop (suc i) xs) same (next_of seen i item h is) in
       room_for (spec_of spec) good count size (item_of item) (map item_of (drop (suc i) spec.items.items))

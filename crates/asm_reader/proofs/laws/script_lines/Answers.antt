@@ -1,8 +1,11 @@
-use Rattle.asm_reader.proofs.SaidLines.{each_says, lines_apart}
+use Rattle.asm_reader.proofs.SaidLines.{each_says, exact_apart, every_apart}
 use Rattle.asm_reader.proofs.laws.script_lines.Goals as goal
 
 pub returns-clause-said : goal.returns-clause-said
 returns-clause-said c = each_says
 
 pub returns-clause-apart : goal.returns-clause-apart
-returns-clause-apart c = lines_apart
+returns-clause-apart c = exact_apart
+
+pub returns-clause-every_apart : goal.returns-clause-every_apart
+returns-clause-every_apart c = every_apart

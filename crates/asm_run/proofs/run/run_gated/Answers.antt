@@ -13,13 +13,13 @@ pub returns-in_err-tree-clause-refused : goal.returns-in_err-tree-clause-refused
 returns-in_err-tree-clause-refused g c =
     let limits = c.args.limits.now in
     let p = err_from_is_err_and c.from_residual.result c.from_residual.ensures.1 in
-    rw (p.1, p.2) (refused_text c.args.spec.now c.args.script.now limits.steps limits.turns limits.workers limits.cut limits.rounds (g.S.Sink.bytes c.args.out.now) c.in_err-tree.field-0.0 c.in_err-tree.ensures.refused)
+    rw (p.1, p.2) (refused_text c.args.spec.now c.args.script.now limits (g.S.Sink.bytes c.args.out.now) c.in_err-tree.field-0.0 c.in_err-tree.ensures.refused)
 
 pub returns-in_err-checked-clause-refused : goal.returns-in_err-checked-clause-refused
 returns-in_err-checked-clause-refused g c =
     let limits = c.args.limits.now in
     let p = err_from_is_err_and c.from_residual-in_err-checked.result c.from_residual-in_err-checked.ensures.1 in
-    rw (p.1, p.2) (refused_tree c.args.spec.now c.args.script.now limits.steps limits.turns limits.workers limits.cut limits.rounds (g.S.Sink.bytes c.args.out.now) (spec_of c.in_ok-tree.tree) c.in_ok-tree.ensures.found c.in_err-checked.field-0.0 c.in_err-checked.ensures.refused)
+    rw (p.1, p.2) (refused_tree c.args.spec.now c.args.script.now limits (g.S.Sink.bytes c.args.out.now) (spec_of c.in_ok-tree.tree) c.in_ok-tree.ensures.found c.in_err-checked.field-0.0 c.in_err-checked.ensures.refused)
 
 pub returns-in_err-script-clause-refused : goal.returns-in_err-script-clause-refused
 returns-in_err-script-clause-refused g c =
@@ -30,7 +30,7 @@ returns-in_err-script-clause-refused g c =
       faultless = rw c.in_ok-checked.ensures.accepted c.in_ok-checked.ensures.well_formed;
     } in
     let p = err_from_is_err_and c.from_residual-in_err-script.result c.from_residual-in_err-script.ensures.1 in
-    rw (p.1, p.2) (refused_script c.args.spec.now c.args.script.now limits.steps limits.turns limits.workers limits.cut limits.rounds (g.S.Sink.bytes c.args.out.now) tree accepted c.in_err-script.field-0.0 c.in_err-script.ensures.refused)
+    rw (p.1, p.2) (refused_script c.args.spec.now c.args.script.now limits (g.S.Sink.bytes c.args.out.now) tree accepted c.in_err-script.field-0.0 c.in_err-script.ensures.refused)
 
 pub run_steps-requires-clause-main : goal.run_steps-requires-clause-main
 run_steps-requires-clause-main g c κs within =
@@ -45,8 +45,8 @@ returns-clause-done g c =
       spelled = rw c.in_ok-checked.ensures.accepted c.in_ok-tree.ensures.found;
       faultless = rw c.in_ok-checked.ensures.accepted c.in_ok-checked.ensures.well_formed;
     } in
-    let in_range : are_in_range limits.steps limits.turns limits.workers limits.cut limits.rounds ≡ true = rw (← c.are_in_range.ensures) c.if-not-are_in_range.false in
-    (whole c.args.spec.now c.args.script.now limits.steps limits.turns limits.workers limits.cut limits.rounds (g.S.Sink.bytes c.args.out.now) (g.S.Sink.bytes c.run_steps.new.out) (g.S.Sink.has_failed c.run_steps.new.out) tree accepted
+    let in_range : are_in_range limits ≡ true = rw (← c.are_in_range.ensures) c.if-not-are_in_range.false in
+    (whole c.args.spec.now c.args.script.now limits (g.S.Sink.bytes c.args.out.now) (g.S.Sink.bytes c.run_steps.new.out) (g.S.Sink.has_failed c.run_steps.new.out) tree accepted
     c.in_ok-script.script c.in_ok-script.ensures.found in_range c.run_steps.result c.run_steps.ensures).done
 
 pub returns-clause-refused : goal.returns-clause-refused
@@ -57,8 +57,8 @@ returns-clause-refused g c =
       spelled = rw c.in_ok-checked.ensures.accepted c.in_ok-tree.ensures.found;
       faultless = rw c.in_ok-checked.ensures.accepted c.in_ok-checked.ensures.well_formed;
     } in
-    let in_range : are_in_range limits.steps limits.turns limits.workers limits.cut limits.rounds ≡ true = rw (← c.are_in_range.ensures) c.if-not-are_in_range.false in
-    (whole c.args.spec.now c.args.script.now limits.steps limits.turns limits.workers limits.cut limits.rounds (g.S.Sink.bytes c.args.out.now) (g.S.Sink.bytes c.run_steps.new.out) (g.S.Sink.has_failed c.run_steps.new.out) tree accepted
+    let in_range : are_in_range limits ≡ true = rw (← c.are_in_range.ensures) c.if-not-are_in_range.false in
+    (whole c.args.spec.now c.args.script.now limits (g.S.Sink.bytes c.args.out.now) (g.S.Sink.bytes c.run_steps.new.out) (g.S.Sink.has_failed c.run_steps.new.out) tree accepted
     c.in_ok-script.script c.in_ok-script.ensures.found in_range c.run_steps.result c.run_steps.ensures).refused
 
 pub returns-clause-failed : goal.returns-clause-failed
@@ -69,8 +69,8 @@ returns-clause-failed g c =
       spelled = rw c.in_ok-checked.ensures.accepted c.in_ok-tree.ensures.found;
       faultless = rw c.in_ok-checked.ensures.accepted c.in_ok-checked.ensures.well_formed;
     } in
-    let in_range : are_in_range limits.steps limits.turns limits.workers limits.cut limits.rounds ≡ true = rw (← c.are_in_range.ensures) c.if-not-are_in_range.false in
-    (whole c.args.spec.now c.args.script.now limits.steps limits.turns limits.workers limits.cut limits.rounds (g.S.Sink.bytes c.args.out.now) (g.S.Sink.bytes c.run_steps.new.out) (g.S.Sink.has_failed c.run_steps.new.out) tree accepted
+    let in_range : are_in_range limits ≡ true = rw (← c.are_in_range.ensures) c.if-not-are_in_range.false in
+    (whole c.args.spec.now c.args.script.now limits (g.S.Sink.bytes c.args.out.now) (g.S.Sink.bytes c.run_steps.new.out) (g.S.Sink.has_failed c.run_steps.new.out) tree accepted
     c.in_ok-script.script c.in_ok-script.ensures.found in_range c.run_steps.result c.run_steps.ensures).fails_just_so
 
 pub returns-in_err-tree-clause-memory : goal.returns-in_err-tree-clause-memory

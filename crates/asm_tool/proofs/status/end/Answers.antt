@@ -9,8 +9,8 @@ returns-clause-told g c =
     let status = status_in c.written.result in
     let script = c.as_slice-2.result.now in
     let told =
-    subst (λ (x : List ℕ). Tells c.in_ok-text.text.items x s.limits.steps s.limits.turns status) c.as_slice-2.ensures.value
-    (subst (λ (x : List ℕ). Tells x script s.limits.steps s.limits.turns status) c.as_slice.ensures.value c.written.ensures.told) in
+    subst (λ (x : List ℕ). Tells c.in_ok-text.text.items x s.limits status) c.as_slice-2.ensures.value
+    (subst (λ (x : List ℕ). Tells x script s.limits status) c.as_slice.ensures.value c.written.ensures.told) in
     of_words (map g.S.AsStr.text c.args.words.now) (g.F.Folder.contents c.args.folder.now) (g.I.Read.remaining c.args.input) s
     c.in_ok-text.text.items c.in_ok-script.script.items status
     c.in_ok-settings.ensures.said c.in_ok-text.ensures.read c.in_ok-script.ensures.read told

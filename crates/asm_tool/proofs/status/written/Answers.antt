@@ -9,6 +9,6 @@ use Rattle.asm_tool.proofs.status.written.Goals as goal
 pub returns-in-Err-clause-told : goal.returns-in-Err-clause-told
 returns-in-Err-clause-told g c =
     let l = c.args.limits.now in
-    let told = c.answers_tell.ensures c.args.text.now c.args.script.now l.steps l.turns l.workers l.cut l.rounds _ _ c.run-answer.result c.run-answer.ensures.done c.run-answer.ensures.refused in
-    rw c.refused_run.ensures (at_fault c.args.text.now c.args.script.now l.steps l.turns c.in-Err.error
-    (subst (λ (a : Result End RunError). run.Tells c.args.text.now c.args.script.now l.steps l.turns a) c.in-Err.is told))
+    let told = c.answers_tell.ensures c.args.text.now c.args.script.now l _ _ c.run-answer.result c.run-answer.ensures.done c.run-answer.ensures.refused in
+    rw c.refused_run.ensures (at_fault c.args.text.now c.args.script.now l c.in-Err.error
+    (subst (λ (a : Result End RunError). run.Tells c.args.text.now c.args.script.now l a) c.in-Err.is told))

@@ -2,6 +2,7 @@ use Rattle.std.proofs.Common.{◌≡◌, ◌∙◌, true, ap, Some, codes, refl}
 use Rattle.std.proofs.lemmas.Result.{IfOk-weaker}
 use Rattle.clap.specs.Simple.{App, app_of, app_of_fields, new_app, on_top}
 use Rattle.clap.specs.Walk.{Rule, rule_of}
+use Rattle.asm_run.specs.declared.limits.TheConstants.{STEPS, TURNS, WORKERS, CUT, ROUNDS}
 use Rattle.asm_tool.specs.CommandLine.{command, option, number, required, or_else}
 use Rattle.asm_tool.proofs.Rules.{grown}
 use Rattle.asm_tool.proofs.words.command.Goals as goal
@@ -18,9 +19,9 @@ returns c =
     let made : app_of c.after_help.result ≡ new_app (codes "asm") = ap app_of_fields c.after_help.ensures ∙ (ap app_of_fields c.about.ensures ∙ c.new.ensures.app) in
     let start : app_of c.no_binary_name.result ≡ without_name (new_app (codes "asm")) = ap app_of_fields c.no_binary_name.ensures ∙ ap without_name made in
     let one = grown _ _ _ _ _ c.in_ok-arg.ensures start c.file.ensures refl in
-    let two = grown _ _ _ _ (required (number 0 1_000_000 (codes "steps"))) c.in_ok-arg-2.ensures one (ap rule_of c.required-steps.ensures ∙ ap required c.number.ensures) refl in
+    let two = grown _ _ _ _ (required (number STEPS (codes "steps"))) c.in_ok-arg-2.ensures one (ap rule_of c.required-steps.ensures ∙ ap required c.number.ensures) refl in
     let three = grown _ _ _ _ (option (codes "script")) c.in_ok-arg-3.ensures two (ap rule_of c.long.ensures ∙ ap with_long c.file-2.ensures) refl in
-    let four = grown _ _ _ _ (or_else (codes "1000") (number 1 1_000_000 (codes "turns"))) c.in_ok-arg-4.ensures three (ap rule_of c.default_value-turns.ensures ∙ ap (or_else (codes "1000")) c.number-2.ensures) refl in
-    let five = grown _ _ _ _ (or_else (codes "1") (number 1 32 (codes "workers"))) c.in_ok-arg-5.ensures four (ap rule_of c.default_value-workers.ensures ∙ ap (or_else (codes "1")) c.number-3.ensures) refl in
-    let six = grown _ _ _ _ (or_else (codes "64") (number 1 4096 (codes "cut"))) c.in_ok-arg-6.ensures five (ap rule_of c.default_value-cut.ensures ∙ ap (or_else (codes "64")) c.number-4.ensures) refl in
-    IfOk-weaker c.arg-7.result _ _ (λ m added. grown _ m _ _ (or_else (codes "4") (number 0 64 (codes "rounds"))) added six (ap rule_of c.default_value-rounds.ensures ∙ ap (or_else (codes "4")) c.number-5.ensures) refl) c.arg-7.ensures
+    let four = grown _ _ _ _ (or_else (codes "1000") (number TURNS (codes "turns"))) c.in_ok-arg-4.ensures three (ap rule_of c.default_value-turns.ensures ∙ ap (or_else (codes "1000")) c.number-2.ensures) refl in
+    let five = grown _ _ _ _ (or_else (codes "1") (number WORKERS (codes "workers"))) c.in_ok-arg-5.ensures four (ap rule_of c.default_value-workers.ensures ∙ ap (or_else (codes "1")) c.number-3.ensures) refl in
+    let six = grown _ _ _ _ (or_else (codes "64") (number CUT (codes "cut"))) c.in_ok-arg-6.ensures five (ap rule_of c.default_value-cut.ensures ∙ ap (or_else (codes "64")) c.number-4.ensures) refl in
+    IfOk-weaker c.arg-7.result _ _ (λ m added. grown _ m _ _ (or_else (codes "4") (number ROUNDS (codes "rounds"))) added six (ap rule_of c.default_value-rounds.ensures ∙ ap (or_else (codes "4")) c.number-5.ensures) refl) c.arg-7.ensures

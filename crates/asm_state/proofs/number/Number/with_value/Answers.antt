@@ -1,13 +1,13 @@
 use Rattle.std.proofs.Common.{arith, rules}
 use Rattle.std.proofs.lemmas.Int.{ints}
 use Rattle.asm_state.proofs.Numbers.{kept}
-use Rattle.asm_state.specs.Operation.{number_or_undef}
-use Rattle.asm_state.proofs.operation.number.Goals as goal
+use Rattle.asm_state.specs.Numbers.{number_with}
+use Rattle.asm_state.proofs.number.Number.with_value.Goals as goal
 
-pub returns-then-value-le-LARGEST : goal.returns-then-value-le-LARGEST
-returns-then-value-le-LARGEST c =
+pub returns-then-value-le-GREATEST : goal.returns-then-value-le-GREATEST
+returns-then-value-le-GREATEST c =
     kept _ _ _ (omega (arith, ints)) (omega (arith, ints))
 
 pub returns-else-value : goal.returns-else-value
-unfolding number_or_undef
+unfolding number_with
 returns-else-value c = search rules

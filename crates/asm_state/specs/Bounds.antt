@@ -1,0 +1,18 @@
+-- The bounds of values, by the constants of the code.
+--     least_number, greatest_number     between which all numbers lie
+--     code_of_zero                      the code of the number 0: those of the other numbers lie round it
+--     code_of_first_element             the code of element 0, behind those of all numbers
+use Rattle.std.specs.Prelude.{ℕ, ◌+◌, ◌*◌, ℤ, neg_ℤ, unsigned_abs}
+use Rattle.asm_state.specs.declared.number.TheConstants.{GREATEST}
+
+abbrev pub greatest_number : ℤ
+greatest_number = GREATEST
+
+abbrev pub least_number : ℤ
+least_number = neg_ℤ GREATEST
+
+abbrev pub code_of_zero : ℕ
+code_of_zero = unsigned_abs GREATEST + 4
+
+abbrev pub code_of_first_element : ℕ
+code_of_first_element = 2 * unsigned_abs GREATEST + 5
