@@ -28,6 +28,16 @@ def chains(members):
     return HEAD + COUNTED + f"function controlled y\nfunction controlled z\nrule M = par x := x + 1 y := {flat} z := {pairs} endpar\n"
 
 
+def congruences(members):
+    """A sum of so many remainders and one of as many quotients, of products up to the greatest number, which neither sum passes."""
+    remainders = " + ".join(f"((x + {k}) * 99999989 + {k}) mod 999999937" for k in range(members))
+    quotients = " + ".join(f"x * 99999989 div -{k + members}" for k in range(members))
+    return (
+        HEAD + "function controlled x initially 12345\nfunction controlled y\nfunction controlled z\n"
+        f"rule M = par x := (x * 99999989 + 7) mod 999999937 y := {remainders} z := {quotients} endpar\n"
+    )
+
+
 def quantifiers(elements):
     """Quantifiers over so many elements: one that goes through all of them, and one that ends at the last."""
     last = elements - 1
@@ -128,6 +138,37 @@ def fresh(rows):
     )
 
 
+def locations(functions):
+    """So many functions of 4,096 locations each, all of which but one change in each step."""
+    updates = " ".join(f"f{k}(i) := f{(k + 1) % functions}(i) + {k}" for k in range(functions))
+    return (
+        HEAD + "universe I = 0 .. 4094\n" + "".join(f"function controlled f{k} : I initially {k}\n" for k in range(functions))
+        + f"rule M = forall i in I do par {updates} endpar endforall\n"
+    )
+
+
+def one_location(functions):
+    """So many functions of 4,096 locations each, of which one location changes in each step."""
+    last = functions - 1
+    return (
+        HEAD + "universe I = 0 .. 4094\n" + "".join(f"function controlled f{k} : I\n" for k in range(last))
+        + f"function controlled f{last} : I initially 0\nrule M = f{last}(4094) := f{last}(4094) + 1\n"
+    )
+
+
+def choices(rows):
+    """A `choose` in each of so many rows of 256, for each of which a script has a line for every step."""
+    return (
+        HEAD + f"universe I = 0 .. {rows - 1}\nuniverse J = 0 .. 255\nuniverse K = 0 .. 7\nfunction controlled f : I * J initially 0\n" + COUNTED
+        + "rule M = par x := x + 1 forall i in I do forall j in J do choose k in K do f(i, j) := k + x endchoose endforall endforall endpar\n"
+    )
+
+
+def choices_script(rows):
+    """A line for every step at each of these places: with 255 rows somewhat less than the 1,048,576 bytes that a script may have."""
+    return "".join(f"* 1.{i}.{j} {(i * 31 + j * 7) % 1000}\n" for i in range(rows) for j in range(256))
+
+
 def parts(count):
     """A `seq` of so many parts, which change 256 locations in turn, each by what the part before has made."""
     return (
@@ -191,6 +232,7 @@ WORKLOADS = {
     "wide": Workload("functions", 256, wide, 10_000, calls=2),
     # Terms: long chains, quantifiers, tables, derived functions, names bound far out.
     "chains": Workload("members", 1000, chains, 10_000),
+    "congruences": Workload("members", 400, congruences, 10_000),
     "quantifiers": Workload("elements", 4096, quantifiers, 1000),
     "tables": Workload("reads", 400, tables, 10_000),
     "derived": Workload("leaves", 128, derived, 10_000),
@@ -199,11 +241,15 @@ WORKLOADS = {
     "elements": Workload("elements", 4096, elements, 1000),
     "grid": Workload("rows of 64", 64, grid, 300),
     "scripted": Workload("rows of 64", 64, grid, 300, script=grid_script),
+    "every_step": Workload("rows of 256", 255, choices, 10, script=choices_script),
+    # As many locations as a text may have: all changed in each step, and one.
+    "locations": Workload("functions of 4,096", 16, locations, 20),
+    "one_location": Workload("functions of 4,096", 16, one_location, 100_000),
     # Sequences, iteration and calls.
     "turns": Workload("turns", 1_000_000, turns, 5),
     "while": Workload("turns", 1_000_000, whiles, 5, turns=1_000_000),
     "answers": Workload("calls", 100_000, answers, 10, turns=1_000_000),
-    # Nearly as many locations as a text may have, each changed by a turn of its own.
+    # 16,257 locations, each changed by a turn of its own.
     "fresh": Workload("rows of 127", 128, fresh, 40),
     "parts": Workload("parts", 4096, parts, 1000),
     "calls": Workload("calls deep", 16, calls, 50),

@@ -2,7 +2,8 @@
 //!
 //! Names are resolved to numbers beforehand; the state is a flat vector; an update set is a list of (location, least, greatest)
 //! with an index by location. `--workers N` splits the elements of a `forall` and the parts of a `par` into N fixed chunks on scoped
-//! threads, where these are many and stand in no chunk themselves.
+//! threads, where these are many and stand in no chunk themselves. `--edition narrow` goes by the rules that held before numbers to
+//! 10^17, 65,536 locations and lines of a script for every step.
 mod chunks;
 mod evaluator;
 mod parser;

@@ -88,9 +88,49 @@ pub fn slurp(name: Option<&str>) -> Option<Vec<u8>> {
     Some(v)
 }
 
-pub fn words() -> Option<(Option<String>, Option<String>, HashMap<String, u64>)> {
+/// The rules that a run goes by: the greatest number, how many controlled locations there may be, and whether lines of a script may
+/// be for every step.
+#[derive(Clone, Copy)]
+pub struct Edition {
+    most: i64,
+    most_locations: u64,
+    stars: bool,
+}
+
+/// Those of the language as it is.
+const WIDE: Edition = Edition {
+    most: 100_000_000_000_000_000,
+    most_locations: 65_536,
+    stars: true,
+};
+
+/// Those that it had before.
+const NARROW: Edition = Edition {
+    most: 1_000_000_000_000_000,
+    most_locations: 16_384,
+    stars: false,
+};
+
+fn edition(name: &str) -> Option<Edition> {
+    match name {
+        "wide" => Some(WIDE),
+        "narrow" => Some(NARROW),
+        _ => None,
+    }
+}
+
+/// What the command line says.
+pub struct Words {
+    spec: Option<String>,
+    script: Option<String>,
+    edition: Edition,
+    numbers: HashMap<String, u64>,
+}
+
+pub fn words() -> Option<Words> {
     let mut spec = None;
     let mut script = None;
+    let mut named = None;
     let mut n: HashMap<String, u64> = HashMap::new();
     let mut it = std::env::args().skip(1);
     while let Some(w) = it.next() {
@@ -110,13 +150,18 @@ pub fn words() -> Option<(Option<String>, Option<String>, HashMap<String, u64>)>
             }
             continue;
         }
+        if k == "--edition" {
+            if named.replace(edition(&v)?).is_some() {
+                return None;
+            }
+            continue;
+        }
         let (low, high) = match &*k {
             "--steps" => (0, 1_000_000),
             "--turns" => (1, 1_000_000),
             "--workers" => (1, 32),
             "--cut" => (1, 4096),
             "--rounds" => (0, 64),
-            "--edition" => (14, 15),
             _ => return None,
         };
         let x: u64 = v.parse().ok()?;
@@ -125,16 +170,26 @@ pub fn words() -> Option<(Option<String>, Option<String>, HashMap<String, u64>)>
         }
     }
     n.get("--steps")?;
-    Some((spec, script, n))
+    Some(Words {
+        spec,
+        script,
+        edition: named.unwrap_or(WIDE),
+        numbers: n,
+    })
 }
 
 pub fn status() -> i32 {
-    let Some((spec, script, n)) = words() else {
+    let Some(Words {
+        spec,
+        script,
+        edition,
+        numbers,
+    }) = words()
+    else {
         eprintln!("words");
         return 4;
     };
-    let get = |k: &str, d: u64| *n.get(k).unwrap_or(&d);
-    let edition = get("--edition", 14);
+    let get = |k: &str, d: u64| *numbers.get(k).unwrap_or(&d);
     let Some(text) = slurp(spec.as_deref()) else {
         eprintln!("file");
         return 3;
@@ -149,17 +204,12 @@ pub fn status() -> i32 {
             }
         }
     }
-    let (most, most_locations) = if edition >= 15 {
-        (100_000_000_000_000_000, 65_536)
-    } else {
-        (1_000_000_000_000_000, 16_384)
-    };
     let mut names = Names {
         ids: HashMap::new(),
         text: vec![],
     };
     let prog = (|| {
-        let t = lex(&text, &mut names, most)?;
+        let t = lex(&text, &mut names, edition.most)?;
         let mut p = Parser {
             t: &t,
             i: 0,
@@ -167,7 +217,13 @@ pub fn status() -> i32 {
             saw_result: false,
         };
         let items = p.spec()?;
-        resolve(&items, &names, text.len() as u32, most, most_locations)
+        resolve(
+            &items,
+            &names,
+            text.len() as u32,
+            edition.most,
+            edition.most_locations,
+        )
     })();
     let prog = match prog {
         Ok(p) => p,
@@ -184,7 +240,7 @@ pub fn status() -> i32 {
             return 2;
         }
     };
-    let script = match read_script(&script_text, edition >= 15) {
+    let script = match read_script(&script_text, edition.stars) {
         Ok(s) => s,
         Err((3, _)) => {
             eprintln!("script 3");

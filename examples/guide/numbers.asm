@@ -12,5 +12,5 @@ rule Main = par
   value(7) := -7 mod 2
   value(8) := 7 div -2
   value(9) := 7 mod 0
-  value(10) := 1000000000000000 + 1
+  value(10) := 100000000000000000 + 1
 endpar
