@@ -1,6 +1,7 @@
 pub mod Names
 pub mod Ways
 pub mod Limits
+pub mod BoundLaws
 pub mod Faults
 pub mod Soonest
 pub mod Errors

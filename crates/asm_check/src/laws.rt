@@ -1,4 +1,5 @@
 //! Laws of faults, and what a specification without faults has.
+ghost use Rattle.asm_check.specs.BoundLaws.{BoundLaws};
 ghost use Rattle.asm_check.specs.Laws.{LeastIsOnly, LeastExists, RanksExist, NamesAreApart, ItemsAreDeclared, BodiesAreFit, LimitsHold, SignatureFits, ShapeIsSound, SignatureNumbers, NamesHaveNumbers, TextsAreTold};
 
 /// A specification has at most one least fault.
@@ -59,4 +60,9 @@ pub fn names_have_numbers()
 /// Two names are the same where the test of their texts passes, and nowhere else.
 pub fn texts_are_told()
     ensures { TextsAreTold }
+{}
+
+/// How many rules there can be, and the greatest rank.
+pub fn bound_laws()
+    ensures { BoundLaws }
 {}
