@@ -1,16 +1,22 @@
-"""What the program answers to a text, for the scripts beside this file."""
+"""The program that the tests run, and what it answers to a text."""
 import os
+import pathlib
 import subprocess
 import sys
 import tempfile
 from concurrent.futures import ThreadPoolExecutor
 from typing import NamedTuple
 
-HERE = os.path.dirname(os.path.abspath(__file__))
-BUILT = os.path.join(HERE, os.pardir, "crates", "asm_tool", "out", "asm_tool")
+ROOT = pathlib.Path(__file__).resolve().parent.parent.parent
 
 # A run that takes so many seconds hangs: none that is looked at takes more than a few.
 LONGEST = 60
+
+# The most bytes that a text can have, and a script.
+LONGEST_TEXT = 1_048_576
+
+# The first two lines of a text.
+HEAD = "CoreASM T\ninit M\n"
 
 
 class Answer(NamedTuple):
@@ -29,12 +35,17 @@ def shortened(text):
     return repr(text) if len(text) <= 200 else f"{text[:100]!r} .. {text[-100:]!r} ({len(text)} bytes)"
 
 
-def program(word):
-    """The file of the program that this word of the command line names, or of the one that was built."""
-    found = os.path.abspath(word or BUILT)
-    if not os.access(found, os.X_OK):
-        sys.exit(f"{found}: no program is there; ./build makes it")
-    return found
+def program(word=None):
+    """The file of the program that this word of the command line names, or else of the one that is of these sources."""
+    if word:
+        found = os.path.abspath(word)
+        if not os.access(found, os.X_OK):
+            sys.exit(f"{found}: no program is there")
+        return found
+    asked = subprocess.run([ROOT / "release" / "which", "asm"], stdout=subprocess.PIPE, text=True)
+    if asked.returncode != 0:
+        sys.exit("./build makes the program")
+    return asked.stdout.split("\n")[0]
 
 
 def answer(words, text=b"", script=None, **given):

@@ -5,6 +5,12 @@ _asm() {
     # A name with spaces stays one word.
     local IFS=$'\n'
     compopt -o filenames 2>/dev/null
+    # Bash breaks --script=F into three words.
+    if [ "$current" = "=" ]; then
+        current=""
+    elif [ "$before" = "=" ]; then
+        before="${COMP_WORDS[COMP_CWORD - 2]}"
+    fi
     case "$before" in
         --script)
             COMPREPLY=($(compgen -f -X '!*.script' -- "$current") $(compgen -d -- "$current"))

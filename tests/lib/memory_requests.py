@@ -10,8 +10,7 @@ import tempfile
 from typing import NamedTuple
 
 HERE = pathlib.Path(__file__).resolve().parent
-ROOT = HERE.parent
-OUT = HERE / "out"
+OUT = HERE.parent / "out"
 LIBRARY = OUT / "memory_requests.so"
 
 # A run that takes so many seconds hangs: with ample memory each takes some milliseconds.
@@ -47,15 +46,6 @@ def build():
     clang = pathlib.Path(page).parent / "toolchain" / "bin" / "clang"
     words = ["-O1", "-ffreestanding", "-nostdlib", "-shared", "-fPIC", "-o", LIBRARY, HERE / "memory_requests.c"]
     subprocess.run([clang, *words], check=True)
-
-
-def program():
-    """The program that ./asm builds, or takes from the release."""
-    built = ROOT / "crates" / "asm_tool" / "out" / "asm_tool"
-    about = dict(line.split(" ", 1) for line in (ROOT / "release" / "about").read_text().splitlines())
-    released = ROOT / "out" / f"asm-{about['program']}"
-    subprocess.run([ROOT / "asm", "--steps", "0", HERE / "counter.asm"], stdout=subprocess.DEVNULL, check=True)
-    return built if built.exists() else released
 
 
 def run(words, text="", **variables):
