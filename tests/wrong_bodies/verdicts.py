@@ -1,0 +1,158 @@
+"""Reads what a check says of the functions that wrong bodies edit: which goal of its own refuses each."""
+import re
+
+# A line that is placed in a file: what antt refuses, or what is left unproved.
+PLACED = re.compile(r"(?P<note>note: )?(?:\./)?(?P<file>\S+?):(?P<line>\d+):\d+: (?P<said>.*)")
+FUNCTION = re.compile(r"fn (\S+): (.*)")
+UNPROVED = re.compile(r"it is not proved that .*?\(`([^`]+)`\)(.*)")
+SEARCHED = re.compile(r"`search` did not prove ((?:`[^`]+`(?:, | and )?)+)")
+# What a proof file cites and an edit took away says nothing of a contract.
+LOST = re.compile(r"has no field|is not in scope|has no `|was not admitted")
+FALSE = "allow values at which this goal is false"
+# An edit that isn't read, or that the front end refuses, reaches no contract.
+UNREAD = re.compile(r"error\[[\w-]+\]|^rattle: ", re.MULTILINE)
+
+
+class Goal:
+    """A goal that isn't proved, of a function that is said not to be proved."""
+
+    def __init__(self, function, name, is_sure):
+        self.function, self.name = function, name
+        # Whether it fails for more than a lost name: antt refuses its answer, or values are known at which it is false.
+        self.is_sure = is_sure
+
+    def shown(self):
+        return f"{self.function} {self.name}"
+
+
+class Said:
+    """What a check said."""
+
+    def __init__(self, crate, status, output):
+        self.crate, self.status, self.output = crate, status, output
+        self.lines = output.rstrip("\n").split("\n")
+        self.functions, self.placed = {}, []
+        for line in self.lines:
+            found = FUNCTION.match(line)
+            if found and found[1].startswith(f"{crate}::"):
+                self.functions[found[1].removeprefix(f"{crate}::")] = found[2]
+            found = PLACED.match(line)
+            if found and (found["note"] or found["said"].startswith("error")):
+                self.placed.append(found)
+
+    def reached_contracts(self):
+        """Returns whether the check came as far as to judge functions."""
+        return self.status in (0, 1) and self.lines[-1].startswith(("logic=", "only="))
+
+    def why_not(self):
+        """Returns the line that says why it judged nothing."""
+        told = [line for line in self.lines if UNREAD.search(line) or ": error" in line]
+        return (told or self.lines[-1:])[0][:200]
+
+    def names_of(self, function):
+        """Returns the names under which the check speaks of a function, and of the closures in it."""
+        owner = "::".join(function.module)
+        outer = function.owner
+        if outer and function.trait:
+            pattern = rf"{outer}\w*{function.trait}\w*::{function.name}"
+        else:
+            pattern = f"{outer}::{function.name}" if outer else function.name
+        head = re.escape(f"{owner}::") if owner else ""
+        inner = rf"(?:{outer}::)?fn::{function.name}::.*" if outer else rf"fn::{function.name}::.*"
+        both = re.compile(rf"{head}(?:{pattern}|{inner})")
+        return [name for name in self.functions if both.fullmatch(name)]
+
+    def goals_of(self, function):
+        """Returns the goals of a function that aren't proved, and whether its proof files cite names that are gone."""
+        goals, has_lost = {}, False
+        for name in self.names_of(function):
+            said = self.functions[name]
+            if said == "proved":
+                continue
+            found, lost = self.goals_in(function, name)
+            searched = SEARCHED.search(said)
+            for goal in re.findall(r"`([^`]+)`", searched[1]) if searched else []:
+                found.setdefault(goal, False)
+            has_lost = has_lost or lost
+            for goal, is_sure in found.items():
+                made = Goal(name, goal, is_sure)
+                goals.setdefault(made.shown(), made)
+        if not has_lost:
+            for goal in goals.values():
+                goal.is_sure = True
+        return [goals[it] for it in sorted(goals)], has_lost
+
+    def goals_in(self, function, name):
+        """Returns the goals that fail in a function's lines and proof files, and whether those cite lost names."""
+        path = name.replace("::", "/")
+        above, _, last = path.rpartition("/")
+        above = f"{above}/" if above else ""
+        # A function that calls itself, or one of a recursion, has its proof beside the others'.
+        cycle = f"proofs/{'/'.join([*function.module, ''])}+{function.cycle}/"
+        folders = (f"proofs/{path}/", f"proofs/{above}+{last}/")
+        goals, has_lost = {}, False
+        for found in self.placed:
+            file, said = found["file"], found["said"]
+            unproved = UNPROVED.match(said)
+            if file == function.file and function.first_line <= int(found["line"]) <= function.last_line:
+                if unproved:
+                    goals[unproved[1]] = goals.get(unproved[1], False) or FALSE in unproved[2]
+                elif said.startswith("error"):
+                    goals[said.removeprefix("error: ")[:80]] = True
+                continue
+            goal = re.match(r"error: `([^`]+)`", said)
+            is_own = file.startswith(folders) or (
+                function.cycle and file.startswith(cycle) and goal and goal[1].startswith(f"{last}-")
+            )
+            if not is_own or not said.startswith("error"):
+                continue
+            if LOST.search(said):
+                has_lost = True
+            else:
+                goals[goal[1] if goal else file.rpartition("/")[2]] = True
+        return goals, has_lost
+
+    def goals_anywhere(self):
+        """Returns what fails in the crate for more than a lost name, for an edit of no body."""
+        goals = {}
+        for name, said in self.functions.items():
+            searched = SEARCHED.search(said)
+            for goal in re.findall(r"`([^`]+)`", searched[1]) if searched else []:
+                goals[f"{name} {goal}"] = Goal(name, goal, True)
+        for found in self.placed:
+            said = found["said"]
+            goal = re.match(r"error: `([^`]+)`", said)
+            if goal and not LOST.search(said):
+                made = Goal(found["file"], goal[1], True)
+                goals[made.shown()] = made
+        return [goals[it] for it in sorted(goals)]
+
+
+class Verdict:
+    """What the try of a wrong body came to."""
+
+    def __init__(self, edit, goal=None, why=""):
+        self.edit, self.goal, self.why = edit, goal, why
+
+    def is_refused(self):
+        return self.goal is not None
+
+
+def judge(edit, said):
+    """Returns the verdict on an edit, by what a check with it said."""
+    if not said.reached_contracts():
+        return Verdict(edit, why=f"the check with it gave no verdict: {said.why_not()}")
+    if not edit.functions:
+        goals = said.goals_anywhere()
+        return Verdict(edit, goals[0]) if goals else Verdict(edit, why="no goal of the crate fails")
+    own = []
+    for function in edit.functions:
+        if not said.names_of(function):
+            return Verdict(edit, why=f"the check says nothing of {function.path()}")
+        goals, has_lost = said.goals_of(function)
+        own += goals
+        if has_lost and not any(it.is_sure for it in goals):
+            return Verdict(edit, why="a proof file cites a name that it takes away: change a value, and keep the names")
+    sure = [it for it in own if it.is_sure]
+    named = ", ".join(it.path() for it in edit.functions)
+    return Verdict(edit, sure[0]) if sure else Verdict(edit, why=f"let through: no goal of {named} fails")
