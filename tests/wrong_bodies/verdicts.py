@@ -6,8 +6,9 @@ PLACED = re.compile(r"(?P<note>note: )?(?:\./)?(?P<file>\S+?):(?P<line>\d+):\d+:
 FUNCTION = re.compile(r"fn (\S+): (.*)")
 UNPROVED = re.compile(r"it is not proved that .*?\(`([^`]+)`\)(.*)")
 SEARCHED = re.compile(r"`search` did not prove ((?:`[^`]+`(?:, | and )?)+)")
-# What a proof file cites and an edit took away says nothing of a contract.
+# What a proof file cites and an edit took away says nothing of a contract, and what follows from that neither.
 LOST = re.compile(r"has no field|is not in scope|has no `|was not admitted")
+FOLLOWS = re.compile(r"error: \d+ declarations? that depends? on ")
 FALSE = "allow values at which this goal is false"
 # An edit that isn't read, or that the front end refuses, reaches no contract.
 UNREAD = re.compile(r"error\[[\w-]+\]|^rattle: ", re.MULTILINE)
@@ -84,12 +85,9 @@ class Said:
 
     def goals_in(self, function, name):
         """Returns the goals that fail in a function's lines and proof files, and whether those cite lost names."""
-        path = name.replace("::", "/")
-        above, _, last = path.rpartition("/")
-        above = f"{above}/" if above else ""
-        # A function that calls itself, or one of a recursion, has its proof beside the others'.
+        last, folders = name.rpartition("::")[2], folders_of(name)
+        # The functions of a recursion have one proof of all.
         cycle = f"proofs/{'/'.join([*function.module, ''])}+{function.cycle}/"
-        folders = (f"proofs/{path}/", f"proofs/{above}+{last}/")
         goals, has_lost = {}, False
         for found in self.placed:
             file, said = found["file"], found["said"]
@@ -104,7 +102,7 @@ class Said:
             is_own = file.startswith(folders) or (
                 function.cycle and file.startswith(cycle) and goal and goal[1].startswith(f"{last}-")
             )
-            if not is_own or not said.startswith("error"):
+            if not is_own or not said.startswith("error") or FOLLOWS.match(said):
                 continue
             if LOST.search(said):
                 has_lost = True
@@ -113,19 +111,28 @@ class Said:
         return goals, has_lost
 
     def goals_anywhere(self):
-        """Returns what fails in the crate for more than a lost name, for an edit of no body."""
-        goals = {}
+        """Returns what fails in the crate for more than a lost name, for an edit of no body: goals of functions, and then lemmas."""
+        goals, lemmas = {}, {}
         for name, said in self.functions.items():
             searched = SEARCHED.search(said)
             for goal in re.findall(r"`([^`]+)`", searched[1]) if searched else []:
                 goals[f"{name} {goal}"] = Goal(name, goal, True)
+        failed = [name for name, said in self.functions.items() if said != "proved"]
         for found in self.placed:
-            said = found["said"]
-            goal = re.match(r"error: `([^`]+)`", said)
-            if goal and not LOST.search(said):
-                made = Goal(found["file"], goal[1], True)
-                goals[made.shown()] = made
-        return [goals[it] for it in sorted(goals)]
+            goal = re.match(r"error: `([^`]+)`", found["said"])
+            if not goal or LOST.search(found["said"]):
+                continue
+            function = next((it for it in failed if found["file"].startswith(folders_of(it))), None)
+            made = Goal(function or found["file"], goal[1], True)
+            (goals if function else lemmas)[made.shown()] = made
+        return [goals[it] for it in sorted(goals)] + [lemmas[it] for it in sorted(lemmas)]
+
+
+def folders_of(name):
+    """Returns the folders that a function's proof may stand in: that of one that calls itself begins with a plus."""
+    above, _, last = name.replace("::", "/").rpartition("/")
+    above = f"proofs/{above}/" if above else "proofs/"
+    return f"{above}{last}/", f"{above}+{last}/"
 
 
 class Verdict:
