@@ -30,7 +30,7 @@ class Calls:
 
     def called_in(self, function, body):
         """Returns the functions that a body of this function may call itself."""
-        found = set(self.by_anyone)
+        found = {it for it in self.by_anyone if it.name == "drop" or calls_unseen(body)}
         for place, token in enumerate(body):
             if token in self.by_name:
                 found.update(self.meant(function, body, place))
@@ -65,6 +65,13 @@ class Calls:
                 found.add(function)
                 left += self.direct[function]
         return found
+
+
+def calls_unseen(body):
+    """Returns whether a body may call without a name: it does more than take apart and build values of enums and structs."""
+    text = " ".join(body)
+    text = re.sub(r": :|= >|\b[A-Z]\w* \(", " ", text)
+    return bool(re.search(r"[^\w\s{}(),;:_|]|\w \(|\bfor\b", text))
 
 
 def groups_of(edits, sources):

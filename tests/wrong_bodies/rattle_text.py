@@ -38,7 +38,7 @@ class Function:
 
     def path(self):
         """Its path below the crate, as a check names it; that of a trait's method is only like it."""
-        owner = [f"{self.owner}{self.trait}" if self.trait else self.owner] if self.owner else []
+        owner = [self.owner + "".join(self.trait)] if self.owner else []
         return "::".join([*self.module, *owner, self.name])
 
     def is_law(self):
@@ -120,14 +120,20 @@ def without_parameters(tokens):
 
 
 def impl_names(header):
-    """Returns the type and the trait of an `impl`, from the tokens between `impl` and its brace; the trait is empty where there is none."""
-    header = without_parameters(header)
+    """Returns the type and the trait of an `impl`, from the tokens between `impl` and its brace.
+
+    The trait is a list of names, its own and those of its type arguments, and empty where there is none.
+    """
+    behind = without_parameters(header)
+    parameters = header[: len(header) - len(behind)]
     depth = 0
-    for place, token in enumerate(header):
-        depth += (token == "<") - (token == ">" and header[place - 1] != "-")
+    for place, token in enumerate(behind):
+        depth += (token == "<") - (token == ">" and behind[place - 1] != "-")
         if token == "for" and not depth:
-            return head_name(header[place + 1 :]), head_name(header[:place])
-    return head_name(header), ""
+            trait, start = behind[:place], behind.index("<") if "<" in behind[:place] else place
+            arguments = [str(it) for it in trait[start:] if it[:1].isupper() and it not in parameters]
+            return head_name(behind[place + 1 :]), [head_name(trait), *arguments]
+    return head_name(behind), []
 
 
 class Source:
@@ -139,7 +145,7 @@ class Source:
         parts = file.split("/")[1:]
         parts[-1] = parts[-1].partition(".")[0]
         self.module = [] if parts in (["lib"], ["main"]) else parts
-        self.read_items(0, len(self.tokens), self.module, "", "")
+        self.read_items(0, len(self.tokens), self.module, "", [])
 
     def read_items(self, at, end, module, owner, trait):
         """Reads the items between two places."""
@@ -177,9 +183,9 @@ class Source:
         end, header = closing(self.tokens, brace), self.tokens[at + 1 : brace]
         self.around += self.tokens[at : brace + 1]
         if self.tokens[at] == "mod":
-            self.read_items(brace + 1, end, [*module, str(header[0])], "", "")
+            self.read_items(brace + 1, end, [*module, str(header[0])], "", [])
         elif self.tokens[at] == "trait":
-            self.read_items(brace + 1, end, module, str(header[0]), "")
+            self.read_items(brace + 1, end, module, str(header[0]), [])
         else:
             self.read_items(brace + 1, end, module, *impl_names(header))
         self.around.append(self.tokens[end])

@@ -52,16 +52,16 @@ class Said:
 
     def names_of(self, function):
         """Returns the names under which the check speaks of a function, and of the closures in it."""
-        owner = "::".join(function.module)
-        outer = function.owner
-        if outer and function.trait:
-            pattern = rf"{outer}\w*{function.trait}\w*::{function.name}"
-        else:
-            pattern = f"{outer}::{function.name}" if outer else function.name
-        head = re.escape(f"{owner}::") if owner else ""
-        inner = rf"(?:{outer}::)?fn::{function.name}::.*" if outer else rf"fn::{function.name}::.*"
-        both = re.compile(rf"{head}(?:{pattern}|{inner})")
-        return [name for name in self.functions if both.fullmatch(name)]
+        head = "::".join([*function.module, ""])
+        own = [function.path()] if function.path() in self.functions else []
+        if function.trait and not own:
+            # How a check names a method of a trait with odd arguments can be told only so far.
+            pattern = "".join(f"{it}[^:]*" for it in [head + function.owner, *function.trait])
+            own = [it for it in self.functions if re.fullmatch(f"{pattern}::{function.name}", it)]
+        if len(own) > 1:
+            return []
+        inner = [f"{head}fn::{function.name}::", f"{head}{function.owner}::fn::{function.name}::"]
+        return own + [it for it in self.functions if it.startswith(tuple(inner))]
 
     def goals_of(self, function):
         """Returns the goals of a function that aren't proved, and whether its proof files cite names that are gone."""
