@@ -51,17 +51,26 @@ def try_group(tools, crate, edits, seed=None):
     verdicts = []
     if not why:
         said = tools.try_texts(crate.name, texts, only_names(edits), seed)
-        verdicts = [judge(it, said) for it in edits]
+        verdicts = settled(tools, crate, [judge(it, said) for it in edits], seed)
     if len(edits) == 1:
         return verdicts or [Verdict(edits[0], why=why)]
     held = {it.edit.name: it for it in verdicts if it.is_refused()}
     return [held.get(it.name) or try_group(tools, crate, [it], seed)[0] for it in edits]
 
 
+def settled(tools, crate, verdicts, seed):
+    """Returns the verdicts once goals that fail beside a lost name are looked up among those of the functions as they stand."""
+    doubted = [function for it in verdicts if it.doubted for function in it.edit.functions]
+    if not doubted:
+        return verdicts
+    standing = tools.goals_of(crate.name, doubted, seed)
+    return [it.settled(standing) for it in verdicts]
+
+
 def try_groups(tools, crate, groups, lanes):
     """Tries groups side by side, says what each came to, and returns the verdicts."""
     verdicts = []
-    tools.build_below(crate.name)
+    tools.build_below(crate.name, begins=True)
     only = only_names([edit for group in groups for edit in group])
     with tools.seed(crate.name, only) as seed, ThreadPoolExecutor(lanes) as pool:
         try:

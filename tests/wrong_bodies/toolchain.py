@@ -1,17 +1,21 @@
 """Finds the toolchain beside the command `rt`, and runs its checks on copies of a crate."""
 import contextlib
 import os
+import re
 import shutil
 import subprocess
 import sys
 import tempfile
 
+from .edits import read
 from .failure import Failure
 from .verdicts import Said
 
 # What a crate is checked from, and how the names of the copies begin.
 PARTS = ("src", "specs", "proofs")
 ROOMS = "wrong-bodies-"
+# A goal, where a function's goals are written out.
+GOAL = re.compile(r"^abbrev pub (\S+) : Type", re.MULTILINE)
 
 
 def version():
@@ -49,8 +53,10 @@ class Toolchain:
         self.crates = {it.name: it for it in self.rtlib.crates_below(f"{root}/crates")}
         self.running, self.is_stopped = set(), False
 
-    def build_below(self, name):
-        """Sees to it that the libraries below a crate are built of these sources."""
+    def build_below(self, name, begins=False):
+        """Sees to it that the libraries below a crate are built of these sources, and that it begins with what checks kept elsewhere, where none is here."""
+        if begins and not os.path.isdir(f"{self.crates[name].folder}/out/incremental"):
+            self.call(self.crates[name], "check", "--only", "")
         below = self.crates[name].below()
         if below and all(self.is_left_by_gate(it) for it in below):
             return
@@ -59,12 +65,11 @@ class Toolchain:
                 self.call(crate, "lib")
 
     def is_left_by_gate(self, crate):
-        """Returns whether the library is one that `rt ci` built, without a stamp, after the last change of what it is made from."""
-        made = f"{crate.rlib}/format"
-        if not os.path.isfile(made) or os.path.exists(f"{os.path.dirname(crate.rlib)}/stamp"):
+        """Returns whether the library is one that `rt ci` put here, without a stamp, after the last change of what it is made from."""
+        if not os.path.isdir(crate.rlib) or os.path.exists(f"{os.path.dirname(crate.rlib)}/stamp"):
             return False
         files = [f"{at}/{name}" for part in PARTS for at, _, names in os.walk(f"{crate.folder}/{part}") for name in names]
-        return all(os.path.getmtime(it) < os.path.getmtime(made) for it in files)
+        return all(os.path.getmtime(it) < os.path.getmtime(crate.rlib) for it in files)
 
     @contextlib.contextmanager
     def seed(self, name, only):
@@ -77,10 +82,10 @@ class Toolchain:
                 raise Failure(f"{name} isn't proved as it stands, so no wrong body of it can be tried")
             yield kept
 
-    def call(self, crate, verb):
+    def call(self, crate, *words):
         """Runs a command of `rt` in a crate's folder, and shows what it says where it fails."""
         ran = subprocess.run(
-            ["rt", verb],
+            ["rt", *words],
             cwd=crate.folder,
             stdin=subprocess.DEVNULL,
             stdout=subprocess.PIPE,
@@ -90,7 +95,7 @@ class Toolchain:
         )
         if ran.returncode:
             print(ran.stdout[-3000:], file=sys.stderr)
-            raise Failure(f"rt {verb} failed in crates/{crate.name}, so no wrong body of it can be tried")
+            raise Failure(f"rt {words[0]} failed in crates/{crate.name}, so no wrong body of it can be tried")
 
     @contextlib.contextmanager
     def room(self, crate, texts, kept):
@@ -111,10 +116,26 @@ class Toolchain:
         with self.room(crate, texts, seed or f"{crate.folder}/out/incremental") as (room, kept):
             return self.run(crate, room, kept, only)
 
-    def run(self, crate, room, kept, only):
+    def goals_of(self, name, functions, seed=None):
+        """Returns the goals that functions of a crate have as they stand, each as `FUNCTION GOAL`."""
+        crate = self.crates[name]
+        with self.room(crate, {}, seed or f"{crate.folder}/out/incremental") as (room, kept):
+            started = [word for it in functions for word in ("--start", it.path())]
+            self.run(crate, room, kept, [], [*started, "--generated", f"{room}/goals"])
+            found, top = set(), f"{room}/goals/Rattle-{name}-proofs"
+            for function in functions:
+                place = function.path().replace("::", "/")
+                above, _, last = place.rpartition("/")
+                for folder in (place, f"{above}/+{last}", f"{above}/+{function.cycle}"):
+                    path = f"{top}/{folder}/Goals.antt"
+                    text = read(path, path) if os.path.isfile(path) else ""
+                    found |= {f"{function.path()} {it}" for it in GOAL.findall(text)}
+            return found
+
+    def run(self, crate, room, kept, only, more=()):
         """Checks the crate in a room, once more where the check was killed."""
         words = crate.words(["--jobs", str(self.jobs)], keeps=False)
-        words += ["--incremental", kept, *(word for it in only for word in ("--only", it))]
+        words += ["--incremental", kept, *(word for it in only for word in ("--only", it)), *more]
         how = {"cwd": room, "stdin": subprocess.DEVNULL, "stdout": subprocess.PIPE, "stderr": subprocess.STDOUT}
         for _ in range(2):
             ran = subprocess.Popen([*self.rtlib.guarded(), self.rtlib.RATTLE, "check", *words], **how)

@@ -64,31 +64,31 @@ class Said:
         return own + [it for it in self.functions if it.startswith(tuple(inner))]
 
     def goals_of(self, function):
-        """Returns the goals of a function that aren't proved, and whether its proof files cite names that are gone."""
-        goals, has_lost = {}, False
+        """Returns the goals of a function that aren't proved, and the lines on names that its proof files cite and that are gone."""
+        goals, lost = {}, []
         for name in self.names_of(function):
             said = self.functions[name]
             if said == "proved":
                 continue
-            found, lost = self.goals_in(function, name)
+            found, gone = self.goals_in(function, name)
             searched = SEARCHED.search(said)
             for goal in re.findall(r"`([^`]+)`", searched[1]) if searched else []:
                 found.setdefault(goal, False)
-            has_lost = has_lost or lost
+            lost += gone
             for goal, is_sure in found.items():
                 made = Goal(name, goal, is_sure)
                 goals.setdefault(made.shown(), made)
-        if not has_lost:
+        if not lost:
             for goal in goals.values():
                 goal.is_sure = True
-        return [goals[it] for it in sorted(goals)], has_lost
+        return [goals[it] for it in sorted(goals)], lost
 
     def goals_in(self, function, name):
-        """Returns the goals that fail in a function's lines and proof files, and whether those cite lost names."""
+        """Returns the goals that fail in a function's lines and proof files, and the lines on lost names."""
         last, folders = name.rpartition("::")[2], folders_of(name)
         # The functions of a recursion have one proof of all.
         cycle = f"proofs/{'/'.join([*function.module, ''])}+{function.cycle}/"
-        goals, has_lost = {}, False
+        goals, lost = {}, []
         for found in self.placed:
             file, said = found["file"], found["said"]
             unproved = UNPROVED.match(said)
@@ -105,10 +105,10 @@ class Said:
             if not is_own or not said.startswith("error") or FOLLOWS.match(said):
                 continue
             if LOST.search(said):
-                has_lost = True
+                lost.append(f"{file}:{found['line']}: {said}")
             else:
                 goals[goal[1] if goal else file.rpartition("/")[2]] = True
-        return goals, has_lost
+        return goals, lost
 
     def goals_anywhere(self):
         """Returns what fails in the crate for more than a lost name, for an edit of no body: goals of functions, and then lemmas."""
@@ -138,11 +138,18 @@ def folders_of(name):
 class Verdict:
     """What the try of a wrong body came to."""
 
-    def __init__(self, edit, goal=None, why=""):
+    def __init__(self, edit, goal=None, why="", doubted=()):
         self.edit, self.goal, self.why = edit, goal, why
+        # Goals that fail beside a lost name: they count where the function has them as it stands, too.
+        self.doubted = doubted
 
     def is_refused(self):
         return self.goal is not None
+
+    def settled(self, standing):
+        """Returns the verdict once it is known which goals the functions have as they stand."""
+        held = [it for it in self.doubted if it.shown() in standing]
+        return Verdict(self.edit, held[0]) if held else self
 
 
 def judge(edit, said):
@@ -152,14 +159,18 @@ def judge(edit, said):
     if not edit.functions:
         goals = said.goals_anywhere()
         return Verdict(edit, goals[0]) if goals else Verdict(edit, why="no goal of the crate fails")
-    own = []
+    own, gone = [], []
     for function in edit.functions:
         if not said.names_of(function):
             return Verdict(edit, why=f"the check says nothing of {function.path()}")
-        goals, has_lost = said.goals_of(function)
+        goals, lost = said.goals_of(function)
         own += goals
-        if has_lost and not any(it.is_sure for it in goals):
-            return Verdict(edit, why="a proof file cites a name that it takes away: change a value, and keep the names")
+        gone += lost
     sure = [it for it in own if it.is_sure]
+    if sure:
+        return Verdict(edit, sure[0])
+    if gone:
+        why = "it takes away a name that a proof file cites: change a value, and keep the names"
+        return Verdict(edit, why=f"{why} ({gone[0][:160]})", doubted=own)
     named = ", ".join(it.path() for it in edit.functions)
-    return Verdict(edit, sure[0]) if sure else Verdict(edit, why=f"let through: no goal of {named} fails")
+    return Verdict(edit, why=f"let through: no goal of {named} fails")
