@@ -17,7 +17,7 @@ from .verdicts import Verdict, judge
 HELP = """\
 Tries the wrong bodies wrong/CRATE/NAME.edit, several of a crate in one check: each has to be refused by
 a goal of the function that it changes. Without words it tries those of all crates that aren't as
-they were tried last, and writes wrong/CRATE/tried for each crate whose wrong bodies are all refused."""
+they were tried last, and writes to wrong/CRATE/tried which goal refuses each."""
 
 
 class Crate:
@@ -98,21 +98,21 @@ def try_crate(tools, crate, names, anew, lanes):
     """Tries a crate's edits, those named or those that aren't as they were tried last, and returns how many aren't refused."""
     began = time.monotonic()
     digest, identity = crate.tree.digest(crate.name), toolchain.version()
-    kept = {} if anew or names else tried_before(crate, digest, identity)
-    edits = [it for it in crate.edits if it.name not in kept and (not names or it.name in names)]
+    kept = {} if anew and not names else tried_before(crate, digest, identity)
+    edits = [it for it in crate.edits if it.name in names or not names and it.name not in kept]
     verdicts = []
     if edits:
         groups = crate.groups(edits)
         verdicts = try_groups(tools, crate, groups, lanes)
         seconds = round(time.monotonic() - began)
         print(f"{crate.name}: {len(edits)} wrong bodies in {len(groups)} checks, {seconds} s", flush=True)
-    failed = sum(not it.is_refused() for it in verdicts)
-    if not failed and not names:
-        tried = {it.edit.name: [it.edit.digest, it.goal.function, it.goal.name] for it in verdicts}
-        made = record.Record(crate.name, identity, digest, {**kept, **tried})
-        if crate.tree.digest(crate.name) == digest:
-            made.write(crate.tree.root)
-    return failed
+    tried = {it: words for it, words in kept.items() if it not in [edit.name for edit in edits]}
+    for verdict in verdicts:
+        if verdict.is_refused():
+            tried[verdict.edit.name] = [verdict.edit.digest, verdict.goal.function, verdict.goal.name]
+    if crate.tree.is_still(crate.name, digest):
+        record.Record(crate.name, identity, digest, tried).write(crate.tree.root)
+    return sum(not it.is_refused() for it in verdicts)
 
 
 def tried_before(crate, digest, identity):
@@ -207,7 +207,7 @@ def default_lanes():
 def parsed(words):
     """Returns the command's words, read."""
     parser = argparse.ArgumentParser(prog="wrong-bodies", description=HELP, allow_abbrev=False)
-    parser.add_argument("words", nargs="*", metavar="CRATE", help="a crate, or CRATE/NAME for one wrong body, of which nothing is written")
+    parser.add_argument("words", nargs="*", metavar="CRATE", help="a crate, or CRATE/NAME for one wrong body, which is tried in any case")
     parser.add_argument("--anew", action="store_true", help="try all, also what is as it was tried last")
     parser.add_argument("--jobs", type=int, metavar="N", help="how many checks run side by side")
     modes = parser.add_mutually_exclusive_group()

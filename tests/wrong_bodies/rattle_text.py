@@ -33,6 +33,8 @@ class Function:
     def __init__(self, file, module, owner, trait, name, cycle):
         self.file, self.module, self.owner, self.trait = file, module, owner, trait
         self.name, self.cycle = name, cycle
+        # Whether its recursion has other functions; their goals then begin with their names.
+        self.shares_cycle = False
         self.first_line = self.last_line = 0
         self.body = []
 
@@ -146,6 +148,9 @@ class Source:
         parts[-1] = parts[-1].partition(".")[0]
         self.module = [] if parts in (["lib"], ["main"]) else parts
         self.read_items(0, len(self.tokens), self.module, "", [])
+        cycles = [it.cycle for it in self.functions]
+        for function in self.functions:
+            function.shares_cycle = bool(function.cycle) and cycles.count(function.cycle) > 1
 
     def read_items(self, at, end, module, owner, trait):
         """Reads the items between two places."""

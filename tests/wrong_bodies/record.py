@@ -67,6 +67,11 @@ class Tree:
         return hashlib.sha256("\n".join([handles, *parts]).encode()).hexdigest()
 
 
+    def is_still(self, crate, digest):
+        """Returns whether the sources are those of this digest, also after a try that took its time."""
+        return Tree(self.root).digest(crate) == digest
+
+
 def digest_of(path):
     """Returns the digest of a file."""
     try:

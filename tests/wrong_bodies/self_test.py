@@ -88,8 +88,9 @@ def harmless_edit(test):
     test.expect("its harmless caller is let through", refused[CALLER], False)
     test.expect("another wrong body beside them is refused", refused[OTHER], True)
     test.expect_status("a harmless edit is a failure", [CRATE], 1, f"{CALLER}: NOT REFUSED: let through")
-    test.expect("and nothing is written", os.path.exists(f"{test.wrong}/{RECORD}"), False)
+    test.expect_status("and so is what was tried then", ["--stale"], 1, f"added, changed or taken away since: {CALLER}")
     test.take(CALLER)
+    os.remove(f"{test.wrong}/{RECORD}")
 
 
 def records(test):

@@ -73,7 +73,8 @@ class Said:
             found, gone = self.goals_in(function, name)
             searched = SEARCHED.search(said)
             for goal in re.findall(r"`([^`]+)`", searched[1]) if searched else []:
-                found.setdefault(goal, False)
+                if is_of(function, name, goal):
+                    found.setdefault(goal, False)
             lost += gone
             for goal, is_sure in found.items():
                 made = Goal(name, goal, is_sure)
@@ -85,9 +86,10 @@ class Said:
 
     def goals_in(self, function, name):
         """Returns the goals that fail in a function's lines and proof files, and the lines on lost names."""
-        last, folders = name.rpartition("::")[2], folders_of(name)
+        folders = folders_of(name)
         # The functions of a recursion have one proof of all.
-        cycle = f"proofs/{'/'.join([*function.module, ''])}+{function.cycle}/"
+        above = folders[0].removesuffix(f"{name.rpartition('::')[2]}/")
+        cycle = f"{above}+{function.cycle}/"
         goals, lost = {}, []
         for found in self.placed:
             file, said = found["file"], found["said"]
@@ -100,7 +102,7 @@ class Said:
                 continue
             goal = re.match(r"error: `([^`]+)`", said)
             is_own = file.startswith(folders) or (
-                function.cycle and file.startswith(cycle) and goal and goal[1].startswith(f"{last}-")
+                function.cycle and file.startswith(cycle) and goal and is_of(function, name, goal[1])
             )
             if not is_own or not said.startswith("error") or FOLLOWS.match(said):
                 continue
@@ -126,6 +128,11 @@ class Said:
             made = Goal(function or found["file"], goal[1], True)
             (goals if function else lemmas)[made.shown()] = made
         return [goals[it] for it in sorted(goals)] + [lemmas[it] for it in sorted(lemmas)]
+
+
+def is_of(function, name, goal):
+    """Returns whether a goal is one of this function, and not of another of its recursion."""
+    return not function.shares_cycle or goal.startswith(f"{name.rpartition('::')[2]}-")
 
 
 def folders_of(name):
