@@ -1,5 +1,6 @@
 """The command wrong-bodies: tries wrong bodies in groups, and compares what was tried with the tree."""
 import argparse
+import contextlib
 import hashlib
 import os
 import re
@@ -198,10 +199,13 @@ def tell_groups(root):
 
 
 def default_lanes():
-    """Returns how many checks to run side by side: one for each processor with 4 GB of memory."""
+    """Returns how many checks to run side by side: one for each processor with 4 GB of free memory."""
     with open("/proc/meminfo", encoding="ascii") as file:
-        free = int(re.search(r"MemAvailable:\s+(\d+)", file.read())[1]) // 1_000_000
-    return max(1, min(len(os.sched_getaffinity(0)), free // 4))
+        free = [int(re.search(r"MemAvailable:\s+(\d+)", file.read())[1]) * 1024]
+    for limit in ("/sys/fs/cgroup/memory.max", "/sys/fs/cgroup/memory/memory.limit_in_bytes"):
+        with contextlib.suppress(OSError, ValueError), open(limit, encoding="ascii") as file:
+            free.append(int(file.read()))
+    return max(1, min(len(os.sched_getaffinity(0)), min(free) // 4_000_000_000))
 
 
 def parsed(words):

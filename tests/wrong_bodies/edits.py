@@ -8,6 +8,8 @@ from .rattle_text import Source
 
 NAME = re.compile(r"[A-Za-z0-9_-][A-Za-z0-9_.-]*\.edit")
 RECORD = "tried"
+# How a record that is being written is named.
+ASIDE = ".tried-"
 READ = ("file: ", "old: ", "new:")
 PASSED_OVER = ("#", "--", "//")
 
@@ -94,7 +96,7 @@ def names_in(root, crate):
     for name in sorted(os.listdir(folder) if os.path.isdir(folder) else []):
         if NAME.fullmatch(name):
             found.append(name.removesuffix(".edit"))
-        elif name != RECORD and not name.endswith(".md"):
+        elif name != RECORD and not name.startswith(ASIDE) and not name.endswith(".md"):
             raise Failure(f"wrong/{crate}/{name}: a wrong body is a file NAME.edit")
     return found
 

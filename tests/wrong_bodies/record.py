@@ -4,7 +4,7 @@ import hashlib
 import os
 import tempfile
 
-from .edits import RECORD, names_in, read
+from .edits import ASIDE, RECORD, names_in, read
 from .failure import Failure
 
 HEAD = """\
@@ -34,7 +34,7 @@ class Tree:
         for name in found:
             if name not in self.lines or not os.path.isdir(f"{self.root}/crates/{name}"):
                 raise Failure(f"wrong/{name}: crates.txt and crates/ have no crate {name}")
-        return [it for it in self.lines if it in found]
+        return [it for it in self.lines if it in found and has_any(self.root, it)]
 
     def below(self, crate):
         """Returns the repository's crates that a crate uses, directly or not, sorted."""
@@ -81,6 +81,11 @@ def digest_of(path):
         raise Failure(f"{path} can't be read: {error.strerror}") from None
 
 
+def has_any(root, crate):
+    """Returns whether there are wrong bodies of a crate, or a record of some."""
+    return bool(names_in(root, crate)) or os.path.isfile(f"{root}/wrong/{crate}/{RECORD}")
+
+
 class Record:
     """What wrong/CRATE/tried says."""
 
@@ -101,7 +106,7 @@ class Record:
         folder = f"{root}/wrong/{self.crate}"
         made = None
         try:
-            with tempfile.NamedTemporaryFile("w", dir=folder, prefix=".tried-", delete=False, encoding="utf-8") as out:
+            with tempfile.NamedTemporaryFile("w", dir=folder, prefix=ASIDE, delete=False, encoding="utf-8") as out:
                 made = out.name
                 out.write(self.text())
             os.chmod(made, 0o644)

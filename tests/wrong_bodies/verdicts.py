@@ -97,6 +97,8 @@ class Said:
             if file == function.file and function.first_line <= int(found["line"]) <= function.last_line:
                 if unproved:
                     goals[unproved[1]] = goals.get(unproved[1], False) or FALSE in unproved[2]
+                elif said.startswith("error") and LOST.search(said):
+                    lost.append(f"{file}:{found['line']}: {said}")
                 elif said.startswith("error"):
                     goals[said.removeprefix("error: ")[:80]] = True
                 continue
