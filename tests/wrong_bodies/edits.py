@@ -1,4 +1,4 @@
-"""Reads wrong bodies, the files wrong/CRATE/NAME.edit, and says which functions each of them changes."""
+"""Reads wrong bodies, the files wrong/CRATE/NAME.edit, and says which functions they change."""
 import hashlib
 import os
 import re
@@ -7,10 +7,10 @@ from .failure import Failure
 from .rattle_text import Source
 
 NAME = re.compile(r"[A-Za-z0-9_-][A-Za-z0-9_.-]*\.edit")
+PARTS = ("src", "specs", "proofs")
 RECORD = "tried"
 # How a record that is being written is named.
 ASIDE = ".tried-"
-READ = ("file: ", "old: ", "new:")
 PASSED_OVER = ("#", "--", "//")
 
 
@@ -25,9 +25,10 @@ class Edit:
         self.pairs = list(self.read_pairs(text))
         if not self.pairs:
             raise Failure(f"{self.path}: it has no 'old:' and 'new:' pair")
-        # What it changes: functions by their paths, or None where it is no body alone.
-        self.functions = None
-        self.mentions = {}
+        # The functions whose bodies it changes; none where it changes anything else.
+        self.functions = []
+        # Their bodies before and with the edit, one behind the other.
+        self.bodies = {}
 
     def read_pairs(self, text):
         """Gives each pair of texts, with its file."""
@@ -35,8 +36,8 @@ class Edit:
         for line in text.split("\n"):
             if line.startswith("file: "):
                 file = line[len("file: ") :].strip()
-                if os.path.normpath(file) != file or not file.startswith(("src/", "specs/", "proofs/")):
-                    raise Failure(f"{self.path}: its 'file:' is none below src/, specs/ or proofs/")
+                if os.path.normpath(file) != file or file.split("/")[0] not in PARTS:
+                    raise Failure(f"{self.path}: its 'file:' is none below {', '.join(PARTS)}")
             elif line.startswith("old: "):
                 old = line[len("old: ") :]
             elif line.startswith("new:"):
@@ -45,7 +46,7 @@ class Edit:
                 yield file, old, line[len("new:") :].removeprefix(" ")
                 old = None
             elif line.strip() and not line.startswith(PASSED_OVER):
-                raise Failure(f"{self.path}: a line begins with none of 'file: ', 'old: ', 'new:'")
+                raise Failure(f"{self.path}: a line begins with none of file:, old: and new:")
 
     def apply(self, texts):
         """Changes the texts, by their paths in the crate, and says why where it can't."""
@@ -66,19 +67,16 @@ class Edit:
             raise Failure(f"{self.path}: {why}")
         if mine == was:
             raise Failure(f"{self.path}: it changes nothing")
-        changed, bodies = {}, True
+        bodies = {}
         for file, text in mine.items():
-            if not file.startswith("src/"):
-                bodies = False
-                continue
-            before, after = sources[file], Source(file, text)
-            bodies = bodies and before.around == after.around
-            for one, other in zip(before.functions, after.functions):
+            after = Source(file, text) if file.startswith("src/") else None
+            if not after or after.around != sources[file].around:
+                return
+            for one, other in zip(sources[file].functions, after.functions):
                 if one.body != other.body:
-                    bodies = bodies and not one.is_law()
-                    changed[one] = [*one.body, *other.body]
-        if bodies and changed:
-            self.functions, self.mentions = list(changed), changed
+                    bodies[one] = [*one.body, *other.body]
+        if not any(it.is_law() for it in bodies):
+            self.functions, self.bodies = list(bodies), bodies
 
 
 def read(path, shown):
@@ -87,7 +85,8 @@ def read(path, shown):
         with open(path, encoding="utf-8") as file:
             return file.read()
     except (OSError, ValueError) as error:
-        raise Failure(f"{shown} can't be read: {getattr(error, 'strerror', None) or error}") from None
+        why = getattr(error, "strerror", None) or error
+        raise Failure(f"{shown} can't be read: {why}") from None
 
 
 def names_in(root, crate):
@@ -109,7 +108,7 @@ def edits_of(root, crate):
 def texts_of(root, crate):
     """Returns the texts that a wrong body of a crate may change, by their paths in it."""
     folder, found = f"{root}/crates/{crate}", {}
-    for part in ("src", "specs", "proofs"):
+    for part in PARTS:
         for at, _, names in os.walk(f"{folder}/{part}"):
             for name in names:
                 path = os.path.relpath(f"{at}/{name}", folder)

@@ -1,14 +1,20 @@
-"""Puts a crate's wrong bodies into groups that share a check: in none does one edited function call another, directly or not."""
+"""Puts a crate's wrong bodies into groups that share a check.
+
+In none does one edited function call another, directly or not, and no function is edited twice.
+"""
 import re
 from collections import defaultdict
 
 # The most that share a check.
 MOST = 10
 NAME = re.compile(r"[^\W\d]\w*")
+# What a body may be made of that only takes apart and builds values of enums and structs.
+BUILDS = re.compile(r": :|= >|\b[A-Z]\w* \(")
+CALLS = re.compile(r"[^\w\s{}(),;:_|]|\w \(|\bfor\b")
 
 
 class Calls:
-    """Which functions of a crate may call which, by the names in their bodies: rather too many than too few."""
+    """Which functions of a crate may call which, by the names in bodies: rather too many."""
 
     def __init__(self, sources):
         self.functions = [it for file in sorted(sources) for it in sources[file].functions]
@@ -17,7 +23,7 @@ class Calls:
             self.by_name[function.name].append(function)
             if function.owner and not function.trait:
                 self.by_owner[function.owner].append(function)
-        # Calls of a trait's methods are often written without their names: `?`, `==`, a drop, or a generic call below.
+        # Calls of a trait's methods are often not written: `?`, `==`, a drop, a generic call below.
         self.by_anyone = [it for it in self.functions if it.trait]
         self.renamed = {
             name
@@ -30,7 +36,8 @@ class Calls:
 
     def called_in(self, function, body):
         """Returns the functions that a body of this function may call itself."""
-        found = {it for it in self.by_anyone if it.name == "drop" or calls_unseen(body)}
+        is_plain = not calls_unseen(body)
+        found = {it for it in self.by_anyone if it.name == "drop" or not is_plain}
         for place, token in enumerate(body):
             if token in self.by_name:
                 found.update(self.meant(function, body, place))
@@ -45,19 +52,23 @@ class Calls:
             return [it for it in every if it.owner] if is_call else []
         if before[-2:] == [":", ":"] and len(before) == 3:
             owner = function.owner if before[0] == "Self" else before[0]
-            if owner in self.by_owner and owner not in self.renamed:
-                return [it for it in every if it.owner == owner]
-            if NAME.fullmatch(owner) and owner[0].isupper() and owner not in self.renamed:
-                return [it for it in every if it.trait]
-            return every
+            return self.meant_of(owner, every)
         if after[:1] == [":"] and after != [":", ":"]:
             return []
         return [it for it in every if not it.owner]
 
+    def meant_of(self, owner, every):
+        """Returns which of these functions a path may mean, by what stands before the name."""
+        if owner in self.renamed or not NAME.fullmatch(owner):
+            return every
+        if owner in self.by_owner:
+            return [it for it in every if it.owner == owner]
+        return [it for it in every if it.trait] if owner[0].isupper() else every
+
     def reached(self, edit):
-        """Returns all that an edit's functions may call, directly or not, before the edit and with it."""
+        """Returns all that an edit's functions may call, directly or not, with it and without."""
         found, left = set(), []
-        for function, body in edit.mentions.items():
+        for function, body in edit.bodies.items():
             left += self.called_in(function, body)
         while left:
             function = left.pop()
@@ -68,39 +79,38 @@ class Calls:
 
 
 def calls_unseen(body):
-    """Returns whether a body may call without a name: it does more than take apart and build values of enums and structs."""
-    text = " ".join(body)
-    text = re.sub(r": :|= >|\b[A-Z]\w* \(", " ", text)
-    return bool(re.search(r"[^\w\s{}(),;:_|]|\w \(|\bfor\b", text))
+    """Returns whether a body may call what it doesn't name, as `?` calls a conversion."""
+    return bool(CALLS.search(BUILDS.sub(" ", " ".join(body))))
 
 
 def groups_of(edits, sources):
-    """Returns the groups of a crate's edits, each sorted by name, the groups by their first names."""
+    """Returns the groups of a crate's edits, each sorted by name, the groups by their first."""
     calls = Calls(sources)
     reached = {it: calls.reached(it) for it in edits if it.functions}
     apart = {it: {other for other in reached if are_apart(it, other, reached)} for it in reached}
-    made = [[it] for it in edits if not it.functions]
-    shared = []
+    alone, shared = [[it] for it in edits if not it.functions], []
     for edit in sorted(reached, key=lambda it: (-len(apart[it]), it.name)):
-        place = next((it for it in shared if len(it) < MOST and not apart[edit] & {*it}), None)
+        fits = (it for it in shared if len(it) < MOST and not apart[edit] & {*it})
+        place = next(fits, None)
         if place is None:
             place = []
             shared.append(place)
         place.append(edit)
-    return sorted((sorted(it, key=lambda edit: edit.name) for it in [*made, *shared]), key=lambda it: it[0].name)
+    made = [sorted(it, key=lambda edit: edit.name) for it in [*alone, *shared]]
+    return sorted(made, key=lambda it: it[0].name)
 
 
 def are_apart(one, other, reached):
     """Returns whether two edits need checks of their own."""
     if one is other:
         return False
-    return bool({*one.functions} & ({*other.functions} | reached[other]) or {*other.functions} & reached[one])
+    mine, others = {*one.functions}, {*other.functions}
+    return bool(mine & (others | reached[other]) or others & reached[one])
 
 
 def texts_with(edits, texts):
-    """Returns the texts that a group of edits changes, and why they can't stand beside each other, if so."""
-    files = {file for edit in edits for file, _, _ in edit.pairs}
-    made = {file: texts[file] for file in files}
+    """Returns the texts that edits change together, or why they can't stand beside each other."""
+    made = {file: texts[file] for edit in edits for file, _, _ in edit.pairs}
     for edit in edits:
         why = edit.apply(made)
         if why:

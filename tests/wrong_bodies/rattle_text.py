@@ -1,4 +1,4 @@
-"""Reads the text of a Rattle source: its tokens, its functions, and what stands around their bodies."""
+"""Reads the text of a Rattle source: its tokens, its functions, and what stands around bodies."""
 import re
 
 TOKEN = re.compile(
@@ -39,7 +39,7 @@ class Function:
         self.body = []
 
     def path(self):
-        """Its path below the crate, as a check names it; that of a trait's method is only like it."""
+        """Its path below the crate, as a check names it."""
         owner = [self.owner + "".join(self.trait)] if self.owner else []
         return "::".join([*self.module, *owner, self.name])
 
@@ -82,7 +82,10 @@ def closing(tokens, at):
 
 
 def body_of(tokens, at):
-    """Returns the place of the brace that opens the body of the function whose `fn` stands here, or None and where it ends."""
+    """Returns where the body of the function whose `fn` stands here opens, and where it ends.
+
+    Where there is none the first is None.
+    """
     place = at + 1
     while place < len(tokens):
         token = tokens[place]
@@ -101,7 +104,7 @@ def body_of(tokens, at):
 
 
 def head_name(tokens):
-    """Returns the last name of a path, before its type arguments: `Display` of `fmt::Display<'a>`."""
+    """Returns the last name of a path, before its type arguments: `Display` of `fmt::Display`."""
     name = ""
     for token in tokens:
         if token in ("<", "where"):
@@ -124,7 +127,7 @@ def without_parameters(tokens):
 def impl_names(header):
     """Returns the type and the trait of an `impl`, from the tokens between `impl` and its brace.
 
-    The trait is a list of names, its own and those of its type arguments, and empty where there is none.
+    The trait is a list of names, its own and those of its type arguments; it may be empty.
     """
     behind = without_parameters(header)
     parameters = header[: len(header) - len(behind)]
@@ -132,9 +135,10 @@ def impl_names(header):
     for place, token in enumerate(behind):
         depth += (token == "<") - (token == ">" and behind[place - 1] != "-")
         if token == "for" and not depth:
-            trait, start = behind[:place], behind.index("<") if "<" in behind[:place] else place
-            arguments = [str(it) for it in trait[start:] if it[:1].isupper() and it not in parameters]
-            return head_name(behind[place + 1 :]), [head_name(trait), *arguments]
+            trait = behind[:place]
+            given = trait[trait.index("<") :] if "<" in trait else []
+            given = [str(it) for it in given if it[:1].isupper() and it not in parameters]
+            return head_name(behind[place + 1 :]), [head_name(trait), *given]
     return head_name(behind), []
 
 
@@ -163,8 +167,7 @@ class Source:
                 found = re.match(r"#\[cycle\((\w+)\)", "".join(self.tokens[at:last]))
                 cycle = found[1] if found else cycle
             elif token == "fn":
-                self.read_function(at, module, owner, trait, cycle)
-                at, cycle = self.after, ""
+                at, cycle = self.read_function(at, module, owner, trait, cycle), ""
                 continue
             elif token in ("impl", "trait", "mod") and self.opens_items(at):
                 at = self.read_inner(at, module)
@@ -197,13 +200,14 @@ class Source:
         return end + 1
 
     def read_function(self, at, module, owner, trait, cycle):
-        """Reads the function whose `fn` stands here."""
+        """Reads the function whose `fn` stands here, and returns the place behind it."""
         brace, end = body_of(self.tokens, at)
-        self.after = end + 1
-        self.around += self.tokens[at : end + 1] if brace is None else [*self.tokens[at:brace], BODY]
         if brace is None:
-            return
+            self.around += self.tokens[at : end + 1]
+            return end + 1
+        self.around += [*self.tokens[at:brace], BODY]
         made = Function(self.file, module, owner, trait, str(self.tokens[at + 1]), cycle)
         made.first_line, made.last_line = self.tokens[at].line, self.tokens[end].line
         made.body = self.tokens[brace + 1 : end]
         self.functions.append(made)
+        return end + 1

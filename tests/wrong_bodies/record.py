@@ -1,4 +1,4 @@
-"""The records wrong/CRATE/tried: of which sources, definitions and edits they are, and which goal refused each edit."""
+"""The records wrong/CRATE/tried: of which tree they are, and which goal refuses each wrong body."""
 import contextlib
 import hashlib
 import os
@@ -17,24 +17,22 @@ class Tree:
     """The crates of a repository and which use which, by crates.txt."""
 
     def __init__(self, root):
-        self.root = root
-        self.lines = {}
+        self.root, self.lines, self.digests = root, {}, {}
         for line in read(f"{root}/crates.txt", "crates.txt").split("\n"):
             line = line.partition("#")[0].strip()
             if line:
                 self.lines[line.partition(":")[0].split()[0]] = line
-        self.digests = {}
 
     def crates_with_edits(self):
-        """Returns the crates that have wrong bodies, in the order of crates.txt."""
+        """Returns the crates that have wrong bodies or a record, in the order of crates.txt."""
         try:
-            found = sorted(it for it in os.listdir(f"{self.root}/wrong") if os.path.isdir(f"{self.root}/wrong/{it}"))
+            folders = sorted(it.name for it in os.scandir(f"{self.root}/wrong") if it.is_dir())
         except OSError as error:
             raise Failure(f"wrong/ can't be read: {error.strerror}") from None
-        for name in found:
+        for name in folders:
             if name not in self.lines or not os.path.isdir(f"{self.root}/crates/{name}"):
                 raise Failure(f"wrong/{name}: crates.txt and crates/ have no crate {name}")
-        return [it for it in self.lines if it in found and has_any(self.root, it)]
+        return [it for it in self.lines if it in folders and has_any(self.root, it)]
 
     def below(self, crate):
         """Returns the repository's crates that a crate uses, directly or not, sorted."""
@@ -47,28 +45,27 @@ class Tree:
         return sorted(found)
 
     def own_digest(self, crate):
-        """Returns the digest of a crate's sources and definitions, and of its line in crates.txt."""
+        """Returns the digest of a crate's sources and definitions and of its line in crates.txt."""
         if crate not in self.digests:
-            sum, folder = hashlib.sha256(self.lines[crate].encode()), f"{self.root}/crates/{crate}"
+            made = hashlib.sha256(self.lines[crate].encode())
+            folder = f"{self.root}/crates/{crate}"
             for part in ("src", "specs"):
                 for at, folders, names in os.walk(f"{folder}/{part}"):
                     folders.sort()
                     for name in sorted(names):
                         path = os.path.relpath(f"{at}/{name}", folder)
-                        sum.update(f"\n{path} ".encode())
-                        sum.update(digest_of(f"{at}/{name}").encode())
-            self.digests[crate] = sum.hexdigest()
+                        made.update(f"\n{path} {digest_of(f'{at}/{name}')}".encode())
+            self.digests[crate] = made.hexdigest()
         return self.digests[crate]
 
     def digest(self, crate):
         """Returns the digest of all that decides what a wrong body of the crate means."""
-        handles = read(f"{self.root}/HANDLES", "HANDLES")
-        parts = [self.own_digest(it) for it in [*self.below(crate), crate]]
-        return hashlib.sha256("\n".join([handles, *parts]).encode()).hexdigest()
-
+        parts = [read(f"{self.root}/HANDLES", "HANDLES")]
+        parts += [self.own_digest(it) for it in [*self.below(crate), crate]]
+        return hashlib.sha256("\n".join(parts).encode()).hexdigest()
 
     def is_still(self, crate, digest):
-        """Returns whether the sources are those of this digest, also after a try that took its time."""
+        """Returns whether the sources are those of this digest, also after a while."""
         return Tree(self.root).digest(crate) == digest
 
 
@@ -91,7 +88,7 @@ class Record:
 
     def __init__(self, crate, toolchain, sources, tried):
         self.crate, self.toolchain, self.sources = crate, toolchain, sources
-        # The digest of each edit, and the function and the goal that refused it, by the edit's name.
+        # By each edit's name its digest, and the function and the goal that refused it.
         self.tried = tried
 
     def text(self):
@@ -103,20 +100,20 @@ class Record:
 
     def write(self, root):
         """Writes the file aside and then puts it in its place."""
-        folder = f"{root}/wrong/{self.crate}"
-        made = None
+        folder, made = f"{root}/wrong/{self.crate}", None
+        how = {"mode": "w", "encoding": "utf-8", "delete": False}
         try:
-            with tempfile.NamedTemporaryFile("w", dir=folder, prefix=ASIDE, delete=False, encoding="utf-8") as out:
+            with tempfile.NamedTemporaryFile(dir=folder, prefix=ASIDE, **how) as out:
                 made = out.name
                 out.write(self.text())
             os.chmod(made, 0o644)
             os.replace(made, f"{folder}/{RECORD}")
         except OSError as error:
-            raise Failure(f"wrong/{self.crate}/{RECORD} can't be written: {error.strerror}") from None
+            why = f"wrong/{self.crate}/{RECORD} can't be written: {error.strerror}"
+            raise Failure(why) from None
         finally:
-            if made:
-                with contextlib.suppress(OSError):
-                    os.remove(made)
+            with contextlib.suppress(OSError):
+                os.remove(made or "")
 
 
 def record_of(root, crate):
@@ -125,21 +122,25 @@ def record_of(root, crate):
     if not os.path.isfile(f"{root}/{path}"):
         return None, "they were never tried"
     text = read(f"{root}/{path}", path)
-    said = dict(line.partition(": ")[::2] for line in text.split("\n") if line and not line.startswith("#"))
+    lines = [line for line in text.split("\n") if line and not line.startswith("#")]
+    said = dict(line.partition(": ")[::2] for line in lines)
+    said.pop("sum", None)
     try:
         toolchain, sources = said.pop("toolchain"), said.pop("sources")
-        said.pop("sum")
-        tried = {name: words.split(" ", 2) for name, words in said.items()}
-        made = Record(crate, toolchain, sources, tried)
     except KeyError:
         return None, f"{path} isn't whole"
-    if made.text() != text:
+    tried = {name: words.split(" ", 2) for name, words in said.items()}
+    made = Record(crate, toolchain, sources, tried)
+    if made.text() != text or any(len(it) != 3 for it in tried.values()):
         return None, f"{path} isn't as it was written"
     return made, None
 
 
 def why_stale(tree, crate, edits, toolchain):
-    """Returns why a crate's wrong bodies are to be tried anew, or None. Without a toolchain its identity isn't compared."""
+    """Returns why a crate's wrong bodies are to be tried anew, or None.
+
+    Without a toolchain its identity isn't compared.
+    """
     record, why = record_of(tree.root, crate)
     if not record:
         return why
@@ -149,5 +150,6 @@ def why_stale(tree, crate, edits, toolchain):
         return f"they were tried by another toolchain, {record.toolchain}"
     digests = {it.name: it.digest for it in edits}
     tried = {name: words[0] for name, words in record.tried.items()}
-    differ = sorted(name for name in {*digests, *tried} if digests.get(name) != tried.get(name))
-    return f"these were added, changed or taken away since: {' '.join(differ)}" if differ else None
+    every = sorted({*digests, *tried})
+    differ = [name for name in every if digests.get(name) != tried.get(name)]
+    return f"added, changed or taken away, or not refused: {' '.join(differ)}" if differ else None

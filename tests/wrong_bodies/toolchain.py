@@ -7,15 +7,15 @@ import subprocess
 import sys
 import tempfile
 
-from .edits import read
+from .edits import PARTS, read
 from .failure import Failure
 from .verdicts import Said
 
-# What a crate is checked from, and how the names of the copies begin.
-PARTS = ("src", "specs", "proofs")
+# How the names of the copies begin.
 ROOMS = "wrong-bodies-"
 # A goal, where a function's goals are written out.
 GOAL = re.compile(r"^abbrev pub (\S+) : Type", re.MULTILINE)
+SILENT = {"stdin": subprocess.DEVNULL, "stdout": subprocess.PIPE, "stderr": subprocess.STDOUT}
 
 
 def version():
@@ -37,9 +37,10 @@ def library():
     try:
         import rtlib
     except ImportError:
-        raise Failure("beside rt there is no rtlib.py, which this script asks how to check a crate") from None
+        raise Failure("beside rt there is no rtlib.py, which says how to check a crate") from None
     finally:
         sys.path.pop(0)
+    # What it starts ends with this process, however that ends.
     rtlib.guarded()
     return rtlib
 
@@ -53,75 +54,52 @@ class Toolchain:
         self.crates = {it.name: it for it in self.rtlib.crates_below(f"{root}/crates")}
         self.running, self.is_stopped = set(), False
 
-    def build_below(self, name, begins=False):
-        """Sees to it that the libraries below a crate are built of these sources, and that it begins with what checks kept elsewhere, where none is here."""
-        if begins and not os.path.isdir(f"{self.crates[name].folder}/out/incremental"):
-            self.call(self.crates[name], "check", "--only", "")
+    def begin(self, name):
+        """Has a crate begin with what checks kept in other copies of it, where none is here."""
+        crate = self.crates[name]
+        if not os.path.isdir(f"{crate.folder}/out/incremental"):
+            self.call(crate, "check", "--only", "")
+
+    def build_below(self, name):
+        """Sees to it that the libraries below a crate are built of these sources."""
         below = self.crates[name].below()
-        if below and all(self.is_left_by_gate(it) for it in below):
+        if all(is_left_by_gate(it) for it in below):
             return
         for crate in below:
             if not crate.is_built():
                 self.call(crate, "lib")
 
-    def is_left_by_gate(self, crate):
-        """Returns whether the library is one that `rt ci` put here, without a stamp, after the last change of what it is made from."""
-        if not os.path.isdir(crate.rlib) or os.path.exists(f"{os.path.dirname(crate.rlib)}/stamp"):
-            return False
-        files = [f"{at}/{name}" for part in PARTS for at, _, names in os.walk(f"{crate.folder}/{part}") for name in names]
-        return all(os.path.getmtime(it) < os.path.getmtime(crate.rlib) for it in files)
+    def call(self, crate, *words):
+        """Runs a command of `rt` in a crate's folder, and shows what it says where it fails."""
+        ran = subprocess.run(["rt", *words], cwd=crate.folder, **SILENT)
+        if ran.returncode:
+            print(ran.stdout.decode(errors="replace")[-3000:], file=sys.stderr)
+            why = f"rt {words[0]} failed in crates/{crate.name}"
+            raise Failure(f"{why}, so no wrong body above it can be tried")
 
     @contextlib.contextmanager
     def seed(self, name, only):
-        """Gives a folder with what a check of the crate as it stands keeps, begun with what earlier checks kept."""
-        crate = self.crates[name]
-        with self.room(crate, {}, f"{crate.folder}/out/incremental") as (room, kept):
-            said = self.run(crate, room, kept, only)
+        """Gives a folder with what a check of the crate as it stands keeps.
+
+        It begins with what earlier checks kept, and the crate has to be proved.
+        """
+        with self.room(name, {}, None) as (room, kept):
+            said = self.run(name, room, kept, only_words(only))
             if said.status:
                 print(said.output[-3000:], file=sys.stderr)
-                raise Failure(f"{name} isn't proved as it stands, so no wrong body of it can be tried")
+                raise Failure(f"{name} isn't proved as it stands: its wrong bodies can't be tried")
             yield kept
 
-    def call(self, crate, *words):
-        """Runs a command of `rt` in a crate's folder, and shows what it says where it fails."""
-        ran = subprocess.run(
-            ["rt", *words],
-            cwd=crate.folder,
-            stdin=subprocess.DEVNULL,
-            stdout=subprocess.PIPE,
-            stderr=subprocess.STDOUT,
-            text=True,
-            errors="replace",
-        )
-        if ran.returncode:
-            print(ran.stdout[-3000:], file=sys.stderr)
-            raise Failure(f"rt {words[0]} failed in crates/{crate.name}, so no wrong body of it can be tried")
-
-    @contextlib.contextmanager
-    def room(self, crate, texts, kept):
-        """Gives a copy of a crate with these texts in place of its own, and a copy of what checks kept."""
-        with tempfile.TemporaryDirectory(prefix=f"{ROOMS}{os.getpid()}-") as room:
-            for part in PARTS:
-                if os.path.isdir(f"{crate.folder}/{part}"):
-                    shutil.copytree(f"{crate.folder}/{part}", f"{room}/{part}")
-            for file, text in texts.items():
-                with open(f"{room}/{file}", "w", encoding="utf-8") as out:
-                    out.write(text)
-            link_kept(kept, f"{room}/kept")
-            yield room, f"{room}/kept"
-
-    def try_texts(self, name, texts, only, seed=None):
+    def try_texts(self, name, texts, only, seed):
         """Returns what a check of a copy of a crate says, with these texts in place of its own."""
-        crate = self.crates[name]
-        with self.room(crate, texts, seed or f"{crate.folder}/out/incremental") as (room, kept):
-            return self.run(crate, room, kept, only)
+        with self.room(name, texts, seed) as (room, kept):
+            return self.run(name, room, kept, only_words(only))
 
-    def goals_of(self, name, functions, seed=None):
-        """Returns the goals that functions of a crate have as they stand, each as `FUNCTION GOAL`."""
-        crate = self.crates[name]
-        with self.room(crate, {}, seed or f"{crate.folder}/out/incremental") as (room, kept):
+    def goals_of(self, name, functions, seed):
+        """Returns the goals that functions have as they stand, each as `FUNCTION GOAL`."""
+        with self.room(name, {}, seed) as (room, kept):
             started = [word for it in functions for word in ("--start", it.path())]
-            self.run(crate, room, kept, [], [*started, "--generated", f"{room}/goals"])
+            self.run(name, room, kept, [*started, "--generated", f"{room}/goals"])
             found, top = set(), f"{room}/goals/Rattle-{name}-proofs"
             for function in functions:
                 place = function.path().replace("::", "/")
@@ -132,19 +110,32 @@ class Toolchain:
                     found |= {f"{function.path()} {it}" for it in GOAL.findall(text)}
             return found
 
-    def run(self, crate, room, kept, only, more=()):
-        """Checks the crate in a room, once more where the check was killed."""
-        words = crate.words(["--jobs", str(self.jobs)], keeps=False)
-        words += ["--incremental", kept, *(word for it in only for word in ("--only", it)), *more]
-        how = {"cwd": room, "stdin": subprocess.DEVNULL, "stdout": subprocess.PIPE, "stderr": subprocess.STDOUT}
+    @contextlib.contextmanager
+    def room(self, name, texts, seed):
+        """Gives a copy of a crate with these texts in place of its own, and of what checks kept."""
+        folder = self.crates[name].folder
+        with tempfile.TemporaryDirectory(prefix=f"{ROOMS}{os.getpid()}-") as room:
+            for part in PARTS:
+                if os.path.isdir(f"{folder}/{part}"):
+                    shutil.copytree(f"{folder}/{part}", f"{room}/{part}")
+            for file, text in texts.items():
+                with open(f"{room}/{file}", "w", encoding="utf-8") as out:
+                    out.write(text)
+            link_kept(seed or f"{folder}/out/incremental", f"{room}/kept")
+            yield room, f"{room}/kept"
+
+    def run(self, name, room, kept, more):
+        """Checks a crate in a room, once more where the check was killed."""
+        words = self.crates[name].words(["--jobs", str(self.jobs)], keeps=False)
+        words = [self.rtlib.RATTLE, "check", *words, "--incremental", kept, *more]
         for _ in range(2):
-            ran = subprocess.Popen([*self.rtlib.guarded(), self.rtlib.RATTLE, "check", *words], **how)
+            ran = subprocess.Popen([*self.rtlib.guarded(), *words], cwd=room, **SILENT)
             self.running.add(ran)
             output = ran.communicate()[0].decode(errors="replace")
             self.running.discard(ran)
             if ran.returncode >= 0 or self.is_stopped:
                 break
-        return Said(crate.name, ran.returncode, output)
+        return Said(name, ran.returncode, output)
 
     def stop(self):
         """Ends the checks that run."""
@@ -153,8 +144,28 @@ class Toolchain:
             it.kill()
 
 
+def only_words(names):
+    """Returns the words that limit a check to these functions and modules."""
+    return [word for it in names for word in ("--only", it)]
+
+
+def is_left_by_gate(crate):
+    """Returns whether a library is one that `rt ci` put here, which leaves no stamp.
+
+    It did so after the last change of what the library is made from.
+    """
+    if not os.path.isdir(crate.rlib) or os.path.exists(f"{os.path.dirname(crate.rlib)}/stamp"):
+        return False
+    made = os.path.getmtime(crate.rlib)
+    walked = (found for part in PARTS for found in os.walk(f"{crate.folder}/{part}"))
+    return all(os.path.getmtime(f"{at}/{it}") < made for at, _, names in walked for it in names)
+
+
 def link_kept(folder, to):
-    """Copies what checks kept: what is proved by links, as a check replaces such a file and never writes into it."""
+    """Copies what checks kept.
+
+    What is proved is linked, as a check replaces such a file and never writes into it.
+    """
 
     def copy(one, other):
         if one.endswith(".oantt"):
@@ -162,12 +173,9 @@ def link_kept(folder, to):
                 return os.link(one, other)
         return shutil.copy2(one, other)
 
-    for _ in range(3):
+    for _ in range(3 if os.path.isdir(folder) else 0):
         try:
-            if os.path.isdir(folder):
-                shutil.copytree(folder, to, copy_function=copy)
-            else:
-                os.makedirs(to)
+            shutil.copytree(folder, to, copy_function=copy)
             return
         except (OSError, shutil.Error):
             # Another check may be writing there.
@@ -177,7 +185,9 @@ def link_kept(folder, to):
 
 def sweep():
     """Removes the copies that killed runs left."""
-    for name in os.listdir(tempfile.gettempdir()):
+    top = tempfile.gettempdir()
+    for name in os.listdir(top):
         owner = name.removeprefix(ROOMS).partition("-")[0]
-        if name.startswith(ROOMS) and owner.isdigit() and not os.path.exists(f"/proc/{owner}"):
-            shutil.rmtree(f"{tempfile.gettempdir()}/{name}", ignore_errors=True)
+        is_ours = name.startswith(ROOMS) and owner.isdigit()
+        if is_ours and not os.path.exists(f"/proc/{owner}"):
+            shutil.rmtree(f"{top}/{name}", ignore_errors=True)
