@@ -54,20 +54,20 @@ class Toolchain:
         self.crates = {it.name: it for it in self.rtlib.crates_below(f"{root}/crates")}
         self.running, self.is_stopped = set(), False
 
-    def begin(self, name):
-        """Has a crate begin with what checks kept in other copies of it, where none is here."""
-        crate = self.crates[name]
-        if not os.path.isdir(f"{crate.folder}/out/incremental"):
-            self.call(crate, "check", "--only", "")
+    def build_below(self, name, begins):
+        """Sees to it that the libraries below a crate are built of these sources.
 
-    def build_below(self, name):
-        """Sees to it that the libraries below a crate are built of these sources."""
-        below = self.crates[name].below()
-        if all(is_left_by_gate(it) for it in below):
+        Where it begins and nothing is kept here, it begins with what checks kept in other copies.
+        """
+        crate = self.crates[name]
+        below = crate.below()
+        if below and all(is_left_by_gate(it) for it in below):
             return
-        for crate in below:
-            if not crate.is_built():
-                self.call(crate, "lib")
+        if begins and not os.path.isdir(f"{crate.folder}/out/incremental"):
+            self.call(crate, "check", "--only", "")
+        for it in below:
+            if not it.is_built():
+                self.call(it, "lib")
 
     def call(self, crate, *words):
         """Runs a command of `rt` in a crate's folder, and shows what it says where it fails."""

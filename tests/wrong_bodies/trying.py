@@ -78,8 +78,7 @@ def settled(tools, crate, verdicts, seed):
 def try_groups(tools, crate, groups, lanes):
     """Tries groups side by side, says what each came to, and returns the verdicts."""
     verdicts = []
-    tools.begin(crate.name)
-    tools.build_below(crate.name)
+    tools.build_below(crate.name, begins=True)
     only = only_names([edit for group in groups for edit in group])
     with tools.seed(crate.name, only) as seed, ThreadPoolExecutor(lanes) as pool:
         try:
@@ -186,7 +185,7 @@ def try_sample(root, jobs):
     crate, group = sampled(crates)
     print(f"{crate.name}: trying anew {' '.join(it.name for it in group)}", flush=True)
     tools = toolchain.Toolchain(root, jobs)
-    tools.build_below(crate.name)
+    tools.build_below(crate.name, begins=False)
     written, differ = record_of(root, crate.name)[0].tried, 0
     for verdict in try_group(tools, crate, group):
         tell(crate.name, verdict)
