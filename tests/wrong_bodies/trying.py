@@ -2,7 +2,7 @@
 import hashlib
 import os
 import time
-from concurrent.futures import ThreadPoolExecutor
+from concurrent.futures import ThreadPoolExecutor, as_completed
 
 from . import toolchain
 from .edits import edits_of, sources_of, texts_of
@@ -76,21 +76,18 @@ def settled(tools, crate, verdicts, seed):
 
 
 def try_groups(tools, crate, groups, lanes):
-    """Tries groups side by side, says what each came to, and returns the verdicts."""
-    verdicts = []
+    """Tries groups side by side, and gives what each came to as it ends."""
     tools.build_below(crate.name, begins=True)
     only = only_names([edit for group in groups for edit in group])
     with tools.seed(crate.name, only) as seed, ThreadPoolExecutor(lanes) as pool:
         try:
-            for found in pool.map(lambda it: try_group(tools, crate, it, seed), groups):
-                verdicts += found
-                for verdict in found:
-                    tell(crate.name, verdict)
+            begun = [pool.submit(try_group, tools, crate, it, seed) for it in groups]
+            for ended in as_completed(begun):
+                yield ended.result()
         except BaseException:
             pool.shutdown(wait=False, cancel_futures=True)
             tools.stop()
             raise
-    return verdicts
 
 
 def tell(crate, verdict):
@@ -103,27 +100,29 @@ def tell(crate, verdict):
 def try_crate(tools, crate, names, anew, lanes):
     """Tries a crate's edits, and returns how many aren't refused.
 
-    They are those named, or else those that aren't as they were tried last, or all.
+    They are those named, or else those that aren't as they were tried last, or all. What is
+    refused is written as each group ends.
     """
-    began = time.monotonic()
+    began, failed = time.monotonic(), 0
     digest, identity = crate.tree.digest(crate.name), toolchain.version()
-    kept = {} if anew and not names else crate.tried_before(digest, identity)
-    edits = [it for it in crate.edits if it.name in names or not names and it.name not in kept]
-    verdicts = []
+    tried = {} if anew and not names else crate.tried_before(digest, identity)
+    edits = [it for it in crate.edits if it.name in names or not names and it.name not in tried]
+    groups = crate.groups(edits)
+    tried = {name: words for name, words in tried.items() if name not in {it.name for it in edits}}
+    for verdicts in try_groups(tools, crate, groups, lanes) if edits else [[]]:
+        for it in verdicts:
+            tell(crate.name, it)
+            if it.is_refused():
+                tried[it.edit.name] = [it.edit.digest, it.goal.function, it.goal.name]
+            else:
+                failed += 1
+        if not crate.tree.is_still(crate.name, digest):
+            raise Failure(f"{crate.name} or a crate below it was changed meanwhile: try once more")
+        Record(crate.name, identity, digest, tried).write(crate.tree.root)
     if edits:
-        groups = crate.groups(edits)
-        verdicts = try_groups(tools, crate, groups, lanes)
         took = f"{len(groups)} checks, {round(time.monotonic() - began)} s"
         print(f"{crate.name}: {len(edits)} wrong bodies in {took}", flush=True)
-    again = {it.name for it in edits}
-    tried = {name: words for name, words in kept.items() if name not in again}
-    for it in verdicts:
-        if it.is_refused():
-            tried[it.edit.name] = [it.edit.digest, it.goal.function, it.goal.name]
-    if not crate.tree.is_still(crate.name, digest):
-        raise Failure(f"{crate.name} or a crate below it was changed meanwhile: try once more")
-    Record(crate.name, identity, digest, tried).write(crate.tree.root)
-    return sum(not it.is_refused() for it in verdicts)
+    return failed
 
 
 def try_all(root, words, anew, lanes):
