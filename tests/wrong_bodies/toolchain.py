@@ -129,11 +129,13 @@ class Toolchain:
         words = self.crates[name].words(["--jobs", str(self.jobs)], keeps=False)
         words = [self.rtlib.RATTLE, "check", *words, "--incremental", kept, *more]
         for _ in range(2):
+            if self.is_stopped:
+                raise Failure("stopped")
             ran = subprocess.Popen([*self.rtlib.guarded(), *words], cwd=room, **SILENT)
             self.running.add(ran)
             output = ran.communicate()[0].decode(errors="replace")
             self.running.discard(ran)
-            if ran.returncode >= 0 or self.is_stopped:
+            if ran.returncode >= 0:
                 break
         return Said(name, ran.returncode, output)
 
