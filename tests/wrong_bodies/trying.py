@@ -105,24 +105,30 @@ def try_crate(tools, crate, names, anew, lanes):
     """
     began, failed = time.monotonic(), 0
     digest, identity = crate.tree.digest(crate.name), toolchain.version()
-    tried = {} if anew and not names else crate.tried_before(digest, identity)
+    tried = {} if anew else crate.tried_before(digest, identity)
     edits = [it for it in crate.edits if it.name in names or not names and it.name not in tried]
     groups = crate.groups(edits)
-    tried = {name: words for name, words in tried.items() if name not in {it.name for it in edits}}
     for verdicts in try_groups(tools, crate, groups, lanes) if edits else [[]]:
         for it in verdicts:
             tell(crate.name, it)
-            if it.is_refused():
-                tried[it.edit.name] = [it.edit.digest, it.goal.function, it.goal.name]
-            else:
-                failed += 1
+        failed += sum(not it.is_refused() for it in verdicts)
         if not crate.tree.is_still(crate.name, digest):
             raise Failure(f"{crate.name} or a crate below it was changed meanwhile: try once more")
-        Record(crate.name, identity, digest, tried).write(crate.tree.root)
+        keep(crate, digest, identity, verdicts)
     if edits:
         took = f"{len(groups)} checks, {round(time.monotonic() - began)} s"
         print(f"{crate.name}: {len(edits)} wrong bodies in {took}", flush=True)
     return failed
+
+
+def keep(crate, digest, identity, verdicts):
+    """Writes what some edits came to into the record, beside what it says of others by now."""
+    tried = crate.tried_before(digest, identity)
+    for it in verdicts:
+        tried.pop(it.edit.name, None)
+        if it.is_refused():
+            tried[it.edit.name] = [it.edit.digest, it.goal.function, it.goal.name]
+    Record(crate.name, identity, digest, tried).write(crate.tree.root)
 
 
 def try_all(root, words, anew, lanes):
