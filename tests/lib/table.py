@@ -11,7 +11,7 @@ STATUSES = {"limit": 0, "clash": 1, "outside": 1, "exhausted": 1}
 
 
 class Run(NamedTuple):
-    """A run by its text, script and words. Where its trace isn't known, it is None. Is its text a long one that is written in a shorter way?"""
+    """A run by its text, script and words. Its trace is None where it isn't known. `is_shortened`: the table writes its text in a shorter way."""
 
     name: str
     text: bytes
