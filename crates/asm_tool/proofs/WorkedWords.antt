@@ -2,7 +2,7 @@
 use Rattle.std.proofs.Common.{◌≡◌, List, [], ◌∷◌, Some, None, codes, refl}
 use Rattle.clap.specs.Simple.{matches_of}
 use Rattle.clap.specs.Walk.{Text, first_of}
-use Rattle.clap.specs.declared.error.kind.ErrorKind.TheVariants.{ArgumentConflict, DisplayHelp, MissingRequiredArgument, UnknownArgument, ValueValidation}
+use Rattle.clap.specs.declared.error.kind.ErrorKind.TheVariants.{ArgumentConflict, DisplayHelp, DisplayVersion, MissingRequiredArgument, UnknownArgument, ValueValidation}
 use Rattle.clap.proofs.OnLiterals.{clap_on_literals}
 use Rattle.asm_tool.specs.CommandLine.{command, refusals}
 
@@ -55,6 +55,10 @@ too_many_rounds = refl
 help : refusals (codes "--help" ∷ []) ≡ DisplayHelp ∷ []
 unfolding command clap_on_literals
 help = refl
+
+version : refusals (codes "--version" ∷ []) ≡ DisplayVersion ∷ []
+unfolding command clap_on_literals
+version = refl
 
 two_files : refusals (codes "a" ∷ codes "b" ∷ three) ≡ UnknownArgument ∷ []
 unfolding command clap_on_literals

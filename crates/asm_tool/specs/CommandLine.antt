@@ -1,5 +1,5 @@
 -- The words that the program takes, in the terms of the library that reads them.
---     command      its arguments: the text's file, and an option for each limit and for the script's file
+--     command      it has a version; its arguments: the text's file, and an option for each limit and for the script's file
 --     refusals words    the kinds of what is wrong with the words, none where they are taken
 use Rattle.std.specs.Prelude.{true, List, [], ◌∷◌, Some, codes, pos}
 use Rattle.clap.specs.Faults.{fault_of}
@@ -35,6 +35,7 @@ unfoldable pub command : App
 command = record {
   top = record (new_shape (codes "asm")) {
     no_binary_name = true;
+    has_version = true;
     rules = positional (codes "spec")
         ∷ required (number STEPS (codes "steps"))
         ∷ option (codes "script")

@@ -45,7 +45,7 @@ impl fmt::Display for ScriptRefusal {
 /// What ends the program early. Its text is what the program says on standard error.
 #[derive(Debug, Drop, Error)]
 pub enum Fault {
-    /// The words ask for help, or can't be understood.
+    /// The words ask for help or the version, or can't be understood.
     #[error("{0}")]
     Words(clap::Error),
     /// A word isn't text.

@@ -7,11 +7,13 @@ use std::{fs, io};
 
 /// Opens files for reading.
 pub trait Folder {
+    /// A file that is open.
     type File: Read + Drop;
 
     // The bytes of the file with a name, where they are known.
     ghost contents: { Self → List ℕ → Option (List ℕ) };
 
+    /// The file of this name.
     fn open(&self, name: &str) -> io::Result<Self::File>
         ensures bytes { IfOk result (λ file. IfSome (contents self.now name.now) (λ bytes. Self.File.remaining file ≡ Some bytes)) };
 }
@@ -23,6 +25,7 @@ pub struct Disk<'a, R> {
 }
 
 impl<'a, R> Disk<'a, R> {
+    /// The files that this runtime opens.
     pub fn new(rt: &'a R) -> Disk<'a, R> {
         Disk { rt }
     }

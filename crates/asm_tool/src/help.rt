@@ -1,5 +1,8 @@
 //! What the program says of itself.
 
+/// What `--version` prints behind the program's name.
+pub const VERSION: &str = "1.0.0";
+
 pub const ABOUT: &str =
     "Runs an abstract state machine and writes the trace of its run to standard output.";
 
@@ -49,4 +52,4 @@ Status:
   2  the specification or the script is refused: `read N at A`, `check N at A`, `script N line L`, where
      N is the number of the fault in docs/LANGUAGE.md, A the byte that it is at, from 0, and L the line
   3  `memory`: it ran out; `file`: one can't be read; `write`: the trace can't be written
-  4  these words can't be understood, or help was asked for";
+  4  these words can't be understood, or help or the version was asked for";

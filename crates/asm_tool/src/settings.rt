@@ -24,7 +24,7 @@ pub struct Settings<'w> {
 pub enum WordFault {
     /// Memory ran out.
     Memory,
-    /// They ask for help, or can't be understood.
+    /// They ask for help or the version, or can't be understood.
     Words(Error),
 }
 

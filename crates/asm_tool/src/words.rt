@@ -57,6 +57,7 @@ fn command<'w>(alloc: Global) -> Result<Command<'w>, AllocError>
     let cut = number(alloc, "cut", CUT, help::CUT).default_value("64");
     let rounds = number(alloc, "rounds", ROUNDS, help::ROUNDS).default_value("4");
     Command::new(alloc, "asm")
+        .version(help::VERSION)
         .about(help::ABOUT)
         .after_help(help::AFTER)
         .no_binary_name(true)

@@ -10,14 +10,18 @@ use Rattle.asm_tool.proofs.words.command.Goals as goal
 abbrev without_name : App → App
 without_name = on_top (λ s. record s { no_binary_name = true })
 
+abbrev with_version : App → App
+with_version = on_top (λ s. record s { has_version = true })
+
 abbrev with_long : Rule → Rule
 with_long rule = record rule { long = Some (codes "script") }
 
 pub returns : goal.returns
 unfolding command
 returns c =
-    let made : app_of c.after_help.result ≡ new_app (codes "asm") = ap app_of_fields c.after_help.ensures ∙ (ap app_of_fields c.about.ensures ∙ c.new.ensures.app) in
-    let start : app_of c.no_binary_name.result ≡ without_name (new_app (codes "asm")) = ap app_of_fields c.no_binary_name.ensures ∙ ap without_name made in
+    let versioned : app_of c.version.result ≡ with_version (new_app (codes "asm")) = ap app_of_fields c.version.ensures ∙ ap with_version c.new.ensures.app in
+    let made : app_of c.after_help.result ≡ with_version (new_app (codes "asm")) = ap app_of_fields c.after_help.ensures ∙ (ap app_of_fields c.about.ensures ∙ versioned) in
+    let start : app_of c.no_binary_name.result ≡ without_name (with_version (new_app (codes "asm"))) = ap app_of_fields c.no_binary_name.ensures ∙ ap without_name made in
     let one = grown _ _ _ _ _ c.in_ok-arg.ensures start c.file.ensures refl in
     let two = grown _ _ _ _ (required (number STEPS (codes "steps"))) c.in_ok-arg-2.ensures one (ap rule_of c.required-steps.ensures ∙ ap required c.number.ensures) refl in
     let three = grown _ _ _ _ (option (codes "script")) c.in_ok-arg-3.ensures two (ap rule_of c.long.ensures ∙ ap with_long c.file-2.ensures) refl in

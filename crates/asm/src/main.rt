@@ -1,0 +1,23 @@
+//! The program `asm`: reads a specification and writes the trace of its run.
+#![tactic(auto)]
+
+use asm_tool::folder::Disk;
+use asm_tool::input::words;
+use asm_tool::output::buffered;
+use asm_tool::status::{refusal, status};
+use std::process::ExitCode;
+
+fn main(rt: HostRuntime) -> ExitCode {
+    let mut err = rt.stderr();
+    let status = match words(&rt) {
+        Ok(words) => match buffered(rt.alloc(), rt.stdout()) {
+            Ok(mut out) => {
+                let (disk, input) = (Disk::new(&rt), rt.stdin());
+                status(&rt, &disk, words.as_slice(), input, &mut out, &mut err)
+            }
+            Err(fault) => refusal(&fault, &mut err),
+        },
+        Err(fault) => refusal(&fault, &mut err),
+    };
+    ExitCode::from(status)
+}
