@@ -20,7 +20,7 @@ _asm() {
     esac
     case "$current" in
         -*)
-            COMPREPLY=($(compgen -W $'--steps\n--script\n--turns\n--workers\n--cut\n--rounds\n--help' -- "$current"))
+            COMPREPLY=($(compgen -W $'--steps\n--script\n--turns\n--workers\n--cut\n--rounds\n--help\n--version' -- "$current"))
             ;;
         *) COMPREPLY=($(compgen -f -X '!*.asm' -- "$current") $(compgen -d -- "$current")) ;;
     esac
