@@ -3,8 +3,8 @@ ghost use Rattle.std.specs.Prelude.{◌≡◌};
 ghost use Rattle.asm_syntax.specs.Views.{spec_of};
 ghost use Rattle.asm_check.specs.Shapes.{shape_of};
 
-use crate::choices::{Counting, is_set, specification};
 use crate::plain::{Entry, ONE, TWO};
+use crate::rules::{Counting, is_set, specification};
 use asm_check::Checked;
 use asm_eval::open::open_piece;
 use asm_eval::positions::positions_of;

@@ -1,6 +1,6 @@
 //! Values of terms in the initial state.
 use crate::plain::{ONE, Plain, value};
-use crate::text::checked_of;
+use crate::text::checked_of_both;
 use asm_check::Checked;
 use asm_eval::value::value as value_of;
 use asm_eval::{Env, View};
@@ -42,9 +42,7 @@ fn assigned(alloc: Global, checked: &Checked) -> Result<Option<Value>, AllocErro
 
 /// Whether a term has this value.
 fn has_value(alloc: Global, term: &str, expected: Plain) -> Result<bool, Fail> {
-    let mut text = String::from_str(alloc, BEFORE)?;
-    text.push_str(term)?;
-    let checked = checked_of(alloc, text.as_bytes())?;
+    let checked = checked_of_both(alloc, BEFORE, term)?;
     Ok(assigned(alloc, &checked)? == Some(value(expected)))
 }
 

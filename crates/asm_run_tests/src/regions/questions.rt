@@ -2,8 +2,6 @@
 ghost use Rattle.asm_reader.specs.ScriptLines.{no_lines};
 
 use super::meetings::Meeting;
-use crate::plain::{Entry, Plain, has_entries};
-use crate::text::checked_of;
 use asm_check::Checked;
 use asm_eval::{Choices, Env, Outcome, View};
 use asm_pool::NoGate;
@@ -11,6 +9,8 @@ use asm_reader::Picks;
 use asm_run::limits::Limits;
 use asm_run::pooled::Pooled;
 use asm_state::state::State;
+use asm_tests::plain::{Entry, Plain, has_entries};
+use asm_tests::text::checked_of;
 use asm_updates::summary::Summary;
 use std::alloc::AllocError;
 use std::sync::atomic::{AtomicU64, Ordering};

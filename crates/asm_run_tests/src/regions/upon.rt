@@ -3,14 +3,14 @@ ghost use Rattle.std.specs.Prelude.{◌≡◌};
 ghost use Rattle.asm_syntax.specs.Views.{spec_of};
 ghost use Rattle.asm_check.specs.Shapes.{shape_of};
 
-use crate::choices::{Counting, specification};
-use crate::plain::{Entry, FIVE, ONE, THREE, TWO, has_entries, summary_of};
 use asm_check::Checked;
 use asm_eval::{Choices, Env, Evaluation, Forming, Scene, Stopped, View};
 use asm_pool::NoGate;
 use asm_run::limits::Limits;
 use asm_run::pooled::Pooled;
 use asm_state::state::State;
+use asm_tests::plain::{Entry, FIVE, ONE, THREE, TWO, has_entries, summary_of};
+use asm_tests::rules::{Counting, specification};
 use asm_updates::summary::Summary;
 use std::alloc::Global;
 use std::test::Fail;

@@ -1,12 +1,12 @@
 //! What rules yield where workers share their regions.
-use crate::choices::{ASKING, Counting, YIELDED, Yielded, is_exhausted, is_set, specification};
-use crate::plain::{FIVE, ONE, Plain, TWO};
 use asm_check::Checked;
 use asm_eval::{Choices, Env, Outcome, View};
 use asm_pool::NoGate;
 use asm_run::limits::Limits;
 use asm_run::pooled::Pooled;
 use asm_state::state::State;
+use asm_tests::plain::{FIVE, ONE, Plain, TWO};
+use asm_tests::rules::{ASKING, Counting, YIELDED, Yielded, is_exhausted, is_set, specification};
 use asm_updates::summary::Summary;
 use std::alloc::{AllocError, Global};
 use std::test::Fail;
