@@ -1,26 +1,31 @@
 //! What rules yield in the initial state, and how often a `choose` asks for its number, on one thread.
+use crate::beginning::{Beginning, main_of};
 use crate::rules::{ASKING, Counting, YIELDED, Yielded, is_exhausted, is_set, specification};
 use asm_check::Checked;
 use asm_eval::whole::whole;
-use asm_eval::{Choices, Env, Outcome, View};
-use asm_state::state::State;
-use asm_updates::summary::Summary;
+use asm_eval::{Choices, Env, Outcome};
 use std::alloc::{AllocError, Global};
 use std::test::Fail;
 
 /// What the main rule yields at the empty path in the initial state, all of it on one thread.
 fn outcome_of(alloc: Global, checked: &Checked, picks: &Counting) -> Result<Outcome, AllocError> {
-    let (_parameters, main) = checked.rule(checked.main());
-    let signature = checked.signature();
-    let state = State::initial(alloc, signature)?;
-    let nothing = Summary::new(alloc, signature.count());
-    let view = View::new(signature, &state, &nothing);
+    let beginning = Beginning::of(alloc, checked)?;
+    let view = beginning.view();
     let env = Env::new();
     let choices = Choices {
         script: picks,
         step: 1,
     };
-    whole(alloc, checked, &view, &env, main, &choices, &[], 1000)
+    whole(
+        alloc,
+        checked,
+        &view,
+        &env,
+        main_of(checked),
+        &choices,
+        &[],
+        1000,
+    )
 }
 
 /// What a main rule with this body yields, and how often it asks.

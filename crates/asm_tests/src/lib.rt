@@ -1,6 +1,7 @@
 //! Tests of the public functions of the libraries below `asm_run`, and what the tests of that need too.
 #![tactic(auto)]
 
+pub mod beginning;
 #[cfg(test)]
 mod checking;
 #[cfg(test)]
