@@ -9,8 +9,6 @@ mod board;
 pub mod laws;
 pub mod shared;
 mod striped;
-#[cfg(test)]
-mod tests;
 mod words;
 
 pub use board::{Board, Entry, Extent, View};

@@ -85,15 +85,20 @@ fn has_its_body(alloc: Global, checked: &Checked, name: &str) -> Result<bool, Al
     }
 }
 
-/// Whether the numbers that names stand for lead back to the names, and to their bodies.
+/// Whether the numbers that these names stand for lead back to the names, or to their bodies.
+fn lead_back(alloc: Global, checked: &Checked) -> Result<bool, AllocError> {
+    Ok(
+        is_named_again(alloc, checked, "g")?
+            && is_named_again(alloc, checked, "b")?
+            && has_its_body(alloc, checked, "r")?
+            && has_its_body(alloc, checked, "d")?,
+    )
+}
+
+/// Whether names of the text lead back so.
 fn leads_back(alloc: Global) -> Result<bool, Fail> {
     let checked = checked_of(alloc, TEXT)?;
-    Ok(
-        is_named_again(alloc, &checked, "g")?
-            && is_named_again(alloc, &checked, "b")?
-            && has_its_body(alloc, &checked, "r")?
-            && has_its_body(alloc, &checked, "d")?,
-    )
+    Ok(lead_back(alloc, &checked)?)
 }
 
 #[test]

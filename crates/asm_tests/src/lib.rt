@@ -1,26 +1,26 @@
-//! Tests of the public functions of the crates below.
+//! Tests of the public functions of the libraries below `asm_run`, and what the tests of that need too.
 #![tactic(auto)]
 
+pub mod beginning;
 #[cfg(test)]
 mod checking;
 #[cfg(test)]
 mod choices;
 #[cfg(test)]
 mod pieces;
+pub mod plain;
 #[cfg(test)]
-mod plain;
-#[cfg(test)]
-mod regions;
-#[cfg(test)]
-mod runs;
+mod pool;
+pub mod rules;
 #[cfg(test)]
 mod state;
+#[cfg(test)]
+mod striped;
 #[cfg(test)]
 mod syntax;
 #[cfg(test)]
 mod terms;
-#[cfg(test)]
-mod text;
+pub mod text;
 #[cfg(test)]
 mod two;
 #[cfg(test)]

@@ -3,61 +3,44 @@ ghost use Rattle.std.specs.Prelude.{◌≡◌};
 ghost use Rattle.asm_syntax.specs.Views.{spec_of};
 ghost use Rattle.asm_check.specs.Shapes.{shape_of};
 
-use crate::choices::{Counting, is_set, specification};
+use crate::beginning::{Beginning, main_of, main_piece};
 use crate::plain::{Entry, ONE, TWO};
+use crate::rules::{Counting, is_set, specification};
+use crate::text::Unchecked;
 use asm_check::Checked;
 use asm_eval::open::open_piece;
 use asm_eval::positions::positions_of;
 use asm_eval::whole::whole;
 use asm_eval::whole_piece::whole_piece;
-use asm_eval::{Choices, Env, Evaluation, Opened, Outcome, Part, Path, Piece, Scene, View};
-use asm_state::state::State;
-use asm_updates::summary::Summary;
+use asm_eval::{Choices, Env, Evaluation, Opened, Outcome, Scene, View};
 use std::alloc::{AllocError, Global};
 use std::test::Fail;
 
 /// How many pieces something is opened to, and how many elements are counted in opening it.
 type Parts = (usize, u64);
 
-/// How many parts all of the main rule is opened to, where two elements are one piece. None: it is closed.
-fn opened_in<'a>(
-    alloc: Global,
-    checked: &'a Checked,
-    view: &'a View<'_>,
-    choices: &'a Choices<'a, Counting>,
-) -> Result<Option<Parts>, AllocError>
-    requires { view.now.signature.now ≡ shape_of (spec_of checked.now.spec) }
-{
-    let (_parameters, main) = checked.rule(checked.main());
-    let evaluation = Evaluation {
-        scene: Scene { checked, view },
-        choices,
-        turns: 1000,
-    };
-    let piece = Piece {
-        rule: main,
-        env: Env::new(),
-        path: Path::new(Vec::new(alloc)),
-        part: Part::Whole,
-    };
-    match open_piece(alloc, &evaluation, &piece, 2)? {
-        Opened::Pieces { pieces, instances } => Ok(Some((pieces.len(), instances))),
-        Opened::Closed => Ok(None),
-    }
-}
-
-/// That in the initial state.
+/// How many parts all of the main rule is opened to in the initial state, where two elements are one piece. None: it is closed.
 fn opened(alloc: Global, checked: &Checked) -> Result<Option<Parts>, AllocError> {
-    let signature = checked.signature();
-    let state = State::initial(alloc, signature)?;
-    let nothing = Summary::new(alloc, signature.count());
-    let view = View::new(signature, &state, &nothing);
+    let beginning = Beginning::of(alloc, checked)?;
+    let view = beginning.view();
     let picks = Counting::new();
     let choices = Choices {
         script: &picks,
         step: 1,
     };
-    opened_in(alloc, checked, &view, &choices)
+    let evaluation = Evaluation {
+        scene: Scene {
+            checked,
+            view: &view,
+        },
+        choices: &choices,
+        turns: 1000,
+    };
+    let piece = main_piece(alloc, checked);
+    match open_piece(alloc, &evaluation, &piece, 2)? {
+        Opened::Pieces { pieces, instances } => Ok(Some((pieces.len(), instances))),
+        Opened::Closed => Ok(None),
+    }
 }
 
 /// Bodies, and what each is opened to.
@@ -91,31 +74,28 @@ fn each_kind_of_rule_is_opened_or_closed(rt: HostRuntime) -> Result<(), Fail> {
 }
 
 /// At how many positions the `forall` that is the main rule is evaluated.
-fn positions(alloc: Global, checked: &Checked) -> Option<usize> {
-    let (_parameters, main) = checked.rule(checked.main());
-    let piece = Piece {
-        rule: main,
-        env: Env::new(),
-        path: Path::new(Vec::new(alloc)),
-        part: Part::Whole,
-    };
-    positions_of(checked, &piece)
+fn positions(alloc: Global, body: &str) -> Result<Option<usize>, Unchecked> {
+    let checked = specification(alloc, body)?;
+    Ok(positions_of(&checked, &main_piece(alloc, &checked)))
 }
+
+/// Bodies, and at how many positions each is evaluated.
+static POSITIONS: [(&str, Option<usize>); 3] = [
+    ("forall i in Idx with i = 1 do skip endforall", Some(3)),
+    ("forall i in Empty do skip endforall", Some(0)),
+    ("par forall i in Idx do skip endforall endpar", None),
+];
 
 #[test]
 fn a_forall_is_evaluated_at_each_position(rt: HostRuntime) -> Result<(), Fail> {
-    let alloc = rt.alloc();
-    let three = specification(alloc, "forall i in Idx with i = 1 do skip endforall")?;
-    assert!(rt; positions(alloc, &three) == Some(3));
-    let none = specification(alloc, "forall i in Empty do skip endforall")?;
-    assert!(rt; positions(alloc, &none) == Some(0));
-    let other = specification(alloc, "par forall i in Idx do skip endforall endpar")?;
-    assert!(rt; positions(alloc, &other) == None);
+    for (body, found) in &POSITIONS {
+        assert!(rt; positions(rt.alloc(), body)? == *found, "{body}");
+    }
     Ok(())
 }
 
 /// What all of the main rule yields as a piece.
-fn piece_in<'a>(
+fn outcome_of_piece<'a>(
     alloc: Global,
     checked: &'a Checked,
     view: &'a View<'_>,
@@ -123,36 +103,34 @@ fn piece_in<'a>(
 ) -> Result<Outcome, AllocError>
     requires { view.now.signature.now ≡ shape_of (spec_of checked.now.spec) }
 {
-    let (_parameters, main) = checked.rule(checked.main());
     let evaluation = Evaluation {
         scene: Scene { checked, view },
         choices,
         turns: 1000,
     };
-    let piece = Piece {
-        rule: main,
-        env: Env::new(),
-        path: Path::new(Vec::new(alloc)),
-        part: Part::Whole,
-    };
-    whole_piece(alloc, &evaluation, &piece)
+    whole_piece(alloc, &evaluation, &main_piece(alloc, checked))
 }
 
 /// The outcomes of the main rule in the initial state: as a piece, and as a rule.
 fn outcomes(alloc: Global, checked: &Checked) -> Result<(Outcome, Outcome), AllocError> {
-    let (_parameters, main) = checked.rule(checked.main());
-    let signature = checked.signature();
-    let state = State::initial(alloc, signature)?;
-    let nothing = Summary::new(alloc, signature.count());
-    let view = View::new(signature, &state, &nothing);
+    let beginning = Beginning::of(alloc, checked)?;
+    let view = beginning.view();
     let picks = Counting::new();
     let choices = Choices {
         script: &picks,
         step: 1,
     };
-    let env = Env::new();
-    let piece = piece_in(alloc, checked, &view, &choices)?;
-    let rule = whole(alloc, checked, &view, &env, main, &choices, &[], 1000)?;
+    let piece = outcome_of_piece(alloc, checked, &view, &choices)?;
+    let rule = whole(
+        alloc,
+        checked,
+        &view,
+        &Env::new(),
+        main_of(checked),
+        &choices,
+        &[],
+        1000,
+    )?;
     Ok((piece, rule))
 }
 

@@ -1,13 +1,12 @@
 //! Values of terms in the initial state.
+use crate::beginning::{Beginning, main_of};
 use crate::plain::{ONE, Plain, value};
-use crate::text::checked_of;
+use crate::text::checked_of_both;
 use asm_check::Checked;
+use asm_eval::Env;
 use asm_eval::value::value as value_of;
-use asm_eval::{Env, View};
-use asm_state::state::State;
 use asm_state::value::Value;
 use asm_syntax::rule::Rule;
-use asm_updates::summary::Summary;
 use std::alloc::{AllocError, Global};
 use std::test::Fail;
 
@@ -27,24 +26,17 @@ static VALUED: [(&str, Plain); 5] = [
 
 /// The value that the main rule assigns, where it is an assignment.
 fn assigned(alloc: Global, checked: &Checked) -> Result<Option<Value>, AllocError> {
-    let (_parameters, main) = checked.rule(checked.main());
-    let Rule::Assign { value: term, .. } = main else {
+    let Rule::Assign { value: term, .. } = main_of(checked) else {
         return Ok(None);
     };
-    let signature = checked.signature();
-    let state = State::initial(alloc, signature)?;
-    let nothing = Summary::new(alloc, signature.count());
-    let view = View::new(signature, &state, &nothing);
-    let env = Env::new();
-    let found = value_of(alloc, checked, &view, &env, term)?;
+    let beginning = Beginning::of(alloc, checked)?;
+    let found = value_of(alloc, checked, &beginning.view(), &Env::new(), term)?;
     Ok(Some(found))
 }
 
 /// Whether a term has this value.
 fn has_value(alloc: Global, term: &str, expected: Plain) -> Result<bool, Fail> {
-    let mut text = String::from_str(alloc, BEFORE)?;
-    text.push_str(term)?;
-    let checked = checked_of(alloc, text.as_bytes())?;
+    let checked = checked_of_both(alloc, BEFORE, term)?;
     Ok(assigned(alloc, &checked)? == Some(value(expected)))
 }
 

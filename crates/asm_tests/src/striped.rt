@@ -1,8 +1,8 @@
 //! What seats find of each other's puts, and what comes of puts by several threads.
 ghost use Rattle.std.specs.Prelude.{◌≡◌, ◌<◌, ◌≤◌};
 
-use crate::{Met, StripeSeat, Striped};
 use asm_state::value::Value;
+use asm_striped::{Met, StripeSeat, Striped};
 use asm_updates::summary::Summary;
 use std::alloc::{AllocError, Global};
 use std::test::Fail;
@@ -52,20 +52,24 @@ fn met(low_before: u64, high_before: u64) -> Option<Met> {
     })
 }
 
-#[test]
-fn seats_meet(rt: HostRuntime) -> Result<(), Fail> {
-    let (table, mut s) = Striped::open(rt.alloc(), 2, 2)?;
+/// What three puts of two seats met at one location of two, and the summary of all.
+fn met_by_two(alloc: Global) -> Result<([Option<Met>; 3], Summary), AllocError> {
+    let (table, mut s) = Striped::open(alloc, 2, 2)?;
     let mut t = table.split(&mut s);
     let first = put_codes(&table, &mut s, 0, 1, 7, 7);
     let second = put_codes(&table, &mut t, 1, 1, 3, 5);
     let third = put_codes(&table, &mut s, 0, 1, 4, 9);
     table.join(&mut s, t);
-    let summary = table.close(rt.alloc(), s)?;
-    assert_eq!(rt; first, met(18_446_744_073_709_551_615, 0));
-    assert_eq!(rt; second, met(7, 7));
-    assert_eq!(rt; third, met(3, 7));
-    assert_eq!(rt; summary.count(), 2);
-    assert_eq!(rt; summary.len(), 1);
+    let summary = table.close(alloc, s)?;
+    Ok(([first, second, third], summary))
+}
+
+#[test]
+fn seats_meet(rt: HostRuntime) -> Result<(), Fail> {
+    let (met_in_turn, summary) = met_by_two(rt.alloc())?;
+    let nothing_there = met(18_446_744_073_709_551_615, 0);
+    assert!(rt; met_in_turn == [nothing_there, met(7, 7), met(3, 7)]);
+    assert!(rt; summary.count() == 2 && summary.len() == 1);
     assert!(rt; has_bounds(&summary, 1, 3, 9));
     Ok(())
 }

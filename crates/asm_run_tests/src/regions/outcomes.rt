@@ -1,13 +1,12 @@
 //! What rules yield where workers share their regions.
-use crate::choices::{ASKING, Counting, YIELDED, Yielded, is_exhausted, is_set, specification};
-use crate::plain::{FIVE, ONE, Plain, TWO};
 use asm_check::Checked;
-use asm_eval::{Choices, Env, Outcome, View};
+use asm_eval::{Choices, Env, Outcome};
 use asm_pool::NoGate;
 use asm_run::limits::Limits;
 use asm_run::pooled::Pooled;
-use asm_state::state::State;
-use asm_updates::summary::Summary;
+use asm_tests::beginning::{Beginning, main_of};
+use asm_tests::plain::{FIVE, ONE, Plain, TWO};
+use asm_tests::rules::{ASKING, Counting, YIELDED, Yielded, is_exhausted, is_set, specification};
 use std::alloc::{AllocError, Global};
 use std::test::Fail;
 use std::thread::Threads;
@@ -46,20 +45,35 @@ fn outcome_by<R: Threads + Sync>(
     turns: u32,
     is_region: bool,
 ) -> Result<Outcome, AllocError> {
-    let (_parameters, main) = checked.rule(checked.main());
-    let signature = checked.signature();
-    let state = State::initial(alloc, signature)?;
-    let nothing = Summary::new(alloc, signature.count());
-    let view = View::new(signature, &state, &nothing);
+    let beginning = Beginning::of(alloc, checked)?;
+    let view = beginning.view();
     let env = Env::new();
     let choices = Choices {
         script: picks,
         step: 1,
     };
     if is_region {
-        pooled.region(alloc, checked, &view, &env, main, &choices, &[], turns)
+        pooled.region(
+            alloc,
+            checked,
+            &view,
+            &env,
+            main_of(checked),
+            &choices,
+            &[],
+            turns,
+        )
     } else {
-        pooled.outcome(alloc, checked, &view, &env, main, &choices, &[], turns)
+        pooled.outcome(
+            alloc,
+            checked,
+            &view,
+            &env,
+            main_of(checked),
+            &choices,
+            &[],
+            turns,
+        )
     }
 }
 

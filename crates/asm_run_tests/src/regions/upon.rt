@@ -1,18 +1,18 @@
 //! A region that comes to what was formed before.
-ghost use Rattle.std.specs.Prelude.{◌≡◌};
+ghost use Rattle.std.specs.Prelude.{◌≡◌, IfOk};
+ghost use Rattle.asm_state.specs.Signature.{count_of};
 ghost use Rattle.asm_syntax.specs.Views.{spec_of};
 ghost use Rattle.asm_check.specs.Shapes.{shape_of};
 
-use crate::choices::{Counting, specification};
-use crate::plain::{Entry, FIVE, ONE, THREE, TWO, has_entries, summary_of};
 use asm_check::Checked;
 use asm_eval::{Choices, Env, Evaluation, Forming, Scene, Stopped, View};
 use asm_pool::NoGate;
 use asm_run::limits::Limits;
 use asm_run::pooled::Pooled;
-use asm_state::state::State;
-use asm_updates::summary::Summary;
-use std::alloc::Global;
+use asm_tests::beginning::{Beginning, main_of};
+use asm_tests::plain::{Entry, FIVE, ONE, THREE, TWO, has_entries, summary_of};
+use asm_tests::rules::{Counting, specification};
+use std::alloc::{AllocError, Global};
 use std::test::Fail;
 use std::thread::Threads;
 
@@ -38,33 +38,40 @@ const UNION: [Entry; 4] = [
     (4, FIVE, FIVE),
 ];
 
-/// What the region that is the main rule comes to, where there is a set before and one instance less than can be counted.
+/// What the region that is the main rule comes to behind what was formed.
 fn formed<'a, R: Threads + Sync>(
     alloc: Global,
     pooled: &Pooled<'_, R, NoGate>,
     checked: &'a Checked,
     view: &'a View<'_>,
     choices: &'a Choices<'a, Counting>,
+    before: Forming,
 ) -> Result<Forming, Stopped>
-    requires { view.now.signature.now ≡ shape_of (spec_of checked.now.spec) }
+    requires view { view.now.signature.now ≡ shape_of (spec_of checked.now.spec) }
+    requires before { before.set.count ≡ count_of view.now.signature.now }
 {
-    let (_parameters, main) = checked.rule(checked.main());
     let evaluation = Evaluation {
         scene: Scene { checked, view },
         choices,
         turns: 3,
     };
-    let mut made = Forming {
-        set: summary_of(alloc, view.signature.count(), &BEFORE)?,
-        instances: 18_446_744_073_709_551_614,
-        path: Vec::new(alloc),
-    };
-    let env = Env::new();
-    pooled.form(alloc, &evaluation, &env, main, &mut made)?;
-    Ok(made)
+    let mut made = before;
+    let formed = pooled.form(alloc, &evaluation, &Env::new(), main_of(checked), &mut made);
+    formed.map(|()| made)
 }
 
-/// That in the initial state, by two workers.
+/// A set, and one instance less than can be counted.
+fn before(alloc: Global, count: usize) -> Result<Forming, AllocError>
+    ensures { IfOk result (λ made. made.set.count ≡ count) }
+{
+    Ok(Forming {
+        set: summary_of(alloc, count, &BEFORE)?,
+        instances: 18_446_744_073_709_551_614,
+        path: Vec::new(alloc),
+    })
+}
+
+/// What that region comes to in the initial state, by two workers, where there is a set before.
 fn formed_by_two<R: Threads + Sync + AllocGlobal>(rt: &R) -> Result<Forming, Fail> {
     let limits = LIMITS;
     if !limits.are_in_range() {
@@ -72,17 +79,16 @@ fn formed_by_two<R: Threads + Sync + AllocGlobal>(rt: &R) -> Result<Forming, Fai
     }
     let alloc = rt.alloc();
     let checked = specification(alloc, REGION)?;
-    let signature = checked.signature();
-    let state = State::initial(alloc, signature)?;
-    let nothing = Summary::new(alloc, signature.count());
-    let view = View::new(signature, &state, &nothing);
+    let beginning = Beginning::of(alloc, &checked)?;
+    let view = beginning.view();
+    let before = before(alloc, view.signature.count())?;
     let picks = Counting::new();
     let choices = Choices {
         script: &picks,
         step: 1,
     };
     let pooled = Pooled::new(rt, &limits, &NoGate);
-    match formed(alloc, &pooled, &checked, &view, &choices) {
+    match formed(alloc, &pooled, &checked, &view, &choices, before) {
         Ok(made) => Ok(made),
         Err(_) => Err(Fail::new("the region is exhausted, or memory ran out")),
     }

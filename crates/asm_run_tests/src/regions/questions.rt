@@ -2,16 +2,16 @@
 ghost use Rattle.asm_reader.specs.ScriptLines.{no_lines};
 
 use super::meetings::Meeting;
-use crate::plain::{Entry, Plain, has_entries};
-use crate::text::checked_of;
 use asm_check::Checked;
-use asm_eval::{Choices, Env, Outcome, View};
+use asm_eval::{Choices, Env, Outcome};
 use asm_pool::NoGate;
 use asm_reader::Picks;
 use asm_run::limits::Limits;
 use asm_run::pooled::Pooled;
-use asm_state::state::State;
-use asm_updates::summary::Summary;
+use asm_tests::beginning::{Beginning, main_of};
+use asm_tests::plain::{Entry, Plain};
+use asm_tests::rules::is_set;
+use asm_tests::text::checked_of;
 use std::alloc::AllocError;
 use std::sync::atomic::{AtomicU64, Ordering};
 use std::test::Fail;
@@ -58,18 +58,24 @@ fn outcome_of<R: Threads + Sync + AllocGlobal>(
     picks: &Holding,
 ) -> Result<Outcome, AllocError> {
     let alloc = rt.alloc();
-    let (_parameters, main) = checked.rule(checked.main());
-    let signature = checked.signature();
-    let state = State::initial(alloc, signature)?;
-    let nothing = Summary::new(alloc, signature.count());
-    let view = View::new(signature, &state, &nothing);
+    let beginning = Beginning::of(alloc, checked)?;
+    let view = beginning.view();
     let env = Env::new();
     let choices = Choices {
         script: picks,
         step: 1,
     };
     let pooled = Pooled::new(rt, &LIMITS, &NoGate);
-    pooled.outcome(alloc, checked, &view, &env, main, &choices, &[], 1000)
+    pooled.outcome(
+        alloc,
+        checked,
+        &view,
+        &env,
+        main_of(checked),
+        &choices,
+        &[],
+        1000,
+    )
 }
 
 /// The first colour, at each of the two locations that aren't stray.
@@ -88,11 +94,6 @@ fn picks_meet(rt: HostRuntime) -> Result<(), Fail> {
     let outcome = outcome_of(&rt, &checked, &picks)?;
     assert!(rt; picks.meeting.happened_once());
     assert!(rt; picks.elsewhere.load(Ordering::SeqCst) == 0);
-    match outcome {
-        Outcome::Set { set, instances } => {
-            assert!(rt; instances == 0 && has_entries(&set, &RED_TWICE));
-        }
-        Outcome::Exhausted(_) => assert!(rt; false),
-    }
+    assert!(rt; is_set(outcome, 0, &RED_TWICE));
     Ok(())
 }

@@ -2,11 +2,10 @@
 ghost use Rattle.std.specs.Prelude.{◌≡◌, ◌<◌};
 
 use super::Adding;
-use crate::gate::{Gate, NoGate};
-use crate::job::Job;
-use crate::pool::work;
+use asm_pool::{Gate, Job, NoGate, PoolError, Worked, work};
 use std::sync::atomic::{AtomicBool, AtomicU8, AtomicU64, Ordering};
 use std::test::Fail;
+use std::thread::Threads;
 
 const MOST_TURNS: u32 = 100_000_000;
 
@@ -167,32 +166,66 @@ impl Job for Joined<'_> {
     }
 }
 
-#[test]
-fn two_lanes_meet(rt: HostRuntime) -> Result<(), Fail> {
-    let steps = Steps::of([0, 1]);
-    let meeting = Meeting::of([0, 1]);
+/// What two workers answer of so many tasks, where each of two tasks that are taken is held until the other is; and whether these
+/// met, and went from step to step.
+fn held<R: Threads + AllocGlobal + Sync>(
+    rt: &R,
+    count: usize,
+    tasks: [usize; 2],
+) -> Result<(bool, Worked<u64, usize>), PoolError> {
+    let steps = Steps::of(tasks);
+    let meeting = Meeting::of(tasks);
     let gate = Holding {
         steps: &steps,
         meeting: &meeting,
     };
     let job = Seen { steps: &steps };
     let hands = vec![in rt.alloc(); 0u64, 0]?;
-    let worked = work(&rt, rt.alloc(), 2, 2, &job, hands, &gate)?;
-    assert_eq!(rt; meeting.met(), 2);
-    assert!(rt; steps.are_done());
-    assert_eq!(rt; worked.lists.len(), 2);
-    assert_eq!(rt; worked.lists[0].as_slice(), [0].as_slice());
-    assert_eq!(rt; worked.lists[1].as_slice(), [1].as_slice());
+    let worked = work(rt, rt.alloc(), 2, count, &job, hands, &gate)?;
+    Ok((meeting.met() == 2 && steps.are_done(), worked))
+}
+
+/// What two workers answer of so many tasks, two of which wait for each other while they run; and whether these met.
+fn waiting<R: Threads + AllocGlobal + Sync>(
+    rt: &R,
+    count: usize,
+    tasks: [usize; 2],
+) -> Result<(bool, Worked<u64, usize>), PoolError> {
+    let meeting = Meeting::of(tasks);
+    let job = Joined { meeting: &meeting };
+    let hands = vec![in rt.alloc(); 0u64, 0]?;
+    let worked = work(rt, rt.alloc(), 2, count, &job, hands, &NoGate)?;
+    Ok((meeting.met() == 2, worked))
+}
+
+/// Whether there are two lists of tasks, and these.
+fn lists_are(worked: &Worked<u64, usize>, first: &[usize], second: &[usize]) -> bool {
+    match worked.lists.as_slice() {
+        [one, other] => one.as_slice() == first && other.as_slice() == second,
+        _ => false,
+    }
+}
+
+/// Whether there are two lists of tasks, and the first has one of these two tasks.
+fn ran_one_of(worked: &Worked<u64, usize>, task: usize, other: usize) -> bool {
+    match worked.lists.as_slice() {
+        [first, _] => first.contains(&task) != first.contains(&other),
+        _ => false,
+    }
+}
+
+#[test]
+fn two_lanes_meet(rt: HostRuntime) -> Result<(), Fail> {
+    let (have_met, worked) = held(&rt, 2, [0, 1])?;
+    assert!(rt; have_met);
+    assert!(rt; lists_are(&worked, &[0], &[1]));
     Ok(())
 }
 
 #[test]
 fn two_runs_meet(rt: HostRuntime) -> Result<(), Fail> {
-    let meeting = Meeting::of([0, 1]);
-    let job = Joined { meeting: &meeting };
-    let hands = vec![in rt.alloc(); 0u64, 0]?;
-    let worked = work(&rt, rt.alloc(), 2, 2, &job, hands, &NoGate)?;
-    assert_eq!(rt; meeting.met(), 2);
+    let (have_met, worked) = waiting(&rt, 2, [0, 1])?;
+    assert!(rt; have_met);
     assert_eq!(rt; worked.outs.as_slice(), [0, 1].as_slice());
     Ok(())
 }
@@ -200,32 +233,18 @@ fn two_runs_meet(rt: HostRuntime) -> Result<(), Fail> {
 /// Both tasks lie in the first lane, so neither one worker alone nor fixed shares can pass.
 #[test]
 fn two_on_one_lane(rt: HostRuntime) -> Result<(), Fail> {
-    let steps = Steps::of([0, 2]);
-    let meeting = Meeting::of([0, 2]);
-    let gate = Holding {
-        steps: &steps,
-        meeting: &meeting,
-    };
-    let job = Seen { steps: &steps };
-    let hands = vec![in rt.alloc(); 0u64, 0]?;
-    let worked = work(&rt, rt.alloc(), 2, 3, &job, hands, &gate)?;
-    assert_eq!(rt; meeting.met(), 2);
-    assert!(rt; steps.are_done());
+    let (have_met, worked) = held(&rt, 3, [0, 2])?;
+    assert!(rt; have_met);
     assert_eq!(rt; worked.outs.as_slice(), [0, 1, 2].as_slice());
-    assert_eq!(rt; worked.lists.len(), 2);
-    let first = worked.lists[0].as_slice();
-    assert!(rt; first.contains(&0) != first.contains(&2));
+    assert!(rt; ran_one_of(&worked, 0, 2));
     Ok(())
 }
 
 /// Two runs of the first lane's tasks meet.
 #[test]
 fn two_runs_of_one_lane_meet(rt: HostRuntime) -> Result<(), Fail> {
-    let meeting = Meeting::of([0, 2]);
-    let job = Joined { meeting: &meeting };
-    let hands = vec![in rt.alloc(); 0u64, 0]?;
-    let worked = work(&rt, rt.alloc(), 2, 3, &job, hands, &NoGate)?;
-    assert_eq!(rt; meeting.met(), 2);
+    let (have_met, worked) = waiting(&rt, 3, [0, 2])?;
+    assert!(rt; have_met);
     assert_eq!(rt; worked.outs.as_slice(), [0, 1, 2].as_slice());
     Ok(())
 }

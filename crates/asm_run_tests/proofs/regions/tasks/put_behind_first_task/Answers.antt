@@ -1,7 +1,7 @@
 use Rattle.std.proofs.Common.{◌≡◌, ◌<◌, List, [], ◌∷◌, Some, length, refl, ap, arith, rules}
 use Rattle.std.specs.Prelude.{slice_get}
 use Rattle.asm_eval.specs.declared.piece.Piece.{Piece}
-use Rattle.asm_tests.proofs.regions.tasks.put_behind_first_task.Goals as goal
+use Rattle.asm_run_tests.proofs.regions.tasks.put_behind_first_task.Goals as goal
 
 first : (ps : List Piece) → 0 < length ps → (p : Piece) × (slice_get ps 0 ≡ Some p)
 first [] some = absurd (omega (arith, some))

@@ -1,10 +1,7 @@
 //! Work that is refused memory. The test says more where it is: `.ci/refusals` refuses each of its requests in turn.
 ghost use Rattle.std.specs.Prelude.{◌≡◌};
 
-use crate::gate::NoGate;
-use crate::job::Job;
-use crate::pool::work;
-use crate::worked::PoolError;
+use asm_pool::{Job, NoGate, PoolError, work};
 use std::sync::atomic::{AtomicU64, Ordering};
 use std::test::Fail;
 

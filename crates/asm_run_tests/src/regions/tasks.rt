@@ -1,0 +1,136 @@
+//! What the tasks of a region put into its table.
+ghost use Rattle.std.specs.Prelude.{◌≡◌, ◌<◌, ◌+◌, All, IfOk, length};
+ghost use Rattle.asm_state.specs.Signature.{count_of};
+ghost use Rattle.asm_syntax.specs.Views.{spec_of};
+ghost use Rattle.asm_check.specs.Shapes.{shape_of};
+ghost use Rattle.asm_eval.specs.Evaluated.{setting, shape_at};
+ghost use Rattle.asm_eval.specs.Pieces.{IsPiece};
+
+use asm_check::Checked;
+use asm_eval::open::open_piece;
+use asm_eval::{Choices, Evaluation, Opened, Piece, Scene, View};
+use asm_pool::Job;
+use asm_run::hand::RegionHand;
+use asm_run::job::{RegionJob, RegionOut};
+use asm_striped::{Met, StripeSeat, Striped};
+use asm_tests::beginning::{Beginning, main_piece};
+use asm_tests::plain::{Entry, FIVE, TWO, has_entries, value};
+use asm_tests::rules::Counting;
+use asm_tests::text::checked_of;
+use asm_updates::summary::Summary;
+use std::alloc::{AllocError, Global};
+use std::test::Fail;
+
+/// Each of two assignments beside each other takes the content of the other one's location.
+const SWAP: &str =
+    "CoreASM T init M function controlled a initially 1 function controlled b initially 2 \
+rule M = par a := b b := a endpar";
+
+/// Runs the first task with a hand that has this seat, and gives the seat back. The task is done if its piece was worked whole, and no
+/// element was counted.
+fn run_first_task<'a>(
+    alloc: Global,
+    evaluation: &'a Evaluation<'a, 'a, Counting>,
+    pieces: &'a [Piece<'a>],
+    striped: &'a Striped,
+    seat: StripeSeat,
+) -> Result<(bool, StripeSeat), AllocError>
+    requires pieces { All (IsPiece (setting evaluation.now).program) pieces.now × (0 < length pieces.now) }
+    requires count { striped.now.count ≡ count_of (shape_at evaluation.now) }
+    requires seat { seat.table ≡ striped.now.table }
+    ensures { IfOk result (λ r. (r.1.table ≡ seat.table) × (r.1.parts ≡ seat.parts)) }
+{
+    let mut hand = RegionHand::new(alloc, evaluation.scene.view.signature, seat);
+    let job = RegionJob::new(alloc, evaluation, pieces, None, striped);
+    let is_done = matches!(job.run(0, &mut hand)?, RegionOut::Done(0));
+    let RegionHand { seat, own: _ } = hand;
+    Ok((is_done, seat))
+}
+
+/// What a seat finds that puts 5 at the first location, and what was put in all by this seat and the other.
+fn put_five(
+    alloc: Global,
+    striped: Striped,
+    mut seat: StripeSeat,
+    mut other: StripeSeat,
+) -> Result<(Met, Summary), AllocError>
+    requires tables { (seat.table ≡ striped.table) × (other.table ≡ striped.table) }
+    requires parts { other.parts + seat.parts ≡ striped.parts }
+    requires location { 0 < striped.count }
+{
+    let five = value(FIVE).code();
+    let met = striped.put(&mut seat, 1, 0, five, five);
+    striped.join(&mut other, seat);
+    let set = striped.close(alloc, other)?;
+    Ok((met, set))
+}
+
+/// What a seat finds that puts 5 at the location of `a` once the first task is done, and what was put in all. None: it isn't done.
+fn put_behind_first_task<'a>(
+    alloc: Global,
+    evaluation: &'a Evaluation<'a, 'a, Counting>,
+    pieces: &'a [Piece<'a>],
+) -> Result<Option<(Met, Summary)>, AllocError>
+    requires { All (IsPiece (setting evaluation.now).program) pieces.now }
+{
+    let count = evaluation.scene.view.signature.count();
+    if count == 0 || pieces.is_empty() {
+        return Ok(None);
+    }
+    let (striped, mut s) = Striped::open(alloc, count, 2)?;
+    let t = striped.split(&mut s);
+    let (is_done, s) = run_first_task(alloc, evaluation, pieces, &striped, s)?;
+    let found = put_five(alloc, striped, t, s)?;
+    Ok(is_done.then_some(found))
+}
+
+/// That for the parts of the main rule.
+fn put_behind_first_part<'a>(
+    alloc: Global,
+    checked: &'a Checked,
+    view: &'a View<'_>,
+    choices: &'a Choices<'a, Counting>,
+) -> Result<Option<(Met, Summary)>, AllocError>
+    requires { view.now.signature.now ≡ shape_of (spec_of checked.now.spec) }
+{
+    let evaluation = Evaluation {
+        scene: Scene { checked, view },
+        choices,
+        turns: 1000,
+    };
+    let region = main_piece(alloc, checked);
+    match open_piece(alloc, &evaluation, &region, 64)? {
+        Opened::Pieces { pieces, .. } => {
+            put_behind_first_task(alloc, &evaluation, pieces.as_slice())
+        }
+        Opened::Closed => Ok(None),
+    }
+}
+
+/// That in the initial state.
+fn put_initially(alloc: Global, checked: &Checked) -> Result<Option<(Met, Summary)>, AllocError> {
+    let beginning = Beginning::of(alloc, checked)?;
+    let picks = Counting::new();
+    let choices = Choices {
+        script: &picks,
+        step: 1,
+    };
+    put_behind_first_part(alloc, checked, &beginning.view(), &choices)
+}
+
+/// The value 2 that the task put at the location of `a`, and the value 5 that was put behind it.
+const TWO_TO_FIVE: [Entry; 1] = [(0, TWO, FIVE)];
+
+#[test]
+fn job_puts(rt: HostRuntime) -> Result<(), Fail> {
+    let checked = checked_of(rt.alloc(), SWAP.as_bytes())?;
+    let two = value(TWO).code();
+    match put_initially(rt.alloc(), &checked)? {
+        Some((met, set)) => {
+            assert!(rt; met.low_before == two && met.high_before == two);
+            assert!(rt; has_entries(&set, &TWO_TO_FIVE));
+        }
+        None => assert!(rt; false),
+    }
+    Ok(())
+}
