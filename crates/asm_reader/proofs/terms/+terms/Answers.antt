@@ -15,7 +15,7 @@ use Rattle.asm_reader.specs.TermGrammar.{chain_of}
 use Rattle.asm_reader.specs.TermReading.{arguments_at, term_at, table_of, operand_at, link_at}
 use Rattle.asm_reader.proofs.Loops.{with_front, turn_seen, nothing_before, no_turn, bad_turn}
 use Rattle.asm_reader.proofs.Consuming.{term_consumes}
-use Rattle.asm_reader.proofs.Separated.{so_far, next_read, all_read, next_fails, past_is, past_consumes}
+use Rattle.asm_reader.proofs.Separated.{so_far, next_seen, all_read, past_stops, past_consumes}
 use Rattle.asm_reader.proofs.TermLoops.{links_consume}
 use Rattle.asm_reader.proofs.TermSteps.{below_less, term_is, chain_is, link_is, link_fails, links_done, links_fail, no_links, first_fails, chain_goes_on, side_fails, comparison_goes_on, term_stops, term_is_factor, term_goes_on}
 use Rattle.asm_reader.proofs.terms.+terms.Goals as goal
@@ -40,20 +40,19 @@ unfolding arguments_at
 arguments-returns t c = rw (below_less (term_at c.args.text.now) c.args.levels c.in_ok-enter.ensures.left, c.in_ok-enter.ensures.read, c.in_ok-all.ensures, c.in_ok-expect.ensures.read) refl
 
 pub terms-loop-alloc-smaller : goal.terms-loop-alloc-smaller
-terms-loop-alloc-smaller t c = past_consumes (Symbol Comma) (term_at c.args.text.now c.args.levels) (term_consumes c.args.text.now c.args.levels) c.loop-alloc.tokens.rest.now c.term-in-loop-alloc.new.tokens.rest.now (term_of c.in_ok-next.next)
-    (past_is (Symbol Comma) (term_at c.args.text.now c.args.levels) c.loop-alloc.tokens.rest.now c.expect.new.self.rest.now c.term-in-loop-alloc.new.tokens.rest.now c.in_ok-expect.field-0 (term_of c.in_ok-next.next) c.in_ok-expect.ensures.read c.in_ok-next.ensures)
+terms-loop-alloc-smaller t c = past_consumes (Symbol Comma) (term_at c.args.text.now c.args.levels) (term_consumes c.args.text.now c.args.levels) c.loop-alloc.tokens.rest.now c.next_term.new.tokens.rest.now (term_of c.in_ok-next.next) c.in_ok-next.ensures
 
 pub terms-loop-alloc-preserved : goal.terms-loop-alloc-preserved
-terms-loop-alloc-preserved t c = next_read term_of (Symbol Comma) (term_at c.args.text.now c.args.levels) (term_consumes c.args.text.now c.args.levels) c.loop-alloc.all.items c.push-in-loop-alloc.new.self.items
-    c.loop-alloc.tokens.rest.now c.expect.new.self.rest.now c.term-in-loop-alloc.new.tokens.rest.now c.in_ok-expect.field-0 c.in_ok-next.next (so_far term_of (Symbol Comma) (term_at c.args.text.now c.args.levels) c.push.new.self.items c.term.new.tokens.rest.now)
-    c.in_ok-push-2.ensures.items c.loop-alloc-test.ensures c.in_ok-expect.ensures.read c.in_ok-next.ensures c.loop-alloc.invariant
+terms-loop-alloc-preserved t c = next_seen term_of (Symbol Comma) (term_at c.args.text.now c.args.levels) (term_consumes c.args.text.now c.args.levels) c.loop-alloc.all.items c.push-in-loop-alloc.new.self.items
+    c.loop-alloc.tokens.rest.now c.next_term.new.tokens.rest.now c.in_ok-next.next (so_far term_of (Symbol Comma) (term_at c.args.text.now c.args.levels) c.push.new.self.items c.term.new.tokens.rest.now)
+    c.in_ok-push-2.ensures.items c.loop-alloc-test.ensures c.in_ok-next.ensures c.loop-alloc.invariant
 
 pub terms-returns-in_err-next : goal.terms-returns-in_err-next
 terms-returns-in_err-next t c =
     let p = err_from_is_err_and c.from_residual-in_err-next.result c.from_residual-in_err-next.ensures.1 in
-    rw (p.1, p.2) (λ reason is. next_fails term_of (Symbol Comma) (term_at c.args.text.now c.args.levels) c.in_ok-all.all.items c.push.new.self.items c.loop-alloc.all.items
-    c.args.tokens.now.rest.now c.term.new.tokens.rest.now c.loop-alloc.tokens.rest.now c.expect.new.self.rest.now c.in_ok-first.first c.in_ok-expect.field-0 reason
-    c.in_ok-all.ensures.items c.in_ok-push.ensures.items c.in_ok-first.ensures c.loop-alloc-test.ensures c.in_ok-expect.ensures.read (c.in_err-next.ensures reason is) c.loop-alloc.invariant)
+    rw (p.1, p.2) (λ reason is. past_stops term_of (Symbol Comma) (term_at c.args.text.now c.args.levels) c.in_ok-all.all.items c.push.new.self.items c.loop-alloc.all.items
+    c.args.tokens.now.rest.now c.term.new.tokens.rest.now c.loop-alloc.tokens.rest.now c.in_ok-first.first reason
+    c.in_ok-all.ensures.items c.in_ok-push.ensures.items c.in_ok-first.ensures c.loop-alloc-test.ensures (c.in_err-next.ensures reason is) c.loop-alloc.invariant)
 
 pub terms-returns : goal.terms-returns
 terms-returns t c = all_read term_of (Symbol Comma) (term_at c.args.text.now c.args.levels) c.in_ok-all.all.items c.push.new.self.items c.loop-alloc.all.items c.args.tokens.now.rest.now c.term.new.tokens.rest.now c.loop-alloc.tokens.rest.now c.in_ok-first.first

@@ -37,17 +37,20 @@ decreases-longer_chain l = l.levels * 30 + operand_rank l.of + 1
 abbrev pub decreases-chain_from : goal.decreases-chain_from
 decreases-chain_from l = l.levels * 30 + operand_rank l.of + 2
 
+abbrev pub decreases-other_side : goal.decreases-other_side
+decreases-other_side l = l.levels * 30 + 12
+
 abbrev pub decreases-longer_comparison : goal.decreases-longer_comparison
-decreases-longer_comparison l = l.levels * 30 + 12
+decreases-longer_comparison l = l.levels * 30 + 13
 
 abbrev pub decreases-compared : goal.decreases-compared
-decreases-compared l = l.levels * 30 + 13
+decreases-compared l = l.levels * 30 + 14
 
 abbrev pub decreases-comparison : goal.decreases-comparison
-decreases-comparison l = l.levels * 30 + 14
+decreases-comparison l = l.levels * 30 + 15
 
 abbrev pub decreases-negation : goal.decreases-negation
-decreases-negation l = l.levels * 30 + 15
+decreases-negation l = l.levels * 30 + 16
 
 abbrev pub decreases-term_from : goal.decreases-term_from
 decreases-term_from l = l.levels * 30 + 24
@@ -55,8 +58,11 @@ decreases-term_from l = l.levels * 30 + 24
 abbrev pub decreases-term : goal.decreases-term
 decreases-term l = l.levels * 30 + 25
 
+abbrev pub decreases-next_term : goal.decreases-next_term
+decreases-next_term l = l.levels * 30 + 26
+
 abbrev pub decreases-terms : goal.decreases-terms
-decreases-terms l = l.levels * 30 + 26
+decreases-terms l = l.levels * 30 + 27
 
 abbrev pub decreases-quantified : goal.decreases-quantified
 decreases-quantified l = l.levels * 30 + 26
