@@ -7,8 +7,7 @@ use Rattle.asm_syntax.specs.declared.token.Word.TheVariants.{If, Then, Else, End
 use Rattle.asm_syntax.specs.declared.token.Token.{Token}
 use Rattle.asm_syntax.specs.SourceTree as source
 use Rattle.asm_reader.specs.RuleGrammar.{branch}
-use Rattle.asm_reader.specs.Steps.{Answer, Reader, and_then, enter, choice_at, pair_of, mapped, past_of, between_of, braced_of}
-use Rattle.asm_reader.specs.Before.{before_of}
+use Rattle.asm_reader.specs.Steps.{Answer, Reader, and_then, enter, choice_at, pair_of, mapped, past_of, before_of, between_of, braced_of}
 use Rattle.asm_reader.specs.Grammar.{function_kinds}
 use Rattle.asm_reader.specs.TermReading.{name_at, binding_at, quantified_at, term_at}
 use Rattle.asm_reader.specs.RuleReading.{rule_at, branch_at, condition_at, if_at, let_at, forall_at, choose_at, iterate_at, while_at}

@@ -7,8 +7,8 @@ use Rattle.asm_syntax.specs.declared.token.Token.{Token}
 use Rattle.asm_syntax.specs.SourceTree as source
 use Rattle.asm_reader.specs.declared.error.ReadError.{ReadError}
 use Rattle.asm_reader.specs.Kinds.{alike, begins}
-use Rattle.asm_reader.specs.Steps.{Reader, and_then, below, mapped, either_of, expect, option_of, repeated_of, several_of}
-use Rattle.asm_reader.specs.TermReading.{applied_at, disjunction_at, term_at}
+use Rattle.asm_reader.specs.Steps.{Reader, and_then, below, mapped, either_of, option_of, repeated_of, several_of}
+use Rattle.asm_reader.specs.TermReading.{applied_at, term_at}
 use Rattle.asm_reader.specs.RuleReading.{Applied, value_at, called_at, named_rule_at, rule_over_at, rule_at}
 use Rattle.asm_reader.proofs.Loops.{with_front, front_is}
 

@@ -9,7 +9,6 @@ pub mod Specification
 pub mod Refusals
 pub mod Seen
 pub mod Steps
-pub mod Before
 pub mod TermReading
 pub mod RuleReading
 pub mod Reading

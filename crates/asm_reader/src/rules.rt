@@ -8,8 +8,7 @@ ghost use Rattle.asm_syntax.specs.Views.{name_of, rule_of, term_of};
 ghost use Rattle.asm_reader.specs.TermReading as terms;
 ghost use Rattle.asm_reader.specs.RuleReading as reading;
 ghost use Rattle.asm_reader.specs.Seen.{applied_of, boxed_rule_of, in_box, ranged_of};
-ghost use Rattle.asm_reader.specs.Before.{before_of};
-ghost use Rattle.asm_reader.specs.Steps.{Reads, below, between_of, each_of, pair_of, several_of};
+ghost use Rattle.asm_reader.specs.Steps.{Reads, before_of, below, between_of, each_of, pair_of, several_of};
 
 use crate::cursor::Cursor;
 use crate::error::ReadError;

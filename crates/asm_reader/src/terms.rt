@@ -7,12 +7,12 @@ ghost use Rattle.std.specs.Prelude.{◌≡◌, map, Ok, IfOk};
 ghost use Rattle.asm_syntax.specs.declared.token.Kind.TheVariants as kinds;
 ghost use Rattle.asm_syntax.specs.declared.token.Symbol.TheVariants as symbols;
 ghost use Rattle.asm_syntax.specs.Views.{term_of, test_of};
-ghost use Rattle.asm_reader.specs.Kinds.{begins, is_one_of};
+ghost use Rattle.asm_reader.specs.Kinds.{begins, is_one_of, keys};
 ghost use Rattle.asm_reader.specs.TermGrammar as grammar;
 ghost use Rattle.asm_reader.specs.TermReading as reading;
 ghost use Rattle.asm_reader.specs.RuleReading.{condition_at};
 ghost use Rattle.asm_reader.specs.Seen.{applied_of, link_of, names_of, quantified_of};
-ghost use Rattle.asm_reader.specs.Steps.{Reads, below, braced_of, choice_at, each_of, pair_of, past_of};
+ghost use Rattle.asm_reader.specs.Steps.{Reads, below, braced_of, choice_at, each_of, pair_of, past_of, repeated_of};
 
 use crate::cursor::Cursor;
 use crate::error::ReadError;
@@ -447,6 +447,26 @@ fn operand(
     }
 }
 
+/// The operators behind a first member, each with the member behind it.
+#[cycle(terms)]
+fn links(
+    alloc: Global,
+    text: &[u8],
+    tokens: &mut Cursor<'_>,
+    levels: usize,
+    of: Precedence,
+) -> Result<Vec<(Op, Term)>, Refused<ReadError>>
+    ensures { Reads (each_of link_of) (repeated_of (keys (reading.table_of of)) (reading.link_at text.now levels (below (reading.term_at text.now) levels) of) tokens.old.rest.now) result tokens.new.rest.now }
+{
+    let mut rest = Vec::with_capacity(alloc, 1)?;
+    while tokens.sees_in(operators(of)) {
+        let operator = tokens.choice(operators(of))?;
+        let next = operand(alloc, text, tokens, levels, of)?;
+        rest.push((operator, next))?;
+    }
+    Ok(rest)
+}
+
 /// What the operators behind a first member make of it.
 #[cycle(terms)]
 #[inline(never)]
@@ -460,12 +480,7 @@ fn longer_chain(
 ) -> Result<Term, Refused<ReadError>>
     ensures { Reads term_of (reading.chain_from_at text.now levels (below (reading.term_at text.now) levels) of (term_of first) tokens.old.rest.now) result tokens.new.rest.now }
 {
-    let mut rest = Vec::with_capacity(alloc, 1)?;
-    while tokens.sees_in(operators(of)) {
-        let operator = tokens.choice(operators(of))?;
-        let next = operand(alloc, text, tokens, levels, of)?;
-        rest.push((operator, next))?;
-    }
+    let rest = links(alloc, text, tokens, levels, of)?;
     Ok(joined(alloc, first, rest)?)
 }
 
