@@ -25,6 +25,7 @@ pub mod Separated
 pub mod Ranks
 pub mod TermSteps
 pub mod RuleSteps
+pub mod Headers
 pub mod Views
 pub mod Fronts
 pub mod OneRefusal

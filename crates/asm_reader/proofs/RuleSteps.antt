@@ -7,8 +7,8 @@ use Rattle.asm_syntax.specs.declared.token.Token.{Token}
 use Rattle.asm_syntax.specs.SourceTree as source
 use Rattle.asm_reader.specs.declared.error.ReadError.{ReadError}
 use Rattle.asm_reader.specs.Kinds.{alike, begins}
-use Rattle.asm_reader.specs.Steps.{Reader, and_then, below, mapped, either_of, expect, option_of, repeated_of, several_of}
-use Rattle.asm_reader.specs.TermReading.{applied_at, disjunction_at, term_at}
+use Rattle.asm_reader.specs.Steps.{Reader, and_then, below, mapped, either_of, option_of, repeated_of, several_of}
+use Rattle.asm_reader.specs.TermReading.{applied_at, term_at}
 use Rattle.asm_reader.specs.RuleReading.{Applied, value_at, called_at, named_rule_at, rule_over_at, rule_at}
 use Rattle.asm_reader.proofs.Loops.{with_front, front_is}
 
@@ -41,11 +41,10 @@ module _ {A : Type 0} (a b : Kind) (f g : Reader A) where
 -- ---- what begins with a name
 
 module _ (text : List ℕ) (n : ℕ) (term : Reader source.Term) (rule : Reader source.Rule) (ts ts1 : List Token) (first : Applied) (read : applied_at text n term ts ≡ Ok (first, ts1)) where
-  module _ (ts2 : List Token) (word : Token) (sees : begins (Symbol Assign ∷ []) ts1 ≡ true) (taken : expect (Symbol Assign) ts1 ≡ Ok (word, ts2)) where
-    pub assignment_is : (ts3 : List Token) (t : source.Term) → disjunction_at text n term ts2 ≡ Ok (t, ts3) → named_rule_at text n term rule ts ≡ Ok (source.Assign first.0 first.1 t, ts3)
-    unfolding named_rule_at
-    assignment_is ts3 t p = rw (read, one_behind (Symbol Assign) (Symbol LeftArrow) (mapped inl (value_at text n term rule)) (mapped inr (called_at text n term rule)) ts1 sees, taken, p) refl
+  pub assignment_is : begins (Symbol Assign ∷ []) ts1 ≡ true → (ts2 : List Token) (t : source.Term) → value_at text n term rule ts1 ≡ Ok (t, ts2) → named_rule_at text n term rule ts ≡ Ok (source.Assign first.0 first.1 t, ts2)
+  unfolding named_rule_at
+  assignment_is sees ts2 t p = rw (read, one_behind (Symbol Assign) (Symbol LeftArrow) (mapped inl (value_at text n term rule)) (mapped inr (called_at text n term rule)) ts1 sees, p) refl
 
-    pub value_fails : (e : ReadError) → disjunction_at text n term ts2 ≡ Err e → named_rule_at text n term rule ts ≡ Err e
-    unfolding named_rule_at
-    value_fails e p = rw (read, one_behind (Symbol Assign) (Symbol LeftArrow) (mapped inl (value_at text n term rule)) (mapped inr (called_at text n term rule)) ts1 sees, taken, p) refl
+  pub value_fails : begins (Symbol Assign ∷ []) ts1 ≡ true → (e : ReadError) → value_at text n term rule ts1 ≡ Err e → named_rule_at text n term rule ts ≡ Err e
+  unfolding named_rule_at
+  value_fails sees e p = rw (read, one_behind (Symbol Assign) (Symbol LeftArrow) (mapped inl (value_at text n term rule)) (mapped inr (called_at text n term rule)) ts1 sees, p) refl

@@ -48,6 +48,11 @@ module _ {A B : Type 0} (view : B → A) (k : Kind) (f : Reader A) where
   abbrev pub so_far : List B → List Token → Answer (List A)
   so_far front ts = with_front (map view front) (repeated_of (k ∷ []) (past_of k f) ts)
 
+  -- one more turn of the loop, where a part is read with the token before it
+  pub next_seen : Consumes f → (before after : List B) (ts ts1 : List Token) (x : B) (total : Answer (List A)) → after ≡ before ++ x ∷ [] → true ≡ begins (k ∷ []) ts
+      → past_of k f ts ≡ Ok (view x, ts1) → so_far before ts ≡ total → so_far after ts1 ≡ total
+  next_seen c before after ts ts1 x total pushed b p e = turn_seen view (k ∷ []) (past_of k f) (past_consumes k f c) before after ts x ts1 total pushed b p e
+
   -- one more turn of the loop
   pub next_read : Consumes f → (before after : List B) (ts ts1 ts2 : List Token) (t : Token) (x : B) (total : Answer (List A)) → after ≡ before ++ x ∷ [] → true ≡ begins (k ∷ []) ts
       → expect k ts ≡ Ok (t, ts1) → f ts1 ≡ Ok (view x, ts2) → so_far before ts ≡ total → so_far after ts2 ≡ total
@@ -59,6 +64,13 @@ module _ {A B : Type 0} (view : B → A) (k : Kind) (f : Reader A) where
   all_read none one all ts ts1 last first e pushed read b so = separated_is k f ts ts1 (view first) read
       ∙ sym (one_before view (k ∷ []) (past_of k f) none one first (repeated_of (k ∷ []) (past_of k f) ts1) e pushed)
       ∙ no_turn (k ∷ []) (past_of k f) (map view all) last (so_far one ts1) (sym b) so
+
+  -- a part can't be read with the token before it
+  pub past_stops : (none one all : List B) (ts ts1 ts2 : List Token) (first : B) (d : ReadError) → none ≡ [] → one ≡ none ++ first ∷ [] → f ts ≡ Ok (view first, ts1) → true ≡ begins (k ∷ []) ts2
+      → past_of k f ts2 ≡ Err d → so_far all ts2 ≡ so_far one ts1 → separated_of k f ts ≡ Err d
+  past_stops none one all ts ts1 ts2 first d e pushed read b p so = separated_is k f ts ts1 (view first) read
+      ∙ sym (one_before view (k ∷ []) (past_of k f) none one first (repeated_of (k ∷ []) (past_of k f) ts1) e pushed)
+      ∙ bad_turn (k ∷ []) (past_of k f) (map view all) ts2 d (so_far one ts1) (sym b) p so
 
   -- a part behind a token between two can't be read
   pub next_fails : (none one all : List B) (ts ts1 ts2 ts3 : List Token) (first : B) (t : Token) (d : ReadError) → none ≡ [] → one ≡ none ++ first ∷ [] → f ts ≡ Ok (view first, ts1) → true ≡ begins (k ∷ []) ts2

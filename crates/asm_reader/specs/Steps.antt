@@ -106,6 +106,10 @@ choice_at table (t ∷ ts) = found_at (looked_up table t.kind) t ts
 abbrev pub past_of : {A : Type 0} → Kind → Reader A → Reader A
 past_of k f = mapped (λ r. r.1) (pair_of (expect k) f)
 
+-- what stands before a token of this kind
+abbrev pub before_of : {A : Type 0} → Kind → Reader A → Reader A
+before_of k f = mapped (λ r. r.0) (pair_of f (expect k))
+
 -- once or more, as long as the next token is of one of these kinds
 abbrev pub several_of : {A : Type 0} → List Kind → Reader A → Reader (List A)
 several_of ks f = mapped (λ r. r.0 ∷ r.1) (pair_of f (repeated_of ks f))

@@ -3,13 +3,15 @@
 ghost use Rattle.std.specs.Prelude.{◌≡◌, ◌≢◌, [], ◌∷◌, false, option_map, IfErr};
 ghost use Rattle.asm_syntax.specs.declared.refused.Refused.TheVariants.{Memory};
 ghost use Rattle.asm_syntax.specs.declared.token.Kind.TheVariants as kinds;
+ghost use Rattle.asm_syntax.specs.declared.token.Symbol.TheVariants as symbols;
 ghost use Rattle.asm_syntax.specs.declared.token.Word.TheVariants as words;
 ghost use Rattle.asm_syntax.specs.Views.{given_of, item_of, name_of, spec_of};
 ghost use Rattle.asm_reader.specs.Grammar as grammar;
 ghost use Rattle.asm_reader.specs.Kinds.{begins};
 ghost use Rattle.asm_reader.specs.Reading as reading;
-ghost use Rattle.asm_reader.specs.Seen.{type_of};
-ghost use Rattle.asm_reader.specs.Steps.{Reads, each_of, repeated_of};
+ghost use Rattle.asm_reader.specs.Seen.{declared_of, heading_of, type_of};
+ghost use Rattle.asm_reader.specs.Steps.{Reads, braced_of, choice_at, each_of, itself, pair_of, past_of, repeated_of};
+ghost use Rattle.asm_reader.specs.TermReading.{name_at};
 
 use crate::contents::{int, table};
 use crate::cursor::Cursor;
@@ -18,6 +20,7 @@ use crate::names::{name, names};
 use crate::rules::rule;
 use crate::terms::term;
 use asm_state::function::FunctionKind;
+use asm_state::number::Number;
 use asm_syntax::name::Name;
 use asm_syntax::spec::{Given, Item, Spec};
 use asm_syntax::{Kind, Refused, Symbol, Word};
@@ -83,7 +86,21 @@ fn elements(
     Ok(all)
 }
 
-#[tactic(auto, unfolding(crate::specs::Reading::enum_at))]
+/// The name between this word and `=`.
+fn titled(
+    alloc: Global,
+    text: &[u8],
+    tokens: &mut Cursor<'_>,
+    word: Word,
+) -> Result<Name, Refused<ReadError>>
+    ensures { Reads name_of (braced_of (kinds.Word word) (kinds.Symbol symbols.Equal) (name_at text.now) tokens.old.rest.now) result tokens.new.rest.now }
+{
+    tokens.expect(Kind::Word(word))?;
+    let name = name(alloc, text, tokens)?;
+    tokens.expect(Kind::Symbol(Symbol::Equal))?;
+    Ok(name)
+}
+
 fn enum_item(
     alloc: Global,
     text: &[u8],
@@ -91,14 +108,21 @@ fn enum_item(
 ) -> Result<Item, Refused<ReadError>>
     ensures { Reads item_of (reading.enum_at text.now tokens.old.rest.now) result tokens.new.rest.now }
 {
-    tokens.expect(Kind::Word(Word::Enum))?;
-    let name = name(alloc, text, tokens)?;
-    tokens.expect(Kind::Symbol(Symbol::Equal))?;
+    let name = titled(alloc, text, tokens, Word::Enum)?;
     let elements = elements(alloc, text, tokens)?;
     Ok(Item::Enum { name, elements })
 }
 
-#[tactic(auto, unfolding(crate::specs::Reading::universe_at))]
+/// The first and the last number of a universe. It takes no memory.
+fn range(tokens: &mut Cursor<'_>) -> Result<(Number, Number), Refused<ReadError>>
+    ensures { Reads itself (pair_of reading.int_at (past_of (kinds.Symbol symbols.Dots) reading.int_at) tokens.old.rest.now) result tokens.new.rest.now }
+{
+    let first = int(tokens)?;
+    tokens.expect(Kind::Symbol(Symbol::Dots))?;
+    let last = int(tokens)?;
+    Ok((first, last))
+}
+
 fn universe_item(
     alloc: Global,
     text: &[u8],
@@ -106,13 +130,22 @@ fn universe_item(
 ) -> Result<Item, Refused<ReadError>>
     ensures { Reads item_of (reading.universe_at text.now tokens.old.rest.now) result tokens.new.rest.now }
 {
-    tokens.expect(Kind::Word(Word::Universe))?;
-    let name = name(alloc, text, tokens)?;
-    tokens.expect(Kind::Symbol(Symbol::Equal))?;
-    let first = int(tokens)?;
-    tokens.expect(Kind::Symbol(Symbol::Dots))?;
-    let last = int(tokens)?;
+    let name = titled(alloc, text, tokens, Word::Universe)?;
+    let (first, last) = range(tokens)?;
     Ok(Item::Universe { name, first, last })
+}
+
+/// The name behind `->`.
+fn behind_arrow(
+    alloc: Global,
+    text: &[u8],
+    tokens: &mut Cursor<'_>,
+) -> Result<Name, Refused<ReadError>>
+    ensures { Reads name_of (past_of (kinds.Symbol symbols.Arrow) (name_at text.now) tokens.old.rest.now) result tokens.new.rest.now }
+{
+    tokens.expect(Kind::Symbol(Symbol::Arrow))?;
+    let name = name(alloc, text, tokens)?;
+    Ok(name)
 }
 
 /// What stands behind `->`, if it is there.
@@ -125,8 +158,7 @@ fn codomain(
     ensures { Reads (option_map name_of) (reading.codomain_at text.now tokens.old.rest.now) result tokens.new.rest.now }
 {
     if tokens.sees(Kind::Symbol(Symbol::Arrow)) {
-        tokens.expect(Kind::Symbol(Symbol::Arrow))?;
-        let codomain = name(alloc, text, tokens)?;
+        let codomain = behind_arrow(alloc, text, tokens)?;
         return Ok(Some(codomain));
     }
     Ok(None)
@@ -142,8 +174,7 @@ fn function_type(
     ensures { Reads type_of (reading.type_at text.now tokens.old.rest.now) result tokens.new.rest.now }
 {
     if tokens.sees(Kind::Symbol(Symbol::Arrow)) {
-        tokens.expect(Kind::Symbol(Symbol::Arrow))?;
-        let codomain = name(alloc, text, tokens)?;
+        let codomain = behind_arrow(alloc, text, tokens)?;
         return Ok((Vec::new(alloc), Some(codomain)));
     }
     let domain = names(alloc, text, tokens, Kind::Symbol(Symbol::Times))?;
@@ -185,7 +216,20 @@ fn initially(
     Ok(None)
 }
 
-#[tactic(auto, unfolding(crate::specs::Reading::function_at))]
+/// How the values of a function come, and its name, behind `function`.
+fn declared(
+    alloc: Global,
+    text: &[u8],
+    tokens: &mut Cursor<'_>,
+) -> Result<(FunctionKind, Name), Refused<ReadError>>
+    ensures { Reads declared_of (past_of (kinds.Word words.Function) (pair_of (choice_at grammar.function_kinds) (name_at text.now)) tokens.old.rest.now) result tokens.new.rest.now }
+{
+    tokens.expect(Kind::Word(Word::Function))?;
+    let kind = tokens.choice(function_kinds())?;
+    let name = name(alloc, text, tokens)?;
+    Ok((kind, name))
+}
+
 fn function_item(
     alloc: Global,
     text: &[u8],
@@ -194,11 +238,11 @@ fn function_item(
 ) -> Result<Item, Refused<ReadError>>
     ensures { Reads item_of (reading.function_at text.now levels tokens.old.rest.now) result tokens.new.rest.now }
 {
-    tokens.expect(Kind::Word(Word::Function))?;
-    let kind = tokens.choice(function_kinds())?;
-    let name = name(alloc, text, tokens)?;
-    let (domain, codomain) = signature(alloc, text, tokens)?;
+    let header = declared(alloc, text, tokens)?;
+    let signature = signature(alloc, text, tokens)?;
     let table = initially(alloc, text, tokens, levels)?;
+    let (kind, name) = header;
+    let (domain, codomain) = signature;
     Ok(Item::Function {
         name,
         kind,
@@ -227,7 +271,23 @@ fn parameters(
     Ok(all)
 }
 
-#[tactic(auto, unfolding(crate::specs::Reading::derived_at))]
+/// A name and its parameters, between this word and `=`.
+fn heading(
+    alloc: Global,
+    text: &[u8],
+    tokens: &mut Cursor<'_>,
+    levels: usize,
+    word: Word,
+) -> Result<(Name, Vec<Name>), Refused<ReadError>>
+    ensures { Reads heading_of (braced_of (kinds.Word word) (kinds.Symbol symbols.Equal) (pair_of (name_at text.now) (reading.parameters_at text.now levels)) tokens.old.rest.now) result tokens.new.rest.now }
+{
+    tokens.expect(Kind::Word(word))?;
+    let name = name(alloc, text, tokens)?;
+    let parameters = parameters(alloc, text, tokens, levels)?;
+    tokens.expect(Kind::Symbol(Symbol::Equal))?;
+    Ok((name, parameters))
+}
+
 fn derived_item(
     alloc: Global,
     text: &[u8],
@@ -236,11 +296,9 @@ fn derived_item(
 ) -> Result<Item, Refused<ReadError>>
     ensures { Reads item_of (reading.derived_at text.now levels tokens.old.rest.now) result tokens.new.rest.now }
 {
-    tokens.expect(Kind::Word(Word::Derived))?;
-    let name = name(alloc, text, tokens)?;
-    let parameters = parameters(alloc, text, tokens, levels)?;
-    tokens.expect(Kind::Symbol(Symbol::Equal))?;
+    let header = heading(alloc, text, tokens, levels, Word::Derived)?;
     let body = term(alloc, text, tokens, levels)?;
+    let (name, parameters) = header;
     Ok(Item::Derived {
         name,
         parameters,
@@ -248,7 +306,6 @@ fn derived_item(
     })
 }
 
-#[tactic(auto, unfolding(crate::specs::Reading::rule_item_at))]
 fn rule_item(
     alloc: Global,
     text: &[u8],
@@ -257,11 +314,9 @@ fn rule_item(
 ) -> Result<Item, Refused<ReadError>>
     ensures { Reads item_of (reading.rule_item_at text.now levels tokens.old.rest.now) result tokens.new.rest.now }
 {
-    tokens.expect(Kind::Word(Word::Rule))?;
-    let name = name(alloc, text, tokens)?;
-    let parameters = parameters(alloc, text, tokens, levels)?;
-    tokens.expect(Kind::Symbol(Symbol::Equal))?;
+    let header = heading(alloc, text, tokens, levels, Word::Rule)?;
     let body = rule(alloc, text, tokens, levels)?;
+    let (name, parameters) = header;
     Ok(Item::Rule {
         name,
         parameters,

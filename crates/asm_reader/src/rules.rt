@@ -1,17 +1,22 @@
 //! Rules, from their tokens.
 
-ghost use Rattle.std.specs.Prelude.{◌≡◌, ◌<◌, ◌-◌, map};
-ghost use Rattle.asm_syntax.specs.Views.{rule_of};
+ghost use Rattle.std.specs.Prelude.{◌≡◌, ◌<◌, ◌-◌, map, OnOk};
+ghost use Rattle.asm_syntax.specs.declared.token.Kind.TheVariants as kinds;
+ghost use Rattle.asm_syntax.specs.declared.token.Symbol.TheVariants as symbols;
+ghost use Rattle.asm_syntax.specs.declared.token.Word.TheVariants as words;
+ghost use Rattle.asm_syntax.specs.Views.{name_of, rule_of, term_of};
 ghost use Rattle.asm_reader.specs.TermReading as terms;
 ghost use Rattle.asm_reader.specs.RuleReading as reading;
-ghost use Rattle.asm_reader.specs.Seen.{boxed_rule_of};
-ghost use Rattle.asm_reader.specs.Steps.{Reads, below, each_of, several_of};
+ghost use Rattle.asm_reader.specs.Seen.{applied_of, boxed_rule_of, in_box, ranged_of};
+ghost use Rattle.asm_reader.specs.Steps.{Reads, before_of, below, between_of, each_of, pair_of, several_of};
 
 use crate::cursor::Cursor;
 use crate::error::ReadError;
 use crate::names::{binding, name, result_word};
 use crate::terms::{applied, condition, term};
+use asm_syntax::name::Name;
 use asm_syntax::rule::{Rule, Target};
+use asm_syntax::term::Term;
 use asm_syntax::{Kind, Refused, Symbol, Word};
 use std::alloc::Global;
 
@@ -33,8 +38,87 @@ fn rule_starts() -> &'static [Kind]
     ]
 }
 
+/// A name, what it ranges over and maybe a condition, between this word and `do`.
+#[tactic(auto, using(crate::proofs::TermSteps::below_less))]
+fn ranged(
+    alloc: Global,
+    text: &[u8],
+    tokens: &mut Cursor<'_>,
+    levels: usize,
+    word: Word,
+) -> Result<((Name, Name), Option<Term>), Refused<ReadError>>
+    ensures read { Reads ranged_of (between_of levels (kinds.Word word) (kinds.Word words.Do) (pair_of (terms.binding_at text.now) (reading.condition_at (below (terms.term_at text.now) levels))) tokens.old.rest.now) result tokens.new.rest.now }
+    ensures left { OnOk result (0 < levels) }
+{
+    tokens.enter(Kind::Word(word), levels)?;
+    let names = binding(alloc, text, tokens)?;
+    let test = condition(alloc, text, tokens, levels - 1)?;
+    tokens.expect(Kind::Word(Word::Do))?;
+    Ok((names, test))
+}
+
+/// The name between `let` and `=`.
+fn let_name(
+    alloc: Global,
+    text: &[u8],
+    tokens: &mut Cursor<'_>,
+    levels: usize,
+) -> Result<Name, Refused<ReadError>>
+    ensures read { Reads name_of (between_of levels (kinds.Word words.Let) (kinds.Symbol symbols.Equal) (terms.name_at text.now) tokens.old.rest.now) result tokens.new.rest.now }
+    ensures left { OnOk result (0 < levels) }
+{
+    tokens.enter(Kind::Word(Word::Let), levels)?;
+    let name = name(alloc, text, tokens)?;
+    tokens.expect(Kind::Symbol(Symbol::Equal))?;
+    Ok(name)
+}
+
+/// A term before this word.
+fn term_before(
+    alloc: Global,
+    text: &[u8],
+    tokens: &mut Cursor<'_>,
+    levels: usize,
+    word: Word,
+) -> Result<Term, Refused<ReadError>>
+    ensures { Reads term_of (before_of (kinds.Word word) (terms.term_at text.now levels) tokens.old.rest.now) result tokens.new.rest.now }
+{
+    let value = term(alloc, text, tokens, levels)?;
+    tokens.expect(Kind::Word(word))?;
+    Ok(value)
+}
+
+/// What is assigned, behind `:=`.
+#[tactic(auto, using(crate::proofs::TermSteps::term_is))]
+fn assigned(
+    alloc: Global,
+    text: &[u8],
+    tokens: &mut Cursor<'_>,
+    levels: usize,
+) -> Result<Term, Refused<ReadError>>
+    ensures { Reads term_of (reading.value_at text.now levels (below (terms.term_at text.now) levels) (below (reading.rule_at text.now) levels) tokens.old.rest.now) result tokens.new.rest.now }
+{
+    tokens.expect(Kind::Symbol(Symbol::Assign))?;
+    let value = term(alloc, text, tokens, levels)?;
+    Ok(value)
+}
+
+/// The call that answers, behind `<-`.
+fn answering(
+    alloc: Global,
+    text: &[u8],
+    tokens: &mut Cursor<'_>,
+    levels: usize,
+) -> Result<(Name, Vec<Term>), Refused<ReadError>>
+    ensures { Reads applied_of (reading.called_at text.now levels (below (terms.term_at text.now) levels) (below (reading.rule_at text.now) levels) tokens.old.rest.now) result tokens.new.rest.now }
+{
+    tokens.expect(Kind::Symbol(Symbol::LeftArrow))?;
+    let called = applied(alloc, text, tokens, levels)?;
+    Ok(called)
+}
+
 /// A call, an assignment, or a call that answers.
-#[tactic(auto, using(crate::proofs::TermSteps::term_is), unfolding(crate::specs::RuleReading::named_rule_at))]
+#[tactic(auto, unfolding(crate::specs::RuleReading::named_rule_at))]
 fn named_rule(
     alloc: Global,
     text: &[u8],
@@ -43,10 +127,10 @@ fn named_rule(
 ) -> Result<Rule, Refused<ReadError>>
     ensures { Reads rule_of (reading.named_rule_at text.now levels (below (terms.term_at text.now) levels) (below (reading.rule_at text.now) levels) tokens.old.rest.now) result tokens.new.rest.now }
 {
-    let (name, arguments) = applied(alloc, text, tokens, levels)?;
+    let first = applied(alloc, text, tokens, levels)?;
     if tokens.sees(Kind::Symbol(Symbol::Assign)) {
-        tokens.expect(Kind::Symbol(Symbol::Assign))?;
-        let value = term(alloc, text, tokens, levels)?;
+        let value = assigned(alloc, text, tokens, levels)?;
+        let (name, arguments) = first;
         return Ok(Rule::Assign {
             name,
             arguments,
@@ -54,14 +138,15 @@ fn named_rule(
         });
     }
     if tokens.sees(Kind::Symbol(Symbol::LeftArrow)) {
-        tokens.expect(Kind::Symbol(Symbol::LeftArrow))?;
-        let (called, given) = applied(alloc, text, tokens, levels)?;
+        let (called, given) = answering(alloc, text, tokens, levels)?;
+        let (name, arguments) = first;
         return Ok(Rule::Call {
             target: Some(Target { name, arguments }),
             name: called,
             arguments: given,
         });
     }
+    let (name, arguments) = first;
     Ok(Rule::Call {
         target: None,
         name,
@@ -70,7 +155,7 @@ fn named_rule(
 }
 
 /// What is assigned to the location into which the rule's answer goes.
-#[tactic(auto, using(crate::proofs::TermSteps::term_is), unfolding(crate::specs::RuleReading::result_rule_at))]
+#[tactic(auto, unfolding(crate::specs::RuleReading::result_rule_at))]
 fn result_rule(
     alloc: Global,
     text: &[u8],
@@ -80,8 +165,7 @@ fn result_rule(
     ensures { Reads rule_of (reading.result_rule_at text.now levels (below (terms.term_at text.now) levels) (below (reading.rule_at text.now) levels) tokens.old.rest.now) result tokens.new.rest.now }
 {
     let name = result_word(alloc, text, tokens)?;
-    tokens.expect(Kind::Symbol(Symbol::Assign))?;
-    let value = term(alloc, text, tokens, levels)?;
+    let value = assigned(alloc, text, tokens, levels)?;
     Ok(Rule::SetResult { name, value })
 }
 
@@ -137,6 +221,36 @@ fn seq(
     Ok(Rule::Seq(all))
 }
 
+/// A rule, in a box.
+#[cycle(rules)]
+fn boxed(
+    alloc: Global,
+    text: &[u8],
+    tokens: &mut Cursor<'_>,
+    levels: usize,
+) -> Result<Box<Rule>, Refused<ReadError>>
+    ensures { Reads in_box (reading.rule_at text.now levels tokens.old.rest.now) result tokens.new.rest.now }
+{
+    let rule = rule(alloc, text, tokens, levels)?;
+    Ok(Box::new(alloc, rule)?)
+}
+
+/// A rule before this word, in a box.
+#[cycle(rules)]
+fn body(
+    alloc: Global,
+    text: &[u8],
+    tokens: &mut Cursor<'_>,
+    levels: usize,
+    end: Word,
+) -> Result<Box<Rule>, Refused<ReadError>>
+    ensures { Reads in_box (before_of (kinds.Word end) (reading.rule_at text.now levels) tokens.old.rest.now) result tokens.new.rest.now }
+{
+    let body = boxed(alloc, text, tokens, levels)?;
+    tokens.expect(Kind::Word(end))?;
+    Ok(body)
+}
+
 /// The rule behind this word, if the word is there.
 #[cycle(rules)]
 #[tactic(auto, unfolding(crate::specs::RuleReading::branch_at))]
@@ -151,11 +265,27 @@ fn branch(
 {
     if tokens.sees(Kind::Word(word)) {
         tokens.expect(Kind::Word(word))?;
-        let other = rule(alloc, text, tokens, levels)?;
-        let other = Box::new(alloc, other)?;
+        let other = boxed(alloc, text, tokens, levels)?;
         return Ok(Some(other));
     }
     Ok(None)
+}
+
+/// The same, before the other word.
+#[cycle(rules)]
+fn last_branch(
+    alloc: Global,
+    text: &[u8],
+    tokens: &mut Cursor<'_>,
+    levels: usize,
+    word: Word,
+    end: Word,
+) -> Result<Option<Box<Rule>>, Refused<ReadError>>
+    ensures { Reads boxed_rule_of (before_of (kinds.Word end) (reading.branch_at word (reading.rule_at text.now levels)) tokens.old.rest.now) result tokens.new.rest.now }
+{
+    let other = branch(alloc, text, tokens, levels, word)?;
+    tokens.expect(Kind::Word(end))?;
+    Ok(other)
 }
 
 #[cycle(rules)]
@@ -169,12 +299,9 @@ fn conditional(
     ensures { Reads rule_of (reading.if_at text.now levels (below (terms.term_at text.now) levels) (below (reading.rule_at text.now) levels) tokens.old.rest.now) result tokens.new.rest.now }
 {
     tokens.enter(Kind::Word(Word::If), levels)?;
-    let test = term(alloc, text, tokens, levels - 1)?;
-    tokens.expect(Kind::Word(Word::Then))?;
-    let yes = rule(alloc, text, tokens, levels - 1)?;
-    let yes = Box::new(alloc, yes)?;
-    let no = branch(alloc, text, tokens, levels - 1, Word::Else)?;
-    tokens.expect(Kind::Word(Word::EndIf))?;
+    let test = term_before(alloc, text, tokens, levels - 1, Word::Then)?;
+    let yes = boxed(alloc, text, tokens, levels - 1)?;
+    let no = last_branch(alloc, text, tokens, levels - 1, Word::Else, Word::EndIf)?;
     Ok(Rule::If { test, yes, no })
 }
 
@@ -188,14 +315,9 @@ fn let_rule(
 ) -> Result<Rule, Refused<ReadError>>
     ensures { Reads rule_of (reading.let_at text.now levels (below (terms.term_at text.now) levels) (below (reading.rule_at text.now) levels) tokens.old.rest.now) result tokens.new.rest.now }
 {
-    tokens.enter(Kind::Word(Word::Let), levels)?;
-    let name = name(alloc, text, tokens)?;
-    tokens.expect(Kind::Symbol(Symbol::Equal))?;
-    let value = term(alloc, text, tokens, levels - 1)?;
-    tokens.expect(Kind::Word(Word::In))?;
-    let body = rule(alloc, text, tokens, levels - 1)?;
-    let body = Box::new(alloc, body)?;
-    tokens.expect(Kind::Word(Word::EndLet))?;
+    let name = let_name(alloc, text, tokens, levels)?;
+    let value = term_before(alloc, text, tokens, levels - 1, Word::In)?;
+    let body = body(alloc, text, tokens, levels - 1, Word::EndLet)?;
     Ok(Rule::Let { name, value, body })
 }
 
@@ -209,13 +331,9 @@ fn forall(
 ) -> Result<Rule, Refused<ReadError>>
     ensures { Reads rule_of (reading.forall_at text.now levels (below (terms.term_at text.now) levels) (below (reading.rule_at text.now) levels) tokens.old.rest.now) result tokens.new.rest.now }
 {
-    tokens.enter(Kind::Word(Word::Forall), levels)?;
-    let (name, over) = binding(alloc, text, tokens)?;
-    let test = condition(alloc, text, tokens, levels - 1)?;
-    tokens.expect(Kind::Word(Word::Do))?;
-    let body = rule(alloc, text, tokens, levels - 1)?;
-    let body = Box::new(alloc, body)?;
-    tokens.expect(Kind::Word(Word::EndForall))?;
+    let header = ranged(alloc, text, tokens, levels, Word::Forall)?;
+    let body = body(alloc, text, tokens, levels - 1, Word::EndForall)?;
+    let ((name, over), test) = header;
     Ok(Rule::Forall {
         name,
         over,
@@ -234,14 +352,17 @@ fn choose(
 ) -> Result<Rule, Refused<ReadError>>
     ensures { Reads rule_of (reading.choose_at text.now levels (below (terms.term_at text.now) levels) (below (reading.rule_at text.now) levels) tokens.old.rest.now) result tokens.new.rest.now }
 {
-    tokens.enter(Kind::Word(Word::Choose), levels)?;
-    let (name, over) = binding(alloc, text, tokens)?;
-    let test = condition(alloc, text, tokens, levels - 1)?;
-    tokens.expect(Kind::Word(Word::Do))?;
-    let body = rule(alloc, text, tokens, levels - 1)?;
-    let body = Box::new(alloc, body)?;
-    let none = branch(alloc, text, tokens, levels - 1, Word::IfNone)?;
-    tokens.expect(Kind::Word(Word::EndChoose))?;
+    let header = ranged(alloc, text, tokens, levels, Word::Choose)?;
+    let body = boxed(alloc, text, tokens, levels - 1)?;
+    let none = last_branch(
+        alloc,
+        text,
+        tokens,
+        levels - 1,
+        Word::IfNone,
+        Word::EndChoose,
+    )?;
+    let ((name, over), test) = header;
     Ok(Rule::Choose {
         name,
         over,
@@ -262,9 +383,7 @@ fn iterate(
     ensures { Reads rule_of (reading.iterate_at text.now levels (below (terms.term_at text.now) levels) (below (reading.rule_at text.now) levels) tokens.old.rest.now) result tokens.new.rest.now }
 {
     tokens.enter(Kind::Word(Word::Iterate), levels)?;
-    let body = rule(alloc, text, tokens, levels - 1)?;
-    let body = Box::new(alloc, body)?;
-    tokens.expect(Kind::Word(Word::EndIterate))?;
+    let body = body(alloc, text, tokens, levels - 1, Word::EndIterate)?;
     Ok(Rule::Iterate(body))
 }
 
@@ -279,11 +398,8 @@ fn while_rule(
     ensures { Reads rule_of (reading.while_at text.now levels (below (terms.term_at text.now) levels) (below (reading.rule_at text.now) levels) tokens.old.rest.now) result tokens.new.rest.now }
 {
     tokens.enter(Kind::Word(Word::While), levels)?;
-    let test = term(alloc, text, tokens, levels - 1)?;
-    tokens.expect(Kind::Word(Word::Do))?;
-    let body = rule(alloc, text, tokens, levels - 1)?;
-    let body = Box::new(alloc, body)?;
-    tokens.expect(Kind::Word(Word::EndWhile))?;
+    let test = term_before(alloc, text, tokens, levels - 1, Word::Do)?;
+    let body = body(alloc, text, tokens, levels - 1, Word::EndWhile)?;
     Ok(Rule::While { test, body })
 }
 

@@ -4,13 +4,15 @@
 //! stands in functions of its own that are kept out of line.
 
 ghost use Rattle.std.specs.Prelude.{◌≡◌, map, Ok, IfOk};
+ghost use Rattle.asm_syntax.specs.declared.token.Kind.TheVariants as kinds;
+ghost use Rattle.asm_syntax.specs.declared.token.Symbol.TheVariants as symbols;
 ghost use Rattle.asm_syntax.specs.Views.{term_of, test_of};
-ghost use Rattle.asm_reader.specs.Kinds.{begins, is_one_of};
+ghost use Rattle.asm_reader.specs.Kinds.{begins, is_one_of, keys};
 ghost use Rattle.asm_reader.specs.TermGrammar as grammar;
 ghost use Rattle.asm_reader.specs.TermReading as reading;
 ghost use Rattle.asm_reader.specs.RuleReading.{condition_at};
-ghost use Rattle.asm_reader.specs.Seen.{applied_of, link_of, quantified_of};
-ghost use Rattle.asm_reader.specs.Steps.{Reads, below, each_of};
+ghost use Rattle.asm_reader.specs.Seen.{applied_of, link_of, names_of, quantified_of};
+ghost use Rattle.asm_reader.specs.Steps.{Reads, below, braced_of, choice_at, each_of, pair_of, past_of, repeated_of};
 
 use crate::cursor::Cursor;
 use crate::error::ReadError;
@@ -116,6 +118,21 @@ fn joined(alloc: Global, first: Term, rest: Vec<(Op, Term)>) -> Result<Term, All
     })
 }
 
+/// A term behind a comma; so many levels may open in it.
+#[cycle(terms)]
+fn next_term(
+    alloc: Global,
+    text: &[u8],
+    tokens: &mut Cursor<'_>,
+    levels: usize,
+) -> Result<Term, Refused<ReadError>>
+    ensures { Reads term_of (past_of (kinds.Symbol symbols.Comma) (reading.term_at text.now levels) tokens.old.rest.now) result tokens.new.rest.now }
+{
+    tokens.expect(Kind::Symbol(Symbol::Comma))?;
+    let next = term(alloc, text, tokens, levels)?;
+    Ok(next)
+}
+
 /// Terms with commas between; so many levels may open in them.
 #[cycle(terms)]
 fn terms(
@@ -130,8 +147,7 @@ fn terms(
     let first = term(alloc, text, tokens, levels)?;
     all.push(first)?;
     while tokens.sees(Kind::Symbol(Symbol::Comma)) {
-        tokens.expect(Kind::Symbol(Symbol::Comma))?;
-        let next = term(alloc, text, tokens, levels)?;
+        let next = next_term(alloc, text, tokens, levels)?;
         all.push(next)?;
     }
     Ok(all)
@@ -172,9 +188,25 @@ pub fn applied(
     Ok((name, Vec::new(alloc)))
 }
 
-/// A bound name and what it ranges over behind the one word, and a term behind the other.
+/// A bound name and what it ranges over, between the two words.
+fn quantifier(
+    alloc: Global,
+    text: &[u8],
+    tokens: &mut Cursor<'_>,
+    first: Word,
+    second: Word,
+) -> Result<(Name, Name), Refused<ReadError>>
+    ensures { Reads names_of (braced_of (kinds.Word first) (kinds.Word second) (reading.binding_at text.now) tokens.old.rest.now) result tokens.new.rest.now }
+{
+    tokens.expect(Kind::Word(first))?;
+    let names = binding(alloc, text, tokens)?;
+    tokens.expect(Kind::Word(second))?;
+    Ok(names)
+}
+
+/// The same, and the term behind the second word.
 #[cycle(terms)]
-#[tactic(auto, unfolding(crate::specs::TermReading::quantified_at))]
+#[tactic(auto, using(crate::proofs::Headers::quantified_splits))]
 fn quantified(
     alloc: Global,
     text: &[u8],
@@ -185,11 +217,10 @@ fn quantified(
 ) -> Result<(Name, Name, Box<Term>), Refused<ReadError>>
     ensures { Reads quantified_of (reading.quantified_at text.now (reading.term_at text.now levels) first second tokens.old.rest.now) result tokens.new.rest.now }
 {
-    tokens.expect(Kind::Word(first))?;
-    let (name, over) = binding(alloc, text, tokens)?;
-    tokens.expect(Kind::Word(second))?;
+    let names = quantifier(alloc, text, tokens, first, second)?;
     let test = term(alloc, text, tokens, levels)?;
     let test = Box::new(alloc, test)?;
+    let (name, over) = names;
     Ok((name, over, test))
 }
 
@@ -315,6 +346,21 @@ fn factor(
     primary(alloc, text, tokens, levels)
 }
 
+/// The operator of a comparison, and its other side.
+#[cycle(terms)]
+fn other_side(
+    alloc: Global,
+    text: &[u8],
+    tokens: &mut Cursor<'_>,
+    levels: usize,
+) -> Result<(Op, Term), Refused<ReadError>>
+    ensures { Reads link_of (pair_of (choice_at grammar.comparisons) (reading.sum_at text.now levels (below (reading.term_at text.now) levels)) tokens.old.rest.now) result tokens.new.rest.now }
+{
+    let operator = tokens.choice(comparisons())?;
+    let second = chain(alloc, text, tokens, levels, Precedence::Sum)?;
+    Ok((operator, second))
+}
+
 /// What the operator behind a first side makes of it.
 #[cycle(terms)]
 #[inline(never)]
@@ -329,9 +375,8 @@ fn longer_comparison(
 {
     let mut rest = Vec::with_capacity(alloc, 1)?;
     if tokens.sees_in(comparisons()) {
-        let operator = tokens.choice(comparisons())?;
-        let second = chain(alloc, text, tokens, levels, Precedence::Sum)?;
-        rest.push((operator, second))?;
+        let link = other_side(alloc, text, tokens, levels)?;
+        rest.push(link)?;
     }
     Ok(joined(alloc, first, rest)?)
 }
@@ -402,6 +447,26 @@ fn operand(
     }
 }
 
+/// The operators behind a first member, each with the member behind it.
+#[cycle(terms)]
+fn links(
+    alloc: Global,
+    text: &[u8],
+    tokens: &mut Cursor<'_>,
+    levels: usize,
+    of: Precedence,
+) -> Result<Vec<(Op, Term)>, Refused<ReadError>>
+    ensures { Reads (each_of link_of) (repeated_of (keys (reading.table_of of)) (reading.link_at text.now levels (below (reading.term_at text.now) levels) of) tokens.old.rest.now) result tokens.new.rest.now }
+{
+    let mut rest = Vec::with_capacity(alloc, 1)?;
+    while tokens.sees_in(operators(of)) {
+        let operator = tokens.choice(operators(of))?;
+        let next = operand(alloc, text, tokens, levels, of)?;
+        rest.push((operator, next))?;
+    }
+    Ok(rest)
+}
+
 /// What the operators behind a first member make of it.
 #[cycle(terms)]
 #[inline(never)]
@@ -415,12 +480,7 @@ fn longer_chain(
 ) -> Result<Term, Refused<ReadError>>
     ensures { Reads term_of (reading.chain_from_at text.now levels (below (reading.term_at text.now) levels) of (term_of first) tokens.old.rest.now) result tokens.new.rest.now }
 {
-    let mut rest = Vec::with_capacity(alloc, 1)?;
-    while tokens.sees_in(operators(of)) {
-        let operator = tokens.choice(operators(of))?;
-        let next = operand(alloc, text, tokens, levels, of)?;
-        rest.push((operator, next))?;
-    }
+    let rest = links(alloc, text, tokens, levels, of)?;
     Ok(joined(alloc, first, rest)?)
 }
 

@@ -4,12 +4,13 @@ use Rattle.asm_syntax.specs.declared.token.Kind.{Kind}
 use Rattle.asm_syntax.specs.Views.{rule_of}
 use Rattle.asm_syntax.specs.ViewCases.{rule_of-Par, rule_of-Seq, rule_of-Let, rule_of-Forall, rule_of-Iterate, rule_of-While}
 use Rattle.asm_reader.specs.Kinds.{begins}
-use Rattle.asm_reader.specs.Steps.{each_of, repeated_of}
+use Rattle.asm_reader.specs.Steps.{below, each_of, repeated_of}
 use Rattle.asm_reader.specs.TermReading.{term_at}
-use Rattle.asm_reader.specs.RuleReading.{rule_starts, rule_at, par_at, seq_at, if_at, let_at, forall_at, choose_at, iterate_at, while_at}
+use Rattle.asm_reader.specs.RuleReading.{rule_starts, rule_at, par_at, seq_at}
 use Rattle.asm_reader.proofs.Loops.{with_front, turn_seen, one_before, no_turn, bad_turn}
 use Rattle.asm_reader.proofs.TermSteps.{below_less}
 use Rattle.asm_reader.proofs.RuleSteps.{several_is}
+use Rattle.asm_reader.proofs.Headers.{if_splits, let_splits, forall_splits, choose_splits, iterate_splits, while_splits}
 use Rattle.asm_reader.proofs.Consuming.{rule_consumes}
 use Rattle.asm_reader.proofs.Views.{if_is, choose_is}
 use Rattle.asm_reader.proofs.rules.+rules.Goals as goal
@@ -62,152 +63,90 @@ pub seq-returns : goal.seq-returns
 unfolding seq_at
 seq-returns t c = rw (below_less (rule_at c.args.text.now) c.args.levels c.in_ok-enter.ensures.left, c.in_ok-enter.ensures.read, c.in_ok-all.ensures, c.in_ok-expect.ensures.read) (rw (rule_of-Seq c.in_ok-all.all) refl)
 
-pub conditional-returns-in_err-expect : goal.conditional-returns-in_err-expect
-unfolding if_at
-conditional-returns-in_err-expect t c =
-    let p = err_from_is_err_and c.from_residual-in_err-expect.result c.from_residual-in_err-expect.ensures.1 in
-    rw (p.1, p.2) (λ reason is. rw (below_less (term_at c.args.text.now) c.args.levels c.in_ok-enter.ensures.left, c.in_ok-enter.ensures.read, c.in_ok-test.ensures, c.in_err-expect.ensures.read reason is) (refl {a = Err reason}))
+pub conditional-returns-in_err-test : goal.conditional-returns-in_err-test
+conditional-returns-in_err-test t c =
+    let p = err_from_is_err_and c.from_residual-in_err-test.result c.from_residual-in_err-test.ensures.1 in
+    rw (p.1, p.2) (λ reason is. rw (if_splits c.args.text.now c.args.levels (below (term_at c.args.text.now) c.args.levels) (below (rule_at c.args.text.now) c.args.levels) c.args.tokens.now.rest.now, below_less (term_at c.args.text.now) c.args.levels c.in_ok-enter.ensures.left, below_less (rule_at c.args.text.now) c.args.levels c.in_ok-enter.ensures.left, c.in_ok-enter.ensures.read, c.in_err-test.ensures reason is) (refl {a = Err reason}))
 
 pub conditional-returns-in_err-yes : goal.conditional-returns-in_err-yes
-unfolding if_at
 conditional-returns-in_err-yes t c =
     let p = err_from_is_err_and c.from_residual-in_err-yes.result c.from_residual-in_err-yes.ensures.1 in
-    rw (p.1, p.2) (λ reason is. rw (below_less (term_at c.args.text.now) c.args.levels c.in_ok-enter.ensures.left, below_less (rule_at c.args.text.now) c.args.levels c.in_ok-enter.ensures.left, c.in_ok-enter.ensures.read, c.in_ok-test.ensures, c.in_ok-expect.ensures.read, c.in_err-yes.ensures reason is) (refl {a = Err reason}))
+    rw (p.1, p.2) (λ reason is. rw (if_splits c.args.text.now c.args.levels (below (term_at c.args.text.now) c.args.levels) (below (rule_at c.args.text.now) c.args.levels) c.args.tokens.now.rest.now, below_less (term_at c.args.text.now) c.args.levels c.in_ok-enter.ensures.left, below_less (rule_at c.args.text.now) c.args.levels c.in_ok-enter.ensures.left, c.in_ok-enter.ensures.read, c.in_ok-test.ensures, c.in_err-yes.ensures reason is) (refl {a = Err reason}))
 
 pub conditional-returns-in_err-no : goal.conditional-returns-in_err-no
-unfolding if_at
 conditional-returns-in_err-no t c =
     let p = err_from_is_err_and c.from_residual-in_err-no.result c.from_residual-in_err-no.ensures.1 in
-    rw (p.1, p.2) (λ reason is. rw (below_less (term_at c.args.text.now) c.args.levels c.in_ok-enter.ensures.left, below_less (rule_at c.args.text.now) c.args.levels c.in_ok-enter.ensures.left, c.in_ok-enter.ensures.read, c.in_ok-test.ensures, c.in_ok-expect.ensures.read, c.in_ok-yes.ensures, c.in_err-no.ensures reason is) (refl {a = Err reason}))
-
-pub conditional-returns-in_err-expect-2 : goal.conditional-returns-in_err-expect-2
-unfolding if_at
-conditional-returns-in_err-expect-2 t c =
-    let p = err_from_is_err_and c.from_residual-in_err-expect-2.result c.from_residual-in_err-expect-2.ensures.1 in
-    rw (p.1, p.2) (λ reason is. rw (below_less (term_at c.args.text.now) c.args.levels c.in_ok-enter.ensures.left, below_less (rule_at c.args.text.now) c.args.levels c.in_ok-enter.ensures.left, c.in_ok-enter.ensures.read, c.in_ok-test.ensures, c.in_ok-expect.ensures.read, c.in_ok-yes.ensures, c.in_ok-no.ensures, c.in_err-expect-2.ensures.read reason is) (refl {a = Err reason}))
+    rw (p.1, p.2) (λ reason is. rw (if_splits c.args.text.now c.args.levels (below (term_at c.args.text.now) c.args.levels) (below (rule_at c.args.text.now) c.args.levels) c.args.tokens.now.rest.now, below_less (term_at c.args.text.now) c.args.levels c.in_ok-enter.ensures.left, below_less (rule_at c.args.text.now) c.args.levels c.in_ok-enter.ensures.left, c.in_ok-enter.ensures.read, c.in_ok-test.ensures, c.in_ok-yes.ensures, c.in_err-no.ensures reason is) (refl {a = Err reason}))
 
 pub conditional-returns : goal.conditional-returns
-unfolding if_at
-conditional-returns t c = rw (below_less (term_at c.args.text.now) c.args.levels c.in_ok-enter.ensures.left, below_less (rule_at c.args.text.now) c.args.levels c.in_ok-enter.ensures.left, c.in_ok-enter.ensures.read, c.in_ok-test.ensures, c.in_ok-expect.ensures.read, c.in_ok-yes.ensures, c.in_ok-no.ensures, c.in_ok-expect-2.ensures.read) (rw (if_is c.in_ok-test.test c.in_ok-yes-2.yes c.in_ok-no.no, c.in_ok-yes-2.ensures.ok) refl)
+conditional-returns t c = rw (if_splits c.args.text.now c.args.levels (below (term_at c.args.text.now) c.args.levels) (below (rule_at c.args.text.now) c.args.levels) c.args.tokens.now.rest.now, below_less (term_at c.args.text.now) c.args.levels c.in_ok-enter.ensures.left, below_less (rule_at c.args.text.now) c.args.levels c.in_ok-enter.ensures.left, c.in_ok-enter.ensures.read, c.in_ok-test.ensures, c.in_ok-yes.ensures, c.in_ok-no.ensures) (rw (if_is c.in_ok-test.test c.in_ok-yes.yes c.in_ok-no.no) refl)
+
+pub let_rule-returns-in_err-name : goal.let_rule-returns-in_err-name
+let_rule-returns-in_err-name t c =
+    let p = err_from_is_err_and c.from_residual.result c.from_residual.ensures.1 in
+    rw (p.1, p.2) (λ reason is. rw (let_splits c.args.text.now c.args.levels (below (term_at c.args.text.now) c.args.levels) (below (rule_at c.args.text.now) c.args.levels) c.args.tokens.now.rest.now, c.in_err-name.ensures.read reason is) (refl {a = Err reason}))
 
 pub let_rule-returns-in_err-value : goal.let_rule-returns-in_err-value
-unfolding let_at
 let_rule-returns-in_err-value t c =
     let p = err_from_is_err_and c.from_residual-in_err-value.result c.from_residual-in_err-value.ensures.1 in
-    rw (p.1, p.2) (λ reason is. rw (below_less (term_at c.args.text.now) c.args.levels c.in_ok-enter.ensures.left, c.in_ok-enter.ensures.read, c.in_ok-name.ensures, c.in_ok-expect.ensures.read, c.in_err-value.ensures reason is) (refl {a = Err reason}))
-
-pub let_rule-returns-in_err-expect-2 : goal.let_rule-returns-in_err-expect-2
-unfolding let_at
-let_rule-returns-in_err-expect-2 t c =
-    let p = err_from_is_err_and c.from_residual-in_err-expect-2.result c.from_residual-in_err-expect-2.ensures.1 in
-    rw (p.1, p.2) (λ reason is. rw (below_less (term_at c.args.text.now) c.args.levels c.in_ok-enter.ensures.left, c.in_ok-enter.ensures.read, c.in_ok-name.ensures, c.in_ok-expect.ensures.read, c.in_ok-value.ensures, c.in_err-expect-2.ensures.read reason is) (refl {a = Err reason}))
+    rw (p.1, p.2) (λ reason is. rw (let_splits c.args.text.now c.args.levels (below (term_at c.args.text.now) c.args.levels) (below (rule_at c.args.text.now) c.args.levels) c.args.tokens.now.rest.now, below_less (term_at c.args.text.now) c.args.levels c.in_ok-name.ensures.left, below_less (rule_at c.args.text.now) c.args.levels c.in_ok-name.ensures.left, c.in_ok-name.ensures.read, c.in_err-value.ensures reason is) (refl {a = Err reason}))
 
 pub let_rule-returns-in_err-body : goal.let_rule-returns-in_err-body
-unfolding let_at
 let_rule-returns-in_err-body t c =
     let p = err_from_is_err_and c.from_residual-in_err-body.result c.from_residual-in_err-body.ensures.1 in
-    rw (p.1, p.2) (λ reason is. rw (below_less (term_at c.args.text.now) c.args.levels c.in_ok-enter.ensures.left, below_less (rule_at c.args.text.now) c.args.levels c.in_ok-enter.ensures.left, c.in_ok-enter.ensures.read, c.in_ok-name.ensures, c.in_ok-expect.ensures.read, c.in_ok-value.ensures, c.in_ok-expect-2.ensures.read, c.in_err-body.ensures reason is) (refl {a = Err reason}))
-
-pub let_rule-returns-in_err-expect-3 : goal.let_rule-returns-in_err-expect-3
-unfolding let_at
-let_rule-returns-in_err-expect-3 t c =
-    let p = err_from_is_err_and c.from_residual-in_err-expect-3.result c.from_residual-in_err-expect-3.ensures.1 in
-    rw (p.1, p.2) (λ reason is. rw (below_less (term_at c.args.text.now) c.args.levels c.in_ok-enter.ensures.left, below_less (rule_at c.args.text.now) c.args.levels c.in_ok-enter.ensures.left, c.in_ok-enter.ensures.read, c.in_ok-name.ensures, c.in_ok-expect.ensures.read, c.in_ok-value.ensures, c.in_ok-expect-2.ensures.read, c.in_ok-body.ensures, c.in_err-expect-3.ensures.read reason is) (refl {a = Err reason}))
+    rw (p.1, p.2) (λ reason is. rw (let_splits c.args.text.now c.args.levels (below (term_at c.args.text.now) c.args.levels) (below (rule_at c.args.text.now) c.args.levels) c.args.tokens.now.rest.now, below_less (term_at c.args.text.now) c.args.levels c.in_ok-name.ensures.left, below_less (rule_at c.args.text.now) c.args.levels c.in_ok-name.ensures.left, c.in_ok-name.ensures.read, c.in_ok-value.ensures, c.in_err-body.ensures reason is) (refl {a = Err reason}))
 
 pub let_rule-returns : goal.let_rule-returns
-unfolding let_at
-let_rule-returns t c = rw (below_less (term_at c.args.text.now) c.args.levels c.in_ok-enter.ensures.left, below_less (rule_at c.args.text.now) c.args.levels c.in_ok-enter.ensures.left, c.in_ok-enter.ensures.read, c.in_ok-name.ensures, c.in_ok-expect.ensures.read, c.in_ok-value.ensures, c.in_ok-expect-2.ensures.read, c.in_ok-body.ensures, c.in_ok-expect-3.ensures.read) (rw (rule_of-Let c.in_ok-name.name c.in_ok-value.value c.in_ok-body-2.body, c.in_ok-body-2.ensures.ok) refl)
+let_rule-returns t c = rw (let_splits c.args.text.now c.args.levels (below (term_at c.args.text.now) c.args.levels) (below (rule_at c.args.text.now) c.args.levels) c.args.tokens.now.rest.now, below_less (term_at c.args.text.now) c.args.levels c.in_ok-name.ensures.left, below_less (rule_at c.args.text.now) c.args.levels c.in_ok-name.ensures.left, c.in_ok-name.ensures.read, c.in_ok-value.ensures, c.in_ok-body.ensures) (rw (rule_of-Let c.in_ok-name.name c.in_ok-value.value c.in_ok-body.body) refl)
 
-pub forall-returns-in_err-test : goal.forall-returns-in_err-test
-unfolding forall_at
-forall-returns-in_err-test t c =
-    let p = err_from_is_err_and c.from_residual-in_err-test.result c.from_residual-in_err-test.ensures.1 in
-    rw (p.1, p.2) (λ reason is. rw (below_less (term_at c.args.text.now) c.args.levels c.in_ok-enter.ensures.left, c.in_ok-enter.ensures.read, c.in_ok-name.ensures, c.in_err-test.ensures reason is) (refl {a = Err reason}))
-
-pub forall-returns-in_err-expect : goal.forall-returns-in_err-expect
-unfolding forall_at
-forall-returns-in_err-expect t c =
-    let p = err_from_is_err_and c.from_residual-in_err-expect.result c.from_residual-in_err-expect.ensures.1 in
-    rw (p.1, p.2) (λ reason is. rw (below_less (term_at c.args.text.now) c.args.levels c.in_ok-enter.ensures.left, c.in_ok-enter.ensures.read, c.in_ok-name.ensures, c.in_ok-test.ensures, c.in_err-expect.ensures.read reason is) (refl {a = Err reason}))
+pub forall-returns-in_err-header : goal.forall-returns-in_err-header
+forall-returns-in_err-header t c =
+    let p = err_from_is_err_and c.from_residual.result c.from_residual.ensures.1 in
+    rw (p.1, p.2) (λ reason is. rw (forall_splits c.args.text.now c.args.levels (below (term_at c.args.text.now) c.args.levels) (below (rule_at c.args.text.now) c.args.levels) c.args.tokens.now.rest.now, c.in_err-header.ensures.read reason is) (refl {a = Err reason}))
 
 pub forall-returns-in_err-body : goal.forall-returns-in_err-body
-unfolding forall_at
 forall-returns-in_err-body t c =
     let p = err_from_is_err_and c.from_residual-in_err-body.result c.from_residual-in_err-body.ensures.1 in
-    rw (p.1, p.2) (λ reason is. rw (below_less (term_at c.args.text.now) c.args.levels c.in_ok-enter.ensures.left, below_less (rule_at c.args.text.now) c.args.levels c.in_ok-enter.ensures.left, c.in_ok-enter.ensures.read, c.in_ok-name.ensures, c.in_ok-test.ensures, c.in_ok-expect.ensures.read, c.in_err-body.ensures reason is) (refl {a = Err reason}))
-
-pub forall-returns-in_err-expect-2 : goal.forall-returns-in_err-expect-2
-unfolding forall_at
-forall-returns-in_err-expect-2 t c =
-    let p = err_from_is_err_and c.from_residual-in_err-expect-2.result c.from_residual-in_err-expect-2.ensures.1 in
-    rw (p.1, p.2) (λ reason is. rw (below_less (term_at c.args.text.now) c.args.levels c.in_ok-enter.ensures.left, below_less (rule_at c.args.text.now) c.args.levels c.in_ok-enter.ensures.left, c.in_ok-enter.ensures.read, c.in_ok-name.ensures, c.in_ok-test.ensures, c.in_ok-expect.ensures.read, c.in_ok-body.ensures, c.in_err-expect-2.ensures.read reason is) (refl {a = Err reason}))
+    rw (p.1, p.2) (λ reason is. rw (forall_splits c.args.text.now c.args.levels (below (term_at c.args.text.now) c.args.levels) (below (rule_at c.args.text.now) c.args.levels) c.args.tokens.now.rest.now, c.in_ok-header.ensures.read, below_less (rule_at c.args.text.now) c.args.levels c.in_ok-header.ensures.left, c.in_err-body.ensures reason is) (refl {a = Err reason}))
 
 pub forall-returns : goal.forall-returns
-unfolding forall_at
-forall-returns t c = rw (below_less (term_at c.args.text.now) c.args.levels c.in_ok-enter.ensures.left, below_less (rule_at c.args.text.now) c.args.levels c.in_ok-enter.ensures.left, c.in_ok-enter.ensures.read, c.in_ok-name.ensures, c.in_ok-test.ensures, c.in_ok-expect.ensures.read, c.in_ok-body.ensures, c.in_ok-expect-2.ensures.read) (rw (rule_of-Forall c.in_ok-name.name c.in_ok-name.over c.in_ok-test.test c.in_ok-body-2.body, c.in_ok-body-2.ensures.ok) refl)
+forall-returns t c = rw (forall_splits c.args.text.now c.args.levels (below (term_at c.args.text.now) c.args.levels) (below (rule_at c.args.text.now) c.args.levels) c.args.tokens.now.rest.now, c.in_ok-header.ensures.read, below_less (rule_at c.args.text.now) c.args.levels c.in_ok-header.ensures.left, c.in_ok-body.ensures) (rw (rule_of-Forall c.in_ok-header.header.0.0 c.in_ok-header.header.0.1 c.in_ok-header.header.1 c.in_ok-body.body) refl)
 
-pub choose-returns-in_err-test : goal.choose-returns-in_err-test
-unfolding choose_at
-choose-returns-in_err-test t c =
-    let p = err_from_is_err_and c.from_residual-in_err-test.result c.from_residual-in_err-test.ensures.1 in
-    rw (p.1, p.2) (λ reason is. rw (below_less (term_at c.args.text.now) c.args.levels c.in_ok-enter.ensures.left, c.in_ok-enter.ensures.read, c.in_ok-name.ensures, c.in_err-test.ensures reason is) (refl {a = Err reason}))
-
-pub choose-returns-in_err-expect : goal.choose-returns-in_err-expect
-unfolding choose_at
-choose-returns-in_err-expect t c =
-    let p = err_from_is_err_and c.from_residual-in_err-expect.result c.from_residual-in_err-expect.ensures.1 in
-    rw (p.1, p.2) (λ reason is. rw (below_less (term_at c.args.text.now) c.args.levels c.in_ok-enter.ensures.left, c.in_ok-enter.ensures.read, c.in_ok-name.ensures, c.in_ok-test.ensures, c.in_err-expect.ensures.read reason is) (refl {a = Err reason}))
+pub choose-returns-in_err-header : goal.choose-returns-in_err-header
+choose-returns-in_err-header t c =
+    let p = err_from_is_err_and c.from_residual.result c.from_residual.ensures.1 in
+    rw (p.1, p.2) (λ reason is. rw (choose_splits c.args.text.now c.args.levels (below (term_at c.args.text.now) c.args.levels) (below (rule_at c.args.text.now) c.args.levels) c.args.tokens.now.rest.now, c.in_err-header.ensures.read reason is) (refl {a = Err reason}))
 
 pub choose-returns-in_err-body : goal.choose-returns-in_err-body
-unfolding choose_at
 choose-returns-in_err-body t c =
     let p = err_from_is_err_and c.from_residual-in_err-body.result c.from_residual-in_err-body.ensures.1 in
-    rw (p.1, p.2) (λ reason is. rw (below_less (term_at c.args.text.now) c.args.levels c.in_ok-enter.ensures.left, below_less (rule_at c.args.text.now) c.args.levels c.in_ok-enter.ensures.left, c.in_ok-enter.ensures.read, c.in_ok-name.ensures, c.in_ok-test.ensures, c.in_ok-expect.ensures.read, c.in_err-body.ensures reason is) (refl {a = Err reason}))
+    rw (p.1, p.2) (λ reason is. rw (choose_splits c.args.text.now c.args.levels (below (term_at c.args.text.now) c.args.levels) (below (rule_at c.args.text.now) c.args.levels) c.args.tokens.now.rest.now, c.in_ok-header.ensures.read, below_less (rule_at c.args.text.now) c.args.levels c.in_ok-header.ensures.left, c.in_err-body.ensures reason is) (refl {a = Err reason}))
 
 pub choose-returns-in_err-none : goal.choose-returns-in_err-none
-unfolding choose_at
 choose-returns-in_err-none t c =
     let p = err_from_is_err_and c.from_residual-in_err-none.result c.from_residual-in_err-none.ensures.1 in
-    rw (p.1, p.2) (λ reason is. rw (below_less (term_at c.args.text.now) c.args.levels c.in_ok-enter.ensures.left, below_less (rule_at c.args.text.now) c.args.levels c.in_ok-enter.ensures.left, c.in_ok-enter.ensures.read, c.in_ok-name.ensures, c.in_ok-test.ensures, c.in_ok-expect.ensures.read, c.in_ok-body.ensures, c.in_err-none.ensures reason is) (refl {a = Err reason}))
-
-pub choose-returns-in_err-expect-2 : goal.choose-returns-in_err-expect-2
-unfolding choose_at
-choose-returns-in_err-expect-2 t c =
-    let p = err_from_is_err_and c.from_residual-in_err-expect-2.result c.from_residual-in_err-expect-2.ensures.1 in
-    rw (p.1, p.2) (λ reason is. rw (below_less (term_at c.args.text.now) c.args.levels c.in_ok-enter.ensures.left, below_less (rule_at c.args.text.now) c.args.levels c.in_ok-enter.ensures.left, c.in_ok-enter.ensures.read, c.in_ok-name.ensures, c.in_ok-test.ensures, c.in_ok-expect.ensures.read, c.in_ok-body.ensures, c.in_ok-none.ensures, c.in_err-expect-2.ensures.read reason is) (refl {a = Err reason}))
+    rw (p.1, p.2) (λ reason is. rw (choose_splits c.args.text.now c.args.levels (below (term_at c.args.text.now) c.args.levels) (below (rule_at c.args.text.now) c.args.levels) c.args.tokens.now.rest.now, c.in_ok-header.ensures.read, below_less (rule_at c.args.text.now) c.args.levels c.in_ok-header.ensures.left, c.in_ok-body.ensures, c.in_err-none.ensures reason is) (refl {a = Err reason}))
 
 pub choose-returns : goal.choose-returns
-unfolding choose_at
-choose-returns t c = rw (below_less (term_at c.args.text.now) c.args.levels c.in_ok-enter.ensures.left, below_less (rule_at c.args.text.now) c.args.levels c.in_ok-enter.ensures.left, c.in_ok-enter.ensures.read, c.in_ok-name.ensures, c.in_ok-test.ensures, c.in_ok-expect.ensures.read, c.in_ok-body.ensures, c.in_ok-none.ensures, c.in_ok-expect-2.ensures.read) (rw (choose_is c.in_ok-name.name c.in_ok-name.over c.in_ok-test.test c.in_ok-body-2.body c.in_ok-none.none, c.in_ok-body-2.ensures.ok) refl)
+choose-returns t c = rw (choose_splits c.args.text.now c.args.levels (below (term_at c.args.text.now) c.args.levels) (below (rule_at c.args.text.now) c.args.levels) c.args.tokens.now.rest.now, c.in_ok-header.ensures.read, below_less (rule_at c.args.text.now) c.args.levels c.in_ok-header.ensures.left, c.in_ok-body.ensures, c.in_ok-none.ensures) (rw (choose_is c.in_ok-header.header.0.0 c.in_ok-header.header.0.1 c.in_ok-header.header.1 c.in_ok-body.body c.in_ok-none.none) refl)
 
-pub iterate-returns-in_err-expect : goal.iterate-returns-in_err-expect
-unfolding iterate_at
-iterate-returns-in_err-expect t c =
-    let p = err_from_is_err_and c.from_residual-in_err-expect.result c.from_residual-in_err-expect.ensures.1 in
-    rw (p.1, p.2) (λ reason is. rw (below_less (rule_at c.args.text.now) c.args.levels c.in_ok-enter.ensures.left, c.in_ok-enter.ensures.read, c.in_ok-body.ensures, c.in_err-expect.ensures.read reason is) (refl {a = Err reason}))
+pub iterate-returns-in_err-body : goal.iterate-returns-in_err-body
+iterate-returns-in_err-body t c =
+    let p = err_from_is_err_and c.from_residual-in_err-body.result c.from_residual-in_err-body.ensures.1 in
+    rw (p.1, p.2) (λ reason is. rw (iterate_splits c.args.text.now c.args.levels (below (term_at c.args.text.now) c.args.levels) (below (rule_at c.args.text.now) c.args.levels) c.args.tokens.now.rest.now, below_less (rule_at c.args.text.now) c.args.levels c.in_ok-enter.ensures.left, c.in_ok-enter.ensures.read, c.in_err-body.ensures reason is) (refl {a = Err reason}))
 
 pub iterate-returns : goal.iterate-returns
-unfolding iterate_at
-iterate-returns t c = rw (below_less (rule_at c.args.text.now) c.args.levels c.in_ok-enter.ensures.left, c.in_ok-enter.ensures.read, c.in_ok-body.ensures, c.in_ok-expect.ensures.read) (rw (rule_of-Iterate c.in_ok-body-2.body, c.in_ok-body-2.ensures.ok) refl)
+iterate-returns t c = rw (iterate_splits c.args.text.now c.args.levels (below (term_at c.args.text.now) c.args.levels) (below (rule_at c.args.text.now) c.args.levels) c.args.tokens.now.rest.now, below_less (rule_at c.args.text.now) c.args.levels c.in_ok-enter.ensures.left, c.in_ok-enter.ensures.read, c.in_ok-body.ensures) (rw (rule_of-Iterate c.in_ok-body.body) refl)
 
-pub while_rule-returns-in_err-expect : goal.while_rule-returns-in_err-expect
-unfolding while_at
-while_rule-returns-in_err-expect t c =
-    let p = err_from_is_err_and c.from_residual-in_err-expect.result c.from_residual-in_err-expect.ensures.1 in
-    rw (p.1, p.2) (λ reason is. rw (below_less (term_at c.args.text.now) c.args.levels c.in_ok-enter.ensures.left, c.in_ok-enter.ensures.read, c.in_ok-test.ensures, c.in_err-expect.ensures.read reason is) (refl {a = Err reason}))
+pub while_rule-returns-in_err-test : goal.while_rule-returns-in_err-test
+while_rule-returns-in_err-test t c =
+    let p = err_from_is_err_and c.from_residual-in_err-test.result c.from_residual-in_err-test.ensures.1 in
+    rw (p.1, p.2) (λ reason is. rw (while_splits c.args.text.now c.args.levels (below (term_at c.args.text.now) c.args.levels) (below (rule_at c.args.text.now) c.args.levels) c.args.tokens.now.rest.now, below_less (term_at c.args.text.now) c.args.levels c.in_ok-enter.ensures.left, below_less (rule_at c.args.text.now) c.args.levels c.in_ok-enter.ensures.left, c.in_ok-enter.ensures.read, c.in_err-test.ensures reason is) (refl {a = Err reason}))
 
 pub while_rule-returns-in_err-body : goal.while_rule-returns-in_err-body
-unfolding while_at
 while_rule-returns-in_err-body t c =
     let p = err_from_is_err_and c.from_residual-in_err-body.result c.from_residual-in_err-body.ensures.1 in
-    rw (p.1, p.2) (λ reason is. rw (below_less (term_at c.args.text.now) c.args.levels c.in_ok-enter.ensures.left, below_less (rule_at c.args.text.now) c.args.levels c.in_ok-enter.ensures.left, c.in_ok-enter.ensures.read, c.in_ok-test.ensures, c.in_ok-expect.ensures.read, c.in_err-body.ensures reason is) (refl {a = Err reason}))
-
-pub while_rule-returns-in_err-expect-2 : goal.while_rule-returns-in_err-expect-2
-unfolding while_at
-while_rule-returns-in_err-expect-2 t c =
-    let p = err_from_is_err_and c.from_residual-in_err-expect-2.result c.from_residual-in_err-expect-2.ensures.1 in
-    rw (p.1, p.2) (λ reason is. rw (below_less (term_at c.args.text.now) c.args.levels c.in_ok-enter.ensures.left, below_less (rule_at c.args.text.now) c.args.levels c.in_ok-enter.ensures.left, c.in_ok-enter.ensures.read, c.in_ok-test.ensures, c.in_ok-expect.ensures.read, c.in_ok-body.ensures, c.in_err-expect-2.ensures.read reason is) (refl {a = Err reason}))
+    rw (p.1, p.2) (λ reason is. rw (while_splits c.args.text.now c.args.levels (below (term_at c.args.text.now) c.args.levels) (below (rule_at c.args.text.now) c.args.levels) c.args.tokens.now.rest.now, below_less (term_at c.args.text.now) c.args.levels c.in_ok-enter.ensures.left, below_less (rule_at c.args.text.now) c.args.levels c.in_ok-enter.ensures.left, c.in_ok-enter.ensures.read, c.in_ok-test.ensures, c.in_err-body.ensures reason is) (refl {a = Err reason}))
 
 pub while_rule-returns : goal.while_rule-returns
-unfolding while_at
-while_rule-returns t c = rw (below_less (term_at c.args.text.now) c.args.levels c.in_ok-enter.ensures.left, below_less (rule_at c.args.text.now) c.args.levels c.in_ok-enter.ensures.left, c.in_ok-enter.ensures.read, c.in_ok-test.ensures, c.in_ok-expect.ensures.read, c.in_ok-body.ensures, c.in_ok-expect-2.ensures.read) (rw (rule_of-While c.in_ok-test.test c.in_ok-body-2.body, c.in_ok-body-2.ensures.ok) refl)
+while_rule-returns t c = rw (while_splits c.args.text.now c.args.levels (below (term_at c.args.text.now) c.args.levels) (below (rule_at c.args.text.now) c.args.levels) c.args.tokens.now.rest.now, below_less (term_at c.args.text.now) c.args.levels c.in_ok-enter.ensures.left, below_less (rule_at c.args.text.now) c.args.levels c.in_ok-enter.ensures.left, c.in_ok-enter.ensures.read, c.in_ok-test.ensures, c.in_ok-body.ensures) (rw (rule_of-While c.in_ok-test.test c.in_ok-body.body) refl)

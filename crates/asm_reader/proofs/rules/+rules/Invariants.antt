@@ -6,40 +6,49 @@ use Rattle.asm_reader.proofs.Loops.{with_front}
 use Rattle.asm_reader.proofs.rules.+rules.Given as goal
 
 abbrev pub decreases-par : goal.decreases-par
-decreases-par l = l.levels * 4
+decreases-par l = l.levels * 8
 
 abbrev pub decreases-seq : goal.decreases-seq
-decreases-seq l = l.levels * 4
+decreases-seq l = l.levels * 8
 
 abbrev pub decreases-conditional : goal.decreases-conditional
-decreases-conditional l = l.levels * 4
+decreases-conditional l = l.levels * 8
 
 abbrev pub decreases-let_rule : goal.decreases-let_rule
-decreases-let_rule l = l.levels * 4
+decreases-let_rule l = l.levels * 8
 
 abbrev pub decreases-forall : goal.decreases-forall
-decreases-forall l = l.levels * 4
+decreases-forall l = l.levels * 8
 
 abbrev pub decreases-choose : goal.decreases-choose
-decreases-choose l = l.levels * 4
+decreases-choose l = l.levels * 8
 
 abbrev pub decreases-iterate : goal.decreases-iterate
-decreases-iterate l = l.levels * 4
+decreases-iterate l = l.levels * 8
 
 abbrev pub decreases-while_rule : goal.decreases-while_rule
-decreases-while_rule l = l.levels * 4
+decreases-while_rule l = l.levels * 8
 
 abbrev pub decreases-block : goal.decreases-block
-decreases-block l = l.levels * 4 + 1
+decreases-block l = l.levels * 8 + 1
 
 abbrev pub decreases-rule : goal.decreases-rule
-decreases-rule l = l.levels * 4 + 2
+decreases-rule l = l.levels * 8 + 2
 
 abbrev pub decreases-several : goal.decreases-several
-decreases-several l = l.levels * 4 + 3
+decreases-several l = l.levels * 8 + 3
+
+abbrev pub decreases-boxed : goal.decreases-boxed
+decreases-boxed l = l.levels * 8 + 3
+
+abbrev pub decreases-body : goal.decreases-body
+decreases-body l = l.levels * 8 + 4
 
 abbrev pub decreases-branch : goal.decreases-branch
-decreases-branch l = l.levels * 4 + 3
+decreases-branch l = l.levels * 8 + 4
+
+abbrev pub decreases-last_branch : goal.decreases-last_branch
+decreases-last_branch l = l.levels * 8 + 5
 
 abbrev pub invariant-several-loop-alloc : goal.invariant-several-loop-alloc
 invariant-several-loop-alloc l =

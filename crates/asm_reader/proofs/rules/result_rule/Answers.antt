@@ -1,9 +1,8 @@
-use Rattle.std.proofs.Common.{refl, sym}
+use Rattle.std.proofs.Common.{refl}
 use Rattle.asm_syntax.specs.ViewCases.{rule_of-SetResult}
 use Rattle.asm_reader.specs.RuleReading.{result_rule_at}
-use Rattle.asm_reader.proofs.TermSteps.{term_is}
 use Rattle.asm_reader.proofs.rules.result_rule.Goals as goal
 
 pub returns : goal.returns
 unfolding result_rule_at
-returns c = rw (c.in_ok-name.ensures, sym (term_is c.args.text.now c.args.levels), c.in_ok-expect.ensures.read, c.in_ok-value.ensures) (rw (rule_of-SetResult c.in_ok-name.name c.in_ok-value.value) refl)
+returns c = rw (c.in_ok-name.ensures, c.in_ok-value.ensures) (rw (rule_of-SetResult c.in_ok-name.name c.in_ok-value.value) refl)

@@ -4,24 +4,18 @@ use Rattle.asm_state.specs.declared.operation.Op.{Op}
 use Rattle.asm_syntax.specs.declared.token.Kind.{Kind}
 use Rattle.asm_syntax.specs.declared.token.Kind.TheVariants.{Symbol}
 use Rattle.asm_syntax.specs.declared.token.Symbol.TheVariants.{Comma}
-use Rattle.asm_syntax.specs.declared.token.Token.{Token}
-use Rattle.asm_syntax.specs.declared.term.Term.{Term}
 use Rattle.asm_syntax.specs.SourceTree as source
 use Rattle.asm_syntax.specs.Views.{term_of}
 use Rattle.asm_reader.specs.Kinds.{begins, keys}
 use Rattle.asm_reader.specs.Seen.{link_of}
 use Rattle.asm_reader.specs.Steps.{Answer, Reader, Reads, below, each_of, repeated_of, choice_at}
-use Rattle.asm_reader.specs.TermGrammar.{chain_of}
 use Rattle.asm_reader.specs.TermReading.{arguments_at, term_at, table_of, operand_at, link_at}
 use Rattle.asm_reader.proofs.Loops.{with_front, turn_seen, nothing_before, no_turn, bad_turn}
 use Rattle.asm_reader.proofs.Consuming.{term_consumes}
-use Rattle.asm_reader.proofs.Separated.{so_far, next_read, all_read, next_fails, past_is, past_consumes}
+use Rattle.asm_reader.proofs.Separated.{so_far, next_seen, all_read, past_stops, past_consumes}
 use Rattle.asm_reader.proofs.TermLoops.{links_consume}
 use Rattle.asm_reader.proofs.TermSteps.{below_less, term_is, chain_is, link_is, link_fails, links_done, links_fail, no_links, first_fails, chain_goes_on, side_fails, comparison_goes_on, term_stops, term_is_factor, term_goes_on}
 use Rattle.asm_reader.proofs.terms.+terms.Goals as goal
-
-abbrev read_as : source.Term → List Token → Answer source.Term
-read_as x rest = Ok (x, rest)
 
 pub arguments-returns-in_err-all : goal.arguments-returns-in_err-all
 unfolding arguments_at
@@ -40,70 +34,71 @@ unfolding arguments_at
 arguments-returns t c = rw (below_less (term_at c.args.text.now) c.args.levels c.in_ok-enter.ensures.left, c.in_ok-enter.ensures.read, c.in_ok-all.ensures, c.in_ok-expect.ensures.read) refl
 
 pub terms-loop-alloc-smaller : goal.terms-loop-alloc-smaller
-terms-loop-alloc-smaller t c = past_consumes (Symbol Comma) (term_at c.args.text.now c.args.levels) (term_consumes c.args.text.now c.args.levels) c.loop-alloc.tokens.rest.now c.term-in-loop-alloc.new.tokens.rest.now (term_of c.in_ok-next.next)
-    (past_is (Symbol Comma) (term_at c.args.text.now c.args.levels) c.loop-alloc.tokens.rest.now c.expect.new.self.rest.now c.term-in-loop-alloc.new.tokens.rest.now c.in_ok-expect.field-0 (term_of c.in_ok-next.next) c.in_ok-expect.ensures.read c.in_ok-next.ensures)
+terms-loop-alloc-smaller t c = past_consumes (Symbol Comma) (term_at c.args.text.now c.args.levels) (term_consumes c.args.text.now c.args.levels) c.loop-alloc.tokens.rest.now c.next_term.new.tokens.rest.now (term_of c.in_ok-next.next) c.in_ok-next.ensures
 
 pub terms-loop-alloc-preserved : goal.terms-loop-alloc-preserved
-terms-loop-alloc-preserved t c = next_read term_of (Symbol Comma) (term_at c.args.text.now c.args.levels) (term_consumes c.args.text.now c.args.levels) c.loop-alloc.all.items c.push-in-loop-alloc.new.self.items
-    c.loop-alloc.tokens.rest.now c.expect.new.self.rest.now c.term-in-loop-alloc.new.tokens.rest.now c.in_ok-expect.field-0 c.in_ok-next.next (so_far term_of (Symbol Comma) (term_at c.args.text.now c.args.levels) c.push.new.self.items c.term.new.tokens.rest.now)
-    c.in_ok-push-2.ensures.items c.loop-alloc-test.ensures c.in_ok-expect.ensures.read c.in_ok-next.ensures c.loop-alloc.invariant
+terms-loop-alloc-preserved t c = next_seen term_of (Symbol Comma) (term_at c.args.text.now c.args.levels) (term_consumes c.args.text.now c.args.levels) c.loop-alloc.all.items c.push-in-loop-alloc.new.self.items
+    c.loop-alloc.tokens.rest.now c.next_term.new.tokens.rest.now c.in_ok-next.next (so_far term_of (Symbol Comma) (term_at c.args.text.now c.args.levels) c.push.new.self.items c.term.new.tokens.rest.now)
+    c.in_ok-push-2.ensures.items c.loop-alloc-test.ensures c.in_ok-next.ensures c.loop-alloc.invariant
 
 pub terms-returns-in_err-next : goal.terms-returns-in_err-next
 terms-returns-in_err-next t c =
     let p = err_from_is_err_and c.from_residual-in_err-next.result c.from_residual-in_err-next.ensures.1 in
-    rw (p.1, p.2) (λ reason is. next_fails term_of (Symbol Comma) (term_at c.args.text.now c.args.levels) c.in_ok-all.all.items c.push.new.self.items c.loop-alloc.all.items
-    c.args.tokens.now.rest.now c.term.new.tokens.rest.now c.loop-alloc.tokens.rest.now c.expect.new.self.rest.now c.in_ok-first.first c.in_ok-expect.field-0 reason
-    c.in_ok-all.ensures.items c.in_ok-push.ensures.items c.in_ok-first.ensures c.loop-alloc-test.ensures c.in_ok-expect.ensures.read (c.in_err-next.ensures reason is) c.loop-alloc.invariant)
+    rw (p.1, p.2) (λ reason is. past_stops term_of (Symbol Comma) (term_at c.args.text.now c.args.levels) c.in_ok-all.all.items c.push.new.self.items c.loop-alloc.all.items
+    c.args.tokens.now.rest.now c.term.new.tokens.rest.now c.loop-alloc.tokens.rest.now c.in_ok-first.first reason
+    c.in_ok-all.ensures.items c.in_ok-push.ensures.items c.in_ok-first.ensures c.loop-alloc-test.ensures (c.in_err-next.ensures reason is) c.loop-alloc.invariant)
 
 pub terms-returns : goal.terms-returns
 terms-returns t c = all_read term_of (Symbol Comma) (term_at c.args.text.now c.args.levels) c.in_ok-all.all.items c.push.new.self.items c.loop-alloc.all.items c.args.tokens.now.rest.now c.term.new.tokens.rest.now c.loop-alloc.tokens.rest.now c.in_ok-first.first
     c.in_ok-all.ensures.items c.in_ok-push.ensures.items c.in_ok-first.ensures c.loop-alloc-test.ensures c.loop-alloc.invariant
 
-pub longer_chain-loop-of-smaller : goal.longer_chain-loop-of-smaller
-longer_chain-loop-of-smaller t c =
-    let read : choice_at (table_of c.args.of) c.loop-of.tokens.rest.now ≡ Ok (c.in_ok-operator.operator, c.choice.new.self.rest.now) = ap (λ (w : List (Kind × Op)). choice_at w c.loop-of.tokens.rest.now) (sym c.operators-in-loop-of.ensures) ∙ c.in_ok-operator.ensures.read in
-    links_consume c.args.text.now c.args.levels c.args.of c.loop-of.tokens.rest.now c.operand.new.tokens.rest.now (link_of (c.in_ok-operator.operator, c.in_ok-next.next))
-    (link_is (table_of c.args.of) (operand_at c.args.text.now c.args.levels (below (term_at c.args.text.now) c.args.levels) c.args.of) c.loop-of.tokens.rest.now c.choice.new.self.rest.now c.operand.new.tokens.rest.now
+pub links-loop-alloc-smaller : goal.links-loop-alloc-smaller
+links-loop-alloc-smaller t c =
+    let read : choice_at (table_of c.args.of) c.loop-alloc.tokens.rest.now ≡ Ok (c.in_ok-operator.operator, c.choice.new.self.rest.now) = ap (λ (w : List (Kind × Op)). choice_at w c.loop-alloc.tokens.rest.now) (sym c.operators-in-loop-alloc.ensures) ∙ c.in_ok-operator.ensures.read in
+    links_consume c.args.text.now c.args.levels c.args.of c.loop-alloc.tokens.rest.now c.operand.new.tokens.rest.now (link_of (c.in_ok-operator.operator, c.in_ok-next.next))
+    (link_is (table_of c.args.of) (operand_at c.args.text.now c.args.levels (below (term_at c.args.text.now) c.args.levels) c.args.of) c.loop-alloc.tokens.rest.now c.choice.new.self.rest.now c.operand.new.tokens.rest.now
     c.in_ok-operator.operator (term_of c.in_ok-next.next) read c.in_ok-next.ensures)
 
-pub longer_chain-loop-of-preserved : goal.longer_chain-loop-of-preserved
-longer_chain-loop-of-preserved t c =
-    let test : true ≡ begins (keys c.operators.result.now) c.loop-of.tokens.rest.now = c.loop-of-test.ensures in
-    let read : choice_at (table_of c.args.of) c.loop-of.tokens.rest.now ≡ Ok (c.in_ok-operator.operator, c.choice.new.self.rest.now) = ap (λ (w : List (Kind × Op)). choice_at w c.loop-of.tokens.rest.now) (sym c.operators-in-loop-of.ensures) ∙ c.in_ok-operator.ensures.read in
-    let one = link_is (table_of c.args.of) (operand_at c.args.text.now c.args.levels (below (term_at c.args.text.now) c.args.levels) c.args.of) c.loop-of.tokens.rest.now c.choice.new.self.rest.now c.operand.new.tokens.rest.now
-    c.in_ok-operator.operator (term_of c.in_ok-next.next) read c.in_ok-next.ensures in (
-      c.loop-of.invariant.0,
-      turn_seen link_of (keys (table_of c.args.of)) (link_at c.args.text.now c.args.levels (below (term_at c.args.text.now) c.args.levels) c.args.of) (links_consume c.args.text.now c.args.levels c.args.of)
-          c.loop-of.rest.items c.push.new.self.items c.loop-of.tokens.rest.now (c.in_ok-operator.operator, c.in_ok-next.next) c.operand.new.tokens.rest.now
-          (with_front (each_of link_of c.in_ok-rest.rest) (repeated_of (keys (table_of c.args.of)) (link_at c.args.text.now c.args.levels (below (term_at c.args.text.now) c.args.levels) c.args.of) c.args.tokens.now.rest.now))
-          c.in_ok-push.ensures.items (test ∙ ap (λ (w : List (Kind × Op)). begins (keys w) c.loop-of.tokens.rest.now) c.operators.ensures) one c.loop-of.invariant.1,
-    )
-
-pub longer_chain-returns-in_err-next : goal.longer_chain-returns-in_err-next
-longer_chain-returns-in_err-next t c =
-    let p = err_from_is_err_and c.from_residual-in_err-next.result c.from_residual-in_err-next.ensures.1 in
-    let test : true ≡ begins (keys c.operators.result.now) c.loop-of.tokens.rest.now = c.loop-of-test.ensures in
-    let read : choice_at (table_of c.args.of) c.loop-of.tokens.rest.now ≡ Ok (c.in_ok-operator.operator, c.choice.new.self.rest.now) = ap (λ (w : List (Kind × Op)). choice_at w c.loop-of.tokens.rest.now) (sym c.operators-in-loop-of.ensures) ∙ c.in_ok-operator.ensures.read in
-    rw (p.1, p.2) (λ reason is.
-    let one = link_fails (table_of c.args.of) (operand_at c.args.text.now c.args.levels (below (term_at c.args.text.now) c.args.levels) c.args.of) c.loop-of.tokens.rest.now c.choice.new.self.rest.now c.in_ok-operator.operator reason read (c.in_err-next.ensures reason is) in
-    let total = sym (nothing_before link_of (keys (table_of c.args.of)) (link_at c.args.text.now c.args.levels (below (term_at c.args.text.now) c.args.levels) c.args.of) c.in_ok-rest.rest.items
-    (repeated_of (keys (table_of c.args.of)) (link_at c.args.text.now c.args.levels (below (term_at c.args.text.now) c.args.levels) c.args.of) c.args.tokens.now.rest.now) c.in_ok-rest.ensures.items)
-    ∙ bad_turn (keys (table_of c.args.of)) (link_at c.args.text.now c.args.levels (below (term_at c.args.text.now) c.args.levels) c.args.of) (each_of link_of c.loop-of.rest) c.loop-of.tokens.rest.now reason
+pub links-loop-alloc-preserved : goal.links-loop-alloc-preserved
+links-loop-alloc-preserved t c =
+    let test : true ≡ begins (keys c.operators.result.now) c.loop-alloc.tokens.rest.now = c.loop-alloc-test.ensures in
+    let read : choice_at (table_of c.args.of) c.loop-alloc.tokens.rest.now ≡ Ok (c.in_ok-operator.operator, c.choice.new.self.rest.now) = ap (λ (w : List (Kind × Op)). choice_at w c.loop-alloc.tokens.rest.now) (sym c.operators-in-loop-alloc.ensures) ∙ c.in_ok-operator.ensures.read in
+    turn_seen link_of (keys (table_of c.args.of)) (link_at c.args.text.now c.args.levels (below (term_at c.args.text.now) c.args.levels) c.args.of) (links_consume c.args.text.now c.args.levels c.args.of)
+    c.loop-alloc.rest.items c.push.new.self.items c.loop-alloc.tokens.rest.now (c.in_ok-operator.operator, c.in_ok-next.next) c.operand.new.tokens.rest.now
     (with_front (each_of link_of c.in_ok-rest.rest) (repeated_of (keys (table_of c.args.of)) (link_at c.args.text.now c.args.levels (below (term_at c.args.text.now) c.args.levels) c.args.of) c.args.tokens.now.rest.now))
-    (sym (test ∙ ap (λ (w : List (Kind × Op)). begins (keys w) c.loop-of.tokens.rest.now) c.operators.ensures)) one c.loop-of.invariant.1 in
-    links_fail (table_of c.args.of) (operand_at c.args.text.now c.args.levels (below (term_at c.args.text.now) c.args.levels) c.args.of) c.args.tokens.now.rest.now (term_of c.args.first) reason total)
+    c.in_ok-push.ensures.items (test ∙ ap (λ (w : List (Kind × Op)). begins (keys w) c.loop-alloc.tokens.rest.now) c.operators.ensures)
+    (link_is (table_of c.args.of) (operand_at c.args.text.now c.args.levels (below (term_at c.args.text.now) c.args.levels) c.args.of) c.loop-alloc.tokens.rest.now c.choice.new.self.rest.now c.operand.new.tokens.rest.now
+    c.in_ok-operator.operator (term_of c.in_ok-next.next) read c.in_ok-next.ensures) c.loop-alloc.invariant
+
+pub links-returns-in_err-next : goal.links-returns-in_err-next
+links-returns-in_err-next t c =
+    let p = err_from_is_err_and c.from_residual-in_err-next.result c.from_residual-in_err-next.ensures.1 in
+    let test : true ≡ begins (keys c.operators.result.now) c.loop-alloc.tokens.rest.now = c.loop-alloc-test.ensures in
+    let read : choice_at (table_of c.args.of) c.loop-alloc.tokens.rest.now ≡ Ok (c.in_ok-operator.operator, c.choice.new.self.rest.now) = ap (λ (w : List (Kind × Op)). choice_at w c.loop-alloc.tokens.rest.now) (sym c.operators-in-loop-alloc.ensures) ∙ c.in_ok-operator.ensures.read in
+    rw (p.1, p.2) (λ reason is.
+    let one = link_fails (table_of c.args.of) (operand_at c.args.text.now c.args.levels (below (term_at c.args.text.now) c.args.levels) c.args.of) c.loop-alloc.tokens.rest.now c.choice.new.self.rest.now c.in_ok-operator.operator reason read (c.in_err-next.ensures reason is) in
+    sym (nothing_before link_of (keys (table_of c.args.of)) (link_at c.args.text.now c.args.levels (below (term_at c.args.text.now) c.args.levels) c.args.of) c.in_ok-rest.rest.items
+    (repeated_of (keys (table_of c.args.of)) (link_at c.args.text.now c.args.levels (below (term_at c.args.text.now) c.args.levels) c.args.of) c.args.tokens.now.rest.now) c.in_ok-rest.ensures.items)
+    ∙ bad_turn (keys (table_of c.args.of)) (link_at c.args.text.now c.args.levels (below (term_at c.args.text.now) c.args.levels) c.args.of) (each_of link_of c.loop-alloc.rest) c.loop-alloc.tokens.rest.now reason
+    (with_front (each_of link_of c.in_ok-rest.rest) (repeated_of (keys (table_of c.args.of)) (link_at c.args.text.now c.args.levels (below (term_at c.args.text.now) c.args.levels) c.args.of) c.args.tokens.now.rest.now))
+    (sym (test ∙ ap (λ (w : List (Kind × Op)). begins (keys w) c.loop-alloc.tokens.rest.now) c.operators.ensures)) one c.loop-alloc.invariant)
+
+pub links-returns : goal.links-returns
+links-returns t c =
+    let test : false ≡ begins (keys c.operators.result.now) c.loop-alloc.tokens.rest.now = c.loop-alloc-test.ensures in
+    sym (nothing_before link_of (keys (table_of c.args.of)) (link_at c.args.text.now c.args.levels (below (term_at c.args.text.now) c.args.levels) c.args.of) c.in_ok-rest.rest.items
+    (repeated_of (keys (table_of c.args.of)) (link_at c.args.text.now c.args.levels (below (term_at c.args.text.now) c.args.levels) c.args.of) c.args.tokens.now.rest.now) c.in_ok-rest.ensures.items)
+    ∙ no_turn (keys (table_of c.args.of)) (link_at c.args.text.now c.args.levels (below (term_at c.args.text.now) c.args.levels) c.args.of) (each_of link_of c.loop-alloc.rest) c.loop-alloc.tokens.rest.now
+    (with_front (each_of link_of c.in_ok-rest.rest) (repeated_of (keys (table_of c.args.of)) (link_at c.args.text.now c.args.levels (below (term_at c.args.text.now) c.args.levels) c.args.of) c.args.tokens.now.rest.now))
+    (sym (test ∙ ap (λ (w : List (Kind × Op)). begins (keys w) c.loop-alloc.tokens.rest.now) c.operators.ensures)) c.loop-alloc.invariant
+
+pub longer_chain-returns-in_err-rest : goal.longer_chain-returns-in_err-rest
+longer_chain-returns-in_err-rest t c =
+    let p = err_from_is_err_and c.from_residual.result c.from_residual.ensures.1 in
+    rw (p.1, p.2) (λ reason is. links_fail (table_of c.args.of) (operand_at c.args.text.now c.args.levels (below (term_at c.args.text.now) c.args.levels) c.args.of) c.args.tokens.now.rest.now (term_of c.args.first) reason (c.in_err-rest.ensures reason is))
 
 pub longer_chain-returns : goal.longer_chain-returns
-longer_chain-returns t c =
-    let test : false ≡ begins (keys c.operators.result.now) c.loop-of.tokens.rest.now = c.loop-of-test.ensures in
-    let total = sym (nothing_before link_of (keys (table_of c.args.of)) (link_at c.args.text.now c.args.levels (below (term_at c.args.text.now) c.args.levels) c.args.of) c.in_ok-rest.rest.items
-    (repeated_of (keys (table_of c.args.of)) (link_at c.args.text.now c.args.levels (below (term_at c.args.text.now) c.args.levels) c.args.of) c.args.tokens.now.rest.now) c.in_ok-rest.ensures.items)
-    ∙ no_turn (keys (table_of c.args.of)) (link_at c.args.text.now c.args.levels (below (term_at c.args.text.now) c.args.levels) c.args.of) (each_of link_of c.loop-of.rest) c.loop-of.tokens.rest.now
-    (with_front (each_of link_of c.in_ok-rest.rest) (repeated_of (keys (table_of c.args.of)) (link_at c.args.text.now c.args.levels (below (term_at c.args.text.now) c.args.levels) c.args.of) c.args.tokens.now.rest.now))
-    (sym (test ∙ ap (λ (w : List (Kind × Op)). begins (keys w) c.loop-of.tokens.rest.now) c.operators.ensures)) c.loop-of.invariant.1 in
-    rw c.in_ok-joined.ensures
-    (links_done (table_of c.args.of) (operand_at c.args.text.now c.args.levels (below (term_at c.args.text.now) c.args.levels) c.args.of) c.args.tokens.now.rest.now c.loop-of.tokens.rest.now (term_of c.args.first) (each_of link_of c.loop-of.rest) total
-    ∙ ap (λ (x : Term). read_as (chain_of (term_of x, each_of link_of c.loop-of.rest)) c.loop-of.tokens.rest.now) (sym c.loop-of.invariant.0))
+longer_chain-returns t c = rw c.in_ok-joined.ensures (links_done (table_of c.args.of) (operand_at c.args.text.now c.args.levels (below (term_at c.args.text.now) c.args.levels) c.args.of) c.args.tokens.now.rest.now c.links.new.tokens.rest.now (term_of c.args.first) (each_of link_of c.in_ok-rest.rest) c.in_ok-rest.ensures)
 
 pub chain_from-returns-then-not-sees_in : goal.chain_from-returns-then-not-sees_in
 chain_from-returns-then-not-sees_in t c = no_links (table_of c.args.of) (operand_at c.args.text.now c.args.levels (below (term_at c.args.text.now) c.args.levels) c.args.of) c.args.tokens.now.rest.now (term_of c.args.first) (ap (λ (w : List (Kind × Op)). begins (keys w) c.args.tokens.now.rest.now) (sym c.operators.ensures) ∙ sym c.if-not-sees_in.ensures)

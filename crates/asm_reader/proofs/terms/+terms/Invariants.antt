@@ -11,64 +11,73 @@ use Rattle.asm_reader.proofs.Ranks.{operand_rank}
 use Rattle.asm_reader.proofs.terms.+terms.Given as goal
 
 abbrev pub decreases-arguments : goal.decreases-arguments
-decreases-arguments l = l.levels * 30
+decreases-arguments l = l.levels * 40
 
 abbrev pub decreases-parenthesized : goal.decreases-parenthesized
-decreases-parenthesized l = l.levels * 30
+decreases-parenthesized l = l.levels * 40
 
 abbrev pub decreases-applied : goal.decreases-applied
-decreases-applied l = l.levels * 30 + 1
+decreases-applied l = l.levels * 40 + 1
 
 abbrev pub decreases-primary : goal.decreases-primary
-decreases-primary l = l.levels * 30 + 2
+decreases-primary l = l.levels * 40 + 2
 
 abbrev pub decreases-factor : goal.decreases-factor
-decreases-factor l = l.levels * 30 + 3
+decreases-factor l = l.levels * 40 + 3
 
 abbrev pub decreases-operand : goal.decreases-operand
-decreases-operand l = l.levels * 30 + operand_rank l.of
+decreases-operand l = l.levels * 40 + operand_rank l.of
 
 abbrev pub decreases-chain : goal.decreases-chain
-decreases-chain l = l.levels * 30 + operand_rank l.of + 3
+decreases-chain l = l.levels * 40 + operand_rank l.of + 4
+
+abbrev pub decreases-links : goal.decreases-links
+decreases-links l = l.levels * 40 + operand_rank l.of + 1
 
 abbrev pub decreases-longer_chain : goal.decreases-longer_chain
-decreases-longer_chain l = l.levels * 30 + operand_rank l.of + 1
+decreases-longer_chain l = l.levels * 40 + operand_rank l.of + 2
 
 abbrev pub decreases-chain_from : goal.decreases-chain_from
-decreases-chain_from l = l.levels * 30 + operand_rank l.of + 2
+decreases-chain_from l = l.levels * 40 + operand_rank l.of + 3
+
+abbrev pub decreases-other_side : goal.decreases-other_side
+decreases-other_side l = l.levels * 40 + 14
 
 abbrev pub decreases-longer_comparison : goal.decreases-longer_comparison
-decreases-longer_comparison l = l.levels * 30 + 12
+decreases-longer_comparison l = l.levels * 40 + 15
 
 abbrev pub decreases-compared : goal.decreases-compared
-decreases-compared l = l.levels * 30 + 13
+decreases-compared l = l.levels * 40 + 16
 
 abbrev pub decreases-comparison : goal.decreases-comparison
-decreases-comparison l = l.levels * 30 + 14
+decreases-comparison l = l.levels * 40 + 17
 
 abbrev pub decreases-negation : goal.decreases-negation
-decreases-negation l = l.levels * 30 + 15
+decreases-negation l = l.levels * 40 + 18
 
 abbrev pub decreases-term_from : goal.decreases-term_from
-decreases-term_from l = l.levels * 30 + 24
+decreases-term_from l = l.levels * 40 + 28
 
 abbrev pub decreases-term : goal.decreases-term
-decreases-term l = l.levels * 30 + 25
+decreases-term l = l.levels * 40 + 29
+
+abbrev pub decreases-next_term : goal.decreases-next_term
+decreases-next_term l = l.levels * 40 + 30
 
 abbrev pub decreases-terms : goal.decreases-terms
-decreases-terms l = l.levels * 30 + 26
+decreases-terms l = l.levels * 40 + 31
 
 abbrev pub decreases-quantified : goal.decreases-quantified
-decreases-quantified l = l.levels * 30 + 26
+decreases-quantified l = l.levels * 40 + 30
 
 abbrev pub decreases-exists : goal.decreases-exists
-decreases-exists l = l.levels * 30 + 27
+decreases-exists l = l.levels * 40 + 31
 
 abbrev pub decreases-every : goal.decreases-every
-decreases-every l = l.levels * 30 + 27
+decreases-every l = l.levels * 40 + 31
 
 abbrev pub decreases-inner : goal.decreases-inner
-decreases-inner l = l.levels * 30 + 28
+decreases-inner l = l.levels * 40 + 32
 
 abbrev pub invariant-terms-loop-alloc : goal.invariant-terms-loop-alloc
 invariant-terms-loop-alloc l =
@@ -78,10 +87,10 @@ invariant-terms-loop-alloc l =
 abbrev pub decreases-terms-loop-alloc : goal.decreases-terms-loop-alloc
 decreases-terms-loop-alloc l = length l.tokens.rest.now
 
-abbrev pub invariant-longer_chain-loop-of : goal.invariant-longer_chain-loop-of
-invariant-longer_chain-loop-of l = (l.first ≡ l.initial.first) × (
+abbrev pub invariant-links-loop-alloc : goal.invariant-links-loop-alloc
+invariant-links-loop-alloc l =
     with_front (each_of link_of l.rest) (repeated_of (keys (table_of l.of)) (link_at l.text l.levels (below (term_at l.text) l.levels) l.of) l.tokens.rest.now)
-    ≡ with_front (each_of link_of l.initial.rest) (repeated_of (keys (table_of l.of)) (link_at l.text l.levels (below (term_at l.text) l.levels) l.of) l.initial.tokens.rest.now))
+    ≡ with_front (each_of link_of l.initial.rest) (repeated_of (keys (table_of l.of)) (link_at l.text l.levels (below (term_at l.text) l.levels) l.of) l.initial.tokens.rest.now)
 
-abbrev pub decreases-longer_chain-loop-of : goal.decreases-longer_chain-loop-of
-decreases-longer_chain-loop-of l = length l.tokens.rest.now
+abbrev pub decreases-links-loop-alloc : goal.decreases-links-loop-alloc
+decreases-links-loop-alloc l = length l.tokens.rest.now
