@@ -1,5 +1,5 @@
 //! Puts what the workers have done together.
-ghost use Rattle.std.specs.Prelude.{◌≡◌, ◌^◌, ◌<◌, ◌≤◌, [], ◌∷◌, ◌++◌, All, IfOk, OnOk, IsSome, length, map, replicate, slice_set, vec_len, Some, None};
+ghost use Rattle.std.specs.Prelude.{◌≡◌, ◌^◌, ◌<◌, ◌≤◌, All, IfOk, OnOk, IsSome, length, map, replicate, slice_set, vec_len, Some, None};
 ghost use Rattle.asm_pool.specs.Finished.{HasEachOnce, StandIn, tasks_of, tasks_by, done_by, placed};
 
 use crate::worked::Worked;
@@ -45,25 +45,6 @@ impl<O: Drop> Places<O> {
         Ok(list)
     }
 
-    /// Puts the outs of a worker in their places, and its hand and its list behind those of the workers before it.
-    fn put_worker<H: Drop>(
-        &mut self,
-        alloc: Global,
-        worker: Worker<H, O>,
-        hands: &mut Vec<H>,
-        lists: &mut Vec<Vec<usize>>,
-    ) -> Result<(), AllocError>
-        requires { All (λ d. d.task < length self.old.outs.items) worker.done.items }
-        ensures places { OnOk result (self.new.outs.items ≡ placed self.old.outs.items worker.done.items) }
-        ensures hands { OnOk result (hands.new.items ≡ hands.old.items ++ worker.hand ∷ []) }
-        ensures lists { OnOk result (map (λ list. list.items) lists.new.items ≡ map (λ list. list.items) lists.old.items ++ tasks_of worker.done.items ∷ []) }
-    {
-        let Worker { hand, done } = worker;
-        lists.push(self.put_all(alloc, done)?)?;
-        hands.push(hand)?;
-        Ok(())
-    }
-
     fn into_outs(self, alloc: Global) -> Result<Vec<O>, AllocError>
         requires { All IsSome self.outs.items }
         ensures { IfOk result (λ v. map Some v.items ≡ self.outs.items) }
@@ -94,8 +75,9 @@ pub(crate) fn gather<H: Drop, O: Drop>(
     let mut places = places;
     let mut hands = Vec::with_capacity(alloc, workers.len())?;
     let mut lists = Vec::with_capacity(alloc, workers.len())?;
-    for worker in workers {
-        places.put_worker(alloc, worker, &mut hands, &mut lists)?;
+    for Worker { hand, done } in workers {
+        lists.push(places.put_all(alloc, done)?)?;
+        hands.push(hand)?;
     }
     let outs = places.into_outs(alloc)?;
     Ok(Worked { outs, hands, lists })
