@@ -1,8 +1,8 @@
-use Rattle.std.proofs.Common.{◌≡◌, ◌-◌, ◌/◌, ◌<◌, length, ap, arith}
+use Rattle.std.proofs.Common.{rules, ◌≡◌, ◌-◌, ◌/◌, ◌<◌, length, ap, arith}
 use Rattle.std.proofs.lemmas.Bool.Decides.{nat_tests}
 use Rattle.std.proofs.lemmas.Result.{IfOk-weaker}
 use Rattle.asm_pool.specs.Working.{HaveWorked}
-use Rattle.asm_pool.proofs.Teams.{stays, joins, both-worked}
+use Rattle.asm_pool.proofs.Teams.{stays, goes, joins, both-worked}
 use Rattle.asm_pool.proofs.pool.+halves.Goals as goal
 
 pub split-place-requires-clause-seat : goal.split-place-requires-clause-seat
@@ -25,8 +25,8 @@ both-requires-clause-seat g t c =
     let many : 1 < c.args.hands.len = grind (arith, nat_tests, c.if-len-eq1.false, c.len.ensures, c.args.hands.ok.0, c.requires.ready.some) in
     let stay : c.len-2.result - c.len-half.result / 2 ≡ c.args.hands.len - c.args.hands.len / 2 = omega (arith, c.len-2.ensures, c.len-half.ensures) in
     let here =
-        stays (g.J.Job.has_task c.args.job.now) takes it c.args.first c.args.hands.items c.args.seat c.requires.ready c.args.hands.len (c.len-2.result - c.len-half.result / 2) c.args.hands.ok.0 many stay
-        c.split_off.new.self.items c.split-place.new.seat cut.items c.split-place.ensures.left.0 c.split-place.ensures.left.1 in
+    stays (g.J.Job.has_task c.args.job.now) takes it c.args.first c.args.hands.items c.args.seat c.requires.ready c.args.hands.len (c.len-2.result - c.len-half.result / 2) c.args.hands.ok.0 many stay
+    c.split_off.new.self.items c.split-place.new.seat cut.items c.split-place.ensures.left.0 c.split-place.ensures.left.1 in
     IfOk-weaker c.join-those.result.1 _ _ (λ a w. joins takes runs it c.split_off.new.self.items a.0.items a.1 here.some w) c.join-those.ensures.second
 
 pub both-requires-clause-other : goal.both-requires-clause-other
@@ -42,3 +42,20 @@ returns g t c =
     (λ r b. both-worked takes runs it (λ v. v.items) c.args.hands.items c.split_off.new.self.items c.in_ok-others.others.items (c.len-2.result - c.len-half.result / 2) c.join-those.result.1 c.join-those.result.0 r.0.items r.1
     cut.items cut.tail b.0 b.1 b.2 c.join-those.ensures.second c.join-those.ensures.first)
     c.both.ensures
+
+pub join-those-requires-after_bounds : goal.join-those-requires-after_bounds
+join-those-requires-after_bounds g t c κs within =
+    let takes = g.J.Job.takes_hand c.args.job.now in
+    let it = c.args.lanes.now in
+    let cut = c.in_ok-others.ensures in
+    let many : 1 < c.args.hands.len = grind (arith, nat_tests, c.if-len-eq1.false, c.len.ensures, c.args.hands.ok.0, c.requires.ready.some) in
+    let stay : c.len-2.result - c.len-half.result / 2 ≡ c.args.hands.len - c.args.hands.len / 2 = omega (arith, c.len-2.ensures, c.len-half.ensures) in
+    let here =
+    stays (g.J.Job.has_task c.args.job.now) takes it c.args.first c.args.hands.items c.args.seat c.requires.ready c.args.hands.len (c.len-2.result - c.len-half.result / 2) c.args.hands.ok.0 many stay
+    c.split_off.new.self.items c.split-place.new.seat cut.items c.split-place.ensures.left.0 c.split-place.ensures.left.1 in
+    let there =
+    goes (g.J.Job.has_task c.args.job.now) takes it c.args.first c.args.hands.items c.args.seat c.requires.ready c.args.hands.len (c.len-2.result - c.len-half.result / 2) c.args.hands.ok.0 many stay
+    c.in_ok-others.others.items c.split-place.result cut.tail c.split-place.ensures.right.0 c.split-place.ensures.right.1 in (
+      (search rules, ((λ a m. m), ((λ a m. m), ((λ a m. m), ((λ a m. m), ((λ a m. m), ((search rules, search rules, search rules, search rules, search rules, there), (search rules, search rules, search rules, search rules, search rules)))))))),
+      (search rules, ((λ a m. m), ((λ a m. m), ((λ a m. m), ((λ a m. m), ((λ a m. m), ((search rules, search rules, search rules, search rules, search rules, here), (search rules, search rules, search rules, search rules, search rules)))))))),
+    )

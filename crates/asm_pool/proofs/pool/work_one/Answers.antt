@@ -1,4 +1,4 @@
-use Rattle.std.proofs.Common.{◌≡◌, ℕ, ◌∙◌, [], length, All, subst, sym, arith}
+use Rattle.std.proofs.Common.{◌≡◌, ℕ, ◌∙◌, [], length, subst, sym, arith}
 use Rattle.asm_pool.specs.Dealing.{seat_view}
 use Rattle.asm_pool.proofs.Teams.{one-worked, popped-fits}
 use Rattle.asm_pool.proofs.pool.work_one.Goals as goal
