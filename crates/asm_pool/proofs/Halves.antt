@@ -1,7 +1,7 @@
 -- Lists of workers, put together.
 use Rattle.std.proofs.Common.{◌≡◌, ℕ, zero, suc, ◌≤◌, List, [], ◌∷◌, ◌++◌, length, map, take, drop, get_or, refl, sym, ap, ◌∙◌, subst, arith}
 use Rattle.std.specs.List.{AllZip, All}
-use Rattle.std.proofs.lemmas.List.{append-nil, map-append, take-append-drop}
+use Rattle.std.proofs.lemmas.List.{append-nil, append_assoc, map-append, map_push, take-append-drop}
 use Rattle.std.proofs.lemmas.List.Elements.{All-nil, All-cons, All-head, All-tail, All-drop}
 use Rattle.std.proofs.lemmas.List.Concat.{flat_map-append}
 use Rattle.asm_pool.specs.declared.worker.Done.{Done}
@@ -27,6 +27,16 @@ both-nil (x ∷ xs) ys none = let some : length (x ∷ (xs ++ ys)) ≡ 0 = ap le
 module _ {Hand Out : Type 0} where
   pub tasks_by-append : (xs ys : List (Worker Hand Out)) → tasks_by (xs ++ ys) ≡ tasks_by xs ++ tasks_by ys
   tasks_by-append xs ys = ap tasks_of (flat_map-append (λ (w : Worker Hand Out). w.done.items) xs ys) ∙ map-append (λ (d : Done Out). d.task) (done_by xs) (done_by ys)
+
+  -- one worker more that has done nothing
+  pub idle-more : (made more : List (Worker Hand Out)) (w : Worker Hand Out) → done_by made ≡ [] → w.done.items ≡ [] → more ≡ made ++ w ∷ [] → done_by more ≡ []
+  idle-more made more w idle none pushed =
+      ap done_by pushed ∙ (flat_map-append (λ (v : Worker Hand Out). v.done.items) made (w ∷ []) ∙ ((λ i. idle i ++ (none i ++ []))))
+
+  pub hands-more : (made more : List (Worker Hand Out)) (w : Worker Hand Out) (rest next : List Hand) → rest ≡ w.hand ∷ next → more ≡ made ++ w ∷ [] → map (λ (v : Worker Hand Out). v.hand) more ++ next ≡ map (λ (v : Worker Hand Out). v.hand) made ++ rest
+  hands-more made more w rest next is pushed =
+      ap (λ (l : List Hand). l ++ next) (ap (map (λ (v : Worker Hand Out). v.hand)) pushed ∙ map_push (λ (v : Worker Hand Out). v.hand) made w)
+      ∙ (append_assoc (map (λ (v : Worker Hand Out). v.hand) made) (w.hand ∷ []) next ∙ sym (ap (λ (r : List Hand). map (λ (v : Worker Hand Out). v.hand) made ++ r) is))
 
   -- the hands of workers that have done nothing
   pub idle-fit : (takes : Hand → Type 0) (hands : List Hand) (workers : List (Worker Hand Out)) → map (λ (w : Worker Hand Out). w.hand) workers ≡ hands → All takes hands → All (λ (w : Worker Hand Out). takes w.hand) workers

@@ -1,12 +1,11 @@
 //! Starts the workers, and puts together what they did.
 ghost use denote.Param.Send.{IsSend, IsSync};
-ghost use Rattle.std.specs.Prelude.{◌≡◌, ℕ, ◌+◌, ◌^◌, ◌<◌, ◌≤◌, [], All, IfOk, drop, vec_len, map};
+ghost use Rattle.std.specs.Prelude.{◌≡◌, ℕ, ◌^◌, ◌<◌, ◌≤◌, [], All, IfOk, IsOk, drop, vec_len, map};
 ghost use Rattle.std.specs.List.{range_with_len, concat};
 ghost use Rattle.std.specs.List.Sorted.{IsPermutation};
-ghost use Rattle.asm_pool.specs.Dealing.{seat_view};
 ghost use Rattle.asm_pool.specs.Finished.{HasEachOnce, AllHaveDone, tasks_by};
 ghost use Rattle.asm_pool.specs.Pool.{IsRun, RunsTask, RunsLists};
-ghost use Rattle.asm_pool.specs.Working.{IsWorked};
+ghost use Rattle.asm_pool.specs.Working.{AddsIdle, AreBoth, CanWork, HaveWorked};
 
 use crate::collect::{Places, gather};
 use crate::drawing::empty_all;
@@ -32,18 +31,30 @@ fn work_one<H: Drop, O: Drop, J: Job<Hand = H, Out = O>, G: Gate>(
     seat: Place,
 ) -> Result<Finished<H, O>, AllocError>
     requires one { vec_len hands ≡ 1 }
-    requires seat { (seat.table_id ≡ lanes.now.table.shared.table_id) × (seat.me ≡ (seat_view lanes.now.shape.lanes 1 [], [])) }
-    requires own { own < lanes.now.shape.lanes }
-    requires tasks { (n : ℕ) → n < lanes.now.shape.count → J.has_task job.now n }
-    requires hands { All (J.takes_hand job.now) hands.items }
-    ensures seat { IfOk result (λ r. (r.1.table_id ≡ seat.table_id) × (r.1.me.1 ≡ [])) }
-    ensures fit { IfOk result (λ r. All (λ w. J.takes_hand job.now w.hand) r.0.items) }
-    ensures worked { IfOk result (λ r. IsWorked (IsRun (J.takes_hand job.now) (J.runs job.now)) lanes.now.shape.lanes lanes.now.shape.count hands.items r.0.items r.1.me.0) }
+    requires ready { CanWork (J.has_task job.now) (J.takes_hand job.now) lanes.now own hands.items seat }
+    ensures { IfOk result (λ r. HaveWorked (J.takes_hand job.now) (J.runs job.now) lanes.now hands.items r.0.items r.1) }
 {
     let mut workers = Vec::with_capacity(alloc, 1)?;
     let hand = hands.pop().unwrap();
     let (worker, seat) = empty_all(alloc, lanes, own, job, hand, gate, seat)?;
     workers.push(worker)?;
+    Ok((workers, seat))
+}
+
+/// What two halves of the workers have done, as one. The seat of the others is joined to the first.
+fn both<H: Drop, O: Drop>(
+    lanes: &Lanes,
+    these: Result<Finished<H, O>, AllocError>,
+    those: Result<Finished<H, O>, AllocError>,
+) -> Result<Finished<H, O>, AllocError>
+    requires seat { IfOk these (λ a. (a.1.table_id ≡ lanes.now.table.shared.table_id) × (a.1.me.1 ≡ []) × (0 < a.1.me.0.parts)) }
+    requires other { IfOk those (λ b. (b.1.table_id ≡ lanes.now.table.shared.table_id) × (b.1.me.1 ≡ [])) }
+    ensures { IfOk result (λ r. IsOk these × IsOk those × IfOk these (λ a. IfOk those (λ b. AreBoth a.0.items a.1 b.0.items b.1 r.0.items r.1))) }
+{
+    let (mut workers, mut seat) = these?;
+    let (mut more, other) = those?;
+    workers.append(&mut more)?;
+    lanes.join(&mut seat, other);
     Ok((workers, seat))
 }
 
@@ -66,14 +77,8 @@ fn work_halves<
     gate: &G,
     mut seat: Place,
 ) -> Result<Finished<H, O>, AllocError>
-    requires some { 0 < vec_len hands }
-    requires room { first + vec_len hands ≤ lanes.now.shape.lanes }
-    requires seat { (seat.table_id ≡ lanes.now.table.shared.table_id) × (seat.me ≡ (seat_view lanes.now.shape.lanes (vec_len hands) [], [])) }
-    requires tasks { (n : ℕ) → n < lanes.now.shape.count → J.has_task job.now n }
-    requires hands { All (J.takes_hand job.now) hands.items }
-    ensures seat { IfOk result (λ r. (r.1.table_id ≡ lanes.now.table.shared.table_id) × (r.1.me.1 ≡ [])) }
-    ensures fit { IfOk result (λ r. All (λ w. J.takes_hand job.now w.hand) r.0.items) }
-    ensures worked { IfOk result (λ r. IsWorked (IsRun (J.takes_hand job.now) (J.runs job.now)) lanes.now.shape.lanes lanes.now.shape.count hands.items r.0.items r.1.me.0) }
+    requires ready { CanWork (J.has_task job.now) (J.takes_hand job.now) lanes.now first hands.items seat }
+    ensures { IfOk result (λ r. HaveWorked (J.takes_hand job.now) (J.runs job.now) lanes.now hands.items r.0.items r.1) }
 {
     if hands.len() == 1 {
         return work_one(alloc, lanes, first, job, hands, gate, seat);
@@ -84,25 +89,59 @@ fn work_halves<
     let others = hands.split_off(stay)?;
     let place = lanes.split(&mut seat);
     let here = move || -> Result<Finished<H, O>, AllocError>
-        requires { IsSync R.row × IsSync J.row × IsSync G.row × IsSend H.row × IsSend O.row × (0 < vec_len hands) × (first + vec_len hands ≤ lanes.now.shape.lanes)
-            × (seat.table_id ≡ lanes.now.table.shared.table_id) × (seat.me ≡ (seat_view lanes.now.shape.lanes (vec_len hands) [], []))
-            × ((n : ℕ) → n < lanes.now.shape.count → J.has_task job.now n) × All (J.takes_hand job.now) hands.items }
-        ensures { IfOk result (λ r. (r.1.table_id ≡ lanes.entry.now.table.shared.table_id) × (r.1.me.1 ≡ []) × All (λ w. J.takes_hand job.entry.now w.hand) r.0.items
-            × IsWorked (IsRun (J.takes_hand job.entry.now) (J.runs job.entry.now)) lanes.entry.now.shape.lanes lanes.entry.now.shape.count hands.items r.0.items r.1.me.0) }
+        requires { IsSync R.row × IsSync J.row × IsSync G.row × IsSend H.row × IsSend O.row
+            × CanWork (J.has_task job.now) (J.takes_hand job.now) lanes.now first hands.items seat }
+        ensures { IfOk result (λ r. HaveWorked (J.takes_hand job.entry.now) (J.runs job.entry.now) lanes.entry.now hands.items r.0.items r.1) }
     { work_halves(rt, alloc, lanes, first, job, hands, gate, seat) };
     let there = move || -> Result<Finished<H, O>, AllocError>
-        requires { IsSync R.row × IsSync J.row × IsSync G.row × IsSend H.row × IsSend O.row × (0 < vec_len others) × (next + vec_len others ≤ lanes.now.shape.lanes)
-            × (place.table_id ≡ lanes.now.table.shared.table_id) × (place.me ≡ (seat_view lanes.now.shape.lanes (vec_len others) [], []))
-            × ((n : ℕ) → n < lanes.now.shape.count → J.has_task job.now n) × All (J.takes_hand job.now) others.items }
-        ensures { IfOk result (λ r. (r.1.table_id ≡ lanes.entry.now.table.shared.table_id) × (r.1.me.1 ≡ []) × All (λ w. J.takes_hand job.entry.now w.hand) r.0.items
-            × IsWorked (IsRun (J.takes_hand job.entry.now) (J.runs job.entry.now)) lanes.entry.now.shape.lanes lanes.entry.now.shape.count others.items r.0.items r.1.me.0) }
+        requires { IsSync R.row × IsSync J.row × IsSync G.row × IsSend H.row × IsSend O.row
+            × CanWork (J.has_task job.now) (J.takes_hand job.now) lanes.now next others.items place }
+        ensures { IfOk result (λ r. HaveWorked (J.takes_hand job.entry.now) (J.runs job.entry.now) lanes.entry.now others.items r.0.items r.1) }
     { work_halves(rt, alloc, lanes, next, job, others, gate, place) };
     let (those, these) = join(rt, there, here);
-    let (mut workers, mut seat) = these?;
-    let (mut more, other) = those?;
-    workers.append(&mut more)?;
-    lanes.join(&mut seat, other);
-    Ok((workers, seat))
+    both(lanes, these, those)
+}
+
+/// A worker for each hand, each with a lane of its own, and together they run all tasks.
+fn work_lanes<
+    R: Threads + Sync,
+    H: Send + Drop,
+    O: Send + Drop,
+    J: Job<Hand = H, Out = O> + Sync,
+    G: Gate + Sync,
+>(
+    rt: &R,
+    alloc: Global,
+    count: usize,
+    job: &J,
+    hands: Vec<H>,
+    gate: &G,
+) -> Result<Vec<Worker<H, O>>, AllocError>
+    requires some { (0 < vec_len hands) × (vec_len hands ≤ 32) }
+    requires room { count ≤ 2 ^ 63 }
+    requires tasks { (n : ℕ) → n < count → J.has_task job.now n }
+    requires hands { All (J.takes_hand job.now) hands.items }
+    ensures once { IfOk result (λ ws. HasEachOnce count (tasks_by ws.items)) }
+    ensures fit { IfOk result (λ ws. All (λ w. J.takes_hand job.now w.hand) ws.items) }
+    ensures hands { IfOk result (λ ws. AllHaveDone (IsRun (J.takes_hand job.now) (J.runs job.now)) hands.items ws.items) }
+{
+    let (lanes, seat) = Lanes::open(alloc, hands.len(), count)?;
+    let (workers, seat) = work_halves(rt, alloc, &lanes, 0, job, hands, gate, seat)?;
+    lanes.close(seat);
+    Ok(workers)
+}
+
+/// The workers, and behind them one for each of the other hands, which has done nothing.
+fn with_idle<H: Drop, O: Drop>(
+    alloc: Global,
+    mut workers: Vec<Worker<H, O>>,
+    others: Vec<H>,
+) -> Result<Vec<Worker<H, O>>, AllocError>
+    ensures { IfOk result (λ ws. AddsIdle others.items workers.items ws.items) }
+{
+    let mut idle = idle_workers(alloc, others)?;
+    workers.append(&mut idle)?;
+    Ok(workers)
 }
 
 /// At most so many workers, each with a lane of its own, run all tasks. No thread is started for a lane that could have no task,
@@ -134,12 +173,9 @@ fn work_all<
 {
     let busy = hands.len().min(most).min(count.max(1));
     let others = hands.split_off(busy)?;
-    let (lanes, seat) = Lanes::open(alloc, busy, count)?;
-    let (mut workers, seat) = work_halves(rt, alloc, &lanes, 0, job, hands, gate, seat)?;
-    lanes.close(seat);
-    let mut idle = idle_workers(alloc, others)?;
-    workers.append(&mut idle)?;
-    Ok(workers)
+    let workers = work_lanes(rt, alloc, count, job, hands, gate)?;
+    let all = with_idle(alloc, workers, others)?;
+    Ok(all)
 }
 
 /// Runs each task below the count once, by at most `most` of the workers, which are those of the first hands.

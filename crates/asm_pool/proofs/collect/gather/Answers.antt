@@ -1,5 +1,5 @@
 use Rattle.std.proofs.Common.{◌≡◌, ◌∙◌, [], ◌++◌, All, IsSome, map, ap, sym, subst, refl}
-use Rattle.std.proofs.lemmas.List.{map_push, nil_from_length}
+use Rattle.std.proofs.lemmas.List.{append-nil, map_push, nil_from_length}
 use Rattle.std.specs.Vec.Iter.{into_iter_items}
 use Rattle.asm_pool.specs.Finished.{tasks_of, done_by, placed}
 use Rattle.asm_pool.proofs.Places.{all_some, stand_in, outs_count}
@@ -49,3 +49,13 @@ returns-clause-outs g c =
     let none : into_iter_items c.loop-hand.hand-iterator ≡ [] = nil_from_length _ (sym c.loop-hand.hand-iterator.rest.ok.0 ∙ c.in-None.ensures.steps.0) in
     let whole = places-all c.args.count c.loop-hand.places.outs.items c.args.places.outs.items c.args.workers.items (into_iter_items c.loop-hand.hand-iterator) c.requires.free c.loop-hand.invariant.places none in
     stand_in c.args.count _ (done_by c.args.workers.items) c.requires.once (c.in_ok-outs.ensures ∙ whole)
+
+pub returns-clause-lists : goal.returns-clause-lists
+returns-clause-lists g c =
+    let none : into_iter_items c.loop-hand.hand-iterator ≡ [] = nil_from_length _ (sym c.loop-hand.hand-iterator.rest.ok.0 ∙ c.in-None.ensures.steps.0) in
+    sym (ap (λ ws. map (λ v. v.items) c.loop-hand.lists.items ++ map (λ w. tasks_of w.done.items) ws) none ∙ append-nil (map (λ v. v.items) c.loop-hand.lists.items)) ∙ c.loop-hand.invariant.lists
+
+pub returns-clause-hands : goal.returns-clause-hands
+returns-clause-hands g c =
+    let none : into_iter_items c.loop-hand.hand-iterator ≡ [] = nil_from_length _ (sym c.loop-hand.hand-iterator.rest.ok.0 ∙ c.in-None.ensures.steps.0) in
+    sym (ap (λ ws. c.loop-hand.hands.items ++ map (λ w. w.hand) ws) none ∙ append-nil c.loop-hand.hands.items) ∙ c.loop-hand.invariant.hands

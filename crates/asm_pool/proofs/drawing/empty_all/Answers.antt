@@ -1,4 +1,4 @@
-use Rattle.std.proofs.Common.{◌∙◌, ◌+◌, ◌%◌, ◌<◌, ℕ, cond, eqb, ap, refl, arith}
+use Rattle.std.proofs.Common.{◌≡◌, ◌∙◌, ◌+◌, ◌%◌, ◌<◌, ℕ, cond, eqb, ap, refl, arith}
 use Rattle.asm_pool.specs.Dealing.{past}
 use Rattle.asm_pool.specs.Pool.{IsRun}
 use Rattle.asm_pool.proofs.Working.{works-none, works-then, emptied-more, ahead-more, worked-one}
@@ -45,3 +45,13 @@ returns-clause-worked g c =
     worked-one (IsRun (g.J.Job.takes_hand c.args.job.now) (g.J.Job.runs c.args.job.now)) shape.lanes shape.count c.args.own c.args.seat.me.0 c.loop-turn.seat.me.0 (record { hand = c.args.hand; done = c.new.result }) c.loop-turn.worker
     (ap (λ m. m.0.drawn) c.requires.seat.1) c.new.ensures.items inv.width inv.parts inv.works c.requires.own
     (λ i low. inv.emptied i (omega (arith, c.loop-turn-test.false, c.count-turn-end.ensures)))
+
+pub empty_lane-requires-clause-part : goal.empty_lane-requires-clause-part
+empty_lane-requires-clause-part g c =
+    let shape = c.args.lanes.now.shape in
+    let turn = c.loop-turn.turn in
+    let drawn = c.loop-turn.seat.me.0.drawn in
+    let inside : turn < shape.lanes = omega (arith, c.loop-turn-test.true, c.count-turn-end.ensures) in
+    let none : past shape.lanes shape.count ((c.args.own + turn) % c.count.result) drawn ≡ 0 =
+        ap (λ (n : ℕ). past shape.lanes shape.count ((c.args.own + turn) % n) drawn) c.count.ensures ∙ c.loop-turn.invariant.ahead turn (omega arith) inside in
+    omega (arith, none, c.loop-turn.invariant.parts)
