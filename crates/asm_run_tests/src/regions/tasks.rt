@@ -38,7 +38,8 @@ fn run_first_task<'a>(
     requires pieces { All (IsPiece (setting evaluation.now).program) pieces.now × (0 < length pieces.now) }
     requires count { striped.now.count ≡ count_of (shape_at evaluation.now) }
     requires seat { seat.table ≡ striped.now.table }
-    ensures { IfOk result (λ r. (r.1.table ≡ seat.table) × (r.1.parts ≡ seat.parts)) }
+    ensures table { IfOk result (λ r. r.1.table ≡ seat.table) }
+    ensures parts { IfOk result (λ r. r.1.parts ≡ seat.parts) }
 {
     let mut hand = RegionHand::new(alloc, evaluation.scene.view.signature, seat);
     let job = RegionJob::new(alloc, evaluation, pieces, None, striped);
