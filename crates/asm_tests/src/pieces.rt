@@ -19,21 +19,18 @@ use std::test::Fail;
 /// How many pieces something is opened to, and how many elements are counted in opening it.
 type Parts = (usize, u64);
 
-/// How many parts all of the main rule is opened to in the initial state, where two elements are one piece. None: it is closed.
-fn opened(alloc: Global, checked: &Checked) -> Result<Option<Parts>, AllocError> {
-    let beginning = Beginning::of(alloc, checked)?;
-    let view = beginning.view();
-    let picks = Counting::new();
-    let choices = Choices {
-        script: &picks,
-        step: 1,
-    };
+/// How many parts all of the main rule is opened to, where two elements are one piece. None: it is closed.
+fn parts_in<'a>(
+    alloc: Global,
+    checked: &'a Checked,
+    view: &'a View<'_>,
+    choices: &'a Choices<'a, Counting>,
+) -> Result<Option<Parts>, AllocError>
+    requires { view.now.signature.now ≡ shape_of (spec_of checked.now.spec) }
+{
     let evaluation = Evaluation {
-        scene: Scene {
-            checked,
-            view: &view,
-        },
-        choices: &choices,
+        scene: Scene { checked, view },
+        choices,
         turns: 1000,
     };
     let piece = main_piece(alloc, checked);
@@ -41,6 +38,17 @@ fn opened(alloc: Global, checked: &Checked) -> Result<Option<Parts>, AllocError>
         Opened::Pieces { pieces, instances } => Ok(Some((pieces.len(), instances))),
         Opened::Closed => Ok(None),
     }
+}
+
+/// That in the initial state.
+fn opened(alloc: Global, checked: &Checked) -> Result<Option<Parts>, AllocError> {
+    let beginning = Beginning::of(alloc, checked)?;
+    let picks = Counting::new();
+    let choices = Choices {
+        script: &picks,
+        step: 1,
+    };
+    parts_in(alloc, checked, &beginning.view(), &choices)
 }
 
 /// Bodies, and what each is opened to.

@@ -45,19 +45,19 @@ fn formed<'a, R: Threads + Sync>(
     checked: &'a Checked,
     view: &'a View<'_>,
     choices: &'a Choices<'a, Counting>,
-    before: Forming,
+    mut made: Forming,
 ) -> Result<Forming, Stopped>
     requires view { view.now.signature.now ≡ shape_of (spec_of checked.now.spec) }
-    requires before { before.set.count ≡ count_of view.now.signature.now }
+    requires before { made.set.count ≡ count_of view.now.signature.now }
 {
     let evaluation = Evaluation {
         scene: Scene { checked, view },
         choices,
         turns: 3,
     };
-    let mut made = before;
-    let formed = pooled.form(alloc, &evaluation, &Env::new(), main_of(checked), &mut made);
-    formed.map(|()| made)
+    let env = Env::new();
+    pooled.form(alloc, &evaluation, &env, main_of(checked), &mut made)?;
+    Ok(made)
 }
 
 /// A set, and one instance less than can be counted.

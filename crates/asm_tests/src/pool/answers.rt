@@ -71,16 +71,20 @@ fn hands_and_outs_tell_one_run(rt: HostRuntime) -> Result<(), Fail> {
     Ok(())
 }
 
+fn sum_of(hands: &[u64]) -> u64 {
+    let mut sum = 0u64;
+    for hand in hands {
+        sum = sum.wrapping_add(*hand);
+    }
+    sum
+}
+
 #[test]
 fn thousands_of_tasks(rt: HostRuntime) -> Result<(), Fail> {
     let before = [0u64, 1000, 2000, 3000, 4000];
     let worked = worked_by_all(&rt, &before, 4003)?;
     assert!(rt; tells_one_run(&before, 4003, &worked));
-    let sum = worked
-        .hands
-        .iter()
-        .fold(0u64, |sum, hand| sum.wrapping_add(*hand));
-    assert_eq!(rt; sum, 8_020_003);
+    assert_eq!(rt; sum_of(worked.hands.as_slice()), 8_020_003);
     Ok(())
 }
 

@@ -53,5 +53,5 @@ empty_lane-requires-clause-part g c =
     let drawn = c.loop-turn.seat.me.0.drawn in
     let inside : turn < shape.lanes = omega (arith, c.loop-turn-test.true, c.count-turn-end.ensures) in
     let none : past shape.lanes shape.count ((c.args.own + turn) % c.count.result) drawn ≡ 0 =
-        ap (λ (n : ℕ). past shape.lanes shape.count ((c.args.own + turn) % n) drawn) c.count.ensures ∙ c.loop-turn.invariant.ahead turn (omega arith) inside in
+    ap (λ (n : ℕ). past shape.lanes shape.count ((c.args.own + turn) % n) drawn) c.count.ensures ∙ c.loop-turn.invariant.ahead turn (omega arith) inside in
     omega (arith, none, c.loop-turn.invariant.parts)
