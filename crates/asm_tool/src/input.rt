@@ -18,7 +18,7 @@ pub fn words<R: Env + AllocGlobal>(rt: &R) -> Result<Vec<String>, Fault> {
 }
 
 /// The front of the text: of its file, or of the input where no file is named.
-pub(crate) fn text<F: Folder, I: Read + Drop>(
+pub fn text<F: Folder, I: Read + Drop>(
     folder: &F,
     alloc: Global,
     name: Option<&str>,
@@ -62,7 +62,7 @@ fn named<F: Folder>(folder: &F, alloc: Global, name: &str, most: u64) -> Result<
 }
 
 /// The input to its end, or so many bytes of it where it is longer.
-fn front<I: Read + Drop>(alloc: Global, input: I, most: u64) -> Result<Vec<u8>, Fault>
+pub fn front<I: Read + Drop>(alloc: Global, input: I, most: u64) -> Result<Vec<u8>, Fault>
     ensures read { IfOk result (λ text. IsFront (I.remaining input) most text.items) }
     ensures failed { IfErr result (λ fault. status_of fault ≡ 3) }
 {
