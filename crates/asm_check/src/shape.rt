@@ -19,6 +19,7 @@ use asm_state::function::{Function, Table};
 use asm_state::signature::Signature;
 use asm_state::universe::Universe;
 use asm_state::value::Value;
+use asm_state::word::Word;
 use asm_syntax::name::Name;
 use asm_syntax::spec::{Const, Entry, Given, Item, Spec};
 use std::alloc::{AllocError, Global};
@@ -155,7 +156,7 @@ fn table_of(alloc: Global, table: &Option<Given>, numbered: &Numbered) -> Result
     ensures { IfOk result (λ t. t ≡ table_by (texts_of (elements_of (spec_of numbered.now.spec.now))) (option_map given_of table.now)) }
 {
     match table {
-        None => Ok(Table::Same(Value::Undef)),
+        None => Ok(Table::Same(Word::undef())),
         Some(Given::Each(constant)) => Ok(Table::Same(value_of(constant, numbered))),
         Some(Given::Entries(entries)) => Ok(Table::Entries(entries_of(alloc, entries, numbered)?)),
     }
@@ -186,7 +187,7 @@ fn arguments_of(
     Ok(Arguments::new(values))
 }
 
-fn value_of(constant: &Const, numbered: &Numbered) -> Value
+fn value_of(constant: &Const, numbered: &Numbered) -> Word
     ensures { result ≡ const_by (texts_of (elements_of (spec_of numbered.now.spec.now))) (const_of constant.now) }
 {
     match constant {
@@ -196,14 +197,14 @@ fn value_of(constant: &Const, numbered: &Numbered) -> Value
 }
 
 /// The element with a number.
-fn element(number: usize) -> Value
+fn element(number: usize) -> Word
     ensures { result ≡ elements.element number }
 {
     if number < ELEMENTS as usize {
-        Value::Element(Element {
+        Word::of(Value::Element(Element {
             index: number as u32,
-        })
+        }))
     } else {
-        Value::Undef
+        Word::undef()
     }
 }

@@ -14,6 +14,7 @@ use Rattle.asm_syntax.specs.PlainTree.{plain_term, plain_terms}
 use Rattle.asm_syntax.specs.Views.{term_of, terms_of}
 use Rattle.asm_syntax.specs.Tree.{Name, result}
 use Rattle.asm_syntax.specs.declared.term.Term.{Term}
+use Rattle.asm_state.specs.Words as words
 use Rattle.asm_eval.specs.declared.env.Env.{Env}
 use Rattle.asm_eval.specs.declared.env.Env.TheVariants as env
 use Rattle.asm_eval.specs.declared.env.Binding.{Binding as Found}
@@ -62,7 +63,7 @@ module _ (shape : Shape) (x : Name) (other : is_name result x ≡ false) where
   pub names_none : (e : Env) → None_of (bound_to (environment shape e) x)
   names_none env.Empty it us = refl
   names_none (env.One' y v p outer) it us =
-      elim (is_name y.now.text x) as (λ b. bound_location (cond b (Some (ToValue v)) (bound_to (environment shape outer) x)) it us ≡ location_of it us) [
+      elim (is_name y.now.text x) as (λ b. bound_location (cond b (Some (ToValue (words.value_of_code v.value))) (bound_to (environment shape outer) x)) it us ≡ location_of it us) [
         | true ↦ refl
         | false ↦ names_none outer it us
       ]

@@ -7,7 +7,8 @@ use Rattle.std.proofs.Crossing.{Vec-sync}
 use Rattle.std.specs.contracts.option.Option as Option
 use Rattle.asm_state.specs.contracts.signature.Signature as Signature
 use Rattle.asm_state.specs.contracts.state.State as State
-use Rattle.asm_state.specs.contracts.value.Value as Value
+use Rattle.asm_state.specs.contracts.code.Code as Code
+use Rattle.asm_state.specs.contracts.word.Word as Value
 use Rattle.asm_syntax.specs.contracts.name.Name as Name
 use Rattle.asm_syntax.specs.contracts.rule.Rule as Rule
 use Rattle.asm_syntax.specs.contracts.term.Term as Term
@@ -27,10 +28,10 @@ name = search (sendable, Vec-sync) depth 20
 value : IsSync Value.the_row
 value = search sendable depth 20
 
-value_field : IsSync Value.the_field.row
+value_field : IsSync Code.the_field.row
 value_field = search sendable depth 20
 
-value_field_sent : IsSend Value.the_field.row
+value_field_sent : IsSend Code.the_field.row
 value_field_sent = search sendable depth 20
 
 number_field : IsSync (Option.the_field usize).row

@@ -6,6 +6,7 @@
 --     bound_around                 what a name is bound to around other bindings
 use Rattle.std.specs.Prelude.{◌<◌, List, ℕ, map, Option, Some, None, slice_get, option_map}
 use Rattle.asm_state.specs.Location.{Location}
+use Rattle.asm_state.specs.Words.{value_of_code}
 use Rattle.asm_state.specs.Signature.{Shape, count_of, locations}
 use Rattle.asm_check.specs.Shapes.{shape_of}
 use Rattle.asm_check.specs.declared.checked.Checked.{Checked}
@@ -34,7 +35,7 @@ bound_around shape x inner answer = bound_to (located (location_numbered shape a
 module _ (shape : Shape) where
   abbrev pub environment : Env → Environment
   environment env.Empty = nothing_bound
-  environment (env.One' x v p outer) = with_value x.now.text v (environment outer)
+  environment (env.One' x v p outer) = with_value x.now.text (value_of_code v.value) (environment outer)
   environment (env.Values xs vs) = bind_values (map text_of xs.now) vs.now
   environment (env.Terms' xs ts p caller answer) =
       located (location_numbered shape answer) (bind_terms (map text_of xs.now) (plain_terms (terms_of (map term_of ts.now))) (environment caller))

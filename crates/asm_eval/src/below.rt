@@ -3,7 +3,7 @@ ghost use Rattle.std.specs.Prelude.{ℕ, ◌≡◌};
 ghost use Rattle.asm_state.specs.declared.value.Value.{Value as value};
 ghost use Rattle.asm_eval.specs.Seen.{content_below, content_or};
 
-use asm_state::value::Value;
+use asm_state::word::Word;
 use asm_updates::summary::Summary;
 
 /// Sets of updates, of which each is fired after those below it.
@@ -20,7 +20,7 @@ pub enum Below<'a> {
 impl<'a> Below<'a> {
     /// What the last of the sets that names the location with this number has there.
     #[inline(always)]
-    pub(crate) fn content(&self, n: usize) -> Option<Value>
+    pub(crate) fn content(&self, n: usize) -> Option<Word>
         ensures { (v : value) → content_or result v ≡ content_below self.now n v }
     {
         let mut rest = self;

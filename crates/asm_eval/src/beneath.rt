@@ -108,7 +108,7 @@ fn beneath_let<'a, P: Picks>(
     let value = value(alloc, &evaluation.scene, env, term)?;
     let bound = Env::One {
         name,
-        value,
+        value: value.kept(),
         outer: env,
     };
     Ok(Some(Descent {
@@ -133,7 +133,7 @@ fn beneath_choose<'a, P: Picks>(
     if let Some(value) = chosen(alloc, evaluation, env, binder, path)? {
         let bound = Env::One {
             name: binder.name,
-            value,
+            value: value.kept(),
             outer: env,
         };
         return Ok(Some(Descent {

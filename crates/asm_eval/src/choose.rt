@@ -13,7 +13,7 @@ use crate::held::{is_true, universe_of};
 use crate::terms::value;
 use asm_reader::Picks;
 use asm_state::universe::Universe;
-use asm_state::value::Value;
+use asm_state::word::Word;
 use asm_syntax::term::Term;
 use std::alloc::{AllocError, Global};
 
@@ -21,7 +21,7 @@ use std::alloc::{AllocError, Global};
 #[derive(Clone, Copy)]
 enum Walk {
     /// At the candidate that was looked for.
-    Met(Value),
+    Met(Word),
     /// Behind the last one: so many there are.
     Passed(u64),
 }
@@ -74,7 +74,7 @@ fn find_candidate<'e, P: Picks>(
     for i in 0..universe.size() {
         let bound = Env::One {
             name: binder.name,
-            value: universe.element(i),
+            value: universe.element(i).kept(),
             outer: env,
         };
         if holds(alloc, evaluation, &bound, binder.test)? {
@@ -96,7 +96,7 @@ pub(crate) fn chosen<'e, P: Picks>(
     env: &'e Env<'e>,
     binder: &Binder<'e>,
     path: &[u64],
-) -> Result<Option<Value>, AllocError>
+) -> Result<Option<Word>, AllocError>
     ensures { let number = pick (P.script evaluation.now.choices.now.script.now) evaluation.now.choices.now.step path.now in
         IfOk result (λ v. v ≡ taken number (scene_candidates evaluation.now.scene (environment_in evaluation.now.scene.checked.now env.now) binder.now)) }
 {

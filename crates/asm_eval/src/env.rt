@@ -4,7 +4,8 @@ ghost use Rattle.asm_state.specs.Signature.{Shape};
 ghost use Rattle.asm_eval.specs.Environments.{environment};
 ghost use Rattle.asm_eval.specs.Program.{nothing_bound};
 
-use asm_state::value::Value;
+use asm_state::code::Code;
+use asm_state::word::Word;
 use asm_syntax::name::Name;
 use asm_syntax::term::Term;
 
@@ -15,13 +16,13 @@ pub enum Env<'a> {
     /// A name with a value, and the environment around it.
     One {
         name: &'a Name,
-        value: Value,
+        value: Code,
         outer: &'a Env<'a>,
     },
     /// The parameters of a derived function with values, and nothing else. A name behind the last value has `Undef`.
     Values {
         names: &'a [Name],
-        values: &'a [Value],
+        values: &'a [Word],
     },
     /// The parameters of a rule with terms, which belong to the environment of the call, and nothing else.
     Terms {
@@ -48,7 +49,7 @@ pub enum Binding<'a> {
     /// The name isn't bound.
     Unbound,
     /// A value.
-    Known(Value),
+    Known(Word),
     /// A term, with the environment that it belongs to.
     ByName(&'a Term, &'a Env<'a>),
     /// The location with this number.

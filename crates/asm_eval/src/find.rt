@@ -10,7 +10,7 @@ ghost use Rattle.asm_eval.specs.Program.{Environment, ToLocation, bound_to, is_n
 
 use crate::env::{Binding, Env};
 use asm_state::signature::Signature;
-use asm_state::value::Value;
+use asm_state::word::Word;
 use asm_syntax::name::Name;
 use asm_syntax::term::Term;
 
@@ -29,7 +29,7 @@ pub(crate) fn find<'a>(signature: &Signature, env: &'a Env<'a>, name: &Name) -> 
     } = rest
     {
         if bound.text.is(&name.text) {
-            return Binding::Known(*value);
+            return Binding::Known(Word::again(*value));
         }
         rest = outer;
     }
@@ -95,11 +95,11 @@ fn term_of<'a>(names: &[Name], terms: &'a [Term], name: &Name) -> Option<&'a Ter
 }
 
 /// The value in an index, which is `Undef` behind the last one.
-fn value_at(values: &[Value], i: usize) -> Value
+fn value_at(values: &[Word], i: usize) -> Word
     ensures { result ≡ slice_index_or values.now i Undef }
 {
     match values.get(i) {
         Some(value) => *value,
-        None => Value::Undef,
+        None => Word::undef(),
     }
 }

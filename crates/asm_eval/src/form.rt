@@ -18,6 +18,7 @@ use crate::env::Env;
 use crate::evaluation::{Evaluation, Scene};
 use crate::guarded::Guarded;
 use crate::held::{is_true, universe_of};
+use crate::kept::{furnish, keep, set_aside};
 use crate::outcome::Forming;
 use crate::stopped::Stopped;
 use crate::target::{answer, location};
@@ -257,7 +258,7 @@ fn form_let<'e, P: Picks>(
     let value = value(alloc, &evaluation.scene, env, term)?;
     let bound = Env::One {
         name,
-        value,
+        value: value.kept(),
         outer: env,
     };
     form_part(alloc, evaluation, &bound, body, 0, made)
@@ -326,7 +327,7 @@ pub(crate) fn form_span<'e, P: Picks>(
     for i in interval.from..interval.to {
         let bound = Env::One {
             name: binder.name,
-            value: interval.universe.element(i),
+            value: interval.universe.element(i).kept(),
             outer: env,
         };
         if holds(alloc, evaluation, &bound, binder.test)? {
@@ -356,7 +357,7 @@ fn form_choose<'e, P: Picks>(
         Some(value) => {
             let bound = Env::One {
                 name: binder.name,
-                value,
+                value: value.kept(),
                 outer: env,
             };
             form_part(alloc, evaluation, &bound, body, 0, made)
@@ -410,8 +411,7 @@ fn form_in_order<'e, P: Picks>(
     ensures { Follows (shape_at evaluation.now) (in_order_at evaluation.now env.now made.old.path.items rules.now) made.old made.new result }
 {
     let signature = evaluation.scene.view.signature;
-    let nothing = Summary::new(alloc, signature.count());
-    let before = mem::replace(&mut made.set, nothing);
+    let before = set_aside(alloc, &mut made.set);
     let mut so_far = Summary::new(alloc, signature.count());
     for i in 0..rules.len() {
         let part = Guarded {
@@ -420,10 +420,10 @@ fn form_in_order<'e, P: Picks>(
         };
         form_next(alloc, evaluation, env, part, i as u64, &mut so_far, made)?;
         if made.set.first_fault(signature).is_some() {
-            return put_back(before, &so_far, made);
+            return put_back(before, so_far, made);
         }
     }
-    put_back(before, &so_far, made)
+    put_back(before, so_far, made)
 }
 
 /// Forms turns of the body one after the other, up to the first whose set is empty or faulty.
@@ -440,8 +440,7 @@ fn form_turns<'e, P: Picks>(
         Follows (shape_at evaluation.now) (outcome_at evaluation.now env.now made.old.path.items R) made.old made.new result }
 {
     let signature = evaluation.scene.view.signature;
-    let nothing = Summary::new(alloc, signature.count());
-    let before = mem::replace(&mut made.set, nothing);
+    let before = set_aside(alloc, &mut made.set);
     let mut so_far = Summary::new(alloc, signature.count());
     for turn in 0..evaluation.turns {
         form_next(
@@ -454,7 +453,7 @@ fn form_turns<'e, P: Picks>(
             made,
         )?;
         if made.set.is_empty() || made.set.first_fault(signature).is_some() {
-            return put_back(before, &so_far, made);
+            return put_back(before, so_far, made);
         }
     }
     Err(Stopped::Exhausted)
@@ -488,21 +487,30 @@ fn form_next<'e, P: Picks>(
         turns: evaluation.turns,
     };
     form_guarded(alloc, &inner, env, guarded, number, made)?;
+    furnish(&mut made.spare, so_far);
     so_far.then(&made.set)?;
     Ok(())
 }
 
 /// Puts back the set that was formed before a sequence, with the sequence's set added.
-pub(crate) fn put_back(before: Summary, so_far: &Summary, made: &mut Forming) -> Result<(), Stopped>
-    requires { so_far.now.count ≡ before.count }
+pub(crate) fn put_back(before: Summary, so_far: Summary, made: &mut Forming) -> Result<(), Stopped>
+    requires { so_far.count ≡ before.count }
     ensures count { made.new.set.count ≡ before.count }
     ensures path { made.new.path.items ≡ made.old.path.items }
     ensures instances { made.new.instances ≡ made.old.instances }
-    ensures adds { (shape : Shape) (V : UpdateSet) → Stands shape so_far.now V → OnOk result (Adds shape V before made.new.set) }
+    ensures adds { (shape : Shape) (V : UpdateSet) → Stands shape so_far V → OnOk result (Adds shape V before made.new.set) }
     ensures stopped { IfErr result (λ stop. stop ≡ Memory) }
 {
-    made.set = before;
-    made.set.union(so_far)?;
+    if before.is_empty() {
+        let last = mem::replace(&mut made.set, so_far);
+        keep(&mut made.spare, before);
+        keep(&mut made.spare, last);
+        return Ok(());
+    }
+    let last = mem::replace(&mut made.set, before);
+    made.set.union(&so_far)?;
+    keep(&mut made.spare, so_far);
+    keep(&mut made.spare, last);
     Ok(())
 }
 
@@ -524,6 +532,7 @@ fn assign<'e, P: Picks>(
         return Ok(());
     };
     let new = value(alloc, &evaluation.scene, env, new)?;
+    furnish(&mut made.spare, &mut made.set);
     made.set.add(n, new, new)?;
     Ok(())
 }

@@ -28,6 +28,7 @@ pub(crate) fn nothing_formed(
         set: Summary::new(alloc, signature.count()),
         instances: 0,
         path: path.to_vec(alloc)?,
+        spare: Vec::new(alloc),
     })
 }
 

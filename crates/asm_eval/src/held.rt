@@ -12,17 +12,18 @@ use asm_check::{Checked, Named};
 use asm_state::function::FunctionKind;
 use asm_state::universe::Universe;
 use asm_state::value::Value;
+use asm_state::word::Word;
 use asm_syntax::name::Name;
 
 /// Whether a value is the truth value true.
-pub(crate) fn is_true(value: Value) -> bool
+pub(crate) fn is_true(value: Word) -> bool
     ensures { result ≡ spec.is_true value }
 {
-    matches!(value, Value::Truth(true))
+    matches!(value.value(), Value::Truth(true))
 }
 
 /// The value of the controlled or static function with this number.
-pub(crate) fn function_value(view: &View, f: usize, values: &[Value]) -> Value
+pub(crate) fn function_value(view: &View, f: usize, values: &[Word]) -> Word
     requires { f < functions_of view.now.signature.now }
     ensures { let shape = view.now.signature.now in
         result ≡ held (function_at shape f (slice_get shape.functions f)) values.now (shown view.now) }

@@ -12,6 +12,7 @@ pub mod form;
 mod from_nothing;
 mod guarded;
 mod held;
+mod kept;
 pub mod laws;
 pub mod open;
 pub mod outcome;

@@ -241,7 +241,7 @@ fn open_bodies<'a, P: Picks>(
     for i in from..to {
         let bound = Env::One {
             name: binder.name,
-            value: universe.element(i),
+            value: universe.element(i).kept(),
             outer: &piece.env,
         };
         if holds(alloc, evaluation, &bound, binder.test)? {

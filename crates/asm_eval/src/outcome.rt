@@ -21,5 +21,7 @@ pub struct Forming {
     pub instances: u64,
     /// The path of the rule that is evaluated: its numbers come and go here, so that no path is built anew.
     pub path: Vec<u64>,
+    /// Sets that sequences have done with, kept for the next ones.
+    pub spare: Vec<Summary>,
     pub ghost in_range: { instances < 2 ^ 64 },
 }

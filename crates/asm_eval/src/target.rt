@@ -19,7 +19,7 @@ use crate::find::{find, is_result};
 use crate::terms::{FEW, value};
 use asm_check::Named;
 use asm_state::function::FunctionKind;
-use asm_state::value::Value;
+use asm_state::word::Word;
 use asm_syntax::name::Name;
 use asm_syntax::rule::Target;
 use asm_syntax::term::Term;
@@ -112,7 +112,7 @@ pub(crate) fn location_number<'e>(
         IfOk result (λ n. location_at scene.now.view.now.signature.now n ≡ location_in f (domain_of scene.now.view.now.signature.now f) vs) }
 {
     if arguments.len() <= FEW {
-        let mut values = [Value::Undef; FEW];
+        let mut values = [Word::undef(); FEW];
         for i in 0..arguments.len() {
             values[i] = value(alloc, scene, env, &arguments[i])?;
         }

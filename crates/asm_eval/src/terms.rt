@@ -18,8 +18,9 @@ use crate::find::find;
 use crate::held::{function_value, is_true, universe_of};
 use asm_check::Named;
 use asm_state::element::Element;
-use asm_state::operation::{Op, apply};
+use asm_state::operation::Op;
 use asm_state::value::Value;
+use asm_state::word::{Word, apply_to};
 use asm_syntax::name::Name;
 use asm_syntax::term::Term;
 use std::alloc::{AllocError, Global};
@@ -39,7 +40,7 @@ pub(crate) fn value<'e>(
     scene: &Scene,
     env: &'e Env<'e>,
     term: &'e Term,
-) -> Result<Value, AllocError>
+) -> Result<Word, AllocError>
     ensures { IfOk result (λ v. v ≡ scene_value scene.now env.now term.now) }
 {
     // Answers of others are taken out and put in again, so that no form of term writes its own to memory first: it would be read back
@@ -57,17 +58,17 @@ pub(crate) fn value<'e>(
             let mut total = operand(alloc, scene, env, first)?;
             for (operation, right) in rest.as_slice() {
                 let right = operand(alloc, scene, env, right)?;
-                total = apply(*operation, total, right);
+                total = apply_to(*operation, total, right);
             }
             Ok(total)
         }
         Term::Not(inner) => {
             let inner = operand(alloc, scene, env, inner)?;
-            Ok(apply(Op::Not, inner, Value::Undef))
+            Ok(apply_to(Op::Not, inner, Word::undef()))
         }
         Term::Negative(inner) => {
             let inner = operand(alloc, scene, env, inner)?;
-            Ok(apply(Op::Negate, inner, Value::Undef))
+            Ok(apply_to(Op::Negate, inner, Word::undef()))
         }
         Term::Exists { name, over, test } => Ok(exists(alloc, scene, env, name, over, test)?),
         Term::Every { name, over, test } => Ok(every(alloc, scene, env, name, over, test)?),
@@ -83,7 +84,7 @@ fn operand<'e>(
     scene: &Scene,
     env: &'e Env<'e>,
     term: &'e Term,
-) -> Result<Value, AllocError>
+) -> Result<Word, AllocError>
     ensures { IfOk result (λ v. v ≡ scene_value scene.now env.now term.now) }
 {
     match term {
@@ -102,7 +103,7 @@ fn named<'e>(
     env: &'e Env<'e>,
     name: &'e Name,
     arguments: &'e [Term],
-) -> Result<Value, AllocError>
+) -> Result<Word, AllocError>
     ensures { IfOk result (λ v. v ≡ scene_named scene.now env.now name.now.text arguments.now) }
 {
     match find(scene.view.signature, env, name) {
@@ -123,12 +124,12 @@ fn named<'e>(
 
 /// The content of the location with this number: `Undef` at a stray one.
 #[inline(never)]
-fn located(scene: &Scene, n: usize) -> Value
+fn located(scene: &Scene, n: usize) -> Word
     requires { n < count_of scene.now.view.now.signature.now }
     ensures { result ≡ spec.read (shown scene.now.view.now) (location_at scene.now.view.now.signature.now n) }
 {
     match scene.view.signature.stray(n) {
-        Some(_) => Value::Undef,
+        Some(_) => Word::undef(),
         None => scene.view.content(n),
     }
 }
@@ -142,12 +143,12 @@ fn of_few<'e>(
     env: &'e Env<'e>,
     name: &'e Name,
     arguments: &'e [Term],
-) -> Result<Value, AllocError>
+) -> Result<Word, AllocError>
     requires unbound { bound_to (environment_in scene.now.checked.now env.now) name.now.text ≡ None }
     requires few { length arguments.now ≤ 4 }
     ensures { IfOk result (λ v. v ≡ scene_named scene.now env.now name.now.text arguments.now) }
 {
-    let mut values = [Value::Undef; FEW];
+    let mut values = [Word::undef(); FEW];
     for i in 0..arguments.len() {
         values[i] = operand(alloc, scene, env, &arguments[i])?;
     }
@@ -168,7 +169,7 @@ fn of_many<'e>(
     env: &'e Env<'e>,
     name: &'e Name,
     arguments: &'e [Term],
-) -> Result<Value, AllocError>
+) -> Result<Word, AllocError>
     requires { bound_to (environment_in scene.now.checked.now env.now) name.now.text ≡ None }
     ensures { IfOk result (λ v. v ≡ scene_named scene.now env.now name.now.text arguments.now) }
 {
@@ -191,19 +192,19 @@ fn value_of(
     alloc: Global,
     scene: &Scene,
     it: Option<Named>,
-    values: &[Value],
-) -> Result<Value, AllocError>
+    values: &[Word],
+) -> Result<Word, AllocError>
     requires { IsInRange (spec_of scene.now.checked.now.spec) it }
     ensures { IfOk result (λ v. v ≡ declared_value (program scene.now.checked.now) (shown scene.now.view.now) (numbered (spec_of scene.now.checked.now.spec) it) values.now) }
 {
     match it {
         Some(Named::Function(f)) => Ok(function_value(scene.view, f, values)),
-        Some(Named::Element(e)) => Ok(Value::Element(Element { index: e as u32 })),
+        Some(Named::Element(e)) => Ok(Word::of(Value::Element(Element { index: e as u32 }))),
         Some(Named::Derived(d)) => {
             let (names, body) = scene.checked.derived(d);
             value(alloc, scene, &Env::Values { names, values }, body)
         }
-        Some(Named::Universe(_) | Named::Rule(_)) | None => Ok(Value::Undef),
+        Some(Named::Universe(_) | Named::Rule(_)) | None => Ok(Word::undef()),
     }
 }
 
@@ -217,25 +218,25 @@ fn exists<'e>(
     name: &'e Name,
     over: &Name,
     test: &'e Term,
-) -> Result<Value, AllocError>
+) -> Result<Word, AllocError>
     ensures { let t = tree.Exists name.now.text over.now.text (plain.plain_term (term_of test.now)) in
         IfOk result (λ v. v ≡ spec.value (program scene.now.checked.now) (shown scene.now.view.now) (environment_in scene.now.checked.now env.now) t) }
 {
     let Some(universe) = universe_of(scene.checked, over) else {
-        return Ok(Value::Truth(false));
+        return Ok(Word::truth(false));
     };
     for i in 0..universe.size() {
         let bound = Env::One {
             name,
-            value: universe.element(i),
+            value: universe.element(i).kept(),
             outer: env,
         };
         let tested = value(alloc, scene, &bound, test)?;
         if is_true(tested) {
-            return Ok(Value::Truth(true));
+            return Ok(Word::truth(true));
         }
     }
-    Ok(Value::Truth(false))
+    Ok(Word::truth(false))
 }
 
 /// The truth value of whether the test has the value true for each element.
@@ -248,23 +249,23 @@ fn every<'e>(
     name: &'e Name,
     over: &Name,
     test: &'e Term,
-) -> Result<Value, AllocError>
+) -> Result<Word, AllocError>
     ensures { let t = tree.Every name.now.text over.now.text (plain.plain_term (term_of test.now)) in
         IfOk result (λ v. v ≡ spec.value (program scene.now.checked.now) (shown scene.now.view.now) (environment_in scene.now.checked.now env.now) t) }
 {
     let Some(universe) = universe_of(scene.checked, over) else {
-        return Ok(Value::Truth(true));
+        return Ok(Word::truth(true));
     };
     for i in 0..universe.size() {
         let bound = Env::One {
             name,
-            value: universe.element(i),
+            value: universe.element(i).kept(),
             outer: env,
         };
         let tested = value(alloc, scene, &bound, test)?;
         if !is_true(tested) {
-            return Ok(Value::Truth(false));
+            return Ok(Word::truth(false));
         }
     }
-    Ok(Value::Truth(true))
+    Ok(Word::truth(true))
 }

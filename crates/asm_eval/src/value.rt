@@ -10,7 +10,7 @@ use crate::evaluation::Scene;
 use crate::terms;
 use crate::view::View;
 use asm_check::Checked;
-use asm_state::value::Value;
+use asm_state::word::Word;
 use asm_syntax::term::Term;
 use std::alloc::{AllocError, Global};
 
@@ -21,7 +21,7 @@ pub fn value<'a, 'e>(
     view: &'a View<'_>,
     env: &'e Env<'e>,
     term: &'e Term,
-) -> Result<Value, AllocError>
+) -> Result<Word, AllocError>
     requires { view.now.signature.now ≡ shape_of (spec_of checked.now.spec) }
     ensures { IfOk result (λ v. v ≡ term_value checked.now view.now (environment_in checked.now env.now) term.now) }
 {

@@ -14,7 +14,7 @@ ghost use Rattle.asm_eval.specs.Value.{read};
 use crate::below::Below;
 use asm_state::signature::Signature;
 use asm_state::state::State;
-use asm_state::value::Value;
+use asm_state::word::Word;
 use asm_updates::summary::Summary;
 
 /// A state with sets of updates over it, read as the state in which the sets have been fired one after the other.
@@ -78,7 +78,7 @@ impl<'a> View<'a> {
 
     /// What the view shows at the location with this number.
     #[inline(always)]
-    pub fn content(&self, n: usize) -> Value
+    pub fn content(&self, n: usize) -> Word
         requires { n < count_of self.now.signature.now }
         ensures kept { result ≡ overwritten (entry self.now.over.now n) (content_below self.now.below n (slice_index_or self.now.state.now n Undef)) }
         ensures shown { let l = location_at self.now.signature.now n in
@@ -89,7 +89,7 @@ impl<'a> View<'a> {
 
     /// What the last of the sets that names this number has there, or else the state.
     #[inline(always)]
-    fn kept(&self, n: usize) -> Value
+    fn kept(&self, n: usize) -> Word
         requires { n < count_of self.now.signature.now }
         ensures { result ≡ overwritten (entry self.now.over.now n) (content_below self.now.below n (slice_index_or self.now.state.now n Undef)) }
     {
@@ -104,13 +104,13 @@ impl<'a> View<'a> {
 
     /// What the view shows at the location of a controlled function with these arguments: `Undef` outside the domain.
     #[tactic(auto, using(crate::proofs::Viewed::read_at))]
-    pub fn read(&self, f: usize, arguments: &[Value]) -> Value
+    pub fn read(&self, f: usize, arguments: &[Word]) -> Word
         requires { HasKind Controlled self.now.signature.now f }
         ensures { let at = location_in f (domain_of self.now.signature.now f) arguments.now in
             result ≡ read (shown_over self.now.signature.now self.now.state.now self.now.below self.now.over.now) at }
     {
         match self.signature.proper_number(f, arguments) {
-            None => Value::Undef,
+            None => Word::undef(),
             Some(n) => self.content(n),
         }
     }

@@ -22,6 +22,7 @@ use crate::form::{form, put_back};
 use crate::from_nothing::{nothing_formed, outcome_of};
 use crate::guarded::Guarded;
 use crate::held::is_true;
+use crate::kept::{furnish, set_aside};
 use crate::outcome::{Forming, Outcome};
 use crate::stopped::Stopped;
 use crate::terms::value;
@@ -32,7 +33,6 @@ use asm_syntax::rule::Rule;
 use asm_syntax::term::Term;
 use asm_updates::summary::Summary;
 use std::alloc::{AllocError, Global};
-use std::mem;
 
 /// What the rule yields at this path, in the state that the view shows, under the environment and these choices. Each region (a `par` or a
 /// `forall` that stands under no other) is formed by `regions`, which may share its work, and the rest on this thread.
@@ -175,8 +175,7 @@ fn walk_in_order<
     ensures { Follows (shape_at evaluation.now) (in_order_at evaluation.now env.now made.old.path.items rules.now) made.old made.new result }
 {
     let signature = evaluation.scene.view.signature;
-    let nothing = Summary::new(alloc, signature.count());
-    let before = mem::replace(&mut made.set, nothing);
+    let before = set_aside(alloc, &mut made.set);
     let mut so_far = Summary::new(alloc, signature.count());
     for i in 0..rules.len() {
         let part = Guarded {
@@ -194,10 +193,10 @@ fn walk_in_order<
             made,
         )?;
         if made.set.first_fault(signature).is_some() {
-            return put_back(before, &so_far, made);
+            return put_back(before, so_far, made);
         }
     }
-    put_back(before, &so_far, made)
+    put_back(before, so_far, made)
 }
 
 /// Forms turns of the body one after the other, up to the first whose set is empty or faulty.
@@ -221,8 +220,7 @@ fn walk_turns<
         Follows (shape_at evaluation.now) (outcome_at evaluation.now env.now made.old.path.items R) made.old made.new result }
 {
     let signature = evaluation.scene.view.signature;
-    let nothing = Summary::new(alloc, signature.count());
-    let before = mem::replace(&mut made.set, nothing);
+    let before = set_aside(alloc, &mut made.set);
     let mut so_far = Summary::new(alloc, signature.count());
     for turn in 0..evaluation.turns {
         walk_next(
@@ -236,7 +234,7 @@ fn walk_turns<
             made,
         )?;
         if made.set.is_empty() || made.set.first_fault(signature).is_some() {
-            return put_back(before, &so_far, made);
+            return put_back(before, so_far, made);
         }
     }
     Err(Stopped::Exhausted)
@@ -276,6 +274,7 @@ fn walk_next<
         turns: evaluation.turns,
     };
     walk_guarded(alloc, regions, &inner, env, guarded, number, made)?;
+    furnish(&mut made.spare, so_far);
     so_far.then(&made.set)?;
     Ok(())
 }

@@ -25,11 +25,11 @@ fn push_stop(
     out: &mut Vec<u8>,
     checked: &Checked,
     step: u64,
-    stop: Stop,
+    stop: &Stop,
     path: &[u64],
 ) -> Result<(), AllocError>
-    requires { IsStopBelow (spec_of checked.now.spec) stop }
-    ensures { OnOk result (out.new.items ≡ out.old.items ++ stop_line (spec_of checked.now.spec) step stop path.now) }
+    requires { IsStopBelow (spec_of checked.now.spec) stop.now }
+    ensures { OnOk result (out.new.items ≡ out.old.items ++ stop_line (spec_of checked.now.spec) step stop.now path.now) }
 {
     match stop {
         Stop::Fault(
@@ -38,15 +38,15 @@ fn push_stop(
                 low,
                 high,
             },
-        ) => push_clash(alloc, out, checked, step, location, low, high),
-        Stop::Fault(Fault::Outside { function }) => push_outside(out, checked, step, function),
+        ) => push_clash(alloc, out, checked, step, *location, *low, *high),
+        Stop::Fault(Fault::Outside { function }) => push_outside(out, checked, step, *function),
         Stop::Exhausted => push_exhausted(out, step, path),
     }
 }
 
 /// The answer for a step at which the run ends.
-fn end_of(stop: Stop) -> End
-    ensures { result ≡ end_of_stop stop }
+fn end_of(stop: &Stop) -> End
+    ensures { result ≡ end_of_stop stop.now }
 {
     match stop {
         Stop::Fault(Fault::Clash { .. }) => End::Clash,
@@ -73,10 +73,10 @@ pub fn finish_at_stop<S: Sink>(
         Finishes (S.bytes out.old) (S.bytes out.new) (S.has_failed out.new) (stop_line s step stop path.now ++ contents_text s state.now) (end_of_stop stop) result }
 {
     text.clear();
-    push_stop(alloc, text, checked, step, stop, path)?;
+    push_stop(alloc, text, checked, step, &stop, path)?;
     push_state(alloc, text, checked, state)?;
     write_all(out, text.as_slice())?;
-    Ok(end_of(stop))
+    Ok(end_of(&stop))
 }
 
 /// Writes the lines for a run that makes all its steps.

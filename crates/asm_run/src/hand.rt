@@ -30,6 +30,7 @@ impl RegionHand {
                 set: Summary::new(alloc, signature.count()),
                 instances: 0,
                 path: Vec::new(alloc),
+                spare: Vec::new(alloc),
             },
         }
     }

@@ -11,18 +11,19 @@ use crate::text::{push_number, push_text};
 use asm_check::Checked;
 use asm_state::location::Location;
 use asm_state::value::Value;
+use asm_state::word::Word;
 use std::alloc::AllocError;
 
 /// Adds a value.
 pub(crate) fn push_value(
     out: &mut Vec<u8>,
     checked: &Checked,
-    value: Value,
+    value: Word,
 ) -> Result<(), AllocError>
     ensures { let names = names_in (spec_of checked.now.spec) in
         OnOk result (out.new.items ≡ out.old.items ++ value_text names.elements value) }
 {
-    match value {
+    match value.value() {
         Value::Undef => push_text(out, b"undef"),
         Value::Truth(false) => push_text(out, b"false"),
         Value::Truth(true) => push_text(out, b"true"),
@@ -60,8 +61,8 @@ pub(crate) fn push_function(
 fn push_values(
     out: &mut Vec<u8>,
     checked: &Checked,
-    first: Value,
-    rest: &[Value],
+    first: Word,
+    rest: &[Word],
 ) -> Result<(), AllocError>
     ensures { let names = names_in (spec_of checked.now.spec) in
         OnOk result (out.new.items ≡ out.old.items ++ values_text names.elements first rest.now) }

@@ -43,6 +43,7 @@ pub fn run_steps<R: Threads + Sync, G: Gate + Sync, S: Sink, P: Picks + Sync>(
         set: Summary::new(alloc, signature.count()),
         instances: 0,
         path: Vec::new(alloc),
+        spare: Vec::new(alloc),
     };
     let mut text = Vec::new(alloc);
     for done in 0..steps {

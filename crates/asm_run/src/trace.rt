@@ -18,6 +18,7 @@ use asm_check::Checked;
 use asm_state::location::Location;
 use asm_state::state::State;
 use asm_state::value::Value;
+use asm_state::word::Word;
 use asm_updates::summary::Summary;
 use std::alloc::{AllocError, Global};
 
@@ -26,7 +27,7 @@ fn push_update(
     out: &mut Vec<u8>,
     checked: &Checked,
     location: &Location,
-    bounds: (Value, Value),
+    bounds: (Word, Word),
 ) -> Result<(), AllocError>
     requires { function_of (location_of location.now) < length (functions_of (spec_of checked.now.spec)) }
     ensures { let names = names_in (spec_of checked.now.spec) in
@@ -55,7 +56,7 @@ fn push_line(
         return Ok(());
     }
     let value = state.content(n);
-    if value == Value::Undef {
+    if value.value() == Value::Undef {
         return Ok(());
     }
     let location = signature.location(alloc, n)?;
@@ -143,8 +144,8 @@ pub fn push_clash(
     checked: &Checked,
     step: u64,
     location: usize,
-    low: Value,
-    high: Value,
+    low: Word,
+    high: Word,
 ) -> Result<(), AllocError>
     requires { location < count_of (shape_of (spec_of checked.now.spec)) }
     ensures { OnOk result (out.new.items ≡ out.old.items ++ fault_line (spec_of checked.now.spec) step (fault.Clash location low high)) }

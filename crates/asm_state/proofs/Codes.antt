@@ -24,7 +24,7 @@ number_code_bounds : (x : ℤ) → least_number ≤ℤ x → x ≤ℤ greatest_n
 number_code_bounds (pos n) low high = (omega arith, omega (arith, ints))
 number_code_bounds (negsuc n) low high = (omega (arith, ints), omega arith)
 
-number_bounds : (n : WholeNumber) → (4 ≤ code_of (Number n)) × (code_of (Number n) ≤ code_of_first_element - 1)
+pub number_bounds : (n : WholeNumber) → (4 ≤ code_of (Number n)) × (code_of (Number n) ≤ code_of_first_element - 1)
 number_bounds n = number_code_bounds n.value n.low n.high
 
 truth_bounds : (b : Bool) → (2 ≤ code_of (Truth b)) × (code_of (Truth b) ≤ 3)

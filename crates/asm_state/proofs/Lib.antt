@@ -16,6 +16,7 @@ pub mod NumberedLocations
 pub mod StatesByNumbers
 pub mod Positions
 pub mod UniverseValues
+pub mod Words
 pub mod ValueLaws
 pub mod BoundLaws
 pub mod Domains

@@ -1,31 +1,15 @@
 -- A number in the range is its own value, and what the code's arithmetic gives is the number that is meant.
+pub use Rattle.asm_state.specs.WordCodes.{number_is, number_in_range}
 use Rattle.std.proofs.Common.{◌≡◌, Bool, true, false, Some, None, refl, sym, ap, ◌∙◌, subst, ℤ, pos, ◌≤ℤ◌, ◌+ℤ◌, ◌-ℤ◌, ◌*ℤ◌, neg_ℤ, to_z, of_z, w64, FitsSigned, arith}
 use Rattle.std.specs.Prelude.{int_le}
 use Rattle.std.proofs.lemmas.Int.{ints}
 use Rattle.asm_state.specs.Bounds.{least_number, greatest_number}
 use Rattle.asm_state.specs.declared.number.Number.{Number as WholeNumber}
 use Rattle.asm_state.specs.declared.value.Value.{Value}
-use Rattle.asm_state.specs.declared.value.Value.TheVariants.{Undef, Number}
-use Rattle.asm_state.specs.Kinds.{same_number}
+use Rattle.asm_state.specs.declared.value.Value.TheVariants.{Undef}
 use Rattle.asm_state.specs.Numbers.{number_with}
 use Rattle.asm_state.specs.Numbers.{at_most, number_by_tests, number_with}
 use Rattle.asm_state.specs.Operation.{number_or_undef, value_or_undef}
-
-tests_pass : (z : ℤ) (n : WholeNumber) → n.value ≡ z → (low high : Bool) (low_is : int_le (least_number) z ≡ low) (high_is : int_le z greatest_number ≡ high) → low ≡ true → high ≡ true → Some n ≡ number_by_tests z low high low_is high_is
-tests_pass z n e true true low_is high_is a b = ap Some (same_number n _ e)
-tests_pass z n e true false low_is high_is a b = cc
-tests_pass z n e false high low_is high_is a b = cc
-
--- the number with a value is the one that has it
-pub number_is : (z : ℤ) (n : WholeNumber) → n.value ≡ z → Some n ≡ number_with z
-unfolding number_with
-number_is z n e =
-    let low : least_number ≤ℤ z = subst (λ y. least_number ≤ℤ y) e n.low in
-    let high : z ≤ℤ greatest_number = subst (λ y. y ≤ℤ greatest_number) e n.high in
-    tests_pass z n e _ _ _ _ (grind (arith, ints)) (grind (arith, ints))
-
-pub number_in_range : (z : ℤ) (n : WholeNumber) → n.value ≡ z → Number n ≡ number_or_undef z
-number_in_range z n e = ap value_or_undef (number_is z n e)
 
 tests_value : (z : ℤ) (n : WholeNumber) (low high : Bool) (low_is : int_le least_number z ≡ low) (high_is : int_le z greatest_number ≡ high) → number_by_tests z low high low_is high_is ≡ Some n → n.value ≡ z
 tests_value z n true true low_is high_is e = cc

@@ -1,10 +1,9 @@
 -- A universe is a run of codes: each value has the code after that of the one before it.
 use Rattle.std.proofs.Common.{◌≡◌, ℕ, zero, suc, ◌+◌, ◌-◌, ◌<◌, ◌≤◌, ℤ, pos, negsuc, ◌+ℤ◌, ◌≤ℤ◌, ◌-ℤ◌, Bool, true, false, cond, List, length, slice_index_or, slice_get, Some, None, to_z, of_z, w64, refl, sym, ap, subst, ◌∙◌, arith}
-use Rattle.std.specs.Prelude.{nat_lt, int_le, unsigned_abs}
+use Rattle.std.specs.Prelude.{int_le, unsigned_abs}
 use Rattle.std.specs.Cmp.{nat_cmp_is}
 use Rattle.std.specs.List.{position, position_or_len}
 use Rattle.std.specs.declared.cmp.Ordering.TheVariants.{Less}
-use Rattle.std.proofs.lemmas.Bool.Decides.{nat_tests}
 use Rattle.std.proofs.lemmas.Grind.{common_steps}
 use Rattle.std.proofs.lemmas.Int.{ints}
 use Rattle.std.proofs.lemmas.List.Sums.{position_or_len_is}
@@ -18,13 +17,12 @@ use Rattle.asm_state.specs.declared.universe.First.TheVariants as first
 use Rattle.asm_state.specs.declared.value.Value.{Value}
 use Rattle.asm_state.specs.declared.value.Value.TheVariants.{Undef, Number, Element}
 use Rattle.asm_state.specs.Codes.{number_code, code_of}
-use Rattle.asm_state.specs.Kinds.{same_element}
 use Rattle.asm_state.specs.Operation.{is_same, number_or_undef}
 use Rattle.asm_state.specs.Numbers.{at_most}
-use Rattle.asm_state.specs.Universe.{element_by_test, element, elements, numbers, count_between, numbers_between, IsUniverse}
+use Rattle.asm_state.specs.Universe.{element, elements, numbers, count_between, numbers_between, IsUniverse}
 use Rattle.asm_state.specs.UniverseView.{values_from, first_code, IsWithin}
 use Rattle.asm_state.proofs.Codes.{codes_rise, codes_apart}
-use Rattle.asm_state.proofs.Numbers.{number_in_range}
+pub use Rattle.asm_state.specs.WordCodes.{number_in_range, element_in_range, element_code, number_code_is}
 use Rattle.asm_state.proofs.Updates.{same_value, value_itself}
 
 -- how many elements there are
@@ -57,26 +55,6 @@ at_numbers first (suc n) zero d within = let same : first ≡ first +ℤ pos 0 =
 at_numbers first (suc n) (suc i) d within =
     let same : (first +ℤ pos 1) +ℤ pos i ≡ first +ℤ pos (suc i) = omega (arith, ints) in
     at_numbers (first +ℤ pos 1) n i d (omega arith) ∙ ap number_or_undef same
-
--- an element is the one that the test gives, where it passes
-test_passes : (k : ℕ) (e : Member) → e.index ≡ k → (test : Bool) (test_is : nat_lt k ELEMENTS ≡ test) → test ≡ true → Element e ≡ element_by_test k test test_is
-test_passes k e same true test_is passes = ap Element (same_element e _ same)
-test_passes k e same false test_is passes = cc
-
--- an element in the range is the one with its number
-pub element_in_range : (k : ℕ) (e : Member) → e.index ≡ k → Element e ≡ element k
-unfolding element
-element_in_range k e same =
-    let below : k < ELEMENTS = subst (λ n. n < ELEMENTS) same e.in_range in
-    test_passes k e same _ _ (grind (arith, nat_tests))
-
--- the code of an element in the range
-pub element_code : (k : ℕ) → k < ELEMENTS → code_of (element k) ≡ code_of_first_element + k
-element_code k below = sym (ap code_of (element_in_range k (record { index = k; in_range = below }) refl))
-
--- the code of a number in the range
-pub number_code_is : (z : ℤ) → least_number ≤ℤ z → z ≤ℤ greatest_number → code_of (number_or_undef z) ≡ number_code z
-number_code_is z low high = sym (ap code_of (number_in_range z (record { value = z; low = low; high = high }) refl))
 
 -- the number that is i more has the code that is i more
 code_further : (x y : ℤ) (i : ℕ) → least_number ≤ℤ x → y ≡ x +ℤ pos i → number_code y ≡ number_code x + i

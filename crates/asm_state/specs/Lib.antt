@@ -6,6 +6,8 @@ pub mod Codes
 pub mod Operation
 pub mod Location
 pub mod Universe
+pub mod Words
+pub mod WordCodes
 pub mod UniverseView
 pub mod Tables
 pub mod Updates

@@ -5,7 +5,7 @@ ghost use Rattle.asm_state.specs.Signature.{domain_in};
 ghost use Rattle.asm_state.specs.Tables.{argument_lists, is_in};
 
 use crate::universe::Universe;
-use crate::value::Value;
+use crate::word::Word;
 use std::alloc::AllocError;
 
 /// How many argument lists there are.
@@ -25,7 +25,7 @@ pub(crate) fn list_count(universes: &[Universe], domain: &[usize]) -> usize
 pub(crate) fn list_position(
     universes: &[Universe],
     domain: &[usize],
-    arguments: &[Value],
+    arguments: &[Word],
 ) -> Option<usize>
     requires few { length domain.now ≤ 4 }
     requires known { All (λ n. n < length universes.now) domain.now }
@@ -50,7 +50,7 @@ pub(crate) fn push_list(
     universes: &[Universe],
     domain: &[usize],
     k: usize,
-    arguments: &mut Vec<Value>,
+    arguments: &mut Vec<Word>,
 ) -> Result<(), AllocError>
     requires few { length domain.now ≤ 4 }
     requires known { All (λ n. n < length universes.now) domain.now }

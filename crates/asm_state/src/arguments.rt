@@ -1,13 +1,13 @@
 //! Argument lists.
 ghost use Rattle.std.specs.Prelude.{◌≡◌};
 
-use crate::value::Value;
+use crate::word::Word;
 use std::marker::Model;
 
 /// The arguments of a location, or of an entry of a table, in order.
 #[derive(Debug, Drop)]
 pub struct Arguments {
-    values: Vec<Value>,
+    values: Vec<Word>,
 }
 
 impl Model for Arguments {
@@ -20,19 +20,19 @@ impl Model for Arguments {
 }
 
 impl Arguments {
-    pub fn new(values: Vec<Value>) -> Arguments
+    pub fn new(values: Vec<Word>) -> Arguments
         ensures { result ≡ values.items }
     {
         Arguments { values }
     }
 
-    pub fn into_vec(self) -> Vec<Value>
+    pub fn into_vec(self) -> Vec<Word>
         ensures { result.items ≡ self }
     {
         self.values
     }
 
-    pub fn as_slice(&self) -> &[Value]
+    pub fn as_slice(&self) -> &[Word]
         ensures { result.now ≡ self.now }
     {
         self.values.as_slice()

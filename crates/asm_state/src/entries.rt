@@ -2,13 +2,13 @@
 ghost use Rattle.std.specs.Prelude.{◌≡◌};
 
 use crate::arguments::Arguments;
-use crate::value::Value;
+use crate::word::Word;
 use std::marker::Model;
 
 /// Argument lists with the values that a table gives them.
 #[derive(Debug, Drop)]
 pub struct Entries {
-    entries: Vec<(Arguments, Value)>,
+    entries: Vec<(Arguments, Word)>,
 }
 
 impl Model for Entries {
@@ -21,19 +21,19 @@ impl Model for Entries {
 }
 
 impl Entries {
-    pub fn new(entries: Vec<(Arguments, Value)>) -> Entries
+    pub fn new(entries: Vec<(Arguments, Word)>) -> Entries
         ensures { result ≡ entries.items }
     {
         Entries { entries }
     }
 
-    pub fn into_vec(self) -> Vec<(Arguments, Value)>
+    pub fn into_vec(self) -> Vec<(Arguments, Word)>
         ensures { result.items ≡ self }
     {
         self.entries
     }
 
-    pub fn as_slice(&self) -> &[(Arguments, Value)]
+    pub fn as_slice(&self) -> &[(Arguments, Word)]
         ensures { result.now ≡ self.now }
     {
         self.entries.as_slice()

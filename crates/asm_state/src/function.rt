@@ -1,7 +1,7 @@
 //! Functions as they are declared.
 use crate::domain::Domain;
 use crate::entries::Entries;
-use crate::value::Value;
+use crate::word::Word;
 
 /// Whether a function is held in the state or is a fixed table.
 #[derive(Clone, Copy, Debug, PartialEq, Eq)]
@@ -14,7 +14,7 @@ pub enum FunctionKind {
 /// For a controlled function these are the initial values.
 #[derive(Debug, Drop)]
 pub enum Table {
-    Same(Value),
+    Same(Word),
     Entries(Entries),
 }
 

@@ -11,7 +11,7 @@ ghost use Rattle.asm_state.specs.Universe.{IsUniverse};
 use crate::argument_lists::{list_count, list_position};
 use crate::function::{Function, FunctionKind, Table};
 use crate::universe::Universe;
-use crate::value::Value;
+use crate::word::Word;
 use std::alloc::{AllocError, Global};
 
 /// The values of a function: the position of the first one, and how many argument lists there are.
@@ -26,8 +26,8 @@ pub(crate) struct Extent {
 pub(crate) struct Layout {
     pub extents: Vec<Extent>,
     pub owners: Vec<usize>,
-    pub initial: Vec<Value>,
-    pub given: Vec<Value>,
+    pub initial: Vec<Word>,
+    pub given: Vec<Word>,
 }
 
 /// The values that a table has for all argument lists of a domain, in their order.
@@ -37,7 +37,7 @@ fn table_values(
     domain: &[usize],
     table: &Table,
     lists: usize,
-) -> Result<Vec<Value>, AllocError>
+) -> Result<Vec<Word>, AllocError>
     requires domain { IsDomainOf universes.now domain.now }
     requires lists { lists ≡ length (argument_lists (domain_in universes.now domain.now)) }
     requires sound { All IsUniverse universes.now }
@@ -46,7 +46,7 @@ fn table_values(
     match table {
         Table::Same(value) => vec![in alloc; *value; lists],
         Table::Entries(entries) => {
-            let mut values = vec![in alloc; Value::Undef; lists]?;
+            let mut values = vec![in alloc; Word::undef(); lists]?;
             let entries = entries.as_slice();
             for i in 0..entries.len() {
                 let (arguments, value) = &entries[entries.len() - 1 - i];
@@ -108,7 +108,7 @@ impl Layout {
         alloc: Global,
         f: usize,
         lists: usize,
-        values: &[Value],
+        values: &[Word],
     ) -> Result<(), AllocError>
         requires { lists < 2 ^ 63 }
         ensures extents { OnOk result (self.new.extents.items ≡ self.old.extents.items ++ record { start = length self.old.initial.items; lists = lists } ∷ []) }
@@ -120,12 +120,12 @@ impl Layout {
         let owners = vec![in alloc; f; lists + 1]?;
         self.owners.extend_from_slice(&owners)?;
         self.initial.extend_from_slice(values)?;
-        self.initial.push(Value::Undef)?;
+        self.initial.push(Word::undef())?;
         self.extents.push(Extent { start, lists })?;
         Ok(())
     }
 
-    fn push_static(&mut self, lists: usize, values: &[Value]) -> Result<(), AllocError>
+    fn push_static(&mut self, lists: usize, values: &[Word]) -> Result<(), AllocError>
         ensures extents { OnOk result (self.new.extents.items ≡ self.old.extents.items ++ record { start = length self.old.given.items; lists = lists } ∷ []) }
         ensures owners { OnOk result (self.new.owners.items ≡ self.old.owners.items) }
         ensures initial { OnOk result (self.new.initial.items ≡ self.old.initial.items) }

@@ -3,6 +3,7 @@
 
 mod argument_lists;
 pub mod arguments;
+pub mod code;
 pub mod domain;
 pub mod element;
 pub mod entries;
@@ -17,3 +18,4 @@ pub mod signature;
 pub mod state;
 pub mod universe;
 pub mod value;
+pub mod word;

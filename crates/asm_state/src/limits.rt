@@ -11,7 +11,7 @@ use crate::arguments::Arguments;
 use crate::function::{Function, FunctionKind, Table};
 use crate::layout::check_universes;
 use crate::universe::Universe;
-use crate::value::Value;
+use crate::word::Word;
 
 /// How many universes there can be.
 pub const UNIVERSES: usize = 64;
@@ -102,7 +102,7 @@ fn table_fits(universes: &[Universe], domain: &[usize], table: &Table) -> bool
     }
 }
 
-fn entries_fit(universes: &[Universe], domain: &[usize], entries: &[(Arguments, Value)]) -> bool
+fn entries_fit(universes: &[Universe], domain: &[usize], entries: &[(Arguments, Word)]) -> bool
     requires domain { IsDomainOf universes.now domain.now }
     requires sound { All IsUniverse universes.now }
     ensures { IsTrue result ↔ AreEntriesIn (domain_in universes.now domain.now) entries.now }
@@ -125,7 +125,7 @@ fn entries_fit(universes: &[Universe], domain: &[usize], entries: &[(Arguments, 
 fn stands_before(
     universes: &[Universe],
     domain: &[usize],
-    entries: &[(Arguments, Value)],
+    entries: &[(Arguments, Word)],
     i: usize,
     k: usize,
 ) -> bool

@@ -15,7 +15,7 @@ use crate::function::Function;
 use crate::layout::Layout;
 use crate::location::Location;
 use crate::universe::Universe;
-use crate::value::Value;
+use crate::word::Word;
 use std::alloc::{AllocError, Global};
 use std::marker::Model;
 
@@ -91,7 +91,7 @@ impl Signature {
 
     /// The number of the location of a controlled function with these arguments: the stray one where they are outside
     /// its domain.
-    pub fn number_of(&self, f: usize, arguments: &[Value]) -> usize
+    pub fn number_of(&self, f: usize, arguments: &[Word]) -> usize
         requires { HasKind Controlled self.now f }
         ensures number { result ≡ number_at self.now (location_in f (domain_of self.now f) arguments.now) }
         ensures location { location_at self.now result ≡ location_in f (domain_of self.now f) arguments.now }
@@ -104,7 +104,7 @@ impl Signature {
     }
 
     /// The number of the location of a controlled function with these arguments, where they are in its domain.
-    pub fn proper_number(&self, f: usize, arguments: &[Value]) -> Option<usize>
+    pub fn proper_number(&self, f: usize, arguments: &[Word]) -> Option<usize>
         requires { HasKind Controlled self.now f }
         ensures some { let l = location_in f (domain_of self.now f) arguments.now in
             IfSome result (λ n. (n ≡ number_at self.now l) × (n < count_of self.now) × IsTrue (is_proper l)) }
@@ -152,7 +152,7 @@ impl Signature {
     }
 
     /// The value of a static function, which is `Undef` outside its domain.
-    pub fn given(&self, f: usize, arguments: &[Value]) -> Value
+    pub fn given(&self, f: usize, arguments: &[Word]) -> Word
         requires { HasKind Static self.now f }
         ensures { result ≡ held_value self.now f arguments.now }
     {
@@ -160,12 +160,12 @@ impl Signature {
         let domain = self.functions[f].domain.as_slice();
         match list_position(&self.universes, domain, arguments) {
             Some(list) => self.layout.given[extent.start + list],
-            None => Value::Undef,
+            None => Word::undef(),
         }
     }
 
     /// The initial contents of all locations, by their numbers.
-    pub(crate) fn initial(&self) -> &[Value]
+    pub(crate) fn initial(&self) -> &[Word]
         ensures contents { result.now ≡ map (initial_state self.now) (locations self.now) }
         ensures sound { IsSound self.now }
     {

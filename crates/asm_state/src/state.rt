@@ -7,14 +7,14 @@ ghost use Rattle.asm_state.specs.Updates.{is_proper};
 ghost use Rattle.asm_state.specs.declared.value.Value.TheVariants.{Undef};
 
 use crate::signature::Signature;
-use crate::value::Value;
+use crate::word::Word;
 use std::alloc::{AllocError, Global};
 use std::marker::Model;
 
 /// The contents of all locations, by their numbers. Those of stray locations are never used.
 #[derive(Debug, Drop)]
 pub struct State {
-    contents: Vec<Value>,
+    contents: Vec<Word>,
 }
 
 impl Model for State {
@@ -39,7 +39,7 @@ impl State {
     }
 
     /// The content of the location with this number: `Undef` at a stray one.
-    pub fn content(&self, n: usize) -> Value
+    pub fn content(&self, n: usize) -> Word
         requires { n < length self.now }
         ensures content { result ≡ slice_index_or self.now n Undef }
         ensures location { (shape : Shape) → IsStateOf shape self.now → result ≡ state_of shape self.now (location_at shape n) }
@@ -48,7 +48,7 @@ impl State {
     }
 
     /// Gives the location with this number a content.
-    pub fn set(&mut self, n: usize, value: Value)
+    pub fn set(&mut self, n: usize, value: Word)
         requires { n < length self.old }
         ensures set { self.new ≡ slice_set self.old n value }
         ensures whole { length self.new ≡ length self.old }

@@ -11,6 +11,7 @@ use crate::element::{ELEMENTS, Element};
 use crate::limits::VALUES;
 use crate::number::Number;
 use crate::value::{FIRST_ELEMENT, Value, ZERO};
+use crate::word::Word;
 use std::marker::Model;
 
 /// The first value of a universe.
@@ -92,7 +93,14 @@ impl Universe {
     }
 
     /// The value at a position.
-    pub fn element(&self, i: usize) -> Value
+    pub fn element(&self, i: usize) -> Word
+        requires { i < length self.now }
+        ensures { slice_get self.now i ≡ Some result }
+    {
+        Word::of(self.value_at(i))
+    }
+
+    fn value_at(&self, i: usize) -> Value
         requires { i < length self.now }
         ensures { slice_get self.now i ≡ Some result }
     {
@@ -107,7 +115,7 @@ impl Universe {
     }
 
     /// The position of a value, if the universe has it.
-    pub fn position(&self, value: Value) -> Option<usize>
+    pub fn position(&self, value: Word) -> Option<usize>
         ensures position { result ≡ position (is_same value) self.now }
         ensures few { IfSome result (λ i. i < VALUES) }
     {

@@ -1,5 +1,5 @@
 //! Values, and their codes.
-ghost use Rattle.std.specs.Prelude.{◌≡◌, ◌≢◌, ◌<◌, ◌≤◌, ◌^◌, IfSome, IfNone};
+ghost use Rattle.std.specs.Prelude.{◌≡◌, ◌<◌, ◌≤◌, ◌^◌};
 ghost use Rattle.asm_state.specs.Codes.{code_of};
 
 use crate::element::{ELEMENTS, Element};
@@ -12,7 +12,7 @@ pub(crate) const ZERO: i64 = GREATEST + 4;
 pub(crate) const FIRST_ELEMENT: u64 = 2 * GREATEST as u64 + 5;
 
 /// What no value has as its code from here on.
-const PAST_ELEMENTS: u64 = FIRST_ELEMENT + ELEMENTS as u64;
+pub(crate) const PAST_ELEMENTS: u64 = FIRST_ELEMENT + ELEMENTS as u64;
 
 /// What a term can have as its value.
 #[derive(Clone, Copy, Debug, PartialEq, Eq)]
@@ -36,25 +36,6 @@ impl Value {
             Value::Truth(true) => 3,
             Value::Number(number) => (number.value + ZERO) as u64,
             Value::Element(element) => FIRST_ELEMENT + element.index as u64,
-        }
-    }
-
-    /// The value that has this code, where there is one.
-    pub fn from_code(code: u64) -> Option<Value>
-        ensures value { IfSome result (λ v. code_of v ≡ code) }
-        ensures none { IfNone result ((v : Value) → code_of v ≢ code) }
-    {
-        match code {
-            1 => Some(Value::Undef),
-            2 => Some(Value::Truth(false)),
-            3 => Some(Value::Truth(true)),
-            4..FIRST_ELEMENT => Some(Value::Number(Number {
-                value: code as i64 - ZERO,
-            })),
-            FIRST_ELEMENT..PAST_ELEMENTS => Some(Value::Element(Element {
-                index: (code - FIRST_ELEMENT) as u32,
-            })),
-            _ => None,
         }
     }
 }

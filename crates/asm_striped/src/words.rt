@@ -7,7 +7,7 @@ ghost use Rattle.asm_updates.specs.Entries.{range};
 ghost use Rattle.asm_striped.specs.Log.{ShowRange, AreWordsOf};
 ghost use Rattle.asm_striped.specs.Board.{AreBounds, AreMarks, HasWords};
 
-use asm_state::value::Value;
+use asm_state::word::Word;
 use asm_updates::summary::Summary;
 use atomic_table::Closed;
 use std::alloc::{AllocError, Global};
@@ -42,15 +42,15 @@ pub fn summary_of(
     for n in 0..count {
         let low = closed.word(2 * n + 1);
         let high = closed.word(2 * n + 2);
-        if let Some((low, high)) = values_of(low, high) {
-            summary.add(n, low, high)?;
+        if let Some(bounds) = values_of(low, high) {
+            summary.add(n, bounds.0, bounds.1)?;
         }
     }
     Ok(summary)
 }
 
 /// The values of the codes in a low and a high word, if anything was put there.
-fn values_of(low: u64, high: u64) -> Option<(Value, Value)>
+fn values_of(low: u64, high: u64) -> Option<(Word, Word)>
     requires { ShowRange low high }
     ensures words { AreWordsOf (option_map range result) low high }
     ensures order { IfSome result (λ v. code_of v.0 ≤ code_of v.1) }
@@ -59,7 +59,7 @@ fn values_of(low: u64, high: u64) -> Option<(Value, Value)>
         return None;
     }
     Some((
-        Value::from_code(low).unwrap(),
-        Value::from_code(high).unwrap(),
+        Word::from_code(low).unwrap(),
+        Word::from_code(high).unwrap(),
     ))
 }

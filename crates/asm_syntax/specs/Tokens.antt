@@ -1,5 +1,5 @@
 -- What the tokens of a text are, and what its first fault is. A text is its bytes.
-use Rattle.std.specs.Prelude.{◌≡◌, ◌≢◌, ℕ, ◌+◌, ◌-◌, ◌*◌, ◌^◌, ◌<◌, ◌≤◌, ◌⊎◌, Bool, ◌||◌, IsTrue, nat_eq, unsigned_abs, List, [], ◌∷◌, ◌++◌, length, All, fold, flat_map, codes}
+use Rattle.std.specs.Prelude.{◌≡◌, ◌≢◌, ℕ, ◌+◌, ◌-◌, ◌*◌, ◌<◌, ◌≤◌, ◌⊎◌, Bool, ◌||◌, IsTrue, nat_eq, unsigned_abs, List, [], ◌∷◌, ◌++◌, length, All, fold, flat_map, codes}
 use Rattle.std.specs.Char.{is_ascii_digit, is_ascii_alphabetic}
 use Rattle.asm_state.specs.Bounds.{greatest_number}
 use Rattle.asm_syntax.specs.declared.token.Kind.{Kind}

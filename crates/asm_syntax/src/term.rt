@@ -6,6 +6,7 @@ use crate::name::Name;
 use asm_state::number::Number;
 use asm_state::operation::Op;
 use asm_state::value::Value;
+use asm_state::word::Word;
 
 /// A value that can be written: any but the elements of enumerations, which have names.
 #[derive(Clone, Copy, Debug, PartialEq, Eq)]
@@ -18,13 +19,13 @@ pub enum Literal {
 impl Literal {
     /// The value that is written so.
     #[inline(always)]
-    pub fn value(self) -> Value
+    pub fn value(self) -> Word
         ensures { result ≡ literal_value self }
     {
         match self {
-            Literal::Undef => Value::Undef,
-            Literal::Truth(truth) => Value::Truth(truth),
-            Literal::Number(number) => Value::Number(number),
+            Literal::Undef => Word::undef(),
+            Literal::Truth(truth) => Word::truth(truth),
+            Literal::Number(number) => Word::of(Value::Number(number)),
         }
     }
 }

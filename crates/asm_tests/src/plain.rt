@@ -7,6 +7,7 @@ use asm_state::number::Number;
 use asm_state::signature::Signature;
 use asm_state::state::State;
 use asm_state::value::Value;
+use asm_state::word::Word;
 use asm_updates::summary::Summary;
 use std::alloc::{AllocError, Global};
 
@@ -35,8 +36,8 @@ pub const FOUR: Plain = Plain::Number(4);
 
 pub const FIVE: Plain = Plain::Number(5);
 
-pub fn value(plain: Plain) -> Value {
-    match plain {
+pub fn value(plain: Plain) -> Word {
+    Word::of(match plain {
         Plain::Undef => Value::Undef,
         Plain::True => Value::Truth(true),
         Plain::Number(value) => Value::Number(Number {
@@ -45,10 +46,10 @@ pub fn value(plain: Plain) -> Value {
         Plain::Element(index) => Value::Element(Element {
             index: u32::from(index),
         }),
-    }
+    })
 }
 
-pub fn values_of(alloc: Global, plains: &[Plain]) -> Result<Vec<Value>, AllocError> {
+pub fn values_of(alloc: Global, plains: &[Plain]) -> Result<Vec<Word>, AllocError> {
     let mut values = Vec::new(alloc);
     for plain in plains {
         values.push(value(*plain))?;

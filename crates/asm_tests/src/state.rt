@@ -11,7 +11,7 @@ use asm_state::location::Location;
 use asm_state::number::Number;
 use asm_state::signature::Signature;
 use asm_state::universe::Universe;
-use asm_state::value::Value;
+use asm_state::word::Word;
 use std::alloc::{AllocError, Global};
 use std::test::Fail;
 
@@ -60,7 +60,7 @@ fn signature_of(
 }
 
 /// The number of a location, if its function is a controlled one.
-fn number_of(signature: &Signature, f: usize, arguments: &[Value]) -> Option<usize> {
+fn number_of(signature: &Signature, f: usize, arguments: &[Word]) -> Option<usize> {
     if f < signature.functions() && signature.function(f).kind == FunctionKind::Controlled {
         Some(signature.number_of(f, arguments))
     } else {
@@ -69,7 +69,7 @@ fn number_of(signature: &Signature, f: usize, arguments: &[Value]) -> Option<usi
 }
 
 /// The number of a location in the domain of a controlled function.
-fn proper_number(signature: &Signature, f: usize, arguments: &[Value]) -> Option<usize> {
+fn proper_number(signature: &Signature, f: usize, arguments: &[Word]) -> Option<usize> {
     if f < signature.functions() && signature.function(f).kind == FunctionKind::Controlled {
         signature.proper_number(f, arguments)
     } else {
@@ -78,7 +78,7 @@ fn proper_number(signature: &Signature, f: usize, arguments: &[Value]) -> Option
 }
 
 /// The value of a function for arguments, if it is a static one.
-fn given(signature: &Signature, f: usize, arguments: &[Value]) -> Option<Value> {
+fn given(signature: &Signature, f: usize, arguments: &[Word]) -> Option<Word> {
     if f < signature.functions() && signature.function(f).kind == FunctionKind::Static {
         Some(signature.given(f, arguments))
     } else {
@@ -92,7 +92,7 @@ fn is_proper(
     signature: &Signature,
     n: usize,
     f: usize,
-    arguments: &[Value],
+    arguments: &[Word],
 ) -> Result<bool, AllocError> {
     if n >= signature.count() {
         return Ok(false);

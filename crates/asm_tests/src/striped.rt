@@ -1,7 +1,7 @@
 //! What seats find of each other's puts, and what comes of puts by several threads.
 ghost use Rattle.std.specs.Prelude.{◌≡◌, ◌<◌, ◌≤◌};
 
-use asm_state::value::Value;
+use asm_state::word::Word;
 use asm_striped::{Met, StripeSeat, Striped};
 use asm_updates::summary::Summary;
 use std::alloc::{AllocError, Global};
@@ -25,10 +25,10 @@ fn put_codes(
     requires location { n < table.now.count }
     ensures { (seat.new.table ≡ seat.old.table) × (seat.new.parts ≡ seat.old.parts) }
 {
-    let Some(_least) = Value::from_code(low) else {
+    let Some(_least) = Word::from_code(low) else {
         return None;
     };
-    let Some(_greatest) = Value::from_code(high) else {
+    let Some(_greatest) = Word::from_code(high) else {
         return None;
     };
     if high < low {

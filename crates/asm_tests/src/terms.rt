@@ -5,7 +5,7 @@ use crate::text::checked_of_both;
 use asm_check::Checked;
 use asm_eval::Env;
 use asm_eval::value::value as value_of;
-use asm_state::value::Value;
+use asm_state::word::Word;
 use asm_syntax::rule::Rule;
 use std::alloc::{AllocError, Global};
 use std::test::Fail;
@@ -25,7 +25,7 @@ static VALUED: [(&str, Plain); 5] = [
 ];
 
 /// The value that the main rule assigns, where it is an assignment.
-fn assigned(alloc: Global, checked: &Checked) -> Result<Option<Value>, AllocError> {
+fn assigned(alloc: Global, checked: &Checked) -> Result<Option<Word>, AllocError> {
     let Rule::Assign { value: term, .. } = main_of(checked) else {
         return Ok(None);
     };

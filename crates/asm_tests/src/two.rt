@@ -8,7 +8,7 @@ use asm_state::limits::fits;
 use asm_state::number::Number;
 use asm_state::signature::Signature;
 use asm_state::universe::Universe;
-use asm_state::value::Value;
+use asm_state::word::Word;
 use std::alloc::Global;
 use std::test::Fail;
 
@@ -22,12 +22,12 @@ pub fn signature_of_two(alloc: Global) -> Result<Signature, Fail>
     let over_numbers = Function {
         kind: FunctionKind::Controlled,
         domain: Domain::new(vec![in alloc; 0]?),
-        table: Table::Same(Value::Undef),
+        table: Table::Same(Word::undef()),
     };
     let alone = Function {
         kind: FunctionKind::Controlled,
         domain: Domain::new(Vec::new(alloc)),
-        table: Table::Same(Value::Undef),
+        table: Table::Same(Word::undef()),
     };
     let functions = vec![in alloc; over_numbers, alone]?;
     if !fits(&universes, &functions) {

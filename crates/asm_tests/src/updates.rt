@@ -9,6 +9,7 @@ use asm_updates::summary::Summary;
 use std::alloc::{AllocError, Global};
 use std::test::Fail;
 
+mod apart;
 mod faults;
 mod refusals;
 

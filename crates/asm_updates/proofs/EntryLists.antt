@@ -1,24 +1,24 @@
 -- The least and the greatest values that a list of entries has at a location.
-use Rattle.std.proofs.Common.{◌≡◌, ℕ, ◌<◌, ◌≤◌, true, false, eqb, cond, List, [], ◌∷◌, ◌++◌, All, Option, Some, None, refl, sym, ap, ◌∙◌, subst, inl, inr, arith}
+use Rattle.std.proofs.Common.{◌≡◌, ℕ, ◌<◌, ◌≤◌, true, eqb, nat_eq, [], ◌∷◌, ◌++◌, All, Option, Some, None, refl, sym, ap, ◌∙◌, subst, inl, inr, arith}
 use Rattle.std.proofs.lemmas.Bool.{cases_Bool}
 use Rattle.std.proofs.lemmas.Bool.Decides.{nat_tests}
 use Rattle.std.proofs.lemmas.List.Elements.{All-head, All-tail, All-from_recursion, recursion_from_All}
 use Rattle.std.proofs.lemmas.List.Sorted.{IsPermutation-sym, All-permutation}
-use Rattle.std.specs.List.{AllByRecursion}
+use Rattle.std.specs.List.{AllByRecursion, IsDistinct}
 use Rattle.std.specs.List.Sorted.{IsPermutation}
+use Rattle.std.specs.Map.{keys_of}
 use Rattle.asm_state.specs.declared.value.Value.{Value}
 use Rattle.asm_state.specs.Codes.{code_of}
 use Rattle.asm_state.specs.Location.{Location}
 use Rattle.asm_state.specs.Signature.{Shape, IsSound, IsLocationOf, count_of, location_at}
-use Rattle.asm_state.specs.Updates.{UpdateSet, Names, Has, none, one, together, Range, widen, range_at}
+use Rattle.asm_state.specs.Updates.{UpdateSet, Names, one, together, Range, widen, range_at}
 use Rattle.asm_state.proofs.Members.{member_laws}
 use Rattle.asm_state.proofs.NumberedLocations.{number_laws}
-use Rattle.asm_updates.specs.Entries.{Entries, NamedRanges, entry, found, range, AreEntries}
+use Rattle.asm_updates.specs.Entries.{Entries, NamedRanges, found, range, AreEntries}
 use Rattle.asm_updates.specs.EntryLists.{range_of_entry, range_in, IsSummaryOf, AreInOrder, updates_of, OrderFree, EntryListLaws}
 use Rattle.asm_updates.specs.Stands.{Stands}
-use Rattle.asm_updates.proofs.Found.{AreEntries-tail, found-after}
+use Rattle.asm_updates.proofs.Found.{AreEntries-tail, AreEntries-permutation, found-after}
 use Rattle.asm_updates.proofs.Standing.{none_range, union_range, lone_range, bounds_range, bounds_alone}
-use Rattle.asm_updates.proofs.Widened.{widen-none}
 use Rattle.asm_updates.proofs.Widening.{widen-swap, widen-group, widen-itself}
 
 -- ---- order
@@ -72,6 +72,11 @@ alone count (e ∷ es) are n = elim (cases_Bool (eqb n e.0)) [
   where
     none_else : eqb n e.0 ≡ true → found es n ≡ None
     none_else here = let is : n ≡ e.0 = grind (arith, nat_tests) in ap (found es) is ∙ found-after e es are.unique
+
+-- entries in another order are found alike
+pub found-permuted : (count : ℕ) (es fs : NamedRanges) → IsPermutation es fs → IsDistinct nat_eq (keys_of fs) → AreEntries count es → (n : ℕ) → found fs n ≡ found es n
+found-permuted count es fs moves unique are n =
+    alone count fs (AreEntries-permutation count es fs moves unique are) n ∙ sym (order_free es fs moves n) ∙ sym (alone count es are n)
 
 -- ---- what the summary of a list stands for
 

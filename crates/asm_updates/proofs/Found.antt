@@ -7,30 +7,20 @@ use Rattle.std.proofs.lemmas.List.Sorted.{All-permutation, IsNonDecreasingBy-fro
 use Rattle.std.proofs.lemmas.Map.Keys.{IsDistinct-head, IsDistinct-tail, IsStrictlyIncreasing-from_distinct}
 use Rattle.std.specs.List.{IsDistinct, AllByRecursion}
 use Rattle.std.specs.List.Sorted.{IsPermutation, IsSorted, IsStrictlyIncreasing}
-use Rattle.std.specs.Map.{keys_of, lookup}
-use Rattle.std.specs.Option.{option_map}
+use Rattle.std.specs.Map.{keys_of}
 use Rattle.std.specs.Ordering.{nat_cmp}
-use Rattle.indexmap.specs.IndexMap.{insert_entry}
+use Rattle.asm_updates.specs.Listed.{put}
 use Rattle.asm_state.specs.declared.value.Value.{Value}
 use Rattle.asm_state.specs.Codes.{code_of}
 use Rattle.asm_state.specs.Updates.{Range}
 use Rattle.asm_updates.specs.Entries.{NamedRanges, found, range, AreEntries}
 
--- what a look-up finds
-pub range-lookup : (n : ℕ) (es : NamedRanges) → option_map range (lookup (nat_eq n) es) ≡ found es n
-range-lookup n [] = refl
-range-lookup n (e ∷ es) = by_test (eqb n e.0) (range-lookup n es)
-  where
-    by_test : (t : Bool) → option_map range (lookup (nat_eq n) es) ≡ found es n → option_map range (cond t (Some e.1) (lookup (nat_eq n) es)) ≡ cond t (Some (range e.1)) (found es n)
-    by_test true rest = refl
-    by_test false rest = rest
-
 -- an inserted entry
-pub found-insert_entry : (es : NamedRanges) (n : ℕ) (b : Value × Value) (k : ℕ) → found (insert_entry nat_eq es n b) k ≡ cond (eqb k n) (Some (range b)) (found es k)
-found-insert_entry [] n b k = refl
-found-insert_entry (e ∷ es) n b k = by_test (eqb n e.0) refl (found-insert_entry es n b k)
+pub found-put : (es : NamedRanges) (n : ℕ) (b : Value × Value) (k : ℕ) → found (put es n b) k ≡ cond (eqb k n) (Some (range b)) (found es k)
+found-put [] n b k = refl
+found-put (e ∷ es) n b k = by_test (eqb n e.0) refl (found-put es n b k)
   where
-    by_test : (t : Bool) → eqb n e.0 ≡ t → found (insert_entry nat_eq es n b) k ≡ cond (eqb k n) (Some (range b)) (found es k) → found (cond t ((e.0, b) ∷ es) (e ∷ insert_entry nat_eq es n b)) k ≡ cond (eqb k n) (Some (range b)) (found (e ∷ es) k)
+    by_test : (t : Bool) → eqb n e.0 ≡ t → found (put es n b) k ≡ cond (eqb k n) (Some (range b)) (found es k) → found (cond t ((e.0, b) ∷ es) (e ∷ put es n b)) k ≡ cond (eqb k n) (Some (range b)) (found (e ∷ es) k)
     by_test true same rest = let here : n ≡ e.0 = grind (arith, nat_tests) in grind (arith, nat_tests)
     by_test false apart rest = grind (arith, nat_tests)
 
@@ -56,19 +46,19 @@ All-found P (x ∷ es) n b all e = by_test (eqb n x.0) refl (All-found P es n b 
         subst (λ y. P (n, y)) bounds (subst (λ m. P (m, x.1)) at (All-head P x es all))
     by_test false apart rest e = rest e
 
-pub All-insert_entry : (P : ℕ × (Value × Value) → Type 0) (es : NamedRanges) (n : ℕ) (b : Value × Value) → All P es → P (n, b) → All P (insert_entry nat_eq es n b)
-All-insert_entry P [] n b all here = All-cons P (n, b) [] here all
-All-insert_entry P (e ∷ es) n b all here = by_test (eqb n e.0) refl (All-insert_entry P es n b (All-tail P e es all) here)
+pub All-put : (P : ℕ × (Value × Value) → Type 0) (es : NamedRanges) (n : ℕ) (b : Value × Value) → All P es → P (n, b) → All P (put es n b)
+All-put P [] n b all here = All-cons P (n, b) [] here all
+All-put P (e ∷ es) n b all here = by_test (eqb n e.0) refl (All-put P es n b (All-tail P e es all) here)
   where
-    by_test : (t : Bool) → eqb n e.0 ≡ t → All P (insert_entry nat_eq es n b) → All P (cond t ((e.0, b) ∷ es) (e ∷ insert_entry nat_eq es n b))
+    by_test : (t : Bool) → eqb n e.0 ≡ t → All P (put es n b) → All P (cond t ((e.0, b) ∷ es) (e ∷ put es n b))
     by_test true same rest = let at : n ≡ e.0 = grind (arith, nat_tests) in All-cons P (e.0, b) es (subst (λ m. P (m, b)) at here) (All-tail P e es all)
-    by_test false apart rest = All-cons P e (insert_entry nat_eq es n b) (All-head P e es all) rest
+    by_test false apart rest = All-cons P e (put es n b) (All-head P e es all) rest
 
-pub AreEntries-insert_entry : (count : ℕ) (es : NamedRanges) (n : ℕ) (b : Value × Value) → IsDistinct nat_eq (keys_of (insert_entry nat_eq es n b)) → n < count → code_of b.0 ≤ code_of b.1 → AreEntries count es → AreEntries count (insert_entry nat_eq es n b)
-AreEntries-insert_entry count es n b unique below le are = record {
+pub AreEntries-put : (count : ℕ) (es : NamedRanges) (n : ℕ) (b : Value × Value) → IsDistinct nat_eq (keys_of (put es n b)) → n < count → code_of b.0 ≤ code_of b.1 → AreEntries count es → AreEntries count (put es n b)
+AreEntries-put count es n b unique below le are = record {
   unique = unique;
-  in_range = All-insert_entry (λ e. e.0 < count) es n b are.in_range below;
-  ordered = All-insert_entry (λ e. code_of e.1.0 ≤ code_of e.1.1) es n b are.ordered le;
+  in_range = All-put (λ e. e.0 < count) es n b are.in_range below;
+  ordered = All-put (λ e. code_of e.1.0 ≤ code_of e.1.1) es n b are.ordered le;
 }
 
 pub record IsEntry (count n : ℕ) (b : Value × Value) : Type 0 where
@@ -125,10 +115,6 @@ one_more op none rest left n b e unique f g turn k =
         (cases_eq k n)
 
 -- ---- all entries
-
--- entries that a map finds alike are found alike
-pub found-alike : (es fs : NamedRanges) → ((n : ℕ) → lookup (nat_eq n) fs ≡ lookup (nat_eq n) es) → (n : ℕ) → found fs n ≡ found es n
-found-alike es fs alike n = sym (range-lookup n fs) ∙ ap (option_map range) (alike n) ∙ range-lookup n es
 
 -- entries in another order
 pub AreEntries-permutation : (count : ℕ) (es fs : NamedRanges) → IsPermutation es fs → IsDistinct nat_eq (keys_of fs) → AreEntries count es → AreEntries count fs

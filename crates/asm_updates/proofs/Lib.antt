@@ -1,9 +1,11 @@
-pub mod Copied
 pub mod EntryLists
 pub mod Faults
 pub mod Firing
 pub mod Found
+pub mod Gathering
+pub mod Listed
 pub mod Orders
+pub mod Pages
 pub mod SomeSet
 pub mod Standing
 pub mod StandingLaws

@@ -1,12 +1,12 @@
 -- Unions of many sets.
-use Rattle.std.proofs.Common.{◌≡◌, ℕ, List, [], ◌∷◌, ◌++◌, map, All, refl, sym, ap, subst, ◌∙◌, inl, inr}
+use Rattle.std.proofs.Common.{◌≡◌, ℕ, List, [], ◌∷◌, ◌++◌, map, refl, sym, ap, ◌∙◌, inl, inr}
 use Rattle.std.specs.List.{AllByRecursion, concat}
 use Rattle.std.specs.List.Sorted.{IsPermutation}
 use Rattle.std.proofs.lemmas.List.Sorted.{IsPermutation-sym, All-permutation}
 use Rattle.std.proofs.lemmas.List.Elements.{All-from_recursion, recursion_from_All}
 use Rattle.asm_state.specs.declared.value.Value.{Value}
 use Rattle.asm_state.specs.Location.{Location}
-use Rattle.asm_state.specs.Updates.{UpdateSet, Has, none, together}
+use Rattle.asm_state.specs.Updates.{UpdateSet, Has, together}
 use Rattle.asm_state.proofs.Algebra.{union_laws}
 use Rattle.asm_state.proofs.Members.{member_laws}
 use Rattle.asm_updates.specs.Unions.{union_of, united}

@@ -1,11 +1,14 @@
 -- The range of two ranges together.
-use Rattle.std.proofs.Common.{◌≡◌, ℕ, ◌<◌, ◌≤◌, Option, Some, None, refl, sym, subst, arith, ⊎_elim}
+use Rattle.std.proofs.Common.{◌≡◌, ℕ, ◌<◌, ◌≤◌, eqb, nat_eq, cond, Option, Some, None, refl, sym, ap, ◌∙◌, subst, arith, ⊎_elim}
 use Rattle.std.proofs.lemmas.Bool.{cases_lt}
+use Rattle.std.specs.List.{IsDistinct}
+use Rattle.std.specs.Map.{keys_of}
 use Rattle.asm_state.specs.declared.value.Value.{Value}
 use Rattle.asm_state.specs.Codes.{code_of}
 use Rattle.asm_state.specs.Updates.{Range, lesser, greater, widen}
 use Rattle.asm_updates.specs.Entries.{NamedRanges, found, range, AreEntries}
-use Rattle.asm_updates.proofs.Found.{same_bounds, All-found}
+use Rattle.asm_updates.specs.Listed.{put}
+use Rattle.asm_updates.proofs.Found.{same_bounds, All-found, found-put, AreEntries-put}
 use Rattle.asm_updates.proofs.Orders.{lesser-first, lesser-second, greater-first, greater-second}
 
 pub widen-none : (r : Option Range) → widen r None ≡ r
@@ -42,3 +45,15 @@ ordered-widened_entry count es n b c are h e = by_range (found es n) refl e
     by_range : (r : Option Range) → found es n ≡ r → Some (range c) ≡ widen r (Some (range b)) → code_of c.0 ≤ code_of c.1
     by_range None at e = subst (λ (x : Value × Value). code_of x.0 ≤ code_of x.1) (sym (same_bounds c b e)) h
     by_range (Some r) at e = ordered-widened (r.least, r.greatest) b c (All-found (λ x. code_of x.1.0 ≤ code_of x.1.1) es n (r.least, r.greatest) are.ordered at) e
+
+-- widened bounds put at a location
+pub found-widened : (es fs : NamedRanges) (n : ℕ) (b c : Value × Value) → fs ≡ put es n c → Some (range c) ≡ widen (found es n) (Some (range b)) →
+    (k : ℕ) → found fs k ≡ cond (eqb k n) (widen (found es n) (Some (range b))) (found es k)
+found-widened es fs n b c is both k =
+    ap (λ gs. found gs k) is ∙ found-put es n c k ∙ ap (λ r. cond (eqb k n) r (found es k)) both
+
+pub AreEntries-widened : (count : ℕ) (es fs : NamedRanges) (n : ℕ) (b c : Value × Value) → fs ≡ put es n c → IsDistinct nat_eq (keys_of fs) → Some (range c) ≡ widen (found es n) (Some (range b)) →
+    n < count → code_of b.0 ≤ code_of b.1 → AreEntries count es → AreEntries count fs
+AreEntries-widened count es fs n b c is unique both below le are =
+    subst (AreEntries count) (sym is)
+    (AreEntries-put count es n c (subst (λ gs. IsDistinct nat_eq (keys_of gs)) is unique) below (ordered-widened_entry count es n b c are le both) are)

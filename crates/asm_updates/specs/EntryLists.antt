@@ -3,7 +3,7 @@
 --     IsSummaryOf es s       the summary has the range of the entries at each location
 --     AreInOrder count es    they name locations below a count, and no least value is above the greatest value beside it
 --     updates_of shape es    the updates with the bounds of each entry
-use Rattle.std.specs.Prelude.{◌≡◌, ℕ, ◌<◌, ◌≤◌, ◌==◌, if◌then◌else◌, List, [], ◌∷◌, ◌++◌, Option, Some, None, All}
+use Rattle.std.specs.Prelude.{◌≡◌, ℕ, ◌<◌, ◌≤◌, ◌==◌, if◌then◌else◌, [], ◌∷◌, ◌++◌, Option, Some, None, All}
 use Rattle.std.specs.List.Sorted.{IsPermutation}
 use Rattle.asm_state.specs.declared.value.Value.{Value}
 use Rattle.asm_state.specs.Codes.{code_of}

@@ -1,4 +1,6 @@
 pub mod Entries
+pub mod Positions
+pub mod Listed
 pub mod Stands
 pub mod Faults
 pub mod StandingLaws

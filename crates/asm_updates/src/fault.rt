@@ -6,15 +6,15 @@ ghost use Rattle.asm_updates.specs.Entries.{range};
 ghost use Rattle.asm_updates.specs.Faults.{IsFaultAt};
 
 use asm_state::signature::Signature;
-use asm_state::value::Value;
+use asm_state::word::Word;
 
 /// Why a set can't be fired: a location has two values, or a function is updated outside its domain.
 #[derive(Clone, Copy, Debug, PartialEq, Eq)]
 pub enum Fault {
     Clash {
         location: usize,
-        low: Value,
-        high: Value,
+        low: Word,
+        high: Word,
     },
     Outside {
         function: usize,
@@ -25,8 +25,8 @@ pub enum Fault {
 pub(crate) fn fault_at(
     signature: &Signature,
     location: usize,
-    low: Value,
-    high: Value,
+    low: Word,
+    high: Word,
 ) -> Option<Fault>
     requires { location < count_of signature.now }
     ensures settled { IfNone result (IsSettled (location_at signature.now location) (Some (range (low, high)))) }

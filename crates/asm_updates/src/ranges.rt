@@ -1,79 +1,325 @@
-//! Maps from locations to the bounds of the values there.
-ghost use Rattle.std.specs.Prelude.{◌≡◌, ◌+◌, ◌<◌, ◌≤◌, ◌==◌, ℕ, Some, if◌then◌else◌};
+//! The bounds of the values at each location that a set names.
+ghost use Rattle.std.specs.Prelude.{◌≡◌, ◌+◌, ◌<◌, ◌≤◌, ◌==◌, ◌⊎◌, ℕ, [], Some, None, true, IsTrue, IfOk, IfSome, IfNone, OnOk, OnErr, if◌then◌else◌, length, slice_get, slice_index_or, nat_eq};
+ghost use Rattle.std.specs.List.{IsDistinct};
+ghost use Rattle.std.specs.List.Sorted.{IsStrictlyIncreasing};
+ghost use Rattle.std.specs.Map.{keys_of};
 ghost use Rattle.std.specs.Option.{option_map};
-ghost use Rattle.indexmap.specs.IndexMap.{index_map_len, spare};
 ghost use Rattle.asm_state.specs.Codes.{code_of};
-ghost use Rattle.asm_state.specs.Updates.{lesser, greater, widen, later_range};
+ghost use Rattle.asm_state.specs.Updates.{widen};
 ghost use Rattle.asm_updates.specs.Entries.{found, range, AreEntries};
+ghost use Rattle.asm_updates.specs.Listed.{put, IsAt, ArePlaced};
+ghost use Rattle.asm_updates.specs.Positions.{position_of};
 
-use asm_state::value::Value;
-use indexmap::IndexMap;
+use crate::bounds::widened;
+use crate::positions::Positions;
+use asm_state::word::Word;
+use std::alloc::{AllocError, Global};
+use std::marker::Model;
 
-/// The least and the greatest value at each location that a set names.
-pub type Ranges = IndexMap<usize, (Value, Value)>;
+/// Up to so many entries are looked through one after the other.
+const FEW: usize = 16;
 
-/// Widens the bounds of a location by these, or gives it these. There is room for one more location.
-pub fn widen_at(ranges: &mut Ranges, n: usize, bounds: (Value, Value))
-    requires { 0 < spare ranges.old }
-    ensures sound { (count : ℕ) → n < count → code_of bounds.0 ≤ code_of bounds.1 → AreEntries count ranges.old.entries → AreEntries count ranges.new.entries }
-    ensures entries { (k : ℕ) → found ranges.new.entries k
-        ≡ (if k == n then widen (found ranges.old.entries n) (Some (range bounds)) else found ranges.old.entries k) }
-    ensures room { spare ranges.old ≤ spare ranges.new + 1 }
-{
-    let bounds = match bounds_at(ranges, n) {
-        Some(known) => widened(known, bounds),
-        None => bounds,
-    };
-    ranges.insert(n, bounds).unwrap();
+/// Where one of so many locations has an entry, looking all of them up is cheaper than sorting the entries.
+const MANY: usize = 8;
+
+/// How many pages of positions are kept for each entry that was there, and how many besides.
+const PAGES_FOR_EACH: usize = 2;
+
+const PAGES_BESIDES: usize = 16;
+
+/// Locations, each once, with the least and the greatest value there, in the order in which they came.
+#[derive(Debug, Drop)]
+pub(crate) struct Ranges {
+    entries: Vec<(usize, (Word, Word))>,
+    /// Where each location stands in the entries.
+    positions: Positions,
+    /// Whether the positions are those of all entries. Where few entries are there, or memory was refused, they aren't.
+    placed: bool,
 }
 
-/// The bounds of a location, if the set names it. The empty set, which is asked most, takes no look-up.
-pub fn bounds_at(ranges: &Ranges, n: usize) -> Option<(Value, Value)>
-    ensures { option_map range result ≡ found ranges.now.entries n }
-{
-    if ranges.is_empty() {
-        return None;
+impl Model for Ranges {
+    ghost use Rattle.std.specs.Prelude.{◌-◌, vec_len, vec_capacity};
+    ghost use Rattle.asm_updates.specs.Listed.{Listed, AreListed};
+    ghost use Rattle.asm_updates.specs.Positions.{position_of};
+
+    ghost Value = { Listed };
+
+    ghost view = { λ r. record { entries = r.entries.items; spare = vec_capacity r.entries - vec_len r.entries } };
+
+    ghost invariant = { λ r. AreListed r.entries.items r.placed (position_of r.positions) };
+}
+
+impl Ranges {
+    pub fn new(alloc: Global) -> Ranges
+        ensures { result.entries ≡ [] }
+    {
+        Ranges {
+            entries: Vec::new(alloc),
+            positions: Positions::new(alloc),
+            placed: false,
+        }
     }
-    ranges.get(&n).copied()
-}
 
-/// Widens the bounds of each location by those that the others have. There is room for all of theirs.
-pub fn widen_all(ranges: &mut Ranges, others: &Ranges)
-    requires { index_map_len others.now ≤ spare ranges.old }
-    ensures sound { (count : ℕ) → AreEntries count ranges.old.entries → AreEntries count others.now.entries → AreEntries count ranges.new.entries }
-    ensures entries { (k : ℕ) → found ranges.new.entries k ≡ widen (found ranges.old.entries k) (found others.now.entries k) }
-{
-    for (n, bounds) in others {
-        widen_at(ranges, *n, *bounds);
+    pub fn len(&self) -> usize
+        ensures { result ≡ length self.now.entries }
+    {
+        self.entries.len()
+    }
+
+    /// Whether there is memory for an entry. Where there is none, there are no entries.
+    pub fn has_memory(&self) -> bool
+        ensures { IsTrue result ⊎ (self.now.entries ≡ []) }
+    {
+        self.entries.capacity() > 0
+    }
+
+    /// The bounds at a location, if it has any.
+    #[inline(always)]
+    pub fn get(&self, n: usize) -> Option<(Word, Word)>
+        ensures { option_map range result ≡ found self.now.entries n }
+    {
+        match self.position(n) {
+            Some(i) => Some(self.entries[i].1),
+            None => None,
+        }
+    }
+
+    /// The entry at a position.
+    #[inline(always)]
+    pub fn entry_at(&self, i: usize) -> (usize, (Word, Word))
+        requires { i < length self.now.entries }
+        ensures entry { slice_get self.now.entries i ≡ Some result }
+        ensures found { found self.now.entries result.0 ≡ Some (range result.1) }
+    {
+        self.entries[i]
+    }
+
+    /// Where a location stands in the entries, if it does.
+    #[inline(always)]
+    fn position(&self, n: usize) -> Option<usize>
+        ensures some { IfSome result (λ i. IsAt self.now.entries i n) }
+        ensures none { IfNone result (found self.now.entries n ≡ None) }
+    {
+        if self.placed {
+            placed_position(&self.entries, &self.positions, n)
+        } else {
+            position_among(&self.entries, n)
+        }
+    }
+
+    /// Makes room for more entries.
+    pub fn reserve(&mut self, more: usize) -> Result<(), AllocError>
+        ensures same { self.new.entries ≡ self.old.entries }
+        ensures room { OnOk result (more ≤ self.new.spare) }
+    {
+        self.entries.reserve(more)
+    }
+
+    /// Gives a location these bounds. There is room for one more entry.
+    pub fn insert(&mut self, n: usize, bounds: (Word, Word))
+        requires { 0 < self.old.spare }
+        ensures entries { self.new.entries ≡ put self.old.entries n bounds }
+        ensures unique { IsDistinct nat_eq (keys_of self.new.entries) }
+        ensures room { self.old.spare ≤ self.new.spare + 1 }
+    {
+        match self.position(n) {
+            Some(i) => self.put_at(i, n, bounds),
+            None => self.push(n, bounds),
+        }
+    }
+
+    /// Widens the bounds of a location by these, or gives it these. There is room for one more entry.
+    pub fn widen(&mut self, n: usize, bounds: (Word, Word))
+        requires { 0 < self.old.spare }
+        ensures sound { (count : ℕ) → n < count → code_of bounds.0 ≤ code_of bounds.1 → AreEntries count self.old.entries → AreEntries count self.new.entries }
+        ensures entries { (k : ℕ) → found self.new.entries k
+            ≡ (if k == n then widen (found self.old.entries n) (Some (range bounds)) else found self.old.entries k) }
+        ensures room { self.old.spare ≤ self.new.spare + 1 }
+    {
+        match self.position(n) {
+            Some(i) => {
+                let both = widened(self.entry_at(i).1, bounds);
+                self.put_at(i, n, both);
+            }
+            None => self.push(n, bounds),
+        }
+    }
+
+    /// Gives the location at a position these bounds.
+    fn put_at(&mut self, i: usize, n: usize, bounds: (Word, Word))
+        requires { IsAt self.old.entries i n }
+        ensures entries { self.new.entries ≡ put self.old.entries n bounds }
+        ensures unique { IsDistinct nat_eq (keys_of self.new.entries) }
+        ensures room { self.new.spare ≡ self.old.spare }
+    {
+        self.entries[i] = (n, bounds);
+    }
+
+    /// Adds a location that isn't there. There is room for one more entry.
+    fn push(&mut self, n: usize, bounds: (Word, Word))
+        requires room { 0 < self.old.spare }
+        requires new { found self.old.entries n ≡ None }
+        ensures entries { self.new.entries ≡ put self.old.entries n bounds }
+        ensures unique { IsDistinct nat_eq (keys_of self.new.entries) }
+        ensures room { self.old.spare ≤ self.new.spare + 1 }
+    {
+        self.entries.push_reserved((n, bounds));
+        self.placed = place_last(&self.entries, self.placed, &mut self.positions);
+    }
+
+    /// Brings the entries, whose locations are below a count, into the rising order of their locations.
+    pub fn sort(&mut self, count: usize) -> Result<(), AllocError>
+        requires { AreEntries count self.old.entries }
+        ensures len { length self.new.entries ≡ length self.old.entries }
+        ensures sound { AreEntries count self.new.entries }
+        ensures same { (n : ℕ) → found self.new.entries n ≡ found self.old.entries n }
+        ensures rising { OnOk result (IsStrictlyIncreasing (keys_of self.new.entries)) }
+        ensures err { OnErr result (self.new.entries ≡ self.old.entries) }
+    {
+        if are_rising(&self.entries) {
+            return Ok(());
+        }
+        if self.placed && count / MANY <= self.entries.len() {
+            gather_entries(&mut self.entries, &self.positions, count)?;
+        } else {
+            sort_entries(&mut self.entries, count)?;
+        }
+        self.placed = self.placed && place_all(&self.entries, &mut self.positions);
+        Ok(())
+    }
+
+    /// Forgets all entries. Their memory is kept, but for pages of positions that are many more than the entries were.
+    pub fn clear(&mut self)
+        ensures { self.new.entries ≡ [] }
+    {
+        if self.positions.pages() / PAGES_FOR_EACH > self.entries.len() + PAGES_BESIDES {
+            self.positions.forget();
+            self.placed = false;
+        }
+        self.entries.clear();
+    }
+
+    /// The same again.
+    pub fn copy(&self, alloc: Global) -> Result<Ranges, AllocError>
+        ensures { IfOk result (λ r. r.entries ≡ self.now.entries) }
+    {
+        let entries = self.entries.as_slice().to_vec(alloc)?;
+        Ok(Ranges {
+            entries,
+            positions: Positions::new(alloc),
+            placed: false,
+        })
     }
 }
 
-/// Gives each location that the later ones have their bounds. There is room for all of theirs.
-pub fn replace_all(ranges: &mut Ranges, later: &Ranges)
-    requires { index_map_len later.now ≤ spare ranges.old }
-    ensures sound { (count : ℕ) → AreEntries count ranges.old.entries → AreEntries count later.now.entries → AreEntries count ranges.new.entries }
-    ensures entries { (k : ℕ) → found ranges.new.entries k ≡ later_range (found ranges.old.entries k) (found later.now.entries k) }
+/// Where a location stands in entries, if it does, found by looking through them.
+fn position_among(entries: &[(usize, (Word, Word))], n: usize) -> Option<usize>
+    ensures some { IfSome result (λ i. IsAt entries.now i n) }
+    ensures none { IfNone result (found entries.now n ≡ None) }
 {
-    for (n, bounds) in later {
-        ranges.insert(*n, *bounds).unwrap();
+    for i in 0..entries.len() {
+        if entries[i].0 == n {
+            return Some(i);
+        }
+    }
+    None
+}
+
+/// Whether locations rise already.
+fn are_rising(entries: &[(usize, (Word, Word))]) -> bool
+    ensures { result ≡ true → IsStrictlyIncreasing (keys_of entries.now) }
+{
+    for i in 1..entries.len() {
+        if entries[i].0 <= entries[i - 1].0 {
+            return false;
+        }
+    }
+    true
+}
+
+/// Where a location stands in entries all of which are placed, if it does.
+#[inline(always)]
+fn placed_position(
+    entries: &[(usize, (Word, Word))],
+    positions: &Positions,
+    n: usize,
+) -> Option<usize>
+    requires { ArePlaced entries.now true (position_of positions.now) }
+    ensures some { IfSome result (λ i. IsAt entries.now i n) }
+    ensures none { IfNone result (found entries.now n ≡ None) }
+{
+    let i = positions.at(n);
+    if i < entries.len() && entries[i].0 == n {
+        Some(i)
+    } else {
+        None
     }
 }
 
-/// The bounds of all values that lie within the ones or the others.
-fn widened(first: (Value, Value), second: (Value, Value)) -> (Value, Value)
-    ensures { Some (range result) ≡ widen (Some (range first)) (Some (range second)) }
+/// Brings entries that are placed into the rising order of their locations, by looking each location up.
+fn gather_entries(
+    entries: &mut Vec<(usize, (Word, Word))>,
+    positions: &Positions,
+    count: usize,
+) -> Result<(), AllocError>
+    requires sound { AreEntries count entries.old.items }
+    requires placed { ArePlaced entries.old.items true (position_of positions.now) }
+    ensures len { length entries.new.items ≡ length entries.old.items }
+    ensures sound { AreEntries count entries.new.items }
+    ensures same { (n : ℕ) → found entries.new.items n ≡ found entries.old.items n }
+    ensures rising { OnOk result (IsStrictlyIncreasing (keys_of entries.new.items)) }
+    ensures err { OnErr result (entries.new.items ≡ entries.old.items) }
 {
-    (lesser_of(first.0, second.0), greater_of(first.1, second.1))
+    let mut gathered = Vec::with_capacity(*entries.allocator(), entries.len())?;
+    for n in 0..count {
+        if let Some(i) = placed_position(entries, positions, n) {
+            gathered.push(entries[i])?;
+        }
+    }
+    if gathered.len() != entries.len() {
+        return sort_entries(entries, count);
+    }
+    *entries = gathered;
+    Ok(())
 }
 
-fn lesser_of(a: Value, b: Value) -> Value
-    ensures { result ≡ lesser a b }
+/// Brings entries into the rising order of their locations.
+fn sort_entries(entries: &mut Vec<(usize, (Word, Word))>, count: usize) -> Result<(), AllocError>
+    requires { AreEntries count entries.old.items }
+    ensures len { length entries.new.items ≡ length entries.old.items }
+    ensures sound { AreEntries count entries.new.items }
+    ensures same { (n : ℕ) → found entries.new.items n ≡ found entries.old.items n }
+    ensures rising { OnOk result (IsStrictlyIncreasing (keys_of entries.new.items)) }
+    ensures err { OnErr result (entries.new.items ≡ entries.old.items) }
 {
-    if b.code() < a.code() { b } else { a }
+    entries.sort_by_key(|entry| entry.0)
 }
 
-fn greater_of(a: Value, b: Value) -> Value
-    ensures { result ≡ greater a b }
+/// Gives each location of the entries its position there. Answers whether it did.
+fn place_all(entries: &[(usize, (Word, Word))], positions: &mut Positions) -> bool
+    requires { IsDistinct nat_eq (keys_of entries.now) }
+    ensures { ArePlaced entries.now result (position_of positions.new) }
 {
-    if a.code() < b.code() { b } else { a }
+    for i in 0..entries.len() {
+        if !positions.place(entries[i].0, i) {
+            return false;
+        }
+    }
+    true
+}
+
+/// Gives the last location its position, where the others have theirs, or else all of them where they are no longer few. Answers whether
+/// all have theirs then.
+fn place_last(entries: &[(usize, (Word, Word))], placed: bool, positions: &mut Positions) -> bool
+    requires some { 0 < length entries.now }
+    requires unique { IsDistinct nat_eq (keys_of entries.now) }
+    requires before { placed ≡ true → (i : ℕ) → i + 1 < length entries.now → position_of positions.old (slice_index_or (keys_of entries.now) i 0) ≡ i }
+    ensures { ArePlaced entries.now result (position_of positions.new) }
+{
+    let last = entries.len() - 1;
+    if placed {
+        positions.place(entries[last].0, last)
+    } else {
+        last >= FEW && place_all(entries, positions)
+    }
 }

@@ -1,5 +1,5 @@
 //! A summary of an update set.
-ghost use Rattle.std.specs.Prelude.{◌≡◌, ◌<◌, ◌≤◌, ◌==◌, ◌↔◌, ℕ, Some, None, IsTrue, OnOk, OnErr, IfOk, IfNone, IfSome, if◌then◌else◌, length, slice_get, slice_index_or};
+ghost use Rattle.std.specs.Prelude.{◌≡◌, ◌<◌, ◌≤◌, ◌==◌, ◌↔◌, ◌⊎◌, ℕ, [], Some, None, IsTrue, OnOk, OnErr, IfOk, IfNone, IfSome, if◌then◌else◌, length, slice_get, slice_index_or};
 ghost use Rattle.std.specs.List.Sorted.{IsStrictlyIncreasing};
 ghost use Rattle.std.specs.Map.{keys_of};
 ghost use Rattle.std.specs.Option.{option_map};
@@ -8,16 +8,15 @@ ghost use Rattle.asm_state.specs.Contents.{IsStateOf};
 ghost use Rattle.asm_state.specs.Signature.{Shape, IsSound, count_of, location_at, state_of};
 ghost use Rattle.asm_state.specs.Updates.{UpdateSet, IsConsistent, IsFirstFault, none, one, together, merge, widen, later_range, overwritten, fire};
 ghost use Rattle.asm_state.specs.declared.value.Value.TheVariants.{Undef};
-ghost use Rattle.asm_updates.specs.Entries.{entry, range, AreEntries};
+ghost use Rattle.asm_updates.specs.Entries.{entry, found, range, AreEntries};
 ghost use Rattle.asm_updates.specs.Faults.{fault_of};
 ghost use Rattle.asm_updates.specs.Stands.{Stands};
 
 use crate::fault::{Fault, fault_at};
-use crate::ranges::{Ranges, bounds_at, replace_all, widen_all, widen_at};
+use crate::ranges::Ranges;
 use asm_state::signature::Signature;
 use asm_state::state::State;
-use asm_state::value::Value;
-use indexmap::IndexMap;
+use asm_state::word::Word;
 use std::alloc::{AllocError, Global};
 use std::marker::Model;
 
@@ -45,10 +44,11 @@ impl Summary {
         ensures count { result.count ≡ count }
         ensures entries { (n : ℕ) → entry result n ≡ None }
         ensures empty { (shape : Shape) → IsSound shape → count ≡ count_of shape → Stands shape result none }
+        ensures ranges { result.ranges ≡ [] }
     {
         Summary {
             count,
-            ranges: IndexMap::new(alloc),
+            ranges: Ranges::new(alloc),
         }
     }
 
@@ -72,25 +72,32 @@ impl Summary {
         ensures entries { IsTrue result ↔ ((n : ℕ) → entry self.now n ≡ None) }
         ensures empty { (shape : Shape) (U : UpdateSet) → Stands shape self.now U → IsTrue result ↔ (U ≡ none) }
     {
-        self.ranges.is_empty()
+        self.len() == 0
+    }
+
+    /// Whether the set has memory for a location. Where it has none, the set is empty, and takes memory when it first names one.
+    pub fn has_memory(&self) -> bool
+        ensures { IsTrue result ⊎ (self.now.ranges ≡ []) }
+    {
+        self.ranges.has_memory()
     }
 
     /// The least and the greatest value at a location, if the set names it.
-    pub fn get(&self, n: usize) -> Option<(Value, Value)>
+    pub fn get(&self, n: usize) -> Option<(Word, Word)>
         ensures { option_map range result ≡ entry self.now n }
     {
-        bounds_at(&self.ranges, n)
+        self.ranges.get(n)
     }
 
     /// The named location at a position, with its least and its greatest value. After `sort` locations rise with positions.
-    pub fn entry_at(&self, i: usize) -> (usize, Value, Value)
+    pub fn entry_at(&self, i: usize) -> (usize, Word, Word)
         requires { i < length self.now.ranges }
         ensures position { slice_get self.now.ranges i ≡ Some (result.0, (result.1, result.2)) }
         ensures in_range { result.0 < self.now.count }
         ensures entry { entry self.now result.0 ≡ Some (range (result.1, result.2)) }
     {
-        let (n, (low, high)) = self.ranges.get_index(i).unwrap();
-        (*n, *low, *high)
+        let (n, (low, high)) = self.ranges.entry_at(i);
+        (n, low, high)
     }
 
     /// Brings the entries into the rising order of their locations.
@@ -102,11 +109,11 @@ impl Summary {
         ensures sound { AreEntries self.new.count self.new.ranges }
         ensures err { OnErr result (self.new ≡ self.old) }
     {
-        self.ranges.sort_unstable_keys()
+        self.ranges.sort(self.count)
     }
 
     /// Adds a location with its bounds, as the union with the summary of one location does.
-    pub fn add(&mut self, n: usize, low: Value, high: Value) -> Result<(), AllocError>
+    pub fn add(&mut self, n: usize, low: Word, high: Word) -> Result<(), AllocError>
         requires in_range { n < self.old.count }
         requires ordered { code_of low ≤ code_of high }
         ensures count { self.new.count ≡ self.old.count }
@@ -119,7 +126,7 @@ impl Summary {
         ensures err { OnErr result (self.new ≡ self.old) }
     {
         self.ranges.reserve(1)?;
-        widen_at(&mut self.ranges, n, (low, high));
+        self.ranges.widen(n, (low, high));
         Ok(())
     }
 
@@ -132,8 +139,8 @@ impl Summary {
             Stands shape self.new (together U V)) }
         ensures err { OnErr result (self.new ≡ self.old) }
     {
-        self.ranges.reserve(other.ranges.len())?;
-        widen_all(&mut self.ranges, &other.ranges);
+        self.ranges.reserve(other.len())?;
+        widen_all(&mut self.ranges, other);
         Ok(())
     }
 
@@ -146,8 +153,8 @@ impl Summary {
             Stands shape self.new (merge U V)) }
         ensures err { OnErr result (self.new ≡ self.old) }
     {
-        self.ranges.reserve(later.ranges.len())?;
-        replace_all(&mut self.ranges, &later.ranges);
+        self.ranges.reserve(later.len())?;
+        replace_all(&mut self.ranges, later);
         Ok(())
     }
 
@@ -156,9 +163,9 @@ impl Summary {
         ensures count { self.new.count ≡ self.old.count }
         ensures entries { (n : ℕ) → entry self.new n ≡ None }
         ensures empty { (shape : Shape) → IsSound shape → self.old.count ≡ count_of shape → Stands shape self.new none }
+        ensures ranges { self.new.ranges ≡ [] }
     {
-        // Costs what the set holds; `clear` of the map costs what there is room for.
-        self.ranges.truncate(0);
+        self.ranges.clear();
     }
 
     /// The fault at the least faulty location.
@@ -170,12 +177,13 @@ impl Summary {
     {
         let mut first = None;
         let mut end = self.count;
-        for (n, (low, high)) in &self.ranges {
-            if *n < end
-                && let Some(fault) = fault_at(signature, *n, *low, *high)
+        for i in 0..self.len() {
+            let (n, low, high) = self.entry_at(i);
+            if n < end
+                && let Some(fault) = fault_at(signature, n, low, high)
             {
                 first = Some(fault);
-                end = *n;
+                end = n;
             }
         }
         first
@@ -192,8 +200,9 @@ impl Summary {
         ensures state { (shape : Shape) (U : UpdateSet) → Stands shape self.now U → IsConsistent U → IsStateOf shape state.old →
             IsStateOf shape state.new }
     {
-        for (n, (value, _)) in &self.ranges {
-            state.set(*n, *value);
+        for i in 0..self.len() {
+            let (n, value, _) = self.entry_at(i);
+            state.set(n, value);
         }
     }
 
@@ -223,11 +232,36 @@ impl Summary {
     pub fn copy(&self, alloc: Global) -> Result<Summary, AllocError>
         ensures { IfOk result (λ s. s ≡ self.now) }
     {
-        let mut ranges = IndexMap::with_capacity(alloc, self.ranges.len())?;
-        ranges.extend(&self.ranges)?;
+        let ranges = self.ranges.copy(alloc)?;
         Ok(Summary {
             count: self.count,
             ranges,
         })
+    }
+}
+
+/// Widens the bounds of each location by those that the others have. There is room for all of theirs.
+fn widen_all(ranges: &mut Ranges, others: &Summary)
+    requires room { length others.now.ranges ≤ ranges.old.spare }
+    requires sound { AreEntries others.now.count ranges.old.entries }
+    ensures sound { AreEntries others.now.count ranges.new.entries }
+    ensures entries { (k : ℕ) → found ranges.new.entries k ≡ widen (found ranges.old.entries k) (entry others.now k) }
+{
+    for i in 0..others.len() {
+        let (n, low, high) = others.entry_at(i);
+        ranges.widen(n, (low, high));
+    }
+}
+
+/// Gives each location that the later ones have their bounds. There is room for all of theirs.
+fn replace_all(ranges: &mut Ranges, later: &Summary)
+    requires room { length later.now.ranges ≤ ranges.old.spare }
+    requires sound { AreEntries later.now.count ranges.old.entries }
+    ensures sound { AreEntries later.now.count ranges.new.entries }
+    ensures entries { (k : ℕ) → found ranges.new.entries k ≡ later_range (found ranges.old.entries k) (entry later.now k) }
+{
+    for i in 0..later.len() {
+        let (n, low, high) = later.entry_at(i);
+        ranges.insert(n, (low, high));
     }
 }

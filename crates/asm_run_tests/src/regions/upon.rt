@@ -68,6 +68,7 @@ fn before(alloc: Global, count: usize) -> Result<Forming, AllocError>
         set: summary_of(alloc, count, &BEFORE)?,
         instances: 18_446_744_073_709_551_614,
         path: Vec::new(alloc),
+        spare: Vec::new(alloc),
     })
 }
 

@@ -86,7 +86,7 @@ fn push_functions(
     functions: &mut Vec<Function>,
 ) -> Result<(), AllocError> {
     for domain in domains {
-        functions.push(function_of(alloc, kind, domain, Table::Same(Value::Undef))?)?;
+        functions.push(function_of(alloc, kind, domain, Table::Same(Word::undef()))?)?;
     }
     Ok(())
 }
@@ -149,7 +149,7 @@ fn reaches_its_ends(alloc: Global) -> Result<bool, Fail> {
         is_stray
             && signature.count() == 65_536
             && number_of(&signature, 15, &[location]) == Some(65_534)
-            && given(&signature, 19, &[list]) == Some(Value::Undef),
+            && given(&signature, 19, &[list]) == Some(Word::undef()),
     )
 }
 

@@ -12,7 +12,7 @@ fn has_number(
     alloc: Global,
     signature: &Signature,
     f: usize,
-    arguments: &[Value],
+    arguments: &[Word],
     n: usize,
 ) -> Result<bool, AllocError> {
     let is_there = is_proper(alloc, signature, n, f, arguments)?;
@@ -28,7 +28,7 @@ fn has_stray_number(
     alloc: Global,
     signature: &Signature,
     f: usize,
-    arguments: &[Value],
+    arguments: &[Word],
     n: usize,
 ) -> Result<bool, AllocError> {
     let is_there = is_stray(alloc, signature, n, f)?;
@@ -136,7 +136,7 @@ fn numbers_two_universes(alloc: Global) -> Result<bool, Fail> {
             alloc,
             FunctionKind::Controlled,
             &[0, 1],
-            Table::Same(Value::Undef)
+            Table::Same(Word::undef())
         )?,
     ]?;
     let signature = signature_of(alloc, universes, functions)?;
@@ -182,12 +182,12 @@ fn keeps_their_order(alloc: Global) -> Result<bool, Fail> {
         Universe::range(Number { value: 0 }, Number { value: 1 }),
     ]?;
     let functions = vec![in alloc;
-        function_of(alloc, FunctionKind::Static, &[], Table::Same(Value::Undef))?,
+        function_of(alloc, FunctionKind::Static, &[], Table::Same(Word::undef()))?,
         function_of(
             alloc,
             FunctionKind::Controlled,
             &[1],
-            Table::Same(Value::Undef)
+            Table::Same(Word::undef())
         )?,
     ]?;
     let signature = signature_of(alloc, universes, functions)?;

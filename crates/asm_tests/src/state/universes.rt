@@ -3,6 +3,7 @@ use asm_state::element::Element;
 use asm_state::number::{GREATEST, Number};
 use asm_state::universe::Universe;
 use asm_state::value::Value;
+use asm_state::word::Word;
 
 #[test]
 fn no_numbers_where_the_last_is_below_the_first(rt: HostRuntime) {
@@ -14,7 +15,7 @@ fn no_numbers_where_the_last_is_below_the_first(rt: HostRuntime) {
         Value::Number(Number { value: 5 }),
     ];
     for value in values {
-        assert!(rt; universe.position(value) == None);
+        assert!(rt; universe.position(Word::of(value)) == None);
     }
 }
 
@@ -22,11 +23,11 @@ fn no_numbers_where_the_last_is_below_the_first(rt: HostRuntime) {
 fn numbers_of_a_range(rt: HostRuntime) {
     let universe = Universe::range(Number { value: 0 }, Number { value: 3 });
     assert_eq!(rt; universe.size(), 4);
-    assert!(rt; universe.element(3) == Value::Number(Number { value: 3 }));
-    assert!(rt; universe.position(Value::Number(Number { value: 3 })) == Some(3));
-    assert!(rt; universe.position(Value::Number(Number { value: 9 })) == None);
-    assert!(rt; universe.position(Value::Number(Number { value: -1 })) == None);
-    assert!(rt; universe.position(Value::Element(Element { index: 0 })) == None);
+    assert!(rt; universe.element(3) == Word::of(Value::Number(Number { value: 3 })));
+    assert!(rt; universe.position(Word::of(Value::Number(Number { value: 3 }))) == Some(3));
+    assert!(rt; universe.position(Word::of(Value::Number(Number { value: 9 }))) == None);
+    assert!(rt; universe.position(Word::of(Value::Number(Number { value: -1 }))) == None);
+    assert!(rt; universe.position(Word::of(Value::Element(Element { index: 0 }))) == None);
 }
 
 #[test]
@@ -34,19 +35,19 @@ fn the_least_number_alone(rt: HostRuntime) {
     let least = Number { value: -GREATEST };
     let universe = Universe::range(least, least);
     assert_eq!(rt; universe.size(), 1);
-    assert!(rt; universe.element(0) == Value::Number(least));
-    assert!(rt; universe.position(Value::Number(least)) == Some(0));
-    assert!(rt; universe.position(Value::Truth(true)) == None);
+    assert!(rt; universe.element(0) == Word::of(Value::Number(least)));
+    assert!(rt; universe.position(Word::of(Value::Number(least))) == Some(0));
+    assert!(rt; universe.position(Word::of(Value::Truth(true))) == None);
 }
 
 #[test]
 fn the_last_elements(rt: HostRuntime) {
     let universe = Universe::elements(262_140, 4);
     assert_eq!(rt; universe.size(), 4);
-    let last = Value::Element(Element { index: 262_143 });
+    let last = Word::of(Value::Element(Element { index: 262_143 }));
     assert!(rt; universe.element(3) == last);
     assert!(rt; universe.position(last) == Some(3));
-    let before = Value::Element(Element { index: 262_139 });
+    let before = Word::of(Value::Element(Element { index: 262_139 }));
     assert!(rt; universe.position(before) == None);
 }
 
@@ -54,16 +55,16 @@ fn the_last_elements(rt: HostRuntime) {
 fn no_elements(rt: HostRuntime) {
     let universe = Universe::elements(3, 0);
     assert_eq!(rt; universe.size(), 0);
-    assert!(rt; universe.position(Value::Element(Element { index: 3 })) == None);
+    assert!(rt; universe.position(Word::of(Value::Element(Element { index: 3 }))) == None);
 }
 
 #[test]
 fn as_many_elements_as_there_can_be(rt: HostRuntime) {
     let universe = Universe::elements(10, 4096);
     assert_eq!(rt; universe.size(), 4096);
-    let last = Value::Element(Element { index: 4105 });
+    let last = Word::of(Value::Element(Element { index: 4105 }));
     assert!(rt; universe.element(4095) == last);
     assert!(rt; universe.position(last) == Some(4095));
-    let after = Value::Element(Element { index: 4106 });
+    let after = Word::of(Value::Element(Element { index: 4106 }));
     assert!(rt; universe.position(after) == None);
 }

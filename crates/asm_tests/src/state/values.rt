@@ -2,6 +2,7 @@
 use asm_state::element::{ELEMENTS, Element};
 use asm_state::number::{GREATEST, Number};
 use asm_state::value::Value;
+use asm_state::word::Word;
 
 #[test]
 fn code_edges(rt: HostRuntime) {
@@ -27,8 +28,11 @@ fn code_edges(rt: HostRuntime) {
         ),
     ];
     for (value, code) in cases {
+        let word = Word::of(value);
         assert_eq!(rt; value.code(), code);
-        assert!(rt; Value::from_code(code) == Some(value));
+        assert_eq!(rt; word.code(), code);
+        assert!(rt; Word::from_code(code) == Some(word));
+        assert!(rt; word.value() == value);
     }
 }
 
@@ -40,6 +44,6 @@ fn the_largest_number(rt: HostRuntime) {
 #[test]
 fn no_value_has_a_code_outside(rt: HostRuntime) {
     for code in [0, 200_000_000_000_262_149, u64::MAX] {
-        assert!(rt; Value::from_code(code) == None);
+        assert!(rt; Word::from_code(code) == None);
     }
 }

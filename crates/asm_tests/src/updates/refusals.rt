@@ -4,6 +4,7 @@ ghost use Rattle.std.specs.Prelude.{◌≡◌, ◌<◌};
 use super::*;
 use asm_state::number::Number;
 use asm_state::value::Value;
+use asm_state::word::Word;
 
 /// Whether two summaries have the same entries.
 fn are_alike(a: &Summary, b: &Summary) -> bool {
@@ -21,8 +22,8 @@ fn adds_or_leaves(alloc: Global, summary: &mut Summary, n: usize) -> Result<bool
     ensures { summary.new.count ≡ summary.old.count }
 {
     let before = summary.copy(alloc)?;
-    let low = Value::Number(Number { value: 1 });
-    let high = Value::Number(Number { value: 2 });
+    let low = Word::of(Value::Number(Number { value: 1 }));
+    let high = Word::of(Value::Number(Number { value: 2 }));
     let added = summary.add(n, low, high);
     Ok(added.is_ok() || are_alike(summary, &before))
 }

@@ -1,4 +1,5 @@
-use Rattle.std.proofs.Common.{◌∙◌, ap, sym, refl, rules, ◌≡◌, None}
+use Rattle.std.proofs.Common.{◌∙◌, ap, sym, refl, rules, ◌≡◌, Some, None}
+use Rattle.asm_state.specs.Words.{value_of_code}
 use Rattle.asm_eval.specs.Environments.{environment_in}
 use Rattle.asm_eval.specs.Evaluated.{meant, meant_branch}
 use Rattle.asm_eval.specs.Valued.{condition}
@@ -12,7 +13,7 @@ returns-in-Some g c =
     let a = c.args in
     let b = a.binder.now in
     some_beneath a.evaluation.now a.env.now a.path.now _ (meant a.body.now) _ refl
-    (chosen_does a.evaluation.now (environment_in a.evaluation.now.scene.checked.now a.env.now) a.path.now a.binder.now a.body.now a.none.now c.in-Some.value (sym c.in-Some.is ∙ c.in_ok-value.ensures))
+    (chosen_does a.evaluation.now (environment_in a.evaluation.now.scene.checked.now a.env.now) a.path.now a.binder.now a.body.now a.none.now (value_of_code c.kept.result.value) (ap Some c.kept.ensures ∙ sym c.in-Some.is ∙ c.in_ok-value.ensures))
     ((weights_fall a.evaluation.now.scene.checked.now).at_choose b.name.now.text b.over.now.text (condition b.test.now) (meant a.body.now) (meant_branch a.none.now))
 
 pub returns-in-Some-none : goal.returns-in-Some-none

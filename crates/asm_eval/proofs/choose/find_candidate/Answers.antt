@@ -1,4 +1,5 @@
-use Rattle.std.proofs.Common.{◌≡◌, filter, ap, sym, ◌∙◌, arith}
+use Rattle.std.proofs.Common.{◌≡◌, filter, ap, sym, ◌∙◌, arith, Some}
+use Rattle.asm_state.specs.Words.{value_of_code}
 use Rattle.asm_eval.specs.declared.choose.Walk.TheVariants.{Met}
 use Rattle.asm_eval.specs.Environments.{environment_in}
 use Rattle.asm_eval.specs.Scenes.{is_candidate}
@@ -18,8 +19,8 @@ pub returns-then-met-number : goal.returns-then-met-number
 returns-then-met-number g c =
     let a = c.args in
     let p = is_candidate a.evaluation.now.scene (environment_in a.evaluation.now.scene.checked.now a.env.now) a.binder.now in
-    let same : c.element-then-met-number.result ≡ c.element.result = cc in
-    ap Met same ∙ met_at p a.universe.now c.loop-i.i c.element.result c.loop-i.met c.element.ensures (sym c.in_ok-holds.ensures ∙ c.if-branch.true) c.loop-i.invariant.counted
+    let same : c.element-then-met-number.result ≡ value_of_code c.kept.result.value = grind (arith, c.element-then-met-number.ensures, c.element.ensures, c.kept.ensures) in
+    ap Met same ∙ met_at p a.universe.now c.loop-i.i (value_of_code c.kept.result.value) c.loop-i.met (c.element.ensures ∙ ap Some (sym c.kept.ensures)) (sym c.in_ok-holds.ensures ∙ c.if-branch.true) c.loop-i.invariant.counted
     ∙ ap (λ n. walk_to n (filter p a.universe.now)) c.if-met-number.true
 
 -- src/choose.rt:80:5
@@ -29,11 +30,11 @@ loop-i-preserved g c =
     let p = is_candidate a.evaluation.now.scene (environment_in a.evaluation.now.scene.checked.now a.env.now) a.binder.now in
     elim c.if-branch.branch [
       | then-branch+else-met-number w ↦ record {
-        counted = w.met-is ∙ one_more_passes p a.universe.now c.loop-i.i c.element.result c.loop-i.met c.element.ensures (sym c.in_ok-holds.ensures ∙ w.if-branch.true) c.loop-i.invariant.counted;
+        counted = w.met-is ∙ one_more_passes p a.universe.now c.loop-i.i (value_of_code c.kept.result.value) c.loop-i.met (c.element.ensures ∙ ap Some (sym c.kept.ensures)) (sym c.in_ok-holds.ensures ∙ w.if-branch.true) c.loop-i.invariant.counted;
         behind = omega arith;
       }
       | else-branch w ↦ record {
-        counted = w.met-is ∙ none_more_passes p a.universe.now c.loop-i.i c.element.result c.loop-i.met c.element.ensures (sym c.in_ok-holds.ensures ∙ w.if-branch.false) c.loop-i.invariant.counted;
+        counted = w.met-is ∙ none_more_passes p a.universe.now c.loop-i.i (value_of_code c.kept.result.value) c.loop-i.met (c.element.ensures ∙ ap Some (sym c.kept.ensures)) (sym c.in_ok-holds.ensures ∙ w.if-branch.false) c.loop-i.invariant.counted;
         behind = omega arith;
       }
     ]

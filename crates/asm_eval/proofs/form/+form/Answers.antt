@@ -2,7 +2,9 @@ use Rattle.std.proofs.Common.{◌≡◌, map, Some, None, rules, sym, ap, ◌∙
 use Rattle.std.proofs.lemmas.Bool.{false≢true}
 use Rattle.asm_state.specs.Updates.{IsConsistent, none}
 use Rattle.asm_updates.specs.Entries.{Entries}
+use Rattle.asm_updates.specs.Stands.{Stands}
 use Rattle.asm_reader.specs.ScriptLines.{pick}
+use Rattle.asm_state.specs.Words.{value_of_code}
 use Rattle.asm_eval.specs.Does.{Outcome}
 use Rattle.asm_eval.specs.Environments.{environment_in, text_of}
 use Rattle.asm_eval.specs.Program.{bind_terms}
@@ -66,7 +68,7 @@ pub form_let-returns : goal.form_let-returns
 form_let-returns g t c =
     let a = c.args in
     follows_same (shape_at a.evaluation.now) c.form_part.result _ _ _ _
-    (let_does a.evaluation.now (environment_in a.evaluation.now.scene.checked.now a.env.now) a.made.now.path.items a.name.now.text a.term.now a.body.now c.in_ok-value.value c.in_ok-value.ensures)
+    (let_does a.evaluation.now (environment_in a.evaluation.now.scene.checked.now a.env.now) a.made.now.path.items a.name.now.text a.term.now a.body.now (value_of_code c.kept.result.value) (c.kept.ensures ∙ c.in_ok-value.ensures))
     c.form_part.ensures
 
 pub form_all-form_part-requires : goal.form_all-form_part-requires
@@ -134,17 +136,17 @@ form_span-loop-i-preserved g t c =
         same_count = w.in_ok-form_part.ensures.count ∙ l.invariant.same_count;
         same_path = w.in_ok-form_part.ensures.path ∙ l.invariant.same_path;
         follows = λ new r rest. l.invariant.follows new r (follows_same (shape_at a.evaluation.now) r _ _ _ _
-            (span_element_does a.evaluation.now (environment_in a.evaluation.now.scene.checked.now a.env.now) a.made.now.path.items a.binder.now a.body.now interval.to interval.universe.now l.i c.element.result test c.element.ensures (sym w.if-branch.true ∙ c.in_ok-holds.ensures))
+            (span_element_does a.evaluation.now (environment_in a.evaluation.now.scene.checked.now a.env.now) a.made.now.path.items a.binder.now a.body.now interval.to interval.universe.now l.i (value_of_code c.kept.result.value) test (c.element.ensures ∙ ap Some (sym c.kept.ensures)) (sym w.if-branch.true ∙ c.in_ok-holds.ensures))
             (follows_counted (shape_at a.evaluation.now) r _ _ _ _ refl refl w.saturating_add-made.ensures
             (follows_both (shape_at a.evaluation.now) tt r _ _ _ _ _
-            (follows_same (shape_at a.evaluation.now) _ _ _ _ _ (ap (λ q. rule_does a.evaluation.now (with_element a.binder.now c.element.result (environment_in a.evaluation.now.scene.checked.now a.env.now)) (at q l.i) a.body.now) l.invariant.same_path) w.in_ok-form_part.ensures)
+            (follows_same (shape_at a.evaluation.now) _ _ _ _ _ (ap (λ q. rule_does a.evaluation.now (with_element a.binder.now (value_of_code c.kept.result.value) (environment_in a.evaluation.now.scene.checked.now a.env.now)) (at q l.i) a.body.now) l.invariant.same_path) w.in_ok-form_part.ensures)
             rest)));
       })
       | form_span-else-branch w ↦ rw w.made-is (record {
         same_count = l.invariant.same_count;
         same_path = l.invariant.same_path;
         follows = λ new r rest. l.invariant.follows new r (follows_same (shape_at a.evaluation.now) r _ _ _ _
-            (span_passed_does a.evaluation.now (environment_in a.evaluation.now.scene.checked.now a.env.now) a.made.now.path.items a.binder.now a.body.now interval.to interval.universe.now l.i c.element.result test c.element.ensures (sym w.if-branch.false ∙ c.in_ok-holds.ensures))
+            (span_passed_does a.evaluation.now (environment_in a.evaluation.now.scene.checked.now a.env.now) a.made.now.path.items a.binder.now a.body.now interval.to interval.universe.now l.i (value_of_code c.kept.result.value) test (c.element.ensures ∙ ap Some (sym c.kept.ensures)) (sym w.if-branch.false ∙ c.in_ok-holds.ensures))
             rest);
       })
     ]
@@ -168,8 +170,8 @@ form_span-returns-in_err-form_part g t c =
     follows_same (shape_at a.evaluation.now) _ _ _ _ _
     (ap (λ vs. span_left a.evaluation.now (environment_in a.evaluation.now.scene.checked.now a.env.now) a.made.now.path.items a.binder.now a.body.now interval.to vs interval.from) c.requires.universe)
     (l.invariant.follows _ _ (follows_stopped (shape_at a.evaluation.now) c.form_part.result residual.result c.in_err-form_part.field-0.0 _ _ _ _ _ refl c.in_err-form_part.was residual.ensures.1
-    (λ last ends. span_exhausted_does a.evaluation.now (environment_in a.evaluation.now.scene.checked.now a.env.now) a.made.now.path.items a.binder.now a.body.now interval.to interval.universe.now l.i c.element.result last c.loop-i-test.true c.element.ensures (sym c.if-branch.true ∙ c.in_ok-holds.ensures)
-    (sym (ap (λ q. (rule_does a.evaluation.now (with_element a.binder.now c.element.result (environment_in a.evaluation.now.scene.checked.now a.env.now)) (at q l.i) a.body.now).result) l.invariant.same_path) ∙ ends))
+    (λ last ends. span_exhausted_does a.evaluation.now (environment_in a.evaluation.now.scene.checked.now a.env.now) a.made.now.path.items a.binder.now a.body.now interval.to interval.universe.now l.i (value_of_code c.kept.result.value) last c.loop-i-test.true (c.element.ensures ∙ ap Some (sym c.kept.ensures)) (sym c.if-branch.true ∙ c.in_ok-holds.ensures)
+    (sym (ap (λ q. (rule_does a.evaluation.now (with_element a.binder.now (value_of_code c.kept.result.value) (environment_in a.evaluation.now.scene.checked.now a.env.now)) (at q l.i) a.body.now).result) l.invariant.same_path) ∙ ends))
     c.form_part.ensures))
 
 pub form_choose-returns-in-Some : goal.form_choose-returns-in-Some
@@ -178,8 +180,8 @@ form_choose-returns-in-Some g t c =
     let candidates = scene_candidates a.evaluation.now.scene (environment_in a.evaluation.now.scene.checked.now a.env.now) a.binder.now in
     let s = setting a.evaluation.now in
     follows_same (shape_at a.evaluation.now) c.form_part.result _ _ _ _
-    (chosen_does a.evaluation.now (environment_in a.evaluation.now.scene.checked.now a.env.now) a.made.now.path.items a.binder.now a.body.now a.none.now c.in-Some.value
-    (sym c.in-Some.is ∙ c.in_ok-value.ensures ∙ ap (λ q. taken (pick s.script s.step q) candidates) c.as_slice.ensures.value))
+    (chosen_does a.evaluation.now (environment_in a.evaluation.now.scene.checked.now a.env.now) a.made.now.path.items a.binder.now a.body.now a.none.now (value_of_code c.kept.result.value)
+    (ap Some c.kept.ensures ∙ sym c.in-Some.is ∙ c.in_ok-value.ensures ∙ ap (λ q. taken (pick s.script s.step q) candidates) c.as_slice.ensures.value))
     c.form_part.ensures
 
 pub form_choose-returns-in-None : goal.form_choose-returns-in-None
@@ -233,10 +235,10 @@ form_in_order-loop-i-init g t c =
       same_count = refl;
       same_path = refl;
       same_before = refl;
-      counted = c.new-so_far.ensures.count ∙ c.count-2.ensures.count;
+      counted = c.new-so_far.ensures.count ∙ c.count.ensures.count;
       underway = begins (shape_at a.evaluation.now) (state_at a.evaluation.now) _
           (rules_do_in_order (setting a.evaluation.now) (environment_in a.evaluation.now.scene.checked.now a.env.now) a.made.now.path.items 0 a.rules.now)
-          c.new-so_far.result a.made.now.instances refl (omega (arith, a.made.now.in_range)) (c.new-so_far.ensures.empty (shape_at a.evaluation.now) c.count-2.ensures.sound c.count-2.ensures.count);
+          c.new-so_far.result a.made.now.instances refl (omega (arith, a.made.now.in_range)) (c.new-so_far.ensures.empty (shape_at a.evaluation.now) c.count.ensures.sound c.count.ensures.count);
     }
 
 pub form_in_order-form_next-requires : goal.form_in_order-form_next-requires
@@ -244,7 +246,7 @@ form_in_order-form_next-requires g t c κs within =
     let a = c.args in
     let l = c.loop-i in
     let less = part_is_less (in_body a.evaluation.now.scene.checked.now) a.rules.now l.i c.index-rules-i.result c.loop-i-test.true c.index-rules-i.is in
-    let alone = l.invariant.same_count ∙ ap (λ (s : Entries). s.count) c.replace-before.ensures.after ∙ c.new-nothing.ensures.count ∙ c.count.ensures.count in
+    let alone = l.invariant.same_count ∙ c.set_aside-before.ensures.count ∙ c.requires in
     (omega (arith, c.decreases, less), (search rules, (alone, l.invariant.counted)))
 
 pub form_in_order-loop-i-preserved : goal.form_in_order-loop-i-preserved
@@ -268,23 +270,23 @@ form_in_order-loop-i-preserved g t c =
 pub form_in_order-put_back-requires : goal.form_in_order-put_back-requires
 form_in_order-put_back-requires g t c =
     let l = c.loop-i.invariant in
-    c.in_ok-form_next.ensures.so_far_count ∙ l.counted ∙ sym c.requires ∙ sym (ap (λ (s : Entries). s.count) (l.same_before ∙ c.replace-before.ensures.value))
+    c.in_ok-form_next.ensures.so_far_count ∙ l.counted ∙ sym c.requires ∙ sym (ap (λ (s : Entries). s.count) (l.same_before ∙ c.set_aside-before.ensures.before))
 
 pub form_in_order-put_back-requires-2 : goal.form_in_order-put_back-requires-2
 form_in_order-put_back-requires-2 g t c =
     let l = c.loop-i.invariant in
-    l.counted ∙ sym c.requires ∙ sym (ap (λ (s : Entries). s.count) (l.same_before ∙ c.replace-before.ensures.value))
+    l.counted ∙ sym c.requires ∙ sym (ap (λ (s : Entries). s.count) (l.same_before ∙ c.set_aside-before.ensures.before))
 
 pub form_in_order-returns : goal.form_in_order-returns
 form_in_order-returns g t c =
     let a = c.args in
     let l = c.loop-i in
     record {
-      count = c.put_back-2.ensures.count ∙ ap (λ (s : Entries). s.count) (c.loop-i.invariant.same_before ∙ c.replace-before.ensures.value);
+      count = c.put_back-2.ensures.count ∙ ap (λ (s : Entries). s.count) (c.loop-i.invariant.same_before ∙ c.set_aside-before.ensures.before);
       path = search rules;
       formed = parts_end (setting a.evaluation.now) (environment_in a.evaluation.now.scene.checked.now a.env.now) a.made.now.path.items
           (shape_at a.evaluation.now) (state_at a.evaluation.now) _ _ _ _ a.rules.now l.i l.invariant.underway
-          l.before a.made.now.set c.put_back-2.new.made.set c.put_back-2.new.made.instances c.put_back-2.result c.loop-i-test.false (l.invariant.same_before ∙ c.replace-before.ensures.value)
+          l.before a.made.now.set c.put_back-2.new.made.set c.put_back-2.new.made.instances c.put_back-2.result c.loop-i-test.false (l.invariant.same_before ∙ c.set_aside-before.ensures.before)
           c.put_back-2.ensures.instances (c.put_back-2.ensures.adds (shape_at a.evaluation.now));
       exhausted = stopped_for_memory
           (rules_do_in_order (setting a.evaluation.now) (environment_in a.evaluation.now.scene.checked.now a.env.now) a.made.now.path.items 0 a.rules.now (state_at a.evaluation.now)) _ c.put_back-2.result c.put_back-2.ensures.stopped;
@@ -297,14 +299,14 @@ form_in_order-returns-then-is_some g t c =
     let under = l.invariant.underway in
     let on = c.in_ok-form_next.ensures.formed under.set under.stands under.consistent in
     record {
-      count = c.put_back.ensures.count ∙ ap (λ (s : Entries). s.count) (c.loop-i.invariant.same_before ∙ c.replace-before.ensures.value);
+      count = c.put_back.ensures.count ∙ ap (λ (s : Entries). s.count) (c.loop-i.invariant.same_before ∙ c.set_aside-before.ensures.before);
       path = search rules;
       formed = part_ends (setting a.evaluation.now) (environment_in a.evaluation.now.scene.checked.now a.env.now) a.made.now.path.items
           (shape_at a.evaluation.now) (state_at a.evaluation.now) _ _ _ _ a.rules.now l.i under
           l.made.path.items c.index-rules-i.result l.invariant.same_path c.loop-i-test.true c.index-rules-i.is
           c.form_next.new.so_far c.form_next.new.made.set l.before a.made.now.set c.put_back.new.made.set c.form_next.new.made.instances c.put_back.new.made.instances c.put_back.result on
           (fault_found (shape_at a.evaluation.now) c.form_next.new.made.set on.set c.first_fault.result (sym c.is_some.ensures ∙ c.if-is_some.true) c.first_fault.ensures.first on.stands)
-          (l.invariant.same_before ∙ c.replace-before.ensures.value) c.put_back.ensures.instances (c.put_back.ensures.adds (shape_at a.evaluation.now));
+          (l.invariant.same_before ∙ c.set_aside-before.ensures.before) c.put_back.ensures.instances (c.put_back.ensures.adds (shape_at a.evaluation.now));
       exhausted = stopped_for_memory
           (rules_do_in_order (setting a.evaluation.now) (environment_in a.evaluation.now.scene.checked.now a.env.now) a.made.now.path.items 0 a.rules.now (state_at a.evaluation.now)) _ c.put_back.result c.put_back.ensures.stopped;
     }
@@ -335,9 +337,9 @@ form_next-returns g t c =
       formed = λ U stands consistent.
           let shape = (shape_at a.evaluation.now) in
           let v = c.upon-view.result in
-          goes_upon shape _ U c.clear.new.self a.so_far.now c.then.new.self c.form_guarded.new.made.set a.made.now.instances c.form_guarded.new.made.instances
+          goes_upon shape _ U c.clear.new.self c.furnish.new.set c.then.new.self c.form_guarded.new.made.set a.made.now.instances c.form_guarded.new.made.instances
           (c.clear.ensures.empty shape a.evaluation.now.scene.view.now.sound c.requires.fits)
-          stands
+          (subst (λ k. Stands shape k U) (sym c.furnish.ensures.same) stands)
           (c.in_ok-then.ensures.merge shape)
           (forms_same shape _ _ _ _ _ _
           (ap (λ A. outcome (setting a.evaluation.now) A (environment_in a.evaluation.now.scene.checked.now a.env.now) (at a.made.now.path.items a.number) (meant_guarded a.guarded)) (c.upon-view.ensures.fired U stands consistent))
@@ -353,12 +355,12 @@ form_turns-loop-turn-init g t c =
       same_count = refl;
       same_path = refl;
       same_before = refl;
-      counted = c.new-so_far.ensures.count ∙ c.count-2.ensures.count;
+      counted = c.new-so_far.ensures.count ∙ c.count.ensures.count;
       underway = begins (shape_at a.evaluation.now) (state_at a.evaluation.now) _
           (turns_do (setting a.evaluation.now) (environment_in a.evaluation.now.scene.checked.now a.env.now) a.made.now.path.items (a.evaluation.now.turns - 0) 0 (meant_guarded a.body))
           c.new-so_far.result a.made.now.instances
           (ap (λ n. turns_do (setting a.evaluation.now) (environment_in a.evaluation.now.scene.checked.now a.env.now) a.made.now.path.items n 0 (meant_guarded a.body)
-          (state_at a.evaluation.now)) (omega arith)) (omega (arith, a.made.now.in_range)) (c.new-so_far.ensures.empty (shape_at a.evaluation.now) c.count-2.ensures.sound c.count-2.ensures.count);
+          (state_at a.evaluation.now)) (omega arith)) (omega (arith, a.made.now.in_range)) (c.new-so_far.ensures.empty (shape_at a.evaluation.now) c.count.ensures.sound c.count.ensures.count);
     }
 
 pub form_turns-loop-turn-preserved : goal.form_turns-loop-turn-preserved
@@ -383,7 +385,7 @@ form_turns-loop-turn-preserved g t c =
 pub form_turns-put_back-requires : goal.form_turns-put_back-requires
 form_turns-put_back-requires g t c =
     let l = c.loop-turn.invariant in
-    c.in_ok-form_next.ensures.so_far_count ∙ l.counted ∙ sym c.requires ∙ sym (ap (λ (s : Entries). s.count) (l.same_before ∙ c.replace-before.ensures.value))
+    c.in_ok-form_next.ensures.so_far_count ∙ l.counted ∙ sym c.requires ∙ sym (ap (λ (s : Entries). s.count) (l.same_before ∙ c.set_aside-before.ensures.before))
 
 pub form_turns-returns-then-is_empty : goal.form_turns-returns-then-is_empty
 form_turns-returns-then-is_empty g t c =
@@ -399,13 +401,13 @@ form_turns-returns-then-is_empty g t c =
     follows_same (shape_at a.evaluation.now) _ _ _ _ _
     (iterate_does a.evaluation.now (environment_in a.evaluation.now.scene.checked.now a.env.now) a.made.now.path.items (meant_guarded a.body))
     (record {
-      count = c.put_back.ensures.count ∙ ap (λ (s : Entries). s.count) (c.loop-turn.invariant.same_before ∙ c.replace-before.ensures.value);
+      count = c.put_back.ensures.count ∙ ap (λ (s : Entries). s.count) (c.loop-turn.invariant.same_before ∙ c.set_aside-before.ensures.before);
       path = search rules;
       formed = turn_ends (setting a.evaluation.now) (environment_in a.evaluation.now.scene.checked.now a.env.now) a.made.now.path.items
           (shape_at a.evaluation.now) (state_at a.evaluation.now) _ _ _ _ a.evaluation.now.turns (meant_guarded a.body) l.turn under
           l.made.path.items c.from.result l.invariant.same_path c.loop-turn-test.true c.from.ensures
           c.form_next.new.so_far c.form_next.new.made.set l.before a.made.now.set c.put_back.new.made.set c.form_next.new.made.instances c.put_back.new.made.instances c.put_back.result on
-          last (l.invariant.same_before ∙ c.replace-before.ensures.value) c.put_back.ensures.instances (c.put_back.ensures.adds (shape_at a.evaluation.now));
+          last (l.invariant.same_before ∙ c.set_aside-before.ensures.before) c.put_back.ensures.instances (c.put_back.ensures.adds (shape_at a.evaluation.now));
       exhausted = stopped_for_memory
           (turns_do (setting a.evaluation.now) (environment_in a.evaluation.now.scene.checked.now a.env.now) a.made.now.path.items a.evaluation.now.turns 0 (meant_guarded a.body) (state_at a.evaluation.now)) _ c.put_back.result c.put_back.ensures.stopped;
     })

@@ -1,6 +1,7 @@
 use Rattle.std.proofs.Common.{refl, arith, rules, ap, sym, subst, ◌∙◌, ◌<◌}
 use Rattle.std.specs.Prelude.{IfSome}
 use Rattle.asm_state.specs.Signature.{count_of}
+use Rattle.asm_updates.specs.Stands.{Stands}
 use Rattle.asm_eval.specs.Environments.{environment_in, location_numbered}
 use Rattle.asm_eval.specs.Evaluated.{shape_at}
 use Rattle.asm_eval.proofs.FormedRules.{forms_update, forms_no_update}
@@ -27,6 +28,6 @@ returns g c =
           c.in-Some.n c.in_ok-new.new (omega (arith, a.made.now.in_range))
           (subst (λ o. IfSome o (λ n. n < count_of (shape_at a.evaluation.now))) c.in-Some.is c.in_ok-n.ensures.in_range)
           (sym (ap (location_numbered (shape_at a.evaluation.now)) c.in-Some.is) ∙ c.in_ok-n.ensures.location) c.in_ok-new.ensures
-          (λ U stands. c.in_ok-add.ensures.value (shape_at a.evaluation.now) U refl stands);
+          (λ U stands. c.in_ok-add.ensures.value (shape_at a.evaluation.now) U refl (subst (λ k. Stands (shape_at a.evaluation.now) k U) (sym c.furnish.ensures.same) stands));
       exhausted = tt;
     }

@@ -1,6 +1,7 @@
-use Rattle.std.proofs.Common.{◌∙◌, ℕ, ap, sym, subst, All, arith, refl}
+use Rattle.std.proofs.Common.{◌∙◌, ℕ, ap, sym, subst, All, arith, refl, Some}
 use Rattle.std.proofs.lemmas.List.Elements.{All-nil}
 use Rattle.asm_state.specs.declared.value.Value.{Value}
+use Rattle.asm_state.specs.Words.{value_of_code}
 use Rattle.asm_eval.specs.Does.{each}
 use Rattle.asm_eval.specs.Environments.{environment_in}
 use Rattle.asm_eval.specs.Evaluated.{setting, state_at}
@@ -39,9 +40,9 @@ loop-i-preserved g c =
           record {
             low = omega (arith, l.invariant.low);
             few = omega (arith, l.invariant.few, w.instances-is);
-            does = bodies_then f m test a.to c.in-Some.universe.now l.i l.instances c.if-branch.instances l.pieces.items c.if-branch.pieces.items _ c.element.result _
-                c.loop-i-test.true c.element.ensures (sym w.if-branch.true ∙ c.in_ok-holds.ensures) w.instances-is more
-                (ap (λ q. rule_does a.evaluation.now (with_element a.binder.now c.element.result (environment_in a.evaluation.now.scene.checked.now a.piece.now.env)) q a.body.now)
+            does = bodies_then f m test a.to c.in-Some.universe.now l.i l.instances c.if-branch.instances l.pieces.items c.if-branch.pieces.items _ (value_of_code c.kept.result.value) _
+                c.loop-i-test.true (c.element.ensures ∙ ap Some (sym c.kept.ensures)) (sym w.if-branch.true ∙ c.in_ok-holds.ensures) w.instances-is more
+                (ap (λ q. rule_does a.evaluation.now (with_element a.binder.now (value_of_code c.kept.result.value) (environment_in a.evaluation.now.scene.checked.now a.piece.now.env)) q a.body.now)
                 (w.in_ok-path.ensures ∙ ap (λ q. at q l.i) w.as_slice.ensures))
                 l.invariant.does;
             are_pieces = all_more (IsPiece (setting a.evaluation.now).program) _ _ _ more l.invariant.are_pieces tt;
@@ -50,8 +51,8 @@ loop-i-preserved g c =
       | else-branch w ↦ record {
         low = omega (arith, l.invariant.low);
         few = omega (arith, l.invariant.few, w.instances-is);
-        does = bodies_else f m test a.to c.in-Some.universe.now l.i l.instances c.if-branch.instances l.pieces.items c.if-branch.pieces.items c.element.result _
-            c.loop-i-test.true c.element.ensures (sym w.if-branch.false ∙ c.in_ok-holds.ensures) w.instances-is (ap (λ v. v.items) w.pieces-is) l.invariant.does;
+        does = bodies_else f m test a.to c.in-Some.universe.now l.i l.instances c.if-branch.instances l.pieces.items c.if-branch.pieces.items (value_of_code c.kept.result.value) _
+            c.loop-i-test.true (c.element.ensures ∙ ap Some (sym c.kept.ensures)) (sym w.if-branch.false ∙ c.in_ok-holds.ensures) w.instances-is (ap (λ v. v.items) w.pieces-is) l.invariant.does;
         are_pieces = subst (All (IsPiece (setting a.evaluation.now).program)) (sym (ap (λ v. v.items) w.pieces-is)) l.invariant.are_pieces;
         are_cut = λ cut. subst (All (IsCut cut)) (sym (ap (λ v. v.items) w.pieces-is)) (l.invariant.are_cut cut);
       }

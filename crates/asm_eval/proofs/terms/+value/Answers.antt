@@ -5,6 +5,9 @@ use Rattle.std.proofs.lemmas.Grind.{common_steps}
 use Rattle.std.proofs.lemmas.List.{length-set, take_all}
 use Rattle.asm_state.proofs.ValueLaws.{value_laws}
 use Rattle.asm_state.specs.Location.{Stray}
+use Rattle.asm_state.specs.Operation.{op}
+use Rattle.asm_state.specs.Words.{value_of_code}
+use Rattle.asm_state.specs.declared.operation.Op.TheVariants.{Not, Negate}
 use Rattle.asm_state.specs.Signature.{count_of, locations, location_at}
 use Rattle.asm_syntax.specs.PlainTree as plain
 use Rattle.asm_syntax.specs.Views.{term_of, terms_of, spec_of}
@@ -28,58 +31,58 @@ use Rattle.asm_eval.proofs.terms.+value.Goals as goal
 pub every-returns-in_default : goal.every-returns-in_default
 every-returns-in_default t c =
     let a = c.args in
-    every_of_none a.scene.now.checked.now a.scene.now.view.now (environment_in a.scene.now.checked.now a.env.now) a.name.now.text a.over.now.text (plain.plain_term (term_of a.test.now)) c.in_default.ensures.none
+    c.truth.ensures ∙ every_of_none a.scene.now.checked.now a.scene.now.view.now (environment_in a.scene.now.checked.now a.env.now) a.name.now.text a.over.now.text (plain.plain_term (term_of a.test.now)) c.in_default.ensures.none
 
 pub every-value-requires : goal.every-value-requires
 every-value-requires t c =
     let a = c.args in
-    let it = (falls a.scene.now.checked.now (environment_in a.scene.now.checked.now a.env.now)).at_every a.name.now.text a.over.now.text (plain.plain_term (term_of a.test.now)) c.element.result in
+    let it = (falls a.scene.now.checked.now (environment_in a.scene.now.checked.now a.env.now)).at_every a.name.now.text a.over.now.text (plain.plain_term (term_of a.test.now)) (value_of_code c.kept.result.value) in
     omega (arith, c.decreases, it)
 
 pub every-returns-then-not-is_true : goal.every-returns-then-not-is_true
 every-returns-then-not-is_true t c =
     let a = c.args in
     let fails = ap spec.is_true (sym c.in_ok-tested.ensures) ∙ sym c.is_true.ensures ∙ c.if-not-is_true.true in
-    fails_at a.scene.now.checked.now a.scene.now.view.now (environment_in a.scene.now.checked.now a.env.now) a.name.now.text a.over.now.text (plain.plain_term (term_of a.test.now)) c.in-Some.universe.now c.loop-i.i c.element.result c.in-Some.ensures.some c.element.ensures fails
+    c.truth-then-not-is_true.ensures ∙ fails_at a.scene.now.checked.now a.scene.now.view.now (environment_in a.scene.now.checked.now a.env.now) a.name.now.text a.over.now.text (plain.plain_term (term_of a.test.now)) c.in-Some.universe.now c.loop-i.i (value_of_code c.kept.result.value) c.in-Some.ensures.some (c.element.ensures ∙ ap Some (sym c.kept.ensures)) fails
 
 pub every-loop-i-preserved : goal.every-loop-i-preserved
 every-loop-i-preserved t c =
     let a = c.args in
     let passed = ap spec.is_true (sym c.in_ok-tested.ensures) ∙ sym c.is_true.ensures ∙ c.if-not-is_true.false in
-    all_more (passes a.scene.now.checked.now a.scene.now.view.now (environment_in a.scene.now.checked.now a.env.now) a.name.now.text a.over.now.text (plain.plain_term (term_of a.test.now))) c.in-Some.universe.now c.loop-i.i c.element.result c.element.ensures c.loop-i.invariant passed
+    all_more (passes a.scene.now.checked.now a.scene.now.view.now (environment_in a.scene.now.checked.now a.env.now) a.name.now.text a.over.now.text (plain.plain_term (term_of a.test.now))) c.in-Some.universe.now c.loop-i.i (value_of_code c.kept.result.value) (c.element.ensures ∙ ap Some (sym c.kept.ensures)) c.loop-i.invariant passed
 
 pub every-returns : goal.every-returns
 every-returns t c =
     let a = c.args in
-    every_past a.scene.now.checked.now a.scene.now.view.now (environment_in a.scene.now.checked.now a.env.now) a.name.now.text a.over.now.text (plain.plain_term (term_of a.test.now)) c.in-Some.universe.now c.loop-i.i c.in-Some.ensures.some (omega (arith, c.size-i-end.ensures.size)) c.loop-i.invariant
+    c.truth-2.ensures ∙ every_past a.scene.now.checked.now a.scene.now.view.now (environment_in a.scene.now.checked.now a.env.now) a.name.now.text a.over.now.text (plain.plain_term (term_of a.test.now)) c.in-Some.universe.now c.loop-i.i c.in-Some.ensures.some (omega (arith, c.size-i-end.ensures.size)) c.loop-i.invariant
 
 pub exists-returns-in_default : goal.exists-returns-in_default
 exists-returns-in_default t c =
     let a = c.args in
-    exists_of_none a.scene.now.checked.now a.scene.now.view.now (environment_in a.scene.now.checked.now a.env.now) a.name.now.text a.over.now.text (plain.plain_term (term_of a.test.now)) c.in_default.ensures.none
+    c.truth.ensures ∙ exists_of_none a.scene.now.checked.now a.scene.now.view.now (environment_in a.scene.now.checked.now a.env.now) a.name.now.text a.over.now.text (plain.plain_term (term_of a.test.now)) c.in_default.ensures.none
 
 pub exists-value-requires : goal.exists-value-requires
 exists-value-requires t c =
     let a = c.args in
-    let it = (falls a.scene.now.checked.now (environment_in a.scene.now.checked.now a.env.now)).at_exists a.name.now.text a.over.now.text (plain.plain_term (term_of a.test.now)) c.element.result in
+    let it = (falls a.scene.now.checked.now (environment_in a.scene.now.checked.now a.env.now)).at_exists a.name.now.text a.over.now.text (plain.plain_term (term_of a.test.now)) (value_of_code c.kept.result.value) in
     omega (arith, c.decreases, it)
 
 pub exists-returns-then-is_true : goal.exists-returns-then-is_true
 exists-returns-then-is_true t c =
     let a = c.args in
     let passed = ap spec.is_true (sym c.in_ok-tested.ensures) ∙ sym c.is_true.ensures ∙ c.if-is_true.true in
-    exists_at a.scene.now.checked.now a.scene.now.view.now (environment_in a.scene.now.checked.now a.env.now) a.name.now.text a.over.now.text (plain.plain_term (term_of a.test.now)) c.in-Some.universe.now c.loop-i.i c.element.result c.in-Some.ensures.some c.element.ensures passed
+    c.truth-then-is_true.ensures ∙ exists_at a.scene.now.checked.now a.scene.now.view.now (environment_in a.scene.now.checked.now a.env.now) a.name.now.text a.over.now.text (plain.plain_term (term_of a.test.now)) c.in-Some.universe.now c.loop-i.i (value_of_code c.kept.result.value) c.in-Some.ensures.some (c.element.ensures ∙ ap Some (sym c.kept.ensures)) passed
 
 pub exists-loop-i-preserved : goal.exists-loop-i-preserved
 exists-loop-i-preserved t c =
     let a = c.args in
     let fails = ap spec.is_true (sym c.in_ok-tested.ensures) ∙ sym c.is_true.ensures ∙ c.if-is_true.false in
-    none_more (passes a.scene.now.checked.now a.scene.now.view.now (environment_in a.scene.now.checked.now a.env.now) a.name.now.text a.over.now.text (plain.plain_term (term_of a.test.now))) c.in-Some.universe.now c.loop-i.i c.element.result c.element.ensures c.loop-i.invariant fails
+    none_more (passes a.scene.now.checked.now a.scene.now.view.now (environment_in a.scene.now.checked.now a.env.now) a.name.now.text a.over.now.text (plain.plain_term (term_of a.test.now))) c.in-Some.universe.now c.loop-i.i (value_of_code c.kept.result.value) (c.element.ensures ∙ ap Some (sym c.kept.ensures)) c.loop-i.invariant fails
 
 pub exists-returns : goal.exists-returns
 exists-returns t c =
     let a = c.args in
-    exists_past a.scene.now.checked.now a.scene.now.view.now (environment_in a.scene.now.checked.now a.env.now) a.name.now.text a.over.now.text (plain.plain_term (term_of a.test.now)) c.in-Some.universe.now c.loop-i.i c.in-Some.ensures.some (omega (arith, c.size-i-end.ensures.size)) c.loop-i.invariant
+    c.truth-2.ensures ∙ exists_past a.scene.now.checked.now a.scene.now.view.now (environment_in a.scene.now.checked.now a.env.now) a.name.now.text a.over.now.text (plain.plain_term (term_of a.test.now)) c.in-Some.universe.now c.loop-i.i c.in-Some.ensures.some (omega (arith, c.size-i-end.ensures.size)) c.loop-i.invariant
 
 pub named-operand-requires : goal.named-operand-requires
 named-operand-requires t c =
@@ -213,11 +216,11 @@ value-returns-in-Constant t c =
 
 pub value-returns-in_ok-inner-in-Not : goal.value-returns-in_ok-inner-in-Not
 value-returns-in_ok-inner-in-Not t c =
-    c.apply.ensures ∙ not_value c.args.scene.now.checked.now (environment_in c.args.scene.now.checked.now c.args.env.now) c.args.term.now c.args.scene.now.view.now c.in-Not.inner c.in-Not.is _ _ c.deref-in-Not.ensures c.in_ok-inner-in-Not.ensures
+    c.apply_to.ensures ∙ ap (op Not _) c.undef.ensures ∙ not_value c.args.scene.now.checked.now (environment_in c.args.scene.now.checked.now c.args.env.now) c.args.term.now c.args.scene.now.view.now c.in-Not.inner c.in-Not.is _ _ c.deref-in-Not.ensures c.in_ok-inner-in-Not.ensures
 
 pub value-returns-in_ok-inner-in-Negative : goal.value-returns-in_ok-inner-in-Negative
 value-returns-in_ok-inner-in-Negative t c =
-    c.apply-in-Negative.ensures ∙ negative_value c.args.scene.now.checked.now (environment_in c.args.scene.now.checked.now c.args.env.now) c.args.term.now c.args.scene.now.view.now c.in-Negative.inner c.in-Negative.is _ _ c.deref-in-Negative.ensures c.in_ok-inner-in-Negative.ensures
+    c.apply_to-in-Negative.ensures ∙ ap (op Negate _) c.undef-in-Negative.ensures ∙ negative_value c.args.scene.now.checked.now (environment_in c.args.scene.now.checked.now c.args.env.now) c.args.term.now c.args.scene.now.view.now c.in-Negative.inner c.in-Negative.is _ _ c.deref-in-Negative.ensures c.in_ok-inner-in-Negative.ensures
 
 pub value_of-function_value-requires : goal.value_of-function_value-requires
 value_of-function_value-requires t c =
@@ -225,15 +228,15 @@ value_of-function_value-requires t c =
     let field : c.in-Some-Function.field-0 ≡ number.Function c.in-Some-Function.f = rw c.in-Some-Function.is at c.in-Some-Function.field-0-is in
     function_below (spec_of a.scene.now.checked.now.spec) a.scene.now.view.now.signature.now a.it c.in-Some-Function.f a.scene.now.checked.now.well_formed a.scene.now.shaped c.requires (c.in-Some-Function.is ∙ ap Some field)
 
-pub value_of-overflow_cast-result : goal.value_of-overflow_cast-result
-value_of-overflow_cast-result t c =
+pub value_of-overflow_cast-e : goal.value_of-overflow_cast-e
+value_of-overflow_cast-e t c =
     let a = c.args in
     let field : c.in-Some-Element.field-0 ≡ number.Element c.in-Some-Element.e = rw c.in-Some-Element.is at c.in-Some-Element.field-0-is in
     let low = element_below (spec_of a.scene.now.checked.now.spec) a.it c.in-Some-Element.e a.scene.now.checked.now.well_formed c.requires (c.in-Some-Element.is ∙ ap Some field) in
     omega (arith, low)
 
-pub value_of-invariant_of-result : goal.value_of-invariant_of-result
-value_of-invariant_of-result t c =
+pub value_of-invariant_of-of : goal.value_of-invariant_of-of
+value_of-invariant_of-of t c =
     let a = c.args in
     let field : c.in-Some-Element.field-0 ≡ number.Element c.in-Some-Element.e = rw c.in-Some-Element.is at c.in-Some-Element.field-0-is in
     record { in_range = element_below (spec_of a.scene.now.checked.now.spec) a.it c.in-Some-Element.e a.scene.now.checked.now.well_formed c.requires (c.in-Some-Element.is ∙ ap Some field) }
@@ -250,7 +253,8 @@ pub value_of-returns-in-Some-Element : goal.value_of-returns-in-Some-Element
 value_of-returns-in-Some-Element t c =
     let a = c.args in
     let field : c.in-Some-Element.field-0 ≡ number.Element c.in-Some-Element.e = rw c.in-Some-Element.is at c.in-Some-Element.field-0-is in
-    value_laws.element_at c.in-Some-Element.e _ refl
+    c.of.ensures
+    ∙ value_laws.element_at c.in-Some-Element.e _ refl
     ∙ ap (λ it. declared_value (program a.scene.now.checked.now) (shown a.scene.now.view.now) (numbered (spec_of a.scene.now.checked.now.spec) it) a.values.now) (sym (c.in-Some-Element.is ∙ ap Some field))
 
 pub value_of-returns-in-Some-Universe : goal.value_of-returns-in-Some-Universe

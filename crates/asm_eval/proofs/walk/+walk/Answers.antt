@@ -3,6 +3,7 @@ use Rattle.std.specs.Prelude.{IfSome}
 use Rattle.std.proofs.lemmas.Bool.{false≢true}
 use Rattle.asm_state.specs.Updates.{IsConsistent, none}
 use Rattle.asm_updates.specs.Entries.{Entries}
+use Rattle.asm_updates.specs.Stands.{Stands}
 use Rattle.asm_syntax.specs.Tree as tree
 use Rattle.asm_reader.specs.declared.picks.Picks.{Ghosts}
 use Rattle.asm_eval.specs.declared.beneath.Descent.{Descent}
@@ -64,10 +65,10 @@ walk_in_order-loop-i-init g t c =
       same_count = refl;
       same_path = refl;
       same_before = refl;
-      counted = c.new-so_far.ensures.count ∙ c.count-2.ensures.count;
+      counted = c.new-so_far.ensures.count ∙ c.count.ensures.count;
       underway = begins (shape_at a.evaluation.now) (state_at a.evaluation.now) _
           (rules_do_in_order (setting a.evaluation.now) (environment_in a.evaluation.now.scene.checked.now a.env.now) a.made.now.path.items 0 a.rules.now)
-          c.new-so_far.result a.made.now.instances refl (omega (arith, a.made.now.in_range)) (c.new-so_far.ensures.empty (shape_at a.evaluation.now) c.count-2.ensures.sound c.count-2.ensures.count);
+          c.new-so_far.result a.made.now.instances refl (omega (arith, a.made.now.in_range)) (c.new-so_far.ensures.empty (shape_at a.evaluation.now) c.count.ensures.sound c.count.ensures.count);
     }
 
 pub walk_in_order-walk_next-requires : goal.walk_in_order-walk_next-requires
@@ -75,7 +76,7 @@ walk_in_order-walk_next-requires g t c κs within =
     let a = c.args in
     let l = c.loop-i in
     let less = part_is_less (in_body a.evaluation.now.scene.checked.now) a.rules.now l.i c.index-rules-i.result c.loop-i-test.true c.index-rules-i.is in
-    let alone = l.invariant.same_count ∙ ap (λ (s : Entries). s.count) c.replace-before.ensures.after ∙ c.new-nothing.ensures.count ∙ c.count.ensures.count in
+    let alone = l.invariant.same_count ∙ c.set_aside-before.ensures.count ∙ c.requires.fits in
     (omega (arith, c.decreases, less), (search rules, (search rules, (alone, (c.requires.callable, (c.requires.meets, l.invariant.counted))))))
 
 pub walk_in_order-loop-i-preserved : goal.walk_in_order-loop-i-preserved
@@ -99,23 +100,23 @@ walk_in_order-loop-i-preserved g t c =
 pub walk_in_order-put_back-requires : goal.walk_in_order-put_back-requires
 walk_in_order-put_back-requires g t c =
     let l = c.loop-i.invariant in
-    c.in_ok-walk_next.ensures.so_far_count ∙ l.counted ∙ sym c.requires.fits ∙ sym (ap (λ (s : Entries). s.count) (l.same_before ∙ c.replace-before.ensures.value))
+    c.in_ok-walk_next.ensures.so_far_count ∙ l.counted ∙ sym c.requires.fits ∙ sym (ap (λ (s : Entries). s.count) (l.same_before ∙ c.set_aside-before.ensures.before))
 
 pub walk_in_order-put_back-requires-2 : goal.walk_in_order-put_back-requires-2
 walk_in_order-put_back-requires-2 g t c =
     let l = c.loop-i.invariant in
-    l.counted ∙ sym c.requires.fits ∙ sym (ap (λ (s : Entries). s.count) (l.same_before ∙ c.replace-before.ensures.value))
+    l.counted ∙ sym c.requires.fits ∙ sym (ap (λ (s : Entries). s.count) (l.same_before ∙ c.set_aside-before.ensures.before))
 
 pub walk_in_order-returns : goal.walk_in_order-returns
 walk_in_order-returns g t c =
     let a = c.args in
     let l = c.loop-i in
     record {
-      count = c.put_back-2.ensures.count ∙ ap (λ (s : Entries). s.count) (c.loop-i.invariant.same_before ∙ c.replace-before.ensures.value);
+      count = c.put_back-2.ensures.count ∙ ap (λ (s : Entries). s.count) (c.loop-i.invariant.same_before ∙ c.set_aside-before.ensures.before);
       path = search rules;
       formed = parts_end (setting a.evaluation.now) (environment_in a.evaluation.now.scene.checked.now a.env.now) a.made.now.path.items
           (shape_at a.evaluation.now) (state_at a.evaluation.now) _ _ _ _ a.rules.now l.i l.invariant.underway
-          l.before a.made.now.set c.put_back-2.new.made.set c.put_back-2.new.made.instances c.put_back-2.result c.loop-i-test.false (l.invariant.same_before ∙ c.replace-before.ensures.value)
+          l.before a.made.now.set c.put_back-2.new.made.set c.put_back-2.new.made.instances c.put_back-2.result c.loop-i-test.false (l.invariant.same_before ∙ c.set_aside-before.ensures.before)
           c.put_back-2.ensures.instances (c.put_back-2.ensures.adds (shape_at a.evaluation.now));
       exhausted = stopped_for_memory
           (rules_do_in_order (setting a.evaluation.now) (environment_in a.evaluation.now.scene.checked.now a.env.now) a.made.now.path.items 0 a.rules.now (state_at a.evaluation.now)) _ c.put_back-2.result c.put_back-2.ensures.stopped;
@@ -128,14 +129,14 @@ walk_in_order-returns-then-is_some g t c =
     let under = l.invariant.underway in
     let on = c.in_ok-walk_next.ensures.formed under.set under.stands under.consistent in
     record {
-      count = c.put_back.ensures.count ∙ ap (λ (s : Entries). s.count) (c.loop-i.invariant.same_before ∙ c.replace-before.ensures.value);
+      count = c.put_back.ensures.count ∙ ap (λ (s : Entries). s.count) (c.loop-i.invariant.same_before ∙ c.set_aside-before.ensures.before);
       path = search rules;
       formed = part_ends (setting a.evaluation.now) (environment_in a.evaluation.now.scene.checked.now a.env.now) a.made.now.path.items
           (shape_at a.evaluation.now) (state_at a.evaluation.now) _ _ _ _ a.rules.now l.i under
           l.made.path.items c.index-rules-i.result l.invariant.same_path c.loop-i-test.true c.index-rules-i.is
           c.walk_next.new.so_far c.walk_next.new.made.set l.before a.made.now.set c.put_back.new.made.set c.walk_next.new.made.instances c.put_back.new.made.instances c.put_back.result on
           (fault_found (shape_at a.evaluation.now) c.walk_next.new.made.set on.set c.first_fault.result (sym c.is_some.ensures ∙ c.if-is_some.true) c.first_fault.ensures.first on.stands)
-          (l.invariant.same_before ∙ c.replace-before.ensures.value) c.put_back.ensures.instances (c.put_back.ensures.adds (shape_at a.evaluation.now));
+          (l.invariant.same_before ∙ c.set_aside-before.ensures.before) c.put_back.ensures.instances (c.put_back.ensures.adds (shape_at a.evaluation.now));
       exhausted = stopped_for_memory
           (rules_do_in_order (setting a.evaluation.now) (environment_in a.evaluation.now.scene.checked.now a.env.now) a.made.now.path.items 0 a.rules.now (state_at a.evaluation.now)) _ c.put_back.result c.put_back.ensures.stopped;
     }
@@ -166,9 +167,9 @@ walk_next-returns g t c =
       formed = λ U stands consistent.
           let shape = (shape_at a.evaluation.now) in
           let v = c.upon-view.result in
-          goes_upon shape _ U c.clear.new.self a.so_far.now c.then.new.self c.walk_guarded.new.made.set a.made.now.instances c.walk_guarded.new.made.instances
+          goes_upon shape _ U c.clear.new.self c.furnish.new.set c.then.new.self c.walk_guarded.new.made.set a.made.now.instances c.walk_guarded.new.made.instances
           (c.clear.ensures.empty shape a.evaluation.now.scene.view.now.sound c.requires.fits)
-          stands
+          (subst (λ k. Stands shape k U) (sym c.furnish.ensures.same) stands)
           (c.in_ok-then.ensures.merge shape)
           (forms_same shape _ _ _ _ _ _
           (ap (λ A. outcome (setting a.evaluation.now) A (environment_in a.evaluation.now.scene.checked.now a.env.now) (at a.made.now.path.items a.number) (meant_guarded a.guarded)) (c.upon-view.ensures.fired U stands consistent))
@@ -184,12 +185,12 @@ walk_turns-loop-turn-init g t c =
       same_count = refl;
       same_path = refl;
       same_before = refl;
-      counted = c.new-so_far.ensures.count ∙ c.count-2.ensures.count;
+      counted = c.new-so_far.ensures.count ∙ c.count.ensures.count;
       underway = begins (shape_at a.evaluation.now) (state_at a.evaluation.now) _
           (turns_do (setting a.evaluation.now) (environment_in a.evaluation.now.scene.checked.now a.env.now) a.made.now.path.items (a.evaluation.now.turns - 0) 0 (meant_guarded a.body))
           c.new-so_far.result a.made.now.instances
           (ap (λ n. turns_do (setting a.evaluation.now) (environment_in a.evaluation.now.scene.checked.now a.env.now) a.made.now.path.items n 0 (meant_guarded a.body)
-          (state_at a.evaluation.now)) (omega arith)) (omega (arith, a.made.now.in_range)) (c.new-so_far.ensures.empty (shape_at a.evaluation.now) c.count-2.ensures.sound c.count-2.ensures.count);
+          (state_at a.evaluation.now)) (omega arith)) (omega (arith, a.made.now.in_range)) (c.new-so_far.ensures.empty (shape_at a.evaluation.now) c.count.ensures.sound c.count.ensures.count);
     }
 
 pub walk_turns-loop-turn-preserved : goal.walk_turns-loop-turn-preserved
@@ -214,7 +215,7 @@ walk_turns-loop-turn-preserved g t c =
 pub walk_turns-put_back-requires : goal.walk_turns-put_back-requires
 walk_turns-put_back-requires g t c =
     let l = c.loop-turn.invariant in
-    c.in_ok-walk_next.ensures.so_far_count ∙ l.counted ∙ sym c.requires.fits ∙ sym (ap (λ (s : Entries). s.count) (l.same_before ∙ c.replace-before.ensures.value))
+    c.in_ok-walk_next.ensures.so_far_count ∙ l.counted ∙ sym c.requires.fits ∙ sym (ap (λ (s : Entries). s.count) (l.same_before ∙ c.set_aside-before.ensures.before))
 
 pub walk_turns-returns-then-is_empty : goal.walk_turns-returns-then-is_empty
 walk_turns-returns-then-is_empty g t c =
@@ -230,13 +231,13 @@ walk_turns-returns-then-is_empty g t c =
     follows_same (shape_at a.evaluation.now) _ _ _ _ _
     (iterate_does a.evaluation.now (environment_in a.evaluation.now.scene.checked.now a.env.now) a.made.now.path.items (meant_guarded a.body))
     (record {
-      count = c.put_back.ensures.count ∙ ap (λ (s : Entries). s.count) (c.loop-turn.invariant.same_before ∙ c.replace-before.ensures.value);
+      count = c.put_back.ensures.count ∙ ap (λ (s : Entries). s.count) (c.loop-turn.invariant.same_before ∙ c.set_aside-before.ensures.before);
       path = search rules;
       formed = turn_ends (setting a.evaluation.now) (environment_in a.evaluation.now.scene.checked.now a.env.now) a.made.now.path.items
           (shape_at a.evaluation.now) (state_at a.evaluation.now) _ _ _ _ a.evaluation.now.turns (meant_guarded a.body) l.turn under
           l.made.path.items c.from.result l.invariant.same_path c.loop-turn-test.true c.from.ensures
           c.walk_next.new.so_far c.walk_next.new.made.set l.before a.made.now.set c.put_back.new.made.set c.walk_next.new.made.instances c.put_back.new.made.instances c.put_back.result on
-          last (l.invariant.same_before ∙ c.replace-before.ensures.value) c.put_back.ensures.instances (c.put_back.ensures.adds (shape_at a.evaluation.now));
+          last (l.invariant.same_before ∙ c.set_aside-before.ensures.before) c.put_back.ensures.instances (c.put_back.ensures.adds (shape_at a.evaluation.now));
       exhausted = stopped_for_memory
           (turns_do (setting a.evaluation.now) (environment_in a.evaluation.now.scene.checked.now a.env.now) a.made.now.path.items a.evaluation.now.turns 0 (meant_guarded a.body) (state_at a.evaluation.now)) _ c.put_back.result c.put_back.ensures.stopped;
     })

@@ -1,4 +1,4 @@
-use Rattle.std.proofs.Common.{◌≡◌, map, sym, ap, subst, ◌∙◌, false}
+use Rattle.std.proofs.Common.{◌≡◌, replicate, map, sym, ap, subst, ◌∙◌, false}
 use Rattle.std.proofs.lemmas.Result.{IfOk-weaker}
 use Rattle.std.proofs.lemmas.Simd.{splat_is_map}
 use Rattle.asm_state.specs.Signature.{domain_in}
@@ -13,6 +13,7 @@ use Rattle.asm_state.proofs.layout.table_values.Goals.{in-Some, in_default}
 pub loop-i-init : goal.loop-i-init
 loop-i-init c =
     c.in_ok-values-in-Entries.ensures.items_if_clones_equal (λ y h. h)
+    ∙ ap (replicate c.args.lists) c.undef.ensures
     ∙ splat_is_map (argument_lists (domain_in c.args.universes.now c.args.domain.now)) c.args.lists Undef (sym c.requires.lists)
     ∙ none_yet (domain_in c.args.universes.now c.args.domain.now) c.as_slice-entries.result.now
 

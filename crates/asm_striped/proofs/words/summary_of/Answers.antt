@@ -16,7 +16,7 @@ loop-n-preserved c =
     elim c.match-values_of.branch [
       | in-Some+in_ok-add w ↦ subst (IsFilled words (n + 1) c.args.count) (sym w.summary-is)
           (filled_add words n c.args.count c.word-low.result c.word-high.result c.loop-n.summary c.loop-n.invariant c.word-low.ensures c.word-high.ensures
-          _ (w.in-Some.low, w.in-Some.high) w.in-Some.ensures.words w.add.ensures.count w.in_ok-add.ensures.entries)
+          _ w.in-Some.bounds w.in-Some.ensures.words w.add.ensures.count w.in_ok-add.ensures.entries)
       | in_default w ↦ subst (IsFilled words (n + 1) c.args.count) (sym w.summary-is)
           (filled_skip words n c.args.count c.word-low.result c.word-high.result c.loop-n.summary c.loop-n.invariant c.word-low.ensures c.word-high.ensures
           w.in_default.ensures.words)

@@ -36,6 +36,7 @@ returns-in-None c =
     let domain = c.as_slice-domain.ensures in
     let out = subst (λ us. is_in (domain_in us c.index.result.now.domain) c.args.arguments.now ≡ false) c.deref.ensures.value
     (subst (λ ns. is_in (domain_in c.deref.result.now ns) c.args.arguments.now ≡ false) domain c.in-None.ensures.none) in
-    given_outside (shape_of c.self.inside) c.args.f c.index.result.now c.args.arguments.now
+    c.undef.ensures
+    ∙ given_outside (shape_of c.self.inside) c.args.f c.index.result.now c.args.arguments.now
     (subst (λ s. HasKind Static s c.args.f) (sym c.self.view_is) c.requires) c.index.ensures out
     ∙ ap (λ s. held_value s c.args.f c.args.arguments.now) c.self.view_is

@@ -7,10 +7,10 @@ use Rattle.asm_updates.proofs.summary.Summary.add.Goals as goal
 
 pub invariant_of-self-2 : goal.invariant_of-self-2
 invariant_of-self-2 c =
-    c.widen_at.ensures.sound c.self.inside.count
+    c.widen.ensures.sound c.self.inside.count
     (subst (λ (s : Entries). c.args.n < s.count) (sym c.self.view_is) c.requires.in_range)
     c.requires.ordered
-    (subst (AreEntries c.self.inside.count) (sym c.reserve.ensures.entries) c.self.invariant)
+    (subst (AreEntries c.self.inside.count) (sym c.reserve.ensures.same) c.self.invariant)
 
 pub returns-clause-bounds : goal.returns-clause-bounds
 returns-clause-bounds c = λ shape U first.

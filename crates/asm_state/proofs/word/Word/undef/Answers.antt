@@ -1,0 +1,6 @@
+use Rattle.std.proofs.Common.{refl}
+use Rattle.asm_state.proofs.Words.{value_from}
+use Rattle.asm_state.proofs.word.Word.undef.Goals as goal
+
+pub returns : goal.returns
+returns c = value_from _ _ refl

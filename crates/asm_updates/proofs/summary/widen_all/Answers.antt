@@ -1,0 +1,26 @@
+use Rattle.std.proofs.Common.{drop, ◌+◌, subst, ◌∙◌, arith}
+use Rattle.asm_state.specs.Updates.{widen}
+use Rattle.asm_updates.specs.Entries.{found, AreEntries}
+use Rattle.asm_updates.proofs.Found.{AreEntries-head, one_more}
+use Rattle.asm_updates.proofs.Listed.{AreEntries-drop, drop_one}
+use Rattle.asm_updates.proofs.Widened.{widen-none}
+use Rattle.asm_updates.proofs.summary.widen_all.Goals as goal
+
+pub loop-i-preserved : goal.loop-i-preserved
+loop-i-preserved c =
+    let es = c.args.others.now.ranges in
+    let count = c.args.others.now.count in
+    let i = c.loop-i.i in
+    let e = c.entry_at-n.result in
+    let at = c.loop-i.invariant in
+    let left = drop_one es i (e.0, (e.1, e.2)) c.entry_at-n.ensures.position in
+    let rest = AreEntries-drop count i es at.own in
+    let first = AreEntries-head count (e.0, (e.1, e.2)) (drop (i + 1) es) (subst (AreEntries count) left rest) in record {
+      room = omega (arith, c.widen.ensures.room, at.room);
+      own = at.own;
+      sound = c.widen.ensures.sound count first.in_range first.ordered at.sound;
+      entries = λ k.
+          one_more widen widen-none (drop i es) (drop (i + 1) es) e.0 (e.1, e.2) left rest.unique
+          (found c.loop-i.ranges.entries) (found c.widen.new.self.entries) c.widen.ensures.entries k
+          ∙ at.entries k;
+    }

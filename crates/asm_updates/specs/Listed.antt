@@ -1,0 +1,28 @@
+-- Entries as a set holds them: a list, and beside it the position of each location.
+--     put es n b           the entries with these bounds at location n: in its place, or else at the end
+--     IsAt es i n          location n stands at position i
+--     ArePlaced es p at    if p, then `at` gives each location's position in the entries
+--     AreListed es p at    and no location stands there twice
+use Rattle.std.specs.Prelude.{◌≡◌, ℕ, ◌<◌, Bool, true, nat_eq, if◌then◌else◌, [], ◌∷◌, length, slice_index_or}
+use Rattle.std.specs.List.{IsDistinct}
+use Rattle.std.specs.Map.{keys_of}
+use Rattle.asm_state.specs.declared.value.Value.{Value}
+use Rattle.asm_updates.specs.Entries.{NamedRanges}
+
+pub record Listed : Type 0 where
+  pub entries : NamedRanges
+  pub spare : ℕ
+
+abbrev pub put : NamedRanges → ℕ → Value × Value → NamedRanges
+put [] n b = (n, b) ∷ []
+put (e ∷ es) n b = if nat_eq n e.0 then (e.0, b) ∷ es else e ∷ put es n b
+
+abbrev pub IsAt : NamedRanges → ℕ → ℕ → Type 0
+IsAt es i n = (i < length es) × (slice_index_or (keys_of es) i 0 ≡ n)
+
+abbrev pub ArePlaced : NamedRanges → Bool → (ℕ → ℕ) → Type 0
+ArePlaced es placed at = placed ≡ true → (i : ℕ) → i < length es → at (slice_index_or (keys_of es) i 0) ≡ i
+
+pub record AreListed (es : NamedRanges) (placed : Bool) (at : ℕ → ℕ) : Type 0 where
+  pub unique : IsDistinct nat_eq (keys_of es)
+  pub are_placed : ArePlaced es placed at
