@@ -25,3 +25,5 @@ pub mod Stepping
 mod Traces
 pub mod Whole
 pub mod Ends
+pub mod KeptTexts
+pub mod KnownTexts

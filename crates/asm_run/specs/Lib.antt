@@ -5,6 +5,7 @@ pub mod RangeLaws
 pub mod Refusal
 pub mod Trace
 pub mod Traces
+pub mod KeptTexts
 pub mod Written
 pub mod Hands
 pub mod Headline

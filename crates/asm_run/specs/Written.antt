@@ -1,8 +1,11 @@
 -- What is written of a specification's locations.
 --     names_in s, locations_in s      what its functions and elements are called;  its proper locations, in order
+--     text_of_location s n            the text of the location with this number
+--     AreTextsOf s texts              texts are those of the locations with their numbers, where there are any
 --     step_line                       the first line of a step
+--     assigned_text                   what follows the location in the line of an update
 --     entries_text, contents_text     the lines of the entries of a set;  the last state
-use Rattle.std.specs.Prelude.{ℕ, cond, List, [], ◌++◌, map, filter, slice_index_or, Some, codes, decimal}
+use Rattle.std.specs.Prelude.{◌≡◌, ◌⊎◌, ℕ, cond, List, [], ◌++◌, map, filter, slice_index_or, Some, codes, decimal}
 use Rattle.std.specs.List.{flat_map, range_with_len}
 use Rattle.asm_state.specs.declared.value.Value.{Value}
 use Rattle.asm_state.specs.declared.value.Value.TheVariants.{Undef}
@@ -14,7 +17,8 @@ use Rattle.asm_check.specs.Names.{Declaration}
 use Rattle.asm_check.specs.Numbers.{functions_of, elements_of}
 use Rattle.asm_check.specs.Shapes.{shape_of}
 use Rattle.asm_updates.specs.Entries.{NamedRanges, range}
-use Rattle.asm_run.specs.Trace.{Names, line_end, update_text, content_text}
+use Rattle.asm_run.specs.KeptTexts.{kept}
+use Rattle.asm_run.specs.Trace.{Names, line_end, location_text, value_text, update_text, content_text}
 
 abbrev pub texts_of : List Declaration → List (List ℕ)
 texts_of ds = map (λ (d : Declaration). d.name.text) ds
@@ -24,6 +28,15 @@ names_in s = record { functions = texts_of (functions_of s); elements = texts_of
 
 abbrev pub locations_in : Spec → List Location
 locations_in s = filter is_proper (locations (shape_of s))
+
+abbrev pub text_of_location : Spec → ℕ → List ℕ
+text_of_location s n = location_text (names_in s) (location_at (shape_of s) n)
+
+abbrev pub AreTextsOf : Spec → List (List ℕ) → Type 0
+AreTextsOf s texts = (n : ℕ) → (kept texts n ≡ []) ⊎ (kept texts n ≡ text_of_location s n)
+
+abbrev pub assigned_text : Spec → Value → List ℕ
+assigned_text s v = codes " := " ++ (value_text (names_in s).elements v ++ line_end)
 
 abbrev pub step_line : (step instances : ℕ) → List ℕ
 step_line step instances = codes "step " ++ (decimal step ++ (codes " instances " ++ (decimal instances ++ line_end)))

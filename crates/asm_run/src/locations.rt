@@ -33,7 +33,11 @@ pub(crate) fn push_value(
 }
 
 /// Adds the name of the element with this number, if there is one.
-fn push_element(out: &mut Vec<u8>, checked: &Checked, index: usize) -> Result<(), AllocError>
+pub(crate) fn push_element(
+    out: &mut Vec<u8>,
+    checked: &Checked,
+    index: usize,
+) -> Result<(), AllocError>
     ensures { let names = names_in (spec_of checked.now.spec) in
         OnOk result (out.new.items ≡ out.old.items ++ slice_index_or names.elements index []) }
 {

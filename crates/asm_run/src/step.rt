@@ -5,7 +5,9 @@ ghost use Rattle.asm_check.specs.Shapes.{shape_of};
 ghost use Rattle.asm_eval.specs.Formed.{IsSet, IsStoppedAt};
 ghost use Rattle.asm_run.specs.Machine.{HasMainRule};
 ghost use Rattle.asm_run.specs.Step.{AreSized, IsFired, IsStopped, main_outcome};
+ghost use Rattle.asm_run.specs.Written.{AreTextsOf};
 
+use crate::location_texts::LocationTexts;
 use crate::machine::Machine;
 use crate::pooled::Pooled;
 use crate::trace::push_step;
@@ -71,9 +73,12 @@ pub fn make_step<R: Threads + Sync, G: Gate + Sync, P: Picks + Sync>(
     state: &mut State,
     made: &mut Forming,
     text: &mut Vec<u8>,
+    texts: &mut LocationTexts,
 ) -> Result<Option<Stop>, AllocError>
     requires sized { AreSized (spec_of machine.now.checked.now.spec) state.old made.old.set.count }
     requires main { HasMainRule machine.now }
+    requires known { AreTextsOf (spec_of machine.now.checked.now.spec) texts.old }
+    ensures known { OnOk result (AreTextsOf (spec_of machine.now.checked.now.spec) texts.new) }
     ensures sized { OnOk result (AreSized (spec_of machine.now.checked.now.spec) state.new made.new.set.count) }
     ensures fired { IfOk result (λ stop. IfNone stop (IsFired (spec_of machine.now.checked.now.spec) machine.now.turns (P.script choices.now.script.now) choices.now.step state.old state.new text.new.items)) }
     ensures stopped { IfOk result (λ stop. IfSome stop (IsStopped (spec_of machine.now.checked.now.spec) machine.now.turns (P.script choices.now.script.now) choices.now.step state.old state.new made.new.path.items)) }
@@ -92,6 +97,7 @@ pub fn make_step<R: Threads + Sync, G: Gate + Sync, P: Picks + Sync>(
         alloc,
         text,
         machine.checked,
+        texts,
         choices.step,
         made.instances,
         &made.set,

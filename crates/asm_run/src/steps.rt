@@ -9,6 +9,7 @@ ghost use Rattle.asm_run.specs.Written.{names_in, locations_in};
 use crate::end::End;
 use crate::error::RunError;
 use crate::finish::{finish_at_limit, finish_at_stop};
+use crate::location_texts::LocationTexts;
 use crate::machine::Machine;
 use crate::pooled::Pooled;
 use crate::sink::Sink;
@@ -46,13 +47,14 @@ pub fn run_steps<R: Threads + Sync, G: Gate + Sync, S: Sink, P: Picks + Sync>(
         spare: Vec::new(alloc),
     };
     let mut text = Vec::new(alloc);
+    let mut texts = LocationTexts::new(alloc);
     for done in 0..steps {
         let choices = Choices {
             script,
             step: u64::from(done) + 1,
         };
         let stop = make_step(
-            alloc, pooled, machine, &choices, &mut state, &mut made, &mut text,
+            alloc, pooled, machine, &choices, &mut state, &mut made, &mut text, &mut texts,
         )?;
         if let Some(stop) = stop {
             let path = made.path.as_slice();

@@ -1,43 +1,25 @@
 //! The lines of a trace.
-ghost use Rattle.std.specs.Prelude.{◌≡◌, ◌<◌, ◌++◌, Some, length, OnOk, codes};
-ghost use Rattle.asm_state.specs.Location.{function_of};
-ghost use Rattle.asm_state.specs.CodeLocations.{location_of};
+ghost use Rattle.std.specs.Prelude.{◌≡◌, ◌<◌, ◌++◌, length, OnOk, codes};
 ghost use Rattle.asm_state.specs.Signature.{count_of};
 ghost use Rattle.asm_syntax.specs.Views.{spec_of};
 ghost use Rattle.asm_check.specs.Numbers.{functions_of};
 ghost use Rattle.asm_check.specs.Shapes.{shape_of};
-ghost use Rattle.asm_updates.specs.Entries.{range};
 ghost use Rattle.asm_updates.specs.declared.fault.Fault.TheVariants as fault;
 ghost use Rattle.asm_run.specs.Step.{fault_line};
-ghost use Rattle.asm_run.specs.Trace.{line_end, update_text, numbers_text, path_text, exhausted_line};
-ghost use Rattle.asm_run.specs.Written.{names_in, step_line, entries_text, content_line, contents_text};
+ghost use Rattle.asm_run.specs.Trace.{line_end, numbers_text, path_text, exhausted_line};
+ghost use Rattle.asm_run.specs.Written.{AreTextsOf, step_line, entries_text, content_line, contents_text};
 
+use crate::line::Line;
+use crate::location_texts::LocationTexts;
 use crate::locations::{push_function, push_location, push_value};
 use crate::text::{push_count, push_text};
+use crate::update::push_update;
 use asm_check::Checked;
-use asm_state::location::Location;
 use asm_state::state::State;
 use asm_state::value::Value;
 use asm_state::word::Word;
 use asm_updates::summary::Summary;
 use std::alloc::{AllocError, Global};
-
-/// Adds the line of an update of the location.
-fn push_update(
-    out: &mut Vec<u8>,
-    checked: &Checked,
-    location: &Location,
-    bounds: (Word, Word),
-) -> Result<(), AllocError>
-    requires { function_of (location_of location.now) < length (functions_of (spec_of checked.now.spec)) }
-    ensures { let names = names_in (spec_of checked.now.spec) in
-        OnOk result (out.new.items ≡ out.old.items ++ update_text names (location_of location.now) (Some (range bounds))) }
-{
-    push_location(out, checked, location)?;
-    push_text(out, b" := ")?;
-    push_value(out, checked, bounds.0)?;
-    push_text(out, b"\n")
-}
 
 /// Adds the line of a location in the last state, if it is proper and isn't undef there.
 fn push_line(
@@ -88,12 +70,13 @@ pub fn push_state(
 fn push_step_line(out: &mut Vec<u8>, step: u64, instances: u64) -> Result<(), AllocError>
     ensures { OnOk result (out.new.items ≡ out.old.items ++ step_line step instances) }
 {
-    push_text(out, b"step ")?;
-    push_count(out, step)?;
-    push_text(out, b" instances ")?;
-    push_count(out, instances)?;
-    push_text(out, b"\n")?;
-    Ok(())
+    let mut line = Line::new();
+    line.text(b"\n");
+    line.count(instances);
+    line.text(b" instances ");
+    line.count(step);
+    line.text(b"step ");
+    push_text(out, line.as_slice())
 }
 
 /// Adds the lines of a set, in the order of its entries.
@@ -101,15 +84,17 @@ fn push_set(
     alloc: Global,
     out: &mut Vec<u8>,
     checked: &Checked,
+    texts: &mut LocationTexts,
     set: &Summary,
 ) -> Result<(), AllocError>
-    requires { set.now.count ≡ count_of (shape_of (spec_of checked.now.spec)) }
-    ensures { OnOk result (out.new.items ≡ out.old.items ++ entries_text (spec_of checked.now.spec) set.now.ranges) }
+    requires sized { set.now.count ≡ count_of (shape_of (spec_of checked.now.spec)) }
+    requires known { AreTextsOf (spec_of checked.now.spec) texts.old }
+    ensures lines { OnOk result (out.new.items ≡ out.old.items ++ entries_text (spec_of checked.now.spec) set.now.ranges) }
+    ensures known { OnOk result (AreTextsOf (spec_of checked.now.spec) texts.new) }
 {
     for i in 0..set.len() {
         let (n, low, high) = set.entry_at(i);
-        let location = checked.signature().location(alloc, n)?;
-        push_update(out, checked, &location, (low, high))?;
+        push_update(alloc, out, checked, texts, n, (low, high))?;
     }
     Ok(())
 }
@@ -119,15 +104,18 @@ pub fn push_step(
     alloc: Global,
     out: &mut Vec<u8>,
     checked: &Checked,
+    texts: &mut LocationTexts,
     step: u64,
     instances: u64,
     set: &Summary,
 ) -> Result<(), AllocError>
-    requires { set.now.count ≡ count_of (shape_of (spec_of checked.now.spec)) }
-    ensures { OnOk result (out.new.items ≡ out.old.items ++ (step_line step instances ++ entries_text (spec_of checked.now.spec) set.now.ranges)) }
+    requires sized { set.now.count ≡ count_of (shape_of (spec_of checked.now.spec)) }
+    requires known { AreTextsOf (spec_of checked.now.spec) texts.old }
+    ensures text { OnOk result (out.new.items ≡ out.old.items ++ (step_line step instances ++ entries_text (spec_of checked.now.spec) set.now.ranges)) }
+    ensures known { OnOk result (AreTextsOf (spec_of checked.now.spec) texts.new) }
 {
     push_step_line(out, step, instances)?;
-    push_set(alloc, out, checked, set)
+    push_set(alloc, out, checked, texts, set)
 }
 
 /// Adds the line for a run that makes all its steps.

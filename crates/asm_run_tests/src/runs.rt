@@ -3,6 +3,7 @@ use asm_run::limits::Limits;
 
 mod beginnings;
 mod refusals;
+mod shown;
 mod sinks;
 mod writers;
 

@@ -34,7 +34,7 @@ returns-clause-fired g c =
     let sorted : Stands (shape_of s) c.sort.new.self U = standing_laws.alike (shape_of s) made.set c.sort.new.self U c.in_ok-sort.ensures.count c.in_ok-sort.ensures.entries formed.stands in
     let consistent = c.in_default.ensures.consistent U (subst (λ v. Stands v made.set U) (sym c.signature.ensures) formed.stands) in
     let text : List ℕ = step_line step made.instances ++ entries_text s c.sort.new.self.ranges in
-    let pushed : c.push_step.new.out.items ≡ c.clear.new.self.items ++ text = c.in_ok-push_step.ensures in
+    let pushed : c.push_step.new.out.items ≡ c.clear.new.self.items ++ text = c.in_ok-push_step.ensures.text in
     let lines = set_written s c.sort.new.self U good sorted consistent c.in_ok-sort.ensures.sound c.in_ok-sort.ensures.rising in
     record {
       set = U;

@@ -1,4 +1,4 @@
-use Rattle.std.proofs.Common.{◌≡◌, ◌+◌, arith, ◌∙◌, rules}
+use Rattle.std.proofs.Common.{◌≡◌, ◌+◌, arith, inl, refl, ◌∙◌, rules}
 use Rattle.std.proofs.lemmas.Result.{err_from_is_err_and}
 use Rattle.asm_syntax.specs.Views.{spec_of}
 use Rattle.asm_check.specs.Shapes.{shape_of}
@@ -7,13 +7,15 @@ use Rattle.asm_run.proofs.steps.run_steps.Goals as goal
 
 pub loop-done-init : goal.loop-done-init
 loop-done-init g c =
-    let shaped : c.signature-signature.result.now ≡ shape_of (spec_of c.args.machine.now.checked.now.spec) = c.signature-signature.ensures in
-    begins (spec_of c.args.machine.now.checked.now.spec) c.args.machine.now.turns (g.P.Picks.script c.args.script.now) c.args.steps c.in_ok-state.state c.new.result.count (g.S.Sink.bytes c.args.out.now) (g.S.Sink.has_failed c.args.out.now)
-    (record {
-      contents_fit = rw shaped at c.in_ok-state.ensures.whole;
-      set_fits = rw shaped at (c.new.ensures.count ∙ c.count.ensures.count);
-    })
-    (rw shaped at c.in_ok-state.ensures.initial) c.requires.open
+    let shaped : c.signature-signature.result.now ≡ shape_of (spec_of c.args.machine.now.checked.now.spec) = c.signature-signature.ensures in (
+      begins (spec_of c.args.machine.now.checked.now.spec) c.args.machine.now.turns (g.P.Picks.script c.args.script.now) c.args.steps c.in_ok-state.state c.new.result.count (g.S.Sink.bytes c.args.out.now) (g.S.Sink.has_failed c.args.out.now)
+          (record {
+            contents_fit = rw shaped at c.in_ok-state.ensures.whole;
+            set_fits = rw shaped at (c.new.ensures.count ∙ c.count.ensures.count);
+          })
+          (rw shaped at c.in_ok-state.ensures.initial) c.requires.open,
+      rw c.new-texts.ensures (λ n. inl refl),
+    )
 
 pub returns-in_err-state : goal.returns-in_err-state
 returns-in_err-state g c =
@@ -27,13 +29,13 @@ returns-in_err-stop g c =
     let p = err_from_is_err_and c.from_residual-in_err-stop.result c.from_residual-in_err-stop.ensures.1 in
     rw (p.1, p.2)
     (out_of_memory (spec_of c.args.machine.now.checked.now.spec) c.args.machine.now.checked.now.well_formed c.args.machine.now.turns (g.P.Picks.script c.args.script.now) c.args.steps now.done now.state now.made.set.count
-    (g.S.Sink.bytes c.args.out.now) (g.S.Sink.bytes now.out) (g.S.Sink.has_failed now.out) now.invariant)
+    (g.S.Sink.bytes c.args.out.now) (g.S.Sink.bytes now.out) (g.S.Sink.has_failed now.out) now.invariant.0)
 
 pub returns-in-Some : goal.returns-in-Some
 returns-in-Some g c =
     let now = c.loop-done in
     at_stop (spec_of c.args.machine.now.checked.now.spec) c.args.machine.now.checked.now.well_formed c.args.machine.now.turns (g.P.Picks.script c.args.script.now) c.args.steps now.done now.state now.made.set.count
-    (g.S.Sink.bytes c.args.out.now) (g.S.Sink.bytes now.out) (g.S.Sink.has_failed now.out) now.invariant
+    (g.S.Sink.bytes c.args.out.now) (g.S.Sink.bytes now.out) (g.S.Sink.has_failed now.out) now.invariant.0
     c.loop-done-test.true (c.from.result + 1) (omega (arith, c.from.ensures)) (g.S.Sink.bytes c.finish_at_stop.new.out) (g.S.Sink.has_failed c.finish_at_stop.new.out)
     c.finish_at_stop.result c.make_step.new.state c.make_step.new.made.path.items c.as_slice-path.result.now c.in-Some.stop (search rules) c.as_slice-path.ensures.value c.finish_at_stop.ensures
 
@@ -43,27 +45,29 @@ returns-in_err-write_all g c =
     let p = err_from_is_err_and c.from_residual-in_err-write_all.result c.from_residual-in_err-write_all.ensures.1 in
     rw (p.1, p.2)
     (cut (spec_of c.args.machine.now.checked.now.spec) c.args.machine.now.checked.now.well_formed c.args.machine.now.turns (g.P.Picks.script c.args.script.now) c.args.steps now.done now.state now.made.set.count
-    (g.S.Sink.bytes c.args.out.now) (g.S.Sink.bytes now.out) (g.S.Sink.has_failed now.out) now.invariant
+    (g.S.Sink.bytes c.args.out.now) (g.S.Sink.bytes now.out) (g.S.Sink.has_failed now.out) now.invariant.0
     c.loop-done-test.true (c.from.result + 1) (omega (arith, c.from.ensures)) c.make_step.new.state c.make_step.new.text.items (search rules)
     (g.S.Sink.bytes c.write_all.new.out) (g.S.Sink.has_failed c.write_all.new.out) (search rules) (search rules))
 
 pub loop-done-preserved : goal.loop-done-preserved
 loop-done-preserved g c =
-    let now = c.loop-done in
-    goes_on (spec_of c.args.machine.now.checked.now.spec) c.args.machine.now.checked.now.well_formed c.args.machine.now.turns (g.P.Picks.script c.args.script.now) c.args.steps now.done now.state now.made.set.count
-    (g.S.Sink.bytes c.args.out.now) (g.S.Sink.bytes now.out) (g.S.Sink.has_failed now.out) now.invariant
-    c.loop-done-test.true (c.from.result + 1) (omega (arith, c.from.ensures)) c.make_step.new.state c.make_step.new.text.items (search rules)
-    (g.S.Sink.bytes c.write_all.new.out) (g.S.Sink.has_failed c.write_all.new.out) c.make_step.new.made.set.count (search rules) (search rules) (search rules)
+    let now = c.loop-done in (
+      goes_on (spec_of c.args.machine.now.checked.now.spec) c.args.machine.now.checked.now.well_formed c.args.machine.now.turns (g.P.Picks.script c.args.script.now) c.args.steps now.done now.state now.made.set.count
+          (g.S.Sink.bytes c.args.out.now) (g.S.Sink.bytes now.out) (g.S.Sink.has_failed now.out) now.invariant.0
+          c.loop-done-test.true (c.from.result + 1) (omega (arith, c.from.ensures)) c.make_step.new.state c.make_step.new.text.items (search rules)
+          (g.S.Sink.bytes c.write_all.new.out) (g.S.Sink.has_failed c.write_all.new.out) c.make_step.new.made.set.count (search rules) (search rules) (search rules),
+      c.in_ok-stop.ensures.known,
+    )
 
 pub returns : goal.returns
 returns g c =
     let now = c.loop-done in
     at_limit (spec_of c.args.machine.now.checked.now.spec) c.args.machine.now.checked.now.well_formed c.args.machine.now.turns (g.P.Picks.script c.args.script.now) c.args.steps now.done now.state now.made.set.count
-    (g.S.Sink.bytes c.args.out.now) (g.S.Sink.bytes now.out) (g.S.Sink.has_failed now.out) now.invariant
+    (g.S.Sink.bytes c.args.out.now) (g.S.Sink.bytes now.out) (g.S.Sink.has_failed now.out) now.invariant.0
     (g.S.Sink.bytes c.finish_at_limit.new.out) (g.S.Sink.has_failed c.finish_at_limit.new.out) c.finish_at_limit.result c.loop-done-test.false c.finish_at_limit.ensures
 
 pub finish_at_stop-requires-clause-whole : goal.finish_at_stop-requires-clause-whole
 finish_at_stop-requires-clause-whole g c = c.in_ok-stop.ensures.sized.contents_fit
 
 pub finish_at_limit-requires-clause-whole : goal.finish_at_limit-requires-clause-whole
-finish_at_limit-requires-clause-whole g c = c.loop-done.invariant.sized.contents_fit
+finish_at_limit-requires-clause-whole g c = c.loop-done.invariant.0.sized.contents_fit
