@@ -16,6 +16,7 @@ pub mod NumberedLocations
 pub mod StatesByNumbers
 pub mod Positions
 pub mod UniverseValues
+pub mod Turns
 pub mod Words
 pub mod ValueLaws
 pub mod BoundLaws
@@ -26,6 +27,7 @@ pub mod Layouts
 pub mod LayoutsSoFar
 pub mod LocationIndices
 pub mod Owners
+pub mod FirstLocations
 pub mod SignatureInside
 pub mod GivenValues
 pub mod Counts

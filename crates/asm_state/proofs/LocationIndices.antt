@@ -12,10 +12,11 @@ use Rattle.std.proofs.lemmas.Option.{get_or_from_slice_get, slice_get_within}
 use Rattle.asm_state.specs.declared.function.Function.{Function}
 use Rattle.asm_state.specs.declared.function.FunctionKind.TheVariants.{Controlled}
 use Rattle.asm_state.specs.declared.value.Value.{Value}
+use Rattle.asm_state.specs.FirstLocations.{first_of}
 use Rattle.asm_state.specs.Location.{Location, Proper, Stray}
 use Rattle.asm_state.specs.Signature.{Shape, IsSound, domain_in, domain_by, domain_of, locations_by, function_locations, count_of, location_at, number_at}
 use Rattle.asm_state.specs.Tables.{Domain, argument_lists, is_in, location_in}
-use Rattle.asm_state.proofs.LayoutsSoFar.{locations_before, listed_in}
+use Rattle.asm_state.proofs.LayoutsSoFar.{listed_in}
 use Rattle.asm_state.proofs.NumberedLocations.{how_many, number_laws}
 
 -- ---- the locations of one controlled function
@@ -36,9 +37,6 @@ pub record Holds (shape : Shape) (f : ℕ) (function : Function) : Type 0 where
   pub at : slice_get shape.functions f ≡ Some function
   pub kind : function.kind ≡ Controlled
 
-abbrev pub start_of : Shape → ℕ → ℕ
-start_of shape f = length (locations_before shape f)
-
 abbrev pub lists_of : Shape → Function → List (List Value)
 lists_of shape function = argument_lists (domain_in shape.universes function.domain)
 
@@ -55,7 +53,7 @@ its_locations shape f function holds =
     zero_plus = omega arith
 
 its_index : (shape : Shape) (f : ℕ) (function : Function) (j : ℕ) → Holds shape f function → j < length (lists_of shape function) + 1
-    → (start_of shape f + j < count_of shape) × (location_at shape (start_of shape f + j) ≡ get_or (locations_by Controlled f (domain_in shape.universes function.domain)) j (Stray 0))
+    → (first_of shape f + j < count_of shape) × (location_at shape (first_of shape f + j) ≡ get_or (locations_by Controlled f (domain_in shape.universes function.domain)) j (Stray 0))
 its_index shape f function j holds h =
     let its = its_locations shape f function holds in
     let many : length (function_locations shape.universes (get_or (enumerate_from 0 shape.functions) f (0, function))) ≡ length (lists_of shape function) + 1 = ap length its ∙ how_many f (domain_in shape.universes function.domain) in
@@ -67,13 +65,13 @@ its_index shape f function j holds h =
     )
 
 pub proper_index : (shape : Shape) (f : ℕ) (function : Function) (k : ℕ) → Holds shape f function → k < length (lists_of shape function)
-    → (start_of shape f + k < count_of shape) × (location_at shape (start_of shape f + k) ≡ Proper f (get_or (lists_of shape function) k []))
+    → (first_of shape f + k < count_of shape) × (location_at shape (first_of shape f + k) ≡ Proper f (get_or (lists_of shape function) k []))
 proper_index shape f function k holds h =
     let index = its_index shape f function k holds (omega (arith, h)) in
     (index.0, index.1 ∙ locations_listed f (domain_in shape.universes function.domain) k (Stray 0) h)
 
 pub stray_index : (shape : Shape) (f : ℕ) (function : Function) → Holds shape f function
-    → (start_of shape f + length (lists_of shape function) < count_of shape) × (location_at shape (start_of shape f + length (lists_of shape function)) ≡ Stray f)
+    → (first_of shape f + length (lists_of shape function) < count_of shape) × (location_at shape (first_of shape f + length (lists_of shape function)) ≡ Stray f)
 stray_index shape f function holds =
     let index = its_index shape f function (length (lists_of shape function)) holds (omega arith) in
     (index.0, index.1 ∙ stray_listed f (domain_in shape.universes function.domain) (Stray 0))
@@ -93,17 +91,17 @@ numbered shape f arguments n sound below is = record {
 }
 
 pub proper_number : (shape : Shape) (f : ℕ) (function : Function) (arguments : List Value) (k : ℕ) → IsSound shape → Holds shape f function
-    → k < length (lists_of shape function) → get_or (lists_of shape function) k [] ≡ arguments → IsNumberOf shape f arguments (start_of shape f + k)
+    → k < length (lists_of shape function) → get_or (lists_of shape function) k [] ≡ arguments → IsNumberOf shape f arguments (first_of shape f + k)
 proper_number shape f function arguments k sound holds h is =
     let index = proper_index shape f function k holds h in
     let domain : Domain = domain_in shape.universes function.domain in
     let inside : is_in domain arguments ≡ true = subst (λ vs. is_in domain vs ≡ true) is (listed_in domain k h) in
-    numbered shape f arguments (start_of shape f + k) sound index.0
+    numbered shape f arguments (first_of shape f + k) sound index.0
     (index.1 ∙ ap (Proper f) is ∙ ap (λ b. cond b (Proper f arguments) (Stray f)) (sym inside) ∙ ap (λ o. location_in f (domain_by shape.universes o) arguments) (sym holds.at))
 
 pub stray_number : (shape : Shape) (f : ℕ) (function : Function) (arguments : List Value) → IsSound shape → Holds shape f function
-    → is_in (domain_in shape.universes function.domain) arguments ≡ false → IsNumberOf shape f arguments (start_of shape f + length (lists_of shape function))
+    → is_in (domain_in shape.universes function.domain) arguments ≡ false → IsNumberOf shape f arguments (first_of shape f + length (lists_of shape function))
 stray_number shape f function arguments sound holds out =
     let index = stray_index shape f function holds in
-    numbered shape f arguments (start_of shape f + length (lists_of shape function)) sound index.0
+    numbered shape f arguments (first_of shape f + length (lists_of shape function)) sound index.0
     (index.1 ∙ ap (λ b. cond b (Proper f arguments) (Stray f)) (sym out) ∙ ap (λ o. location_in f (domain_by shape.universes o) arguments) (sym holds.at))

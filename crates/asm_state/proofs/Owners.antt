@@ -14,6 +14,7 @@ use Rattle.asm_state.specs.declared.layout.Layout.{Layout}
 use Rattle.asm_state.specs.declared.function.Table.TheVariants.{Same}
 use Rattle.asm_state.specs.declared.value.Value.{Value}
 use Rattle.asm_state.specs.declared.value.Value.TheVariants.{Undef}
+use Rattle.asm_state.specs.FirstLocations.{first_of}
 use Rattle.asm_state.specs.Layout.{IsLayoutOf, IsExtentOf, start_by}
 use Rattle.asm_state.specs.Location.{Proper, Stray, function_of}
 use Rattle.asm_state.specs.Signature.{Shape, HasKind, domain_in, domain_by, domain_of, locations_by, function_locations, locations, count_of, location_at}
@@ -21,7 +22,7 @@ use Rattle.asm_state.specs.Tables.{is_in, location_in}
 use Rattle.asm_state.specs.Updates.{is_proper}
 use Rattle.asm_state.proofs.LayoutsSoFar.{listed_in}
 use Rattle.asm_state.proofs.NumberedLocations.{how_many}
-use Rattle.asm_state.proofs.LocationIndices.{Holds, start_of, lists_of, proper_index, stray_index, IsNumberOf, proper_number, stray_number}
+use Rattle.asm_state.proofs.LocationIndices.{Holds, lists_of, proper_index, stray_index, IsNumberOf, proper_number, stray_number}
 
 -- an index in a list of pieces is one in some piece
 record Piece {X A : Type 0} (g : X → List A) (xs : List X) (n : ℕ) (e : X) : Type 0 where
@@ -55,11 +56,11 @@ piece_of g (x ∷ xs) n e h =
 pub record Owned (shape : Shape) (n f : ℕ) : Type 0 where
   pub function : Function
   pub holds : Holds shape f function
-  pub starts : start_of shape f ≤ n
-  pub ends : n - start_of shape f < length (lists_of shape function) + 1
+  pub starts : first_of shape f ≤ n
+  pub ends : n - first_of shape f < length (lists_of shape function) + 1
 
 owned_piece : (shape : Shape) (n i j : ℕ) (function : Function) → slice_get shape.functions i ≡ Some function → (kind : FunctionKind) → function.kind ≡ kind
-    → j < length (locations_by kind i (domain_in shape.universes function.domain)) → n ≡ start_of shape i + j → Owned shape n i
+    → j < length (locations_by kind i (domain_in shape.universes function.domain)) → n ≡ first_of shape i + j → Owned shape n i
 owned_piece shape n i j function at Static e h is = absurd (omega (arith, h))
 owned_piece shape n i j function at Controlled e h is =
     let many : length (locations_by Controlled i (domain_in shape.universes function.domain)) ≡ length (lists_of shape function) + 1 = how_many i (domain_in shape.universes function.domain) in
@@ -93,17 +94,17 @@ pub record IsAt (shape : Shape) (n f start lists : ℕ) : Type 0 where
   pub inside : n - start ≢ lists → n - start < length (lists_of shape function)
   pub proper : n - start ≢ lists → location_at shape n ≡ Proper f (get_or (lists_of shape function) (n - start) [])
 
-is_at : (shape : Shape) (n f start lists : ℕ) (owned : Owned shape n f) → start ≡ start_of shape f → lists ≡ length (lists_of shape owned.function) → IsAt shape n f start lists
+is_at : (shape : Shape) (n f start lists : ℕ) (owned : Owned shape n f) → start ≡ first_of shape f → lists ≡ length (lists_of shape owned.function) → IsAt shape n f start lists
 is_at shape n f start lists owned is are = record {
   function = owned.function;
   holds = owned.holds;
   begins = begins;
   stray = λ last.
-      let at : n ≡ start_of shape f + length (lists_of shape owned.function) = omega (arith, last, is, are, owned.starts) in
+      let at : n ≡ first_of shape f + length (lists_of shape owned.function) = omega (arith, last, is, are, owned.starts) in
       ap (location_at shape) at ∙ (stray_index shape f owned.function owned.holds).1;
   inside = inside;
   proper = λ other.
-      let at : n ≡ start_of shape f + (n - start) = omega (arith, is, owned.starts) in
+      let at : n ≡ first_of shape f + (n - start) = omega (arith, is, owned.starts) in
       ap (location_at shape) at ∙ (proper_index shape f owned.function (n - start) owned.holds (inside other)).1;
 }
   where
@@ -116,13 +117,13 @@ is_at shape n f start lists owned is are = record {
 -- the function of the location is the one that it is found in
 same_owner : (shape : Shape) (n f : ℕ) → Owned shape n f → function_of (location_at shape n) ≡ f
 same_owner shape n f owned =
-    elim (nat_eq (n - start_of shape f) (length (lists_of shape owned.function))) as (λ b. nat_eq (n - start_of shape f) (length (lists_of shape owned.function)) ≡ b → function_of (location_at shape n) ≡ f) [
-      | true ↦ λ e. let last : n - start_of shape f ≡ length (lists_of shape owned.function) = grind (arith, nat_tests) in ap function_of (at.stray last)
-      | false ↦ λ e. let other : n - start_of shape f ≢ length (lists_of shape owned.function) = grind (arith, nat_tests) in ap function_of (at.proper other)
+    elim (nat_eq (n - first_of shape f) (length (lists_of shape owned.function))) as (λ b. nat_eq (n - first_of shape f) (length (lists_of shape owned.function)) ≡ b → function_of (location_at shape n) ≡ f) [
+      | true ↦ λ e. let last : n - first_of shape f ≡ length (lists_of shape owned.function) = grind (arith, nat_tests) in ap function_of (at.stray last)
+      | false ↦ λ e. let other : n - first_of shape f ≢ length (lists_of shape owned.function) = grind (arith, nat_tests) in ap function_of (at.proper other)
     ] refl
   where
-    at : IsAt shape n f (start_of shape f) (length (lists_of shape owned.function))
-    at = is_at shape n f (start_of shape f) (length (lists_of shape owned.function)) owned refl refl
+    at : IsAt shape n f (first_of shape f) (length (lists_of shape owned.function))
+    at = is_at shape n f (first_of shape f) (length (lists_of shape owned.function)) owned refl refl
 
 -- the function that a list has at a number is the one that it is known to have
 pub same_function : (shape : Shape) (kind : FunctionKind) (f : ℕ) (function : Function) → HasKind kind shape f → function ≡ get_or shape.functions f function
@@ -151,7 +152,7 @@ module _ (shape : Shape) (layout : Layout) (laid_out : IsLayoutOf shape layout) 
       (subst (IsExtentOf shape f (get_or shape.functions f function)) (sym is) (laid_out.extents f function extent known))
 
   pub extent_is : (f : ℕ) (function : Function) (extent : Extent) → Holds shape f function → extent ≡ get_or layout.extents.items f extent
-      → (extent.start ≡ start_of shape f) × (extent.lists ≡ length (lists_of shape function))
+      → (extent.start ≡ first_of shape f) × (extent.lists ≡ length (lists_of shape function))
   extent_is f function extent holds is =
       let it : IsExtentOf shape f function extent = any_extent f function extent holds.at is in
       (it.start ∙ ap (λ k. start_by k shape f) holds.kind, it.lists)
@@ -160,7 +161,7 @@ module _ (shape : Shape) (layout : Layout) (laid_out : IsLayoutOf shape layout) 
   pub index_here : (n f : ℕ) (extent : Extent) → n < count_of shape → f ≡ get_or layout.owners.items n f → extent ≡ get_or layout.extents.items f extent → IsAt shape n f extent.start extent.lists
   index_here n f extent h is of =
       let owned : Owned shape n f = owner_here n f h is in
-      let sizes : (extent.start ≡ start_of shape f) × (extent.lists ≡ length (lists_of shape owned.function)) = extent_is f owned.function extent owned.holds of in
+      let sizes : (extent.start ≡ first_of shape f) × (extent.lists ≡ length (lists_of shape owned.function)) = extent_is f owned.function extent owned.holds of in
       is_at shape n f extent.start extent.lists owned sizes.0 sizes.1
 
   -- the number of a location, by the position of its arguments
@@ -177,9 +178,9 @@ module _ (shape : Shape) (layout : Layout) (laid_out : IsLayoutOf shape layout) 
   number_here f function extent arguments None has is of some nothing =
       let same = same_function shape Controlled f function has is in
       let holds : Holds shape f function = record { at = same.0; kind = same.1 } in
-      let sizes : (extent.start ≡ start_of shape f) × (extent.lists ≡ length (lists_of shape function)) = extent_is f function extent holds of in
+      let sizes : (extent.start ≡ first_of shape f) × (extent.lists ≡ length (lists_of shape function)) = extent_is f function extent holds of in
       subst (λ start. IsNumberOf shape f arguments (start + extent.lists)) (sym sizes.0)
-      (subst (λ lists. IsNumberOf shape f arguments (start_of shape f + lists)) (sym sizes.1)
+      (subst (λ lists. IsNumberOf shape f arguments (first_of shape f + lists)) (sym sizes.1)
       (stray_number shape f function arguments laid_out.sound holds nothing))
 
   -- the number of a location whose arguments stand at a position

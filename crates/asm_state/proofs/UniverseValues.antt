@@ -19,6 +19,7 @@ use Rattle.asm_state.specs.declared.value.Value.TheVariants.{Undef, Number, Elem
 use Rattle.asm_state.specs.Codes.{number_code, code_of}
 use Rattle.asm_state.specs.Operation.{is_same, number_or_undef}
 use Rattle.asm_state.specs.Numbers.{at_most}
+use Rattle.asm_state.specs.Turns.{AreInTurn}
 use Rattle.asm_state.specs.Universe.{element, elements, numbers, count_between, numbers_between, IsUniverse}
 use Rattle.asm_state.specs.UniverseView.{values_from, first_code, IsWithin}
 use Rattle.asm_state.proofs.Codes.{codes_rise, codes_apart}
@@ -67,10 +68,6 @@ code_further (negsuc m) (negsuc n) i low e = omega (arith, ints)
 code_bounds : (y : ℤ) → number_code y < code_of_first_element → y ≤ℤ greatest_number
 code_bounds (pos n) h = omega (arith, ints)
 code_bounds (negsuc n) h = omega (arith, ints)
-
--- the values of a list have the codes from a start on, in turn
-pub record AreInTurn (start : ℕ) (vs : List Value) : Type 0 where
-  pub code_at : (i : ℕ) (d : Value) → i < length vs → code_of (slice_index_or vs i d) ≡ start + i
 
 -- those of elements in the range have them in turn from the first one's code
 elements_in_turn : (first count : ℕ) → first + count ≤ ELEMENTS → AreInTurn (code_of_first_element + first) (elements first count)

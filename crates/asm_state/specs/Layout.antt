@@ -3,7 +3,7 @@
 --     extents            the position of a function's first value, and how many argument lists it has
 --     owners             the function of each location
 use Rattle.std.specs.Prelude.{◌≡◌, ℕ, ◌<◌, List, [], ◌∷◌, ◌++◌, map, length, take, slice_index_or}
-use Rattle.std.specs.List.{flat_map, enumerate_from}
+use Rattle.std.specs.List.{flat_map}
 use Rattle.asm_state.specs.declared.function.Function.{Function}
 use Rattle.asm_state.specs.declared.function.FunctionKind.{FunctionKind}
 use Rattle.asm_state.specs.declared.function.FunctionKind.TheVariants.{Controlled, Static}
@@ -11,6 +11,7 @@ use Rattle.asm_state.specs.declared.layout.Extent.{Extent}
 use Rattle.asm_state.specs.declared.layout.Layout.{Layout}
 use Rattle.asm_state.specs.declared.value.Value.{Value}
 use Rattle.asm_state.specs.declared.value.Value.TheVariants.{Undef}
+use Rattle.asm_state.specs.FirstLocations.{first_of}
 use Rattle.asm_state.specs.Fits.{Fits}
 use Rattle.asm_state.specs.Location.{function_of}
 use Rattle.asm_state.specs.Signature.{Shape, IsSound, domain_in, function_locations, locations, initial_state}
@@ -26,7 +27,7 @@ static_values universes f = static_values_by f.kind (map (table_value f.table) (
 
 -- how many locations, and how many values of static functions, stand before those of a function
 abbrev pub start_by : FunctionKind → Shape → ℕ → ℕ
-start_by Controlled shape f = length (flat_map (function_locations shape.universes) (take f (enumerate_from 0 shape.functions)))
+start_by Controlled shape f = first_of shape f
 start_by Static shape f = length (flat_map (static_values shape.universes) (take f shape.functions))
 
 -- the initial contents of a function's locations

@@ -3,6 +3,7 @@ pub mod Kinds
 pub mod Value
 pub mod Numbers
 pub mod Codes
+pub mod Turns
 pub mod Operation
 pub mod Location
 pub mod Universe
@@ -13,6 +14,7 @@ pub mod Tables
 pub mod Updates
 pub mod UpdateLaws
 pub mod Signature
+pub mod FirstLocations
 pub mod Contents
 pub mod Fits
 pub mod Layout
@@ -20,5 +22,7 @@ pub mod CodeLocations
 pub mod ValueLaws
 pub mod BoundLaws
 pub mod DomainLaws
+pub mod TurnLaws
 pub mod SignatureLaws
+pub mod FirstLocationLaws
 pub mod OperationLaws

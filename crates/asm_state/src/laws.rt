@@ -8,7 +8,9 @@ ghost use Rattle.asm_state.specs.OperationLaws.{DivisionLaw};
 ghost use Rattle.asm_state.specs.ValueLaws.{ValueLaws};
 ghost use Rattle.asm_state.specs.BoundLaws.{BoundLaws};
 ghost use Rattle.asm_state.specs.DomainLaws.{UniverseLaws, DomainLaws};
+ghost use Rattle.asm_state.specs.TurnLaws.{TurnLaws};
 ghost use Rattle.asm_state.specs.SignatureLaws.{NumberLaws, StateLaws};
+ghost use Rattle.asm_state.specs.FirstLocationLaws.{FirstLocationLaws};
 ghost use Rattle.asm_state.specs.UpdateLaws.{MemberLaws, TestLaws, SummaryLaws, FireLaws, UnionLaws, MergeLaws, FaultLaws};
 
 /// Codes rise with values.
@@ -81,9 +83,19 @@ pub fn domain_laws()
     ensures { DomainLaws }
 {}
 
+/// The position of a value among values whose codes follow each other is that of its code.
+pub fn turn_laws()
+    ensures { TurnLaws }
+{}
+
 /// Locations and the numbers below their count are one to one, in order.
 pub fn number_laws()
     ensures { NumberLaws }
+{}
+
+/// Behind the first location of a function stand the others, at the positions of their arguments, and then the stray one.
+pub fn first_location_laws()
+    ensures { FirstLocationLaws }
 {}
 
 /// What the contents of locations say of a state.

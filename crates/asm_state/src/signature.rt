@@ -2,6 +2,7 @@
 ghost use Rattle.std.specs.Prelude.{◌≡◌, ◌<◌, ◌≤◌, Some, IsTrue, IfOk, IfSome, IfNone, length, map, slice_get};
 ghost use Rattle.asm_state.specs.declared.limits.TheConstants.{LOCATIONS};
 ghost use Rattle.asm_state.specs.declared.function.FunctionKind.TheVariants.{Controlled, Static};
+ghost use Rattle.asm_state.specs.FirstLocations.{first_of};
 ghost use Rattle.asm_state.specs.Fits.{Fits};
 ghost use Rattle.asm_state.specs.Location.{Stray};
 ghost use Rattle.asm_state.specs.CodeLocations.{location_of};
@@ -114,6 +115,26 @@ impl Signature {
         let domain = self.functions[f].domain.as_slice();
         let list = list_position(&self.universes, domain, arguments)?;
         Some(extent.start + list)
+    }
+
+    /// The number of the first location of a controlled function. Its others have the numbers behind it: first those with
+    /// arguments, in order, and then the stray one.
+    pub fn first(&self, f: usize) -> usize
+        requires { HasKind Controlled self.now f }
+        ensures { result ≡ first_of self.now f }
+    {
+        self.layout.extents[f].start
+    }
+
+    /// The number of the stray location of a controlled function.
+    pub fn stray_number(&self, f: usize) -> usize
+        requires { HasKind Controlled self.now f }
+        ensures number { result ≡ number_at self.now (Stray f) }
+        ensures location { location_at self.now result ≡ Stray f }
+        ensures in_range { result < count_of self.now }
+    {
+        let extent = self.layout.extents[f];
+        extent.start + extent.lists
     }
 
     /// The location with this number.

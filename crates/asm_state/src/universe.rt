@@ -4,6 +4,7 @@ ghost use Rattle.std.specs.List.{position};
 ghost use Rattle.asm_state.specs.declared.element.TheConstants.{ELEMENTS};
 ghost use Rattle.asm_state.specs.declared.limits.TheConstants.{VALUES};
 ghost use Rattle.asm_state.specs.Operation.{is_same};
+ghost use Rattle.asm_state.specs.Turns.{AreInTurn};
 ghost use Rattle.asm_state.specs.Universe.{elements, count_between, numbers_between, IsUniverse};
 ghost use Rattle.asm_state.specs.UniverseView.{first_code, IsFirst};
 
@@ -90,6 +91,13 @@ impl Universe {
         ensures sound { IsUniverse self.now }
     {
         self.count
+    }
+
+    /// The code of the first value. The others have the codes behind it, in turn.
+    pub fn first_code(&self) -> u64
+        ensures { AreInTurn result self.now }
+    {
+        self.first.code()
     }
 
     /// The value at a position.
