@@ -81,6 +81,13 @@ impl Checked {
         self.numbering.named(name)
     }
 
+    /// How many rules there are.
+    pub fn rules(&self) -> usize
+        ensures { result ≡ length (rules_of (spec_of self.now.spec)) }
+    {
+        self.bodies.rules.len()
+    }
+
     /// The parameters and the body of the rule with this number.
     pub fn rule(&self, r: usize) -> (&[Name], &Rule)
         requires { r < length (rules_of (spec_of self.now.spec)) }
@@ -94,6 +101,13 @@ impl Checked {
             } => (parameters, body),
             _ => unreachable!(),
         }
+    }
+
+    /// How many derived functions there are.
+    pub fn derived_functions(&self) -> usize
+        ensures { result ≡ length (derived_of (spec_of self.now.spec)) }
+    {
+        self.bodies.derived.len()
     }
 
     /// The parameters and the body of the derived function with this number.
