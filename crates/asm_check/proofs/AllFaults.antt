@@ -27,7 +27,7 @@ use Rattle.asm_check.proofs.Listed.{IsListed}
 use Rattle.asm_check.proofs.Ranks.{in_filter, rules_begun, derived_begun}
 use Rattle.asm_check.proofs.Soonest.{least_from_soonest, well_formed_from_soonest}
 
-from_filter : {X : Type 0} (p : X → Bool) (xs : List X) (x : X) → Contains (filter p xs) x → Contains xs x × (p x ≡ true)
+pub from_filter : {X : Type 0} (p : X → Bool) (xs : List X) (x : X) → Contains (filter p xs) x → Contains xs x × (p x ≡ true)
 from_filter p [] x c = absurd (Contains-none x c)
 from_filter p (y ∷ xs) x c = by_test (p y) refl c (from_filter p xs x)
   where

@@ -26,16 +26,16 @@ adds_more a b c us vs p q = record {
 pub same_bound : (a b : Collector) (us : List Use) → Adds a b us → bound_of b ≡ bound_of a
 same_bound a b us p = rw (p.binders, p.parameters) refl
 
-pub count_terms : (ts : List Term) → term_count (terms_of (map term_of ts)) ≡ length ts
-count_terms [] = refl
-count_terms (t ∷ ts) = cc (count_terms ts)
+pub terms_are_counted : (ts : List Term) → term_count (terms_of (map term_of ts)) ≡ length ts
+terms_are_counted [] = refl
+terms_are_counted (t ∷ ts) = cc (terms_are_counted ts)
 
 -- a name with its arguments
 pub adds_applied : (role : Role) (name : Name) (ts : List Term) (n : ℕ) (a b c : Collector) → n ≡ length ts
     → Adds a b (use_of role (name_of name) n (bound_of a) ∷ []) → Adds b c (uses_of_terms (terms_of (map term_of ts)) (bound_of b))
     → Adds a c (use_of role (name_of name) (term_count (terms_of (map term_of ts))) (bound_of a) ∷ uses_of_terms (terms_of (map term_of ts)) (bound_of a))
 adds_applied role name ts n a b c e p q =
-    let named : Adds a b (use_of role (name_of name) (term_count (terms_of (map term_of ts))) (bound_of a) ∷ []) = subst (λ k. Adds a b (use_of role (name_of name) k (bound_of a) ∷ [])) (e ∙ sym (count_terms ts)) p in
+    let named : Adds a b (use_of role (name_of name) (term_count (terms_of (map term_of ts))) (bound_of a) ∷ []) = subst (λ k. Adds a b (use_of role (name_of name) k (bound_of a) ∷ [])) (e ∙ sym (terms_are_counted ts)) p in
     let inside : Adds b c (uses_of_terms (terms_of (map term_of ts)) (bound_of a)) = subst (λ xs. Adds b c (uses_of_terms (terms_of (map term_of ts)) xs)) (same_bound a b (use_of role (name_of name) n (bound_of a) ∷ []) p) q in
     adds_more a b c (use_of role (name_of name) (term_count (terms_of (map term_of ts))) (bound_of a) ∷ []) (uses_of_terms (terms_of (map term_of ts)) (bound_of a)) named inside
 

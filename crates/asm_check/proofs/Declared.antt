@@ -75,7 +75,7 @@ stands (d ∷ ds) f m found =
 
 -- ---- the uses in a body are among all uses
 
-abbrev uses_of_meaning : Meaning → List Use
+abbrev pub uses_of_meaning : Meaning → List Use
 uses_of_meaning (NamedRule xs P) = uses_of_rule P (rule_scope xs)
 uses_of_meaning (Derived xs t) = uses_of_term t (map text_of xs)
 uses_of_meaning m = []
@@ -125,12 +125,16 @@ none_before us (x ∷ xs) d c =
       | inr rest ↦ none_before us xs d rest
     ]
 
+pub uses_stand : (spec : Spec) (d : Declaration) → Contains (predeclared ++ declarations_from 0 spec.items) d → (u : Use) → Contains (uses_of_meaning d.meaning) u → Contains (uses spec) u
+unfolding uses
+uses_stand spec d stands u mine =
+    elim (Contains-append_cases predeclared (declarations_from 0 spec.items) d stands) [
+      | inl bad ↦ none_before (flat_map uses_of spec.items) predeclared_names d bad u mine
+      | inr given ↦ of_items 0 spec.items d given u mine
+    ]
+
 pub body_uses : (spec : Spec) (f : Text) (m : Meaning) → declared spec f ≡ Some m → (u : Use) → Contains (uses_of_meaning m) u → Contains (uses spec) u
-unfolding declared declarations uses
+unfolding declared declarations
 body_uses spec f m found u it =
     let first = stands (declarations spec) f m found in
-    let mine : Contains (uses_of_meaning first.0.meaning) u = subst (λ m. Contains (uses_of_meaning m) u) (sym first.2) it in
-    elim (Contains-append_cases predeclared (declarations_from 0 spec.items) first.0 first.1) [
-      | inl bad ↦ none_before (flat_map uses_of spec.items) predeclared_names first.0 bad u mine
-      | inr given ↦ of_items 0 spec.items first.0 given u mine
-    ]
+    uses_stand spec first.0 first.1 u (subst (λ m. Contains (uses_of_meaning m) u) (sym first.2) it)

@@ -244,10 +244,18 @@ in_uses : (spec : Spec) (item : Item) → Contains spec.items item → (u : Use)
 unfolding uses
 in_uses spec item it u c = Contains-flat_map uses_of spec.items item u it c
 
+-- a rule is fit whose uses are among those of the specification
+pub rule_fits : (spec : Spec) → IsWellFormed spec → (R : Rule) (bound : List Text) → ((u : Use) → Contains (uses_of_rule R bound) u → Contains (uses spec) u) → IsFitRule spec R bound
+rule_fits spec good R bound among = fit_rule spec R bound (λ u c. good_use spec good u (among u c))
+
+-- and so is a term
+pub term_fits : (spec : Spec) → IsWellFormed spec → (t : Term) (bound : List Text) → ((u : Use) → Contains (uses_of_term t bound) u → Contains (uses spec) u) → IsFitTerm spec t bound
+term_fits spec good t bound among = fit_term spec t bound (λ u c. good_use spec good u (among u c))
+
 pub bodies_are_fit : BodiesAreFit
 bodies_are_fit spec good = record {
-  rules = λ f xs P is. fit_rule spec P (rule_scope xs) (λ u c. good_use spec good u (body_uses spec f (NamedRule xs P) is u c));
-  derived = λ f xs t is. fit_term spec t (map text_of xs) (λ u c. good_use spec good u (body_uses spec f (Derived xs t) is u c));
+  rules = λ f xs P is. rule_fits spec good P (rule_scope xs) (body_uses spec f (NamedRule xs P) is);
+  derived = λ f xs t is. term_fits spec good t (map text_of xs) (body_uses spec f (Derived xs t) is);
   functions = λ x kind domain codomain table it. fit_function spec domain codomain table (λ u c. good_use spec good u (in_uses spec (source.Function x kind domain codomain table) it u c));
   start = starts spec good (inits spec) refl;
 }

@@ -20,6 +20,7 @@ pub mod Examples
 pub mod FaultLists
 pub mod Firsts
 pub mod Fit
+pub mod FitScopes
 pub mod Gathering
 pub mod Heights
 pub mod Inits
@@ -37,6 +38,7 @@ pub mod NameNumbers
 pub mod NamesNumbered
 pub mod Noted
 pub mod Numbered
+pub mod NumberedBodies
 pub mod OneLeast
 pub mod IndicesWhere
 pub mod Positioned

@@ -3,6 +3,7 @@
 --     IsFitFunction spec domain codomain table           so it is in the declaration of a function
 --     HasStart spec                                      the one starting rule
 --     IsReady spec                                       all of it
+--     HasFitBodies spec                                  so it is in each rule and each derived function, by its number
 use Rattle.std.specs.Prelude.{◌≡◌, ◌⊎◌, ℕ, false, List, [], ◌∷◌, map, length, Contains, Option, Some, None}
 use Rattle.asm_state.specs.declared.function.FunctionKind.{FunctionKind}
 use Rattle.asm_syntax.specs.SourceTree as source
@@ -147,3 +148,7 @@ module _ (spec : Spec) where
     pub functions : (x : Name) (kind : FunctionKind) (domain : List Name) (codomain : Option Name) (table : Option Given)
         → Contains spec.items (source.Function x kind domain codomain table) → IsFitFunction domain codomain table
     pub start : HasStart
+
+  pub record HasFitBodies : Type 0 where
+    pub rules : (r : ℕ) (xs : List Name) (P : Rule) → meaning_at (rules_of spec) r ≡ Some (NamedRule xs P) → IsFitRule P (rule_scope xs)
+    pub derived : (d : ℕ) (xs : List Name) (t : Term) → meaning_at (derived_of spec) d ≡ Some (Derived xs t) → IsFitTerm t (map text_of xs)

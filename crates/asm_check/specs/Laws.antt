@@ -1,20 +1,25 @@
 -- Laws of faults.
-use Rattle.std.specs.Prelude.{◌≡◌, ◌≢◌, ◌≤◌, ◌⊎◌, ℕ, true, List, length, slice_get, Option, Some, Contains}
+use Rattle.std.specs.Prelude.{◌≡◌, ◌≢◌, ◌≤◌, ◌⊎◌, ◌↔◌, ℕ, true, List, map, length, slice_get, Option, Some, Contains}
 use Rattle.asm_state.specs.declared.element.TheConstants.{ELEMENTS}
+use Rattle.asm_state.specs.declared.limits.TheConstants.{DOMAIN}
 use Rattle.asm_state.specs.declared.function.Function as state
 use Rattle.asm_state.specs.Fits.{Fits}
 use Rattle.asm_state.specs.Signature.{IsSound}
 use Rattle.asm_state.specs.Universe.{element}
 use Rattle.asm_state.specs.declared.function.FunctionKind.{FunctionKind}
 use Rattle.asm_syntax.specs.SourceTree as source
-use Rattle.asm_syntax.specs.SourceTree.{Name, Given, Spec}
-use Rattle.asm_check.specs.Names.{Text, Declaration, Meaning, declares, declared, function_of, is_text, Predeclared, Enumeration, Element}
+use Rattle.asm_syntax.specs.SourceTree.{Name, Term, Rule, Given, Spec}
+use Rattle.asm_syntax.specs.Views.{term_of, terms_of}
+use Rattle.asm_syntax.specs.declared.term.Term as code
+use Rattle.asm_check.specs.Names.{Text, Declaration, Meaning, declares, declared, function_of, is_text, term_count, Predeclared, Enumeration, Element}
+use Rattle.asm_check.specs.Limits.{domain_of}
 use Rattle.asm_check.specs.Sizes.{IsWithinLimits}
 use Rattle.asm_check.specs.Faults.{IsLeastFault, IsWellFormed}
 use Rattle.asm_check.specs.Ranks.{HasRanks}
-use Rattle.asm_check.specs.Fit.{IsReady}
+use Rattle.asm_check.specs.Fit.{IsFitTerm, IsFitRule, IsReady, HasFitBodies}
 use Rattle.asm_check.specs.Introduced.{HasNamesApart, HasMeanings}
 use Rattle.asm_check.specs.Numbers.{universes_of, elements_of, functions_of, derived_of, rules_of, meaning_at, named}
+use Rattle.asm_check.specs.NumberTables.{IsInRange}
 use Rattle.asm_check.specs.declared.checked.Named.{Named}
 use Rattle.asm_check.specs.declared.checked.Named.TheVariants as number
 use Rattle.asm_check.specs.Shapes.{universe_values, function_given, shape_of}
@@ -44,9 +49,30 @@ ItemsAreDeclared = (spec : Spec) → IsWellFormed spec → HasMeanings spec
 abbrev pub BodiesAreFit : Type 0
 BodiesAreFit = (spec : Spec) → IsWellFormed spec → IsReady spec
 
+-- the same of each rule and each derived function, by its number
+abbrev pub NumberedBodiesAreFit : Type 0
+NumberedBodiesAreFit = (spec : Spec) → IsWellFormed spec → HasFitBodies spec
+
+-- where a term or a rule is fit under some bound names, it is so wherever the same names are bound
+abbrev pub ScopesByMembers : Type 0
+ScopesByMembers = (spec : Spec) (xs ys : List Text) → ((x : Text) → Contains xs x ↔ Contains ys x)
+    → ((t : Term) → IsFitTerm spec t xs → IsFitTerm spec t ys) × ((R : Rule) → IsFitRule spec R xs → IsFitRule spec R ys)
+
+-- the number of arguments is that of the code's terms
+abbrev pub TermsAreCounted : Type 0
+TermsAreCounted = (ts : List code.Term) → term_count (terms_of (map term_of ts)) ≡ length ts
+
+-- the number that a name stands for is below that of its like
+abbrev pub NamedInRange : Type 0
+NamedInRange = (spec : Spec) (x : Text) → IsInRange spec (named spec x)
+
 -- a well-formed specification passes no limit
 abbrev pub LimitsHold : Type 0
 LimitsHold = (spec : Spec) → IsWellFormed spec → IsWithinLimits spec
+
+-- and no function with a number has too many universes
+abbrev pub NumberedDomainsAreFew : Type 0
+NumberedDomainsAreFew = (spec : Spec) → IsWellFormed spec → (f : ℕ) (m : Meaning) → meaning_at (functions_of spec) f ≡ Some m → length (domain_of m) ≤ DOMAIN
 
 -- what a well-formed specification declares fits into a signature
 abbrev pub SignatureFits : Type 0

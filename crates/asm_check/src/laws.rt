@@ -1,6 +1,6 @@
 //! Laws of faults, and what a specification without faults has.
 ghost use Rattle.asm_check.specs.BoundLaws.{BoundLaws};
-ghost use Rattle.asm_check.specs.Laws.{LeastIsOnly, LeastExists, RanksExist, NamesAreApart, ItemsAreDeclared, BodiesAreFit, LimitsHold, SignatureFits, ShapeIsSound, SignatureNumbers, NamesHaveNumbers, TextsAreTold};
+ghost use Rattle.asm_check.specs.Laws.{LeastIsOnly, LeastExists, RanksExist, NamesAreApart, ItemsAreDeclared, BodiesAreFit, NumberedBodiesAreFit, ScopesByMembers, TermsAreCounted, LimitsHold, NumberedDomainsAreFew, SignatureFits, ShapeIsSound, SignatureNumbers, NamesHaveNumbers, NamedInRange, TextsAreTold};
 
 /// A specification has at most one least fault.
 pub fn least_is_only()
@@ -32,9 +32,29 @@ pub fn bodies_are_fit()
     ensures { BodiesAreFit }
 {}
 
+/// In a well-formed specification so it is in each rule and each derived function, by its number.
+pub fn numbered_bodies_are_fit()
+    ensures { NumberedBodiesAreFit }
+{}
+
+/// Which names are bound decides whether a term or a rule is fit, and not their order.
+pub fn scopes_by_members()
+    ensures { ScopesByMembers }
+{}
+
+/// A name has as many arguments as the code's tree has terms behind it.
+pub fn terms_are_counted()
+    ensures { TermsAreCounted }
+{}
+
 /// A well-formed specification passes no limit.
 pub fn limits_hold()
     ensures { LimitsHold }
+{}
+
+/// No function of a well-formed specification has too many universes.
+pub fn numbered_domains_are_few()
+    ensures { NumberedDomainsAreFew }
 {}
 
 /// What a well-formed specification declares fits into a signature.
@@ -55,6 +75,11 @@ pub fn signature_numbers()
 /// The number of a name leads to what the name is declared as.
 pub fn names_have_numbers()
     ensures { NamesHaveNumbers }
+{}
+
+/// The number that a name stands for is below the count of its like.
+pub fn named_in_range()
+    ensures { NamedInRange }
 {}
 
 /// Two names are the same where the test of their texts passes, and nowhere else.

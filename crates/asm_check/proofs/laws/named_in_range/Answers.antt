@@ -1,0 +1,5 @@
+use Rattle.asm_check.proofs.Readers.{named_in_range}
+use Rattle.asm_check.proofs.laws.named_in_range.Goals as goal
+
+pub returns : goal.returns
+returns c = named_in_range

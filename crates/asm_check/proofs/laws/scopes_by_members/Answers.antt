@@ -1,0 +1,5 @@
+use Rattle.asm_check.proofs.FitScopes.{scopes_by_members}
+use Rattle.asm_check.proofs.laws.scopes_by_members.Goals as goal
+
+pub returns : goal.returns
+returns c = scopes_by_members

@@ -1,0 +1,5 @@
+use Rattle.asm_check.proofs.Collecting.{terms_are_counted}
+use Rattle.asm_check.proofs.laws.terms_are_counted.Goals as goal
+
+pub returns : goal.returns
+returns c = terms_are_counted
