@@ -21,7 +21,7 @@ impl Value {
             Value::Truth(false) => 2,
             Value::Truth(true) => 3,
             Value::Number(value) => (value + 100_000_000_000_000_004) as u64,
-            Value::Element(index) => 2_000_000_000_000_005 + u64::from(index),
+            Value::Element(index) => 200_000_000_000_000_005 + u64::from(index),
         }
     }
 }

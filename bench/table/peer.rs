@@ -42,7 +42,7 @@ impl Places {
 
 /// The code of an element of an enumeration.
 fn code(index: u32) -> u64 {
-    2_000_000_000_000_005 + u64::from(index)
+    200_000_000_000_000_005 + u64::from(index)
 }
 
 /// Word 0 stands for nothing, and words 2 n + 1 and 2 n + 2 are the low and the high word of location n.

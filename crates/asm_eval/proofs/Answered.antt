@@ -19,10 +19,11 @@ use Rattle.asm_eval.specs.declared.env.Env.{Env}
 use Rattle.asm_eval.specs.declared.env.Env.TheVariants as env
 use Rattle.asm_eval.specs.declared.env.Binding.{Binding as Found}
 use Rattle.asm_eval.specs.declared.env.Binding.TheVariants as found
-use Rattle.asm_eval.specs.Targets.{bound_location, location_of}
+use Rattle.asm_meaning.specs.Targets.{bound_location, location_of}
 use Rattle.asm_eval.proofs.Bound.{is_of, value_at, term_at, bound_value, bound_term}
-use Rattle.asm_eval.specs.Environments.{environment, binding, text_of, location_numbered, bound_around}
-use Rattle.asm_eval.specs.Program.{Environment, Declared, Binding, ToValue, ToTerm, ToLocation, bind_terms, bound_to, is_name, located}
+use Rattle.asm_eval.specs.Environments.{environment, binding, location_numbered, bound_around}
+use Rattle.asm_meaning.specs.Meant.{text_of}
+use Rattle.asm_meaning.specs.Program.{Environment, Declared, Binding, ToValue, ToTerm, ToLocation, bind_terms, bound_to, is_name, located}
 
 module _ (shape : Shape) (x : Name) (inner : Environment) where
   to_some : (l : Location) (o : Option Location) → is_name result x ≡ true → o ≡ Some l → bound_to (located o inner) x ≡ option_map ToLocation o

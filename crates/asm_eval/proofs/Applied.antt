@@ -12,14 +12,15 @@ use Rattle.asm_check.specs.Numbers.{named}
 use Rattle.asm_check.specs.Ranks.{derived_rank}
 use Rattle.asm_check.specs.declared.checked.Checked.{Checked}
 use Rattle.asm_check.specs.declared.checked.Named.{Named as Number}
-use Rattle.asm_eval.specs.Program.{Program, Declared, Derived, declared, Environment, bound_to}
-use Rattle.asm_eval.specs.Declarations.{numbered}
-use Rattle.asm_eval.specs.TermCases.{TermCases}
-use Rattle.asm_eval.specs.Value.{applied, value, values, nesting}
-use Rattle.asm_eval.specs.Valued.{program, shown, term_value, named_value, declared_value}
-use Rattle.asm_eval.specs.declared.view.View.{View}
-use Rattle.asm_eval.proofs.TermCases.{inner, of_unbound}
-use Rattle.asm_eval.proofs.Meant.{program_declares}
+use Rattle.asm_meaning.specs.Program.{Program, Declared, Derived, declared, Environment, bound_to}
+use Rattle.asm_meaning.specs.Declarations.{numbered}
+use Rattle.asm_meaning.specs.TermCases.{TermCases}
+use Rattle.asm_meaning.specs.Value.{applied, value, values, nesting}
+use Rattle.asm_meaning.specs.Valued.{program, shown, term_value, named_value, declared_value}
+use Rattle.asm_meaning.specs.declared.view.View.{View}
+use Rattle.asm_meaning.specs.Value.{inner}
+use Rattle.asm_meaning.proofs.TermCases.{unbound_names as of_unbound}
+use Rattle.asm_meaning.proofs.Meant.{program_declares}
 use Rattle.asm_eval.proofs.Evaluating.{cases, is_low}
 
 -- a derived function's body is valued with the values of the arguments, and what else a name is declared as has its own value

@@ -27,15 +27,17 @@ use Rattle.asm_eval.specs.declared.beneath.Descent.{Descent}
 use Rattle.asm_eval.specs.declared.env.Env.{Env}
 use Rattle.asm_eval.specs.declared.evaluation.Evaluation.{Evaluation}
 use Rattle.asm_eval.specs.Beneath.{IsBeneath}
-use Rattle.asm_eval.specs.Evaluated.{setting, outcome_at, meant, meant_branch, meant_target, meant_term, meant_terms}
-use Rattle.asm_eval.specs.Environments.{text_of}
-use Rattle.asm_eval.specs.Valued.{program, branch}
-use Rattle.asm_eval.specs.Weights.{RuleWeightsFall, rule_weight}
-use Rattle.asm_eval.specs.Yields.{Path, at}
-use Rattle.asm_eval.proofs.CalledRules.{declared_rule, weight_is}
-use Rattle.asm_eval.proofs.FormedRules.{rules_in, in_body}
-use Rattle.asm_eval.proofs.Ranked.{rules_ranked, rule_rank_low}
-use Rattle.asm_eval.proofs.Weights.{call_weights_fall}
+use Rattle.asm_eval.specs.Evaluated.{setting, outcome_at}
+use Rattle.asm_meaning.specs.Meant.{meant, meant_branch, meant_target, meant_term, meant_terms}
+use Rattle.asm_meaning.specs.Meant.{text_of}
+use Rattle.asm_meaning.specs.Valued.{program, branch}
+use Rattle.asm_meaning.specs.Weights.{RuleWeightsFall, rule_weight}
+use Rattle.asm_meaning.specs.Yields.{Path, at}
+use Rattle.asm_eval.proofs.CalledRules.{declared_rule}
+use Rattle.asm_meaning.proofs.TreeWeights.{tree_weights-rule as weight_is}
+use Rattle.asm_meaning.specs.TreeWeights.{rules_in, in_body}
+use Rattle.asm_meaning.proofs.Ranked.{declared_ranks-rules as rules_ranked, declared_ranks-rule_low as rule_rank_low}
+use Rattle.asm_meaning.proofs.Weights.{call_weights_fall}
 
 pub weights_fall : (checked : Checked) → RuleWeightsFall (program checked) (rule_rank (spec_of checked.spec))
 weights_fall checked = call_weights_fall (program checked) (rule_rank (spec_of checked.spec)) (rules_ranked (spec_of checked.spec) checked.well_formed)

@@ -9,8 +9,9 @@ use Rattle.asm_syntax.specs.PlainTree.{plain_term, plain_terms}
 use Rattle.asm_syntax.specs.declared.name.Name as syntax
 use Rattle.asm_syntax.specs.declared.term.Term.{Term}
 use Rattle.asm_syntax.specs.Tree.{Name}
-use Rattle.asm_eval.specs.Program.{Environment, bind_values, bind_terms, Binding, ToValue, ToTerm, bound_to, is_name}
-use Rattle.asm_eval.specs.Environments.{text_of, beside}
+use Rattle.asm_meaning.specs.Program.{Environment, bind_values, bind_terms, Binding, ToValue, ToTerm, bound_to, is_name}
+use Rattle.asm_eval.specs.Environments.{beside}
+use Rattle.asm_meaning.specs.Meant.{text_of}
 
 -- the index in a list that has one member more in front
 position_cons : {X : Type 0} (test : X → Bool) (y : X) (ys : List X) → position test (y ∷ ys) ≡ cond (test y) (Some 0) (option_map suc (position test ys))

@@ -8,15 +8,15 @@ use Rattle.asm_syntax.specs.Views.{term_of, links_of}
 use Rattle.asm_syntax.specs.declared.term.Term.{Term}
 use Rattle.asm_syntax.specs.declared.term.Term.TheVariants as term
 use Rattle.asm_check.specs.declared.checked.Checked.{Checked}
-use Rattle.asm_eval.specs.Program.{Program, Environment}
-use Rattle.asm_eval.specs.TermCases.{chain_value}
-use Rattle.asm_eval.specs.Value.{value}
-use Rattle.asm_eval.specs.Valued.{program, shown, term_value}
-use Rattle.asm_eval.specs.Weights.{weight, WeightsFall}
-use Rattle.asm_eval.specs.declared.view.View.{View}
+use Rattle.asm_meaning.specs.Program.{Program, Environment}
+use Rattle.asm_meaning.specs.TermCases.{chain_value}
+use Rattle.asm_meaning.specs.Value.{value}
+use Rattle.asm_meaning.specs.Valued.{program, shown, term_value}
+use Rattle.asm_meaning.specs.Weights.{weight, WeightsFall}
+use Rattle.asm_meaning.specs.declared.view.View.{View}
 use Rattle.asm_eval.proofs.Evaluating.{cases, falls}
-use Rattle.asm_eval.proofs.Measures.{term_weight, link_of}
-use Rattle.asm_eval.proofs.PlainForms.{plain_chain}
+use Rattle.asm_meaning.specs.TreeWeights.{term_weight, link_of}
+use Rattle.asm_meaning.proofs.PlainForms.{plain_terms-chain as plain_chain}
 
 -- the plain links of the code's
 abbrev pub plain_rest : List (Op × Term) → tree.Links

@@ -4,15 +4,15 @@ use Rattle.asm_syntax.specs.Tree.{Name}
 use Rattle.asm_syntax.specs.Views.{spec_of}
 use Rattle.asm_check.specs.Ranks.{derived_rank}
 use Rattle.asm_check.specs.declared.checked.Checked.{Checked}
-use Rattle.asm_eval.specs.Program.{Environment}
-use Rattle.asm_eval.specs.TermCases.{TermCases}
-use Rattle.asm_eval.specs.Value.{nesting}
-use Rattle.asm_eval.specs.Valued.{program, shown}
-use Rattle.asm_eval.specs.Weights.{WeightsFall}
-use Rattle.asm_eval.specs.declared.view.View.{View}
-use Rattle.asm_eval.proofs.TermCases.{valued_by_cases}
-use Rattle.asm_eval.proofs.Weights.{term_weights_fall}
-use Rattle.asm_eval.proofs.Ranked.{ranked, rank_low}
+use Rattle.asm_meaning.specs.Program.{Environment}
+use Rattle.asm_meaning.specs.TermCases.{TermCases}
+use Rattle.asm_meaning.specs.Value.{nesting}
+use Rattle.asm_meaning.specs.Valued.{program, shown}
+use Rattle.asm_meaning.specs.Weights.{WeightsFall}
+use Rattle.asm_meaning.specs.declared.view.View.{View}
+use Rattle.asm_meaning.proofs.TermCases.{valued_by_cases}
+use Rattle.asm_meaning.proofs.Weights.{term_weights_fall}
+use Rattle.asm_meaning.proofs.Ranked.{declared_ranks-derived as ranked, declared_ranks-derived_low as rank_low}
 
 pub cases : (checked : Checked) (view : View) (e : Environment) → TermCases (program checked) (derived_rank (spec_of checked.spec)) (shown view) e
 cases checked view e = valued_by_cases (program checked) (derived_rank (spec_of checked.spec)) (shown view) e (ranked (spec_of checked.spec) checked.well_formed)

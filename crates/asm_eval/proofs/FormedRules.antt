@@ -1,21 +1,16 @@
 -- How a summary and a count of instances come to hold what a rule of the code does.
---     forms_nothing, forms_both, forms_counted     of nothing, of two parts, and with one more instance;  forms_same     of an equal outcome
---     stopped_with                                 where forming stops, for what is exhausted together
---     follows_same, follows_nothing, follows_both, follows_counted      the same of what a call promises
---     follows_stopped                              of an error that is handed on
 --     left_to_form, part_is_less                   how far the code has still to go down;  that a part is further down
 --     rule_does, branch_does, rules_do, each_does  what rules of the code do: one, a branch, some beside each other, one for each element
 -- A lemma whose name ends in _does says what a form of rule does, by what its parts do, or what a turn of a loop adds to the turns after it.
-use Rattle.std.proofs.Common.{◌≡◌, ℕ, zero, suc, ◌+◌, ◌*◌, ◌≤◌, ◌<◌, Bool, true, false, cond, min, List, [], ◌∷◌, length, map, drop, slice_index_or, ◌%◌, Option, Some, None, Box, Vec, Global, refl, sym, ap, subst, ◌∙◌, arith, add-one}
-use Rattle.std.specs.Prelude.{slice_get, Result, Ok, Err, IsErrAnd}
-use Rattle.std.proofs.lemmas.Result.{IfErr-at_err}
+use Rattle.std.proofs.Common.{◌≡◌, ℕ, zero, suc, ◌+◌, ◌*◌, ◌≤◌, ◌<◌, Bool, true, false, cond, min, List, [], ◌∷◌, length, map, drop, slice_index_or, Option, Some, None, Box, Vec, Global, sym, ap, subst, ◌∙◌, arith, add-one}
+use Rattle.std.specs.Prelude.{slice_get}
 use Rattle.std.proofs.lemmas.List.{at_drop_more, drop_all}
 use Rattle.std.proofs.lemmas.Option.{slice_get-get_or}
 use Rattle.std.proofs.lemmas.Option.{slice_get_within, get_or_from_slice_get}
 use Rattle.asm_state.specs.declared.value.Value.{Value}
 use Rattle.asm_state.specs.Location.{Location, Stray, State}
 use Rattle.asm_state.specs.Signature.{Shape, count_of, locations, location_at}
-use Rattle.asm_state.specs.Updates.{UpdateSet, none, one, together}
+use Rattle.asm_state.specs.Updates.{UpdateSet, none, one}
 use Rattle.asm_state.proofs.Algebra.{union_laws}
 use Rattle.asm_updates.specs.Entries.{Entries}
 use Rattle.asm_updates.specs.Stands.{Stands, Adds}
@@ -33,186 +28,50 @@ use Rattle.asm_reader.specs.ScriptLines.{pick}
 use Rattle.asm_reader.specs.declared.picks.Picks.{Ghosts}
 use Rattle.asm_eval.specs.declared.binder.Binder.{Binder}
 use Rattle.asm_eval.specs.declared.evaluation.Evaluation.{Evaluation}
-use Rattle.asm_eval.specs.declared.outcome.Forming.{Forming}
-use Rattle.asm_eval.specs.declared.stopped.Stopped.{Stopped}
-use Rattle.asm_eval.specs.declared.stopped.Stopped.TheVariants as stopped
-use Rattle.asm_eval.specs.Does.{Outcome, nothing, both, counted, parts, in_order, turns_of, each, one_of}
-use Rattle.asm_eval.specs.Evaluated.{setting, state_at, meant, meant_rules, meant_branch, meant_choose, meant_forall, meant_term, meant_terms}
-use Rattle.asm_eval.specs.Formed.{Forms, Follows, IsStoppedAt, greatest_count}
-use Rattle.asm_eval.specs.Cases.{ScriptedCases, runs, all_run}
+use Rattle.asm_meaning.specs.Does.{Outcome, nothing, both, counted, parts, in_order, turns_of, each}
+use Rattle.asm_eval.specs.Evaluated.{setting, state_at, meant_choose, meant_forall}
+use Rattle.asm_meaning.specs.Meant.{meant, meant_rules, meant_branch, meant_term, meant_terms}
+use Rattle.asm_meaning.specs.Formed.{Forms, greatest_count}
+use Rattle.asm_meaning.specs.Cases.{ScriptedCases, runs, all_run}
 use Rattle.asm_eval.specs.Scenes.{is_candidate, scene_candidates, with_element}
-use Rattle.asm_eval.specs.Setting.{Setting, outcome}
+use Rattle.asm_meaning.specs.Setting.{Setting, outcome}
 use Rattle.asm_eval.specs.Environments.{location_numbered}
-use Rattle.asm_eval.specs.Program.{Environment, declared, with_value}
-use Rattle.asm_eval.specs.Targets.{location, update}
-use Rattle.asm_eval.specs.Taken.{taken}
-use Rattle.asm_eval.specs.Value.{is_true, universe}
-use Rattle.asm_eval.specs.Valued.{program, term_value, condition}
-use Rattle.asm_eval.specs.Weights.{called_size, rule_size_within}
-use Rattle.asm_eval.specs.Yields.{Path, Gives, Exhausted, at, beside}
-use Rattle.asm_eval.proofs.Beside.{right_unit}
-use Rattle.asm_eval.proofs.Cases.{scripted_by_cases}
-use Rattle.asm_eval.proofs.ExhaustedPaths.{first_part_first, first_element_first}
-use Rattle.asm_eval.proofs.Ranked.{rules_ranked}
+use Rattle.asm_meaning.specs.Program.{Environment, with_value}
+use Rattle.asm_meaning.specs.Targets.{location, update}
+use Rattle.asm_meaning.specs.Taken.{taken}
+use Rattle.asm_meaning.specs.TreeWeights.{rules_in, rules_in_all, in_body}
+use Rattle.asm_meaning.specs.Value.{is_true, universe}
+use Rattle.asm_meaning.specs.Valued.{program, term_value, condition}
+use Rattle.asm_meaning.specs.Yields.{Path, Gives, Exhausted, at, beside}
+use Rattle.asm_meaning.proofs.Candidates.{candidate_laws-some as some_taken, candidate_laws-none as none_taken}
+use Rattle.asm_meaning.proofs.Cases.{scripted_by_cases}
+use Rattle.asm_meaning.proofs.ExhaustedLaws.{exhausted_laws}
+use Rattle.asm_meaning.proofs.Ranked.{declared_ranks-rules as rules_ranked}
 
--- ---- what is added
+-- ---- nothing is added
 
--- the count is cut off, whether once or twice
 same_count : (n g : ℕ) → n ≤ g → n ≡ min (n + 0) g
 same_count n g small = omega arith
 
-count_twice : (n a b g : ℕ) → min (min (n + a) g + b) g ≡ min (n + (a + b)) g
-count_twice n a b g = omega arith
-
-module _ (shape : Shape) where
-  adds_none : (s : Entries) → Adds shape none s s
-  adds_none s U stands = subst (Stands shape s) (sym (right_unit U)) stands
-
-  -- one set after another
-  adds_both : (old mid new : Entries) (V W : UpdateSet) → Adds shape V old mid → Adds shape W mid new → Adds shape (together V W) old new
-  adds_both old mid new V W first then U stands = subst (Stands shape new) (union_laws.group U V W) (then (together U V) (first U stands))
-
-  pub forms_same : (o q : Outcome) (old new : Entries) (before after : ℕ) → o ≡ q → Forms shape o old new before after → Forms shape q old new before after
-  forms_same o q old new before after e = subst (λ it. Forms shape it old new before after) e
-
-  pub forms_nothing : (s : Entries) (n : ℕ) → n ≤ greatest_count → Forms shape nothing s s n n
-  forms_nothing s n small = record { set = none; gives = refl; adds = adds_none s; counts = same_count n greatest_count small }
-
-  pub forms_both : (o q : Outcome) (old mid new : Entries) (before n after : ℕ)
-      → Forms shape o old mid before n → Forms shape q mid new n after → Forms shape (both o q) old new before after
-  forms_both o q old mid new before n after first then = record {
-    set = together first.set then.set;
-    gives = ap (λ r. beside r q.result) first.gives ∙ ap (beside (Gives first.set)) then.gives;
-    adds = adds_both old mid new first.set then.set first.adds then.adds;
-    counts = then.counts ∙ ap (λ m. min (m + q.instances) greatest_count) first.counts ∙ count_twice before o.instances q.instances greatest_count;
-  }
-
-  -- an instance is counted first
-  pub forms_counted : (o : Outcome) (old new : Entries) (before more after : ℕ) → more ≡ min (before + 1) greatest_count
-      → Forms shape o old new more after → Forms shape (counted o) old new before after
-  forms_counted o old new before more after is formed = record {
-    set = formed.set;
-    gives = formed.gives;
-    adds = formed.adds;
-    counts = formed.counts ∙ ap (λ m. min (m + o.instances) greatest_count) is ∙ count_twice before 1 o.instances greatest_count;
-  }
-
--- ---- where it stopped
-
--- what is exhausted together is exhausted at the same path
-pub stopped_with : (o q : Outcome) (p : Path) (stop : Stopped) → ((at : Path) → o.result ≡ Exhausted at → q.result ≡ Exhausted at) → IsStoppedAt o p stop → IsStoppedAt q p stop
-stopped_with o q p stopped.Memory ends is = tt
-stopped_with o q p stopped.Exhausted ends is = ends p is
-
--- ---- what a call promises, whichever way it ends
-
-module _ {T : Type 0} (shape : Shape) where
-  -- of an equal outcome
-  pub follows_same : (r : Result T Stopped) (o q : Outcome) (old new : Forming) → o ≡ q → Follows shape o old new r → Follows shape q old new r
-  follows_same r o q old new e = subst (λ it. Follows shape it old new r) e
-
-  -- where nothing is to be formed
-  pub follows_nothing : (x : T) (o : Outcome) (made : Forming) → nothing ≡ o → Follows shape o made made (Ok x)
-  follows_nothing x o made e = record {
-    count = refl;
-    path = refl;
-    formed = forms_same shape nothing o made.set made.set made.instances made.instances e (forms_nothing shape made.set made.instances (omega (arith, made.in_range)));
-    exhausted = tt;
-  }
-
-  -- of two parts, after the first of which there is a set
-  pub follows_both : {S : Type 0} (x : S) (r : Result T Stopped) (o q : Outcome) (old mid new : Forming)
-      → Follows shape o old mid (Ok x) → Follows shape q mid new r → Follows shape (both o q) old new r
-  follows_both x (Ok y) o q old mid new first then = record {
-    count = then.count ∙ first.count;
-    path = then.path ∙ first.path;
-    formed = forms_both shape o q old.set mid.set new.set old.instances mid.instances new.instances first.formed then.formed;
-    exhausted = tt;
-  }
-  follows_both x (Err stop) o q old mid new first then = record {
-    count = then.count ∙ first.count;
-    path = tt;
-    formed = tt;
-    exhausted = stopped_with q (both o q) new.path.items stop
-        (λ p ends. ap (λ it. beside it q.result) first.formed.gives ∙ ap (beside (Gives first.formed.set)) ends) then.exhausted;
-  }
-
-  -- with one more instance, counted first
-  pub follows_counted : (r : Result T Stopped) (o : Outcome) (old mid new : Forming) → mid.set ≡ old.set → mid.path.items ≡ old.path.items
-      → mid.instances ≡ min (old.instances + 1) greatest_count → Follows shape o mid new r → Follows shape (counted o) old new r
-  follows_counted (Ok x) o old mid new same stays is then = record {
-    count = then.count ∙ ap (λ (s : Entries). s.count) same;
-    path = then.path ∙ stays;
-    formed = subst (λ s. Forms shape (counted o) s new.set old.instances new.instances) same
-        (forms_counted shape o mid.set new.set old.instances mid.instances new.instances is then.formed);
-    exhausted = tt;
-  }
-  follows_counted (Err stop) o old mid new same stays is then = record {
-    count = then.count ∙ ap (λ (s : Entries). s.count) same;
-    path = tt;
-    formed = tt;
-    exhausted = stopped_with o (counted o) new.path.items stop (λ p ends. ends) then.exhausted;
-  }
-
-  -- where an error is handed on
-  pub follows_stopped : {S : Type 0} (given : Result S Stopped) (returned : Result T Stopped) (stop : Stopped) (o q : Outcome) (old mid new : Forming) → mid.set.count ≡ old.set.count
-      → given ≡ Err stop → IsErrAnd returned (λ again. again ≡ stop) → ((p : Path) → o.result ≡ Exhausted p → q.result ≡ Exhausted p)
-      → Follows shape o mid new given → Follows shape q old new returned
-  follows_stopped given (Ok x) stop o q old mid new same was again too first = absurd again
-  follows_stopped given (Err other) stop o q old mid new same was again too first = record {
-    count = first.count ∙ same;
-    path = tt;
-    formed = tt;
-    exhausted = subst (IsStoppedAt q new.path.items) (sym again) (stopped_with o q new.path.items stop too (IfErr-at_err (IsStoppedAt o new.path.items) was first.exhausted));
-  }
+adds_none : (shape : Shape) (s : Entries) → Adds shape none s s
+adds_none shape s U stands = subst (Stands shape s) (sym (union_laws.swap U none ∙ union_laws.unit U)) stands
 
 -- ---- how far the code has still to go down: how many rules a rule is made of, with the rules that it calls written out
 
 module _ (of_called : tree.Name → ℕ) where
-  abbrev mutual
-    pub rules_in : tree.Rule → ℕ
-    rules_in tree.Skip = 1
-    rules_in (tree.Assign f ts t) = 1
-    rules_in (tree.Call to f ts) = 1 + of_called f
-    rules_in (tree.Par Ps) = 1 + rules_in_all Ps
-    rules_in (tree.Seq Ps) = 1 + rules_in_all Ps
-    rules_in (tree.If c P Q) = 1 + (rules_in P + rules_in Q)
-    rules_in (tree.Let x t P) = 1 + rules_in P
-    rules_in (tree.Forall x u c P) = 1 + rules_in P
-    rules_in (tree.Choose x u c P Q) = 1 + (rules_in P + rules_in Q)
-    rules_in (tree.Iterate P) = 1 + rules_in P
-
-    pub rules_in_all : tree.Rules → ℕ
-    rules_in_all tree.no_rules = 0
-    rules_in_all (tree.rule_then P Ps) = rules_in P + rules_in_all Ps
-
   part_is_in : (rs : List Rule) (i : ℕ) (r : Rule) → i < length rs → r ≡ slice_index_or rs i r
-      → rules_in (meant r) ≤ rules_in_all (meant_rules rs)
+      → rules_in of_called (meant r) ≤ rules_in_all of_called (meant_rules rs)
   part_is_in [] i r low is = omega (arith, low)
   part_is_in (p ∷ rs) zero r low is = rw is (omega arith)
   part_is_in (p ∷ rs) (suc i) r low is = let fewer = part_is_in rs i r (omega (arith, low)) is in omega (arith, fewer)
 
   pub part_is_less : (rs : List Rule) (i : ℕ) (r : Rule) → i < length rs → r ≡ slice_index_or rs i r
-      → rules_in (meant r) < rules_in (tree.Par (meant_rules rs))
+      → rules_in of_called (meant r) < rules_in of_called (tree.Par (meant_rules rs))
   part_is_less rs i r low is = omega (arith, part_is_in rs i r low is)
-
--- how many rules the body of a rule is made of
-abbrev pub in_body : Checked → tree.Name → ℕ
-in_body checked f = called_size (program checked) (rule_size_within (program checked) 16) (declared (program checked) f)
 
 -- Where a function calls one for the same rule, its own rank is the higher
 abbrev pub left_to_form : Checked → (rank : ℕ) → tree.Rule → ℕ
 left_to_form checked rank R = 5 * rules_in (in_body checked) R + rank
-
--- ---- the candidate that is taken
-
-some_taken : (n : ℕ) (vs : List Value) (v : Value) (m : Value → Outcome) (other : Outcome) → Some v ≡ taken n vs → m v ≡ one_of n vs m other
-some_taken n [] v m other is = cc
-some_taken n (w ∷ ws) v m other is = let same : v ≡ slice_index_or (w ∷ ws) (n % length (w ∷ ws)) w = cc in ap m same
-
-none_taken : (n : ℕ) (vs : List Value) (m : Value → Outcome) (other : Outcome) → None ≡ taken n vs → other ≡ one_of n vs m other
-none_taken n [] m other is = refl
-none_taken n (w ∷ ws) m other is = cc
 
 -- ---- what the code's rules do
 
@@ -368,7 +227,7 @@ module _ {P : Type 0} {picks : Ghosts P} (on : Evaluation P picks) where
       exhausted_rule_does rs i r q low is ends =
           sym (ap (λ o. o.result) (next_rule_does rs i r low is))
           ∙ ap (λ k. beside (rule_does e (at p i) r).result (rules_do e p k (drop (i + 1) rs)).result) (add-one i)
-          ∙ first_part_first (program on.scene.checked.now) on.turns (picks.script on.choices.now.script.now) on.choices.now.step (state_at on) e p q i (meant r) (plain_rules (rules_of (map rule_of (drop (i + 1) rs)))) ends
+          ∙ exhausted_laws.first_part (program on.scene.checked.now) on.turns (picks.script on.choices.now.script.now) on.choices.now.step (state_at on) e p q i (meant r) (plain_rules (rules_of (map rule_of (drop (i + 1) rs)))) ends
 
       pub no_rule_does : (rs : List Rule) (i : ℕ) → length rs ≤ i → nothing ≡ rules_do e p i (drop i rs)
       no_rule_does rs i past = sym (ap (rules_do e p i) (drop_all i rs past))
@@ -401,7 +260,7 @@ module _ {P : Type 0} {picks : Ghosts P} (on : Evaluation P picks) where
       exhausted_element_does b R vs i v q there test ends =
           sym (ap (λ o. o.result) (element_does b R vs i v there test))
           ∙ ap (λ k. beside (rule_does (with_element b v e) (at p i) R).result (each_does e p b R k (drop (i + 1) vs)).result) (add-one i)
-          ∙ first_element_first (program on.scene.checked.now) on.turns (picks.script on.choices.now.script.now) on.choices.now.step (state_at on) e p q b.name.now.text (is_candidate on.scene e b) i v (drop (i + 1) vs) (meant R) ends
+          ∙ exhausted_laws.first_element (program on.scene.checked.now) on.turns (picks.script on.choices.now.script.now) on.choices.now.step (state_at on) e p q b.name.now.text (is_candidate on.scene e b) i v (drop (i + 1) vs) (meant R) ends
 
       -- one for which it doesn't
       pub element_passed : (b : Binder) (R : Rule) (vs : List Value) (i : ℕ) (v : Value) → slice_get vs i ≡ Some v

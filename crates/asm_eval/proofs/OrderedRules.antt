@@ -13,15 +13,16 @@ use Rattle.asm_updates.specs.Entries.{Entries}
 use Rattle.asm_updates.specs.Stands.{Stands, Adds}
 use Rattle.asm_syntax.specs.Tree as tree
 use Rattle.asm_syntax.specs.declared.rule.Rule.{Rule}
-use Rattle.asm_eval.specs.Does.{Outcome, part_and, turn_and}
-use Rattle.asm_eval.specs.Evaluated.{meant}
-use Rattle.asm_eval.specs.Setting.{Setting, outcome}
-use Rattle.asm_eval.specs.Formed.{Forms, GoesOn, IsStoppedAt}
-use Rattle.asm_eval.specs.Program.{Environment}
-use Rattle.asm_eval.specs.Yields.{Path, Exhausted, at}
-use Rattle.asm_eval.specs.declared.stopped.Stopped.{Stopped}
+use Rattle.asm_meaning.specs.Does.{Outcome, part_and, turn_and}
+use Rattle.asm_meaning.specs.Meant.{meant}
+use Rattle.asm_meaning.specs.Setting.{Setting, outcome}
+use Rattle.asm_meaning.specs.Formed.{Forms, GoesOn, IsStoppedAt}
+use Rattle.asm_meaning.specs.Program.{Environment}
+use Rattle.asm_meaning.specs.Yields.{Path, Exhausted, at}
+use Rattle.asm_meaning.specs.declared.stopped.Stopped.{Stopped}
 use Rattle.asm_eval.proofs.FormedRules.{rules_do_in_order, turns_do}
-use Rattle.asm_eval.proofs.Sequences.{IsUnderway, goes_on, ends, ends_with, ends_at, good_part, faulty_part, exhausted_part, good_turn, last_turn, exhausted_turn, stopped_on}
+use Rattle.asm_meaning.specs.Underway.{IsUnderway}
+use Rattle.asm_meaning.proofs.Sequences.{sequence_laws-goes_on as goes_on, sequence_laws-ends as ends, sequence_laws-ends_with as ends_with, sequence_laws-ends_at as ends_at, part_laws-good_part as good_part, part_laws-faulty_part as faulty_part, part_laws-exhausted_part as exhausted_part, part_laws-good_turn as good_turn, part_laws-last_turn as last_turn, part_laws-exhausted_turn as exhausted_turn, stopping_laws-handed_on as stopped_on}
 
 module _ (s : Setting) (e : Environment) (p : Path) where
   abbrev pub parts_left : List Rule → ℕ → State → Outcome

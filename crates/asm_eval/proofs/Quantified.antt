@@ -10,10 +10,10 @@ use Rattle.asm_state.specs.declared.value.Value.{Value}
 use Rattle.asm_state.specs.declared.value.Value.TheVariants.{Truth}
 use Rattle.asm_syntax.specs.Tree.{Name, Term, Exists, Every}
 use Rattle.asm_check.specs.declared.checked.Checked.{Checked}
-use Rattle.asm_eval.specs.Program.{Environment, with_value}
-use Rattle.asm_eval.specs.Value.{is_true, value, universe}
-use Rattle.asm_eval.specs.Valued.{program, shown}
-use Rattle.asm_eval.specs.declared.view.View.{View}
+use Rattle.asm_meaning.specs.Program.{Environment, with_value}
+use Rattle.asm_meaning.specs.Value.{is_true, value, universe}
+use Rattle.asm_meaning.specs.Valued.{program, shown}
+use Rattle.asm_meaning.specs.declared.view.View.{View}
 use Rattle.asm_eval.proofs.Evaluating.{cases}
 
 -- ---- a test over a list

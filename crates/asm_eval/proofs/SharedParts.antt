@@ -1,26 +1,20 @@
--- Threads may share views and pieces, since they may share their parts.
+-- Threads may share pieces and hand them over, since they may share their parts and hand them over.
 use denote.Builtin.{usize}
 use denote.Ref.{NamedLft}
 use denote.Param.Send.{IsSync, IsSend, shr_sync, shr_send, shr_slice_sync, shr_slice_send, sendable}
 use denote.Param.SendFields.{as_row_sync, as_row_send, declared_sync, declared_send}
 use Rattle.std.proofs.Crossing.{Vec-sync}
 use Rattle.std.specs.contracts.option.Option as Option
-use Rattle.asm_state.specs.contracts.signature.Signature as Signature
-use Rattle.asm_state.specs.contracts.state.State as State
 use Rattle.asm_state.specs.contracts.code.Code as Code
 use Rattle.asm_state.specs.contracts.word.Word as Value
 use Rattle.asm_syntax.specs.contracts.name.Name as Name
 use Rattle.asm_syntax.specs.contracts.rule.Rule as Rule
 use Rattle.asm_syntax.specs.contracts.term.Term as Term
-use Rattle.asm_updates.specs.contracts.summary.Summary as Summary
-use Rattle.asm_eval.specs.contracts.below.Below as Below
+use Rattle.asm_meaning.specs.contracts.part.Part as Part
+use Rattle.asm_meaning.specs.contracts.path.Path as Path
 use Rattle.asm_eval.specs.contracts.env.Env as Env
 use Rattle.asm_eval.specs.contracts.piece.Piece as Piece
-use Rattle.asm_eval.specs.contracts.view.View as View
-use Rattle.asm_eval.proofs.below.Below.TheLaws.TheKnot as below
 use Rattle.asm_eval.proofs.env.Env.TheLaws.TheKnot as env
-use Rattle.asm_eval.proofs.path.Path.TheSendSync as path
-use Rattle.asm_eval.proofs.piece.Part.TheSendSync as part
 
 name : IsSync Name.the_row
 name = search (sendable, Vec-sync) depth 20
@@ -50,14 +44,8 @@ module _ (a : NamedLft) where
       (λ h s y. shr_send _ _ h y) (λ h s y. shr_sync _ _ h y) (shr_slice_send _ _ Name.the_row name) (shr_slice_sync _ _ Name.the_row name)
       (shr_slice_send _ _ Value.the_row value) (shr_slice_sync _ _ Value.the_row value) (shr_slice_send _ _ Term.the_row t) (shr_slice_sync _ _ Term.the_row t) number_field_sent number_field)
 
-  pub piece_shared : IsSync Term.the_row → IsSync Rule.the_row → IsSync (Piece.the_row a)
-  piece_shared t r = declared_sync (Piece.the_type a) (shr_sync _ _ Rule.the_row r, (env_shared t, (path.the_sync, (part.the_sync, tt))))
+  pub piece_shared : IsSync Term.the_row → IsSync Rule.the_row → IsSync Path.the_row → IsSync Part.the_row → IsSync (Piece.the_row a)
+  piece_shared t r path part = declared_sync (Piece.the_type a) (shr_sync _ _ Rule.the_row r, (env_shared t, (path, (part, tt))))
 
-  pub piece_sent : IsSync Term.the_row → IsSync Rule.the_row → IsSend (Piece.the_row a)
-  piece_sent t r = declared_send (Piece.the_type a) (shr_send _ _ Rule.the_row r, (env_sent t, (path.the_send, (part.the_send, tt))))
-
-  below_shared : IsSync Summary.the_row → IsSync (Below.the_row a)
-  below_shared u = as_row_sync (Below.the_field a) (below.sync-Below a (shr_sync _ _ Summary.the_row u) (λ h s. shr_sync _ _ h s))
-
-  pub view_shared : IsSync Signature.the_row → IsSync State.the_row → IsSync Summary.the_row → IsSync (View.the_row a)
-  view_shared g s u = declared_sync (View.the_type a) (shr_sync _ _ Signature.the_row g, (shr_sync _ _ State.the_row s, (below_shared u, (shr_sync _ _ Summary.the_row u, tt))))
+  pub piece_sent : IsSync Term.the_row → IsSync Rule.the_row → IsSend Path.the_row → IsSend Part.the_row → IsSend (Piece.the_row a)
+  piece_sent t r path part = declared_send (Piece.the_type a) (shr_send _ _ Rule.the_row r, (env_sent t, (path, (part, tt))))

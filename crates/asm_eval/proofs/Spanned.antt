@@ -18,17 +18,17 @@ use Rattle.asm_syntax.specs.declared.rule.Rule.TheOpen as open_rule
 use Rattle.asm_syntax.specs.declared.rule.Rule.TheViews.{roll-Rule, out-Rule}
 use Rattle.asm_syntax.specs.declared.rule.Rule.TheVariants as rule
 use Rattle.asm_state.specs.Location.{State}
-use Rattle.asm_eval.specs.Does.{nothing}
-use Rattle.asm_eval.specs.Evaluated.{meant}
+use Rattle.asm_meaning.specs.Does.{nothing}
+use Rattle.asm_meaning.specs.Meant.{meant}
 use Rattle.asm_eval.specs.Pieces.{IsPartOf, IsInterval, part_does, span_does}
-use Rattle.asm_eval.specs.Program.{Program, Environment, with_value}
-use Rattle.asm_eval.specs.Setting.{Setting, outcome}
-use Rattle.asm_eval.specs.Value.{holds, universe}
-use Rattle.asm_eval.specs.Valued.{condition}
-use Rattle.asm_eval.specs.Yields.{Path, at}
-use Rattle.asm_eval.specs.declared.piece.Part.{Part}
-use Rattle.asm_eval.specs.declared.piece.Part.TheVariants as part
-use Rattle.asm_eval.proofs.Spans.{each_none}
+use Rattle.asm_meaning.specs.Program.{Program, Environment, with_value}
+use Rattle.asm_meaning.specs.Setting.{Setting, outcome}
+use Rattle.asm_meaning.specs.Value.{holds, universe}
+use Rattle.asm_meaning.specs.Valued.{condition}
+use Rattle.asm_meaning.specs.Yields.{Path, at}
+use Rattle.asm_meaning.specs.declared.part.Part.{Part}
+use Rattle.asm_meaning.specs.declared.part.Part.TheVariants as part
+use Rattle.asm_meaning.proofs.Intervals.{interval_laws-none as each_none}
 
 module _ (program : Program) (from to : ℕ) (R : Rule) (is : IsPartOf program (meant R) (part.Span from to)) where
   abbrev IsSpanned : source.Rule → Type 0

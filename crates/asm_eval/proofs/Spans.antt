@@ -1,63 +1,27 @@
 -- What a `forall` does at an interval of positions: a turn of the loop over them adds the next element to those behind it.
---     between_all        all positions are those of the whole list
---     each_next, each_none      the first element of an interval, and those behind it;  an interval without elements
 --     span_of_all        the span of all positions is the `forall`
 --     span_of_none       over no elements a span does nothing
 --     A lemma whose name begins with `span_` and ends in `_does` says what a turn adds.
-use Rattle.std.proofs.Common.{◌≡◌, ℕ, suc, ◌+◌, ◌-◌, ◌≤◌, ◌<◌, Bool, true, false, cond, List, [], ◌∷◌, length, take, drop, Some, refl, sym, ap, ◌∙◌, arith, add-one}
+use Rattle.std.proofs.Common.{◌≡◌, ℕ, ◌+◌, ◌≤◌, ◌<◌, true, false, List, length, Some, sym, ap, ◌∙◌, add-one}
 use Rattle.std.specs.Prelude.{slice_get}
-use Rattle.std.proofs.lemmas.List.{at_drop_more}
-use Rattle.std.proofs.lemmas.Option.{slice_get_within, get_or_from_slice_get}
 use Rattle.asm_state.specs.declared.value.Value.{Value}
 use Rattle.asm_syntax.specs.declared.rule.Rule.{Rule}
 use Rattle.asm_reader.specs.declared.picks.Picks.{Ghosts}
 use Rattle.asm_eval.specs.declared.binder.Binder.{Binder}
 use Rattle.asm_eval.specs.declared.evaluation.Evaluation.{Evaluation}
-use Rattle.asm_eval.specs.Does.{Outcome, nothing, both, counted, each}
-use Rattle.asm_eval.specs.Evaluated.{setting, state_at, meant, meant_forall}
-use Rattle.asm_eval.specs.Pieces.{between, span_does}
-use Rattle.asm_eval.specs.Program.{Environment}
+use Rattle.asm_meaning.specs.Does.{Outcome, nothing, both, counted}
+use Rattle.asm_eval.specs.Evaluated.{setting, state_at, meant_forall}
+use Rattle.asm_meaning.specs.Meant.{meant}
+use Rattle.asm_eval.specs.Pieces.{span_does}
+use Rattle.asm_meaning.specs.Intervals.{between}
+use Rattle.asm_meaning.specs.Program.{Environment}
 use Rattle.asm_eval.specs.Scenes.{is_candidate, with_element}
-use Rattle.asm_eval.specs.Value.{universe}
-use Rattle.asm_eval.specs.Valued.{program, condition}
-use Rattle.asm_eval.specs.Yields.{Path, Exhausted, at, beside}
-use Rattle.asm_eval.proofs.ExhaustedPaths.{first_element_first}
+use Rattle.asm_meaning.specs.Value.{universe}
+use Rattle.asm_meaning.specs.Valued.{program, condition}
+use Rattle.asm_meaning.specs.Yields.{Path, Exhausted, at, beside}
+use Rattle.asm_meaning.proofs.ExhaustedLaws.{exhausted_laws}
+use Rattle.asm_meaning.proofs.Intervals.{interval_laws-all as between_all, interval_laws-next as each_next, interval_laws-none as each_none}
 use Rattle.asm_eval.proofs.FormedRules.{cases, each_does, forall_does, rule_does}
-
--- ---- the elements of an interval
-
-take_none : (vs : List Value) → take 0 vs ≡ []
-take_none [] = refl
-take_none (v ∷ vs) = refl
-
-take_all : (vs : List Value) → take (length vs) vs ≡ vs
-take_all [] = refl
-take_all (v ∷ vs) = ap (λ ws. v ∷ ws) (take_all vs)
-
-pub between_all : (vs : List Value) → between 0 (length vs) vs ≡ vs
-between_all vs = let whole : length vs - 0 ≡ length vs = omega arith in ap (λ n. take n vs) whole ∙ take_all vs
-
-pub between_more : (from to : ℕ) (vs : List Value) (v : Value) → from < to → slice_get vs from ≡ Some v → between from to vs ≡ v ∷ between (from + 1) to vs
-between_more from to vs v low there =
-    let less : to - from ≡ suc (to - (from + 1)) = omega (arith, low) in
-    ap (λ n. take n (drop from vs)) less
-    ∙ ap (take (suc (to - (from + 1)))) (at_drop_more (λ (xs : List Value). xs) vs from v (slice_get_within vs from v there))
-    ∙ ap (λ w. w ∷ between (from + 1) to vs) (get_or_from_slice_get vs from v v there)
-
-pub between_none : (from to : ℕ) (vs : List Value) → to ≤ from → between from to vs ≡ []
-between_none from to vs past = let zero_left : to - from ≡ 0 = omega (arith, past) in ap (λ n. take n (drop from vs)) zero_left ∙ take_none (drop from vs)
-
-module _ (m : Value → ℕ → Outcome) (test : Value → Bool) where
-  pub each_next : (from to : ℕ) (vs : List Value) (v : Value) (b : Bool) → from < to → slice_get vs from ≡ Some v → b ≡ test v
-      → cond b (counted (both (m v from) (each m test (from + 1) (between (from + 1) to vs)))) (each m test (from + 1) (between (from + 1) to vs))
-      ≡ each m test from (between from to vs)
-  each_next from to vs v b low there is =
-      ap (λ so. cond so (counted (both (m v from) (each m test (from + 1) (between (from + 1) to vs)))) (each m test (from + 1) (between (from + 1) to vs))) is
-      ∙ ap (λ k. cond (test v) (counted (both (m v from) (each m test k (between (from + 1) to vs)))) (each m test k (between (from + 1) to vs))) (add-one from)
-      ∙ sym (ap (each m test from) (between_more from to vs v low there))
-
-  pub each_none : (from to : ℕ) (vs : List Value) → to ≤ from → each m test from (between from to vs) ≡ nothing
-  each_none from to vs past = ap (each m test from) (between_none from to vs past)
 
 -- ---- what the code's loop does
 
@@ -93,7 +57,7 @@ module _ {P : Type 0} {picks : Ghosts P} (on : Evaluation P picks) (e : Environm
   span_exhausted_does to vs i v q low there test ends =
       sym (ap (λ o. o.result) (span_element_does to vs i v low there test))
       ∙ ap (λ k. beside (rule_does on (with_element b v e) (at p i) R).result (each_does on e p b R k (between (i + 1) to vs)).result) (add-one i)
-      ∙ first_element_first (program on.scene.checked.now) on.turns (picks.script on.choices.now.script.now) on.choices.now.step (state_at on) e p q b.name.now.text (is_candidate on.scene e b) i v (between (i + 1) to vs) (meant R) ends
+      ∙ exhausted_laws.first_element (program on.scene.checked.now) on.turns (picks.script on.choices.now.script.now) on.choices.now.step (state_at on) e p q b.name.now.text (is_candidate on.scene e b) i v (between (i + 1) to vs) (meant R) ends
 
   pub span_end_does : (to : ℕ) (vs : List Value) (i : ℕ) → to ≤ i → nothing ≡ span_left to vs i
   span_end_does to vs i past = sym (each_none (λ w n. rule_does on (with_element b w e) (at p n) R) (is_candidate on.scene e b) i to vs past)

@@ -8,10 +8,11 @@ use Rattle.asm_reader.specs.declared.picks.Picks.{Ghosts}
 use Rattle.asm_eval.specs.declared.beneath.Descent.{Descent}
 use Rattle.asm_eval.specs.declared.env.Env.{Env}
 use Rattle.asm_eval.specs.declared.evaluation.Evaluation.{Evaluation}
-use Rattle.asm_eval.specs.Does.{Outcome, nothing}
-use Rattle.asm_eval.specs.Evaluated.{setting, outcome_at, meant}
-use Rattle.asm_eval.specs.Weights.{rule_weight}
-use Rattle.asm_eval.specs.Yields.{Path, at}
+use Rattle.asm_meaning.specs.Does.{Outcome, nothing}
+use Rattle.asm_eval.specs.Evaluated.{setting, outcome_at}
+use Rattle.asm_meaning.specs.Meant.{meant}
+use Rattle.asm_meaning.specs.Weights.{rule_weight}
+use Rattle.asm_meaning.specs.Yields.{Path, at}
 
 abbrev pub has_one_beneath : tree.Rule → Bool
 has_one_beneath (tree.If c P Q) = true

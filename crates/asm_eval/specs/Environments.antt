@@ -12,16 +12,13 @@ use Rattle.asm_check.specs.Shapes.{shape_of}
 use Rattle.asm_check.specs.declared.checked.Checked.{Checked}
 use Rattle.asm_syntax.specs.Views.{term_of, terms_of, spec_of}
 use Rattle.asm_syntax.specs.PlainTree.{plain_term, plain_terms}
-use Rattle.asm_syntax.specs.declared.name.Name as syntax
 use Rattle.asm_syntax.specs.Tree.{Name}
-use Rattle.asm_eval.specs.Program.{Environment, nothing_bound, with_value, bind_values, bind_terms, Binding, ToValue, ToTerm, ToLocation, bound_to, located}
+use Rattle.asm_meaning.specs.Meant.{text_of}
+use Rattle.asm_meaning.specs.Program.{Environment, nothing_bound, with_value, bind_values, bind_terms, Binding, ToValue, ToTerm, ToLocation, bound_to, located}
 use Rattle.asm_eval.specs.declared.env.Env.{Env}
 use Rattle.asm_eval.specs.declared.env.Env.TheVariants as env
 use Rattle.asm_eval.specs.declared.env.Binding.{Binding as Found}
 use Rattle.asm_eval.specs.declared.env.Binding.TheVariants as found
-
-abbrev pub text_of : syntax.Name → Name
-text_of x = x.text
 
 -- a number that the signature doesn't have is that of no location
 abbrev pub location_numbered : Shape → Option ℕ → Option Location

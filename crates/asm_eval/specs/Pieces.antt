@@ -1,7 +1,4 @@
 -- The pieces of a region, and what they do.
---     counting n o        the outcome o, with n more instances
---     all_both os         what outcomes are beside each other
---     between from to vs  the values at the positions from one to before another
 --     span_does           what a `forall` does at an interval of positions: each element keeps the number of its position
 --     piece_does          what a piece does: all of its rule, or the elements at its positions
 --     pieces_do           what pieces do beside each other
@@ -10,32 +7,23 @@
 --     IsCut cut           a span has at most so many positions
 --     is_closed R         a rule that isn't opened
 --     Opens               what a piece is opened to does together what the piece does, and nothing is lost or counted twice
-use Rattle.std.specs.Prelude.{◌≡◌, ℕ, ◌+◌, ◌-◌, ◌≤◌, Bool, true, false, List, [], ◌∷◌, Option, Some, None, map, take, drop, length, All}
-use Rattle.asm_state.specs.declared.value.Value.{Value}
+use Rattle.std.specs.Prelude.{◌≡◌, ℕ, ◌-◌, ◌≤◌, Bool, true, false, List, Option, Some, None, map, length, All}
 use Rattle.asm_state.specs.Location.{State}
 use Rattle.asm_syntax.specs.Tree as tree
-use Rattle.asm_eval.specs.declared.piece.Part.{Part}
-use Rattle.asm_eval.specs.declared.piece.Part.TheVariants as part
+use Rattle.asm_meaning.specs.declared.part.Part.{Part}
+use Rattle.asm_meaning.specs.declared.part.Part.TheVariants as part
 use Rattle.asm_eval.specs.declared.piece.Piece.{Piece}
 use Rattle.asm_eval.specs.declared.piece.Opened.{Opened}
 use Rattle.asm_eval.specs.declared.piece.Opened.TheVariants as opened
-use Rattle.asm_eval.specs.Does.{Outcome, nothing, both, each}
+use Rattle.asm_meaning.specs.Does.{Outcome, nothing, each}
 use Rattle.asm_eval.specs.Environments.{environment}
-use Rattle.asm_eval.specs.Evaluated.{meant}
-use Rattle.asm_eval.specs.Program.{Program, Environment, with_value}
-use Rattle.asm_eval.specs.Setting.{Setting, outcome}
-use Rattle.asm_eval.specs.Value.{holds, universe}
-use Rattle.asm_eval.specs.Yields.{Path, at}
-
-abbrev pub counting : ℕ → Outcome → Outcome
-counting n o = record { result = o.result; instances = n + o.instances }
-
-abbrev pub all_both : List Outcome → Outcome
-all_both [] = nothing
-all_both (o ∷ os) = both o (all_both os)
-
-abbrev pub between : (from to : ℕ) → List Value → List Value
-between from to vs = take (to - from) (drop from vs)
+use Rattle.asm_meaning.specs.Meant.{meant}
+use Rattle.asm_meaning.specs.Grouped.{counting, all_both}
+use Rattle.asm_meaning.specs.Intervals.{between, IsCutPart}
+use Rattle.asm_meaning.specs.Program.{Program, Environment, with_value}
+use Rattle.asm_meaning.specs.Setting.{Setting, outcome}
+use Rattle.asm_meaning.specs.Value.{holds, universe}
+use Rattle.asm_meaning.specs.Yields.{Path, at}
 
 -- ---- what pieces do
 
@@ -80,10 +68,6 @@ module _ (program : Program) where
 
   abbrev pub positions_in : Piece → Option ℕ
   positions_in piece = positions (meant piece.rule.now) piece.part
-
-abbrev pub IsCutPart : ℕ → Part → Type 0
-IsCutPart cut part.Whole = Unit {0}
-IsCutPart cut (part.Span from to) = to ≤ from + cut
 
 abbrev pub IsCut : ℕ → Piece → Type 0
 IsCut cut piece = IsCutPart cut piece.part

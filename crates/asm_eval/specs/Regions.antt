@@ -9,14 +9,14 @@ use Rattle.asm_syntax.specs.declared.rule.Rule.{Rule}
 use Rattle.asm_check.specs.Shapes.{shape_of}
 use Rattle.asm_check.specs.declared.checked.Checked.{Checked}
 use Rattle.asm_eval.specs.Environments.{environment}
-use Rattle.asm_eval.specs.Evaluated.{meant}
-use Rattle.asm_eval.specs.Formed.{Follows}
-use Rattle.asm_eval.specs.Setting.{Setting, outcome}
-use Rattle.asm_eval.specs.Valued.{shown}
+use Rattle.asm_meaning.specs.Meant.{meant}
+use Rattle.asm_meaning.specs.Formed.{Follows}
+use Rattle.asm_meaning.specs.Setting.{Setting, outcome}
+use Rattle.asm_meaning.specs.Valued.{shown}
 use Rattle.asm_eval.specs.declared.env.Env.{Env}
-use Rattle.asm_eval.specs.declared.outcome.Forming.{Forming}
-use Rattle.asm_eval.specs.declared.stopped.Stopped.{Stopped}
-use Rattle.asm_eval.specs.declared.view.View.{View}
+use Rattle.asm_meaning.specs.declared.outcome.Forming.{Forming}
+use Rattle.asm_meaning.specs.declared.stopped.Stopped.{Stopped}
+use Rattle.asm_meaning.specs.declared.view.View.{View}
 
 abbrev pub TakesRegions : Checked → (Global → Bor View → Bor Env → Bor Rule → MutBor Forming → Type 0) → Type 0
 TakesRegions checked pre = (alloc : Global) (view : Bor View) (e : Bor Env) (R : Bor Rule) (made : MutBor Forming)

@@ -9,9 +9,9 @@ use Rattle.asm_state.specs.declared.value.Value.{Value}
 use Rattle.asm_syntax.specs.Tree.{Name}
 use Rattle.asm_syntax.specs.declared.term.Term.{Term}
 use Rattle.asm_eval.specs.Environments.{environment_in}
-use Rattle.asm_eval.specs.Program.{Environment, with_value}
-use Rattle.asm_eval.specs.Value.{candidates}
-use Rattle.asm_eval.specs.Valued.{program, shown, term_value, named_value, condition, holds_at}
+use Rattle.asm_meaning.specs.Program.{Environment, with_value}
+use Rattle.asm_meaning.specs.Value.{candidates}
+use Rattle.asm_meaning.specs.Valued.{program, shown, term_value, named_value, condition, holds_at}
 use Rattle.asm_eval.specs.declared.binder.Binder.{Binder}
 use Rattle.asm_eval.specs.declared.env.Env.{Env}
 use Rattle.asm_eval.specs.declared.evaluation.Scene.{Scene}

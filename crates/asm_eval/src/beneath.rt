@@ -2,8 +2,9 @@
 ghost use Rattle.std.specs.Prelude.{◌≡◌, true, IfOk};
 ghost use Rattle.asm_syntax.specs.Tree as tree;
 ghost use Rattle.asm_eval.specs.Beneath.{IsBeneath, has_one_beneath};
-ghost use Rattle.asm_eval.specs.Evaluated.{meant, meant_branch, meant_choose, meant_target, meant_term, meant_terms};
-ghost use Rattle.asm_eval.specs.Yields as yields;
+ghost use Rattle.asm_eval.specs.Evaluated.{meant_choose};
+ghost use Rattle.asm_meaning.specs.Meant.{meant, meant_branch, meant_target, meant_term, meant_terms};
+ghost use Rattle.asm_meaning.specs.Yields as yields;
 
 use crate::binder::Binder;
 use crate::choose::chosen;

@@ -3,28 +3,20 @@ ghost use Rattle.std.specs.Prelude.{◌≡◌, filter, IfOk};
 ghost use Rattle.asm_reader.specs.ScriptLines.{pick};
 ghost use Rattle.asm_eval.specs.Environments.{environment_in};
 ghost use Rattle.asm_eval.specs.Scenes.{is_candidate, scene_candidates};
-ghost use Rattle.asm_eval.specs.Valued.{holds_at};
-ghost use Rattle.asm_eval.specs.Taken.{taken, walk_to};
+ghost use Rattle.asm_meaning.specs.Valued.{holds_at};
+ghost use Rattle.asm_meaning.specs.Taken.{taken, walk_to};
 
 use crate::binder::Binder;
 use crate::env::Env;
 use crate::evaluation::Evaluation;
 use crate::held::{is_true, universe_of};
 use crate::terms::value;
+use asm_meaning::walk::{Walk, element_at};
 use asm_reader::Picks;
 use asm_state::universe::Universe;
 use asm_state::word::Word;
 use asm_syntax::term::Term;
 use std::alloc::{AllocError, Global};
-
-/// Where a walk along the candidates ends.
-#[derive(Clone, Copy)]
-enum Walk {
-    /// At the candidate that was looked for.
-    Met(Word),
-    /// Behind the last one: so many there are.
-    Passed(u64),
-}
 
 /// Whether the condition holds, or there is none.
 pub(crate) fn holds<'e, P: Picks>(
@@ -41,18 +33,6 @@ pub(crate) fn holds<'e, P: Picks>(
             let tested = value(alloc, &evaluation.scene, env, test)?;
             Ok(is_true(tested))
         }
-    }
-}
-
-/// Walks to the element with this number, where all are candidates.
-fn element_at(universe: &Universe, number: u64) -> Walk
-    ensures { result ≡ walk_to number universe.now }
-{
-    let size = universe.size() as u64;
-    if number < size {
-        Walk::Met(universe.element(number as usize))
-    } else {
-        Walk::Passed(size)
     }
 }
 

@@ -2,7 +2,7 @@
 ghost use Rattle.std.specs.Prelude.{◌≡◌};
 ghost use Rattle.asm_state.specs.Signature.{Shape};
 ghost use Rattle.asm_eval.specs.Environments.{environment};
-ghost use Rattle.asm_eval.specs.Program.{nothing_bound};
+ghost use Rattle.asm_meaning.specs.Program.{nothing_bound};
 
 use asm_state::code::Code;
 use asm_state::word::Word;

@@ -3,17 +3,10 @@ ghost use Rattle.std.specs.Prelude.{◌≡◌, ◌<◌, ◌^◌};
 ghost use Rattle.asm_syntax.specs.Views.{spec_of};
 ghost use Rattle.asm_check.specs.Shapes.{shape_of};
 
-use crate::view::View;
 use asm_check::Checked;
+use asm_meaning::choices::Choices;
+use asm_meaning::view::View;
 use asm_reader::Picks;
-
-/// Who says which candidates are taken in a step.
-#[derive(Drop)]
-pub struct Choices<'a, P: Picks> {
-    pub script: &'a P,
-    /// The number of the step, from 1.
-    pub step: u64,
-}
 
 /// What terms are valued against: a specification, and a state of it, which a view shows.
 #[derive(Clone, Copy)]

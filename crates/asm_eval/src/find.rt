@@ -5,8 +5,9 @@ ghost use Rattle.std.specs.Option.{option_map};
 ghost use Rattle.asm_state.specs.declared.value.Value.TheVariants.{Undef};
 ghost use Rattle.asm_state.specs.Signature.{Shape, count_of};
 ghost use Rattle.asm_syntax.specs.Tree as tree;
-ghost use Rattle.asm_eval.specs.Environments.{IsWithin, environment, binding, bound_around, location_numbered, text_of, beside};
-ghost use Rattle.asm_eval.specs.Program.{Environment, ToLocation, bound_to, is_name};
+ghost use Rattle.asm_eval.specs.Environments.{IsWithin, environment, binding, bound_around, location_numbered, beside};
+ghost use Rattle.asm_meaning.specs.Meant.{text_of};
+ghost use Rattle.asm_meaning.specs.Program.{Environment, ToLocation, bound_to, is_name};
 
 use crate::env::{Binding, Env};
 use asm_state::signature::Signature;

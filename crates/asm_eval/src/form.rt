@@ -1,16 +1,14 @@
 //! The outcome of a rule, formed in place.
-ghost use Rattle.std.specs.Prelude.{◌≡◌, ◌≤◌, length, OnOk, IfErr};
-ghost use Rattle.asm_state.specs.Signature.{Shape, count_of};
-ghost use Rattle.asm_state.specs.Updates.{UpdateSet};
-ghost use Rattle.asm_updates.specs.Stands.{Stands, Adds};
+ghost use Rattle.std.specs.Prelude.{◌≡◌, ◌≤◌, length};
+ghost use Rattle.asm_state.specs.Signature.{count_of};
 ghost use Rattle.asm_syntax.specs.Tree as tree;
 ghost use Rattle.asm_eval.specs.Environments.{environment_in};
-ghost use Rattle.asm_eval.specs.Evaluated.{Fits, setting, shape_at, state_at, outcome_at, outcome_upon, parts_at, in_order_at, meant, meant_branch, meant_choose, meant_forall, meant_term, meant_terms, meant_guarded, meant_target};
-ghost use Rattle.asm_eval.specs.Formed.{Follows, FollowsUpon};
+ghost use Rattle.asm_eval.specs.Evaluated.{Fits, setting, shape_at, state_at, outcome_at, outcome_upon, parts_at, in_order_at, meant_choose, meant_forall, meant_guarded};
+ghost use Rattle.asm_meaning.specs.Meant.{meant, meant_branch, meant_term, meant_terms, meant_target};
+ghost use Rattle.asm_meaning.specs.Formed.{Follows, FollowsUpon};
 ghost use Rattle.asm_eval.specs.Pieces.{span_does};
-ghost use Rattle.asm_eval.specs.Value as spec;
-ghost use Rattle.asm_eval.specs.Yields as yields;
-ghost use Rattle.asm_eval.specs.declared.stopped.Stopped.TheVariants.{Memory};
+ghost use Rattle.asm_meaning.specs.Value as spec;
+ghost use Rattle.asm_meaning.specs.Yields as yields;
 
 use crate::binder::{Binder, Interval};
 use crate::choose::{chosen, holds};
@@ -18,20 +16,20 @@ use crate::env::Env;
 use crate::evaluation::{Evaluation, Scene};
 use crate::guarded::Guarded;
 use crate::held::{is_true, universe_of};
-use crate::kept::{furnish, keep, set_aside};
-use crate::outcome::Forming;
-use crate::stopped::Stopped;
 use crate::target::{answer, location};
 use crate::terms::value;
-use crate::view::View;
 use asm_check::Named;
+use asm_meaning::kept::{furnish, put_back, set_aside};
+use asm_meaning::outcome::Forming;
+use asm_meaning::stopped::Stopped;
+use asm_meaning::update::add_update;
+use asm_meaning::view::View;
 use asm_reader::Picks;
 use asm_syntax::name::Name;
 use asm_syntax::rule::{Rule, Target};
 use asm_syntax::term::Term;
 use asm_updates::summary::Summary;
 use std::alloc::Global;
-use std::mem;
 
 /// Forms what the rule yields at the path where the evaluation stands: its updates come to those formed before, and its instances are
 /// counted. Where it is exhausted, it stands at the path of the `iterate` that made its last turn. Where it stopped, the set may have
@@ -492,28 +490,6 @@ fn form_next<'e, P: Picks>(
     Ok(())
 }
 
-/// Puts back the set that was formed before a sequence, with the sequence's set added.
-pub(crate) fn put_back(before: Summary, so_far: Summary, made: &mut Forming) -> Result<(), Stopped>
-    requires { so_far.count ≡ before.count }
-    ensures count { made.new.set.count ≡ before.count }
-    ensures path { made.new.path.items ≡ made.old.path.items }
-    ensures instances { made.new.instances ≡ made.old.instances }
-    ensures adds { (shape : Shape) (V : UpdateSet) → Stands shape so_far V → OnOk result (Adds shape V before made.new.set) }
-    ensures stopped { IfErr result (λ stop. stop ≡ Memory) }
-{
-    if before.is_empty() {
-        let last = mem::replace(&mut made.set, so_far);
-        keep(&mut made.spare, before);
-        keep(&mut made.spare, last);
-        return Ok(());
-    }
-    let last = mem::replace(&mut made.set, before);
-    made.set.union(&so_far)?;
-    keep(&mut made.spare, so_far);
-    keep(&mut made.spare, last);
-    Ok(())
-}
-
 /// Adds the update of an assignment. A name that stands for no location gives none.
 fn assign<'e, P: Picks>(
     alloc: Global,
@@ -533,6 +509,6 @@ fn assign<'e, P: Picks>(
     };
     let new = value(alloc, &evaluation.scene, env, new)?;
     furnish(&mut made.spare, &mut made.set);
-    made.set.add(n, new, new)?;
+    add_update(evaluation.scene.view.signature, &mut made.set, n, new)?;
     Ok(())
 }

@@ -2,13 +2,13 @@
 ghost use Rattle.std.specs.Prelude.{◌≡◌, ◌<◌, List, [], IfSome, IfNone, slice_get};
 ghost use Rattle.asm_state.specs.Signature.{functions_of};
 ghost use Rattle.asm_syntax.specs.Views.{spec_of};
-ghost use Rattle.asm_eval.specs.Declarations as declared;
-ghost use Rattle.asm_eval.specs.Declarations.{function_at};
-ghost use Rattle.asm_eval.specs.Valued.{program, shown, held};
-ghost use Rattle.asm_eval.specs.Value as spec;
+ghost use Rattle.asm_meaning.specs.Declarations as declared;
+ghost use Rattle.asm_meaning.specs.Declarations.{function_at};
+ghost use Rattle.asm_meaning.specs.Valued.{program, shown, held};
+ghost use Rattle.asm_meaning.specs.Value as spec;
 
-use crate::view::View;
 use asm_check::{Checked, Named};
+use asm_meaning::view::View;
 use asm_state::function::FunctionKind;
 use asm_state::universe::Universe;
 use asm_state::value::Value;

@@ -1,16 +1,7 @@
 //! Pieces of a region: what a worker has to evaluate, with all that it needs.
 use crate::env::Env;
-use crate::path::Path;
+use asm_meaning::{Part, Path};
 use asm_syntax::rule::Rule;
-
-/// Which part of its rule a piece has. No reference stands in it.
-#[derive(Clone, Copy, Debug)]
-pub enum Part {
-    /// All of it.
-    Whole,
-    /// The elements of a `forall` at the positions from one to before another.
-    Span { from: usize, to: usize },
-}
 
 /// A part of a region's work. The innermost frame of its environment is its own; the frames around it are those of the pieces from which
 /// it was opened, which it borrows.

@@ -1,13 +1,14 @@
 //! How many elements of a `forall` a piece has.
 ghost use Rattle.std.specs.Prelude.{◌≡◌, length};
-ghost use Rattle.asm_eval.specs.Evaluated.{meant};
+ghost use Rattle.asm_meaning.specs.Meant.{meant};
 ghost use Rattle.asm_eval.specs.Pieces.{IsPiece, all_positions, positions_in};
-ghost use Rattle.asm_eval.specs.Value.{universe};
-ghost use Rattle.asm_eval.specs.Valued.{program};
+ghost use Rattle.asm_meaning.specs.Value.{universe};
+ghost use Rattle.asm_meaning.specs.Valued.{program};
 
 use crate::held::universe_of;
-use crate::piece::{Part, Piece};
+use crate::piece::Piece;
 use asm_check::Checked;
+use asm_meaning::part::Part;
 use asm_syntax::name::Name;
 use asm_syntax::rule::Rule;
 

@@ -7,11 +7,11 @@ ghost use Rattle.asm_state.specs.Tables.{location_in};
 ghost use Rattle.asm_syntax.specs.Views.{spec_of};
 ghost use Rattle.asm_check.specs.Shapes.{shape_of};
 ghost use Rattle.asm_eval.specs.Environments.{environment_in, location_numbered};
-ghost use Rattle.asm_eval.specs.Evaluated.{meant_target, meant_terms};
+ghost use Rattle.asm_meaning.specs.Meant.{meant_target, meant_terms};
 ghost use Rattle.asm_eval.specs.Scenes.{scene_value};
-ghost use Rattle.asm_eval.specs.Program as declared;
-ghost use Rattle.asm_eval.specs.Valued.{program, shown};
-ghost use Rattle.asm_eval.specs.Targets.{answering, bound_location, location as named_location, location_of};
+ghost use Rattle.asm_meaning.specs.Program as declared;
+ghost use Rattle.asm_meaning.specs.Valued.{program, shown};
+ghost use Rattle.asm_meaning.specs.Targets.{answering, bound_location, location as named_location, location_of};
 
 use crate::env::{Binding, Env};
 use crate::evaluation::Scene;

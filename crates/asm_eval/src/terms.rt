@@ -5,12 +5,12 @@ ghost use Rattle.asm_syntax.specs.PlainTree as plain;
 ghost use Rattle.asm_syntax.specs.Tree as tree;
 ghost use Rattle.asm_syntax.specs.Views.{spec_of, term_of};
 ghost use Rattle.asm_check.specs.NumberTables.{IsInRange};
-ghost use Rattle.asm_eval.specs.Declarations.{numbered};
+ghost use Rattle.asm_meaning.specs.Declarations.{numbered};
 ghost use Rattle.asm_eval.specs.Environments.{environment_in};
 ghost use Rattle.asm_eval.specs.Scenes.{scene_value, scene_named};
-ghost use Rattle.asm_eval.specs.Program.{bound_to};
-ghost use Rattle.asm_eval.specs.Valued.{program, shown, declared_value};
-ghost use Rattle.asm_eval.specs.Value as spec;
+ghost use Rattle.asm_meaning.specs.Program.{bound_to};
+ghost use Rattle.asm_meaning.specs.Valued.{program, shown, declared_value};
+ghost use Rattle.asm_meaning.specs.Value as spec;
 
 use crate::env::{Binding, Env};
 use crate::evaluation::Scene;

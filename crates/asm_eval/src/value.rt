@@ -3,13 +3,13 @@ ghost use Rattle.std.specs.Prelude.{◌≡◌, IfOk};
 ghost use Rattle.asm_syntax.specs.Views.{spec_of};
 ghost use Rattle.asm_check.specs.Shapes.{shape_of};
 ghost use Rattle.asm_eval.specs.Environments.{environment_in};
-ghost use Rattle.asm_eval.specs.Valued.{term_value};
+ghost use Rattle.asm_meaning.specs.Valued.{term_value};
 
 use crate::env::Env;
 use crate::evaluation::Scene;
 use crate::terms;
-use crate::view::View;
 use asm_check::Checked;
+use asm_meaning::view::View;
 use asm_state::word::Word;
 use asm_syntax::term::Term;
 use std::alloc::{AllocError, Global};

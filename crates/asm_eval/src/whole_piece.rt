@@ -1,20 +1,22 @@
 //! Pieces evaluated whole.
 ghost use Rattle.std.specs.Prelude.{◌≡◌, OnOk, IfOk, IfErr};
 ghost use Rattle.asm_eval.specs.Environments.{environment_in};
-ghost use Rattle.asm_eval.specs.Evaluated.{Fits, meant, setting, shape_at, state_at};
-ghost use Rattle.asm_eval.specs.Formed.{Follows, Forms, IsFormed, IsStoppedAt};
+ghost use Rattle.asm_eval.specs.Evaluated.{Fits, setting, shape_at, state_at};
+ghost use Rattle.asm_meaning.specs.Meant.{meant};
+ghost use Rattle.asm_meaning.specs.Formed.{Follows, Forms, IsFormed, IsStoppedAt};
 ghost use Rattle.asm_eval.specs.Pieces.{IsPartOf, IsPiece, piece_does, span_does};
-ghost use Rattle.asm_eval.specs.declared.piece.Part.TheVariants as part;
+ghost use Rattle.asm_meaning.specs.declared.part.Part.TheVariants as part;
 
 use crate::binder::{Binder, Interval};
 use crate::env::Env;
 use crate::evaluation::Evaluation;
 use crate::form::{form, form_span};
-use crate::from_nothing::{nothing_formed, outcome_of};
 use crate::held::universe_of;
-use crate::outcome::{Forming, Outcome};
-use crate::piece::{Part, Piece};
-use crate::stopped::Stopped;
+use crate::piece::Piece;
+use asm_meaning::from_nothing::{nothing_formed, outcome_of};
+use asm_meaning::outcome::{Forming, Outcome};
+use asm_meaning::part::Part;
+use asm_meaning::stopped::Stopped;
 use asm_reader::Picks;
 use asm_syntax::rule::Rule;
 use std::alloc::{AllocError, Global};

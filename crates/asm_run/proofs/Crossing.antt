@@ -6,12 +6,12 @@ use denote.Param.SendFields.{declared_sync, variants_send}
 use Rattle.std.proofs.Crossing.{Vec-send, crosses}
 use Rattle.asm_reader.specs.declared.picks.Picks.{Ghosts}
 use Rattle.asm_check.specs.contracts.checked.Checked as Checked
-use Rattle.asm_eval.specs.contracts.evaluation.Choices as Choices
+use Rattle.asm_meaning.specs.contracts.choices.Choices as Choices
 use Rattle.asm_eval.specs.contracts.evaluation.Evaluation as Evaluation
 use Rattle.asm_eval.specs.contracts.evaluation.Scene as Scene
-use Rattle.asm_eval.specs.contracts.path.Path as Path
+use Rattle.asm_meaning.specs.contracts.path.Path as Path
 use Rattle.asm_eval.specs.contracts.piece.Piece as Piece
-use Rattle.asm_eval.specs.contracts.view.View as View
+use Rattle.asm_meaning.specs.contracts.view.View as View
 use Rattle.asm_striped.specs.contracts.striped.Striped as Striped
 use Rattle.asm_run.specs.contracts.job.RegionJob as RegionJob
 use Rattle.asm_run.specs.contracts.job.RegionOut as RegionOut

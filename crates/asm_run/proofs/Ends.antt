@@ -1,8 +1,8 @@
 -- What an answer says of the texts.
 use Rattle.std.proofs.Common.{◌≡◌, ℕ, List, Option, refl}
 use Rattle.std.specs.Prelude.{◌≢◌, Ok, Err}
-use Rattle.asm_eval.specs.Run as run
-use Rattle.asm_eval.specs.Run.{AtLimit, AtExhausted, AtFault}
+use Rattle.asm_meaning.specs.Run as run
+use Rattle.asm_meaning.specs.Run.{AtLimit, AtExhausted, AtFault}
 use Rattle.asm_run.specs.Ends.{AnswersTell, HasEnd, faulty, unread, unscripted}
 use Rattle.asm_run.specs.Headline.{IsAnswer, IsDone}
 use Rattle.asm_run.specs.declared.end.End.{End}

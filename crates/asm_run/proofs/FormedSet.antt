@@ -14,13 +14,13 @@ use Rattle.asm_check.specs.Faults.{inits}
 use Rattle.asm_check.specs.Shapes.{shape_of}
 use Rattle.asm_updates.specs.Entries.{Entries}
 use Rattle.asm_updates.specs.Stands.{Stands}
-use Rattle.asm_eval.specs.Declarations.{program_of, main_rule}
-use Rattle.asm_eval.specs.Does.{Outcome, does}
-use Rattle.asm_eval.specs.Formed.{Forms, IsSet, IsStoppedAt, greatest_count}
-use Rattle.asm_eval.specs.declared.stopped.Stopped.{Stopped}
-use Rattle.asm_eval.specs.declared.stopped.Stopped.TheVariants as stopped
-use Rattle.asm_eval.specs.Program.{Environment, nothing_bound}
-use Rattle.asm_eval.specs.Yields.{Path}
+use Rattle.asm_meaning.specs.Declarations.{program_of, main_rule}
+use Rattle.asm_meaning.specs.Does.{Outcome, does}
+use Rattle.asm_meaning.specs.Formed.{Forms, IsSet, IsStoppedAt, greatest_count}
+use Rattle.asm_meaning.specs.declared.stopped.Stopped.{Stopped}
+use Rattle.asm_meaning.specs.declared.stopped.Stopped.TheVariants as stopped
+use Rattle.asm_meaning.specs.Program.{Environment, nothing_bound}
+use Rattle.asm_meaning.specs.Yields.{Path}
 use Rattle.asm_run.specs.Step.{main_outcome}
 use Rattle.asm_run.proofs.Stepping.{stands_alone}
 

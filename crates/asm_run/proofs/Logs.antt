@@ -7,7 +7,7 @@ use Rattle.asm_state.proofs.Members.{member_laws}
 use Rattle.asm_state.proofs.Summaries.{summary_laws}
 use Rattle.asm_updates.specs.Entries.{Entries, NamedRanges}
 use Rattle.asm_updates.specs.EntryLists.{range_in}
-use Rattle.asm_updates.specs.Stands.{Stands}
+use Rattle.asm_updates.specs.Stands.{Stands, MarksFaults}
 use Rattle.asm_updates.proofs.EntryLists.{entry_list_laws}
 use Rattle.asm_striped.specs.declared.board.Entry.{Entry}
 use Rattle.asm_striped.specs.Log.{AreValuesOf, IsSummaryOfLog}
@@ -63,10 +63,11 @@ all_put shape [] U is = subst (LogStands shape []) (sym is) (nothing_put shape)
 all_put shape (h ∷ hands) U (V, W, first, rest, is) = subst (LogStands shape (h.seat.log ++ logs_of hands)) (sym is) (both_put shape h.seat.log (logs_of hands) V W first (all_put shape hands W rest))
 
 -- what the table is closed with
-pub closed_stands : (shape : Shape) (log : List Entry) (U : UpdateSet) (s : Entries) → IsSound shape → s.count ≡ count_of shape → LogStands shape log U → IsSummaryOfLog log s → Stands shape s U
-closed_stands shape log U s sound is stands summary = record {
+pub closed_stands : (shape : Shape) (log : List Entry) (U : UpdateSet) (s : Entries) → IsSound shape → s.count ≡ count_of shape → LogStands shape log U → IsSummaryOfLog log s → MarksFaults shape s → Stands shape s U
+closed_stands shape log U s sound is stands summary marks = record {
   is_sound = sound;
   has_count = is;
   has_ranges = λ n h. log_laws.summary log stands.ranges s summary stands.are_values n ∙ stands.has_ranges n h;
   names_within = stands.names_within;
+  marks_faults = marks;
 }

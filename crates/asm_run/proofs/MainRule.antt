@@ -6,8 +6,8 @@ use Rattle.asm_check.specs.Faults.{inits}
 use Rattle.asm_check.specs.Names.{NamedRule}
 use Rattle.asm_check.specs.Numbers.{named, rules_of, meaning_at}
 use Rattle.asm_check.specs.declared.checked.Named.TheVariants as number
-use Rattle.asm_eval.specs.Declarations.{body_of, numbered, rule_body, main_rule}
-use Rattle.asm_eval.proofs.Meant.{program_declares}
+use Rattle.asm_meaning.specs.Declarations.{body_of, numbered, rule_body, main_rule}
+use Rattle.asm_meaning.proofs.Meant.{program_declares}
 
 -- the rule that the one `init` names is the rule of that number
 pub main_is : (s : Spec) (x : Name) (r : ℕ) (xs : List Name) (P : Rule) → inits s ≡ x ∷ [] → named s x.text ≡ Some (number.Rule r)

@@ -6,7 +6,7 @@ use Rattle.std.proofs.Math.Seq.{take-append_seam}
 use Rattle.asm_state.specs.Location.{Location, State}
 use Rattle.asm_state.specs.Updates.{UpdateSet}
 use Rattle.asm_state.proofs.Faults.{fault_laws}
-use Rattle.asm_eval.specs.Run.{Run, FiredStep, End, AtLimit, AtExhausted, AtFault, ended, fired}
+use Rattle.asm_meaning.specs.Run.{Run, FiredStep, End, AtLimit, AtExhausted, AtFault, ended, fired}
 use Rattle.asm_run.specs.Trace.{Names, step_text, steps_text, IsEndText, fault_text, state_text}
 use Rattle.asm_run.specs.Sink.{AppendsFront}
 use Rattle.asm_run.specs.Headline.{IsWritten, IsCut, AreWholeSteps}

@@ -13,12 +13,13 @@ use Rattle.asm_state.proofs.Algebra.{union_laws}
 use Rattle.asm_updates.specs.Unions.{united}
 use Rattle.asm_striped.specs.declared.board.Entry.{Entry}
 use Rattle.asm_eval.specs.declared.piece.Piece.{Piece}
-use Rattle.asm_eval.specs.Does.{Outcome, nothing, both}
-use Rattle.asm_eval.specs.Pieces.{IsPiece, counting, all_both, piece_does, pieces_do}
-use Rattle.asm_eval.specs.Program.{Program}
-use Rattle.asm_eval.specs.Setting.{Setting}
-use Rattle.asm_eval.specs.Yields.{Path, Gives, Exhausted, beside}
-use Rattle.asm_eval.proofs.Beside.{beside_laws}
+use Rattle.asm_meaning.specs.Does.{Outcome, nothing, both}
+use Rattle.asm_eval.specs.Pieces.{IsPiece, piece_does, pieces_do}
+use Rattle.asm_meaning.specs.Grouped.{counting, all_both}
+use Rattle.asm_meaning.specs.Program.{Program}
+use Rattle.asm_meaning.specs.Setting.{Setting}
+use Rattle.asm_meaning.specs.Yields.{Path, Gives, Exhausted, beside}
+use Rattle.asm_meaning.proofs.Beside.{beside_laws}
 use Rattle.asm_pool.specs.Pool.{RunsTask, RunsLists}
 use Rattle.asm_run.specs.declared.hand.RegionHand.{RegionHand}
 use Rattle.asm_run.specs.Hands.{LogStands, LogsStand, parts_of}

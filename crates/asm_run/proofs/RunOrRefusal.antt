@@ -14,8 +14,8 @@ use Rattle.asm_check.specs.Faults.{IsFault, IsLeastFault, twice, unknown, arity,
 use Rattle.asm_check.specs.Laws.{LeastExists}
 use Rattle.asm_check.specs.declared.error.FaultKind.{FaultKind}
 use Rattle.asm_check.specs.declared.error.FaultKind.TheVariants.{Twice, Unknown, Arity, NotControlled, CyclicRule, CyclicDerived, Init, TooMany, TableEntry, ResultUse}
-use Rattle.asm_eval.specs.Run as run
-use Rattle.asm_eval.specs.Run.{AtLimit, AtExhausted, AtFault}
+use Rattle.asm_meaning.specs.Run as run
+use Rattle.asm_meaning.specs.Run.{AtLimit, AtExhausted, AtFault}
 use Rattle.asm_run.specs.declared.end.End.{End}
 use Rattle.asm_run.specs.declared.end.End.TheVariants as end
 use Rattle.asm_run.specs.declared.error.RunError.{RunError}

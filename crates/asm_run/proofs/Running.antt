@@ -17,11 +17,11 @@ use Rattle.asm_updates.specs.Entries.{range}
 use Rattle.asm_updates.specs.Faults.{fault_of}
 use Rattle.asm_updates.specs.declared.fault.Fault.{Fault}
 use Rattle.asm_updates.specs.declared.fault.Fault.TheVariants as fault
-use Rattle.asm_eval.specs.Declarations.{program_of, main_rule}
+use Rattle.asm_meaning.specs.Declarations.{program_of, main_rule}
 use Rattle.asm_reader.specs.ScriptLines.{Script}
-use Rattle.asm_eval.specs.Does.{Outcome}
-use Rattle.asm_eval.specs.Yields.{Path, Result as Yielded, Gives, Exhausted}
-use Rattle.asm_eval.specs.Run.{Run, run_from, step_and, ended, fired, AtLimit, AtExhausted, AtFault}
+use Rattle.asm_meaning.specs.Does.{Outcome}
+use Rattle.asm_meaning.specs.Yields.{Path, Result as Yielded, Gives, Exhausted}
+use Rattle.asm_meaning.specs.Run.{Run, run_from, step_and, ended, fired, AtLimit, AtExhausted, AtFault}
 use Rattle.asm_run.specs.declared.end.End.{End}
 use Rattle.asm_run.specs.declared.end.End.TheVariants.{Limit}
 use Rattle.asm_run.specs.declared.end.End.TheVariants as end

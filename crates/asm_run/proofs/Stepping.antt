@@ -20,7 +20,7 @@ use Rattle.asm_updates.specs.Stands.{Stands}
 use Rattle.asm_updates.specs.Faults.{fault_of}
 use Rattle.asm_updates.specs.declared.fault.Fault.{Fault}
 use Rattle.asm_updates.specs.declared.fault.Fault.TheVariants as fault
-use Rattle.asm_eval.specs.Formed.{greatest_count}
+use Rattle.asm_meaning.specs.Formed.{greatest_count}
 use Rattle.asm_run.specs.Trace.{line_end, set_text, state_text, step_text}
 use Rattle.asm_run.specs.Written.{names_in, locations_in, step_line, entries_text, contents_text}
 use Rattle.asm_run.specs.Step.{IsFaultBelow}

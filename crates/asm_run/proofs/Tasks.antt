@@ -7,10 +7,10 @@ use Rattle.asm_state.proofs.Algebra.{union_laws}
 use Rattle.asm_updates.specs.Entries.{Entries, AreEntries}
 use Rattle.asm_updates.specs.Stands.{Stands}
 use Rattle.asm_striped.specs.Seats.{SeatState}
-use Rattle.asm_eval.specs.Does.{Outcome}
-use Rattle.asm_eval.specs.Formed.{Forms}
-use Rattle.asm_eval.specs.Setting.{Setting}
-use Rattle.asm_eval.specs.Yields.{Gives}
+use Rattle.asm_meaning.specs.Does.{Outcome}
+use Rattle.asm_meaning.specs.Formed.{Forms}
+use Rattle.asm_meaning.specs.Setting.{Setting}
+use Rattle.asm_meaning.specs.Yields.{Gives}
 use Rattle.asm_run.specs.declared.job.RegionOut.TheVariants as region
 use Rattle.asm_run.specs.Hands.{Grows, puts}
 use Rattle.asm_run.specs.Rounds.{IsWorked, set_of}

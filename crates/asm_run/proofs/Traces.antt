@@ -5,12 +5,12 @@ use Rattle.asm_state.specs.Updates.{UpdateSet, is_consistent, fire}
 use Rattle.asm_state.proofs.Faults.{fault_laws}
 use Rattle.asm_state.proofs.Updates.{test_laws}
 use Rattle.asm_syntax.specs.Tree.{Rule}
-use Rattle.asm_eval.specs.Declarations.{specification_of}
-use Rattle.asm_eval.specs.Program.{Program, nothing_bound}
-use Rattle.asm_eval.specs.Yields.{Result, Gives, Exhausted}
+use Rattle.asm_meaning.specs.Declarations.{specification_of}
+use Rattle.asm_meaning.specs.Program.{Program, nothing_bound}
+use Rattle.asm_meaning.specs.Yields.{Result, Gives, Exhausted}
 use Rattle.asm_reader.specs.ScriptLines.{Script}
-use Rattle.asm_eval.specs.Does.{does}
-use Rattle.asm_eval.specs.Run.{Run, End, AtFault, ended, fired, step_and, run_from}
+use Rattle.asm_meaning.specs.Does.{does}
+use Rattle.asm_meaning.specs.Run.{Run, End, AtFault, ended, fired, step_and, run_from}
 use Rattle.asm_run.specs.Trace.{Names, IsEndText, fault_text, steps_text, state_text}
 use Rattle.asm_run.specs.Traces.{OneTrace, SomeTrace}
 use Rattle.asm_run.specs.Written.{names_in, locations_in}

@@ -12,8 +12,8 @@ use Rattle.asm_reader.specs.ScriptText.{IsScript, IsScriptRefusal}
 use Rattle.asm_reader.specs.declared.error.ReadError.{ReadError}
 use Rattle.asm_reader.specs.declared.script_error.ScriptError.{ScriptError}
 use Rattle.asm_check.specs.declared.error.CheckError.{CheckError}
-use Rattle.asm_eval.specs.Run as run
-use Rattle.asm_eval.specs.Run.{AtLimit}
+use Rattle.asm_meaning.specs.Run as run
+use Rattle.asm_meaning.specs.Run.{AtLimit}
 use Rattle.asm_run.specs.Headline.{Explains, IsAccepted, IsDone, IsFaulty, book_run}
 use Rattle.asm_run.specs.declared.end.End.{End}
 use Rattle.asm_run.specs.declared.end.End.TheVariants as end

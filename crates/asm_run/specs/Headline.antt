@@ -14,11 +14,11 @@ use Rattle.asm_reader.specs.Refusals.{IsRefusal}
 use Rattle.asm_check.specs.declared.error.CheckError.{CheckError}
 use Rattle.asm_check.specs.Errors.{number_of}
 use Rattle.asm_check.specs.Faults.{IsWellFormed, IsLeastFault}
-use Rattle.asm_eval.specs.Declarations.{specification_of}
+use Rattle.asm_meaning.specs.Declarations.{specification_of}
 use Rattle.asm_reader.specs.ScriptLines.{Script}
 use Rattle.asm_reader.specs.ScriptText.{IsScript, IsScriptRefusal}
-use Rattle.asm_eval.specs.Run as run
-use Rattle.asm_eval.specs.Run.{Run, AtLimit, AtExhausted, AtFault}
+use Rattle.asm_meaning.specs.Run as run
+use Rattle.asm_meaning.specs.Run.{Run, AtLimit, AtExhausted, AtFault}
 use Rattle.asm_run.specs.Limits.{are_in_range}
 use Rattle.asm_run.specs.Trace.{Names, IsTrace, steps_text}
 use Rattle.asm_run.specs.Written.{names_in, locations_in}

@@ -4,7 +4,7 @@ use Rattle.std.specs.Prelude.{◌≡◌}
 use Rattle.asm_syntax.specs.PlainTree.{plain_rule}
 use Rattle.asm_syntax.specs.Views.{spec_of, rule_of}
 use Rattle.asm_check.specs.Faults.{inits}
-use Rattle.asm_eval.specs.Declarations.{main_rule}
+use Rattle.asm_meaning.specs.Declarations.{main_rule}
 use Rattle.asm_run.specs.declared.machine.Machine.{Machine}
 
 abbrev pub HasMainRule : Machine → Type 0

@@ -10,9 +10,9 @@ use Rattle.asm_state.specs.Signature.{state_of}
 use Rattle.asm_syntax.specs.SourceTree.{Spec}
 use Rattle.asm_check.specs.Faults.{inits}
 use Rattle.asm_check.specs.Shapes.{shape_of}
-use Rattle.asm_eval.specs.Declarations.{program_of, main_rule}
+use Rattle.asm_meaning.specs.Declarations.{program_of, main_rule}
 use Rattle.asm_reader.specs.ScriptLines.{Script}
-use Rattle.asm_eval.specs.Run.{Run, FiredStep, run_from}
+use Rattle.asm_meaning.specs.Run.{Run, FiredStep, run_from}
 use Rattle.asm_run.specs.declared.end.End.{End}
 use Rattle.asm_run.specs.declared.error.RunError.{RunError}
 use Rattle.asm_run.specs.declared.error.RunError.TheVariants as error

@@ -22,14 +22,15 @@ use Rattle.asm_state.specs.Updates.{UpdateSet, none}
 use Rattle.asm_striped.specs.declared.board.Entry.{Entry}
 use Rattle.asm_striped.specs.Seats.{SeatState}
 use Rattle.asm_eval.specs.declared.piece.Piece.{Piece}
-use Rattle.asm_eval.specs.Does.{Outcome, both}
-use Rattle.asm_eval.specs.Formed.{greatest_count}
-use Rattle.asm_eval.specs.Evaluated.{meant}
-use Rattle.asm_eval.specs.Pieces.{IsCut, IsPiece, counting, is_closed_part, piece_does, pieces_do, positions_in}
-use Rattle.asm_eval.specs.Program.{Program}
-use Rattle.asm_eval.specs.Setting.{Setting}
-use Rattle.asm_eval.specs.Yields.{Path, Gives, Exhausted, first_path}
-use Rattle.asm_eval.specs.Yields as yields
+use Rattle.asm_meaning.specs.Does.{Outcome, both}
+use Rattle.asm_meaning.specs.Formed.{greatest_count}
+use Rattle.asm_meaning.specs.Meant.{meant}
+use Rattle.asm_eval.specs.Pieces.{IsCut, IsPiece, is_closed_part, piece_does, pieces_do, positions_in}
+use Rattle.asm_meaning.specs.Grouped.{counting}
+use Rattle.asm_meaning.specs.Program.{Program}
+use Rattle.asm_meaning.specs.Setting.{Setting}
+use Rattle.asm_meaning.specs.Yields.{Path, Gives, Exhausted, first_path}
+use Rattle.asm_meaning.specs.Yields as yields
 use Rattle.asm_run.specs.declared.hand.RegionHand.{RegionHand}
 use Rattle.asm_run.specs.declared.job.RegionOut.{RegionOut}
 use Rattle.asm_run.specs.declared.job.RegionOut.TheVariants as region

@@ -17,10 +17,10 @@ use Rattle.asm_check.specs.Shapes.{shape_of}
 use Rattle.asm_updates.specs.declared.fault.Fault.{Fault}
 use Rattle.asm_updates.specs.declared.fault.Fault.TheVariants.{Clash, Outside}
 use Rattle.asm_updates.specs.Faults.{fault_of}
-use Rattle.asm_eval.specs.Declarations.{program_of, main_rule}
-use Rattle.asm_eval.specs.Does.{Outcome, does}
-use Rattle.asm_eval.specs.Program.{nothing_bound}
-use Rattle.asm_eval.specs.Yields.{Path, Gives, Exhausted}
+use Rattle.asm_meaning.specs.Declarations.{program_of, main_rule}
+use Rattle.asm_meaning.specs.Does.{Outcome, does}
+use Rattle.asm_meaning.specs.Program.{nothing_bound}
+use Rattle.asm_meaning.specs.Yields.{Path, Gives, Exhausted}
 use Rattle.asm_run.specs.declared.end.End.{End}
 use Rattle.asm_run.specs.declared.end.End.TheVariants as end
 use Rattle.asm_run.specs.declared.error.RunError.{RunError}

@@ -11,9 +11,9 @@ use Rattle.asm_state.specs.declared.value.Value.{Value}
 use Rattle.asm_state.specs.declared.value.Value.TheVariants.{Undef, Truth, Number, Element}
 use Rattle.asm_state.specs.Location.{Location, Proper, Stray, State}
 use Rattle.asm_state.specs.Updates.{UpdateSet, Range, range_at, Fault, Clash, Outside, IsFirstFault}
-use Rattle.asm_eval.specs.Formed.{greatest_count}
-use Rattle.asm_eval.specs.Yields.{Path}
-use Rattle.asm_eval.specs.Run.{End, AtLimit, AtExhausted, AtFault, FiredStep, Run}
+use Rattle.asm_meaning.specs.Formed.{greatest_count}
+use Rattle.asm_meaning.specs.Yields.{Path}
+use Rattle.asm_meaning.specs.Run.{End, AtLimit, AtExhausted, AtFault, FiredStep, Run}
 
 pub record Names : Type 0 where
   pub functions : List (List ℕ)

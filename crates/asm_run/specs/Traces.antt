@@ -5,7 +5,7 @@ use Rattle.std.specs.Prelude.{◌≡◌, ℕ, List}
 use Rattle.asm_state.specs.Location.{Location}
 use Rattle.asm_syntax.specs.SourceTree.{Spec}
 use Rattle.asm_reader.specs.ScriptLines.{Script}
-use Rattle.asm_eval.specs.Run.{Run}
+use Rattle.asm_meaning.specs.Run.{Run}
 use Rattle.asm_run.specs.Trace.{Names, IsTrace}
 use Rattle.asm_run.specs.Written.{names_in, locations_in}
 use Rattle.asm_run.specs.Headline.{book_run}

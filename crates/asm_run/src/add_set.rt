@@ -1,10 +1,10 @@
 //! What a region yields, added to what was formed before.
 ghost use Rattle.std.specs.Prelude.{◌≡◌};
 ghost use Rattle.asm_state.specs.Signature.{Shape};
-ghost use Rattle.asm_eval.specs.Does as does;
-ghost use Rattle.asm_eval.specs.Formed.{Follows, IsSet};
+ghost use Rattle.asm_meaning.specs.Does as does;
+ghost use Rattle.asm_meaning.specs.Formed.{Follows, IsSet};
 
-use asm_eval::{Forming, Stopped};
+use asm_meaning::{Forming, Stopped};
 use asm_updates::summary::Summary;
 
 /// Adds a region's set, and counts its instances. Where nothing was formed before, the set is taken as it is.

@@ -4,7 +4,7 @@ ghost use Rattle.asm_state.specs.Updates.{none};
 ghost use Rattle.asm_updates.specs.Stands.{Stands};
 ghost use Rattle.asm_run.specs.Hands.{IsNewHand, logs_of, parts_of};
 
-use asm_eval::Forming;
+use asm_meaning::Forming;
 use asm_state::signature::Signature;
 use asm_striped::{StripeSeat, Striped};
 use asm_updates::summary::Summary;

@@ -4,11 +4,12 @@ ghost use Rattle.asm_syntax.specs.PlainTree as plain;
 ghost use Rattle.asm_syntax.specs.Views.{spec_of, rule_of};
 ghost use Rattle.asm_state.specs.Signature.{count_of};
 ghost use Rattle.asm_check.specs.Shapes.{shape_of};
-ghost use Rattle.asm_eval.specs.Does.{does};
+ghost use Rattle.asm_meaning.specs.Does.{does};
 ghost use Rattle.asm_eval.specs.Environments.{environment_in};
-ghost use Rattle.asm_eval.specs.Evaluated.{Fits, meant, outcome_at, shape_at};
-ghost use Rattle.asm_eval.specs.Formed.{Follows, IsFormed};
-ghost use Rattle.asm_eval.specs.Valued.{program, shown};
+ghost use Rattle.asm_eval.specs.Evaluated.{Fits, outcome_at, shape_at};
+ghost use Rattle.asm_meaning.specs.Meant.{meant};
+ghost use Rattle.asm_meaning.specs.Formed.{Follows, IsFormed};
+ghost use Rattle.asm_meaning.specs.Valued.{program, shown};
 ghost use Rattle.asm_run.specs.Limits.{are_in_range};
 
 use crate::add_set::add_set;
@@ -19,9 +20,8 @@ use crate::weight::is_little;
 use asm_check::Checked;
 use asm_eval::form::form;
 use asm_eval::whole::whole;
-use asm_eval::{
-    Choices, Env, Evaluation, Forming, Outcome, Part, Path, Piece, Scene, Stopped, View, walk,
-};
+use asm_eval::{Env, Evaluation, Piece, Scene, walk};
+use asm_meaning::{Choices, Forming, Outcome, Part, Path, Stopped, View};
 use asm_pool::{Gate, PoolError};
 use asm_reader::Picks;
 use asm_syntax::rule::Rule;

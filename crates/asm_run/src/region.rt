@@ -1,12 +1,13 @@
 //! The outcome of a region, by rounds.
 ghost use Rattle.std.specs.Prelude.{◌≡◌, All, IfOk};
 ghost use Rattle.asm_eval.specs.Evaluated.{setting, shape_at, state_at};
-ghost use Rattle.asm_eval.specs.Formed.{IsFormed};
+ghost use Rattle.asm_meaning.specs.Formed.{IsFormed};
 ghost use Rattle.asm_eval.specs.Pieces.{IsPiece, pieces_do};
 
 use crate::hand::{join_hands, split_hands};
 use crate::rounds::{Region, Shares, SoFar, work_rounds};
-use asm_eval::{Evaluation, Outcome, Piece};
+use asm_eval::{Evaluation, Piece};
+use asm_meaning::Outcome;
 use asm_pool::{Gate, PoolError};
 use asm_reader::Picks;
 use asm_striped::Striped;

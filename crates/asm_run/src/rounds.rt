@@ -1,7 +1,7 @@
 //! Rounds over the pieces of a region.
 ghost use Rattle.std.specs.Prelude.{◌≡◌, ℕ, ◌<◌, ◌≤◌, [], All, IfNone, IfOk, IfSome, IsOk, OnOk, length, vec_len};
 ghost use Rattle.asm_state.specs.Signature.{count_of};
-ghost use Rattle.asm_eval.specs.Does as does;
+ghost use Rattle.asm_meaning.specs.Does as does;
 ghost use Rattle.asm_eval.specs.Evaluated.{setting, shape_at, state_at};
 ghost use Rattle.asm_eval.specs.Pieces.{IsPiece, pieces_do};
 ghost use Rattle.asm_run.specs.declared.limits.TheConstants.{WORKERS};
@@ -13,7 +13,8 @@ use crate::job::{RegionJob, RegionOut};
 use crate::weight::{Doing, workers_for};
 use asm_check::shared::checked_is_shared;
 use asm_eval::shared::views_and_pieces_are_shared;
-use asm_eval::{Evaluation, Path, Piece};
+use asm_eval::{Evaluation, Piece};
+use asm_meaning::Path;
 use asm_pool::{Gate, PoolError, work_by};
 use asm_reader::Picks;
 use asm_striped::Striped;

@@ -2,7 +2,7 @@
 ghost use Rattle.std.specs.Prelude.{◌≡◌, IfOk, IfErr, IfSome, IfNone, OnOk};
 ghost use Rattle.asm_syntax.specs.Views.{spec_of};
 ghost use Rattle.asm_check.specs.Shapes.{shape_of};
-ghost use Rattle.asm_eval.specs.Formed.{IsSet, IsStoppedAt};
+ghost use Rattle.asm_meaning.specs.Formed.{IsSet, IsStoppedAt};
 ghost use Rattle.asm_run.specs.Machine.{HasMainRule};
 ghost use Rattle.asm_run.specs.Step.{AreSized, IsFired, IsStopped, main_outcome};
 ghost use Rattle.asm_run.specs.Written.{AreTextsOf};
@@ -11,7 +11,8 @@ use crate::location_texts::LocationTexts;
 use crate::machine::Machine;
 use crate::pooled::Pooled;
 use crate::trace::push_step;
-use asm_eval::{Choices, Env, Evaluation, Forming, Scene, Stopped, View};
+use asm_eval::{Env, Evaluation, Scene};
+use asm_meaning::{Choices, Forming, Stopped, View};
 use asm_pool::Gate;
 use asm_reader::Picks;
 use asm_state::state::State;

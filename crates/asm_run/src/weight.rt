@@ -3,7 +3,8 @@ ghost use Rattle.std.specs.Prelude.{◌<◌};
 
 use asm_check::laws::signature_numbers;
 use asm_check::{Checked, Named};
-use asm_eval::{Part, Piece};
+use asm_eval::Piece;
+use asm_meaning::Part;
 use asm_syntax::name::Name;
 use asm_syntax::rule::Rule;
 use asm_syntax::term::Term;

@@ -1,5 +1,7 @@
 //! The table and its seats.
 ghost use Rattle.std.specs.Prelude.{◌≡◌, ◌+◌, ◌*◌, ◌^◌, ◌<◌, ◌≤◌, None, IfOk};
+ghost use Rattle.asm_state.specs.Signature.{Shape};
+ghost use Rattle.asm_updates.specs.Stands.{MarksFaults};
 ghost use Rattle.asm_striped.specs.Log.{IsCode, IsEntry, entry, IsSummaryOfLog};
 ghost use Rattle.asm_striped.specs.Board.{after_begin, after_end, AtMostKnown, AtLeastKnown, LowsWerePut, HighsWerePut};
 ghost use Rattle.asm_striped.specs.Seats.{first_seat, after_put, without_part, new_seat, both_seats};
@@ -139,6 +141,7 @@ impl Striped {
         requires parts { seat.parts ≡ self.parts }
         ensures count { IfOk result (λ s. s.count ≡ self.count) }
         ensures summary { IfOk result (IsSummaryOfLog seat.log) }
+        ensures marks { IfOk result (λ s. (shape : Shape) → MarksFaults shape s) }
         ensures lows { LowsWerePut seat.lows seat.log }
         ensures highs { HighsWerePut seat.highs seat.log }
     {

@@ -3,7 +3,9 @@ ghost use Rattle.std.specs.Prelude.{◌≡◌, ◌+◌, ◌*◌, ◌^◌, ◌≤
 ghost use Rattle.std.specs.Mem.Slots.{slots_items, slots_len, IsFull};
 ghost use Rattle.std.specs.Option.{option_map};
 ghost use Rattle.asm_state.specs.Codes.{code_of};
+ghost use Rattle.asm_state.specs.Signature.{Shape};
 ghost use Rattle.asm_updates.specs.Entries.{range};
+ghost use Rattle.asm_updates.specs.Stands.{MarksFaults};
 ghost use Rattle.asm_striped.specs.Log.{ShowRange, AreWordsOf};
 ghost use Rattle.asm_striped.specs.Board.{AreBounds, AreMarks, HasWords};
 
@@ -27,7 +29,7 @@ pub fn marks(alloc: Global, count: usize) -> Result<Vec<u64>, AllocError>
     Ok(words)
 }
 
-/// What the words say of each location.
+/// What the words say of each location. They don't say whether it is a stray one, so the summary is marked.
 pub fn summary_of(
     alloc: Global,
     closed: &Closed<(), Global>,
@@ -36,7 +38,8 @@ pub fn summary_of(
     requires words { IsFull closed.now.words × (slots_len closed.now.words ≡ 2 * count + 1) }
     requires count { count ≤ 2 ^ 32 }
     requires bounds { AreBounds count (slots_items closed.now.words) }
-    ensures { IfOk result (HasWords count (slots_items closed.now.words)) }
+    ensures words { IfOk result (HasWords count (slots_items closed.now.words)) }
+    ensures marks { IfOk result (λ s. (shape : Shape) → MarksFaults shape s) }
 {
     let mut summary = Summary::new(alloc, count);
     for n in 0..count {

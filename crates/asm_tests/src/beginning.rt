@@ -4,10 +4,11 @@ ghost use Rattle.asm_state.specs.Signature.{count_of};
 ghost use Rattle.asm_syntax.specs.Views.{spec_of};
 ghost use Rattle.asm_check.specs.Shapes.{shape_of};
 ghost use Rattle.asm_eval.specs.Pieces.{IsPiece};
-ghost use Rattle.asm_eval.specs.Program.{Program};
+ghost use Rattle.asm_meaning.specs.Program.{Program};
 
 use asm_check::Checked;
-use asm_eval::{Env, Part, Path, Piece, View};
+use asm_eval::{Env, Piece};
+use asm_meaning::{Part, Path, View};
 use asm_state::state::State;
 use asm_syntax::rule::Rule;
 use asm_updates::summary::Summary;

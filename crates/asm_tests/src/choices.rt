@@ -2,8 +2,9 @@
 use crate::beginning::{Beginning, main_of};
 use crate::rules::{ASKING, Counting, YIELDED, Yielded, is_exhausted, is_set, specification};
 use asm_check::Checked;
+use asm_eval::Env;
 use asm_eval::whole::whole;
-use asm_eval::{Choices, Env, Outcome};
+use asm_meaning::{Choices, Outcome};
 use std::alloc::{AllocError, Global};
 use std::test::Fail;
 

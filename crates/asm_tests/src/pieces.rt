@@ -12,7 +12,8 @@ use asm_eval::open::open_piece;
 use asm_eval::positions::positions_of;
 use asm_eval::whole::whole;
 use asm_eval::whole_piece::whole_piece;
-use asm_eval::{Choices, Env, Evaluation, Opened, Outcome, Scene, View};
+use asm_eval::{Env, Evaluation, Opened, Scene};
+use asm_meaning::{Choices, Outcome, View};
 use std::alloc::{AllocError, Global};
 use std::test::Fail;
 

@@ -16,8 +16,8 @@ use Rattle.asm_reader.specs.declared.error.ReadError.{ReadError}
 use Rattle.asm_reader.specs.declared.error.ReadError.TheVariants.{Lex}
 use Rattle.asm_reader.specs.declared.script_error.ScriptError.{ScriptError}
 use Rattle.asm_reader.specs.declared.script_error.ScriptError.TheVariants as script_error
-use Rattle.asm_eval.specs.Run as run_of
-use Rattle.asm_eval.specs.Run.{AtLimit}
+use Rattle.asm_meaning.specs.Run as run_of
+use Rattle.asm_meaning.specs.Run.{AtLimit}
 use Rattle.asm_run.specs.Headline.{IsAccepted, IsFaulty, book_run}
 use Rattle.asm_run.specs.Ends as run
 use Rattle.asm_run.specs.Ends.{EndsEarly, HasEnd, IsRefused, MakesAllSteps}

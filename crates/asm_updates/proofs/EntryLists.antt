@@ -16,7 +16,7 @@ use Rattle.asm_state.proofs.Members.{member_laws}
 use Rattle.asm_state.proofs.NumberedLocations.{number_laws}
 use Rattle.asm_updates.specs.Entries.{Entries, NamedRanges, found, range, AreEntries}
 use Rattle.asm_updates.specs.EntryLists.{range_of_entry, range_in, IsSummaryOf, AreInOrder, updates_of, OrderFree, EntryListLaws}
-use Rattle.asm_updates.specs.Stands.{Stands}
+use Rattle.asm_updates.specs.Stands.{Stands, MarksFaults}
 use Rattle.asm_updates.proofs.Found.{AreEntries-tail, AreEntries-permutation, found-after}
 use Rattle.asm_updates.proofs.Standing.{none_range, union_range, lone_range, bounds_range, bounds_alone}
 use Rattle.asm_updates.proofs.Widening.{widen-swap, widen-group, widen-itself}
@@ -104,12 +104,13 @@ names_within shape (e ∷ es) all l (v, m) =
       | inr y ↦ subst (IsLocationOf shape) (sym (bounds_alone at e.1.0 e.1.1 l (v, y))) (number_laws.is_location shape e.0 all.0)
     ]
 
-summary_stands : (shape : Shape) (s : Entries) (es : NamedRanges) → IsSound shape → s.count ≡ count_of shape → AreInOrder s.count es → IsSummaryOf es s → Stands shape s (updates_of shape es)
-summary_stands shape s es sound is are summary = record {
+summary_stands : (shape : Shape) (s : Entries) (es : NamedRanges) → IsSound shape → s.count ≡ count_of shape → AreInOrder s.count es → IsSummaryOf es s → MarksFaults shape s → Stands shape s (updates_of shape es)
+summary_stands shape s es sound is are summary marks = record {
   is_sound = sound;
   has_count = is;
   has_ranges = λ n h. summary n ∙ ranges_stand shape s.count es sound is are n h;
   names_within = names_within shape es (recursion_from_All (λ e. e.0 < count_of shape) es (subst (λ c. All (λ e. e.0 < c) es) is are.in_range));
+  marks_faults = marks;
 }
 
 pub entry_list_laws : EntryListLaws

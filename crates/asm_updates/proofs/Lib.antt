@@ -4,6 +4,7 @@ pub mod Firing
 pub mod Found
 pub mod Gathering
 pub mod Listed
+pub mod Marks
 pub mod Orders
 pub mod Pages
 pub mod SomeSet

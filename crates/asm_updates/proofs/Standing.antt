@@ -13,8 +13,9 @@ use Rattle.asm_state.proofs.Members.{member_laws}
 use Rattle.asm_state.proofs.Summaries.{summary_laws}
 use Rattle.asm_state.proofs.NumberedLocations.{number_laws}
 use Rattle.asm_updates.specs.Entries.{Entries, entry, range, AreEntries}
-use Rattle.asm_updates.specs.Stands.{Stands}
+use Rattle.asm_updates.specs.Stands.{Stands, MarksFaults}
 use Rattle.asm_updates.proofs.Found.{found-above}
+use Rattle.asm_updates.proofs.Marks.{settled-absent}
 use Rattle.asm_updates.proofs.Orders.{at_most, at_most_itself}
 use Rattle.asm_updates.proofs.Widened.{widen-none}
 
@@ -43,12 +44,13 @@ stands_for_none shape s sound count all = record {
   has_count = count;
   has_ranges = λ n h. all n ∙ sym (none_range (location_at shape n));
   names_within = λ l (v, m). absurd (member_laws.of_none l v m);
+  marks_faults = λ off n h. settled-absent (location_at shape n) (entry s n) (all n);
 }
 
 -- ---- the union and the merge
 
-pub stands_for_union : (shape : Shape) (a b c : Entries) (U V : UpdateSet) → c.count ≡ a.count → ((n : ℕ) → entry c n ≡ widen (entry a n) (entry b n)) → Stands shape a U → Stands shape b V → Stands shape c (together U V)
-stands_for_union shape a b c U V count each first second = record {
+pub stands_for_union : (shape : Shape) (a b c : Entries) (U V : UpdateSet) → c.count ≡ a.count → ((n : ℕ) → entry c n ≡ widen (entry a n) (entry b n)) → MarksFaults shape c → Stands shape a U → Stands shape b V → Stands shape c (together U V)
+stands_for_union shape a b c U V count each marks first second = record {
   is_sound = first.is_sound;
   has_count = count ∙ first.has_count;
   has_ranges = λ n h.
@@ -57,10 +59,11 @@ stands_for_union shape a b c U V count each first second = record {
       ∙ ap (widen (range_at U (location_at shape n))) (second.has_ranges n h)
       ∙ union_range U V (location_at shape n);
   names_within = λ l (v, m). elim ((member_laws.of_union U V l v).0 m) [ inl x ↦ first.names_within l (v, x) | inr y ↦ second.names_within l (v, y) ];
+  marks_faults = marks;
 }
 
-pub stands_for_merge : (shape : Shape) (a b c : Entries) (U V : UpdateSet) → c.count ≡ a.count → ((n : ℕ) → entry c n ≡ later_range (entry a n) (entry b n)) → Stands shape a U → Stands shape b V → Stands shape c (merge U V)
-stands_for_merge shape a b c U V count each first second = record {
+pub stands_for_merge : (shape : Shape) (a b c : Entries) (U V : UpdateSet) → c.count ≡ a.count → ((n : ℕ) → entry c n ≡ later_range (entry a n) (entry b n)) → MarksFaults shape c → Stands shape a U → Stands shape b V → Stands shape c (merge U V)
+stands_for_merge shape a b c U V count each marks first second = record {
   is_sound = first.is_sound;
   has_count = count ∙ first.has_count;
   has_ranges = λ n h.
@@ -69,6 +72,7 @@ stands_for_merge shape a b c U V count each first second = record {
       ∙ ap (later_range (range_at U (location_at shape n))) (second.has_ranges n h)
       ∙ merge_range U V (location_at shape n);
   names_within = λ l (v, m). elim ((member_laws.of_merge U V l v).0 m) [ inl x ↦ first.names_within l (v, x.0) | inr y ↦ second.names_within l (v, y) ];
+  marks_faults = marks;
 }
 
 -- ---- a location more
@@ -113,9 +117,9 @@ widened f n k r =
 
 pub stands_with : (shape : Shape) (a c : Entries) (U W : UpdateSet) (n : ℕ) (r : Range) → n < a.count → c.count ≡ a.count →
     ((k : ℕ) → entry c k ≡ cond (eqb k n) (widen (entry a n) (Some r)) (entry a k)) →
-    Stands shape a U → IsRange (Has W (location_at shape n)) r → ((l : Location) → Names W l → l ≡ location_at shape n) →
+    MarksFaults shape c → Stands shape a U → IsRange (Has W (location_at shape n)) r → ((l : Location) → Names W l → l ≡ location_at shape n) →
     Stands shape c (together U W)
-stands_with shape a c U W n r lt count each first is alone =
+stands_with shape a c U W n r lt count each marks first is alone =
     let h : n < count_of shape = subst (λ x. n < x) first.has_count lt in
     record {
       is_sound = first.is_sound;
@@ -130,6 +134,7 @@ stands_with shape a c U W n r lt count each first is alone =
         | inl x ↦ first.names_within l (v, x)
         | inr y ↦ subst (IsLocationOf shape) (sym (alone l (v, y))) (number_laws.is_location shape n h)
       ];
+      marks_faults = marks;
     }
 
 one_is : (l : Location) (v : Value) → Has (one l v) l v

@@ -12,12 +12,13 @@ use Rattle.asm_updates.proofs.SomeSet.{some_set}
 use Rattle.asm_updates.proofs.Standing.{stands_for_none, stands_for_union, stands_for_merge, entry_at_location}
 use Rattle.asm_updates.proofs.Faults.{consistent}
 
-alike : (shape : Shape) (s t : Entries) (U : UpdateSet) → t.count ≡ s.count → ((n : ℕ) → entry t n ≡ entry s n) → Stands shape s U → Stands shape t U
-alike shape s t U count each stands = record {
+alike : (shape : Shape) (s t : Entries) (U : UpdateSet) → t.count ≡ s.count → t.may_fault ≡ s.may_fault → ((n : ℕ) → entry t n ≡ entry s n) → Stands shape s U → Stands shape t U
+alike shape s t U count mark each stands = record {
   is_sound = stands.is_sound;
   has_count = count ∙ stands.has_count;
   has_ranges = λ n h. each n ∙ stands.has_ranges n h;
   names_within = stands.names_within;
+  marks_faults = λ off n h. subst (IsSettled (location_at shape n)) (sym (each n)) (stands.marks_faults (sym mark ∙ off) n h);
 }
 
 consistency : (shape : Shape) (s : Entries) (U : UpdateSet) → Stands shape s U → IsConsistent U ↔ ((n : ℕ) → n < count_of shape → IsSettled (location_at shape n) (entry s n))

@@ -1,7 +1,7 @@
 -- What a summary has at each location, which goes by its number.
---     Entries       the named locations, each with its least and its greatest value
+--     Entries       the named locations, each with its least and its greatest value, and whether one may be faulty
 --     entry s n     the range of the values at location n, if it is named
-use Rattle.std.specs.Prelude.{ℕ, ◌<◌, ◌≤◌, ◌==◌, if◌then◌else◌, nat_eq, List, [], ◌∷◌, Option, Some, None, All}
+use Rattle.std.specs.Prelude.{ℕ, Bool, false, ◌<◌, ◌≤◌, ◌==◌, if◌then◌else◌, nat_eq, List, [], ◌∷◌, Option, Some, None, All}
 use Rattle.std.specs.List.{IsDistinct}
 use Rattle.std.specs.Map.{keys_of}
 use Rattle.asm_state.specs.declared.value.Value.{Value}
@@ -15,6 +15,12 @@ NamedRanges = List (ℕ × (Value × Value))
 pub record Entries : Type 0 where
   pub count : ℕ
   pub ranges : NamedRanges
+  pub may_fault : Bool
+
+-- a mark of entries, which says nothing where there are none
+abbrev pub marked : Bool → NamedRanges → Bool
+marked mark [] = false
+marked mark (e ∷ es) = mark
 
 -- the range with these bounds
 abbrev pub range : Value × Value → Range

@@ -10,7 +10,7 @@ use Rattle.asm_state.specs.Codes.{code_of}
 use Rattle.asm_state.specs.Signature.{Shape, IsSound, count_of, location_at}
 use Rattle.asm_state.specs.Updates.{UpdateSet, none, one, together, Range, widen}
 use Rattle.asm_updates.specs.Entries.{Entries, NamedRanges, entry, range, AreEntries}
-use Rattle.asm_updates.specs.Stands.{Stands}
+use Rattle.asm_updates.specs.Stands.{Stands, MarksFaults}
 
 -- the range of one entry, at its own location
 abbrev pub range_of_entry : ℕ × (Value × Value) → ℕ → Option Range
@@ -40,5 +40,5 @@ pub record EntryListLaws : Type 0 where
   pub of_append : (es fs : NamedRanges) (n : ℕ) → range_in (es ++ fs) n ≡ widen (range_in es n) (range_in fs n)
   -- the entries of a summary have that summary
   pub of_summary : (s : Entries) → AreEntries s.count s.ranges → IsSummaryOf s.ranges s
-  -- the summary of a list stands for the updates of its entries
-  pub stands : (shape : Shape) (s : Entries) (es : NamedRanges) → IsSound shape → s.count ≡ count_of shape → AreInOrder s.count es → IsSummaryOf es s → Stands shape s (updates_of shape es)
+  -- the summary of a list stands for the updates of its entries, where it marks its faults
+  pub stands : (shape : Shape) (s : Entries) (es : NamedRanges) → IsSound shape → s.count ≡ count_of shape → AreInOrder s.count es → IsSummaryOf es s → MarksFaults shape s → Stands shape s (updates_of shape es)

@@ -5,20 +5,20 @@ use Rattle.asm_state.specs.Signature.{Shape, IsSound, count_of, location_at, num
 use Rattle.asm_state.specs.UpdateLaws.{IsSettled}
 use Rattle.asm_state.specs.Updates.{UpdateSet, IsConsistent, none, together, merge, widen, later_range, range_at, overwritten, fire}
 use Rattle.asm_updates.specs.Entries.{Entries, entry, AreEntries}
-use Rattle.asm_updates.specs.Stands.{Stands}
+use Rattle.asm_updates.specs.Stands.{Stands, MarksFaults}
 
 pub record StandingLaws : Type 0 where
-  -- each summary of a signature stands for some set
-  pub some : (shape : Shape) (s : Entries) → IsSound shape → s.count ≡ count_of shape → AreEntries s.count s.ranges → (U : UpdateSet) × Stands shape s U
+  -- each summary of a signature stands for some set, where it marks its faults
+  pub some : (shape : Shape) (s : Entries) → IsSound shape → s.count ≡ count_of shape → AreEntries s.count s.ranges → MarksFaults shape s → (U : UpdateSet) × Stands shape s U
   -- a summary has the range of each location in the set, by its number, and no entry for what is no location of the signature
   pub at_location : (shape : Shape) (s : Entries) (U : UpdateSet) (l : Location) → AreEntries s.count s.ranges → Stands shape s U → entry s (number_at shape l) ≡ range_at U l
-  -- a summary with the same entries stands for the same sets
-  pub alike : (shape : Shape) (s t : Entries) (U : UpdateSet) → t.count ≡ s.count → ((n : ℕ) → entry t n ≡ entry s n) → Stands shape s U → Stands shape t U
+  -- a summary with the same entries and the same mark stands for the same sets
+  pub alike : (shape : Shape) (s t : Entries) (U : UpdateSet) → t.count ≡ s.count → t.may_fault ≡ s.may_fault → ((n : ℕ) → entry t n ≡ entry s n) → Stands shape s U → Stands shape t U
   -- one without entries stands for the empty set
   pub of_none : (shape : Shape) (s : Entries) → IsSound shape → s.count ≡ count_of shape → ((n : ℕ) → entry s n ≡ None) → Stands shape s none
   -- the entries of a union and of a turbo merge come of those of the two sets
-  pub of_union : (shape : Shape) (s t both : Entries) (U V : UpdateSet) → both.count ≡ s.count → ((n : ℕ) → entry both n ≡ widen (entry s n) (entry t n)) → Stands shape s U → Stands shape t V → Stands shape both (together U V)
-  pub of_merge : (shape : Shape) (s t both : Entries) (U V : UpdateSet) → both.count ≡ s.count → ((n : ℕ) → entry both n ≡ later_range (entry s n) (entry t n)) → Stands shape s U → Stands shape t V → Stands shape both (merge U V)
+  pub of_union : (shape : Shape) (s t both : Entries) (U V : UpdateSet) → both.count ≡ s.count → ((n : ℕ) → entry both n ≡ widen (entry s n) (entry t n)) → MarksFaults shape both → Stands shape s U → Stands shape t V → Stands shape both (together U V)
+  pub of_merge : (shape : Shape) (s t both : Entries) (U V : UpdateSet) → both.count ≡ s.count → ((n : ℕ) → entry both n ≡ later_range (entry s n) (entry t n)) → MarksFaults shape both → Stands shape s U → Stands shape t V → Stands shape both (merge U V)
   -- a set is consistent where each location is settled
   pub consistency : (shape : Shape) (s : Entries) (U : UpdateSet) → Stands shape s U → IsConsistent U ↔ ((n : ℕ) → n < count_of shape → IsSettled (location_at shape n) (entry s n))
   -- what firing makes of a location's content

@@ -1,5 +1,5 @@
 //! Bounds of values at one location.
-ghost use Rattle.std.specs.Prelude.{◌≡◌, Some};
+ghost use Rattle.std.specs.Prelude.{◌≡◌, Some, false};
 ghost use Rattle.asm_state.specs.Updates.{lesser, greater, widen};
 ghost use Rattle.asm_updates.specs.Entries.{range};
 
@@ -10,6 +10,23 @@ pub(crate) fn widened(first: (Word, Word), second: (Word, Word)) -> (Word, Word)
     ensures { Some (range result) ≡ widen (Some (range first)) (Some (range second)) }
 {
     (lesser_of(first.0, second.0), greater_of(first.1, second.1))
+}
+
+/// Whether bounds differ.
+#[inline(always)]
+pub(crate) fn differ(low: Word, high: Word) -> bool
+    ensures { result ≡ false → low ≡ high }
+{
+    low.code() != high.code()
+}
+
+/// Whether one of two marks is there.
+#[inline(always)]
+pub(crate) fn either(first: bool, second: bool) -> bool
+    ensures first { result ≡ false → first ≡ false }
+    ensures second { result ≡ false → second ≡ false }
+{
+    first || second
 }
 
 fn lesser_of(a: Word, b: Word) -> Word

@@ -1,5 +1,5 @@
 //! The bounds of the values at each location that a set names.
-ghost use Rattle.std.specs.Prelude.{◌≡◌, ◌+◌, ◌<◌, ◌≤◌, ◌==◌, ◌⊎◌, ℕ, [], Some, None, true, IsTrue, IfOk, IfSome, IfNone, OnOk, OnErr, if◌then◌else◌, length, slice_get, slice_index_or, nat_eq};
+ghost use Rattle.std.specs.Prelude.{◌≡◌, ◌+◌, ◌<◌, ◌≤◌, ◌==◌, ◌⊎◌, ℕ, [], Some, None, true, false, IsTrue, IfOk, IfSome, IfNone, OnOk, OnErr, if◌then◌else◌, length, slice_get, slice_index_or, nat_eq};
 ghost use Rattle.std.specs.List.{IsDistinct};
 ghost use Rattle.std.specs.List.Sorted.{IsStrictlyIncreasing};
 ghost use Rattle.std.specs.Map.{keys_of};
@@ -7,10 +7,10 @@ ghost use Rattle.std.specs.Option.{option_map};
 ghost use Rattle.asm_state.specs.Codes.{code_of};
 ghost use Rattle.asm_state.specs.Updates.{widen};
 ghost use Rattle.asm_updates.specs.Entries.{found, range, AreEntries};
-ghost use Rattle.asm_updates.specs.Listed.{put, IsAt, ArePlaced};
+ghost use Rattle.asm_updates.specs.Listed.{put, HasOneValue, IsAt, ArePlaced};
 ghost use Rattle.asm_updates.specs.Positions.{position_of};
 
-use crate::bounds::widened;
+use crate::bounds::{differ, widened};
 use crate::positions::Positions;
 use asm_state::word::Word;
 use std::alloc::{AllocError, Global};
@@ -128,20 +128,51 @@ impl Ranges {
         }
     }
 
-    /// Widens the bounds of a location by these, or gives it these. There is room for one more entry.
-    pub fn widen(&mut self, n: usize, bounds: (Word, Word))
+    /// Widens the bounds of a location by these, or gives it these, and answers whether it has two values then. There is room for one more
+    /// entry.
+    pub fn widen(&mut self, n: usize, bounds: (Word, Word)) -> bool
         requires { 0 < self.old.spare }
         ensures sound { (count : ℕ) → n < count → code_of bounds.0 ≤ code_of bounds.1 → AreEntries count self.old.entries → AreEntries count self.new.entries }
         ensures entries { (k : ℕ) → found self.new.entries k
             ≡ (if k == n then widen (found self.old.entries n) (Some (range bounds)) else found self.old.entries k) }
         ensures room { self.old.spare ≤ self.new.spare + 1 }
+        ensures alike { result ≡ false → HasOneValue (found self.new.entries n) }
     {
         match self.position(n) {
             Some(i) => {
                 let both = widened(self.entry_at(i).1, bounds);
+                let has_two = differ(both.0, both.1);
                 self.put_at(i, n, both);
+                has_two
             }
-            None => self.push(n, bounds),
+            None => {
+                let has_two = differ(bounds.0, bounds.1);
+                self.push(n, bounds);
+                has_two
+            }
+        }
+    }
+
+    /// Widens the bounds of a location by one value, or gives it this one, and answers whether it has two values then. There is room for one
+    /// more entry.
+    pub fn widen_by(&mut self, n: usize, value: Word) -> bool
+        requires { 0 < self.old.spare }
+        ensures sound { (count : ℕ) → n < count → AreEntries count self.old.entries → AreEntries count self.new.entries }
+        ensures entries { (k : ℕ) → found self.new.entries k
+            ≡ (if k == n then widen (found self.old.entries n) (Some (range (value, value))) else found self.old.entries k) }
+        ensures alike { result ≡ false → HasOneValue (found self.new.entries n) }
+    {
+        match self.position(n) {
+            Some(i) => {
+                let both = widened(self.entry_at(i).1, (value, value));
+                let has_two = differ(both.0, both.1);
+                self.put_at(i, n, both);
+                has_two
+            }
+            None => {
+                self.push(n, (value, value));
+                false
+            }
         }
     }
 

@@ -1,17 +1,19 @@
 //! A summary of an update set.
-ghost use Rattle.std.specs.Prelude.{◌≡◌, ◌<◌, ◌≤◌, ◌==◌, ◌↔◌, ◌⊎◌, ℕ, [], Some, None, IsTrue, OnOk, OnErr, IfOk, IfNone, IfSome, if◌then◌else◌, length, slice_get, slice_index_or};
+ghost use Rattle.std.specs.Prelude.{◌≡◌, ◌<◌, ◌≤◌, ◌==◌, ◌↔◌, ◌⊎◌, ℕ, [], Some, None, false, IsTrue, OnOk, OnErr, IfOk, IfNone, IfSome, if◌then◌else◌, length, slice_get, slice_index_or};
 ghost use Rattle.std.specs.List.Sorted.{IsStrictlyIncreasing};
 ghost use Rattle.std.specs.Map.{keys_of};
 ghost use Rattle.std.specs.Option.{option_map};
 ghost use Rattle.asm_state.specs.Codes.{code_of};
 ghost use Rattle.asm_state.specs.Contents.{IsStateOf};
 ghost use Rattle.asm_state.specs.Signature.{Shape, IsSound, count_of, location_at, state_of};
-ghost use Rattle.asm_state.specs.Updates.{UpdateSet, IsConsistent, IsFirstFault, none, one, together, merge, widen, later_range, overwritten, fire};
+ghost use Rattle.asm_state.specs.Updates.{UpdateSet, IsConsistent, IsFirstFault, none, one, together, merge, widen, later_range, overwritten, fire, is_proper};
 ghost use Rattle.asm_state.specs.declared.value.Value.TheVariants.{Undef};
 ghost use Rattle.asm_updates.specs.Entries.{entry, found, range, AreEntries};
 ghost use Rattle.asm_updates.specs.Faults.{fault_of};
-ghost use Rattle.asm_updates.specs.Stands.{Stands};
+ghost use Rattle.asm_updates.specs.Listed.{HasOneValue};
+ghost use Rattle.asm_updates.specs.Stands.{Stands, MarksFaults};
 
+use crate::bounds::either;
 use crate::fault::{Fault, fault_at};
 use crate::ranges::Ranges;
 use asm_state::signature::Signature;
@@ -26,14 +28,16 @@ use std::marker::Model;
 pub struct Summary {
     count: usize,
     ranges: Ranges,
+    /// Whether a location may be faulty. Where it is false, each has one value and is proper.
+    may_fault: bool,
 }
 
 impl Model for Summary {
-    ghost use Rattle.asm_updates.specs.Entries.{Entries, AreEntries};
+    ghost use Rattle.asm_updates.specs.Entries.{Entries, AreEntries, marked};
 
     ghost Value = { Entries };
 
-    ghost view = { λ s. record { count = s.count; ranges = s.ranges.entries } };
+    ghost view = { λ s. record { count = s.count; ranges = s.ranges.entries; may_fault = marked s.may_fault s.ranges.entries } };
 
     ghost invariant = { λ s. AreEntries s.count s.ranges.entries };
 }
@@ -45,10 +49,12 @@ impl Summary {
         ensures entries { (n : ℕ) → entry result n ≡ None }
         ensures empty { (shape : Shape) → IsSound shape → count ≡ count_of shape → Stands shape result none }
         ensures ranges { result.ranges ≡ [] }
+        ensures mark { result.may_fault ≡ false }
     {
         Summary {
             count,
             ranges: Ranges::new(alloc),
+            may_fault: false,
         }
     }
 
@@ -62,6 +68,7 @@ impl Summary {
     /// How many locations the set names.
     pub fn len(&self) -> usize
         ensures len { result ≡ length self.now.ranges }
+        ensures mark { result ≡ 0 → self.now.may_fault ≡ false }
         ensures sound { AreEntries self.now.count self.now.ranges }
     {
         self.ranges.len()
@@ -104,6 +111,7 @@ impl Summary {
     pub fn sort(&mut self) -> Result<(), AllocError>
         ensures count { self.new.count ≡ self.old.count }
         ensures len { length self.new.ranges ≡ length self.old.ranges }
+        ensures mark { self.new.may_fault ≡ self.old.may_fault }
         ensures entries { (n : ℕ) → entry self.new n ≡ entry self.old n }
         ensures rising { OnOk result (IsStrictlyIncreasing (keys_of self.new.ranges)) }
         ensures sound { AreEntries self.new.count self.new.ranges }
@@ -112,7 +120,8 @@ impl Summary {
         self.ranges.sort(self.count)
     }
 
-    /// Adds a location with its bounds, as the union with the summary of one location does.
+    /// Adds a location with its bounds, as the union with the summary of one location does. `first_fault` looks at the locations then, since
+    /// the location may be a stray one.
     pub fn add(&mut self, n: usize, low: Word, high: Word) -> Result<(), AllocError>
         requires in_range { n < self.old.count }
         requires ordered { code_of low ≤ code_of high }
@@ -123,10 +132,29 @@ impl Summary {
             Stands shape self.new (together U (together (one l low) (one l high)))) }
         ensures value { OnOk result ((shape : Shape) (U : UpdateSet) → low ≡ high → Stands shape self.old U →
             Stands shape self.new (together U (one (location_at shape n) low))) }
+        ensures marks { OnOk result ((shape : Shape) → MarksFaults shape self.new) }
         ensures err { OnErr result (self.new ≡ self.old) }
     {
         self.ranges.reserve(1)?;
         self.ranges.widen(n, (low, high));
+        self.may_fault = true;
+        Ok(())
+    }
+
+    /// Adds a location that is proper with one value. `first_fault` looks at the locations only where this is a second value.
+    pub fn add_proper(&mut self, n: usize, value: Word) -> Result<(), AllocError>
+        requires { n < self.old.count }
+        ensures count { self.new.count ≡ self.old.count }
+        ensures entries { OnOk result ((k : ℕ) → entry self.new k
+            ≡ (if k == n then widen (entry self.old n) (Some (range (value, value))) else entry self.old k)) }
+        ensures value { OnOk result ((shape : Shape) (U : UpdateSet) → IsTrue (is_proper (location_at shape n)) → Stands shape self.old U →
+            Stands shape self.new (together U (one (location_at shape n) value))) }
+        ensures err { OnErr result (self.new ≡ self.old) }
+    {
+        self.ranges.reserve(1)?;
+        let has_two = self.ranges.widen_by(n, value);
+        let mark = either(self.may_fault, has_two);
+        self.may_fault = mark;
         Ok(())
     }
 
@@ -139,8 +167,11 @@ impl Summary {
             Stands shape self.new (together U V)) }
         ensures err { OnErr result (self.new ≡ self.old) }
     {
+        let marked = self.is_marked_with(other);
         self.ranges.reserve(other.len())?;
-        widen_all(&mut self.ranges, other);
+        let has_two = widen_all(&mut self.ranges, other);
+        let mark = either(marked, has_two);
+        self.may_fault = mark;
         Ok(())
     }
 
@@ -153,9 +184,18 @@ impl Summary {
             Stands shape self.new (merge U V)) }
         ensures err { OnErr result (self.new ≡ self.old) }
     {
+        let marked = self.is_marked_with(later);
         self.ranges.reserve(later.len())?;
         replace_all(&mut self.ranges, later);
+        self.may_fault = marked;
         Ok(())
+    }
+
+    /// Whether one of two sets may have a fault.
+    fn is_marked_with(&self, other: &Summary) -> bool
+        ensures { result ≡ false → (self.now.may_fault ≡ false) × (other.now.may_fault ≡ false) }
+    {
+        self.may_fault || other.may_fault
     }
 
     /// Goes back to the empty set, and keeps its memory for the next one.
@@ -164,12 +204,28 @@ impl Summary {
         ensures entries { (n : ℕ) → entry self.new n ≡ None }
         ensures empty { (shape : Shape) → IsSound shape → self.old.count ≡ count_of shape → Stands shape self.new none }
         ensures ranges { self.new.ranges ≡ [] }
+        ensures mark { self.new.may_fault ≡ false }
     {
         self.ranges.clear();
+        self.may_fault = false;
     }
 
-    /// The fault at the least faulty location.
+    /// The fault at the least faulty location. It looks at the locations only where one may be faulty.
     pub fn first_fault(&self, signature: &Signature) -> Option<Fault>
+        requires { self.now.count ≡ count_of signature.now }
+        ensures consistent { IfNone result ((U : UpdateSet) → Stands signature.now self.now U → IsConsistent U) }
+        ensures first { IfSome result (λ fault. (U : UpdateSet) → Stands signature.now self.now U →
+            IsFirstFault U (fault_of signature.now fault)) }
+    {
+        if self.may_fault {
+            self.least_fault(signature)
+        } else {
+            None
+        }
+    }
+
+    /// The fault at the least faulty location, found by looking at each.
+    fn least_fault(&self, signature: &Signature) -> Option<Fault>
         requires { self.now.count ≡ count_of signature.now }
         ensures consistent { IfNone result ((U : UpdateSet) → Stands signature.now self.now U → IsConsistent U) }
         ensures first { IfSome result (λ fault. (U : UpdateSet) → Stands signature.now self.now U →
@@ -236,21 +292,27 @@ impl Summary {
         Ok(Summary {
             count: self.count,
             ranges,
+            may_fault: self.may_fault,
         })
     }
 }
 
-/// Widens the bounds of each location by those that the others have. There is room for all of theirs.
-fn widen_all(ranges: &mut Ranges, others: &Summary)
+/// Widens the bounds of each location by those that the others have, and answers whether one of theirs has two values then. There is room
+/// for all of theirs.
+fn widen_all(ranges: &mut Ranges, others: &Summary) -> bool
     requires room { length others.now.ranges ≤ ranges.old.spare }
     requires sound { AreEntries others.now.count ranges.old.entries }
     ensures sound { AreEntries others.now.count ranges.new.entries }
     ensures entries { (k : ℕ) → found ranges.new.entries k ≡ widen (found ranges.old.entries k) (entry others.now k) }
+    ensures alike { result ≡ false → (k : ℕ) → HasOneValue (found ranges.old.entries k) → HasOneValue (found ranges.new.entries k) }
 {
+    let mut some_have_two = false;
     for i in 0..others.len() {
         let (n, low, high) = others.entry_at(i);
-        ranges.widen(n, (low, high));
+        let has_two = ranges.widen(n, (low, high));
+        some_have_two = either(some_have_two, has_two);
     }
+    some_have_two
 }
 
 /// Gives each location that the later ones have their bounds. There is room for all of theirs.

@@ -1,6 +1,7 @@
 //! What rules yield where workers share their regions.
 use asm_check::Checked;
-use asm_eval::{Choices, Env, Outcome};
+use asm_eval::Env;
+use asm_meaning::{Choices, Outcome};
 use asm_pool::NoGate;
 use asm_run::limits::Limits;
 use asm_run::pooled::Pooled;

@@ -3,7 +3,8 @@ ghost use Rattle.asm_reader.specs.ScriptLines.{no_lines};
 
 use super::meetings::Meeting;
 use asm_check::Checked;
-use asm_eval::{Choices, Env, Outcome};
+use asm_eval::Env;
+use asm_meaning::{Choices, Outcome};
 use asm_pool::NoGate;
 use asm_reader::Picks;
 use asm_run::limits::Limits;

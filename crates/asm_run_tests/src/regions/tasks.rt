@@ -8,7 +8,8 @@ ghost use Rattle.asm_eval.specs.Pieces.{IsPiece};
 
 use asm_check::Checked;
 use asm_eval::open::open_piece;
-use asm_eval::{Choices, Evaluation, Opened, Piece, Scene, View};
+use asm_eval::{Evaluation, Opened, Piece, Scene};
+use asm_meaning::{Choices, View};
 use asm_pool::Job;
 use asm_run::hand::RegionHand;
 use asm_run::job::{RegionJob, RegionOut};

@@ -5,7 +5,8 @@ ghost use Rattle.asm_syntax.specs.Views.{spec_of};
 ghost use Rattle.asm_check.specs.Shapes.{shape_of};
 
 use asm_check::Checked;
-use asm_eval::{Choices, Env, Evaluation, Forming, Scene, Stopped, View};
+use asm_eval::{Env, Evaluation, Scene};
+use asm_meaning::{Choices, Forming, Stopped, View};
 use asm_pool::NoGate;
 use asm_run::limits::Limits;
 use asm_run::pooled::Pooled;

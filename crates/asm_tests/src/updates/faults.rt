@@ -47,6 +47,54 @@ fn the_first_clash_is_the_one_at_the_least_location(rt: HostRuntime) -> Result<(
     Ok(())
 }
 
+/// Whether a set of proper locations has no fault until a union gives one of them a second value, and none once a later set has replaced it.
+fn clashes_by_union(alloc: Global) -> Result<bool, Fail> {
+    let signature = signature_of_two(alloc)?;
+    let (one, two) = (value(ONE), value(TWO));
+    let mut first = Summary::new(alloc, 7);
+    let mut second = Summary::new(alloc, 7);
+    first.add_proper(2, one)?;
+    second.add_proper(2, two)?;
+    let has_no_fault = first.first_fault(&signature) == None;
+    first.union(&second)?;
+    let clash = Fault::Clash {
+        location: 2,
+        low: one,
+        high: two,
+    };
+    let clashes = first.first_fault(&signature) == Some(clash);
+    first.then(&second)?;
+    Ok(has_no_fault && clashes && first.first_fault(&signature) == None)
+}
+
+#[test]
+fn a_union_of_proper_locations_clashes(rt: HostRuntime) -> Result<(), Fail> {
+    assert!(rt; clashes_by_union(rt.alloc())?);
+    Ok(())
+}
+
+/// Whether a union with a set that names a stray location has its fault, and so has a turbo merge with it.
+fn strays_by_union(alloc: Global) -> Result<bool, Fail> {
+    let signature = signature_of_two(alloc)?;
+    let one = value(ONE);
+    let mut united = Summary::new(alloc, 7);
+    let mut merged = Summary::new(alloc, 7);
+    let mut stray = Summary::new(alloc, 7);
+    united.add_proper(2, one)?;
+    merged.add_proper(2, one)?;
+    stray.add(4, one, one)?;
+    united.union(&stray)?;
+    merged.then(&stray)?;
+    let outside = Some(Fault::Outside { function: 0 });
+    Ok(united.first_fault(&signature) == outside && merged.first_fault(&signature) == outside)
+}
+
+#[test]
+fn an_update_outside_the_domain_is_told_after_a_union(rt: HostRuntime) -> Result<(), Fail> {
+    assert!(rt; strays_by_union(rt.alloc())?);
+    Ok(())
+}
+
 static UPDATES: [Entry; 2] = [(3, ONE, ONE), (5, TWO, TWO)];
 
 static FIRED: [Plain; 7] = [

@@ -1,11 +1,13 @@
 use Rattle.std.proofs.Common.{◌≡◌, ◌∙◌, ap, sym, refl, rules, map, Some, None}
-use Rattle.asm_eval.specs.Environments.{environment_in, text_of}
-use Rattle.asm_eval.specs.Program.{bind_terms}
-use Rattle.asm_eval.specs.Yields.{at}
+use Rattle.asm_eval.specs.Environments.{environment_in}
+use Rattle.asm_meaning.specs.Meant.{text_of}
+use Rattle.asm_meaning.specs.Program.{bind_terms}
+use Rattle.asm_meaning.specs.Yields.{at}
 use Rattle.asm_eval.proofs.FormedRules.{rule_does}
-use Rattle.asm_eval.specs.Evaluated.{meant, meant_target, meant_terms}
+use Rattle.asm_meaning.specs.Meant.{meant, meant_target, meant_terms}
 use Rattle.asm_eval.proofs.BeneathRules.{some_beneath, called_weighs_less}
-use Rattle.asm_eval.proofs.CalledRules.{called_does, rule_number, not_called_does}
+use Rattle.asm_eval.proofs.CalledRules.{called_does, not_called_does}
+use Rattle.asm_meaning.specs.Declarations.{rule_number}
 use Rattle.asm_eval.proofs.beneath.beneath_call.Goals as goal
 use Rattle.asm_eval.proofs.beneath.beneath_call.Goals.{in_default-via-in-Some+in_default, in_default-via-in_default}
 

@@ -1,9 +1,9 @@
 use Rattle.std.proofs.Common.{◌∙◌, ap, sym, refl, rules, ◌≡◌, Some, None}
 use Rattle.asm_state.specs.Words.{value_of_code}
 use Rattle.asm_eval.specs.Environments.{environment_in}
-use Rattle.asm_eval.specs.Evaluated.{meant, meant_branch}
-use Rattle.asm_eval.specs.Valued.{condition}
-use Rattle.asm_eval.specs.Yields.{at}
+use Rattle.asm_meaning.specs.Meant.{meant, meant_branch}
+use Rattle.asm_meaning.specs.Valued.{condition}
+use Rattle.asm_meaning.specs.Yields.{at}
 use Rattle.asm_eval.proofs.BeneathRules.{some_beneath, weights_fall}
 use Rattle.asm_eval.proofs.FormedRules.{chosen_does, none_does, left_out_does}
 use Rattle.asm_eval.proofs.beneath.beneath_choose.Goals as goal

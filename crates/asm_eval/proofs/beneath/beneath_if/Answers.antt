@@ -1,8 +1,8 @@
 use Rattle.std.proofs.Common.{◌∙◌, ap, sym, refl}
 use Rattle.asm_eval.specs.Environments.{environment_in}
-use Rattle.asm_eval.specs.Evaluated.{meant, meant_branch, meant_term}
-use Rattle.asm_eval.specs.Value.{is_true}
-use Rattle.asm_eval.specs.Yields.{at}
+use Rattle.asm_meaning.specs.Meant.{meant, meant_branch, meant_term}
+use Rattle.asm_meaning.specs.Value.{is_true}
+use Rattle.asm_meaning.specs.Yields.{at}
 use Rattle.asm_eval.proofs.BeneathRules.{some_beneath, weights_fall}
 use Rattle.asm_eval.proofs.FormedRules.{first_does, other_does, left_out_does}
 use Rattle.asm_eval.proofs.beneath.beneath_if.Goals as goal

@@ -1,7 +1,7 @@
 use Rattle.std.proofs.Common.{refl, ◌∙◌}
 use Rattle.asm_state.specs.Words.{value_of_code}
 use Rattle.asm_eval.specs.Environments.{environment_in}
-use Rattle.asm_eval.specs.Evaluated.{meant, meant_term}
+use Rattle.asm_meaning.specs.Meant.{meant, meant_term}
 use Rattle.asm_eval.proofs.BeneathRules.{some_beneath, weights_fall}
 use Rattle.asm_eval.proofs.FormedRules.{let_does}
 use Rattle.asm_eval.proofs.beneath.beneath_let.Goals as goal

@@ -1,8 +1,8 @@
 use Rattle.std.proofs.Common.{filter, sym, ◌∙◌}
 use Rattle.asm_eval.specs.Environments.{environment_in}
 use Rattle.asm_eval.specs.Scenes.{is_candidate}
-use Rattle.asm_eval.specs.Taken.{taken}
-use Rattle.asm_eval.proofs.Candidates.{met_is_taken, met_again_is_taken}
+use Rattle.asm_meaning.specs.Taken.{taken}
+use Rattle.asm_meaning.proofs.Candidates.{candidate_laws-taken as met_is_taken, candidate_laws-taken_again as met_again_is_taken}
 use Rattle.asm_eval.proofs.choose.chosen.Goals as goal
 
 -- src/choose.rt:99:1

@@ -1,10 +1,11 @@
 use Rattle.std.proofs.Common.{◌≡◌, filter, ap, sym, ◌∙◌, arith, Some}
 use Rattle.asm_state.specs.Words.{value_of_code}
-use Rattle.asm_eval.specs.declared.choose.Walk.TheVariants.{Met}
+use Rattle.asm_meaning.specs.declared.walk.Walk.TheVariants.{Met}
 use Rattle.asm_eval.specs.Environments.{environment_in}
 use Rattle.asm_eval.specs.Scenes.{is_candidate}
-use Rattle.asm_eval.specs.Taken.{walk_to}
-use Rattle.asm_eval.proofs.Candidates.{all_hold, one_more_passes, none_more_passes, met_at, passed_all}
+use Rattle.asm_meaning.specs.Taken.{walk_to}
+use Rattle.asm_meaning.proofs.Candidates.{candidate_laws-one_more as one_more_passes, candidate_laws-none_more as none_more_passes, candidate_laws-met as met_at, candidate_laws-passed as passed_all}
+use Rattle.asm_eval.proofs.NoCondition.{all_hold}
 use Rattle.asm_eval.proofs.choose.find_candidate.Goals as goal
 use Rattle.asm_eval.proofs.choose.find_candidate.Goals.{then-branch+else-met-number, else-branch}
 

@@ -1,8 +1,9 @@
 use Rattle.std.proofs.Common.{◌≡◌, ◌∙◌, map, ap, sym, subst}
 use Rattle.asm_syntax.specs.Views.{term_of, terms_of}
 use Rattle.asm_syntax.specs.PlainTree.{plain_terms}
-use Rattle.asm_eval.specs.Environments.{environment, bound_around, text_of}
-use Rattle.asm_eval.specs.Program.{bound_to, bind_terms}
+use Rattle.asm_eval.specs.Environments.{environment, bound_around}
+use Rattle.asm_meaning.specs.Meant.{text_of}
+use Rattle.asm_meaning.specs.Program.{bound_to, bind_terms}
 use Rattle.asm_eval.proofs.Bound.{no_term_there}
 use Rattle.asm_eval.proofs.find.find.Goals as goal
 

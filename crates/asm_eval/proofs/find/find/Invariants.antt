@@ -1,7 +1,7 @@
 use Rattle.std.proofs.Common.{◌≡◌}
 use Rattle.asm_state.specs.Signature.{Shape}
 use Rattle.asm_eval.specs.Environments.{environment}
-use Rattle.asm_eval.specs.Program.{bound_to}
+use Rattle.asm_meaning.specs.Program.{bound_to}
 use Rattle.asm_eval.proofs.find.find.Given as goal
 
 abbrev pub invariant-loop-rest : goal.invariant-loop-rest

@@ -5,20 +5,26 @@ use Rattle.asm_updates.specs.Entries.{Entries}
 use Rattle.asm_updates.specs.Stands.{Stands}
 use Rattle.asm_reader.specs.ScriptLines.{pick}
 use Rattle.asm_state.specs.Words.{value_of_code}
-use Rattle.asm_eval.specs.Does.{Outcome}
-use Rattle.asm_eval.specs.Environments.{environment_in, text_of}
-use Rattle.asm_eval.specs.Program.{bind_terms}
-use Rattle.asm_eval.specs.Evaluated.{setting, shape_at, state_at, meant, meant_guarded, meant_target, meant_terms}
-use Rattle.asm_eval.specs.Formed.{Forms}
+use Rattle.asm_meaning.specs.Does.{Outcome}
+use Rattle.asm_eval.specs.Environments.{environment_in}
+use Rattle.asm_meaning.specs.Meant.{text_of}
+use Rattle.asm_meaning.specs.Program.{bind_terms}
+use Rattle.asm_eval.specs.Evaluated.{setting, shape_at, state_at, meant_guarded}
+use Rattle.asm_meaning.specs.Meant.{meant, meant_target, meant_terms}
+use Rattle.asm_meaning.specs.Formed.{Forms}
 use Rattle.asm_eval.specs.Scenes.{scene_candidates, with_element}
-use Rattle.asm_eval.specs.Setting.{outcome}
-use Rattle.asm_eval.specs.Taken.{taken}
-use Rattle.asm_eval.specs.Value.{is_true}
-use Rattle.asm_eval.specs.Valued.{shown}
-use Rattle.asm_eval.specs.Yields.{at, Exhausted}
-use Rattle.asm_eval.proofs.CalledRules.{call_is_less, called_does, rule_number, not_called_does}
-use Rattle.asm_eval.proofs.FormedRules.{follows_same, follows_nothing, follows_both, follows_counted, follows_stopped, forms_same, in_body, part_is_less, rule_does, skip_does, left_out_does, par_does, first_does, other_does, passed_does, failed_does, answer_does, let_does, chosen_does, none_does, next_rule_does, exhausted_rule_does, no_rule_does, forall_of, seq_does, iterate_does, rules_do_in_order, turns_do}
-use Rattle.asm_eval.proofs.Sequences.{begins, goes_upon, no_fault_found, fault_found, stopped_for_memory}
+use Rattle.asm_meaning.specs.Setting.{outcome}
+use Rattle.asm_meaning.specs.Taken.{taken}
+use Rattle.asm_meaning.specs.Value.{is_true}
+use Rattle.asm_meaning.specs.Valued.{shown}
+use Rattle.asm_meaning.specs.Yields.{at, Exhausted}
+use Rattle.asm_eval.proofs.CalledRules.{called_does, not_called_does}
+use Rattle.asm_meaning.proofs.TreeWeights.{tree_weights-call as call_is_less}
+use Rattle.asm_meaning.specs.Declarations.{rule_number}
+use Rattle.asm_eval.proofs.FormedRules.{part_is_less, rule_does, skip_does, left_out_does, par_does, first_does, other_does, passed_does, failed_does, answer_does, let_does, chosen_does, none_does, next_rule_does, exhausted_rule_does, no_rule_does, forall_of, seq_does, iterate_does, rules_do_in_order, turns_do}
+use Rattle.asm_meaning.specs.TreeWeights.{in_body}
+use Rattle.asm_meaning.proofs.Following.{following_laws-same as follows_same, following_laws-nothing as follows_nothing, following_laws-both as follows_both, following_laws-counted as follows_counted, following_laws-stopped as follows_stopped, following_laws-forms_same as forms_same}
+use Rattle.asm_meaning.proofs.Sequences.{sequence_laws-begins as begins, sequence_laws-goes_upon as goes_upon, part_laws-no_fault as no_fault_found, part_laws-fault as fault_found, stopping_laws-memory as stopped_for_memory}
 use Rattle.asm_eval.proofs.Spans.{span_left, span_of_all, span_element_does, span_passed_does, span_exhausted_does, span_end_does}
 use Rattle.asm_eval.proofs.OrderedRules.{part_goes_on, part_ends, part_stops, parts_end, turn_goes_on, turn_ends, turn_stops, turns_stop}
 use Rattle.asm_eval.proofs.form.+form.Goals as goal

@@ -2,13 +2,14 @@ use Rattle.std.proofs.Common.{◌≡◌, ◌-◌, drop}
 use Rattle.std.specs.Prelude.{Result}
 use Rattle.asm_state.specs.Signature.{count_of}
 use Rattle.asm_syntax.specs.Tree as tree
-use Rattle.asm_eval.specs.declared.outcome.Forming.{Forming}
-use Rattle.asm_eval.specs.declared.stopped.Stopped.{Stopped}
+use Rattle.asm_meaning.specs.declared.outcome.Forming.{Forming}
+use Rattle.asm_meaning.specs.declared.stopped.Stopped.{Stopped}
 use Rattle.asm_eval.specs.Environments.{environment_in}
-use Rattle.asm_eval.specs.Evaluated.{setting, shape_at, state_at, meant, meant_guarded, meant_target, meant_rules, meant_branch, meant_choose, meant_forall, meant_term, meant_terms}
-use Rattle.asm_eval.specs.Formed.{Follows}
+use Rattle.asm_eval.specs.Evaluated.{setting, shape_at, state_at, meant_guarded, meant_choose, meant_forall}
+use Rattle.asm_meaning.specs.Meant.{meant, meant_target, meant_rules, meant_branch, meant_term, meant_terms}
+use Rattle.asm_meaning.specs.Formed.{Follows}
 use Rattle.asm_eval.proofs.FormedRules.{left_to_form, rules_do, rules_do_in_order, turns_do}
-use Rattle.asm_eval.proofs.Sequences.{IsUnderway}
+use Rattle.asm_meaning.specs.Underway.{IsUnderway}
 use Rattle.asm_eval.proofs.Spans.{span_left}
 use Rattle.asm_eval.proofs.form.+form.Given as goal
 

@@ -24,10 +24,10 @@ returns g c =
     record {
       count = search rules;
       path = refl;
-      formed = forms_update a.evaluation.now (environment_in a.evaluation.now.scene.checked.now a.env.now) a.made.now.path.items (shape_at a.evaluation.now) a.made.now.set c.add.new.self a.made.now.instances a.name.now a.arguments.now a.new.now
+      formed = forms_update a.evaluation.now (environment_in a.evaluation.now.scene.checked.now a.env.now) a.made.now.path.items (shape_at a.evaluation.now) a.made.now.set c.add_update.new.set a.made.now.instances a.name.now a.arguments.now a.new.now
           c.in-Some.n c.in_ok-new.new (omega (arith, a.made.now.in_range))
           (subst (λ o. IfSome o (λ n. n < count_of (shape_at a.evaluation.now))) c.in-Some.is c.in_ok-n.ensures.in_range)
           (sym (ap (location_numbered (shape_at a.evaluation.now)) c.in-Some.is) ∙ c.in_ok-n.ensures.location) c.in_ok-new.ensures
-          (λ U stands. c.in_ok-add.ensures.value (shape_at a.evaluation.now) U refl (subst (λ k. Stands (shape_at a.evaluation.now) k U) (sym c.furnish.ensures.same) stands));
+          (λ U stands. c.in_ok-add_update.ensures.update U (subst (λ k. Stands (shape_at a.evaluation.now) k U) (sym c.furnish.ensures.same) stands));
       exhausted = tt;
     }

@@ -1,8 +1,8 @@
 use Rattle.std.proofs.Common.{◌<◌, sym, ap, subst, ◌∙◌, length}
 use Rattle.std.specs.Prelude.{slice_get}
 use Rattle.asm_syntax.specs.Views.{spec_of}
-use Rattle.asm_eval.specs.Declarations as declared
-use Rattle.asm_eval.proofs.Meant.{universe_is, no_universe, universe_numbered}
+use Rattle.asm_meaning.specs.Declarations as declared
+use Rattle.asm_meaning.proofs.Meant.{universe_names-some as universe_is, universe_names-none as no_universe, universe_names-in_range as universe_numbered}
 use Rattle.asm_eval.proofs.held.universe_of.Goals as goal
 
 pub universe-requires : goal.universe-requires

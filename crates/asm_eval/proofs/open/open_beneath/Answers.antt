@@ -1,9 +1,11 @@
 use Rattle.std.proofs.Common.{◌∙◌, ap, sym, subst, All}
 use Rattle.std.proofs.lemmas.List.Elements.{All-nil}
 use Rattle.asm_eval.specs.Beneath.{beneath_does}
-use Rattle.asm_eval.specs.Evaluated.{setting, state_at, outcome_at, meant}
+use Rattle.asm_eval.specs.Evaluated.{setting, state_at, outcome_at}
+use Rattle.asm_meaning.specs.Meant.{meant}
 use Rattle.asm_eval.specs.Pieces.{piece_does, IsPiece, IsCut}
-use Rattle.asm_eval.proofs.OpenedPieces.{not_closed, one_alone, all_alone, none_alone}
+use Rattle.asm_eval.proofs.OpenedPieces.{not_closed, all_alone}
+use Rattle.asm_meaning.proofs.Groups.{group_laws-one as one_alone, group_laws-none as none_alone}
 use Rattle.asm_eval.proofs.open.open_beneath.Goals as goal
 use Rattle.asm_eval.proofs.open.open_beneath.Goals.{in-Some+in_ok-path+in_ok-push, in_default}
 

@@ -2,14 +2,16 @@ use Rattle.std.proofs.Common.{◌∙◌, ℕ, ap, sym, subst, All, arith, refl, 
 use Rattle.std.proofs.lemmas.List.Elements.{All-nil}
 use Rattle.asm_state.specs.declared.value.Value.{Value}
 use Rattle.asm_state.specs.Words.{value_of_code}
-use Rattle.asm_eval.specs.Does.{each}
+use Rattle.asm_meaning.specs.Does.{each}
 use Rattle.asm_eval.specs.Environments.{environment_in}
 use Rattle.asm_eval.specs.Evaluated.{setting, state_at}
-use Rattle.asm_eval.specs.Pieces.{piece_does, IsPiece, IsCut, between}
+use Rattle.asm_eval.specs.Pieces.{piece_does, IsPiece, IsCut}
+use Rattle.asm_meaning.specs.Intervals.{between}
 use Rattle.asm_eval.specs.Scenes.{with_element, is_candidate}
-use Rattle.asm_eval.specs.Yields.{at}
+use Rattle.asm_meaning.specs.Yields.{at}
 use Rattle.asm_eval.proofs.FormedRules.{rule_does}
-use Rattle.asm_eval.proofs.OpenedPieces.{all_more, bodies_begin, bodies_then, bodies_else, bodies_end}
+use Rattle.asm_eval.proofs.OpenedPieces.{all_more}
+use Rattle.asm_meaning.proofs.Groups.{body_laws-begin as bodies_begin, body_laws-counted as bodies_then, body_laws-passed as bodies_else, body_laws-end as bodies_end}
 use Rattle.asm_eval.proofs.open.open_bodies.Goals as goal
 use Rattle.asm_eval.proofs.open.open_bodies.Goals.{then-branch+in_ok-path+in_ok-push, else-branch}
 

@@ -1,11 +1,13 @@
 use Rattle.std.proofs.Common.{◌≡◌, ℕ, ◌≤◌, All}
 use Rattle.asm_state.specs.declared.value.Value.{Value}
-use Rattle.asm_eval.specs.Does.{both, each}
+use Rattle.asm_meaning.specs.Does.{both, each}
 use Rattle.asm_eval.specs.Environments.{environment_in}
 use Rattle.asm_eval.specs.Evaluated.{setting, state_at}
-use Rattle.asm_eval.specs.Pieces.{counting, between, pieces_do, IsPiece, IsCut}
+use Rattle.asm_eval.specs.Pieces.{pieces_do, IsPiece, IsCut}
+use Rattle.asm_meaning.specs.Grouped.{counting}
+use Rattle.asm_meaning.specs.Intervals.{between}
 use Rattle.asm_eval.specs.Scenes.{with_element, is_candidate}
-use Rattle.asm_eval.specs.Yields.{at}
+use Rattle.asm_meaning.specs.Yields.{at}
 use Rattle.asm_eval.proofs.FormedRules.{rule_does}
 use Rattle.asm_eval.proofs.open.open_bodies.Given as goal
 

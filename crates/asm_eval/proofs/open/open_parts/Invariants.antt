@@ -1,10 +1,10 @@
 use Rattle.std.proofs.Common.{◌≡◌, ℕ, drop, All}
 use Rattle.asm_state.specs.Location.{State}
-use Rattle.asm_eval.specs.Does.{both}
+use Rattle.asm_meaning.specs.Does.{both}
 use Rattle.asm_eval.specs.Environments.{environment}
 use Rattle.asm_eval.specs.Pieces.{pieces_do, IsPiece, IsCut}
-use Rattle.asm_eval.specs.Program.{Program}
-use Rattle.asm_eval.specs.Setting.{Setting}
+use Rattle.asm_meaning.specs.Program.{Program}
+use Rattle.asm_meaning.specs.Setting.{Setting}
 use Rattle.asm_eval.proofs.OpenedPieces.{parts_from}
 use Rattle.asm_eval.proofs.open.open_parts.Given as goal
 

@@ -1,9 +1,10 @@
 use Rattle.std.proofs.Common.{◌∙◌, ap, refl}
 use Rattle.asm_eval.specs.Environments.{environment_in}
-use Rattle.asm_eval.specs.Evaluated.{setting, state_at, meant}
+use Rattle.asm_eval.specs.Evaluated.{setting, state_at}
+use Rattle.asm_meaning.specs.Meant.{meant}
 use Rattle.asm_eval.specs.Pieces.{is_closed}
-use Rattle.asm_eval.specs.Yields.{Path}
-use Rattle.asm_eval.specs.Valued.{condition}
+use Rattle.asm_meaning.specs.Yields.{Path}
+use Rattle.asm_meaning.specs.Valued.{condition}
 use Rattle.asm_eval.proofs.FormedRules.{par_does, rules_do}
 use Rattle.asm_eval.proofs.OpenedPieces.{opens_same, meant_each, meant_parts, all_positions}
 use Rattle.asm_eval.proofs.open.open_rule.Goals as goal

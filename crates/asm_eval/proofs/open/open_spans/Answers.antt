@@ -1,11 +1,12 @@
 use Rattle.std.proofs.Common.{◌+◌, ◌≤◌, ◌∙◌, ap, sym, subst, All, arith, refl}
 use Rattle.std.proofs.lemmas.List.Elements.{All-nil}
-use Rattle.asm_eval.specs.Does.{both}
+use Rattle.asm_meaning.specs.Does.{both}
 use Rattle.asm_eval.specs.Environments.{environment}
-use Rattle.asm_eval.specs.Evaluated.{meant}
+use Rattle.asm_meaning.specs.Meant.{meant}
 use Rattle.asm_eval.specs.Pieces.{piece_does, pieces_do, span_does, IsPiece, IsCut}
-use Rattle.asm_eval.proofs.Beside.{beside_laws}
-use Rattle.asm_eval.proofs.OpenedPieces.{span_cut, span_none, part_of_part, more_both, all_more, counting_none}
+use Rattle.asm_meaning.proofs.Beside.{beside_laws}
+use Rattle.asm_eval.proofs.OpenedPieces.{span_cut, span_none, part_of_part, all_more}
+use Rattle.asm_meaning.proofs.Groups.{group_laws-more as more_both, group_laws-counting_none as counting_none}
 use Rattle.asm_eval.proofs.open.open_spans.Goals as goal
 
 pub loop-next-init : goal.loop-next-init

@@ -1,11 +1,11 @@
 use Rattle.std.proofs.Common.{◌≡◌, ◌-◌, ◌≤◌, All}
 use Rattle.asm_state.specs.Location.{State}
-use Rattle.asm_eval.specs.Does.{both}
+use Rattle.asm_meaning.specs.Does.{both}
 use Rattle.asm_eval.specs.Environments.{environment}
-use Rattle.asm_eval.specs.Evaluated.{meant}
+use Rattle.asm_meaning.specs.Meant.{meant}
 use Rattle.asm_eval.specs.Pieces.{pieces_do, span_does, IsPartOf, IsPiece, IsCut}
-use Rattle.asm_eval.specs.Setting.{Setting}
-use Rattle.asm_eval.specs.declared.piece.Part.TheVariants as part
+use Rattle.asm_meaning.specs.Setting.{Setting}
+use Rattle.asm_meaning.specs.declared.part.Part.TheVariants as part
 use Rattle.asm_eval.proofs.open.open_spans.Given as goal
 
 abbrev pub decreases-loop-next : goal.decreases-loop-next

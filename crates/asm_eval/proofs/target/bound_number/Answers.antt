@@ -2,7 +2,7 @@ use Rattle.std.proofs.Common.{◌∙◌, ap, sym, refl}
 use Rattle.asm_syntax.specs.Views.{spec_of}
 use Rattle.asm_check.specs.Shapes.{shape_of}
 use Rattle.asm_eval.specs.Environments.{environment}
-use Rattle.asm_eval.specs.Program as declared
+use Rattle.asm_meaning.specs.Program as declared
 use Rattle.asm_eval.proofs.Answered.{names_none, found_location}
 use Rattle.asm_eval.proofs.target.bound_number.Goals as goal
 

@@ -4,11 +4,11 @@ use Rattle.asm_state.specs.Location.{Stray}
 use Rattle.asm_state.specs.Signature.{domain_of, locations}
 use Rattle.asm_state.specs.Tables.{location_in}
 use Rattle.asm_eval.specs.Environments.{environment_in}
-use Rattle.asm_eval.specs.Evaluated.{meant_terms}
-use Rattle.asm_eval.specs.Program as declared
-use Rattle.asm_eval.specs.Targets.{location_of}
-use Rattle.asm_eval.specs.Value.{values}
-use Rattle.asm_eval.specs.Valued.{program, shown}
+use Rattle.asm_meaning.specs.Meant.{meant_terms}
+use Rattle.asm_meaning.specs.Program as declared
+use Rattle.asm_meaning.specs.Targets.{location_of}
+use Rattle.asm_meaning.specs.Value.{values}
+use Rattle.asm_meaning.specs.Valued.{program, shown}
 use Rattle.asm_eval.proofs.Applied.{values_map}
 use Rattle.asm_eval.proofs.target.location.Goals as goal
 

@@ -1,7 +1,7 @@
 use Rattle.std.proofs.Common.{◌∙◌, arith}
 use Rattle.std.proofs.lemmas.List.{length-set}
 use Rattle.asm_eval.specs.Environments.{environment_in}
-use Rattle.asm_eval.specs.Valued.{term_value}
+use Rattle.asm_meaning.specs.Valued.{term_value}
 use Rattle.asm_eval.proofs.Applied.{one_more_value}
 use Rattle.asm_eval.proofs.target.location_number.Goals as goal
 

@@ -1,6 +1,6 @@
 use Rattle.std.proofs.Common.{◌≡◌, length, map, take}
 use Rattle.asm_eval.specs.Environments.{environment_in}
-use Rattle.asm_eval.specs.Valued.{term_value}
+use Rattle.asm_meaning.specs.Valued.{term_value}
 use Rattle.asm_eval.proofs.target.location_number.Given as goal
 
 -- the arguments so far have their values

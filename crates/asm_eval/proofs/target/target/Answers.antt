@@ -1,6 +1,8 @@
 use Rattle.std.proofs.Common.{rules, ◌≡◌, Some, None, ap, ◌∙◌}
 use Rattle.asm_syntax.specs.Views.{spec_of}
-use Rattle.asm_eval.proofs.Targets.{function_number, is_controlled, static_names_none, function_below, other_names_none}
+use Rattle.asm_meaning.specs.Declarations.{function_number}
+use Rattle.asm_meaning.proofs.Targets.{target_names-controlled as is_controlled, target_names-of_static as static_names_none, target_names-other as other_names_none}
+use Rattle.asm_meaning.proofs.NumberedValues.{numbered_names-function as function_below}
 use Rattle.asm_eval.proofs.target.target.Goals as goal
 
 pub function-requires : goal.function-requires

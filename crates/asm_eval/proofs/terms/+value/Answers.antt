@@ -13,18 +13,19 @@ use Rattle.asm_syntax.specs.PlainTree as plain
 use Rattle.asm_syntax.specs.Views.{term_of, terms_of, spec_of}
 use Rattle.asm_check.specs.Shapes.{shape_of}
 use Rattle.asm_check.specs.declared.checked.Named.TheVariants as number
-use Rattle.asm_eval.specs.Declarations.{numbered}
+use Rattle.asm_meaning.specs.Declarations.{numbered}
 use Rattle.asm_eval.specs.Environments.{IsWithin, environment_in, binding, location_numbered}
-use Rattle.asm_eval.specs.Program.{ToLocation}
-use Rattle.asm_eval.specs.Value as spec
-use Rattle.asm_eval.specs.Valued.{term_value, program, shown, declared_value}
+use Rattle.asm_meaning.specs.Program.{ToLocation}
+use Rattle.asm_meaning.specs.Value as spec
+use Rattle.asm_meaning.specs.Valued.{term_value, program, shown, declared_value}
 use Rattle.asm_eval.proofs.Applied.{declared_is_named, none_valued, all_valued, one_more_value}
-use Rattle.asm_eval.proofs.ArgumentWeights.{argument_lighter, body_lighter}
+use Rattle.asm_meaning.proofs.TreeWeights.{tree_weights-argument as argument_lighter, tree_weights-body as body_lighter}
 use Rattle.asm_eval.proofs.ChainLinks.{first_falls, link_falls, chain_starts}
 use Rattle.asm_eval.proofs.Evaluating.{cases, falls}
-use Rattle.asm_eval.proofs.Measures.{body_weight}
-use Rattle.asm_eval.proofs.NumberedValues.{element_below, function_below, numbered_derived, universe_undef, named_rule_undef}
-use Rattle.asm_eval.proofs.OneOperand.{not_falls, negative_falls, constant_value, not_value, negative_value}
+use Rattle.asm_meaning.specs.TreeWeights.{body_weight}
+use Rattle.asm_meaning.proofs.NumberedValues.{numbered_names-element as element_below, numbered_names-function as function_below, numbered_names-derived as numbered_derived, numbered_names-universe_undef as universe_undef, numbered_names-rule_undef as named_rule_undef}
+use Rattle.asm_eval.proofs.OneOperand.{constant_value, not_value, negative_value}
+use Rattle.asm_meaning.proofs.TreeWeights.{tree_weights-of_not as not_falls, tree_weights-negative as negative_falls}
 use Rattle.asm_eval.proofs.Quantified.{passes, exists_of_none, every_of_none, exists_at, fails_at, exists_past, every_past, none_more, all_more}
 use Rattle.asm_eval.proofs.terms.+value.Goals as goal
 

@@ -4,14 +4,14 @@ use Rattle.std.specs.Prelude.{false, true}
 use Rattle.asm_syntax.specs.Views.{term_of, links_of, spec_of}
 use Rattle.asm_syntax.specs.PlainTree.{plain_term, plain_links}
 use Rattle.asm_syntax.specs.Tree as tree
-use Rattle.asm_eval.specs.Declarations.{numbered}
+use Rattle.asm_meaning.specs.Declarations.{numbered}
 use Rattle.asm_eval.specs.Environments.{environment_in}
-use Rattle.asm_eval.specs.Program.{with_value}
-use Rattle.asm_eval.specs.TermCases.{chain_value}
-use Rattle.asm_eval.specs.Value.{is_true, value}
-use Rattle.asm_eval.specs.Valued.{program, shown, term_value}
-use Rattle.asm_eval.specs.Weights.{weight}
-use Rattle.asm_eval.proofs.Measures.{term_weight, named_weight, body_weight, link_of}
+use Rattle.asm_meaning.specs.Program.{with_value}
+use Rattle.asm_meaning.specs.TermCases.{chain_value}
+use Rattle.asm_meaning.specs.Value.{is_true, value}
+use Rattle.asm_meaning.specs.Valued.{program, shown, term_value}
+use Rattle.asm_meaning.specs.Weights.{weight}
+use Rattle.asm_meaning.specs.TreeWeights.{term_weight, named_weight, body_weight, link_of}
 use Rattle.asm_eval.proofs.terms.+value.Given as goal
 
 abbrev pub decreases-value : goal.decreases-value

@@ -10,18 +10,21 @@ use Rattle.asm_eval.specs.declared.beneath.Descent.{Descent}
 use Rattle.asm_eval.specs.declared.env.Env.{Env}
 use Rattle.asm_eval.specs.declared.evaluation.Evaluation.{Evaluation}
 use Rattle.asm_eval.specs.Beneath.{IsBeneath, beneath_does}
-use Rattle.asm_eval.specs.Does.{Outcome, nothing}
+use Rattle.asm_meaning.specs.Does.{Outcome, nothing}
 use Rattle.asm_eval.specs.Environments.{environment_in}
-use Rattle.asm_eval.specs.Evaluated.{setting, shape_at, state_at, outcome_at, meant, meant_guarded}
-use Rattle.asm_eval.specs.Formed.{Forms}
-use Rattle.asm_eval.specs.Setting.{outcome}
-use Rattle.asm_eval.specs.Value.{is_true}
-use Rattle.asm_eval.specs.Valued.{shown}
-use Rattle.asm_eval.specs.Weights.{rule_weight}
-use Rattle.asm_eval.specs.Yields.{Path, at, Exhausted}
+use Rattle.asm_eval.specs.Evaluated.{setting, shape_at, state_at, outcome_at, meant_guarded}
+use Rattle.asm_meaning.specs.Meant.{meant}
+use Rattle.asm_meaning.specs.Formed.{Forms}
+use Rattle.asm_meaning.specs.Setting.{outcome}
+use Rattle.asm_meaning.specs.Value.{is_true}
+use Rattle.asm_meaning.specs.Valued.{shown}
+use Rattle.asm_meaning.specs.Weights.{rule_weight}
+use Rattle.asm_meaning.specs.Yields.{Path, at, Exhausted}
 use Rattle.asm_eval.proofs.BeneathRules.{weighs_less}
-use Rattle.asm_eval.proofs.FormedRules.{follows_same, follows_nothing, forms_same, in_body, part_is_less, seq_does, passed_does, failed_does, iterate_does, rules_do_in_order, turns_do}
-use Rattle.asm_eval.proofs.Sequences.{begins, goes_upon, no_fault_found, fault_found, stopped_for_memory}
+use Rattle.asm_eval.proofs.FormedRules.{part_is_less, seq_does, passed_does, failed_does, iterate_does, rules_do_in_order, turns_do}
+use Rattle.asm_meaning.specs.TreeWeights.{in_body}
+use Rattle.asm_meaning.proofs.Following.{following_laws-same as follows_same, following_laws-nothing as follows_nothing, following_laws-forms_same as forms_same}
+use Rattle.asm_meaning.proofs.Sequences.{sequence_laws-begins as begins, sequence_laws-goes_upon as goes_upon, part_laws-no_fault as no_fault_found, part_laws-fault as fault_found, stopping_laws-memory as stopped_for_memory}
 use Rattle.asm_eval.proofs.OrderedRules.{part_goes_on, part_ends, part_stops, parts_end, turn_goes_on, turn_ends, turn_stops, turns_stop}
 use Rattle.asm_eval.proofs.walk.+walk.Goals as goal
 use Rattle.asm_eval.proofs.walk.+walk.Goals.{walk_turns-then-is_empty-via-then-is_empty, walk_turns-then-is_empty-via-else-is_empty+then-is_some}

@@ -2,9 +2,10 @@ use Rattle.std.proofs.Common.{◌≡◌, ◌-◌, drop}
 use Rattle.asm_state.specs.Signature.{count_of}
 use Rattle.asm_syntax.specs.Tree as tree
 use Rattle.asm_eval.specs.Environments.{environment_in}
-use Rattle.asm_eval.specs.Evaluated.{setting, shape_at, state_at, meant, meant_guarded, meant_rules, meant_term}
+use Rattle.asm_eval.specs.Evaluated.{setting, shape_at, state_at, meant_guarded}
+use Rattle.asm_meaning.specs.Meant.{meant, meant_rules, meant_term}
 use Rattle.asm_eval.proofs.FormedRules.{left_to_form, rules_do_in_order, turns_do}
-use Rattle.asm_eval.proofs.Sequences.{IsUnderway}
+use Rattle.asm_meaning.specs.Underway.{IsUnderway}
 use Rattle.asm_eval.proofs.walk.+walk.Given as goal
 
 -- ---- that it ends: each goes by the rule that it forms

@@ -1,10 +1,10 @@
 use Rattle.std.proofs.Common.{List, ℕ}
 use Rattle.asm_syntax.specs.PlainTree as plain
 use Rattle.asm_syntax.specs.Views.{rule_of}
-use Rattle.asm_eval.specs.Does.{does}
+use Rattle.asm_meaning.specs.Does.{does}
 use Rattle.asm_eval.specs.Environments.{environment_in}
-use Rattle.asm_eval.specs.Valued.{program, shown}
-use Rattle.asm_eval.proofs.FromNothing.{set_from_nothing, stopped_from_nothing}
+use Rattle.asm_meaning.specs.Valued.{program, shown}
+use Rattle.asm_meaning.proofs.FromNothing.{from_nothing_laws-set as set_from_nothing, from_nothing_laws-stopped as stopped_from_nothing}
 use Rattle.asm_eval.proofs.walk.outcome.Goals as goal
 
 pub returns : goal.returns

@@ -2,11 +2,12 @@ use Rattle.std.proofs.Common.{◌∙◌, ap, sym, subst, length, arith}
 use Rattle.asm_syntax.specs.Tree as tree
 use Rattle.asm_syntax.specs.declared.rule.Rule.{Rule}
 use Rattle.asm_eval.specs.Environments.{environment_in}
-use Rattle.asm_eval.specs.Evaluated.{setting, shape_at, state_at, meant}
+use Rattle.asm_eval.specs.Evaluated.{setting, shape_at, state_at}
+use Rattle.asm_meaning.specs.Meant.{meant}
 use Rattle.asm_eval.specs.Pieces.{IsPartOf, IsInterval, span_does}
-use Rattle.asm_eval.specs.Valued.{condition}
-use Rattle.asm_eval.specs.declared.piece.Part.TheVariants as part
-use Rattle.asm_eval.proofs.FormedRules.{follows_same, follows_nothing}
+use Rattle.asm_meaning.specs.Valued.{condition}
+use Rattle.asm_meaning.specs.declared.part.Part.TheVariants as part
+use Rattle.asm_meaning.proofs.Following.{following_laws-same as follows_same, following_laws-nothing as follows_nothing}
 use Rattle.asm_eval.proofs.Spanned.{only_forall, forall_meant, span_of_nothing}
 use Rattle.asm_eval.proofs.whole_piece.form_elements.Goals as goal
 

@@ -1,9 +1,10 @@
 use Rattle.std.proofs.Common.{◌≡◌, ◌∙◌, ◌++◌, List, ℕ, ap, subst}
 use Rattle.asm_eval.specs.Environments.{environment_in}
-use Rattle.asm_eval.specs.Evaluated.{setting, shape_at, state_at, meant}
+use Rattle.asm_eval.specs.Evaluated.{setting, shape_at, state_at}
+use Rattle.asm_meaning.specs.Meant.{meant}
 use Rattle.asm_eval.specs.Pieces.{IsPartOf, span_does}
-use Rattle.asm_eval.specs.Setting.{outcome}
-use Rattle.asm_eval.proofs.FormedRules.{follows_same}
+use Rattle.asm_meaning.specs.Setting.{outcome}
+use Rattle.asm_meaning.proofs.Following.{following_laws-same as follows_same}
 use Rattle.asm_eval.proofs.Spanned.{is_whole, is_span}
 use Rattle.asm_eval.proofs.whole_piece.form_piece.Goals as goal
 

@@ -2,7 +2,7 @@ use Rattle.std.proofs.Common.{◌∙◌}
 use Rattle.std.proofs.lemmas.Result.{on_ok_weaker}
 use Rattle.asm_eval.specs.Evaluated.{setting, shape_at, state_at}
 use Rattle.asm_eval.specs.Pieces.{piece_does}
-use Rattle.asm_eval.proofs.FromNothing.{formed_from_nothing}
+use Rattle.asm_meaning.proofs.FromNothing.{from_nothing_laws-formed as formed_from_nothing}
 use Rattle.asm_eval.proofs.whole_piece.whole_piece.Goals as goal
 
 pub returns : goal.returns

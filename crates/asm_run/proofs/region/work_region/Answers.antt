@@ -1,9 +1,9 @@
 use Rattle.std.proofs.Common.{◌≡◌, ◌∙◌, ◌++◌, None, [], ap, refl, subst, arith}
 use Rattle.asm_state.specs.Updates.{none}
-use Rattle.asm_eval.specs.Does.{nothing}
+use Rattle.asm_meaning.specs.Does.{nothing}
 use Rattle.asm_eval.specs.Evaluated.{setting, shape_at, state_at}
 use Rattle.asm_eval.specs.Pieces.{pieces_do}
-use Rattle.asm_eval.proofs.Beside.{beside_laws}
+use Rattle.asm_meaning.proofs.Beside.{beside_laws}
 use Rattle.asm_striped.specs.Log.{IsSummaryOfLog}
 use Rattle.asm_run.specs.Hands.{logs_of}
 use Rattle.asm_run.specs.Rounds.{Holds, Reads}
@@ -50,5 +50,5 @@ returns-in_ok-set-in-None g c =
     c.join_hands.ensures.log ∙ ap (λ l. l ++ logs_of f.hands.items) (c.in_ok-split_hands.ensures.log ∙ nothing_before) in
     let count = c.in_ok-set-in-None.ensures.count ∙ c.in_ok-striped.ensures.table.0 ∙ c.count.ensures.count in
     let stands = closed_stands shape (logs_of f.hands.items) held.set set c.count.ensures.sound count (all_put shape f.hands.items held.set held.stand)
-    (subst (λ l. IsSummaryOfLog l set) log c.in_ok-set-in-None.ensures.summary) in
+    (subst (λ l. IsSummaryOfLog l set) log c.in_ok-set-in-None.ensures.summary) (c.in_ok-set-in-None.ensures.marks shape) in
     record { set = held.set; gives = reads.0; count = count; stands = stands; counts = reads.1 }

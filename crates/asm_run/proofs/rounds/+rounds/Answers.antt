@@ -1,6 +1,6 @@
 use Rattle.std.proofs.Common.{◌≡◌, List, [], ◌∷◌, length, refl, subst, arith, rules}
 use Rattle.std.proofs.lemmas.Result.{IfOk-weaker}
-use Rattle.asm_eval.specs.Does.{both}
+use Rattle.asm_meaning.specs.Does.{both}
 use Rattle.asm_eval.specs.Evaluated.{setting, shape_at, state_at}
 use Rattle.asm_eval.specs.Pieces.{pieces_do}
 use Rattle.asm_eval.specs.declared.piece.Piece.{Piece}

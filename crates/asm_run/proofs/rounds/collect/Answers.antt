@@ -2,7 +2,7 @@ use Rattle.std.proofs.Common.{◌≡◌, ◌∙◌, ◌+◌, ◌++◌, ◌∷◌
 use Rattle.std.specs.Prelude.{IsOk, Ok}
 use Rattle.std.specs.Vec.Iter.{into_iter_items}
 use Rattle.std.proofs.lemmas.List.Elements.{All-cons}
-use Rattle.asm_eval.specs.Formed.{greatest_count}
+use Rattle.asm_meaning.specs.Formed.{greatest_count}
 use Rattle.asm_run.specs.Rounds.{Answered, answers, least, news, tally}
 use Rattle.asm_run.specs.declared.job.RegionOut.TheVariants as region
 use Rattle.asm_run.proofs.rounds.collect.Goals as goal

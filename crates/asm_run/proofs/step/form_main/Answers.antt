@@ -4,11 +4,11 @@ use Rattle.asm_state.specs.Signature.{count_of}
 use Rattle.asm_syntax.specs.PlainTree.{plain_rule}
 use Rattle.asm_syntax.specs.Views.{spec_of, rule_of}
 use Rattle.asm_check.specs.Shapes.{shape_of}
-use Rattle.asm_eval.specs.Declarations.{program_of}
-use Rattle.asm_eval.specs.Does.{Outcome, does}
+use Rattle.asm_meaning.specs.Declarations.{program_of}
+use Rattle.asm_meaning.specs.Does.{Outcome, does}
 use Rattle.asm_eval.specs.Environments.{environment_in}
-use Rattle.asm_eval.specs.Formed.{Forms}
-use Rattle.asm_eval.specs.Valued.{shown}
+use Rattle.asm_meaning.specs.Formed.{Forms}
+use Rattle.asm_meaning.specs.Valued.{shown}
 use Rattle.asm_run.proofs.FormedSet.{formed_alone, outcome_alone, stopped_alone}
 use Rattle.asm_run.proofs.step.form_main.Goals as goal
 

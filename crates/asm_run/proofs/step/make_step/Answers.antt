@@ -5,8 +5,8 @@ use Rattle.asm_syntax.specs.Views.{spec_of}
 use Rattle.asm_check.specs.Shapes.{shape_of}
 use Rattle.asm_updates.specs.Stands.{Stands}
 use Rattle.asm_updates.proofs.StandingLaws.{standing_laws}
-use Rattle.asm_eval.specs.Does.{Outcome}
-use Rattle.asm_eval.specs.Formed.{IsSet}
+use Rattle.asm_meaning.specs.Does.{Outcome}
+use Rattle.asm_meaning.specs.Formed.{IsSet}
 use Rattle.asm_run.specs.Step.{main_outcome}
 use Rattle.asm_run.specs.Written.{step_line, entries_text}
 use Rattle.asm_run.proofs.Stepping.{fault_below, set_written, step_written}
@@ -31,7 +31,7 @@ returns-clause-fired g c =
     let o : Outcome = main_outcome s c.args.machine.now.turns (g.P.Picks.script c.args.choices.now.script.now) step c.args.state.now in
     let formed : IsSet (shape_of s) o made.set made.instances = subst (λ r. OnOk r (IsSet (shape_of s) o made.set made.instances)) c.in-Ok.is c.form_main.ensures.formed in
     let U : UpdateSet = formed.set in
-    let sorted : Stands (shape_of s) c.sort.new.self U = standing_laws.alike (shape_of s) made.set c.sort.new.self U c.in_ok-sort.ensures.count c.in_ok-sort.ensures.entries formed.stands in
+    let sorted : Stands (shape_of s) c.sort.new.self U = standing_laws.alike (shape_of s) made.set c.sort.new.self U c.in_ok-sort.ensures.count c.in_ok-sort.ensures.mark c.in_ok-sort.ensures.entries formed.stands in
     let consistent = c.in_default.ensures.consistent U (subst (λ v. Stands v made.set U) (sym c.signature.ensures) formed.stands) in
     let text : List ℕ = step_line step made.instances ++ entries_text s c.sort.new.self.ranges in
     let pushed : c.push_step.new.out.items ≡ c.clear.new.self.items ++ text = c.in_ok-push_step.ensures.text in

@@ -1,6 +1,11 @@
 use Rattle.std.specs.Mem.Slots.{slots_items}
+use Rattle.asm_state.specs.Signature.{Shape}
+use Rattle.asm_updates.specs.Stands.{MarksFaults}
 use Rattle.asm_striped.proofs.Filling.{IsFilled}
 use Rattle.asm_striped.proofs.words.summary_of.Given as goal
 
 abbrev pub invariant-loop-n : goal.invariant-loop-n
-invariant-loop-n l = IsFilled (slots_items l.closed.words) l.n l.count l.summary
+invariant-loop-n l = record {
+  filled : IsFilled (slots_items l.closed.words) l.n l.count l.summary;
+  marks : (shape : Shape) → MarksFaults shape l.summary;
+}

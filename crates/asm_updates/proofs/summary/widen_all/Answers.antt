@@ -3,6 +3,7 @@ use Rattle.asm_state.specs.Updates.{widen}
 use Rattle.asm_updates.specs.Entries.{found, AreEntries}
 use Rattle.asm_updates.proofs.Found.{AreEntries-head, one_more}
 use Rattle.asm_updates.proofs.Listed.{AreEntries-drop, drop_one}
+use Rattle.asm_updates.proofs.Marks.{one_value_more}
 use Rattle.asm_updates.proofs.Widened.{widen-none}
 use Rattle.asm_updates.proofs.summary.widen_all.Goals as goal
 
@@ -16,11 +17,14 @@ loop-i-preserved c =
     let left = drop_one es i (e.0, (e.1, e.2)) c.entry_at-n.ensures.position in
     let rest = AreEntries-drop count i es at.own in
     let first = AreEntries-head count (e.0, (e.1, e.2)) (drop (i + 1) es) (subst (AreEntries count) left rest) in record {
-      room = omega (arith, c.widen.ensures.room, at.room);
+      room = omega (arith, c.widen-has_two.ensures.room, at.room);
       own = at.own;
-      sound = c.widen.ensures.sound count first.in_range first.ordered at.sound;
+      sound = c.widen-has_two.ensures.sound count first.in_range first.ordered at.sound;
       entries = λ k.
           one_more widen widen-none (drop i es) (drop (i + 1) es) e.0 (e.1, e.2) left rest.unique
-          (found c.loop-i.ranges.entries) (found c.widen.new.self.entries) c.widen.ensures.entries k
+          (found c.loop-i.ranges.entries) (found c.widen-has_two.new.self.entries) c.widen-has_two.ensures.entries k
           ∙ at.entries k;
+      alike = λ off k was.
+          one_value_more (found c.loop-i.ranges.entries) (found c.widen-has_two.new.self.entries) e.0 _ c.widen-has_two.ensures.entries (c.widen-has_two.ensures.alike (c.either-some_have_two.ensures.second off)) k
+          (at.alike (c.either-some_have_two.ensures.first off) k was);
     }

@@ -1,16 +1,16 @@
 use Rattle.std.proofs.Common.{◌≡◌, ◌∙◌, ◌++◌, ℕ, List, [], ◌∷◌, ap, subst}
 use Rattle.asm_syntax.specs.Views.{spec_of}
 use Rattle.asm_check.specs.Shapes.{shape_of}
-use Rattle.asm_eval.specs.declared.piece.Part.TheVariants as part
+use Rattle.asm_meaning.specs.declared.part.Part.TheVariants as part
 use Rattle.asm_eval.specs.declared.piece.Piece.{Piece}
-use Rattle.asm_eval.specs.Does.{Outcome}
+use Rattle.asm_meaning.specs.Does.{Outcome}
 use Rattle.asm_eval.specs.Environments.{environment_in}
-use Rattle.asm_eval.specs.Evaluated.{meant}
-use Rattle.asm_eval.specs.Formed.{IsFormed}
+use Rattle.asm_meaning.specs.Meant.{meant}
+use Rattle.asm_meaning.specs.Formed.{IsFormed}
 use Rattle.asm_eval.specs.Pieces.{pieces_do}
-use Rattle.asm_eval.specs.Setting.{Setting, outcome}
-use Rattle.asm_eval.specs.Valued.{program, shown}
-use Rattle.asm_eval.proofs.Beside.{beside_laws}
+use Rattle.asm_meaning.specs.Setting.{Setting, outcome}
+use Rattle.asm_meaning.specs.Valued.{program, shown}
+use Rattle.asm_meaning.proofs.Beside.{beside_laws}
 use Rattle.asm_run.proofs.pooled.Pooled.work.Goals as goal
 
 pub returns-in-Ok : goal.returns-in-Ok

@@ -19,14 +19,14 @@ returns-clause-summary c =
     let same = ap (λ x. x.count) c.self.view_is in
     let words = c.word_count-count.ensures ∙ c.self.invariant.0 in
     let count : c.word_count-count.result / 2 ≡ c.args.self.count = omega arith in
-    IfOk-weaker c.summary_of-summary.result _ _ (λ s has. told.summary s (subst (λ n. HasWords n (slots_items c.close_with-closed.result.words) s) count has)) c.summary_of-summary.ensures
+    IfOk-weaker c.summary_of-summary.result _ _ (λ s has. told.summary s (subst (λ n. HasWords n (slots_items c.close_with-closed.result.words) s) count has)) c.summary_of-summary.ensures.words
 
 pub returns-clause-count : goal.returns-clause-count
 returns-clause-count c =
     let same = ap (λ x. x.count) c.self.view_is in
     let words = c.word_count-count.ensures ∙ c.self.invariant.0 in
     let count : c.word_count-count.result / 2 ≡ c.args.self.count = omega arith in
-    IfOk-weaker c.summary_of-summary.result _ _ (λ s has. has.size ∙ count) c.summary_of-summary.ensures
+    IfOk-weaker c.summary_of-summary.result _ _ (λ s has. has.size ∙ count) c.summary_of-summary.ensures.words
 
 pub returns-clause-lows : goal.returns-clause-lows
 returns-clause-lows c = (tells c.self.inside.table.shared.key c.args.self _ _ _ _ _ _ _ c.seat.view_is c.self.view_is c.requires.parts c.seat.invariant.1 c.close_with-closed.ensures.values.2).lows

@@ -2,6 +2,7 @@ use Rattle.std.proofs.Common.{◌≡◌, Some, ap, sym, ◌∙◌}
 use Rattle.asm_state.specs.Updates.{widen}
 use Rattle.asm_updates.specs.Entries.{found, range}
 use Rattle.asm_updates.proofs.Listed.{got-at}
+use Rattle.asm_updates.proofs.Marks.{one_value_put}
 use Rattle.asm_updates.proofs.Widened.{found-widened, AreEntries-widened}
 use Rattle.asm_updates.proofs.ranges.Ranges.widen.Goals as goal
 
@@ -29,3 +30,9 @@ pub returns-in-None-clause-entries : goal.returns-in-None-clause-entries
 returns-in-None-clause-entries c =
     found-widened c.args.self.now.entries c.push.new.self.entries c.args.n c.args.bounds c.args.bounds c.push.ensures.entries
     (ap (λ r. widen r (Some (range c.args.bounds))) (sym c.in-None.ensures.none))
+
+pub returns-in-Some-clause-alike : goal.returns-in-Some-clause-alike
+returns-in-Some-clause-alike c = λ off. one_value_put c.args.self.now.entries c.put_at.new.self.entries c.args.n c.widened-both.result c.put_at.ensures.entries (c.differ-has_two.ensures off)
+
+pub returns-in-None-clause-alike : goal.returns-in-None-clause-alike
+returns-in-None-clause-alike c = λ off. one_value_put c.args.self.now.entries c.push.new.self.entries c.args.n c.args.bounds c.push.ensures.entries (c.differ-has_two-in-None.ensures off)

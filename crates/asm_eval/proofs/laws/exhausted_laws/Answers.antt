@@ -1,5 +1,0 @@
-use Rattle.asm_eval.proofs.ExhaustedLaws.{exhausted_laws}
-use Rattle.asm_eval.proofs.laws.exhausted_laws.Goals as goal
-
-pub returns : goal.returns
-returns c = exhausted_laws

@@ -1,5 +1,0 @@
-use Rattle.asm_eval.proofs.Meant.{program_declares}
-use Rattle.asm_eval.proofs.laws.program_declares.Goals as goal
-
-pub returns : goal.returns
-returns c = program_declares

@@ -1,5 +1,0 @@
-use Rattle.asm_eval.proofs.SpecificationRuns.{are_ranked}
-use Rattle.asm_eval.proofs.laws.specifications_are_ranked.Goals as goal
-
-pub returns : goal.returns
-returns c = are_ranked

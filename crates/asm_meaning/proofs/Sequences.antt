@@ -1,0 +1,197 @@
+-- Sequences: the sets of the parts so far, joined by turbo merges, and what is left.
+-- The lemmas that are public are the clauses of sequence_laws, part_laws and stopping_laws.
+use Rattle.std.proofs.Common.{◌≡◌, ◌≢◌, ℕ, ◌+◌, ◌≤◌, min, Bool, true, false, not, cond, ◌||◌, Option, Some, None, ◌⊎◌, inl, inr, refl, sym, ap, subst, ◌∙◌, arith}
+use Rattle.std.specs.Bool.{Decides}
+use Rattle.std.specs.Prelude.{Result as Returned, Ok, Err, OnOk, IfErr, IsErrAnd, is_some, IfNone, IfSome}
+use Rattle.std.proofs.lemmas.Bool.{false_from_ne_true}
+use Rattle.std.proofs.lemmas.Result.{on_ok_weaker, IfErr-at_err}
+use Rattle.std.proofs.Math.Bool.{or-true}
+use Rattle.asm_state.specs.Location.{Proper, Stray, State}
+use Rattle.asm_state.specs.Signature.{Shape}
+use Rattle.asm_state.specs.Updates.{UpdateSet, IsConsistent, is_consistent, is_none, none, merge, fire, Fault, Clash, Outside, IsFirstFault}
+use Rattle.asm_state.proofs.Algebra.{union_laws, merge_laws}
+use Rattle.asm_state.proofs.Faults.{fault_laws}
+use Rattle.asm_state.proofs.Members.{member_laws}
+use Rattle.asm_state.proofs.Updates.{test_laws}
+use Rattle.asm_state.proofs.Summaries.{fire_laws}
+use Rattle.asm_updates.specs.Entries.{Entries}
+use Rattle.asm_updates.specs.Faults.{fault_of}
+use Rattle.asm_updates.specs.Stands.{Stands, Adds}
+use Rattle.asm_updates.specs.declared.fault.Fault.{Fault as NumberedFault}
+use Rattle.asm_meaning.specs.Does.{Outcome, nothing, following, part_and, turn_and}
+use Rattle.asm_meaning.specs.Formed.{Forms, GoesOn, IsStoppedAt, greatest_count}
+use Rattle.asm_meaning.specs.Underway.{IsUnderway}
+use Rattle.asm_meaning.specs.Yields.{Path, Result, Gives, Exhausted, after}
+use Rattle.asm_meaning.specs.declared.stopped.Stopped.{Stopped}
+use Rattle.asm_meaning.specs.declared.stopped.Stopped.TheVariants as stopped
+
+after_none : (r : Result) → after none r ≡ r
+after_none (Gives V) = ap Gives (merge_laws.first_unit V)
+after_none (Exhausted q) = refl
+
+after_both : (U V : UpdateSet) (r : Result) → after U (after V r) ≡ after (merge U V) r
+after_both U V (Gives W) = ap Gives (sym (merge_laws.group U V W))
+after_both U V (Exhausted q) = refl
+
+-- nothing is fired
+
+none_consistent : IsConsistent none
+none_consistent = record { one_value = λ l v w h k. absurd (member_laws.of_none l v h); no_stray = λ f v. member_laws.of_none (Stray f) v }
+
+first_is_fault : (U : UpdateSet) (fault : Fault) → IsFirstFault U fault → ¬ (IsConsistent U)
+first_is_fault U (Clash (Proper f vs) r) first consistent = (fault_laws.no_fault U).0 consistent (Proper f vs) first.0.is_faulty
+first_is_fault U (Clash (Stray f) r) first consistent = absurd first
+first_is_fault U (Outside f) first consistent = (fault_laws.no_fault U).0 consistent (Stray f) first.is_faulty
+
+-- what the code's search for a fault found
+pub part_laws-no_fault : (shape : Shape) (part : Entries) (U : UpdateSet) (found : Option NumberedFault) → is_some found ≡ false
+    → IfNone found ((V : UpdateSet) → Stands shape part V → IsConsistent V) → Stands shape part U → IsConsistent U
+part_laws-no_fault shape part U None is consistent stands = consistent U stands
+part_laws-no_fault shape part U (Some fault) is consistent stands = cc
+
+pub part_laws-fault : (shape : Shape) (part : Entries) (U : UpdateSet) (found : Option NumberedFault) → is_some found ≡ true
+    → IfSome found (λ fault. (V : UpdateSet) → Stands shape part V → IsFirstFault V (fault_of shape fault)) → Stands shape part U → ¬ (IsConsistent U)
+part_laws-fault shape part U None is first stands = cc
+part_laws-fault shape part U (Some fault) is first stands = first_is_fault U (fault_of shape fault) (first U stands)
+
+-- a test is false where what it tests isn't so
+false_by : {P : Type 0} (b : Bool) → Decides b P → ¬ P → b ≡ false
+false_by b test not = false_from_ne_true b (λ is. not (test.0 is))
+
+-- ---- outcomes
+
+same_outcome : (o q : Outcome) → o.result ≡ q.result → o.instances ≡ q.instances → o ≡ q
+same_outcome o q e f = λ i. record { result = e i; instances = f i }
+
+following_none : (o : Outcome) → following none 0 o ≡ o
+following_none o = same_outcome (following none 0 o) o (after_none o.result) (omega arith)
+
+following_both : (U V : UpdateSet) (n k : ℕ) (o : Outcome) → following U n (following V k o) ≡ following (merge U V) (n + k) o
+following_both U V n k o = same_outcome (following U n (following V k o)) (following (merge U V) (n + k) o) (after_both U V o.result) (omega arith)
+
+abbrev of_set : UpdateSet → ℕ → Outcome
+of_set U n = record { result = Gives U; instances = n }
+
+module _ (o : Outcome) (V : UpdateSet) (rest : UpdateSet → Outcome) (gives : o.result ≡ Gives V) where
+  abbrev part_at : Bool → Outcome
+  part_at b = cond b (following V o.instances (rest V)) (of_set V o.instances)
+
+  abbrev turn_at : Bool → Outcome
+  turn_at b = cond b (of_set V o.instances) (following V o.instances (rest V))
+
+  pub part_laws-good_part : IsConsistent V → part_and o.result o.instances rest ≡ following V o.instances (rest V)
+  part_laws-good_part consistent = ap (λ r. part_and r o.instances rest) gives ∙ ap part_at ((test_laws.consistency V).1 consistent)
+
+  pub part_laws-faulty_part : ¬ (IsConsistent V) → part_and o.result o.instances rest ≡ of_set V o.instances
+  part_laws-faulty_part faulty = ap (λ r. part_and r o.instances rest) gives ∙ ap part_at (false_by (is_consistent V) (test_laws.consistency V) faulty)
+
+  pub part_laws-good_turn : V ≢ none → IsConsistent V → turn_and o.result o.instances rest ≡ following V o.instances (rest V)
+  part_laws-good_turn some consistent =
+      ap (λ r. turn_and r o.instances rest) gives
+      ∙ ap (λ b. turn_at (b || not (is_consistent V))) (false_by (is_none V) (test_laws.emptiness V) some)
+      ∙ ap (λ b. turn_at (not b)) ((test_laws.consistency V).1 consistent)
+
+  pub part_laws-last_turn : (V ≡ none) ⊎ (¬ (IsConsistent V)) → turn_and o.result o.instances rest ≡ of_set V o.instances
+  part_laws-last_turn last = ap (λ r. turn_and r o.instances rest) gives ∙ ap turn_at (is_last last)
+    where
+      is_last : (V ≡ none) ⊎ (¬ (IsConsistent V)) → (is_none V || not (is_consistent V)) ≡ true
+      is_last (inl is) = ap (λ b. b || not (is_consistent V)) ((test_laws.emptiness V).1 is)
+      is_last (inr faulty) = ap (λ b. is_none V || not b) (false_by (is_consistent V) (test_laws.consistency V) faulty) ∙ or-true (is_none V)
+
+pub part_laws-exhausted_part : (o : Outcome) (rest : UpdateSet → Outcome) (q : Path) → o.result ≡ Exhausted q → (part_and o.result o.instances rest).result ≡ Exhausted q
+part_laws-exhausted_part o rest q is = ap (λ r. (part_and r o.instances rest).result) is
+
+pub part_laws-exhausted_turn : (o : Outcome) (rest : UpdateSet → Outcome) (q : Path) → o.result ≡ Exhausted q → (turn_and o.result o.instances rest).result ≡ Exhausted q
+part_laws-exhausted_turn o rest q is = ap (λ r. (turn_and r o.instances rest).result) is
+
+stopped_too : (o q : Outcome) (p : Path) → ((s : Path) → o.result ≡ Exhausted s → q.result ≡ Exhausted s) → (stop : Stopped) → IsStoppedAt o p stop → IsStoppedAt q p stop
+stopped_too o q p too stopped.Memory at = tt
+stopped_too o q p too stopped.Exhausted at = too p at
+
+-- an error is handed on
+pub stopping_laws-handed_on : {S T : Type 0} (o q : Outcome) (p : Path) (given : Returned S Stopped) (returned : Returned T Stopped) (stop : Stopped) → given ≡ Err stop → IsErrAnd returned (λ again. again ≡ stop)
+    → ((s : Path) → o.result ≡ Exhausted s → q.result ≡ Exhausted s) → IfErr given (IsStoppedAt o p) → IfErr returned (IsStoppedAt q p)
+stopping_laws-handed_on o q p given (Ok x) stop was again too at = tt
+stopping_laws-handed_on o q p given (Err other) stop was again too at = subst (IsStoppedAt q p) (sym again) (stopped_too o q p too stop (IfErr-at_err (IsStoppedAt o p) was at))
+
+-- memory ran out, which says nothing of the outcome
+pub stopping_laws-memory : {T : Type 0} (o : Outcome) (p : Path) (returned : Returned T Stopped) → IfErr returned (λ stop. stop ≡ stopped.Memory) → IfErr returned (IsStoppedAt o p)
+stopping_laws-memory o p (Ok x) is = tt
+stopping_laws-memory o p (Err stop) is = subst (IsStoppedAt o p) (sym is) tt
+
+-- ---- from part to part
+
+module _ (shape : Shape) where
+  pub sequence_laws-begins : (A : State) (total : Outcome) (left : State → Outcome) (so_far : Entries) (n : ℕ) → total ≡ left A → n ≤ greatest_count → Stands shape so_far none
+      → IsUnderway shape A total left so_far n n
+  sequence_laws-begins A total left so_far n is small stands = record {
+    set = none;
+    instances = 0;
+    whole = is ∙ sym (following_none (left (fire A none)) ∙ ap left (fire_laws.of_none A));
+    stands = stands;
+    consistent = none_consistent;
+    counts = omega arith;
+  }
+
+  -- a part that is formed from nothing, upon the sets so far
+  pub sequence_laws-goes_upon : (o : Outcome) (U : UpdateSet) (cleared so_far joined part : Entries) (before after : ℕ)
+      → Stands shape cleared none → Stands shape so_far U → ((V W : UpdateSet) → Stands shape so_far V → Stands shape part W → Stands shape joined (merge V W))
+      → Forms shape o cleared part before after → GoesOn shape o U joined part before after
+  sequence_laws-goes_upon o U cleared so_far joined part before after empty stands join formed =
+      let alone : Stands shape part formed.set = subst (Stands shape part) (union_laws.unit formed.set) (formed.adds none empty) in
+      record { set = formed.set; gives = formed.gives; stands = alone; merged = join U formed.set stands alone; counts = formed.counts }
+
+  module _ (A : State) (total : Outcome) (left : State → Outcome) (so_far : Entries) (before now : ℕ) (under : IsUnderway shape A total left so_far before now) where
+    pub sequence_laws-goes_on : (o : Outcome) (left_then : State → Outcome) (joined part : Entries) (after : ℕ) (on : GoesOn shape o under.set joined part now after)
+        → IsConsistent on.set → left (fire A under.set) ≡ following on.set o.instances (left_then (fire (fire A under.set) on.set))
+        → IsUnderway shape A total left_then joined before after
+    sequence_laws-goes_on o left_then joined part after on consistent is = record {
+      set = merge under.set on.set;
+      instances = under.instances + o.instances;
+      whole = under.whole ∙ ap (following under.set under.instances) is
+          ∙ following_both under.set on.set under.instances o.instances (left_then (fire (fire A under.set) on.set))
+          ∙ ap (λ B. following (merge under.set on.set) (under.instances + o.instances) (left_then B)) (sym (merge_laws.firing A under.set on.set));
+      stands = on.merged;
+      consistent = merge_laws.consistent under.set on.set under.consistent consistent;
+      counts = cut_off before under.instances o.instances greatest_count now after under.counts on.counts;
+    }
+      where
+        cut_off : (n a b g m k : ℕ) → m ≡ min (n + a) g → k ≡ min (m + b) g → k ≡ min (n + (a + b)) g
+        cut_off n a b g m k e f = omega arith
+
+    -- what is left gives a set, and the whole is formed by adding the set so far with it
+    ends_by : (old new : Entries) (after : ℕ) (V : UpdateSet) (n : ℕ) → left (fire A under.set) ≡ of_set V n → Adds shape (merge under.set V) old new
+        → after ≡ min (now + n) greatest_count → Forms shape total old new before after
+    ends_by old new after V n is adds counts = record {
+      set = merge under.set V;
+      gives = ap (λ (o : Outcome). o.result) (under.whole ∙ ap (following under.set under.instances) is);
+      adds = adds;
+      counts = counts ∙ ap (λ m. min (m + n) greatest_count) under.counts ∙ cut_off before under.instances n greatest_count
+          ∙ ap (λ (o : Outcome). min (before + o.instances) greatest_count) (sym (under.whole ∙ ap (following under.set under.instances) is));
+    }
+      where
+        cut_off : (n a b g : ℕ) → min (min (n + a) g + b) g ≡ min (n + (a + b)) g
+        cut_off n a b g = omega arith
+
+    module _ {T : Type 0} (was old new : Entries) (n : ℕ) (returned : Returned T Stopped) (same : was ≡ old) where
+      pub sequence_laws-ends_with : (o : Outcome) (joined part : Entries) (after : ℕ) (on : GoesOn shape o under.set joined part now after) → n ≡ after
+          → left (fire A under.set) ≡ of_set on.set o.instances → ((V : UpdateSet) → Stands shape joined V → OnOk returned (Adds shape V was new))
+          → OnOk returned (Forms shape total old new before n)
+      sequence_laws-ends_with o joined part after on kept is put =
+          on_ok_weaker returned
+          (λ adds. ends_by old new n on.set o.instances is (subst (λ s. Adds shape (merge under.set on.set) s new) same adds) (kept ∙ on.counts))
+          (put (merge under.set on.set) on.merged)
+
+      pub sequence_laws-ends : n ≡ now → left (fire A under.set) ≡ nothing → ((V : UpdateSet) → Stands shape so_far V → OnOk returned (Adds shape V was new))
+          → OnOk returned (Forms shape total old new before n)
+      sequence_laws-ends kept is put =
+          on_ok_weaker returned
+          (λ adds. ends_by old new n none 0 is (subst (λ V. Adds shape V old new) (sym (merge_laws.last_unit under.set)) (subst (λ s. Adds shape under.set s new) same adds))
+          (still n now before under.instances greatest_count kept under.counts))
+          (put under.set under.stands)
+        where
+          still : (k m n a g : ℕ) → k ≡ m → m ≡ min (n + a) g → k ≡ min (m + 0) g
+          still k m n a g is e = omega arith
+
+    pub sequence_laws-ends_at : (q : Path) → (left (fire A under.set)).result ≡ Exhausted q → total.result ≡ Exhausted q
+    sequence_laws-ends_at q is = ap (λ (o : Outcome). o.result) under.whole ∙ ap (after under.set) is

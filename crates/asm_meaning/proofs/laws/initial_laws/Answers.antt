@@ -1,0 +1,5 @@
+use Rattle.asm_meaning.proofs.Initial.{initial_laws}
+use Rattle.asm_meaning.proofs.laws.initial_laws.Goals as goal
+
+pub returns : goal.returns
+returns c = initial_laws

@@ -1,0 +1,5 @@
+use Rattle.asm_meaning.proofs.Meant.{program_declares}
+use Rattle.asm_meaning.proofs.laws.program_declares.Goals as goal
+
+pub returns : goal.returns
+returns c = program_declares

@@ -1,0 +1,24 @@
+//! The meaning of terms, rules and specifications, as definitions for contracts, with its laws; views of states, and how an outcome is
+//! formed.
+#![tactic(auto)]
+
+pub mod below;
+pub mod choices;
+pub mod from_nothing;
+pub mod kept;
+pub mod laws;
+pub mod outcome;
+pub mod part;
+pub mod path;
+pub mod shared;
+pub mod stopped;
+pub mod update;
+pub mod view;
+pub mod walk;
+
+pub use choices::Choices;
+pub use outcome::{Forming, Outcome};
+pub use part::Part;
+pub use path::Path;
+pub use stopped::Stopped;
+pub use view::View;
