@@ -1,12 +1,12 @@
 -- A reader of scripts as lists, which computes, and what it answers is right. So each text has a script or a refusal as one.
-use Rattle.std.proofs.Common.{◌≡◌, ◌⊎◌, ℕ, suc, ◌<◌, ◌≤◌, Bool, true, false, ◌||◌, List, [], ◌∷◌, ◌++◌, length, Option, Some, None, Result, Ok, Err, append_assoc, refl, sym, ap, subst, inl, inr, arith}
-use Rattle.std.proofs.lemmas.List.{append-nil, length-append}
+use Rattle.std.proofs.Common.{◌≡◌, ◌⊎◌, ℕ, suc, ◌<◌, ◌≤◌, Bool, true, false, ◌||◌, List, [], ◌∷◌, ◌++◌, length, Option, Some, None, Result, Ok, Err, append_assoc, refl, sym, subst, inl, inr, arith}
+use Rattle.std.proofs.lemmas.List.{append-nil}
 use Rattle.std.specs.Prelude.{nat_le, if◌then◌else◌}
 use Rattle.asm_reader.specs.ScriptLines.{Script}
 use Rattle.asm_reader.specs.ScriptText.{script_in, is_bad, is_repeated, AreFaultless, IsRefusalOfLines, IsScript, IsScriptRefusal, lines_of, max_script}
 use Rattle.asm_reader.specs.declared.script_error.ScriptError.{ScriptError}
 use Rattle.asm_reader.specs.declared.script_error.ScriptError.TheVariants.{BadLine, Repeated, TooLong}
-use Rattle.asm_reader.proofs.FirstFaults.{faultless_push}
+use Rattle.asm_reader.proofs.FirstFaults.{no_lines_faulty, faultless_push}
 
 -- the fault of line number n, by whether it is bad and whether it repeats another, or else that of the lines behind it
 abbrev fault_by : (bad again : Bool) → ℕ → Option ScriptError → Option ScriptError
@@ -36,9 +36,6 @@ has_fault : (before after : List (List ℕ)) → AreFaultless before → HasFaul
 has_fault before [] faultless = subst AreFaultless (sym (append-nil before)) faultless
 has_fault before (bytes ∷ after) faultless = fault_more before bytes after (fault_behind (before ++ bytes ∷ []) after) faultless (λ one_more. has_fault (before ++ bytes ∷ []) after one_more)
 
-none_faulty : AreFaultless []
-none_faulty before after bytes e = absurd (omega (arith, ap length e, length-append before (bytes ∷ after)))
-
 -- ---- texts
 
 abbrev unless : Option ScriptError → Script → Result Script ScriptError
@@ -65,7 +62,7 @@ module _ (text : List ℕ) where
   is_right = by (nat_le (length text) max_script) refl
     where
       by : (r : Bool) → nat_le (length text) max_script ≡ r → IsRight (if r then unless (fault_behind [] (lines_of text)) (script_in (lines_of text)) else Err TooLong)
-      by true h = right_unless (grind (arith, h)) (fault_behind [] (lines_of text)) (has_fault [] (lines_of text) none_faulty)
+      by true h = right_unless (grind (arith, h)) (fault_behind [] (lines_of text)) (has_fault [] (lines_of text) no_lines_faulty)
       by false h = let long : max_script < length text = grind (arith, h) in long
 
   -- what the reader answers, where it is known

@@ -1,9 +1,10 @@
 -- The first line of a script that has a fault: how lines without one grow, and that no other line is the first.
-use Rattle.std.proofs.Common.{◌≡◌, ℕ, suc, ◌+◌, ◌<◌, ◌≤◌, ◌==◌, Bool, true, false, not, ◌&&◌, ◌||◌, List, [], ◌∷◌, ◌++◌, length, map, get_or, take, drop, Option, None, Some, Bor, is_none, Result, Ok, Err, IfOk, append_assoc, refl, sym, ap, subst, ◌∙◌, inl, inr, true≢false, arith}
+use Rattle.std.proofs.Common.{◌≡◌, ℕ, suc, ◌+◌, ◌<◌, ◌≤◌, ◌==◌, Bool, true, false, not, ◌&&◌, ◌||◌, List, [], ◌∷◌, ◌++◌, length, map, get_or, take, drop, Option, None, Some, Bor, is_none, Result, Ok, Err, IfErr, append_assoc, refl, sym, ap, subst, ◌∙◌, inl, inr, true≢false, arith}
 use Rattle.std.proofs.lemmas.Bool.{or_left, or_right}
 use Rattle.std.proofs.lemmas.List.{append-nil, map-append, length-append, length-map, length-take-le, take-append-drop, take_more, drop_more}
 use Rattle.std.proofs.lemmas.Simd.{map-map}
 use Rattle.std.specs.List.{slice_split}
+use Rattle.std.specs.Prelude.{IsErrAnd}
 use Rattle.asm_syntax.specs.declared.refused.Refused.{Refused}
 use Rattle.asm_syntax.specs.declared.refused.Refused.TheVariants.{Memory, Named}
 use Rattle.std.specs.Str.Lines.{strip_carriage_return}
@@ -17,6 +18,9 @@ use Rattle.asm_reader.proofs.Fronts.{two_fronts}
 use Rattle.asm_reader.proofs.MoreLines.{script_of_push}
 
 -- ---- one line more
+
+pub no_lines_faulty : AreFaultless []
+no_lines_faulty before after bytes e = absurd (omega (arith, ap length e, length-append before (bytes ∷ after)))
 
 module _ (before : List (List ℕ)) (bytes : List ℕ) where
   pub said_push : said_in (before ++ bytes ∷ []) ≡ said_in before ++ said (is_skipped bytes) (line_of bytes)
@@ -102,15 +106,19 @@ pub lines_read : (parts : List (Bor (List ℕ))) (text : List ℕ) → map (λ p
 lines_read parts text e = sym (map-map strip_carriage_return (λ (p : Bor (List ℕ)). p.now) parts) ∙ ap (map strip_carriage_return) e
 
 module _ (text : List ℕ) (lines : List (List ℕ)) (are_lines : lines ≡ lines_of text) (fits : length text ≤ max_script) where
-  pub script_read : {E : Type 0} (r : Result Script E) → IfOk r (λ s. AreFaultless lines) → IfOk r (λ s. s ≡ script_in lines) → IfOk r (λ s. IsScript text s)
-  script_read (Ok s) faultless says = record { fits = fits; faultless = subst AreFaultless are_lines faultless; says = says ∙ ap script_in are_lines }
-  script_read (Err e) faultless says = tt
+  pub script_read : AreFaultless lines → IsScript text (script_in (lines_of text))
+  script_read faultless = record { fits = fits; faultless = subst AreFaultless are_lines faultless; says = refl }
 
-  pub refusal_read : (e : Refused ScriptError) → ExplainsLines lines e → ExplainsScript text e
+  refusal_read : (e : Refused ScriptError) → ExplainsLines lines e → ExplainsScript text e
   refusal_read Memory p = tt
   refusal_read (Named (BadLine n)) p = (fits, subst (λ ls. IsRefusalOfLines ls (BadLine n)) are_lines p)
   refusal_read (Named (Repeated n)) p = (fits, subst (λ ls. IsRefusalOfLines ls (Repeated n)) are_lines p)
   refusal_read (Named TooLong) p = absurd p
+
+  -- a refusal of the lines that is handed on
+  pub refusal_handed : {S : Type 0} (r : Result S (Refused ScriptError)) (e : Refused ScriptError) → IsErrAnd r (λ d. d ≡ e) → ExplainsLines lines e → IfErr r (ExplainsScript text)
+  refusal_handed (Ok s) e same p = tt
+  refusal_handed (Err d) e same p = refusal_read d (subst (ExplainsLines lines) (sym same) p)
 
 -- ---- one first line with a fault
 

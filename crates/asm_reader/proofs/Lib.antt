@@ -36,6 +36,7 @@ pub mod MoreLines
 pub mod Placed
 pub mod PathNumbers
 pub mod Fields
+pub mod Sizes
 pub mod FirstFaults
 pub mod EachText
 pub mod EachScript

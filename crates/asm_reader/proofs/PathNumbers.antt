@@ -6,7 +6,7 @@ use Rattle.std.proofs.lemmas.Iterator.Consumers.{YieldsList-turn, YieldsList-end
 use Rattle.asm_reader.specs.ScriptText.{number_of, number_then, numbers_of}
 
 -- what is behind a number that is one
-after_number : (o : Option ℕ) (rest : Option (List ℕ)) (ks : List ℕ) → number_then o rest ≡ Some ks → (k : ℕ) × (more : List ℕ) × (o ≡ Some k) × (rest ≡ Some more) × (ks ≡ k ∷ more)
+pub after_number : (o : Option ℕ) (rest : Option (List ℕ)) (ks : List ℕ) → number_then o rest ≡ Some ks → (k : ℕ) × (more : List ℕ) × (o ≡ Some k) × (rest ≡ Some more) × (ks ≡ k ∷ more)
 after_number None rest ks e = absurd cc
 after_number (Some k) None ks e = absurd cc
 after_number (Some k) (Some more) ks e = (k, more, refl, refl, cc)

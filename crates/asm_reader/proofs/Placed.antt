@@ -1,29 +1,19 @@
 -- Lines of a script that are found by their order.
-use Rattle.std.proofs.Common.{◌≡◌, ℕ, zero, suc, ◌+◌, ◌<◌, ◌≤◌, ◌&&◌, ◌||◌, Bool, true, false, cond, List, [], ◌∷◌, ◌++◌, length, get_or, Option, Some, None, is_some, Vec, Global, Ordering, Less, Equal, Greater, refl, sym, ap, ◌∙◌, arith, true≢false, nat_eq, slice_set, unwrap_or}
-use Rattle.std.specs.BTreeMap.{insert_entry}
+use Rattle.std.proofs.Common.{◌≡◌, ℕ, zero, suc, ◌+◌, ◌<◌, ◌≤◌, ◌^◌, ◌&&◌, ◌||◌, Bool, true, false, cond, List, [], ◌∷◌, ◌++◌, length, take, drop, get_or, Option, Some, None, is_some, not, Result, Ok, Err, IfOk, refl, sym, ap, subst, ◌∙◌, inl, inr, arith, true≢false, nat_eq, ◌⊎◌}
 use Rattle.std.specs.Cmp.{both_tied, unsigned_ties, nat_eq_equiv}
-use Rattle.std.specs.Cmp.Lexicographic.{pointwise, slice_cmp, lists_ties, bytes_decides, nat_list_eq_equiv}
+use Rattle.std.specs.Cmp.Lexicographic.{pointwise, bytes_decides}
 use Rattle.std.specs.List.{list_any}
-use Rattle.std.specs.Option.{option_or}
-use Rattle.std.specs.Ordering.{is_eq, match_ordering, nat_cmp}
+use Rattle.std.specs.Ordering.{nat_cmp}
 use Rattle.std.proofs.lemmas.Bool.{eqb-true}
-use Rattle.std.proofs.lemmas.List.{length_push, length-set, get_or-set_same, get_or-set_other}
-use Rattle.asm_reader.specs.Places.{is_path, path_number, is_place, number_at, at_path, found, in_every, slots_for, AreFound, AreEveryFound, IsKept, IsNumbered}
-use Rattle.asm_reader.specs.ScriptLines.{Line, EveryLine, ForStep, ForEvery, Script, is_line_of, is_line_at, exact_choice, every_choice, pick}
+use Rattle.std.proofs.lemmas.List.{length-append, take-append-drop, take_more}
+use Rattle.asm_reader.specs.Places.{is_pair, entry_at, AreShort, entry_from, place_from, place_of, count_of, IsTree, found, every_at, every_found, AreFound, AreEveryFound, IsKept, IsAdded, IsNext, IsPlaced}
+use Rattle.asm_reader.specs.ScriptLines.{Line, EveryLine, ForStep, ForEvery, Script, no_lines, is_line_of, is_line_at, exact_choice, every_choice}
 use Rattle.asm_reader.specs.ScriptText.{has_line_of}
 use Rattle.asm_reader.specs.Spots.{then_line}
-use Rattle.asm_reader.specs.declared.script.When.{When}
-use Rattle.asm_reader.specs.declared.script.When.TheVariants.{Step, EveryStep}
-
-same_path : (p q : List ℕ) → is_path p q ≡ pointwise nat_eq p q
-same_path p q = sym (lists_ties nat_cmp unsigned_ties p q)
-
-one_path : (p q : List ℕ) → is_path p q ≡ true → p ≡ q
-one_path p q is = (bytes_decides p q).0 (sym (same_path p q) ∙ is)
 
 -- ---- what the lines say
 
-pub any_exact : (lines : List Line) (s : ℕ) (p : List ℕ) → list_any (is_line_of s p) lines ≡ is_some (exact_choice lines s p)
+any_exact : (lines : List Line) (s : ℕ) (p : List ℕ) → list_any (is_line_of s p) lines ≡ is_some (exact_choice lines s p)
 any_exact [] s p = refl
 any_exact (line ∷ lines) s p = by_test (is_line_of s p line) (any_exact lines s p)
   where
@@ -31,7 +21,7 @@ any_exact (line ∷ lines) s p = by_test (is_line_of s p line) (any_exact lines 
     by_test true rest = refl
     by_test false rest = rest
 
-pub any_every : (lines : List EveryLine) (p : List ℕ) → list_any (is_line_at p) lines ≡ is_some (every_choice lines p)
+any_every : (lines : List EveryLine) (p : List ℕ) → list_any (is_line_at p) lines ≡ is_some (every_choice lines p)
 any_every [] p = refl
 any_every (line ∷ lines) p = by_test (is_line_at p line) (any_every lines p)
   where
@@ -65,344 +55,406 @@ unlast : (o : Option ℕ) (c : ℕ) → o ≡ or_last o false c
 unlast None c = refl
 unlast (Some x) c = refl
 
-pub none_of : {A : Type 0} (o : Option A) → is_some o ≡ false → o ≡ None
+none_of : {A : Type 0} (o : Option A) → is_some o ≡ false → o ≡ None
 none_of None e = refl
 none_of (Some x) e = absurd (true≢false e)
 
--- ---- a path gets a number
+-- ---- places and numbers
 
-path_turned : (p q : List ℕ) → is_path p q ≡ is_path q p
-path_turned p q = same_path p q ∙ nat_list_eq_equiv.symm p q ∙ sym (same_path q p)
+pair_parts : (n k i j : ℕ) → is_pair n k (i, j) ≡ (nat_eq n i && nat_eq k j)
+pair_parts n k i j = sym (both_tied (nat_eq n i) (nat_eq k j) (nat_cmp n i) (nat_cmp k j) (unsigned_ties n i) (unsigned_ties k j))
 
-abbrev in_turn : Vec ℕ Global → Vec ℕ Global → Ordering
-in_turn a b = slice_cmp nat_cmp a.items b.items
+both_true : (a b : Bool) → (a && b) ≡ true → (a ≡ true) × (b ≡ true)
+both_true true b e = (refl, e)
+both_true false b e = absurd (true≢false (sym e))
 
-module _ (k : Vec ℕ Global) (v : ℕ) where
-  never_both : (q : List ℕ) (e : Vec ℕ Global) → in_turn k e ≡ Greater → is_path q k.items ≡ true → is_path q e.items ≡ true → ⊥
-  never_both q e above at_k at_e = true≢false (sym at_e ∙ ap (λ y. is_path y e.items) (one_path q k.items at_k) ∙ ap is_eq above)
+one_pair : (n k i j : ℕ) → is_pair n k (i, j) ≡ true → (n ≡ i) × (k ≡ j)
+one_pair n k i j is =
+    let parts = both_true (nat_eq n i) (nat_eq k j) (sym (pair_parts n k i j) ∙ is) in
+    (eqb-true n i parts.0, eqb-true k j parts.1)
 
-  -- what a search for a path finds, after one more path was put there
-  path_inserted : (es : List (Vec ℕ Global × ℕ)) (q : List ℕ) → path_number (insert_entry in_turn es k v) q ≡ cond (is_path k.items q) (Some v) (path_number es q)
-  path_inserted es q = inserted es ∙ ap (λ b. cond b (Some v) (path_number es q)) (path_turned q k.items)
-    where
-      alike : (b : Bool) (w : ℕ) (o : Option ℕ) → cond b (Some v) o ≡ cond b (Some v) (cond b (Some w) o)
-      alike true w o = refl
-      alike false w o = refl
+same_pair : (n k : ℕ) → is_pair n k (n, k) ≡ true
+same_pair n k = pair_parts n k n k ∙ (λ j. nat_eq_equiv.refl n j && nat_eq_equiv.refl k j)
 
-      apart : (a b : Bool) (w : ℕ) (o : Option ℕ) → (a ≡ true → b ≡ true → ⊥) → cond b (Some w) (cond a (Some v) o) ≡ cond a (Some v) (cond b (Some w) o)
-      apart true true w o never = absurd (never refl refl)
-      apart true false w o never = refl
-      apart false true w o never = refl
-      apart false false w o never = refl
-
-      inserted : (es : List (Vec ℕ Global × ℕ)) → path_number (insert_entry in_turn es k v) q ≡ cond (is_path q k.items) (Some v) (path_number es q)
-      inserted [] = refl
-      inserted (e ∷ es) = by_order (in_turn k e.0) refl (inserted es)
-        where
-          by_order : (o : Ordering) → in_turn k e.0 ≡ o → path_number (insert_entry in_turn es k v) q ≡ cond (is_path q k.items) (Some v) (path_number es q)
-              → path_number (match_ordering o ((k, v) ∷ e ∷ es) ((e.0, v) ∷ es) (e ∷ insert_entry in_turn es k v)) q
-              ≡ cond (is_path q k.items) (Some v) (cond (is_path q e.0.items) (Some e.1) (path_number es q))
-          by_order Less is rest = refl
-          by_order Equal is rest =
-              let one : k.items ≡ e.0.items = one_path k.items e.0.items (ap is_eq is) in
-              let same : is_path q e.0.items ≡ is_path q k.items = ap (is_path q) (sym one) in
-              ap (λ b. cond b (Some v) (path_number es q)) same ∙ alike (is_path q k.items) e.1 (path_number es q)
-              ∙ ap (λ b. cond (is_path q k.items) (Some v) (cond b (Some e.1) (path_number es q))) (sym same)
-          by_order Greater is rest = ap (cond (is_path q e.0.items) (Some e.1)) rest ∙ apart (is_path q k.items) (is_path q e.0.items) e.1 (path_number es q) (never_both q e.0 is)
-
--- a path that had no number has got one
-pub path_given : (old new : List (Vec ℕ Global × ℕ)) (k : Vec ℕ Global) (p : List ℕ) (n : ℕ) → k.items ≡ p → path_number old p ≡ None → new ≡ insert_entry in_turn old k n
-    → n ≡ length old → length new ≡ length old + 1 → IsNumbered old p n new
-path_given old new k p n is none put count more = record {
-  its = at p ∙ ap (λ b. cond b (Some n) (path_number old p)) (same_path p p ∙ (bytes_decides p p).1 refl);
-  others = λ q other. at q ∙ ap (λ b. cond b (Some n) (path_number old q)) other;
-  count = omega (arith, more);
-  known = λ there. absurd (true≢false (sym there ∙ ap is_some none));
-  given = λ absent. (count, more);
-}
+other_pair : (n k i j : ℕ) → (n ≡ i → k ≡ j → ⊥) → is_pair n k (i, j) ≡ false
+other_pair n k i j never = by_test (is_pair n k (i, j)) refl
   where
-    at : (q : List ℕ) → path_number new q ≡ cond (is_path p q) (Some n) (path_number old q)
-    at q = ap (λ es. path_number es q) put ∙ path_inserted k n old q ∙ ap (λ x. cond (is_path x q) (Some n) (path_number old q)) is
+    by_test : (b : Bool) → is_pair n k (i, j) ≡ b → b ≡ false
+    by_test false is = refl
+    by_test true is = let one = one_pair n k i j is in absurd (never one.0 one.1)
 
-module _ (lines : List Line) (old new : List (Vec ℕ Global × ℕ)) (numbers : List ((ℕ × ℕ) × ℕ)) (p : List ℕ) (n : ℕ) (are : AreFound lines old numbers) (it : IsNumbered old p n new) where
-  abbrev IsGiven : Type 0
-  IsGiven = (path_number old p ≡ None) × (n ≡ length old) × (length new ≡ length old + 1)
+-- a number of 32 bits more
+module _ (old new : List ((ℕ × ℕ) × ℕ)) (n k v : ℕ) (put : (i j : ℕ) → entry_at new i j ≡ cond (is_pair n k (i, j)) (Some v) (entry_at old i j)) where
+  elsewhere : (i j : ℕ) → (n ≡ i → k ≡ j → ⊥) → entry_at new i j ≡ entry_at old i j
+  elsewhere i j never = put i j ∙ ap (λ b. cond b (Some v) (entry_at old i j)) (other_pair n k i j never)
 
-  same_number : path_number old p ≡ Some n → (q : List ℕ) → path_number new q ≡ path_number old q
-  same_number has q = by_test (is_path p q) refl
-    where
-      by_test : (b : Bool) → is_path p q ≡ b → path_number new q ≡ path_number old q
-      by_test true is = ap (path_number new) (sym (one_path p q is)) ∙ it.its ∙ sym has ∙ ap (path_number old) (one_path p q is)
-      by_test false other = it.others q other
+  pub put_short : k < 2 ^ 32 → AreShort old → AreShort new
+  put_short small short i j long = elsewhere i j (λ e f. omega (arith, small, long, f)) ∙ short i j long
 
-  known_found : path_number old p ≡ Some n → AreFound lines new numbers
-  known_found has = record {
-    finds = λ s q. ap (at_path numbers s) (same_number has q) ∙ are.finds s q;
-    apart = λ q r m a b. are.apart q r m (sym (same_number has q) ∙ a) (sym (same_number has r) ∙ b);
-    below = λ q m a. let inside = are.below q m (sym (same_number has q) ∙ a) in omega (arith, inside, it.count);
-    fresh = λ s m above. are.fresh s m (omega (arith, above, it.count));
-  }
+-- ---- where paths lead
 
-  given_found : IsGiven → AreFound lines new numbers
-  given_found g = record {
-    finds = λ s q. by_path s q (is_path p q) refl;
-    apart = λ q r m a b. apart_so q r m a b (is_path p q) refl (is_path p r) refl;
-    below = λ q m a. below_so q m a (is_path p q) refl;
-    fresh = λ s m above. are.fresh s m (omega (arith, above, it.count));
-  }
-    where
-      by_path : (s : ℕ) (q : List ℕ) (b : Bool) → is_path p q ≡ b → found new numbers s q ≡ exact_choice lines s q
-      by_path s q true is =
-          let here : path_number new q ≡ Some n = ap (path_number new) (sym (one_path p q is)) ∙ it.its in
-          let nothing : exact_choice lines s q ≡ None = sym (are.finds s q) ∙ ap (at_path numbers s) (ap (path_number old) (sym (one_path p q is)) ∙ g.0) in
-          let count = g.1 in
-          ap (at_path numbers s) here ∙ are.fresh s n (omega (arith, count)) ∙ sym nothing
-      by_path s q false other = ap (at_path numbers s) (it.others q other) ∙ are.finds s q
+module _ (ways : List ((ℕ × ℕ) × ℕ)) where
+  pub place_from-append : (place : Option ℕ) (p q : List ℕ) → place_from ways place (p ++ q) ≡ place_from ways (place_from ways place p) q
+  place_from-append place [] q = refl
+  place_from-append place (k ∷ p) q = place_from-append (entry_from ways place k) p q
 
-      its_number : (q : List ℕ) (m : ℕ) → path_number new q ≡ Some m → is_path p q ≡ true → m ≡ n
-      its_number q m a is =
-          let same : Some m ≡ Some n = sym a ∙ ap (path_number new) (sym (one_path p q is)) ∙ it.its in
-          cc
+  pub place_from-nowhere : (p : List ℕ) → place_from ways None p ≡ None
+  place_from-nowhere [] = refl
+  place_from-nowhere (k ∷ p) = place_from-nowhere p
 
-      below_so : (q : List ℕ) (m : ℕ) → path_number new q ≡ Some m → (b : Bool) → is_path p q ≡ b → m < length new
-      below_so q m a true is =
-          let same = its_number q m a is in
-          let count = g.1 in
-          let more = g.2 in
-          omega (arith, same, count, more)
-      below_so q m a false other =
-          let inside = are.below q m (sym (it.others q other) ∙ a) in
-          omega (arith, inside, it.count)
+  pub place_of-push : (p : List ℕ) (n k : ℕ) → place_of ways p ≡ Some n → place_of ways (p ++ k ∷ []) ≡ entry_at ways n k
+  place_of-push p n k at = place_from-append (Some 0) p (k ∷ []) ∙ ap (λ place. entry_from ways place k) at
 
-      never : (q r : List ℕ) (m : ℕ) → path_number new q ≡ Some m → path_number new r ≡ Some m → is_path p q ≡ true → is_path p r ≡ false → ⊥
-      never q r m a b is other =
-          let same = its_number q m a is in
-          let count = g.1 in
-          let inside = are.below r m (sym (it.others r other) ∙ b) in
-          omega (arith, same, count, inside)
+  module _ (tree : IsTree ways) where
+    below_from : (p : List ℕ) (i n : ℕ) → i < count_of ways → place_from ways (Some i) p ≡ Some n → n < count_of ways
+    below_from [] i n low at = let same : i ≡ n = cc in omega (arith, same, low)
+    below_from (k ∷ p) i n low at = by_next (λ j. below_from p j n) (entry_at ways i k) refl
+      where
+        by_next : ((j : ℕ) → j < count_of ways → place_from ways (Some j) p ≡ Some n → n < count_of ways) → (o : Option ℕ) → entry_at ways i k ≡ o → n < count_of ways
+        by_next rest None is =
+            let nothing : Some n ≡ None = sym at ∙ ap (λ place. place_from ways place p) is ∙ place_from-nowhere p in
+            absurd cc
+        by_next rest (Some j) is = rest j (tree.inside i k j is) (sym (ap (λ place. place_from ways place p) is) ∙ at)
 
-      apart_so : (q r : List ℕ) (m : ℕ) → path_number new q ≡ Some m → path_number new r ≡ Some m → (c : Bool) → is_path p q ≡ c → (d : Bool) → is_path p r ≡ d → q ≡ r
-      apart_so q r m a b true e true f = sym (one_path p q e) ∙ one_path p r f
-      apart_so q r m a b true e false f = absurd (never q r m a b e f)
-      apart_so q r m a b false e true f = absurd (never r q m b a f e)
-      apart_so q r m a b false e false f = are.apart q r m (sym (it.others q e) ∙ a) (sym (it.others r f) ∙ b)
+    pub below : (p : List ℕ) (n : ℕ) → place_of ways p ≡ Some n → n < count_of ways
+    below p n at = below_from p 0 n (omega arith) at
 
-  pub numbered_found : AreFound lines new numbers
-  numbered_found = by_known (is_some (path_number old p)) refl
-    where
-      by_known : (b : Bool) → is_some (path_number old p) ≡ b → AreFound lines new numbers
-      by_known true is = known_found (it.known is).0
-      by_known false is = given_found (none_of (path_number old p) is, (it.given is).0, (it.given is).1)
+-- ---- a path, one more number at a time
 
--- ---- one more line
+module _ (ways : List ((ℕ × ℕ) × ℕ)) (path : List ℕ) (i d n : ℕ) (within : i < length path) (at : place_of ways (take i path) ≡ Some n) where
+  next_place : place_of ways (take (i + 1) path) ≡ entry_at ways n (get_or path i d)
+  next_place = ap (place_of ways) (take_more path i d within) ∙ place_of-push ways (take i path) n (get_or path i d) at
 
--- paths have one number where they are one
-paths_parts : (paths : List (Vec ℕ Global × ℕ)) (p : List ℕ) (n : ℕ) → ((p q : List ℕ) (n : ℕ) → path_number paths p ≡ Some n → path_number paths q ≡ Some n → p ≡ q) → path_number paths p ≡ Some n
-    → (q : List ℕ) (m : ℕ) → path_number paths q ≡ Some m → nat_eq n m ≡ pointwise nat_eq p q
-paths_parts paths p n apart at q m there = by_tests (nat_eq n m) refl (pointwise nat_eq p q) refl
-  where
-    by_tests : (a : Bool) → nat_eq n m ≡ a → (b : Bool) → pointwise nat_eq p q ≡ b → a ≡ b
-    by_tests true e true f = refl
-    by_tests false e false f = refl
-    by_tests true e false f =
-        let same : n ≡ m = eqb-true n m e in
-        let one : p ≡ q = apart p q m (at ∙ ap Some same) there in
-        sym ((bytes_decides p q).1 one) ∙ f
-    by_tests false e true f =
-        let one : p ≡ q = (bytes_decides p q).0 f in
-        let same : Some n ≡ Some m = sym at ∙ ap (path_number paths) one ∙ there in
-        let equal : n ≡ m = cc in
-        sym e ∙ ap (nat_eq n) (sym equal) ∙ nat_eq_equiv.refl n
+  pub leads_on : (m : ℕ) → Some m ≡ entry_at ways n (get_or path i d) → place_of ways (take (i + 1) path) ≡ Some m
+  leads_on m there = next_place ∙ sym there
 
-module _ (lines : List Line) (paths : List (Vec ℕ Global × ℕ)) (old new : List ((ℕ × ℕ) × ℕ)) (line : Line) (n : ℕ) (are : AreFound lines paths old) (at : path_number paths line.path ≡ Some n)
-    (none : exact_choice lines line.step line.path ≡ None)
-    (put : (s m : ℕ) → number_at new s m ≡ cond (is_place line.step n (s, m)) (Some line.choice) (number_at old s m)) where
-  place_parts : (s m : ℕ) → is_place line.step n (s, m) ≡ (nat_eq line.step s && nat_eq n m)
-  place_parts s m = sym (both_tied (nat_eq line.step s) (nat_eq n m) (nat_cmp line.step s) (nat_cmp n m) (unsigned_ties line.step s) (unsigned_ties n m))
+  pub leads_nowhere : None ≡ entry_at ways n (get_or path i d) → None ≡ place_of ways path
+  leads_nowhere nowhere = sym (
+      ap (place_of ways) (sym (take-append-drop (i + 1) path)) ∙ place_from-append ways (Some 0) (take (i + 1) path) (drop (i + 1) path)
+      ∙ ap (λ place. place_from ways place (drop (i + 1) path)) (next_place ∙ sym nowhere) ∙ place_from-nowhere ways (drop (i + 1) path)
+      )
 
-  finds_so : (s : ℕ) (q : List ℕ) (o : Option ℕ) → path_number paths q ≡ o → at_path new s o ≡ exact_choice (lines ++ line ∷ []) s q
-  finds_so s q None there =
-      let nothing : exact_choice lines s q ≡ None = sym (are.finds s q) ∙ ap (at_path old s) there in
-      sym (exact_last lines line s q ∙ ap (λ o. or_last o (is_line_of s q line) line.choice) nothing ∙ ap (λ b. cond b (Some line.choice) None) (other (is_line_of s q line) refl))
-    where
-      other : (b : Bool) → is_line_of s q line ≡ b → b ≡ false
-      other false is = refl
-      other true is =
-          let one : line.path ≡ q = (bytes_decides line.path q).0 (second (nat_eq line.step s) (pointwise nat_eq line.path q) is) in
-          let both : Some n ≡ None = sym at ∙ ap (path_number paths) one ∙ there in
-          cc
-        where
-          second : (a b : Bool) → (a && b) ≡ true → b ≡ true
-          second true b e = e
-          second false b e = absurd (true≢false (sym e))
-  finds_so s q (Some m) there =
-      let same : is_place line.step n (s, m) ≡ is_line_of s q line = place_parts s m ∙ ap (λ b. nat_eq line.step s && b) (paths_parts paths line.path n are.apart at q m there) in
-      let before : number_at old s m ≡ exact_choice lines s q = sym (ap (at_path old s) there) ∙ are.finds s q in
-      put s m ∙ ap (λ b. cond b (Some line.choice) (number_at old s m)) same ∙ ap (cond (is_line_of s q line) (Some line.choice)) before
-      ∙ by_test (is_line_of s q line) refl ∙ sym (exact_last lines line s q)
-    where
-      both : (a b : Bool) → (a && b) ≡ true → (a ≡ true) × (b ≡ true)
-      both true b e = (refl, e)
-      both false b e = absurd (true≢false (sym e))
-
-      by_test : (b : Bool) → is_line_of s q line ≡ b → cond b (Some line.choice) (exact_choice lines s q) ≡ or_last (exact_choice lines s q) b line.choice
-      by_test true is =
-          let parts = both (nat_eq line.step s) (pointwise nat_eq line.path q) is in
-          let step : line.step ≡ s = eqb-true line.step s parts.0 in
-          let path : line.path ≡ q = (bytes_decides line.path q).0 parts.1 in
-          let nothing : exact_choice lines s q ≡ None = ap (λ t. exact_choice lines t q) (sym step) ∙ ap (exact_choice lines line.step) (sym path) ∙ none in
-          sym (ap (λ o. or_last o true line.choice) nothing)
-      by_test false is = unlast (exact_choice lines s q) line.choice
-
-  pub line_found : AreFound (lines ++ line ∷ []) paths new
-  line_found = record {
-    finds = λ s q. finds_so s q (path_number paths q) refl;
-    apart = are.apart;
-    below = are.below;
-    fresh = λ s m above.
-        let inside = are.below line.path n at in
-        put s m ∙ ap (λ b. cond b (Some line.choice) (number_at old s m)) (elsewhere s m inside above (is_place line.step n (s, m)) refl) ∙ are.fresh s m above;
-  }
-    where
-      elsewhere : (s m : ℕ) → n < length paths → length paths ≤ m → (b : Bool) → is_place line.step n (s, m) ≡ b → b ≡ false
-      elsewhere s m inside above false e = refl
-      elsewhere s m inside above true e =
-          let same : n ≡ m = eqb-true n m (last (nat_eq line.step s) (nat_eq n m) (sym (place_parts s m) ∙ e)) in
-          absurd (omega (arith, same, inside, above))
-        where
-          last : (a b : Bool) → (a && b) ≡ true → b ≡ true
-          last true b e = e
-          last false b e = absurd (true≢false (sym e))
-
--- ---- the lines for every step
-
--- a place more, with nothing in it
-same_slot : (slots : List (Option ℕ)) (m : ℕ) → get_or (slots ++ None ∷ []) m None ≡ get_or slots m None
-same_slot [] zero = refl
-same_slot [] (suc m) = refl
-same_slot (x ∷ slots) zero = refl
-same_slot (x ∷ slots) (suc m) = same_slot slots m
+-- ---- a number leads to a new place
 
 no_slot : (slots : List (Option ℕ)) (m : ℕ) → length slots ≤ m → get_or slots m None ≡ None
 no_slot [] m h = refl
 no_slot (x ∷ slots) zero h = absurd (omega (arith, h))
 no_slot (x ∷ slots) (suc m) h = no_slot slots m (omega (arith, h))
 
-module _ (script : Script) (old new : List (Vec ℕ Global × ℕ)) (numbers : List ((ℕ × ℕ) × ℕ)) (slots : List (Option ℕ)) (p : List ℕ) (n : ℕ) (kept : IsKept script old numbers slots) (it : IsNumbered old p n new) where
-  -- where the path had a number, nothing changes
-  known_kept : is_some (path_number old p) ≡ true → AreEveryFound script.every new slots
-  known_kept is =
-      let had = it.known is in
-      let count = had.1 in
-      let size = kept.every.slots in
-      record {
-        finds = λ q. ap (in_every slots) (same_number script.exact old new numbers p n kept.exact it had.0 q) ∙ kept.every.finds q;
-        slots = omega (arith, count, size);
-      }
+module _ (old new : List ((ℕ × ℕ) × ℕ)) (q : List ℕ) (n k m : ℕ) (tree : IsTree old) (at : place_of old q ≡ Some n) (added : IsAdded old n k m new) where
+  abbrev p : List ℕ
+  p = q ++ k ∷ []
 
-  -- else it has nothing for every step
-  given_kept : path_number old p ≡ None → AreEveryFound script.every new (slots ++ None ∷ [])
-  given_kept none =
-      let given = it.given (ap is_some none) in
-      let more = given.1 in
-      let size = kept.every.slots in
-      let long = length_push slots None in
-      record { finds = λ q. by_path q (is_path p q) refl; slots = omega (arith, more, size, long) }
+  n_below : n < count_of old
+  n_below = below old tree q n at
+
+  other_entry : (i j : ℕ) → is_pair n k (i, j) ≡ false → entry_at new i j ≡ entry_at old i j
+  other_entry i j other = added.put i j ∙ ap (λ b. cond b (Some m) (entry_at old i j)) other
+
+  -- nothing leads on from the new place
+  nothing_behind : (j : ℕ) → entry_at new m j ≡ None
+  nothing_behind j =
+      let number = added.number in
+      let low = n_below in
+      elsewhere old new n k m added.put m j (λ e f. omega (arith, number, low, e)) ∙ tree.fresh m j (omega (arith, number))
+
+  abbrev Goes : List ℕ → ℕ → Type 0
+  Goes r i = (place_from new (Some i) r ≡ place_from old (Some i) r) ⊎ ((a : List ℕ) × (r ≡ a ++ k ∷ []) × (place_from old (Some i) a ≡ Some n))
+
+  goes : (r : List ℕ) (i : ℕ) → i < count_of old → Goes r i
+  goes [] i low = inl refl
+  goes (j ∷ r) i low = by_pair (λ l. goes r l) (is_pair n k (i, j)) refl
     where
-      by_number : (q : List ℕ) (o : Option ℕ) → path_number old q ≡ o → path_number new q ≡ o → in_every (slots ++ None ∷ []) (path_number new q) ≡ every_choice script.every q
-      by_number q None before after = ap (in_every (slots ++ None ∷ [])) after ∙ sym (ap (in_every slots) before) ∙ kept.every.finds q
-      by_number q (Some m) before after = ap (in_every (slots ++ None ∷ [])) after ∙ same_slot slots m ∙ sym (ap (in_every slots) before) ∙ kept.every.finds q
+      here : (r : List ℕ) → is_pair n k (i, j) ≡ true → Goes (j ∷ r) i
+      here [] is = let one = one_pair n k i j is in inr ([], ap (λ x. x ∷ []) (sym one.1), ap Some (sym one.0))
+      here (x ∷ r) is =
+          let one = one_pair n k i j is in
+          let led : entry_at new i j ≡ Some m = added.put i j ∙ ap (λ b. cond b (Some m) (entry_at old i j)) is in
+          let none : entry_at old i j ≡ None = (λ l. entry_at old (sym one.0 l) (sym one.1 l)) ∙ added.absent in
+          inl (ap (λ place. place_from new place (x ∷ r)) led ∙ ap (λ place. place_from new place r) (nothing_behind x) ∙ place_from-nowhere new r
+          ∙ sym (ap (λ place. place_from old place (x ∷ r)) none ∙ place_from-nowhere old r))
 
-      by_path : (q : List ℕ) (b : Bool) → is_path p q ≡ b → in_every (slots ++ None ∷ []) (path_number new q) ≡ every_choice script.every q
-      by_path q true here =
-          let one : p ≡ q = one_path p q here in
-          let last = (it.given (ap is_some none)).0 in
-          let size = kept.every.slots in
-          ap (λ r. in_every (slots ++ None ∷ []) (path_number new r)) (sym one) ∙ ap (in_every (slots ++ None ∷ [])) it.its ∙ same_slot slots n ∙ no_slot slots n (omega (arith, last, size))
-          ∙ sym (ap (in_every slots) none) ∙ kept.every.finds p ∙ ap (every_choice script.every) one
-      by_path q false other = by_number q (path_number old q) refl (it.others q other)
+      by_next : ((l : ℕ) → l < count_of old → Goes r l) → entry_at new i j ≡ entry_at old i j → (o : Option ℕ) → entry_at old i j ≡ o → Goes (j ∷ r) i
+      by_next rest same None is =
+          inl (ap (λ place. place_from new place r) (same ∙ is) ∙ place_from-nowhere new r ∙ sym (ap (λ place. place_from old place r) is ∙ place_from-nowhere old r))
+      by_next rest same (Some l) is = elim (rest l (tree.inside i j l is)) [
+        | inl e ↦ inl (ap (λ place. place_from new place r) (same ∙ is) ∙ e ∙ sym (ap (λ place. place_from old place r) is))
+        | inr w ↦ inr (j ∷ w.0, ap (λ s. j ∷ s) w.1, ap (λ place. place_from old place w.0) is ∙ w.2)
+      ]
 
-  pub numbered_kept : IsKept script new numbers (slots_for (path_number old p) slots)
-  numbered_kept = record { exact = numbered_found script.exact old new numbers p n kept.exact it; every = by (path_number old p) refl }
+      by_pair : ((l : ℕ) → l < count_of old → Goes r l) → (b : Bool) → is_pair n k (i, j) ≡ b → Goes (j ∷ r) i
+      by_pair rest true is = here r is
+      by_pair rest false other = by_next rest (other_entry i j other) (entry_at old i j) refl
+
+  -- no other path has got a place
+  others : (r : List ℕ) → (r ≡ p → ⊥) → place_of new r ≡ place_of old r
+  others r other = elim (goes r 0 (omega arith)) [
+    | inl e ↦ e
+    | inr w ↦ absurd (other (w.1 ∙ ap (λ a. a ++ k ∷ []) (tree.apart w.0 q n w.2 at)))
+  ]
+
+  its : place_of new p ≡ Some m
+  its =
+      let shorter : q ≡ p → ⊥ = λ e. omega (arith, ap length e, length-append q (k ∷ [])) in
+      place_of-push new q n k (others q shorter ∙ at) ∙ added.put n k ∙ ap (λ b. cond b (Some m) (entry_at old n k)) (same_pair n k)
+
+  was_nowhere : place_of old p ≡ None
+  was_nowhere = place_of-push old q n k at ∙ added.absent
+
+  -- where the path is the new one, or another
+  by_path : (r : List ℕ) → (p ≡ r) ⊎ (place_of new r ≡ place_of old r)
+  by_path r = by_test (pointwise nat_eq p r) refl
     where
-      by : (o : Option ℕ) → path_number old p ≡ o → AreEveryFound script.every new (slots_for o slots)
-      by (Some m) is = known_kept (ap is_some is)
-      by None is = given_kept is
+      by_test : (b : Bool) → pointwise nat_eq p r ≡ b → (p ≡ r) ⊎ (place_of new r ≡ place_of old r)
+      by_test true is = inl ((bytes_decides p r).0 is)
+      by_test false is = inr (others r (λ e. true≢false (sym ((bytes_decides p r).1 (sym e)) ∙ is)))
 
-module _ (script : Script) (paths : List (Vec ℕ Global × ℕ)) (numbers : List ((ℕ × ℕ) × ℕ)) (slots : List (Option ℕ)) (kept : IsKept script paths numbers slots) where
-  pub exact_kept : (line : Line) (n : ℕ) (more : List ((ℕ × ℕ) × ℕ)) → path_number paths line.path ≡ Some n → exact_choice script.exact line.step line.path ≡ None
-      → ((s m : ℕ) → number_at more s m ≡ cond (is_place line.step n (s, m)) (Some line.choice) (number_at numbers s m)) → IsKept (then_line script (ForStep line)) paths more slots
-  exact_kept line n more at none put = record { exact = line_found script.exact paths numbers more line n kept.exact at none put; every = kept.every }
+  its_number : (r : List ℕ) (i : ℕ) → p ≡ r → place_of new r ≡ Some i → i ≡ m
+  its_number r i one there =
+      let same : Some i ≡ Some m = sym there ∙ ap (place_of new) (sym one) ∙ its in
+      cc
 
-  pub every_kept : (line : EveryLine) (n : ℕ) (filled : List (Option ℕ)) → path_number paths line.path ≡ Some n → every_choice script.every line.path ≡ None
-      → length filled ≡ length slots → ((m : ℕ) → get_or filled m None ≡ cond (nat_eq n m) (Some line.choice) (get_or slots m None)) → IsKept (then_line script (ForEvery line)) paths numbers filled
-  every_kept line n filled at none count put = record { exact = kept.exact; every = record { finds = λ q. finds_so q (path_number paths q) refl; slots = count ∙ kept.every.slots } }
+  never : (q r : List ℕ) (i : ℕ) → p ≡ q → place_of new r ≡ place_of old r → place_of new q ≡ Some i → place_of new r ≡ Some i → ⊥
+  never q r i one other a b =
+      let same = its_number q i one a in
+      let number = added.number in
+      let low = below old tree r i (sym other ∙ b) in
+      omega (arith, same, number, low)
+
+  tree_more : IsTree new
+  tree_more = record { apart = apart_so; inside = inside_so; fresh = fresh_so; short = put_short old new n k m added.put added.short tree.short }
     where
-      finds_so : (q : List ℕ) (o : Option ℕ) → path_number paths q ≡ o → in_every filled (path_number paths q) ≡ every_choice (script.every ++ line ∷ []) q
-      finds_so q None there =
-          let nothing : every_choice script.every q ≡ None = sym (kept.every.finds q) ∙ ap (in_every slots) there in
-          ap (in_every filled) there ∙ sym (every_last script.every line q ∙ ap (λ o. or_last o (is_line_at q line) line.choice) nothing ∙ ap (λ b. cond b (Some line.choice) None) (other (is_line_at q line) refl))
+      apart_so : (q r : List ℕ) (i : ℕ) → place_of new q ≡ Some i → place_of new r ≡ Some i → q ≡ r
+      apart_so q r i a b = by (by_path q) (by_path r)
+        where
+          by : (p ≡ q) ⊎ (place_of new q ≡ place_of old q) → (p ≡ r) ⊎ (place_of new r ≡ place_of old r) → q ≡ r
+          by (inl e) (inl f) = sym e ∙ f
+          by (inl e) (inr f) = absurd (never q r i e f a b)
+          by (inr e) (inl f) = absurd (never r q i f e b a)
+          by (inr e) (inr f) = tree.apart q r i (sym e ∙ a) (sym f ∙ b)
+
+      inside_so : (i j l : ℕ) → entry_at new i j ≡ Some l → l < count_of new
+      inside_so i j l led = by (is_pair n k (i, j)) refl
+        where
+          by : (b : Bool) → is_pair n k (i, j) ≡ b → l < count_of new
+          by true is =
+              let same : Some l ≡ Some m = sym led ∙ added.put i j ∙ ap (λ b. cond b (Some m) (entry_at old i j)) is in
+              let one : l ≡ m = cc in
+              let number = added.number in
+              let more = added.count in
+              omega (arith, one, number, more)
+          by false other =
+              let low = tree.inside i j l (sym (other_entry i j other) ∙ led) in
+              let more = added.count in
+              omega (arith, low, more)
+
+      fresh_so : (i j : ℕ) → count_of new ≤ i → entry_at new i j ≡ None
+      fresh_so i j above =
+          let low = n_below in
+          let more = added.count in
+          elsewhere old new n k m added.put i j (λ e f. omega (arith, low, more, above, e)) ∙ tree.fresh i j (omega (arith, above, more))
+
+  found_more : (lines : List Line) (exact : List ((ℕ × ℕ) × ℕ)) → AreFound lines old exact → AreFound lines new exact
+  found_more lines exact are = record {
+    finds = λ s r. by s r (by_path r);
+    fresh = λ i s above. let more = added.count in are.fresh i s (omega (arith, above, more));
+    short = are.short;
+  }
+    where
+      by : (s : ℕ) (r : List ℕ) → (p ≡ r) ⊎ (place_of new r ≡ place_of old r) → found new exact s r ≡ exact_choice lines s r
+      by s r (inl one) =
+          let number = added.number in
+          ap (λ t. found new exact s t) (sym one) ∙ ap (λ place. entry_from exact place s) its ∙ are.fresh m s (omega (arith, number))
+          ∙ sym (ap (λ place. entry_from exact place s) was_nowhere) ∙ are.finds s p ∙ ap (exact_choice lines s) one
+      by s r (inr other) = ap (λ place. entry_from exact place s) other ∙ are.finds s r
+
+  every_more : (lines : List EveryLine) (every : List (Option ℕ)) → AreEveryFound lines old every → AreEveryFound lines new every
+  every_more lines every are = record {
+    finds = λ r. by r (by_path r);
+    room = let room = are.room in let more = added.count in omega (arith, room, more);
+  }
+    where
+      by : (r : List ℕ) → (p ≡ r) ⊎ (place_of new r ≡ place_of old r) → every_found new every r ≡ every_choice lines r
+      by r (inl one) =
+          let number = added.number in
+          let room = are.room in
+          ap (λ t. every_found new every t) (sym one) ∙ ap (every_at every) its ∙ no_slot every m (omega (arith, number, room))
+          ∙ sym (ap (every_at every) was_nowhere) ∙ are.finds p ∙ ap (every_choice lines) one
+      by r (inr other) = ap (every_at every) other ∙ are.finds r
+
+  pub kept_added : (script : Script) (exact : List ((ℕ × ℕ) × ℕ)) (every : List (Option ℕ)) → IsKept script old exact every → IsKept script new exact every × (place_of new p ≡ Some m)
+  kept_added script exact every kept =
+      let more : IsKept script new exact every = record { tree = tree_more; exact = found_more script.exact exact kept.exact; every = every_more script.every every kept.every } in
+      (more, its)
+
+-- a path that is longer by a number
+pub placed_more : (old middle new : List ((ℕ × ℕ) × ℕ)) (q : List ℕ) (n k m : ℕ) → IsPlaced old q n middle → IsNext middle n k m new → IsPlaced old (q ++ k ∷ []) m new
+placed_more old middle new q n k m before (inl same) script exact every kept =
+    let was = before script exact every kept in
+    (subst (λ ways. IsKept script ways exact every) (sym same.0) was.0, ap (λ ways. place_of ways (q ++ k ∷ [])) same.0 ∙ place_of-push middle q n k was.1 ∙ same.1)
+placed_more old middle new q n k m before (inr added) script exact every kept =
+    let was = before script exact every kept in
+    kept_added middle new q n k m was.0.tree was.1 added script exact every was.0
+
+-- so many ways more at most
+pub room_more : (old new : List ((ℕ × ℕ) × ℕ)) (n k m : ℕ) → IsNext old n k m new → length new ≤ length old + 1
+room_more old new n k m (inl same) = omega (arith, ap length same.0)
+room_more old new n k m (inr added) = let more = added.count in omega (arith, more)
+
+-- ---- one more line
+
+-- paths stand at one place where they are one
+paths_parts : (ways : List ((ℕ × ℕ) × ℕ)) (p : List ℕ) (n : ℕ) → IsTree ways → place_of ways p ≡ Some n → (q : List ℕ) (m : ℕ) → place_of ways q ≡ Some m → nat_eq n m ≡ pointwise nat_eq p q
+paths_parts ways p n tree at q m there = by_tests (nat_eq n m) refl (pointwise nat_eq p q) refl
+  where
+    by_tests : (a : Bool) → nat_eq n m ≡ a → (b : Bool) → pointwise nat_eq p q ≡ b → a ≡ b
+    by_tests true e true f = refl
+    by_tests false e false f = refl
+    by_tests true e false f =
+        let same : n ≡ m = eqb-true n m e in
+        let one : p ≡ q = tree.apart p q m (at ∙ ap Some same) there in
+        sym ((bytes_decides p q).1 one) ∙ f
+    by_tests false e true f =
+        let one : p ≡ q = (bytes_decides p q).0 f in
+        let same : Some n ≡ Some m = sym at ∙ ap (place_of ways) one ∙ there in
+        let equal : n ≡ m = cc in
+        sym e ∙ ap (nat_eq n) (sym equal) ∙ nat_eq_equiv.refl n
+
+and_turned : (a b : Bool) → (a && b) ≡ (b && a)
+and_turned true true = refl
+and_turned true false = refl
+and_turned false true = refl
+and_turned false false = refl
+
+module _ (lines : List Line) (ways old new : List ((ℕ × ℕ) × ℕ)) (line : Line) (n : ℕ) (tree : IsTree ways) (are : AreFound lines ways old) (at : place_of ways line.path ≡ Some n)
+    (none : exact_choice lines line.step line.path ≡ None) (short : AreShort new)
+    (put : (i s : ℕ) → entry_at new i s ≡ cond (is_pair n line.step (i, s)) (Some line.choice) (entry_at old i s)) where
+  finds_so : (s : ℕ) (q : List ℕ) (o : Option ℕ) → place_of ways q ≡ o → entry_from new o s ≡ exact_choice (lines ++ line ∷ []) s q
+  finds_so s q None there =
+      let nothing : exact_choice lines s q ≡ None = sym (are.finds s q) ∙ ap (λ place. entry_from old place s) there in
+      sym (exact_last lines line s q ∙ ap (λ o. or_last o (is_line_of s q line) line.choice) nothing ∙ ap (λ b. cond b (Some line.choice) None) (other (is_line_of s q line) refl))
+    where
+      other : (b : Bool) → is_line_of s q line ≡ b → b ≡ false
+      other false is = refl
+      other true is =
+          let one : line.path ≡ q = (bytes_decides line.path q).0 (both_true (nat_eq line.step s) (pointwise nat_eq line.path q) is).1 in
+          let both : Some n ≡ None = sym at ∙ ap (place_of ways) one ∙ there in
+          cc
+  finds_so s q (Some m) there =
+      let same : is_pair n line.step (m, s) ≡ is_line_of s q line =
+      pair_parts n line.step m s ∙ and_turned (nat_eq n m) (nat_eq line.step s) ∙ ap (λ b. nat_eq line.step s && b) (paths_parts ways line.path n tree at q m there) in
+      let before : entry_at old m s ≡ exact_choice lines s q = sym (ap (λ place. entry_from old place s) there) ∙ are.finds s q in
+      put m s ∙ ap (λ b. cond b (Some line.choice) (entry_at old m s)) same ∙ ap (cond (is_line_of s q line) (Some line.choice)) before
+      ∙ by_test (is_line_of s q line) refl ∙ sym (exact_last lines line s q)
+    where
+      by_test : (b : Bool) → is_line_of s q line ≡ b → cond b (Some line.choice) (exact_choice lines s q) ≡ or_last (exact_choice lines s q) b line.choice
+      by_test true is =
+          let parts = both_true (nat_eq line.step s) (pointwise nat_eq line.path q) is in
+          let step : line.step ≡ s = eqb-true line.step s parts.0 in
+          let path : line.path ≡ q = (bytes_decides line.path q).0 parts.1 in
+          let nothing : exact_choice lines s q ≡ None = ap (λ t. exact_choice lines t q) (sym step) ∙ ap (exact_choice lines line.step) (sym path) ∙ none in
+          sym (ap (λ o. or_last o true line.choice) nothing)
+      by_test false is = unlast (exact_choice lines s q) line.choice
+
+  line_found : AreFound (lines ++ line ∷ []) ways new
+  line_found = record {
+    finds = λ s q. finds_so s q (place_of ways q) refl;
+    fresh = λ i s above. let inside = below ways tree line.path n at in elsewhere old new n line.step line.choice put i s (λ e f. omega (arith, inside, above, e)) ∙ are.fresh i s above;
+    short = short;
+  }
+
+module _ (script : Script) (ways exact : List ((ℕ × ℕ) × ℕ)) (every : List (Option ℕ)) (kept : IsKept script ways exact every) where
+  -- what stands at the place of a path
+  exact_there : (s : ℕ) (p : List ℕ) (n : ℕ) → place_of ways p ≡ Some n → entry_at exact n s ≡ exact_choice script.exact s p
+  exact_there s p n there = sym (ap (λ place. entry_from exact place s) there) ∙ kept.exact.finds s p
+
+  every_there : (p : List ℕ) (n : ℕ) → place_of ways p ≡ Some n → get_or every n None ≡ every_choice script.every p
+  every_there p n there = sym (ap (every_at every) there) ∙ kept.every.finds p
+
+  pub says_exact : (line : Line) (n : ℕ) → place_of ways line.path ≡ Some n → has_line_of script (ForStep line) ≡ is_some (entry_at exact n line.step)
+  says_exact line n at = any_exact script.exact line.step line.path ∙ ap is_some (sym (exact_there line.step line.path n at))
+
+  pub says_every : (line : EveryLine) (n : ℕ) → place_of ways line.path ≡ Some n → has_line_of script (ForEvery line) ≡ is_some (get_or every n None)
+  says_every line n at = any_every script.every line.path ∙ ap is_some (sym (every_there line.path n at))
+
+  exact_kept : (line : Line) (n : ℕ) (more : List ((ℕ × ℕ) × ℕ)) → place_of ways line.path ≡ Some n → entry_at exact n line.step ≡ None → AreShort more
+      → ((i s : ℕ) → entry_at more i s ≡ cond (is_pair n line.step (i, s)) (Some line.choice) (entry_at exact i s)) → IsKept (then_line script (ForStep line)) ways more every
+  exact_kept line n more at free short put = record {
+    tree = kept.tree;
+    exact = line_found script.exact ways exact more line n kept.tree kept.exact at (sym (exact_there line.step line.path n at) ∙ free) short put;
+    every = kept.every;
+  }
+
+  every_kept : (line : EveryLine) (n : ℕ) (filled : List (Option ℕ)) → place_of ways line.path ≡ Some n → get_or every n None ≡ None
+      → ((c : ℕ) → n < c → length every ≤ c → length filled ≤ c) → ((m : ℕ) → get_or filled m None ≡ cond (nat_eq n m) (Some line.choice) (get_or every m None)) → IsKept (then_line script (ForEvery line)) ways exact filled
+  every_kept line n filled at free room put = record {
+    tree = kept.tree;
+    exact = kept.exact;
+    every = record { finds = λ q. every_so q (place_of ways q) refl; room = room (count_of ways) (below ways kept.tree line.path n at) kept.every.room };
+  }
+    where
+      none : every_choice script.every line.path ≡ None
+      none = sym (every_there line.path n at) ∙ free
+
+      every_so : (q : List ℕ) (o : Option ℕ) → place_of ways q ≡ o → every_at filled (place_of ways q) ≡ every_choice (script.every ++ line ∷ []) q
+      every_so q None there =
+          let nothing : every_choice script.every q ≡ None = sym (kept.every.finds q) ∙ ap (every_at every) there in
+          ap (every_at filled) there ∙ sym (every_last script.every line q ∙ ap (λ o. or_last o (is_line_at q line) line.choice) nothing ∙ ap (λ b. cond b (Some line.choice) None) (other (is_line_at q line) refl))
         where
           other : (b : Bool) → is_line_at q line ≡ b → b ≡ false
           other false is = refl
           other true is =
               let one : line.path ≡ q = (bytes_decides line.path q).0 is in
-              let both : Some n ≡ None = sym at ∙ ap (path_number paths) one ∙ there in
+              let both : Some n ≡ None = sym at ∙ ap (place_of ways) one ∙ there in
               cc
-      finds_so q (Some m) there =
-          let before : get_or slots m None ≡ every_choice script.every q = sym (ap (in_every slots) there) ∙ kept.every.finds q in
-          ap (in_every filled) there ∙ put m ∙ ap (λ b. cond b (Some line.choice) (get_or slots m None)) (paths_parts paths line.path n kept.exact.apart at q m there)
+      every_so q (Some m) there =
+          let before : get_or every m None ≡ every_choice script.every q = sym (ap (every_at every) there) ∙ kept.every.finds q in
+          ap (every_at filled) there ∙ put m ∙ ap (λ b. cond b (Some line.choice) (get_or every m None)) (paths_parts ways line.path n kept.tree at q m there)
           ∙ ap (cond (is_line_at q line) (Some line.choice)) before ∙ by_test (is_line_at q line) refl ∙ sym (every_last script.every line q)
         where
           by_test : (b : Bool) → is_line_at q line ≡ b → cond b (Some line.choice) (every_choice script.every q) ≡ or_last (every_choice script.every q) b line.choice
           by_test true is = sym (ap (λ o. or_last o true line.choice) (ap (every_choice script.every) (sym ((bytes_decides line.path q).0 is)) ∙ none))
           by_test false is = unlast (every_choice script.every q) line.choice
 
-  -- ---- what is picked
+  -- the same, as it is answered
+  pub exact_taken : {E : Type 0} (line : Line) (n : ℕ) (more : List ((ℕ × ℕ) × ℕ)) (r : Result Bool E) → place_of ways line.path ≡ Some n → IfOk r (λ free. is_some (entry_at exact n line.step) ≡ not free)
+      → IfOk r (λ _. (i s : ℕ) → entry_at more i s ≡ cond (is_pair n line.step (i, s)) (Some line.choice) (entry_at exact i s)) → (AreShort exact → IfOk r (λ _. AreShort more))
+      → IfOk r (λ added. added ≡ true → IsKept (then_line script (ForStep line)) ways more every)
+  exact_taken line n more (Ok added) at free put short = λ took. exact_kept line n more at (none_of _ (free ∙ ap not took)) (short kept.exact.short) put
+  exact_taken line n more (Err e) at free put short = tt
 
-  module _ (s : ℕ) (p : List ℕ) where
-    abbrev both : Option ℕ → Option ℕ → ℕ
-    both exact every = unwrap_or (option_or exact every) 0
+  pub every_taken : {E : Type 0} (line : EveryLine) (n : ℕ) (filled : List (Option ℕ)) (r : Result Bool E) → place_of ways line.path ≡ Some n → IfOk r (λ free. is_some (get_or every n None) ≡ not free)
+      → IfOk r (λ _. (m : ℕ) → get_or filled m None ≡ cond (nat_eq n m) (Some line.choice) (get_or every m None)) → IfOk r (λ _. (c : ℕ) → n < c → length every ≤ c → length filled ≤ c)
+      → IfOk r (λ added. added ≡ true → IsKept (then_line script (ForEvery line)) ways exact filled)
+  every_taken line n filled (Ok added) at free put room = λ took. every_kept line n filled at (none_of _ (free ∙ ap not took)) room put
+  every_taken line n filled (Err e) at free put room = tt
 
-    pub picked_nowhere : path_number paths p ≡ None → 0 ≡ pick script s p
-    picked_nowhere none = (λ j. both (at_path numbers s (sym none j)) (in_every slots (sym none j))) ∙ (λ j. both (kept.exact.finds s p j) (kept.every.finds p j))
+-- ---- a script without lines
 
-    pub picked_there : (n : ℕ) → path_number paths p ≡ Some n → both (number_at numbers s n) (get_or slots n None) ≡ pick script s p
-    picked_there n there = (λ j. both (at_path numbers s (sym there j)) (in_every slots (sym there j))) ∙ (λ j. both (kept.exact.finds s p j) (kept.every.finds p j))
+module _ (ways exact : List ((ℕ × ℕ) × ℕ)) (every : List (Option ℕ)) (no_ways : ways ≡ []) (no_exact : exact ≡ []) (no_every : every ≡ []) where
+  pub nothing_kept : IsKept no_lines ways exact every
+  nothing_kept = subst (λ s. IsKept no_lines s exact every) (sym no_ways) (subst (λ e. IsKept no_lines [] e every) (sym no_exact) (subst (IsKept no_lines [] []) (sym no_every) nothing))
+    where
+      nowhere : (p : List ℕ) (n : ℕ) → place_of [] p ≡ Some n → p ≡ []
+      nowhere [] n at = refl
+      nowhere (k ∷ p) n at = let none : Some n ≡ None = sym at ∙ place_from-nowhere [] p in absurd cc
 
-    pub every_there : (n : ℕ) → path_number paths p ≡ Some n → get_or slots n None ≡ every_choice script.every p
-    every_there n there = sym (ap (in_every slots) there) ∙ kept.every.finds p
+      exact_nowhere : (place : Option ℕ) (s : ℕ) → entry_from [] place s ≡ None
+      exact_nowhere None s = refl
+      exact_nowhere (Some n) s = refl
 
-    pub inside_every : (n : ℕ) → path_number paths p ≡ Some n → n < length slots
-    inside_every n there =
-        let inside = kept.exact.below p n there in
-        let size = kept.every.slots in
-        omega (arith, inside, size)
+      every_nowhere : (place : Option ℕ) → every_at [] place ≡ None
+      every_nowhere None = refl
+      every_nowhere (Some n) = refl
 
--- what stands at an index within a list doesn't depend on what would be answered elsewhere
-pub any_default : (slots : List (Option ℕ)) (m : ℕ) (d : Option ℕ) → m < length slots → get_or slots m d ≡ get_or slots m None
-any_default [] m d h = absurd (omega (arith, h))
-any_default (x ∷ slots) zero d h = refl
-any_default (x ∷ slots) (suc m) d h = any_default slots m d (omega (arith, h))
-
-pub set_slot : (slots : List (Option ℕ)) (n k : ℕ) → n < length slots → (m : ℕ) → get_or (slice_set slots n (Some k)) m None ≡ cond (nat_eq n m) (Some k) (get_or slots m None)
-set_slot slots n k h m = by_test (nat_eq n m) refl
-  where
-    by_test : (b : Bool) → nat_eq n m ≡ b → get_or (slice_set slots n (Some k)) m None ≡ cond b (Some k) (get_or slots m None)
-    by_test true is = ap (λ i. get_or (slice_set slots n (Some k)) i None) (sym (eqb-true n m is)) ∙ get_or-set_same slots n (Some k) None h
-    by_test false is = get_or-set_other slots n m (Some k) None (λ e. true≢false (sym (nat_eq_equiv.refl n) ∙ ap (nat_eq n) (sym e) ∙ is))
-
-pub same_length : (slots : List (Option ℕ)) (n k : ℕ) → length (slice_set slots n (Some k)) ≡ length slots
-same_length slots n k = length-set slots n (Some k)
-
--- ---- what no line says
-
-pub none_exact : (script : Script) (line : Line) → has_line_of script (ForStep line) ≡ false → exact_choice script.exact line.step line.path ≡ None
-none_exact script line e = none_of _ (sym (any_exact script.exact line.step line.path) ∙ e)
-
-pub none_every : (script : Script) (line : EveryLine) → has_line_of script (ForEvery line) ≡ false → every_choice script.every line.path ≡ None
-none_every script line e = none_of _ (sym (any_every script.every line.path) ∙ e)
-
-pub for_every : (w : When) → ((i : ℕ) → w ≡ Step i → ⊥) → w ≡ EveryStep
-for_every (Step i) h = absurd (h i refl)
-for_every EveryStep h = refl
+      nothing : IsKept no_lines [] [] []
+      nothing = record {
+        tree = record {
+          apart = λ p q n a b. nowhere p n a ∙ sym (nowhere q n b);
+          inside = λ n k m led. absurd cc;
+          fresh = λ n k above. refl;
+          short = λ n k long. refl;
+        };
+        exact = record { finds = λ s p. exact_nowhere (place_of [] p) s; fresh = λ n s above. refl; short = λ n s long. refl };
+        every = record { finds = λ p. every_nowhere (place_of [] p); room = omega arith };
+      }

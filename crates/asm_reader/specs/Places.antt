@@ -1,69 +1,93 @@
--- Where the lines of a script are found by their order.
---     path_number paths p         the number that a path has
---     number_at numbers s n       the number at a step and the path with the number n
---     found paths numbers s p     the same, by the path
---     every_found paths every p   the number at a path in every step
---     slots_for number every      the list, with a place more for a path without a number
---     AreFound lines paths numbers         the two ordered maps answer as the lines for one step do
---     AreEveryFound lines paths every      the ordered map and the list answer as the lines for every step do
---     IsKept script paths numbers slots    both of a script
---     IsNumbered old p n new               the path p has the number n, and has got it if it had none
-use Rattle.std.specs.Prelude.{◌≡◌, ◌≤◌, ◌<◌, ℕ, Bool, List, [], ◌∷◌, ◌++◌, length, get_or, ◌+◌, true, false, is_some, Option, Some, None}
-use Rattle.std.proofs.Common.{Vec, Global}
-use Rattle.std.specs.Cmp.Lexicographic.{slice_cmp}
+-- Where the lines of a script are found by their order: paths stand at places, which make a tree, and lines at places and steps.
+--     entry_at entries n k           what an ordered map has at a place and a number
+--     place_of ways p                the place of a path: from the place 0 each number leads to the next place
+--     found ways exact s p           what stands at the place of a path and a step
+--     every_found ways every p       what stands at the place of a path in every step
+--     IsTree ways                    places are found in one way only, and have the numbers below count_of ways
+--     AreFound, AreEveryFound        the answers are those of the lines for one step, and of those for every step
+--     Says places script             all that the lines of the script say is found
+--     IsNext old n k m new           from the place n the number k leads to m, which is a new place if it led to none
+--     IsPlaced old p n new           the path p stands at n, and all else that was said is found as before
+use Rattle.std.specs.Prelude.{◌≡◌, ◌⊎◌, ◌≤◌, ◌<◌, ◌^◌, ℕ, Bool, cond, List, [], ◌∷◌, length, get_or, ◌+◌, Option, Some, None}
 use Rattle.std.specs.Map.{lookup}
 use Rattle.std.specs.Ordering.{is_eq, nat_cmp, ordering_then}
+use Rattle.asm_reader.specs.declared.places.Places.{Places}
 use Rattle.asm_reader.specs.ScriptLines.{Line, EveryLine, Script, exact_choice, every_choice}
 
-abbrev pub is_path : List ℕ → List ℕ → Bool
-is_path p q = is_eq (slice_cmp nat_cmp p q)
+abbrev pub is_pair : ℕ → ℕ → ℕ × ℕ → Bool
+is_pair n k pair = is_eq (ordering_then (nat_cmp n pair.0) (nat_cmp k pair.1))
 
-abbrev pub path_number : List (Vec ℕ Global × ℕ) → List ℕ → Option ℕ
-path_number paths p = lookup (λ k. is_path p k.items) paths
+abbrev pub entry_at : List ((ℕ × ℕ) × ℕ) → ℕ → ℕ → Option ℕ
+entry_at entries n k = lookup (is_pair n k) entries
 
-abbrev pub is_place : ℕ → ℕ → ℕ × ℕ → Bool
-is_place s n k = is_eq (ordering_then (nat_cmp s k.0) (nat_cmp n k.1))
+-- the map has no number of more than 32 bits behind a place
+abbrev pub AreShort : List ((ℕ × ℕ) × ℕ) → Type 0
+AreShort entries = (n k : ℕ) → 2 ^ 32 ≤ k → entry_at entries n k ≡ None
 
-abbrev pub number_at : List ((ℕ × ℕ) × ℕ) → ℕ → ℕ → Option ℕ
-number_at numbers s n = lookup (is_place s n) numbers
+-- ---- places
 
-abbrev pub at_path : List ((ℕ × ℕ) × ℕ) → ℕ → Option ℕ → Option ℕ
-at_path numbers s None = None
-at_path numbers s (Some n) = number_at numbers s n
+abbrev pub entry_from : List ((ℕ × ℕ) × ℕ) → Option ℕ → ℕ → Option ℕ
+entry_from entries None k = None
+entry_from entries (Some n) k = entry_at entries n k
 
-abbrev pub found : List (Vec ℕ Global × ℕ) → List ((ℕ × ℕ) × ℕ) → ℕ → List ℕ → Option ℕ
-found paths numbers s p = at_path numbers s (path_number paths p)
+-- where a path leads from a place, if there is one
+abbrev pub place_from : List ((ℕ × ℕ) × ℕ) → Option ℕ → List ℕ → Option ℕ
+place_from ways place [] = place
+place_from ways place (k ∷ p) = place_from ways (entry_from ways place k) p
 
--- the number in the list at the number of a path
-abbrev pub in_every : List (Option ℕ) → Option ℕ → Option ℕ
-in_every every None = None
-in_every every (Some n) = get_or every n None
+abbrev pub place_of : List ((ℕ × ℕ) × ℕ) → List ℕ → Option ℕ
+place_of ways p = place_from ways (Some 0) p
 
-abbrev pub every_found : List (Vec ℕ Global × ℕ) → List (Option ℕ) → List ℕ → Option ℕ
-every_found paths every p = in_every every (path_number paths p)
+-- the first place, and one for each number that leads from a place
+abbrev pub count_of : List ((ℕ × ℕ) × ℕ) → ℕ
+count_of ways = length ways + 1
 
--- the list, with a place more where a path has no number
-abbrev pub slots_for : Option ℕ → List (Option ℕ) → List (Option ℕ)
-slots_for (Some n) every = every
-slots_for None every = every ++ None ∷ []
+pub record IsTree (ways : List ((ℕ × ℕ) × ℕ)) : Type 0 where
+  pub apart : (p q : List ℕ) (n : ℕ) → place_of ways p ≡ Some n → place_of ways q ≡ Some n → p ≡ q
+  pub inside : (n k m : ℕ) → entry_at ways n k ≡ Some m → m < count_of ways
+  pub fresh : (n k : ℕ) → count_of ways ≤ n → entry_at ways n k ≡ None
+  pub short : AreShort ways
 
-pub record AreFound (lines : List Line) (paths : List (Vec ℕ Global × ℕ)) (numbers : List ((ℕ × ℕ) × ℕ)) : Type 0 where
-  pub finds : (s : ℕ) (p : List ℕ) → found paths numbers s p ≡ exact_choice lines s p
-  pub apart : (p q : List ℕ) (n : ℕ) → path_number paths p ≡ Some n → path_number paths q ≡ Some n → p ≡ q
-  pub below : (p : List ℕ) (n : ℕ) → path_number paths p ≡ Some n → n < length paths
-  pub fresh : (s n : ℕ) → length paths ≤ n → number_at numbers s n ≡ None
+-- ---- what stands at places
 
-pub record AreEveryFound (lines : List EveryLine) (paths : List (Vec ℕ Global × ℕ)) (every : List (Option ℕ)) : Type 0 where
-  pub finds : (p : List ℕ) → every_found paths every p ≡ every_choice lines p
-  pub slots : length every ≡ length paths
+abbrev pub found : (ways exact : List ((ℕ × ℕ) × ℕ)) → ℕ → List ℕ → Option ℕ
+found ways exact s p = entry_from exact (place_of ways p) s
 
-pub record IsKept (script : Script) (paths : List (Vec ℕ Global × ℕ)) (numbers : List ((ℕ × ℕ) × ℕ)) (slots : List (Option ℕ)) : Type 0 where
-  pub exact : AreFound script.exact paths numbers
-  pub every : AreEveryFound script.every paths slots
+abbrev pub every_at : List (Option ℕ) → Option ℕ → Option ℕ
+every_at every None = None
+every_at every (Some n) = get_or every n None
 
-pub record IsNumbered (old : List (Vec ℕ Global × ℕ)) (p : List ℕ) (n : ℕ) (new : List (Vec ℕ Global × ℕ)) : Type 0 where
-  pub its : path_number new p ≡ Some n
-  pub others : (q : List ℕ) → is_path p q ≡ false → path_number new q ≡ path_number old q
-  pub count : length old ≤ length new
-  pub known : is_some (path_number old p) ≡ true → (path_number old p ≡ Some n) × (length new ≡ length old)
-  pub given : is_some (path_number old p) ≡ false → (n ≡ length old) × (length new ≡ length old + 1)
+abbrev pub every_found : List ((ℕ × ℕ) × ℕ) → List (Option ℕ) → List ℕ → Option ℕ
+every_found ways every p = every_at every (place_of ways p)
+
+pub record AreFound (lines : List Line) (ways exact : List ((ℕ × ℕ) × ℕ)) : Type 0 where
+  pub finds : (s : ℕ) (p : List ℕ) → found ways exact s p ≡ exact_choice lines s p
+  pub fresh : (n s : ℕ) → count_of ways ≤ n → entry_at exact n s ≡ None
+  pub short : AreShort exact
+
+pub record AreEveryFound (lines : List EveryLine) (ways : List ((ℕ × ℕ) × ℕ)) (every : List (Option ℕ)) : Type 0 where
+  pub finds : (p : List ℕ) → every_found ways every p ≡ every_choice lines p
+  pub room : length every ≤ count_of ways
+
+pub record IsKept (script : Script) (ways entries : List ((ℕ × ℕ) × ℕ)) (slots : List (Option ℕ)) : Type 0 where
+  pub tree : IsTree ways
+  pub exact : AreFound script.exact ways entries
+  pub every : AreEveryFound script.every ways slots
+
+abbrev pub Says : Places → Script → Type 0
+Says places script = IsKept script places.ways.entries places.exact.entries places.every.items
+
+-- ---- one place more
+
+pub record IsAdded (old : List ((ℕ × ℕ) × ℕ)) (n k m : ℕ) (new : List ((ℕ × ℕ) × ℕ)) : Type 0 where
+  pub number : m ≡ count_of old
+  pub count : count_of new ≡ count_of old + 1
+  pub short : k < 2 ^ 32
+  pub absent : entry_at old n k ≡ None
+  pub put : (i j : ℕ) → entry_at new i j ≡ cond (is_pair n k (i, j)) (Some m) (entry_at old i j)
+
+abbrev pub IsNext : List ((ℕ × ℕ) × ℕ) → ℕ → ℕ → ℕ → List ((ℕ × ℕ) × ℕ) → Type 0
+IsNext old n k m new = ((new ≡ old) × (entry_at old n k ≡ Some m)) ⊎ IsAdded old n k m new
+
+abbrev pub IsPlaced : List ((ℕ × ℕ) × ℕ) → List ℕ → ℕ → List ((ℕ × ℕ) × ℕ) → Type 0
+IsPlaced old p n new = (script : Script) (exact : List ((ℕ × ℕ) × ℕ)) (every : List (Option ℕ)) → IsKept script old exact every → IsKept script new exact every × (place_of new p ≡ Some n)

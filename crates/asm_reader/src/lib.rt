@@ -8,6 +8,7 @@ mod items;
 mod laws;
 mod names;
 pub mod picks;
+mod places;
 mod reading;
 mod rules;
 pub mod script;

@@ -37,7 +37,7 @@ pub(crate) fn parts(alloc: Global, text: &[u8], at: u8) -> Result<Vec<&[u8]>, Al
 }
 
 /// The value of one to nine digits.
-fn number(digits: &[u8]) -> Option<u64>
+fn number(digits: &[u8]) -> Option<u32>
     ensures { result ≡ spec.number_of digits.now }
 {
     if digits.is_empty() || digits.len() > MAX_DIGITS {
@@ -48,7 +48,7 @@ fn number(digits: &[u8]) -> Option<u64>
         if !digit.is_ascii_digit() {
             return None;
         }
-        value = 10 * value + u64::from(*digit - b'0');
+        value = 10 * value + u32::from(*digit - b'0');
     }
     Some(value)
 }
@@ -67,7 +67,7 @@ fn when(field: &[u8]) -> Option<When>
 }
 
 /// The path that is written so.
-fn path(alloc: Global, text: &[u8]) -> Result<Option<Vec<u64>>, AllocError>
+fn path(alloc: Global, text: &[u8]) -> Result<Option<Vec<u32>>, AllocError>
     ensures { IfOk result (λ p. option_map (λ numbers. numbers.items) p ≡ spec.path_of text.now) }
 {
     let mut numbers = Vec::new(alloc);

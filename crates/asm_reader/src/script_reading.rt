@@ -1,12 +1,15 @@
 //! Whole texts as scripts.
-ghost use Rattle.std.specs.Prelude.{◌≡◌, ◌<◌, length, map, Err, IfOk, IfErr};
+ghost use Rattle.std.specs.Prelude.{◌≡◌, ◌≤◌, ◌<◌, ◌+◌, length, map, Err, IfOk, IfErr};
 ghost use Rattle.std.specs.Str.Lines.{strip_carriage_return};
 ghost use Rattle.asm_syntax.specs.declared.refused.Refused.TheVariants.{Memory, Named};
 ghost use Rattle.asm_reader.specs.declared.script_error.ScriptError.TheVariants.{TooLong};
 ghost use Rattle.asm_reader.specs.ScriptLines as lines;
-ghost use Rattle.asm_reader.specs.ScriptText.{AreFaultless, IsScript, script_in};
+ghost use Rattle.asm_reader.specs.Places.{Says};
+ghost use Rattle.asm_reader.specs.ScriptText.{AreFaultless, IsScript, max_script, script_in};
 ghost use Rattle.asm_reader.specs.ScriptRefusals.{ExplainsScript, ExplainsLines};
+ghost use Rattle.asm_reader.specs.Spots.{bytes_in};
 
+use crate::places::Places;
 use crate::script::Script;
 use crate::script_error::ScriptError;
 use crate::script_line::{choice, is_skipped, parts, without_return};
@@ -17,12 +20,13 @@ use std::alloc::Global;
 const MAX_SCRIPT: usize = 1_048_576;
 
 /// What the lines say.
-fn read_lines(alloc: Global, lines: &[&[u8]]) -> Result<Script, Refused<ScriptError>>
+fn read_lines(alloc: Global, lines: &[&[u8]]) -> Result<Places, Refused<ScriptError>>
+    requires { bytes_in (map (λ l. l.now) lines.now) ≤ max_script + 1 }
     ensures faultless { IfOk result (λ s. AreFaultless (map (λ l. strip_carriage_return l.now) lines.now)) }
-    ensures says { IfOk result (λ s. s ≡ script_in (map (λ l. strip_carriage_return l.now) lines.now)) }
+    ensures says { IfOk result (λ p. Says p (script_in (map (λ l. strip_carriage_return l.now) lines.now))) }
     ensures refused { IfErr result (ExplainsLines (map (λ l. strip_carriage_return l.now) lines.now)) }
 {
-    let mut script = Script::new(alloc);
+    let mut places = Places::new(alloc);
     for i in 0..lines.len() {
         let line = without_return(lines[i]);
         if is_skipped(line) {
@@ -31,11 +35,11 @@ fn read_lines(alloc: Global, lines: &[&[u8]]) -> Result<Script, Refused<ScriptEr
         let Some(choice) = choice(alloc, line)? else {
             return Err(Refused::Named(ScriptError::BadLine { line: i + 1 }));
         };
-        if !script.add(alloc, choice)? {
+        if !places.add(&choice)? {
             return Err(Refused::Named(ScriptError::Repeated { line: i + 1 }));
         }
     }
-    Ok(script)
+    Ok(places)
 }
 
 /// The script that the text spells, or why it spells none: the first line that has a fault.
@@ -49,6 +53,13 @@ pub fn read_script(alloc: Global, text: &[u8]) -> Result<Script, Refused<ScriptE
     if text.len() > MAX_SCRIPT {
         return Err(Refused::Named(ScriptError::TooLong));
     }
-    let lines = parts(alloc, text, b'\n')?;
-    read_lines(alloc, lines.as_slice())
+    // The list of the lines ends before the text is copied.
+    let places = {
+        let lines = parts(alloc, text, b'\n')?;
+        read_lines(alloc, lines.as_slice())?
+    };
+    Ok(Script {
+        text: text.to_vec(alloc)?,
+        places,
+    })
 }

@@ -1,20 +1,36 @@
-use Rattle.std.proofs.Common.{◌≡◌, ap, ◌∙◌, map, arith}
+use Rattle.std.proofs.Common.{◌≡◌, ◌==◌, ap, sym, subst, ◌∙◌, map, arith}
 use Rattle.std.proofs.lemmas.Result.{IfErr-weaker}
 use Rattle.asm_syntax.specs.declared.refused.Refused.TheVariants.{Memory}
-use Rattle.asm_reader.specs.ScriptRefusals.{ExplainsScript, ExplainsLines}
-use Rattle.asm_reader.proofs.FirstFaults.{without_returns, lines_read, script_read, refusal_read, only_memory}
+use Rattle.asm_reader.specs.Places.{Says}
+use Rattle.asm_reader.specs.ScriptRefusals.{ExplainsScript}
+use Rattle.asm_reader.specs.Spots.{bytes_in}
+use Rattle.asm_reader.specs.ScriptText.{IsScript, lines_of, script_in}
+use Rattle.asm_reader.proofs.FirstFaults.{lines_read, script_read, refusal_handed, only_memory}
+use Rattle.asm_reader.proofs.Sizes.{split_bytes}
 use Rattle.asm_reader.proofs.script_reading.read_script.Goals as goal
+
+pub read_lines-requires : goal.read_lines-requires
+read_lines-requires c =
+    let are_lines = ap bytes_in (ap (map (λ p. p.now)) c.as_slice.ensures.value ∙ c.in_ok-lines.ensures) in
+    omega (arith, are_lines, split_bytes (λ b. b == 10) c.args.text.now)
+
+pub returns-in_err-places-clause-refused : goal.returns-in_err-places-clause-refused
+returns-in_err-places-clause-refused c =
+    let are_lines = lines_read c.as_slice.result.now c.args.text.now (ap (map (λ p. p.now)) c.as_slice.ensures.value ∙ c.in_ok-lines.ensures) in
+    refusal_handed c.args.text.now _ are_lines (omega arith) c.from_residual-in_err-places.result c.in_err-places.field-0.0 c.from_residual-in_err-places.ensures.1 c.in_err-places.ensures.refused
+
+pub returns-in_err-places-clause-accepted : goal.returns-in_err-places-clause-accepted
+returns-in_err-places-clause-accepted c s spelled =
+    IfErr-weaker _ (ExplainsScript c.args.text.now) (λ e. e ≡ Memory) (only_memory c.args.text.now s spelled) (returns-in_err-places-clause-refused c)
+
+pub invariant_of-result : goal.invariant_of-result
+invariant_of-result c =
+    let are_lines = lines_read c.as_slice.result.now c.args.text.now (ap (map (λ p. p.now)) c.as_slice.ensures.value ∙ c.in_ok-lines.ensures) in
+    let copied = c.in_ok-to_vec.ensures.items_if_clones_equal (λ x y same. same) in
+    subst (λ text. Says c.in_ok-places.places (script_in (lines_of text))) (sym copied) (subst (λ lines. Says c.in_ok-places.places (script_in lines)) are_lines c.in_ok-places.ensures.says)
 
 pub returns-clause-found : goal.returns-clause-found
 returns-clause-found c =
     let are_lines = lines_read c.as_slice.result.now c.args.text.now (ap (map (λ p. p.now)) c.as_slice.ensures.value ∙ c.in_ok-lines.ensures) in
-    script_read c.args.text.now _ are_lines (omega arith) _ c.read_lines.ensures.faultless c.read_lines.ensures.says
-
-pub returns-clause-refused : goal.returns-clause-refused
-returns-clause-refused c =
-    let are_lines = lines_read c.as_slice.result.now c.args.text.now (ap (map (λ p. p.now)) c.as_slice.ensures.value ∙ c.in_ok-lines.ensures) in
-    IfErr-weaker _ (ExplainsLines (without_returns c.as_slice.result.now)) (ExplainsScript c.args.text.now) (refusal_read c.args.text.now _ are_lines (omega arith)) c.read_lines.ensures.refused
-
-pub returns-clause-accepted : goal.returns-clause-accepted
-returns-clause-accepted c s spelled =
-    IfErr-weaker _ (ExplainsScript c.args.text.now) (λ e. e ≡ Memory) (only_memory c.args.text.now s spelled) (returns-clause-refused c)
+    let copied = c.in_ok-to_vec.ensures.items_if_clones_equal (λ x y same. same) in
+    subst (λ text. IsScript c.args.text.now (script_in (lines_of text))) (sym copied) (script_read c.args.text.now _ are_lines (omega arith) c.in_ok-places.ensures.faultless)
