@@ -1,0 +1,21 @@
+use Rattle.std.proofs.Common.{sym, ap, subst, ◌∙◌, arith}
+use Rattle.asm_code.specs.Frames.{IsSoundFrame, load, readings_of}
+use Rattle.asm_code.specs.Readings.{at_position}
+use Rattle.asm_code.proofs.Cases.{later}
+use Rattle.asm_code.proofs.find.find.Goals as goal
+
+pub loop-rest-preserved : goal.loop-rest-preserved
+loop-rest-preserved c =
+    let same = ap load c.in-One.is in record {
+      reading = λ shape. sym (later _ _ c.loop-rest.left c.if-left-eq0.false) ∙ ap (λ f. at_position (readings_of shape f) c.loop-rest.left) (sym c.in-One.is) ∙ c.loop-rest.invariant.reading shape;
+      sound = λ shape s. subst (IsSoundFrame shape) c.in-One.is (c.loop-rest.invariant.sound shape s);
+      load = omega (arith, c.loop-rest.invariant.load, same);
+    }
+
+pub returns-in-Terms : goal.returns-in-Terms
+returns-in-Terms c =
+    let same = ap load c.in-Terms.is in record {
+      reading = λ shape. c.in_terms.ensures.reading shape ∙ ap (λ f. at_position (readings_of shape f) c.loop-rest.left) (sym c.in-Terms.is) ∙ c.loop-rest.invariant.reading shape;
+      sound = λ shape s. let inner = subst (IsSoundFrame shape) c.in-Terms.is (c.loop-rest.invariant.sound shape s) in c.in_terms.ensures.sound shape inner.0 inner.1 inner.2;
+      load = omega (arith, c.loop-rest.invariant.load, same, c.in_terms.ensures.load);
+    }

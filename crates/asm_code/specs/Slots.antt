@@ -1,0 +1,39 @@
+-- What has a position while a rule or a term is resolved: names, from the innermost one on.
+--     Slot                        a name, and whether it stands for a location, as `result` does in a call that has a target
+--     position_of names x         the position of a name, which is that of the first of its text
+--     answer_position slots x     the same where the first of its text stands for a location
+--     called_slots answers xs     the slots in the body of a rule with these parameters: of a call with a target, or without
+use Rattle.std.specs.Prelude.{ℕ, suc, Bool, true, false, cond, List, [], ◌∷◌, map, Option, Some, None, option_map, slice_index_or}
+use Rattle.asm_syntax.specs.Tree.{Name, result}
+use Rattle.asm_meaning.specs.Program.{is_name}
+
+pub record Slot : Type 0 where
+  pub name : Name
+  pub located : Bool
+
+abbrev pub value_slot : Name → Slot
+value_slot x = record { name = x; located = false }
+
+abbrev pub answer_slot : Slot
+answer_slot = record { name = result; located = true }
+
+abbrev pub names_in : List Slot → List Name
+names_in slots = map (λ (s : Slot). s.name) slots
+
+abbrev pub position_of : List Name → Name → Option ℕ
+position_of [] x = None
+position_of (y ∷ ys) x = cond (is_name y x) (Some 0) (option_map suc (position_of ys x))
+
+abbrev pub is_located : List Slot → ℕ → Bool
+is_located slots i = (slice_index_or slots i (value_slot [])).located
+
+abbrev pub located_position : List Slot → Option ℕ → Option ℕ
+located_position slots None = None
+located_position slots (Some i) = cond (is_located slots i) (Some i) None
+
+abbrev pub answer_position : List Slot → Name → Option ℕ
+answer_position slots x = located_position slots (position_of (names_in slots) x)
+
+abbrev pub called_slots : Bool → List Name → List Slot
+called_slots false xs = map value_slot xs
+called_slots true xs = answer_slot ∷ map value_slot xs

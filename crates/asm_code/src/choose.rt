@@ -1,0 +1,102 @@
+//! Which candidate a resolved `choose` takes.
+ghost use Rattle.std.specs.Prelude.{◌≡◌, option_map};
+ghost use Rattle.asm_reader.specs.ScriptLines.{pick};
+ghost use Rattle.asm_meaning.specs.Taken.{taken, walk_to};
+ghost use Rattle.asm_code.specs.CodeViews.{code_of};
+ghost use Rattle.asm_code.specs.Frames.{IsSoundFrame};
+ghost use Rattle.asm_code.specs.RuleMeaning.{IsSoundTest};
+ghost use Rattle.asm_code.specs.Running.{passes_in, passing_in};
+ghost use Rattle.asm_code.specs.Sound.{IsUniverseNumber};
+
+use crate::code::Code;
+use crate::frame::Frame;
+use crate::running::Running;
+use crate::value::holds;
+use asm_meaning::View;
+use asm_meaning::walk::{Walk, element_at};
+use asm_reader::Picks;
+use asm_state::word::Word;
+
+/// Whether the condition holds, or there is none.
+pub(crate) fn passes<'e>(view: &View, frame: &'e Frame<'e>, test: &'e Option<Code>) -> bool
+    requires sound { IsSoundTest view.now.signature.now (option_map code_of test.now) }
+    requires framed { IsSoundFrame view.now.signature.now frame.now }
+    ensures { result ≡ passes_in view.now frame.now test.now }
+{
+    match test {
+        None => true,
+        Some(test) => holds(view, frame, test),
+    }
+}
+
+/// Walks to the candidate with this number, from 0.
+fn find_candidate<'e>(
+    view: &View,
+    frame: &'e Frame<'e>,
+    over: usize,
+    test: &'e Option<Code>,
+    number: u64,
+) -> Walk
+    requires universe { IsUniverseNumber view.now.signature.now over }
+    requires sound { IsSoundTest view.now.signature.now (option_map code_of test.now) }
+    requires framed { IsSoundFrame view.now.signature.now frame.now }
+    ensures { result ≡ walk_to number (passing_in view.now frame.now over test.now) }
+{
+    let universe = view.signature.universe(over);
+    if test.is_none() {
+        return element_at(universe, number);
+    }
+    let mut met = 0;
+    for i in 0..universe.size() {
+        let bound = Frame::One {
+            value: universe.element(i).kept(),
+            outer: frame,
+        };
+        if passes(view, &bound, test) {
+            if met == number {
+                return Walk::Met(universe.element(i));
+            }
+            met += 1;
+        }
+    }
+    Walk::Passed(met)
+}
+
+/// The candidate that is taken at this path. Where there are candidates the script is asked once, else never.
+///
+/// Without a condition, every element of the universe is a candidate, and none is looked at but the one that is taken.
+pub(crate) fn chosen<'e, P: Picks>(
+    running: &Running<'_, '_, P>,
+    frame: &'e Frame<'e>,
+    over: usize,
+    test: &'e Option<Code>,
+    path: &[u64],
+) -> Option<Word>
+    requires universe { IsUniverseNumber running.now.view.now.signature.now over }
+    requires sound { IsSoundTest running.now.view.now.signature.now (option_map code_of test.now) }
+    requires framed { IsSoundFrame running.now.view.now.signature.now frame.now }
+    ensures { let number = pick (P.script running.now.choices.now.script.now) running.now.choices.now.step path.now in
+        result ≡ taken number (passing_in running.now.view.now frame.now over test.now) }
+{
+    let Walk::Met(first) = find_candidate(running.view, frame, over, test, 0) else {
+        return None;
+    };
+    let choices = running.choices;
+    let number = choices.script.pick(choices.step, path);
+    if number == 0 {
+        return Some(first);
+    }
+    match find_candidate(running.view, frame, over, test, number) {
+        Walk::Met(value) => Some(value),
+        Walk::Passed(count) => match find_candidate(
+            running.view,
+            frame,
+            over,
+            test,
+            number % count,
+        ) {
+            Walk::Met(value) => Some(value),
+            Walk::Passed(_) => unreachable!(),
+        },
+    }
+}

@@ -1,0 +1,112 @@
+//! Resolved terms.
+use asm_state::number::Number;
+use asm_state::operation::Op;
+use asm_state::word::Word;
+use std::sync::Arc;
+
+/// Values whose codes follow each other: the code of the first, and how many there are.
+#[derive(Clone, Copy)]
+pub struct Span {
+    pub low: u64,
+    pub count: usize,
+}
+
+/// The locations of a function with two arguments.
+#[derive(Clone, Copy)]
+pub struct Grid {
+    pub first: usize,
+    pub rows: Span,
+    pub columns: Span,
+}
+
+/// A term in which no name is left. A derived function stands with its body, which all its uses share, so that a code is whole by
+/// itself.
+#[derive(Drop)]
+pub enum Code {
+    Constant(Word),
+    /// What the frame has at this position, counted from the innermost one.
+    Local(usize),
+    /// The content of the location with this number.
+    Cell(usize),
+    /// The content of a controlled function's location, by the position of one argument in a universe.
+    Row {
+        first: usize,
+        over: Span,
+        argument: Box<Code>,
+    },
+    /// The same by the positions of two arguments.
+    Grid {
+        place: Grid,
+        row: Box<Code>,
+        column: Box<Code>,
+    },
+    /// The value of any controlled or static function.
+    Held {
+        function: usize,
+        arguments: Vec<Code>,
+    },
+    /// The value of a derived function's body, under the values of the arguments.
+    Derived {
+        body: Arc<Code>,
+        arguments: Vec<Code>,
+    },
+    /// The same with one argument.
+    DerivedOne {
+        body: Arc<Code>,
+        argument: Box<Code>,
+    },
+    /// The same with two arguments.
+    DerivedTwo {
+        body: Arc<Code>,
+        first: Box<Code>,
+        second: Box<Code>,
+    },
+    /// An operation whose right operand is known, or that has none.
+    With {
+        operation: Op,
+        left: Box<Code>,
+        right: Word,
+    },
+    /// The same of an addition of a number.
+    Plus {
+        left: Box<Code>,
+        right: Number,
+    },
+    /// The same of a remainder of an addition.
+    PlusModulo {
+        left: Box<Code>,
+        by: Number,
+        over: Number,
+    },
+    /// The same of a remainder by a number.
+    Modulo {
+        left: Box<Code>,
+        right: Number,
+    },
+    /// The same of a test for equality.
+    Equals {
+        left: Box<Code>,
+        right: Word,
+    },
+    /// An operation with two operands.
+    Both {
+        operation: Op,
+        left: Box<Code>,
+        right: Box<Code>,
+    },
+    /// Operations taken from the left.
+    Chain {
+        first: Box<Code>,
+        rest: Vec<(Op, Code)>,
+    },
+    /// Whether some value of the universe passes the test, in which it has position 0.
+    Exists {
+        over: usize,
+        test: Box<Code>,
+    },
+    /// Whether each value of the universe does.
+    Every {
+        over: usize,
+        test: Box<Code>,
+    },
+}

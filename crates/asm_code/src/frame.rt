@@ -1,0 +1,26 @@
+//! What the positions of a code stand for while it is evaluated.
+use crate::code::Code;
+use asm_state::code::Code as Kept;
+use asm_state::word::Word;
+
+/// A frame. It refers to the one that it extends, so that binding a value copies nothing.
+#[derive(Clone, Copy)]
+pub enum Frame<'a> {
+    Empty,
+    /// A value at position 0, and the frame around it behind it.
+    One {
+        value: Kept,
+        outer: &'a Frame<'a>,
+    },
+    /// The values of a derived function's parameters, and nothing else.
+    Values {
+        values: &'a [Word],
+    },
+    /// In the body of a rule: the location that `result` stands for, where the call has a target, and behind it the codes of the
+    /// call's arguments, which belong to the frame of the call.
+    Terms {
+        answer: Option<usize>,
+        codes: &'a [Code],
+        caller: &'a Frame<'a>,
+    },
+}

@@ -1,0 +1,24 @@
+//! A specification resolved: terms and rules in which names are positions and functions numbers of locations; the pass that makes them,
+//! and their evaluation, with the meaning of the text's.
+#![tactic(auto)]
+
+mod applied;
+pub mod bodies;
+mod choose;
+pub mod code;
+mod find;
+pub mod form;
+pub mod frame;
+mod functions;
+mod held;
+mod make;
+pub mod open;
+pub mod piece;
+mod place;
+pub mod resolve;
+pub mod resolve_rule;
+pub mod rule_code;
+pub mod running;
+pub mod scope;
+pub mod value;
+pub mod whole;

@@ -1,0 +1,316 @@
+//! Opening pieces of resolved rules.
+ghost use Rattle.std.specs.Prelude.{◌≡◌, ◌<◌, ◌≤◌, ℕ, false, map, option_map, IfOk};
+ghost use Rattle.asm_meaning.specs.Yields as yields;
+ghost use Rattle.asm_meaning.specs.declared.part.Part.TheVariants as part;
+ghost use Rattle.asm_code.specs.CodeViews.{code_of};
+ghost use Rattle.asm_code.specs.Frames.{IsSoundFrame};
+ghost use Rattle.asm_code.specs.OpenedPieces.{Opens, OpensTo, is_closed};
+ghost use Rattle.asm_code.specs.Pieces.{IsInterval, IsPartOf, IsPiece, part_yields};
+ghost use Rattle.asm_code.specs.RuleMeaning.{AreSoundRules, IsSoundRule, IsSoundTest};
+ghost use Rattle.asm_code.specs.RuleViews.{rule_of, rules_of};
+ghost use Rattle.asm_code.specs.Running.{parts_at, rule_at, shape_at, span_at};
+ghost use Rattle.asm_code.specs.Sound.{IsUniverseNumber};
+
+use crate::choose::{chosen, passes};
+use crate::code::Code;
+use crate::frame::Frame;
+use crate::piece::Piece;
+use crate::place::answer_number;
+use crate::rule_code::RuleCode;
+use crate::running::Running;
+use crate::value::{holds, value};
+use asm_meaning::{Part, Path};
+use asm_reader::Picks;
+use std::alloc::{AllocError, Global};
+
+/// What comes of opening a piece.
+#[derive(Drop)]
+pub enum Opened<'a> {
+    /// The pieces that it is made of, in order, and how many elements were counted in opening it.
+    Pieces {
+        pieces: Vec<Piece<'a>>,
+        instances: u64,
+    },
+    /// It isn't opened: it is evaluated whole.
+    Closed,
+}
+
+/// The pieces that a piece is made of, in order; they borrow from it. A span longer than the cut gives spans, and each other part its one
+/// step of evaluation: a `par` its parts, a `forall` the bodies for the elements whose condition holds, an `if`, `let`, `choose` or call
+/// the one rule beneath it. A `skip`, an assignment, a `seq` and an `iterate` are closed.
+pub fn open_piece<'a, P: Picks>(
+    alloc: Global,
+    running: &Running<'_, '_, P>,
+    piece: &'a Piece<'a>,
+    cut: usize,
+) -> Result<Opened<'a>, AllocError>
+    requires cut { 0 < cut }
+    requires piece { IsPiece (shape_at running.now) piece.now }
+    ensures { IfOk result (Opens running.now cut piece.now) }
+{
+    match piece.part {
+        Part::Whole => open_rule(alloc, running, &*piece, cut),
+        Part::Span { from, to } => open_span(alloc, running, &*piece, from, to, cut),
+    }
+}
+
+/// What a piece that has all of its rule is made of.
+fn open_rule<'a, P: Picks>(
+    alloc: Global,
+    running: &Running<'_, '_, P>,
+    piece: &'a Piece<'a>,
+    cut: usize,
+) -> Result<Opened<'a>, AllocError>
+    requires cut { 0 < cut }
+    requires sound { IsSoundRule (shape_at running.now) (rule_of piece.now.rule.now) }
+    requires framed { IsSoundFrame (shape_at running.now) piece.now.frame }
+    ensures { let R = rule_of piece.now.rule.now in
+        IfOk result (OpensTo running.now cut (is_closed R) (rule_at running.now piece.now.frame piece.now.path R)) }
+{
+    let path = piece.path.as_slice();
+    match piece.rule {
+        RuleCode::Skip => Ok(Opened::Closed),
+        RuleCode::Assign { .. } => Ok(Opened::Closed),
+        RuleCode::Seq(_) => Ok(Opened::Closed),
+        RuleCode::Iterate(_) => Ok(Opened::Closed),
+        RuleCode::Par(parts) => open_parts(alloc, running, parts.as_slice(), &piece.frame, path),
+        RuleCode::Forall { over, .. } => {
+            let size = running.view.signature.universe(*over).size();
+            open_span(alloc, running, &*piece, 0, size, cut)
+        }
+        RuleCode::If { test, yes, no } => {
+            let tested = holds(running.view, &piece.frame, test);
+            if tested {
+                open_one(alloc, running, yes, piece.frame, path, 0)
+            } else {
+                open_one(alloc, running, no, piece.frame, path, 1)
+            }
+        }
+        RuleCode::Let { value: term, body } => {
+            let value = value(running.view, &piece.frame, term);
+            let bound = Frame::One {
+                value: value.kept(),
+                outer: &piece.frame,
+            };
+            open_one(alloc, running, body, bound, path, 0)
+        }
+        RuleCode::Choose {
+            over,
+            test,
+            body,
+            none,
+        } => match chosen(running, &piece.frame, *over, test, path) {
+            Some(value) => {
+                let bound = Frame::One {
+                    value: value.kept(),
+                    outer: &piece.frame,
+                };
+                open_one(alloc, running, body, bound, path, 0)
+            }
+            None => open_one(alloc, running, none, piece.frame, path, 1),
+        },
+        RuleCode::Call {
+            body,
+            answer,
+            arguments,
+        } => {
+            let answer = answer_number(alloc, running.view, &piece.frame, answer)?;
+            let bound = Frame::Terms {
+                answer,
+                codes: arguments.as_slice(),
+                caller: &piece.frame,
+            };
+            open_one(alloc, running, body, bound, path, 0)
+        }
+    }
+}
+
+/// The path of the part with this number.
+fn path_below(alloc: Global, path: &[u64], number: u64) -> Result<Path, AllocError>
+    ensures { IfOk result (λ p. p ≡ yields.at path.now number) }
+{
+    let mut numbers = path.to_vec(alloc)?;
+    numbers.push(number)?;
+    Ok(Path::new(numbers))
+}
+
+/// The path with these numbers.
+fn path_with(alloc: Global, numbers: &[u64]) -> Result<Path, AllocError>
+    ensures { IfOk result (λ p. p ≡ numbers.now) }
+{
+    let numbers = numbers.to_vec(alloc)?;
+    Ok(Path::new(numbers))
+}
+
+/// The one rule beneath another.
+fn open_one<'a, P: Picks>(
+    alloc: Global,
+    running: &Running<'_, '_, P>,
+    rule: &'a RuleCode,
+    frame: Frame<'a>,
+    path: &[u64],
+    number: u64,
+) -> Result<Opened<'a>, AllocError>
+    requires sound { IsSoundRule (shape_at running.now) (rule_of rule.now) }
+    requires framed { IsSoundFrame (shape_at running.now) frame }
+    ensures { (cut : ℕ) → IfOk result (OpensTo running.now cut false (rule_at running.now frame.entry (yields.at path.now number) (rule_of rule.now))) }
+{
+    let path = path_below(alloc, path, number)?;
+    let mut pieces = Vec::new(alloc);
+    pieces.push(Piece {
+        rule,
+        frame,
+        path,
+        part: Part::Whole,
+    })?;
+    Ok(Opened::Pieces {
+        pieces,
+        instances: 0,
+    })
+}
+
+/// The parts of a `par`.
+fn open_parts<'a, P: Picks>(
+    alloc: Global,
+    running: &Running<'_, '_, P>,
+    parts: &'a [RuleCode],
+    frame: &Frame<'a>,
+    path: &[u64],
+) -> Result<Opened<'a>, AllocError>
+    requires sound { AreSoundRules (shape_at running.now) (rules_of (map rule_of parts.now)) }
+    requires framed { IsSoundFrame (shape_at running.now) frame.now }
+    ensures { (cut : ℕ) → IfOk result (OpensTo running.now cut false (parts_at running.now frame.now path.now 0 (rules_of (map rule_of parts.now)))) }
+{
+    let mut pieces = Vec::with_capacity(alloc, parts.len())?;
+    for i in 0..parts.len() {
+        let path = path_below(alloc, path, i as u64)?;
+        pieces.push(Piece {
+            rule: &parts[i],
+            frame: *frame,
+            path,
+            part: Part::Whole,
+        })?;
+    }
+    Ok(Opened::Pieces {
+        pieces,
+        instances: 0,
+    })
+}
+
+/// What a `forall` at an interval of positions is made of.
+fn open_span<'a, P: Picks>(
+    alloc: Global,
+    running: &Running<'_, '_, P>,
+    piece: &'a Piece<'a>,
+    from: usize,
+    to: usize,
+    cut: usize,
+) -> Result<Opened<'a>, AllocError>
+    requires cut { 0 < cut }
+    requires sound { IsSoundRule (shape_at running.now) (rule_of piece.now.rule.now) }
+    requires framed { IsSoundFrame (shape_at running.now) piece.now.frame }
+    requires part { IsPartOf (shape_at running.now) (rule_of piece.now.rule.now) (part.Span from to) }
+    ensures { let o = part_yields running.now piece.now.frame piece.now.path (rule_of piece.now.rule.now) (part.Span from to) in
+        IfOk result (OpensTo running.now cut false o) }
+{
+    match piece.rule {
+        RuleCode::Forall { over, test, body } => {
+            if to - from > cut {
+                return open_spans(alloc, running, &*piece, from, to, cut);
+            }
+            open_bodies(
+                alloc,
+                running,
+                &piece.frame,
+                piece.path.as_slice(),
+                *over,
+                test,
+                body,
+                from,
+                to,
+            )
+        }
+        _ => unreachable!(),
+    }
+}
+
+/// Spans of at most so many positions.
+fn open_spans<'a, P: Picks>(
+    alloc: Global,
+    running: &Running<'_, '_, P>,
+    piece: &'a Piece<'a>,
+    from: usize,
+    to: usize,
+    cut: usize,
+) -> Result<Opened<'a>, AllocError>
+    requires cut { 0 < cut }
+    requires rises { from ≤ to }
+    requires sound { IsSoundRule (shape_at running.now) (rule_of piece.now.rule.now) }
+    requires framed { IsSoundFrame (shape_at running.now) piece.now.frame }
+    requires part { IsPartOf (shape_at running.now) (rule_of piece.now.rule.now) (part.Span from to) }
+    ensures { let o = part_yields running.now piece.now.frame piece.now.path (rule_of piece.now.rule.now) (part.Span from to) in
+        IfOk result (OpensTo running.now cut false o) }
+{
+    let mut pieces = Vec::with_capacity(alloc, (to - from).div_ceil(cut))?;
+    let mut next = from;
+    while next < to {
+        let end = next + cut.min(to - next);
+        let path = path_with(alloc, piece.path.as_slice())?;
+        pieces.push(Piece {
+            rule: piece.rule,
+            frame: piece.frame,
+            path,
+            part: Part::Span {
+                from: next,
+                to: end,
+            },
+        })?;
+        next = end;
+    }
+    Ok(Opened::Pieces {
+        pieces,
+        instances: 0,
+    })
+}
+
+/// The bodies for the values at an interval of positions for which the condition holds. Each is counted.
+fn open_bodies<'a, P: Picks>(
+    alloc: Global,
+    running: &Running<'_, '_, P>,
+    frame: &'a Frame<'a>,
+    path: &[u64],
+    over: usize,
+    test: &'a Option<Code>,
+    body: &'a RuleCode,
+    from: usize,
+    to: usize,
+) -> Result<Opened<'a>, AllocError>
+    requires universe { IsUniverseNumber (shape_at running.now) over }
+    requires interval { IsInterval (shape_at running.now) over from to }
+    requires sound_test { IsSoundTest (shape_at running.now) (option_map code_of test.now) }
+    requires sound { IsSoundRule (shape_at running.now) (rule_of body.now) }
+    requires framed { IsSoundFrame (shape_at running.now) frame.now }
+    ensures { let o = span_at running.now frame.now path.now over (option_map code_of test.now) (rule_of body.now) from to in
+        (cut : ℕ) → IfOk result (OpensTo running.now cut false o) }
+{
+    let mut pieces = Vec::new(alloc);
+    let mut instances = 0;
+    let universe = running.view.signature.universe(over);
+    for i in from..to {
+        let bound = Frame::One {
+            value: universe.element(i).kept(),
+            outer: frame,
+        };
+        if passes(running.view, &bound, test) {
+            let path = path_below(alloc, path, i as u64)?;
+            pieces.push(Piece {
+                rule: body,
+                frame: bound,
+                path,
+                part: Part::Whole,
+            })?;
+            instances += 1;
+        }
+    }
+    Ok(Opened::Pieces { pieces, instances })
+}

@@ -1,0 +1,58 @@
+//! Resolved rules.
+use crate::code::Code;
+use std::sync::Arc;
+
+/// What is updated.
+#[derive(Drop)]
+pub enum Place {
+    /// The location that the frame has at this position, if it has one there: that of `result`.
+    Answer(usize),
+    /// A location of a controlled function.
+    Held {
+        function: usize,
+        arguments: Vec<Code>,
+    },
+}
+
+/// A rule in which no name is left. A rule that is called stands with its body, which all its calls share.
+#[derive(Drop)]
+pub enum RuleCode {
+    Skip,
+    Assign {
+        place: Place,
+        value: Code,
+    },
+    Par(Vec<RuleCode>),
+    Seq(Vec<RuleCode>),
+    If {
+        test: Code,
+        yes: Box<RuleCode>,
+        no: Box<RuleCode>,
+    },
+    /// The body, in which the value has position 0.
+    Let {
+        value: Code,
+        body: Box<RuleCode>,
+    },
+    /// The body for each value of the universe for which the condition holds, in both of which it has position 0.
+    Forall {
+        over: usize,
+        test: Option<Code>,
+        body: Box<RuleCode>,
+    },
+    /// The body for one such value, or the other rule where there is none.
+    Choose {
+        over: usize,
+        test: Option<Code>,
+        body: Box<RuleCode>,
+        none: Box<RuleCode>,
+    },
+    Iterate(Box<RuleCode>),
+    /// The body, in which the arguments have positions in their order, by name: from 1 on behind `result` where the call has a
+    /// target, and else from 0 on.
+    Call {
+        body: Arc<RuleCode>,
+        answer: Option<Place>,
+        arguments: Vec<Code>,
+    },
+}
