@@ -42,6 +42,13 @@ impl<'a> Beginning<'a> {
     {
         View::new(self.checked.signature(), &self.state, &self.nothing)
     }
+
+    /// Goes on to the state in which a set has been fired. One of other locations changes nothing.
+    pub fn fire(&mut self, set: &Summary) {
+        if set.count() == self.checked.signature().count() {
+            set.fire_into(&mut self.state);
+        }
+    }
 }
 
 pub fn main_of(checked: &Checked) -> &Rule {

@@ -2,10 +2,13 @@
 #![tactic(auto)]
 
 pub mod beginning;
+pub mod beside;
 #[cfg(test)]
 mod checking;
 #[cfg(test)]
 mod choices;
+#[cfg(test)]
+mod codes;
 #[cfg(test)]
 mod pieces;
 pub mod plain;
