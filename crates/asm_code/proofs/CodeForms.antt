@@ -12,6 +12,7 @@ use Rattle.asm_code.specs.declared.code.Code.{Code}
 use Rattle.asm_code.specs.declared.code.Grid.{Grid as GridPlace}
 use Rattle.asm_code.specs.declared.code.Span.{Span}
 use Rattle.asm_code.specs.declared.code.Code.TheOpen as opened_code
+use Rattle.asm_code.specs.declared.modulus.Modulus.{Modulus}
 use Rattle.asm_code.specs.declared.code.Code.TheVariants as code
 use Rattle.asm_code.specs.declared.code.Code.TheFolds.{fold-roll-Code}
 
@@ -50,10 +51,10 @@ with_form t o s v is = ap code_of is ∙ ap code_of (sym (code.rolls-With o s v)
 pub plus_form : (t : Code) (s : Box Code Global) (v : WholeNumber) → t ≡ code.Plus s v → code_of t ≡ tree.With Add (code_of s.value) (Number v)
 plus_form t s v is = ap code_of is ∙ ap code_of (sym (code.rolls-Plus s v)) ∙ fold-roll-Code tree.Code code_step (opened_code.Plus s v)
 
-pub turned_form : (t : Code) (s : Box Code Global) (m n : WholeNumber) → t ≡ code.PlusModulo s m n → code_of t ≡ tree.With Remainder (tree.With Add (code_of s.value) (Number m)) (Number n)
+pub turned_form : (t : Code) (s : Box Code Global) (m : WholeNumber) (n : Modulus) → t ≡ code.PlusModulo s m n → code_of t ≡ tree.With Remainder (tree.With Add (code_of s.value) (Number m)) (Number n.number)
 turned_form t s m n is = ap code_of is ∙ ap code_of (sym (code.rolls-PlusModulo s m n)) ∙ fold-roll-Code tree.Code code_step (opened_code.PlusModulo s m n)
 
-pub modulo_form : (t : Code) (s : Box Code Global) (v : WholeNumber) → t ≡ code.Modulo s v → code_of t ≡ tree.With Remainder (code_of s.value) (Number v)
+pub modulo_form : (t : Code) (s : Box Code Global) (v : Modulus) → t ≡ code.Modulo s v → code_of t ≡ tree.With Remainder (code_of s.value) (Number v.number)
 modulo_form t s v is = ap code_of is ∙ ap code_of (sym (code.rolls-Modulo s v)) ∙ fold-roll-Code tree.Code code_step (opened_code.Modulo s v)
 
 pub equals_form : (t : Code) (s : Box Code Global) (v : Value) → t ≡ code.Equals s v → code_of t ≡ tree.With Equal (code_of s.value) v

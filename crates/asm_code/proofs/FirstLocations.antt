@@ -1,5 +1,6 @@
--- The locations of a controlled function, by positions: the code that reads them has the function's value.
-use Rattle.std.proofs.Common.{◌≡◌, ℕ, ◌+◌, ◌≤◌, ◌<◌, List, [], length, get_or, Some, None, sym, ap, subst, ◌∙◌, arith}
+-- The locations of a controlled function, by positions: the code that reads them has the function's
+-- value, and the place names its location.
+use Rattle.std.proofs.Common.{◌≡◌, ℕ, Option, ◌+◌, ◌≤◌, ◌<◌, List, [], length, get_or, Some, None, sym, ap, subst, ◌∙◌, arith}
 use Rattle.std.specs.Prelude.{slice_get, IsTrue}
 use Rattle.std.proofs.lemmas.Option.{slice_get-get_or}
 use Rattle.asm_state.specs.declared.limits.TheConstants.{LOCATIONS}
@@ -17,7 +18,8 @@ use Rattle.asm_meaning.specs.Value.{read}
 use Rattle.asm_meaning.specs.Valued.{held}
 use Rattle.asm_code.specs.FunctionCodes.{HasDomain}
 use Rattle.asm_code.specs.Readings.{content}
-use Rattle.asm_code.specs.Sound.{IsCell}
+use Rattle.asm_code.specs.RuleMeaning.{number_from}
+use Rattle.asm_code.specs.Sound.{IsCell, IsLocationNumber}
 
 is_proper_list : (f : ℕ) (vs : List Value) → IsTrue (is_proper (Proper f vs))
 is_proper_list f vs = cc
@@ -62,3 +64,20 @@ module _ (shape : Shape) (f : ℕ) (ns : List ℕ) (has : HasDomain shape f ns) 
 
   pub outside : (vs : List Value) (A : State) → argument_position domain vs ≡ None → Undef ≡ held (function_at shape f (slice_get shape.functions f)) vs A
   outside vs A out = ap (read A) (sym (first_location_laws.outside f domain vs out)) ∙ sym (held_is vs A)
+
+  -- behind so many stands the stray location
+
+  module _ (n many : ℕ) (begin : n ≡ first_of shape f) (all : many ≡ length (argument_lists domain)) where
+    last_is : n + many ≡ first_of shape f + length (argument_lists (domain_of shape f))
+    last_is = omega (arith, begin, all, ap (λ d. length (argument_lists d)) domain_is)
+
+    pub last_number : count_of shape ≤ LOCATIONS → IsLocationNumber shape (n + many)
+    last_number few =
+        let in_range = first_location_laws.in_range shape f (length (argument_lists (domain_of shape f))) has_kind (omega arith) in
+        let same = last_is in record { in_range = omega (arith, in_range, same); few = omega (arith, in_range, same, few) }
+
+    pub located_at : (vs : List Value) (o : Option ℕ) → argument_position domain vs ≡ o → location_at shape (number_from n many o) ≡ location_in f (domain_of shape f) vs
+    located_at vs None at =
+        ap (location_at shape) last_is ∙ first_location_laws.stray shape f has_kind ∙ sym (first_location_laws.outside f domain vs at) ∙ ap (λ d. location_in f d vs) (sym domain_is)
+    located_at vs (Some k) at =
+        ap (λ m. location_at shape (m + k)) begin ∙ located k vs (first_location_laws.list domain vs k at) ∙ sym (first_location_laws.inside f domain vs k at) ∙ ap (λ d. location_in f d vs) (sym domain_is)

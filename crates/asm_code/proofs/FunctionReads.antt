@@ -37,10 +37,10 @@ use Rattle.asm_code.proofs.FirstLocations.{cell_at, content_at, outside}
 
 -- ---- how many lists of one and of two arguments there are
 
-one_each : (us : List Value) → length (argument_lists (us ∷ [])) ≡ length us
+pub one_each : (us : List Value) → length (argument_lists (us ∷ [])) ≡ length us
 one_each us = domain_laws.count us [] ∙ omega (arith, domain_laws.count_of_none)
 
-two_each : (us ws : List Value) → length (argument_lists (us ∷ ws ∷ [])) ≡ length us * length ws
+pub two_each : (us ws : List Value) → length (argument_lists (us ∷ ws ∷ [])) ≡ length us * length ws
 two_each us ws = domain_laws.count us (ws ∷ []) ∙ ap (λ n. length us * n) (one_each ws)
 
 -- ---- without arguments
@@ -68,7 +68,7 @@ module _ (shape : Shape) (f : ℕ) (fits : Fits shape) where
       })
 
   -- the position in a span of a universe is the position in it
-  placed : (over : ℕ) (us : List Value) → universe_at shape over ≡ us → (span : Span) → IsSpan span us → (v : Value) → place_in span.low span.count v ≡ position_in shape over v
+  pub placed : (over : ℕ) (us : List Value) → universe_at shape over ≡ us → (span : Span) → IsSpan span us → (v : Value) → place_in span.low span.count v ≡ position_in shape over v
   placed over us there span spans v =
       ap (λ n. place_in span.low n v) spans.count ∙ place_is span.low us spans.in_turn v ∙ ap (position (is_same v)) (sym there)
 
@@ -97,7 +97,7 @@ module _ (shape : Shape) (f : ℕ) (fits : Fits shape) where
   -- ---- with two
 
   module _ (rows columns : ℕ) (has : HasDomain shape f (rows ∷ columns ∷ [])) (n : ℕ) (first : n ≡ first_of shape f) where
-    at_position_of : (v w : Value) → argument_position (universe_at shape rows ∷ universe_at shape columns ∷ []) (v ∷ w ∷ [])
+    pub at_position_of : (v w : Value) → argument_position (universe_at shape rows ∷ universe_at shape columns ∷ []) (v ∷ w ∷ [])
         ≡ position_in_grid (position_in shape rows v) (length (universe_at shape columns)) (position_in shape columns w)
     at_position_of v w = first_location_laws.of_two (universe_at shape rows) (universe_at shape columns) v w
 

@@ -1,3 +1,4 @@
+pub mod Powers
 pub mod Lists
 pub mod Falling
 pub mod CodeForms
@@ -7,6 +8,7 @@ pub mod Arguments
 pub mod Quantified
 pub mod FirstLocations
 pub mod FunctionReads
+pub mod PlaceLocations
 pub mod Agreeing
 pub mod Resolving
 pub mod KeptBodies
@@ -26,3 +28,5 @@ pub mod Ands
 pub mod SpanLaws
 pub mod PieceForms
 pub mod OpenedRules
+pub mod OpeningLaws
+pub mod SharedCodes

@@ -70,12 +70,12 @@ call_form P body to ts is = ap rule_of is ∙ ap rule_of (sym (code.rolls-Call b
 
 -- ---- what each yields
 
-named_are : (shape : Shape) (rs : List Reading) (ts : List Code) → named_readings shape (codes_of (map code_of ts)) rs ≡ by_name shape rs ts
+pub named_are : (shape : Shape) (rs : List Reading) (ts : List Code) → named_readings shape (codes_of (map code_of ts)) rs ≡ by_name shape rs ts
 named_are shape rs [] = refl
 named_are shape rs (t ∷ ts) = ap (λ more. reading shape (code_of t) rs ∷ more) (named_are shape rs ts)
 
 -- what `result` stands for in a frame
-contents_are : (shape : Shape) (n : Option ℕ) → answer_contents shape n ≡ answer_readings (location_numbered shape n)
+pub contents_are : (shape : Shape) (n : Option ℕ) → answer_contents shape n ≡ answer_readings (location_numbered shape n)
 contents_are shape None = refl
 contents_are shape (Some n) = refl
 
@@ -112,27 +112,6 @@ module _ (shape : Shape) (turns : ℕ) (chosen : Path → ℕ) (rs : List Readin
   unfolding meaning
   seq_yields P Ps is Qs same =
       ap (λ Qs. in_order (meanings shape turns chosen (rules_of (map rule_of Qs)) rs ls) 0 A nothing_bound p) same ∙ sym (ap yields (seq_form P Ps is))
-
-  pub yes_yields : (P : RuleCode) (c : Code) (Q R : Box RuleCode Global) → P ≡ code.If c Q R → (S : RuleCode) → S ≡ Q.value → (v : Value) → v ≡ reading shape (code_of c) rs A → is_true v ≡ true
-      → yields_at 0 S ≡ yields (rule_of P)
-  unfolding meaning
-  yes_yields P c Q R is S same v valued holds =
-      ap (yields_at 0) same
-      ∙ ap (λ b. cond b (yields_at 0 Q.value) (yields_at 1 R.value)) (sym (sym (ap is_true valued) ∙ holds))
-      ∙ sym (ap yields (if_form P c Q R is))
-
-  pub no_yields : (P : RuleCode) (c : Code) (Q R : Box RuleCode Global) → P ≡ code.If c Q R → (S : RuleCode) → S ≡ R.value → (v : Value) → v ≡ reading shape (code_of c) rs A → is_true v ≡ false
-      → yields_at 1 S ≡ yields (rule_of P)
-  unfolding meaning
-  no_yields P c Q R is S same v valued fails =
-      ap (yields_at 1) same
-      ∙ ap (λ b. cond b (yields_at 0 Q.value) (yields_at 1 R.value)) (sym (sym (ap is_true valued) ∙ fails))
-      ∙ sym (ap yields (if_form P c Q R is))
-
-  pub let_yields : (P : RuleCode) (t : Code) (Q : Box RuleCode Global) → P ≡ code.Let t Q → (S : RuleCode) → S ≡ Q.value → (v : Value) → v ≡ reading shape (code_of t) rs A
-      → yields_with v 0 S ≡ yields (rule_of P)
-  unfolding meaning
-  let_yields P t Q is S same v valued = (λ i. yields_with (valued i) 0 (same i)) ∙ sym (ap yields (let_form P t Q is))
 
   pub iterate_yields : (P : RuleCode) (Q : Box RuleCode Global) → P ≡ code.Iterate Q → (S : RuleCode) → S ≡ Q.value → yields (tree.Iterate (rule_of S)) ≡ yields (rule_of P)
   iterate_yields P Q is S same = ap (λ (k : RuleCode). yields (tree.Iterate (rule_of k))) same ∙ sym (ap yields (iterate_form P Q is))

@@ -2,11 +2,10 @@
 use Rattle.std.proofs.Common.{Box, Vec, Global, ◌≡◌, ℕ, zero, suc, ◌+◌, ◌<◌, false, cond, List, [], ◌∷◌, ◌++◌, length, get_or, map, take, Option, Some, None, refl, sym, ap, subst, ◌∙◌}
 use Rattle.std.specs.Prelude.{is_some, slice_index_or}
 use Rattle.std.proofs.lemmas.List.{take_more}
-use Rattle.asm_state.specs.declared.function.FunctionKind.TheVariants.{Controlled as controlled_kind}
 use Rattle.asm_state.specs.Location.{Location, State}
 use Rattle.asm_state.specs.declared.value.Value.{Value}
 use Rattle.asm_state.specs.declared.value.Value.TheVariants.{Truth}
-use Rattle.asm_state.specs.Signature.{Shape, HasKind, domain_of}
+use Rattle.asm_state.specs.Signature.{Shape, domain_of}
 use Rattle.asm_state.specs.Tables.{location_in}
 use Rattle.asm_state.specs.Updates.{fire}
 use Rattle.std.specs.List.{filter}
@@ -46,6 +45,7 @@ use Rattle.std.proofs.lemmas.Option.{slice_get-get_or}
 use Rattle.asm_code.proofs.Standing.{stands_value, stands_called}
 use Rattle.asm_code.specs.CodeTree.{Code, Codes, no_codes, code_then}
 use Rattle.asm_code.specs.CodeTree as term_codes
+use Rattle.asm_code.specs.FunctionCodes.{IsLocated}
 use Rattle.asm_code.specs.Readings.{always, reading, universe_at}
 use Rattle.asm_code.specs.Resolved.{bound_reading, Agrees, IsResolved, AreResolved}
 use Rattle.asm_code.specs.Slots.{Slot, value_slot, names_in, position_of, answer_position, called_slots}
@@ -231,14 +231,15 @@ module _ (spec : Spec) (good : IsWellFormed spec) where
   not_bound (Some (ToLocation l)) it vs is = cc
 
   -- a name without an answer's position, of a controlled function
-  pub held_resolved : (slots : List Slot) (x : Name) (f : ℕ) → answer_position slots x ≡ None → declared program x ≡ Some (Controlled f (domain_of shape f)) → HasKind controlled_kind shape f
-      → (ts : Terms) (cs : Codes) → AreResolved program shape (names_in slots) ts cs → IsResolvedPlace program shape slots x ts (Some (codes.Held f cs))
-  held_resolved slots x f none stands kind ts cs are = record {
-    sound = (kind, all_sound spec good (names_in slots) ts cs are);
+  pub located_resolved : (slots : List Slot) (x : Name) (f : ℕ) → answer_position slots x ≡ None → declared program x ≡ Some (Controlled f (domain_of shape f))
+      → (ts : Terms) (cs : Codes) → AreResolved program shape (names_in slots) ts cs → (to : Place) → IsLocated shape f cs to → IsResolvedPlace program shape slots x ts (Some to)
+  located_resolved slots x f none stands ts cs are to is = record {
+    sound = is.sound (all_sound spec good (names_in slots) ts cs are);
     means = λ e rs ls A bound.
-        (λ i. Some (location_in f (domain_of shape f) (all_mean spec good (names_in slots) ts cs are e rs A bound.values i)))
+        is.locates rs ls A
+        ∙ (λ i. Some (location_in f (domain_of shape f) (all_mean spec good (names_in slots) ts cs are e rs A bound.values i)))
         ∙ sym (not_bound (bound_to e x) (declared program x) (values program A e ts) (subst (λ o. IsPlace o ls (bound_to e x)) none (bound.places x)) ∙ ap (λ it. location_of it (values program A e ts)) stands);
-    some = λ e rs ls A bound. refl;
+    some = λ e rs ls A bound. ap is_some (is.locates rs ls A);
   }
 
   is_bound : (b : Option Binding) (it : Option Declared) (vs : List Value) (l : Location) → b ≡ Some (ToLocation l) → Some l ≡ bound_location b it vs

@@ -1,3 +1,4 @@
+pub mod Powers
 pub mod CodeTree
 pub mod CodeViews
 pub mod Readings
@@ -13,9 +14,12 @@ pub mod RuleTree
 pub mod RuleViews
 pub mod RuleMeaning
 pub mod Running
+pub mod Regions
 pub mod RulesResolved
 pub mod RuleScopes
+pub mod ResolvingLaws
 pub mod Ands
 pub mod Spans
 pub mod Pieces
+pub mod Opening
 pub mod OpenedPieces

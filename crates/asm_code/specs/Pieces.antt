@@ -1,8 +1,9 @@
 -- The pieces of resolved rules, and what they yield.
 --     IsInterval shape u from to      positions that rise, and lie in the universe numbered u
 --     IsPiece shape piece             its code is sound, and a span's rule is a `forall`
+--     positions_in shape piece        at how many positions a piece's `forall` is evaluated
 --     piece_yields at piece           all of its rule, or the elements at its positions
-use Rattle.std.specs.Prelude.{ℕ, ◌≤◌, length}
+use Rattle.std.specs.Prelude.{ℕ, ◌-◌, ◌≤◌, Option, Some, None, length}
 use Rattle.asm_reader.specs.declared.picks.Picks.{Ghosts}
 use Rattle.asm_state.specs.Signature.{Shape}
 use Rattle.asm_meaning.specs.Does.{Outcome, nothing}
@@ -30,6 +31,17 @@ IsPartOf shape R (part.Span from to) = ⊥
 
 abbrev pub IsPiece : Shape → Piece → Type 0
 IsPiece shape piece = IsSoundRule shape (rule_of piece.rule.now) × IsSoundFrame shape piece.frame × IsPartOf shape (rule_of piece.rule.now) piece.part
+
+abbrev pub all_positions : Shape → RuleCode → Option ℕ
+all_positions shape (Forall u c P) = Some (length (universe_at shape u))
+all_positions shape R = None
+
+abbrev pub positions : Shape → RuleCode → Part → Option ℕ
+positions shape R part.Whole = all_positions shape R
+positions shape R (part.Span from to) = Some (to - from)
+
+abbrev pub positions_in : Shape → Piece → Option ℕ
+positions_in shape piece = positions shape (rule_of piece.rule.now) piece.part
 
 module _ {P : Type 0} {picks : Ghosts P} (running : Running P picks) where
   abbrev pub part_yields : Frame → Path → RuleCode → Part → Outcome

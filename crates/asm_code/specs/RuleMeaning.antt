@@ -1,16 +1,19 @@
 -- What a resolved rule yields.
+--     number_from first many position      the number at a position from the first of so many on,
+--                                          or else behind them all, where the stray location stands
 --     located_at shape to rs ls A          the location that a place names, if it names one
 --     passes shape test rs A               whether a condition holds, or there is none
 --     meaning shape turns chosen P rs ls A p     the outcome of P in the state A and at the path p, where the positions stand for rs, and for
 --                                          the locations ls, if they stand for any
 --     meanings                             the same of rules, as functions of the state and the path
 --     IsSoundRule shape P                  each number in P is one of the signature
-use Rattle.std.specs.Prelude.{ℕ, ◌+◌, ◌++◌, Bool, true, cond, List, [], ◌∷◌, Option, Some, None, slice_index_or}
+use Rattle.std.specs.Prelude.{ℕ, ◌+◌, ◌*◌, ◌++◌, Bool, true, cond, List, [], ◌∷◌, Option, Some, None, slice_index_or, unwrap_or}
 use Rattle.std.specs.List.{filter}
 use Rattle.asm_state.specs.declared.function.FunctionKind.TheVariants.{Controlled}
 use Rattle.asm_state.specs.declared.value.Value.{Value}
+use Rattle.asm_state.specs.FirstLocations.{position_in_grid}
 use Rattle.asm_state.specs.Location.{Location, State}
-use Rattle.asm_state.specs.Signature.{Shape, HasKind, domain_of}
+use Rattle.asm_state.specs.Signature.{Shape, HasKind, domain_of, location_at}
 use Rattle.asm_state.specs.Tables.{location_in}
 use Rattle.asm_meaning.specs.Does.{Outcome, Meaning, nothing, parts, in_order, each, one_of, turns_of}
 use Rattle.asm_meaning.specs.Program.{nothing_bound}
@@ -18,9 +21,9 @@ use Rattle.asm_meaning.specs.Targets.{update}
 use Rattle.asm_meaning.specs.Value.{Reading, is_true, read}
 use Rattle.asm_meaning.specs.Yields.{Path, Gives, at}
 use Rattle.asm_code.specs.CodeTree.{Code, Codes, no_codes, code_then}
-use Rattle.asm_code.specs.Readings.{always, reading, readings, universe_at}
-use Rattle.asm_code.specs.RuleTree.{Place, Answer, Held, RuleCode, Skip, Assign, Par, Seq, If, Let, Forall, Choose, Iterate, Call, RuleCodes, no_rules, rule_then}
-use Rattle.asm_code.specs.Sound.{IsSound, AreSound, IsUniverseNumber}
+use Rattle.asm_code.specs.Readings.{always, place_in, reading, readings, universe_at}
+use Rattle.asm_code.specs.RuleTree.{Place, Answer, Cell, Row, Grid, Held, RuleCode, Skip, Assign, Par, Seq, If, Let, Forall, Choose, Iterate, Call, RuleCodes, no_rules, rule_then}
+use Rattle.asm_code.specs.Sound.{IsSound, AreSound, IsLocationNumber, IsUniverseNumber}
 
 -- the locations that positions stand for
 abbrev pub Locations : Type 0
@@ -35,6 +38,9 @@ abbrev pub answer_locations : Option Location → Locations
 answer_locations None = []
 answer_locations (Some l) = Some l ∷ []
 
+abbrev pub number_from : (first many : ℕ) → (position : Option ℕ) → ℕ
+number_from first many o = first + unwrap_or o many
+
 module _ (shape : Shape) where
   -- codes by name, which belong to the positions rs
   abbrev pub named_readings : Codes → List Reading → List Reading
@@ -43,6 +49,10 @@ module _ (shape : Shape) where
 
   abbrev pub place_location : Place → List Reading → Locations → State → Option Location
   place_location (Answer i) rs ls A = slice_index_or ls i None
+  place_location (Cell n) rs ls A = Some (location_at shape n)
+  place_location (Row first low many t) rs ls A = Some (location_at shape (number_from first many (place_in low many (reading shape t rs A))))
+  place_location (Grid first low rows left columns s t) rs ls A =
+      Some (location_at shape (number_from first (rows * columns) (position_in_grid (place_in low rows (reading shape s rs A)) columns (place_in left columns (reading shape t rs A)))))
   place_location (Held f ts) rs ls A = Some (location_in f (domain_of shape f) (readings shape ts rs A))
 
   abbrev pub located_at : Option Place → List Reading → Locations → State → Option Location
@@ -80,6 +90,9 @@ module _ (shape : Shape) where
 
   abbrev pub IsSoundPlace : Place → Type 0
   IsSoundPlace (Answer i) = Unit {0}
+  IsSoundPlace (Cell n) = IsLocationNumber shape n
+  IsSoundPlace (Row first low many t) = IsLocationNumber shape (first + many) × IsSound shape t
+  IsSoundPlace (Grid first low rows left columns s t) = IsLocationNumber shape (first + rows * columns) × IsSound shape s × IsSound shape t
   IsSoundPlace (Held f ts) = HasKind Controlled shape f × AreSound shape ts
 
   abbrev pub IsSoundAnswer : Option Place → Type 0

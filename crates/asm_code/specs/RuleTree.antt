@@ -1,10 +1,14 @@
 -- Resolved rules as trees.
---     Place        what is updated: what a position has for a location, or a location of a controlled function
+--     Place        what is updated: what a position has for a location, or a location of a
+--                  controlled function, by its number or by the positions or values of arguments
 use Rattle.std.specs.Prelude.{ℕ, Option}
 use Rattle.asm_code.specs.CodeTree.{Code, Codes}
 
 pub data Place : Type 0 where
   Answer : (position : ℕ) → Place
+  Cell : (number : ℕ) → Place
+  Row : (first low count : ℕ) → Code → Place
+  Grid : (first low rows left columns : ℕ) → (row column : Code) → Place
   Held : (function : ℕ) → Codes → Place
 
 mutual

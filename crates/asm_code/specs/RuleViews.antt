@@ -16,6 +16,9 @@ rules_of (P ∷ Ps) = tree.rule_then P (rules_of Ps)
 
 abbrev pub place_of : Place → tree.Place
 place_of (place.Answer i) = tree.Answer i
+place_of (place.Cell n) = tree.Cell n
+place_of (place.Row first over t) = tree.Row first over.low over.count (code_of t.value)
+place_of (place.Grid at s t) = tree.Grid at.first at.rows.low at.rows.count at.columns.low at.columns.count (code_of s.value) (code_of t.value)
 place_of (place.Held f ts) = tree.Held f (codes_of (map code_of ts.items))
 
 abbrev pub rule_step : RuleCode-F tree.RuleCode → tree.RuleCode

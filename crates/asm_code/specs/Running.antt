@@ -9,7 +9,7 @@ use Rattle.asm_state.specs.declared.value.Value.{Value}
 use Rattle.asm_state.specs.Location.{Location, State}
 use Rattle.asm_state.specs.Signature.{Shape, count_of, location_at}
 use Rattle.asm_state.specs.Updates.{UpdateSet, fire}
-use Rattle.asm_reader.specs.ScriptLines.{pick}
+use Rattle.asm_reader.specs.ScriptLines.{Script, pick}
 use Rattle.asm_reader.specs.declared.picks.Picks.{Ghosts}
 use Rattle.asm_meaning.specs.Does.{Outcome, parts, in_order, each}
 use Rattle.asm_meaning.specs.Intervals.{between}
@@ -18,6 +18,7 @@ use Rattle.asm_meaning.specs.Program.{nothing_bound}
 use Rattle.asm_meaning.specs.Valued.{shown}
 use Rattle.asm_meaning.specs.Yields.{Path, Gives}
 use Rattle.asm_meaning.specs.Yields as yields
+use Rattle.asm_meaning.specs.declared.choices.Choices.{Choices}
 use Rattle.asm_meaning.specs.declared.outcome.Forming.{Forming}
 use Rattle.asm_meaning.specs.declared.view.View.{View}
 use Rattle.asm_code.specs.CodeTree as codes
@@ -60,6 +61,12 @@ is_passing view f c v = passes view.signature.now (option_map code_of c) (always
 
 abbrev pub passing_in : View → Frame → (over : ℕ) → Option Code → List Value
 passing_in view f u c = passing view.signature.now u (option_map code_of c) (readings_of view.signature.now f) (shown view)
+
+-- what a rule yields in what a view shows, under a frame and at a path, with these choices
+abbrev pub rule_shown : {P : Type 0} (script : P → Script) → View → Choices P → (turns : ℕ) → Frame → Path → RuleCode → Outcome
+rule_shown script view choices turns f p R =
+    let shape = view.signature.now in
+    meaning shape turns (pick (script choices.script.now) choices.step) R (readings_of shape f) (places_of shape f) (shown view) p
 
 -- the script is the one by which a `P` answers
 module _ {P : Type 0} {picks : Ghosts P} (at : Running P picks) where

@@ -1,4 +1,5 @@
 -- Codes whose numbers are ones of a signature.
+--     IsLocationNumber shape n    n is the number of a location
 --     IsCell shape n          n is the number of a location that isn't stray
 --     IsSound shape t         each number in t is that of a universe, of a function, or of such a location
 use Rattle.std.specs.Prelude.{◌<◌, ◌≤◌, ◌+◌, ◌*◌, ℕ, length, IsTrue}
@@ -10,6 +11,10 @@ use Rattle.asm_code.specs.CodeTree.{Code, Constant, Local, Cell, Row, Grid, Held
 abbrev pub count : Codes → ℕ
 count no_codes = 0
 count (code_then t ts) = 1 + count ts
+
+pub record IsLocationNumber (shape : Shape) (n : ℕ) : Type 0 where
+  pub in_range : n < count_of shape
+  pub few : n ≤ LOCATIONS
 
 pub record IsCell (shape : Shape) (n : ℕ) : Type 0 where
   pub in_range : n < count_of shape

@@ -1,5 +1,6 @@
 //! Operations on words.
-ghost use Rattle.std.specs.Prelude.{◌≡◌};
+ghost use Rattle.std.specs.Prelude.{◌≡◌, ◌<◌};
+ghost use Rattle.std.specs.Int.{int_rem_euclid};
 ghost use Rattle.std.specs.List.{list_all};
 ghost use Rattle.asm_state.specs.Operation.{op};
 ghost use Rattle.asm_code.specs.Ands.{is_and, is_and_operation};
@@ -7,6 +8,7 @@ ghost use Rattle.asm_state.specs.declared.operation.Op.TheVariants.{Add, Remaind
 ghost use Rattle.asm_state.specs.declared.value.Value.TheVariants.{Number as Whole};
 
 use crate::code::Code;
+use crate::modulus::Modulus;
 use asm_state::number::Number;
 use asm_state::operation::{Op, apply};
 use asm_state::value::Value;
@@ -28,15 +30,47 @@ pub(crate) fn equal_to(left: Word, right: Word) -> Word
     Word::truth(left.code() == right.code())
 }
 
+/// A power of two above the size of each number, and so a multiple of each power that a modulus is.
+const SHIFT: i64 = 1 << 62;
+
 /// The remainder by a number.
 #[inline(always)]
-pub(crate) fn remainder_by(left: Word, right: Number) -> Word
-    ensures { result ≡ op Remainder left (Whole right) }
+pub(crate) fn remainder_by(left: Word, right: Modulus) -> Word
+    ensures { result ≡ op Remainder left (Whole right.number) }
 {
-    if right.value > 0 {
-        Word::of(apply(Op::Remainder, left.value(), Value::Number(right)))
+    if right.exponent > 0 {
+        return masked(left, right);
+    }
+    if right.number.value > 0 {
+        Word::of(apply(Op::Remainder, left.value(), Value::Number(right.number)))
     } else {
-        far_remainder(left, right)
+        far_remainder(left, right.number)
+    }
+}
+
+/// The remainder by a power of two, which the last binary digits are.
+#[inline(always)]
+fn masked(left: Word, right: Modulus) -> Word
+    requires { 0 < right.exponent }
+    ensures { result ≡ op Remainder left (Whole right.number) }
+{
+    match left.value() {
+        Value::Number(number) => Word::of(Value::Number(last_digits(number, right))),
+        _ => Word::undef(),
+    }
+}
+
+/// The last binary digits, as many as the exponent says. A number below 0 has those of its sum
+/// with a greater power.
+#[inline(always)]
+fn last_digits(number: Number, right: Modulus) -> Number
+    requires { 0 < right.exponent }
+    ensures { result.value ≡ int_rem_euclid number.value right.number.value }
+{
+    let mask = (right.number.value - 1) as u64;
+    let digits = (number.value + SHIFT) as u64 & mask;
+    Number {
+        value: digits as i64,
     }
 }
 

@@ -23,7 +23,8 @@ pub struct RuleBody {
     pub code: Arc<RuleCode, Global>,
 }
 
-/// What is resolved so far: for the number of each derived function its body, and for that of each rule its bodies.
+/// What is resolved so far: for the number of each derived function its body, and for that of each
+/// rule its bodies.
 #[derive(Drop)]
 pub struct Bodies {
     pub terms: Vec<Option<Arc<Code, Global>>>,

@@ -62,9 +62,11 @@ fn find_candidate<'e>(
     Walk::Passed(met)
 }
 
-/// The candidate that is taken at this path. Where there are candidates the script is asked once, else never.
+/// The candidate that is taken at this path. Where there are candidates the script is asked once,
+/// else never.
 ///
-/// Without a condition, every element of the universe is a candidate, and none is looked at but the one that is taken.
+/// Without a condition, every element of the universe is a candidate, and none is looked at but the
+/// one that is taken.
 pub(crate) fn chosen<'e, P: Picks>(
     running: &Running<'_, '_, P>,
     frame: &'e Frame<'e>,

@@ -1,4 +1,5 @@
 //! Resolved terms.
+use crate::modulus::Modulus;
 use asm_state::number::Number;
 use asm_state::operation::Op;
 use asm_state::word::Word;
@@ -19,8 +20,8 @@ pub struct Grid {
     pub columns: Span,
 }
 
-/// A term in which no name is left. A derived function stands with its body, which all its uses share, so that a code is whole by
-/// itself.
+/// A term in which no name is left. A derived function stands with its body, which all its uses
+/// share, so that a code is whole by itself.
 #[derive(Drop)]
 pub enum Code {
     Constant(Word),
@@ -28,7 +29,8 @@ pub enum Code {
     Local(usize),
     /// The content of the location with this number.
     Cell(usize),
-    /// The content of a controlled function's location, by the position of one argument in a universe.
+    /// The content of a controlled function's location, by the position of one argument in a
+    /// universe.
     Row {
         first: usize,
         over: Span,
@@ -76,12 +78,12 @@ pub enum Code {
     PlusModulo {
         left: Box<Code>,
         by: Number,
-        over: Number,
+        over: Modulus,
     },
     /// The same of a remainder by a number.
     Modulo {
         left: Box<Code>,
-        right: Number,
+        right: Modulus,
     },
     /// The same of a test for equality.
     Equals {

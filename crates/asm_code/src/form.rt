@@ -16,6 +16,7 @@ use crate::choose::{chosen, passes};
 use crate::code::Code;
 use crate::frame::Frame;
 use crate::place::{answer_number, place_number};
+use crate::regions::{Region, Regions};
 use crate::rule_code::{Place, RuleCode};
 use crate::running::Running;
 use crate::value::{holds, value};
@@ -26,12 +27,14 @@ use asm_reader::Picks;
 use asm_updates::summary::Summary;
 use std::alloc::Global;
 
-/// Forms what the rule yields at the path where the evaluation stands: its updates come to those formed before, and its instances are
-/// counted. Where it is exhausted, it stands at the path of the `iterate` that made its last turn. Where it stopped, the set may have
-/// some of the updates.
+/// Forms what the rule yields at the path where the evaluation stands: its updates come to those
+/// formed before, and its instances are counted. Where it is exhausted, it stands at the path of
+/// the `iterate` that made its last turn. Where it stopped, the set may have some of the updates.
+/// Each `par` and `forall` is offered to `regions` first.
 #[cycle(form)]
-pub fn form<'e, P: Picks>(
+pub fn form<'e, P: Picks, G: Regions<P>>(
     alloc: Global,
+    regions: &mut G,
     running: &Running<'_, '_, P>,
     frame: &'e Frame<'e>,
     rule: &'e RuleCode,
@@ -39,35 +42,61 @@ pub fn form<'e, P: Picks>(
 ) -> Result<(), Stopped>
     requires sound { IsSoundRule (shape_at running.now) (rule_of rule.now) }
     requires framed { IsSoundFrame (shape_at running.now) frame.now }
+    requires ready { G.is_ready regions.old }
     requires fits { Fits running.now made.old }
-    ensures { Follows (shape_at running.now) (rule_at running.now frame.now made.old.path.items (rule_of rule.now)) made.old made.new result }
+    ensures ready { G.is_ready regions.new }
+    ensures formed { Follows (shape_at running.now) (rule_at running.now frame.now made.old.path.items (rule_of rule.now)) made.old made.new result }
 {
     match rule {
         RuleCode::Skip => Ok(()),
         RuleCode::Assign { place, value } => {
             assign(alloc, running.view, frame, place, value, made)
         }
-        RuleCode::Par(parts) => form_all(alloc, running, frame, parts.as_slice(), made),
-        RuleCode::Seq(parts) => form_in_order(alloc, running, frame, parts.as_slice(), made),
-        RuleCode::If { test, yes, no } => form_if(alloc, running, frame, test, yes, no, made),
-        RuleCode::Let { value, body } => form_let(alloc, running, frame, value, body, made),
+        RuleCode::Par(parts) => match regions.region(alloc, running, frame, rule, made)? {
+            Region::Formed => Ok(()),
+            Region::Left => form_all(alloc, regions, running, frame, parts.as_slice(), made),
+        },
+        RuleCode::Seq(parts) => form_in_order(
+            alloc,
+            regions,
+            running,
+            frame,
+            parts.as_slice(),
+            made,
+        ),
+        RuleCode::If { test, yes, no } => form_if(
+            alloc, regions, running, frame, test, yes, no, made,
+        ),
+        RuleCode::Let { value, body } => form_let(
+            alloc, regions, running, frame, value, body, made,
+        ),
         RuleCode::Forall { over, test, body } => {
-            let size = running.view.signature.universe(*over).size();
-            form_span(alloc, running, frame, *over, test, 0, size, body, made)
+            match regions.region(alloc, running, frame, rule, made)? {
+                Region::Formed => Ok(()),
+                Region::Left => {
+                    let size = running.view.signature.universe(*over).size();
+                    form_span(
+                        alloc, regions, running, frame, *over, test, 0, size, body, made,
+                    )
+                }
+            }
         }
         RuleCode::Choose {
             over,
             test,
             body,
             none,
-        } => form_choose(alloc, running, frame, *over, test, body, none, made),
-        RuleCode::Iterate(body) => form_turns(alloc, running, frame, body, made),
+        } => form_choose(
+            alloc, regions, running, frame, *over, test, body, none, made,
+        ),
+        RuleCode::Iterate(body) => form_turns(alloc, regions, running, frame, body, made),
         RuleCode::Call {
             body,
             answer,
             arguments,
         } => form_call(
             alloc,
+            regions,
             running,
             frame,
             body,
@@ -81,8 +110,9 @@ pub fn form<'e, P: Picks>(
 /// Forms one of two rules. Where the other one is left out, nothing is done for it.
 #[cycle(form)]
 #[inline(never)]
-fn form_if<'e, P: Picks>(
+fn form_if<'e, P: Picks, G: Regions<P>>(
     alloc: Global,
+    regions: &mut G,
     running: &Running<'_, '_, P>,
     frame: &'e Frame<'e>,
     test: &'e Code,
@@ -94,23 +124,26 @@ fn form_if<'e, P: Picks>(
     requires sound { IsSoundRule (shape_at running.now) (rule_of yes.now) }
     requires sound_no { IsSoundRule (shape_at running.now) (rule_of no.now) }
     requires framed { IsSoundFrame (shape_at running.now) frame.now }
+    requires ready { G.is_ready regions.old }
     requires fits { Fits running.now made.old }
-    ensures { Follows (shape_at running.now) (rule_at running.now frame.now made.old.path.items (tree.If (code_of test.now) (rule_of yes.now) (rule_of no.now))) made.old made.new result }
+    ensures ready { G.is_ready regions.new }
+    ensures formed { Follows (shape_at running.now) (rule_at running.now frame.now made.old.path.items (tree.If (code_of test.now) (rule_of yes.now) (rule_of no.now))) made.old made.new result }
 {
     if holds(running.view, frame, test) {
-        return form_part(alloc, running, frame, yes, 0, made);
+        return form_part(alloc, regions, running, frame, yes, 0, made);
     }
     match no {
         RuleCode::Skip => Ok(()),
-        _ => form_part(alloc, running, frame, no, 1, made),
+        _ => form_part(alloc, regions, running, frame, no, 1, made),
     }
 }
 
 /// Forms a rule under one value more, which is the term's.
 #[cycle(form)]
 #[inline(never)]
-fn form_let<'e, P: Picks>(
+fn form_let<'e, P: Picks, G: Regions<P>>(
     alloc: Global,
+    regions: &mut G,
     running: &Running<'_, '_, P>,
     frame: &'e Frame<'e>,
     term: &'e Code,
@@ -120,22 +153,25 @@ fn form_let<'e, P: Picks>(
     requires sound_term { IsSound (shape_at running.now) (code_of term.now) }
     requires sound { IsSoundRule (shape_at running.now) (rule_of body.now) }
     requires framed { IsSoundFrame (shape_at running.now) frame.now }
+    requires ready { G.is_ready regions.old }
     requires fits { Fits running.now made.old }
-    ensures { Follows (shape_at running.now) (rule_at running.now frame.now made.old.path.items (tree.Let (code_of term.now) (rule_of body.now))) made.old made.new result }
+    ensures ready { G.is_ready regions.new }
+    ensures formed { Follows (shape_at running.now) (rule_at running.now frame.now made.old.path.items (tree.Let (code_of term.now) (rule_of body.now))) made.old made.new result }
 {
     let value = value(running.view, frame, term);
     let bound = Frame::One {
         value: value.kept(),
         outer: frame,
     };
-    form_part(alloc, running, &bound, body, 0, made)
+    form_part(alloc, regions, running, &bound, body, 0, made)
 }
 
 /// Forms a rule for the candidate that is taken, or the other rule where there is none.
 #[cycle(form)]
 #[inline(never)]
-fn form_choose<'e, P: Picks>(
+fn form_choose<'e, P: Picks, G: Regions<P>>(
     alloc: Global,
+    regions: &mut G,
     running: &Running<'_, '_, P>,
     frame: &'e Frame<'e>,
     over: usize,
@@ -149,24 +185,27 @@ fn form_choose<'e, P: Picks>(
     requires sound { IsSoundRule (shape_at running.now) (rule_of body.now) }
     requires sound_none { IsSoundRule (shape_at running.now) (rule_of none.now) }
     requires framed { IsSoundFrame (shape_at running.now) frame.now }
+    requires ready { G.is_ready regions.old }
     requires fits { Fits running.now made.old }
-    ensures { Follows (shape_at running.now) (rule_at running.now frame.now made.old.path.items (tree.Choose over (option_map code_of test.now) (rule_of body.now) (rule_of none.now))) made.old made.new result }
+    ensures ready { G.is_ready regions.new }
+    ensures formed { Follows (shape_at running.now) (rule_at running.now frame.now made.old.path.items (tree.Choose over (option_map code_of test.now) (rule_of body.now) (rule_of none.now))) made.old made.new result }
 {
     let Some(value) = chosen(running, frame, over, test, made.path.as_slice()) else {
-        return form_part(alloc, running, frame, none, 1, made);
+        return form_part(alloc, regions, running, frame, none, 1, made);
     };
     let bound = Frame::One {
         value: value.kept(),
         outer: frame,
     };
-    form_part(alloc, running, &bound, body, 0, made)
+    form_part(alloc, regions, running, &bound, body, 0, made)
 }
 
 /// Forms the body of a rule that is called, in which the call's terms stand by name.
 #[cycle(form)]
 #[inline(never)]
-fn form_call<'e, P: Picks>(
+fn form_call<'e, P: Picks, G: Regions<P>>(
     alloc: Global,
+    regions: &mut G,
     running: &Running<'_, '_, P>,
     frame: &'e Frame<'e>,
     body: &'e RuleCode,
@@ -178,8 +217,10 @@ fn form_call<'e, P: Picks>(
     requires sound_answer { IsSoundAnswer (shape_at running.now) (option_map place_of answer.now) }
     requires sound_arguments { AreSound (shape_at running.now) (codes_of (map code_of arguments.now)) }
     requires framed { IsSoundFrame (shape_at running.now) frame.now }
+    requires ready { G.is_ready regions.old }
     requires fits { Fits running.now made.old }
-    ensures { Follows (shape_at running.now) (rule_at running.now frame.now made.old.path.items (tree.Call (rule_of body.now) (option_map place_of answer.now) (codes_of (map code_of arguments.now)))) made.old made.new result }
+    ensures ready { G.is_ready regions.new }
+    ensures formed { Follows (shape_at running.now) (rule_at running.now frame.now made.old.path.items (tree.Call (rule_of body.now) (option_map place_of answer.now) (codes_of (map code_of arguments.now)))) made.old made.new result }
 {
     let answer = answer_number(alloc, running.view, frame, answer)?;
     let bound = Frame::Terms {
@@ -187,13 +228,14 @@ fn form_call<'e, P: Picks>(
         codes: arguments,
         caller: frame,
     };
-    form_part(alloc, running, &bound, body, 0, made)
+    form_part(alloc, regions, running, &bound, body, 0, made)
 }
 
 /// Forms the part with this number.
 #[cycle(form)]
-fn form_part<'e, P: Picks>(
+fn form_part<'e, P: Picks, G: Regions<P>>(
     alloc: Global,
+    regions: &mut G,
     running: &Running<'_, '_, P>,
     frame: &'e Frame<'e>,
     rule: &'e RuleCode,
@@ -202,19 +244,22 @@ fn form_part<'e, P: Picks>(
 ) -> Result<(), Stopped>
     requires sound { IsSoundRule (shape_at running.now) (rule_of rule.now) }
     requires framed { IsSoundFrame (shape_at running.now) frame.now }
+    requires ready { G.is_ready regions.old }
     requires fits { Fits running.now made.old }
-    ensures { Follows (shape_at running.now) (rule_at running.now frame.now (yields.at made.old.path.items number) (rule_of rule.now)) made.old made.new result }
+    ensures ready { G.is_ready regions.new }
+    ensures formed { Follows (shape_at running.now) (rule_at running.now frame.now (yields.at made.old.path.items number) (rule_of rule.now)) made.old made.new result }
 {
     made.path.push(number)?;
-    form(alloc, running, frame, rule, made)?;
+    form(alloc, regions, running, frame, rule, made)?;
     made.path.pop();
     Ok(())
 }
 
 /// Forms the parts that stand beside each other.
 #[cycle(form)]
-fn form_all<'e, P: Picks>(
+fn form_all<'e, P: Picks, G: Regions<P>>(
     alloc: Global,
+    regions: &mut G,
     running: &Running<'_, '_, P>,
     frame: &'e Frame<'e>,
     parts: &'e [RuleCode],
@@ -222,20 +267,24 @@ fn form_all<'e, P: Picks>(
 ) -> Result<(), Stopped>
     requires sound { AreSoundRules (shape_at running.now) (rules_of (map rule_of parts.now)) }
     requires framed { IsSoundFrame (shape_at running.now) frame.now }
+    requires ready { G.is_ready regions.old }
     requires fits { Fits running.now made.old }
-    ensures { Follows (shape_at running.now) (parts_at running.now frame.now made.old.path.items 0 (rules_of (map rule_of parts.now))) made.old made.new result }
+    ensures ready { G.is_ready regions.new }
+    ensures formed { Follows (shape_at running.now) (parts_at running.now frame.now made.old.path.items 0 (rules_of (map rule_of parts.now))) made.old made.new result }
 {
     for i in 0..parts.len() {
-        form_part(alloc, running, frame, &parts[i], i as u64, made)?;
+        form_part(alloc, regions, running, frame, &parts[i], i as u64, made)?;
     }
     Ok(())
 }
 
-/// Forms the body for each value of an interval of a universe for which the condition holds. A value's number is its position.
+/// Forms the body for each value of an interval of a universe for which the condition holds. A
+/// value's number is its position.
 #[cycle(form)]
 #[inline(never)]
-pub(crate) fn form_span<'e, P: Picks>(
+pub(crate) fn form_span<'e, P: Picks, G: Regions<P>>(
     alloc: Global,
+    regions: &mut G,
     running: &Running<'_, '_, P>,
     frame: &'e Frame<'e>,
     over: usize,
@@ -250,8 +299,10 @@ pub(crate) fn form_span<'e, P: Picks>(
     requires sound_test { IsSoundTest (shape_at running.now) (option_map code_of test.now) }
     requires sound { IsSoundRule (shape_at running.now) (rule_of body.now) }
     requires framed { IsSoundFrame (shape_at running.now) frame.now }
+    requires ready { G.is_ready regions.old }
     requires fits { Fits running.now made.old }
-    ensures { Follows (shape_at running.now) (span_at running.now frame.now made.old.path.items over (option_map code_of test.now) (rule_of body.now) from to) made.old made.new result }
+    ensures ready { G.is_ready regions.new }
+    ensures formed { Follows (shape_at running.now) (span_at running.now frame.now made.old.path.items over (option_map code_of test.now) (rule_of body.now) from to) made.old made.new result }
 {
     let universe = running.view.signature.universe(over);
     for i in from..to {
@@ -261,7 +312,7 @@ pub(crate) fn form_span<'e, P: Picks>(
         };
         if passes(running.view, &bound, test) {
             made.instances = made.instances.saturating_add(1);
-            form_part(alloc, running, &bound, body, i as u64, made)?;
+            form_part(alloc, regions, running, &bound, body, i as u64, made)?;
         }
     }
     Ok(())
@@ -270,8 +321,9 @@ pub(crate) fn form_span<'e, P: Picks>(
 /// Forms the parts that stand one after the other, up to the first whose set is faulty.
 #[cycle(form)]
 #[inline(never)]
-fn form_in_order<'e, P: Picks>(
+fn form_in_order<'e, P: Picks, G: Regions<P>>(
     alloc: Global,
+    regions: &mut G,
     running: &Running<'_, '_, P>,
     frame: &'e Frame<'e>,
     parts: &'e [RuleCode],
@@ -279,8 +331,10 @@ fn form_in_order<'e, P: Picks>(
 ) -> Result<(), Stopped>
     requires sound { AreSoundRules (shape_at running.now) (rules_of (map rule_of parts.now)) }
     requires framed { IsSoundFrame (shape_at running.now) frame.now }
+    requires ready { G.is_ready regions.old }
     requires fits { Fits running.now made.old }
-    ensures { Follows (shape_at running.now) (in_order_at running.now frame.now made.old.path.items (rules_of (map rule_of parts.now))) made.old made.new result }
+    ensures ready { G.is_ready regions.new }
+    ensures formed { Follows (shape_at running.now) (in_order_at running.now frame.now made.old.path.items (rules_of (map rule_of parts.now))) made.old made.new result }
 {
     let signature = running.view.signature;
     let before = set_aside(alloc, &mut made.set);
@@ -288,6 +342,7 @@ fn form_in_order<'e, P: Picks>(
     for i in 0..parts.len() {
         form_next(
             alloc,
+            regions,
             running,
             frame,
             &parts[i],
@@ -305,8 +360,9 @@ fn form_in_order<'e, P: Picks>(
 /// Forms turns of the body one after the other, up to the first whose set is empty or faulty.
 #[cycle(form)]
 #[inline(never)]
-fn form_turns<'e, P: Picks>(
+fn form_turns<'e, P: Picks, G: Regions<P>>(
     alloc: Global,
+    regions: &mut G,
     running: &Running<'_, '_, P>,
     frame: &'e Frame<'e>,
     body: &'e RuleCode,
@@ -314,8 +370,10 @@ fn form_turns<'e, P: Picks>(
 ) -> Result<(), Stopped>
     requires sound { IsSoundRule (shape_at running.now) (rule_of body.now) }
     requires framed { IsSoundFrame (shape_at running.now) frame.now }
+    requires ready { G.is_ready regions.old }
     requires fits { Fits running.now made.old }
-    ensures { Follows (shape_at running.now) (rule_at running.now frame.now made.old.path.items (tree.Iterate (rule_of body.now))) made.old made.new result }
+    ensures ready { G.is_ready regions.new }
+    ensures formed { Follows (shape_at running.now) (rule_at running.now frame.now made.old.path.items (tree.Iterate (rule_of body.now))) made.old made.new result }
 {
     let signature = running.view.signature;
     let before = set_aside(alloc, &mut made.set);
@@ -323,6 +381,7 @@ fn form_turns<'e, P: Picks>(
     for turn in 0..running.turns {
         form_next(
             alloc,
+            regions,
             running,
             frame,
             body,
@@ -337,12 +396,13 @@ fn form_turns<'e, P: Picks>(
     Err(Stopped::Exhausted)
 }
 
-/// Forms the part with this number in the state in which the set so far has been fired, in place of what was formed before, and goes on
-/// with it.
+/// Forms the part with this number in the state in which the set so far has been fired, in place of
+/// what was formed before, and goes on with it.
 #[cycle(form)]
 #[inline(always)]
-fn form_next<'e, P: Picks>(
+fn form_next<'e, P: Picks, G: Regions<P>>(
     alloc: Global,
+    regions: &mut G,
     running: &Running<'_, '_, P>,
     frame: &'e Frame<'e>,
     rule: &'e RuleCode,
@@ -352,9 +412,11 @@ fn form_next<'e, P: Picks>(
 ) -> Result<(), Stopped>
     requires sound { IsSoundRule (shape_at running.now) (rule_of rule.now) }
     requires framed { IsSoundFrame (shape_at running.now) frame.now }
+    requires ready { G.is_ready regions.old }
     requires fits { Fits running.now made.old }
     requires so_far { so_far.old.count ≡ count_of (shape_at running.now) }
-    ensures { FollowsUpon (shape_at running.now) (λ U. rule_upon running.now U frame.now (yields.at made.old.path.items number) (rule_of rule.now)) so_far.old so_far.new made.old made.new result }
+    ensures ready { G.is_ready regions.new }
+    ensures formed { FollowsUpon (shape_at running.now) (λ U. rule_upon running.now U frame.now (yields.at made.old.path.items number) (rule_of rule.now)) so_far.old so_far.new made.old made.new result }
 {
     made.set.clear();
     let view = View::upon(running.view, so_far);
@@ -363,7 +425,7 @@ fn form_next<'e, P: Picks>(
         choices: running.choices,
         turns: running.turns,
     };
-    form_part(alloc, &inner, frame, rule, number, made)?;
+    form_part(alloc, regions, &inner, frame, rule, number, made)?;
     furnish(&mut made.spare, so_far);
     so_far.then(&made.set)?;
     Ok(())

@@ -16,8 +16,8 @@ pub enum Frame<'a> {
     Values {
         values: &'a [Word],
     },
-    /// In the body of a rule: the location that `result` stands for, where the call has a target, and behind it the codes of the
-    /// call's arguments, which belong to the frame of the call.
+    /// In the body of a rule: the location that `result` stands for, where the call has a target,
+    /// and behind it the codes of the call's arguments, which belong to the frame of the call.
     Terms {
         answer: Option<usize>,
         codes: &'a [Code],

@@ -1,13 +1,17 @@
-//! Codes of functions: of a controlled one with few arguments by the number of its first location.
+//! Codes of functions, and their locations: of a controlled one with few arguments by the number of
+//! its first location.
 ghost use Rattle.std.specs.Prelude.{◌≡◌, ◌<◌, [], ◌∷◌, length, map, true, IfOk, IfSome};
+ghost use Rattle.asm_state.specs.declared.function.FunctionKind.TheVariants.{Controlled};
 ghost use Rattle.asm_state.specs.Fits.{Fits};
-ghost use Rattle.asm_state.specs.Signature.{functions_of};
+ghost use Rattle.asm_state.specs.Signature.{HasKind, functions_of};
 ghost use Rattle.asm_code.specs.CodeTree as tree;
 ghost use Rattle.asm_code.specs.CodeViews.{code_of, codes_of};
-ghost use Rattle.asm_code.specs.FunctionCodes.{HasDomain, IsRead};
+ghost use Rattle.asm_code.specs.FunctionCodes.{HasDomain, IsGridOf, IsLocated, IsRead, IsRowOf};
+ghost use Rattle.asm_code.specs.RuleViews.{place_of};
 ghost use Rattle.asm_code.specs.Spans.{IsSpan};
 
 use crate::code::{Code, Grid, Span};
+use crate::rule_code::Place;
 use asm_state::function::FunctionKind;
 use asm_state::signature::Signature;
 use asm_state::universe::Universe;
@@ -43,10 +47,10 @@ pub(crate) fn make_row(
     requires known { f < functions_of signature.now }
     ensures { IfOk result (λ t. IsRead signature.now f (tree.code_then (code_of argument) tree.no_codes) (code_of t)) }
 {
-    if let Some(universe) = row_universe(signature, f) {
+    if let Some((first, over)) = row_of(signature, f) {
         return Ok(Code::Row {
-            first: signature.first(f),
-            over: span_of(signature.universe(universe)),
+            first,
+            over,
             argument: Box::new(alloc, argument)?,
         });
     }
@@ -70,13 +74,9 @@ pub(crate) fn make_grid(
     requires known { f < functions_of signature.now }
     ensures { IfOk result (λ t. IsRead signature.now f (tree.code_then (code_of row) (tree.code_then (code_of column) tree.no_codes)) (code_of t)) }
 {
-    if let Some((rows, columns)) = grid_universes(signature, f) {
+    if let Some(place) = grid_of(signature, f) {
         return Ok(Code::Grid {
-            place: Grid {
-                first: signature.first(f),
-                rows: span_of(signature.universe(rows)),
-                columns: span_of(signature.universe(columns)),
-            },
+            place,
             row: Box::new(alloc, row)?,
             column: Box::new(alloc, column)?,
         });
@@ -103,6 +103,101 @@ pub(crate) fn make_held(signature: &Signature, f: usize, arguments: Vec<Code>) -
         };
     }
     Code::Constant(Word::undef())
+}
+
+/// The location of a controlled function without arguments.
+pub(crate) fn cell_place(alloc: Global, signature: &Signature, f: usize) -> Place
+    requires fits { Fits signature.now }
+    requires kind { HasKind Controlled signature.now f }
+    ensures { IsLocated signature.now f tree.no_codes (place_of result) }
+{
+    if is_single(signature, f) {
+        return Place::Cell(signature.first(f));
+    }
+    Place::Held {
+        function: f,
+        arguments: Vec::new(alloc),
+    }
+}
+
+/// The location of a controlled function with one argument.
+pub(crate) fn row_place(
+    alloc: Global,
+    signature: &Signature,
+    f: usize,
+    argument: Code,
+) -> Result<Place, AllocError>
+    requires fits { Fits signature.now }
+    requires kind { HasKind Controlled signature.now f }
+    ensures { IfOk result (λ to. IsLocated signature.now f (tree.code_then (code_of argument) tree.no_codes) (place_of to)) }
+{
+    if let Some((first, over)) = row_of(signature, f) {
+        return Ok(Place::Row {
+            first,
+            over,
+            argument: Box::new(alloc, argument)?,
+        });
+    }
+    let mut arguments = Vec::with_capacity(alloc, 1)?;
+    arguments.push(argument)?;
+    Ok(Place::Held {
+        function: f,
+        arguments,
+    })
+}
+
+/// The location of a controlled function with two arguments.
+pub(crate) fn grid_place(
+    alloc: Global,
+    signature: &Signature,
+    f: usize,
+    row: Code,
+    column: Code,
+) -> Result<Place, AllocError>
+    requires fits { Fits signature.now }
+    requires kind { HasKind Controlled signature.now f }
+    ensures { IfOk result (λ to. IsLocated signature.now f (tree.code_then (code_of row) (tree.code_then (code_of column) tree.no_codes)) (place_of to)) }
+{
+    if let Some(place) = grid_of(signature, f) {
+        return Ok(Place::Grid {
+            place,
+            row: Box::new(alloc, row)?,
+            column: Box::new(alloc, column)?,
+        });
+    }
+    let mut arguments = Vec::with_capacity(alloc, 2)?;
+    arguments.push(row)?;
+    arguments.push(column)?;
+    Ok(Place::Held {
+        function: f,
+        arguments,
+    })
+}
+
+/// The number of the first location of a controlled function with one argument, and the codes of
+/// the argument's values.
+fn row_of(signature: &Signature, f: usize) -> Option<(usize, Span)>
+    requires fits { Fits signature.now }
+    requires known { f < functions_of signature.now }
+    ensures { IfSome result (λ r. IsRowOf signature.now f r.0 r.1) }
+{
+    let universe = row_universe(signature, f)?;
+    let over = span_of(signature.universe(universe));
+    Some((signature.first(f), over))
+}
+
+/// The same of two arguments.
+fn grid_of(signature: &Signature, f: usize) -> Option<Grid>
+    requires fits { Fits signature.now }
+    requires known { f < functions_of signature.now }
+    ensures { IfSome result (λ at. IsGridOf signature.now f at) }
+{
+    let (rows, columns) = grid_universes(signature, f)?;
+    Some(Grid {
+        first: signature.first(f),
+        rows: span_of(signature.universe(rows)),
+        columns: span_of(signature.universe(columns)),
+    })
 }
 
 /// The codes of a universe's values, which follow each other.

@@ -1,5 +1,7 @@
-//! Values that need no frame: of locations, of functions and of universes.
-ghost use Rattle.std.specs.Prelude.{◌≡◌, ◌<◌, ◌*◌, ◌||◌, slice_get};
+//! What needs no frame: values of locations and of functions, and numbers of locations.
+ghost use Rattle.std.specs.Prelude.{◌≡◌, ◌≤◌, ◌<◌, ◌+◌, ◌*◌, ◌||◌, slice_get};
+ghost use Rattle.asm_state.specs.declared.limits.TheConstants.{LOCATIONS};
+ghost use Rattle.asm_state.specs.FirstLocations.{position_in_grid};
 ghost use Rattle.asm_state.specs.Signature.{count_of, functions_of};
 ghost use Rattle.asm_meaning.specs.Declarations.{function_at};
 ghost use Rattle.asm_meaning.specs.Valued.{shown, held};
@@ -7,6 +9,7 @@ ghost use Rattle.asm_meaning.specs.Value as spec;
 ghost use Rattle.asm_code.specs.Ands as conditions;
 ghost use Rattle.asm_code.specs.Readings as reading;
 ghost use Rattle.asm_code.specs.Readings.{place_in, content};
+ghost use Rattle.asm_code.specs.RuleMeaning.{number_from};
 ghost use Rattle.asm_code.specs.Sound.{IsCell, AreCells};
 
 use crate::code::{Grid, Span};
@@ -103,6 +106,31 @@ pub(crate) fn in_grid(view: &View, place: &Grid, row: Word, column: Word) -> Wor
     match (position(place.rows, row), position(place.columns, column)) {
         (Some(i), Some(j)) => cell(view, place.first + (i * place.columns.count + j)),
         _ => Word::undef(),
+    }
+}
+
+/// The number of the location at the position of an argument, from the first one of a function on:
+/// that of the stray one where the argument has no position.
+#[inline(always)]
+pub(crate) fn number_in_row(first: usize, over: Span, argument: Word) -> usize
+    requires { first + over.count ≤ LOCATIONS }
+    ensures { result ≡ number_from first over.count (place_in over.low over.count argument) }
+{
+    match position(over, argument) {
+        None => first + over.count,
+        Some(i) => first + i,
+    }
+}
+
+/// The same at the positions of two arguments.
+#[inline(always)]
+pub(crate) fn number_in_grid(place: &Grid, row: Word, column: Word) -> usize
+    requires { place.now.first + place.now.rows.count * place.now.columns.count ≤ LOCATIONS }
+    ensures { result ≡ number_from place.now.first (place.now.rows.count * place.now.columns.count) (position_in_grid (place_in place.now.rows.low place.now.rows.count row) place.now.columns.count (place_in place.now.columns.low place.now.columns.count column)) }
+{
+    match (position(place.rows, row), position(place.columns, column)) {
+        (Some(i), Some(j)) => place.first + (i * place.columns.count + j),
+        _ => place.first + place.rows.count * place.columns.count,
     }
 }
 

@@ -13,6 +13,7 @@ ghost use Rattle.asm_code.specs.Readings.{reading};
 ghost use Rattle.asm_code.specs.Sound.{IsSound};
 
 use crate::code::Code;
+use crate::modulus::Modulus;
 use asm_state::number::Number;
 use asm_state::operation::Op;
 use asm_state::value::Value;
@@ -70,11 +71,11 @@ fn make_remainder(alloc: Global, left: Code, over: Number) -> Result<Code, Alloc
         Code::Plus { left, right } => Ok(Code::PlusModulo {
             left,
             by: right,
-            over,
+            over: Modulus::of(over),
         }),
         left => Ok(Code::Modulo {
             left: Box::new(alloc, left)?,
-            right: over,
+            right: Modulus::of(over),
         }),
     }
 }

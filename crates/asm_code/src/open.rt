@@ -1,14 +1,17 @@
 //! Opening pieces of resolved rules.
-ghost use Rattle.std.specs.Prelude.{◌≡◌, ◌<◌, ◌≤◌, ℕ, false, map, option_map, IfOk};
+ghost use Rattle.std.specs.Prelude.{◌≡◌, ◌-◌, ◌<◌, ◌≤◌, Some, map, option_map, IfOk};
+ghost use Rattle.asm_meaning.specs.Intervals.{between};
 ghost use Rattle.asm_meaning.specs.Yields as yields;
 ghost use Rattle.asm_meaning.specs.declared.part.Part.TheVariants as part;
 ghost use Rattle.asm_code.specs.CodeViews.{code_of};
-ghost use Rattle.asm_code.specs.Frames.{IsSoundFrame};
-ghost use Rattle.asm_code.specs.OpenedPieces.{Opens, OpensTo, is_closed};
-ghost use Rattle.asm_code.specs.Pieces.{IsInterval, IsPartOf, IsPiece, part_yields};
+ghost use Rattle.asm_code.specs.Frames.{IsSoundFrame, readings_of};
+ghost use Rattle.asm_code.specs.OpenedPieces.{Opens, OpensTo};
+ghost use Rattle.asm_code.specs.Opening.{body_works, counted_works, one_work, part_opened, part_works, rule_works};
+ghost use Rattle.asm_code.specs.Pieces.{IsInterval, IsPartOf, IsPiece};
+ghost use Rattle.asm_code.specs.Readings.{universe_at};
 ghost use Rattle.asm_code.specs.RuleMeaning.{AreSoundRules, IsSoundRule, IsSoundTest};
 ghost use Rattle.asm_code.specs.RuleViews.{rule_of, rules_of};
-ghost use Rattle.asm_code.specs.Running.{parts_at, rule_at, shape_at, span_at};
+ghost use Rattle.asm_code.specs.Running.{chosen_at, places_of, shape_at, state_at};
 ghost use Rattle.asm_code.specs.Sound.{IsUniverseNumber};
 
 use crate::choose::{chosen, passes};
@@ -35,9 +38,11 @@ pub enum Opened<'a> {
     Closed,
 }
 
-/// The pieces that a piece is made of, in order; they borrow from it. A span longer than the cut gives spans, and each other part its one
-/// step of evaluation: a `par` its parts, a `forall` the bodies for the elements whose condition holds, an `if`, `let`, `choose` or call
-/// the one rule beneath it. A `skip`, an assignment, a `seq` and an `iterate` are closed.
+/// The pieces that a piece is made of, in order; they borrow from it. A span longer than the cut
+/// gives spans, each of which but the last has as many positions as the cut. Each other part gives
+/// its one step of evaluation: a `par` its parts, a `forall` the bodies for the elements whose
+/// condition holds, an `if`, `let`, `choose` or call the one rule beneath it. A `skip`, an
+/// assignment, a `seq` and an `iterate` are closed.
 pub fn open_piece<'a, P: Picks>(
     alloc: Global,
     running: &Running<'_, '_, P>,
@@ -64,8 +69,9 @@ fn open_rule<'a, P: Picks>(
     requires cut { 0 < cut }
     requires sound { IsSoundRule (shape_at running.now) (rule_of piece.now.rule.now) }
     requires framed { IsSoundFrame (shape_at running.now) piece.now.frame }
-    ensures { let R = rule_of piece.now.rule.now in
-        IfOk result (OpensTo running.now cut (is_closed R) (rule_at running.now piece.now.frame piece.now.path R)) }
+    ensures { let f = piece.now.frame in
+        let works = rule_works (shape_at running.now) (state_at running.now) (chosen_at running.now) cut (rule_of piece.now.rule.now) (readings_of (shape_at running.now) f) (places_of (shape_at running.now) f) piece.now.path in
+        IfOk result (OpensTo running.now works) }
 {
     let path = piece.path.as_slice();
     match piece.rule {
@@ -153,7 +159,8 @@ fn open_one<'a, P: Picks>(
 ) -> Result<Opened<'a>, AllocError>
     requires sound { IsSoundRule (shape_at running.now) (rule_of rule.now) }
     requires framed { IsSoundFrame (shape_at running.now) frame }
-    ensures { (cut : ℕ) → IfOk result (OpensTo running.now cut false (rule_at running.now frame.entry (yields.at path.now number) (rule_of rule.now))) }
+    ensures { let shape = shape_at running.now in
+        IfOk result (OpensTo running.now (one_work (rule_of rule.now) (readings_of shape frame.entry) (places_of shape frame.entry) path.now number)) }
 {
     let path = path_below(alloc, path, number)?;
     let mut pieces = Vec::new(alloc);
@@ -179,7 +186,8 @@ fn open_parts<'a, P: Picks>(
 ) -> Result<Opened<'a>, AllocError>
     requires sound { AreSoundRules (shape_at running.now) (rules_of (map rule_of parts.now)) }
     requires framed { IsSoundFrame (shape_at running.now) frame.now }
-    ensures { (cut : ℕ) → IfOk result (OpensTo running.now cut false (parts_at running.now frame.now path.now 0 (rules_of (map rule_of parts.now)))) }
+    ensures { let shape = shape_at running.now in
+        IfOk result (OpensTo running.now (Some (part_works 0 (rules_of (map rule_of parts.now)) (readings_of shape frame.now) (places_of shape frame.now) path.now, 0))) }
 {
     let mut pieces = Vec::with_capacity(alloc, parts.len())?;
     for i in 0..parts.len() {
@@ -210,8 +218,9 @@ fn open_span<'a, P: Picks>(
     requires sound { IsSoundRule (shape_at running.now) (rule_of piece.now.rule.now) }
     requires framed { IsSoundFrame (shape_at running.now) piece.now.frame }
     requires part { IsPartOf (shape_at running.now) (rule_of piece.now.rule.now) (part.Span from to) }
-    ensures { let o = part_yields running.now piece.now.frame piece.now.path (rule_of piece.now.rule.now) (part.Span from to) in
-        IfOk result (OpensTo running.now cut false o) }
+    ensures { let f = piece.now.frame in
+        let works = part_opened (shape_at running.now) (state_at running.now) (chosen_at running.now) cut (rule_of piece.now.rule.now) (readings_of (shape_at running.now) f) (places_of (shape_at running.now) f) piece.now.path (part.Span from to) in
+        IfOk result (OpensTo running.now works) }
 {
     match piece.rule {
         RuleCode::Forall { over, test, body } => {
@@ -245,11 +254,13 @@ fn open_spans<'a, P: Picks>(
 ) -> Result<Opened<'a>, AllocError>
     requires cut { 0 < cut }
     requires rises { from ≤ to }
+    requires long { cut < to - from }
     requires sound { IsSoundRule (shape_at running.now) (rule_of piece.now.rule.now) }
     requires framed { IsSoundFrame (shape_at running.now) piece.now.frame }
     requires part { IsPartOf (shape_at running.now) (rule_of piece.now.rule.now) (part.Span from to) }
-    ensures { let o = part_yields running.now piece.now.frame piece.now.path (rule_of piece.now.rule.now) (part.Span from to) in
-        IfOk result (OpensTo running.now cut false o) }
+    ensures { let f = piece.now.frame in
+        let works = part_opened (shape_at running.now) (state_at running.now) (chosen_at running.now) cut (rule_of piece.now.rule.now) (readings_of (shape_at running.now) f) (places_of (shape_at running.now) f) piece.now.path (part.Span from to) in
+        IfOk result (OpensTo running.now works) }
 {
     let mut pieces = Vec::with_capacity(alloc, (to - from).div_ceil(cut))?;
     let mut next = from;
@@ -273,7 +284,8 @@ fn open_spans<'a, P: Picks>(
     })
 }
 
-/// The bodies for the values at an interval of positions for which the condition holds. Each is counted.
+/// The bodies for the values at an interval of positions for which the condition holds. Each is
+/// counted.
 fn open_bodies<'a, P: Picks>(
     alloc: Global,
     running: &Running<'_, '_, P>,
@@ -290,8 +302,9 @@ fn open_bodies<'a, P: Picks>(
     requires sound_test { IsSoundTest (shape_at running.now) (option_map code_of test.now) }
     requires sound { IsSoundRule (shape_at running.now) (rule_of body.now) }
     requires framed { IsSoundFrame (shape_at running.now) frame.now }
-    ensures { let o = span_at running.now frame.now path.now over (option_map code_of test.now) (rule_of body.now) from to in
-        (cut : ℕ) → IfOk result (OpensTo running.now cut false o) }
+    ensures { let shape = shape_at running.now in
+        let works = body_works shape (state_at running.now) (option_map code_of test.now) (rule_of body.now) (readings_of shape frame.now) (places_of shape frame.now) path.now from (between from to (universe_at shape over)) in
+        IfOk result (OpensTo running.now (counted_works works)) }
 {
     let mut pieces = Vec::new(alloc);
     let mut instances = 0;
@@ -302,11 +315,11 @@ fn open_bodies<'a, P: Picks>(
             outer: frame,
         };
         if passes(running.view, &bound, test) {
-            let path = path_below(alloc, path, i as u64)?;
+            let below = path_below(alloc, path, i as u64)?;
             pieces.push(Piece {
                 rule: body,
                 frame: bound,
-                path,
+                path: below,
                 part: Part::Whole,
             })?;
             instances += 1;

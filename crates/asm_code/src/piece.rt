@@ -1,6 +1,6 @@
 //! Pieces of resolved rules, evaluated whole.
-ghost use Rattle.std.specs.Prelude.{◌≡◌, OnOk, IfErr};
-ghost use Rattle.asm_meaning.specs.Formed.{Follows, Forms, IsStoppedAt};
+ghost use Rattle.std.specs.Prelude.{◌≡◌, OnOk, IfOk, IfErr};
+ghost use Rattle.asm_meaning.specs.Formed.{Follows, Forms, IsFormed, IsStoppedAt};
 ghost use Rattle.asm_meaning.specs.declared.part.Part.TheVariants as part;
 ghost use Rattle.asm_code.specs.Frames.{IsSoundFrame};
 ghost use Rattle.asm_code.specs.Pieces.{IsPartOf, IsPiece, part_yields, piece_yields};
@@ -10,14 +10,16 @@ ghost use Rattle.asm_code.specs.Running.{Fits, shape_at};
 
 use crate::form::{form, form_span};
 use crate::frame::Frame;
+use crate::regions::Plain;
 use crate::rule_code::RuleCode;
 use crate::running::Running;
-use asm_meaning::{Forming, Part, Path, Stopped};
+use asm_meaning::from_nothing::{nothing_formed, outcome_of};
+use asm_meaning::{Forming, Outcome, Part, Path, Stopped};
 use asm_reader::Picks;
-use std::alloc::Global;
+use std::alloc::{AllocError, Global};
 
-/// A part of a region's work. The innermost frame is its own; the frames around it are those of the pieces from which it was opened, which
-/// it borrows.
+/// A part of a region's work. The innermost frame is its own; the frames around it are those of the
+/// pieces from which it was opened, which it borrows.
 #[derive(Drop)]
 pub struct Piece<'a> {
     pub rule: &'a RuleCode,
@@ -27,9 +29,24 @@ pub struct Piece<'a> {
     pub part: Part,
 }
 
-/// Forms what a piece yields, at the piece's own path: wherever the forming stood, it goes there first. The updates come to those formed
-/// before, and the instances are counted. Where the piece is exhausted, the forming stands at the path of the `iterate` that made its last
-/// turn. Where it stopped, the set may have some of the updates.
+/// What a piece yields, all of it on this thread.
+pub fn whole_piece<P: Picks>(
+    alloc: Global,
+    running: &Running<'_, '_, P>,
+    piece: &Piece<'_>,
+) -> Result<Outcome, AllocError>
+    requires { IsPiece (shape_at running.now) piece.now }
+    ensures { IfOk result (IsFormed (shape_at running.now) (piece_yields running.now piece.now)) }
+{
+    let mut made = nothing_formed(alloc, running.view.signature, &[])?;
+    let formed = form_piece(alloc, running, piece, &mut made);
+    outcome_of(made, formed)
+}
+
+/// Forms what a piece yields, at the piece's own path: wherever the forming stood, it goes there
+/// first. The updates come to those formed before, and the instances are counted. Where the piece
+/// is exhausted, the forming stands at the path of the `iterate` that made its last turn. Where it
+/// stopped, the set may have some of the updates.
 pub fn form_piece<P: Picks>(
     alloc: Global,
     running: &Running<'_, '_, P>,
@@ -63,7 +80,7 @@ fn form_part_of<'e, P: Picks>(
     ensures { Follows (shape_at running.now) (part_yields running.now frame.now made.old.path.items (rule_of rule.now) part) made.old made.new result }
 {
     match part {
-        Part::Whole => form(alloc, running, frame, rule, made),
+        Part::Whole => form(alloc, &mut Plain, running, frame, rule, made),
         Part::Span { from, to } => form_elements(alloc, running, frame, rule, from, to, made),
     }
 }
@@ -87,5 +104,7 @@ fn form_elements<'e, P: Picks>(
     let RuleCode::Forall { over, test, body } = rule else {
         unreachable!();
     };
-    form_span(alloc, running, frame, *over, test, from, to, body, made)
+    form_span(
+        alloc, &mut Plain, running, frame, *over, test, from, to, body, made,
+    )
 }

@@ -1,17 +1,21 @@
 //! The numbers of locations that are updated.
-ghost use Rattle.std.specs.Prelude.{◌≡◌, ◌<◌, None, map, option_map, slice_index_or, IfOk, IfSome};
+ghost use Rattle.std.specs.Prelude.{◌≡◌, ◌<◌, ◌+◌, ◌*◌, None, Some, map, option_map, slice_index_or, IfOk, IfSome};
 ghost use Rattle.asm_state.specs.declared.function.FunctionKind.TheVariants.{Controlled};
 ghost use Rattle.asm_state.specs.Signature.{Shape, HasKind, count_of, domain_of, location_at};
 ghost use Rattle.asm_state.specs.Tables.{location_in};
+ghost use Rattle.asm_code.specs.CodeViews.{code_of};
 ghost use Rattle.asm_code.specs.Frames.{AllSound, IsSoundFrame, code_value};
 ghost use Rattle.asm_code.specs.RuleMeaning.{IsSoundAnswer, IsSoundPlace};
+ghost use Rattle.asm_code.specs.RuleTree as tree;
 ghost use Rattle.asm_code.specs.RuleViews.{place_of};
 ghost use Rattle.asm_code.specs.Running.{answer_in, location_numbered, place_in, places_of};
+ghost use Rattle.asm_code.specs.Sound.{IsLocationNumber, IsSound};
 
-use crate::code::Code;
+use crate::code::{Code, Grid, Span};
 use crate::frame::Frame;
+use crate::held::{number_in_grid, number_in_row};
 use crate::rule_code::Place;
-use crate::value::value;
+use crate::value::{operand, value};
 use asm_meaning::View;
 use asm_state::word::Word;
 use std::alloc::{AllocError, Global};
@@ -51,6 +55,15 @@ pub(crate) fn place_number<'e>(
 {
     match place {
         Place::Answer(position) => Ok(answer_at(frame, *position)),
+        Place::Cell(n) => Ok(Some(*n)),
+        Place::Row {
+            first,
+            over,
+            argument,
+        } => Ok(Some(row_number(view, frame, *first, *over, argument))),
+        Place::Grid { place, row, column } => {
+            Ok(Some(grid_number(view, frame, place, row, column)))
+        }
         Place::Held {
             function,
             arguments,
@@ -84,7 +97,48 @@ fn answer_at<'e>(frame: &'e Frame<'e>, position: usize) -> Option<usize>
     }
 }
 
-/// The number of the location of a controlled function with these arguments: the stray one where they are outside its domain.
+/// The number of a location by one argument.
+#[inline(never)]
+fn row_number<'e>(
+    view: &View,
+    frame: &'e Frame<'e>,
+    first: usize,
+    over: Span,
+    argument: &'e Code,
+) -> usize
+    requires last { IsLocationNumber view.now.signature.now (first + over.count) }
+    requires sound { IsSound view.now.signature.now (code_of argument.now) }
+    requires framed { IsSoundFrame view.now.signature.now frame.now }
+    ensures in_range { result < count_of view.now.signature.now }
+    ensures location { Some (location_at view.now.signature.now result) ≡ place_in view.now frame.now (tree.Row first over.low over.count (code_of argument.now)) }
+{
+    let argument = operand(view, frame, argument);
+    number_in_row(first, over, argument)
+}
+
+/// The number of a location by two arguments.
+#[inline(never)]
+fn grid_number<'e>(
+    view: &View,
+    frame: &'e Frame<'e>,
+    place: &'e Grid,
+    row: &'e Code,
+    column: &'e Code,
+) -> usize
+    requires last { IsLocationNumber view.now.signature.now (place.now.first + place.now.rows.count * place.now.columns.count) }
+    requires row { IsSound view.now.signature.now (code_of row.now) }
+    requires column { IsSound view.now.signature.now (code_of column.now) }
+    requires framed { IsSoundFrame view.now.signature.now frame.now }
+    ensures in_range { result < count_of view.now.signature.now }
+    ensures location { Some (location_at view.now.signature.now result) ≡ place_in view.now frame.now (tree.Grid place.now.first place.now.rows.low place.now.rows.count place.now.columns.low place.now.columns.count (code_of row.now) (code_of column.now)) }
+{
+    let a = operand(view, frame, row);
+    let b = operand(view, frame, column);
+    number_in_grid(place, a, b)
+}
+
+/// The number of the location of a controlled function with these arguments: the stray one where
+/// they are outside its domain.
 fn location_number<'e>(
     alloc: Global,
     view: &View,

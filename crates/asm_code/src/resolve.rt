@@ -27,7 +27,8 @@ use asm_syntax::term::Term;
 use std::alloc::{AllocError, Global};
 use std::sync::Arc;
 
-/// The code of a term under the names of the scope. The bodies of the derived functions that it uses are resolved once, and kept.
+/// The code of a term under the names of the scope. The bodies of the derived functions that it
+/// uses are resolved once, and kept.
 #[cycle(resolve)]
 pub fn resolve<'e>(
     alloc: Global,

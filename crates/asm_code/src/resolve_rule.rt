@@ -13,9 +13,12 @@ ghost use Rattle.asm_meaning.specs.Program as declared;
 ghost use Rattle.asm_meaning.specs.Targets.{location_of};
 ghost use Rattle.asm_code.specs.RuleScopes.{AreKnown, IsRuleBody, assign_resolved, call_resolved, choose_resolved, forall_resolved, other_resolved, parts_resolved, place_resolved, rule_resolved, target_resolved, test_resolved, while_resolved};
 ghost use Rattle.asm_code.specs.RuleViews as views;
+ghost use Rattle.asm_code.specs.Scopes.{slots_of};
+ghost use Rattle.asm_code.specs.Slots as slots;
 
 use crate::bodies::{Bodies, RuleBody, keep_rule, known_rule, shared_rule};
 use crate::code::Code;
+use crate::functions::{cell_place, grid_place, row_place};
 use crate::resolve::{resolve, resolve_all, universe_numbered};
 use crate::rule_code::{Place, RuleCode};
 use crate::scope::{Bound, answer_position, parameters, within};
@@ -28,8 +31,8 @@ use asm_syntax::term::Term;
 use std::alloc::{AllocError, Global};
 use std::sync::Arc;
 
-/// The code of a rule under the names of the scope. The bodies of the derived functions and of the rules that it uses are resolved once,
-/// and kept.
+/// The code of a rule under the names of the scope. The bodies of the derived functions and of the
+/// rules that it uses are resolved once, and kept.
 #[cycle(resolve_rule)]
 pub fn resolve_rule<'e>(
     alloc: Global,
@@ -302,7 +305,8 @@ fn number_of_rule(it: Option<Named>) -> Option<usize>
     }
 }
 
-/// The code of the body of the rule with this name and number, where a call binds so many parameters, and has a target or none.
+/// The code of the body of the rule with this name and number, where a call binds so many
+/// parameters, and has a target or none.
 #[cycle(resolve_rule)]
 fn resolve_rule_body<'e>(
     alloc: Global,
@@ -433,11 +437,46 @@ fn resolve_place<'e>(
     let Some(function) = controlled(checked, name) else {
         return Ok(None);
     };
-    let arguments = resolve_all(alloc, checked, &mut known.terms, scope, name, arguments)?;
-    Ok(Some(Place::Held {
-        function,
+    let place = resolve_located(alloc, checked, known, scope, name, function, arguments)?;
+    Ok(Some(place))
+}
+
+/// The location of a controlled function with arguments.
+fn resolve_located<'e>(
+    alloc: Global,
+    checked: &'e Checked,
+    known: &mut Bodies,
+    scope: &'e [Bound<'e>],
+    name: &'e Name,
+    f: usize,
+    arguments: &'e [Term],
+) -> Result<Place, AllocError>
+    requires known { AreKnown (spec_of checked.now.spec) known.old }
+    requires free { slots.answer_position (slots_of scope.now) name.now.text ≡ None }
+    requires stands { declared.declared (program_of (spec_of checked.now.spec)) name.now.text ≡ Some (declared.Controlled f (domain_of (shape_of (spec_of checked.now.spec)) f)) }
+    requires kind { HasKind Controlled (shape_of (spec_of checked.now.spec)) f }
+    ensures resolved { IfOk result (λ to. place_resolved checked.now scope.now name.now.text arguments.now (Some to)) }
+    ensures known { OnOk result (AreKnown (spec_of checked.now.spec) known.new) }
+{
+    let signature = checked.signature();
+    let terms = &mut known.terms;
+    if arguments.is_empty() {
+        return Ok(cell_place(alloc, signature, f));
+    }
+    if arguments.len() == 1 {
+        let argument = resolve(alloc, checked, terms, scope, &arguments[0])?;
+        return row_place(alloc, signature, f, argument);
+    }
+    if arguments.len() == 2 {
+        let row = resolve(alloc, checked, terms, scope, &arguments[0])?;
+        let column = resolve(alloc, checked, terms, scope, &arguments[1])?;
+        return grid_place(alloc, signature, f, row, column);
+    }
+    let arguments = resolve_all(alloc, checked, terms, scope, name, arguments)?;
+    Ok(Place::Held {
+        function: f,
         arguments,
-    }))
+    })
 }
 
 /// The number of the controlled function that the name stands for.

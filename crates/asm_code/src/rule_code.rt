@@ -1,5 +1,5 @@
 //! Resolved rules.
-use crate::code::Code;
+use crate::code::{Code, Grid, Span};
 use std::sync::Arc;
 
 /// What is updated.
@@ -7,14 +7,30 @@ use std::sync::Arc;
 pub enum Place {
     /// The location that the frame has at this position, if it has one there: that of `result`.
     Answer(usize),
-    /// A location of a controlled function.
+    /// The location with this number.
+    Cell(usize),
+    /// A location of a controlled function, by the position of its argument in a universe: the
+    /// stray one where it has no position.
+    Row {
+        first: usize,
+        over: Span,
+        argument: Box<Code>,
+    },
+    /// The same by the positions of two arguments.
+    Grid {
+        place: Grid,
+        row: Box<Code>,
+        column: Box<Code>,
+    },
+    /// The location of any controlled function.
     Held {
         function: usize,
         arguments: Vec<Code>,
     },
 }
 
-/// A rule in which no name is left. A rule that is called stands with its body, which all its calls share.
+/// A rule in which no name is left. A rule that is called stands with its body, which all its calls
+/// share.
 #[derive(Drop)]
 pub enum RuleCode {
     Skip,
@@ -34,7 +50,8 @@ pub enum RuleCode {
         value: Code,
         body: Box<RuleCode>,
     },
-    /// The body for each value of the universe for which the condition holds, in both of which it has position 0.
+    /// The body for each value of the universe for which the condition holds, in both of which it
+    /// has position 0.
     Forall {
         over: usize,
         test: Option<Code>,
@@ -48,8 +65,8 @@ pub enum RuleCode {
         none: Box<RuleCode>,
     },
     Iterate(Box<RuleCode>),
-    /// The body, in which the arguments have positions in their order, by name: from 1 on behind `result` where the call has a
-    /// target, and else from 0 on.
+    /// The body, in which the arguments have positions in their order, by name: from 1 on behind
+    /// `result` where the call has a target, and else from 0 on.
     Call {
         body: Arc<RuleCode>,
         answer: Option<Place>,

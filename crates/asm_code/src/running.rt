@@ -4,7 +4,8 @@ ghost use Rattle.std.specs.Prelude.{◌<◌, ◌^◌};
 use asm_meaning::{Choices, View};
 use asm_reader::Picks;
 
-/// What rules are evaluated against: what a view shows, the choices of a step, and the limit of turns.
+/// What rules are evaluated against: what a view shows, the choices of a step, and the limit of
+/// turns.
 #[derive(Drop)]
 pub struct Running<'a, 'v, P: Picks> {
     pub view: &'a View<'v>,

@@ -20,6 +20,7 @@ use crate::frame::Frame;
 use crate::held::{
     far_cell, function_value, in_grid, in_row, is_false, is_true, is_truth, located,
 };
+use crate::modulus::Modulus;
 use asm_meaning::View;
 use asm_state::number::Number;
 use asm_state::operation::Op;
@@ -30,7 +31,8 @@ const FEW: usize = 4;
 
 /// The value of the code in the state that the view shows and under the frame.
 ///
-/// Nests as deep as codes, codes in frames and derived functions do; a chain of any length is valued in one loop. It takes no memory.
+/// Nests as deep as codes, codes in frames and derived functions do; a chain of any length is
+/// valued in one loop. It takes no memory.
 #[cycle(value)]
 pub fn value<'e>(view: &View, frame: &'e Frame<'e>, code: &'e Code) -> Word
     requires sound { IsSound view.now.signature.now (code_of code.now) }
@@ -139,7 +141,8 @@ fn fails<'e>(view: &View, frame: &'e Frame<'e>, code: &'e Code) -> bool
     }
 }
 
-/// Whether one of two operands has the value true, where both are truth values. The right one is asked for no more than that needs.
+/// Whether one of two operands has the value true, where both are truth values. The right one is
+/// asked for no more than that needs.
 #[cycle(value)]
 #[inline(never)]
 fn either_holds<'e>(view: &View, frame: &'e Frame<'e>, left: &'e Code, right: &'e Code) -> bool
@@ -159,7 +162,8 @@ fn either_holds<'e>(view: &View, frame: &'e Frame<'e>, left: &'e Code, right: &'
     is_truth(other)
 }
 
-/// Whether an operation has the value true. The right operand of `and` is valued where the left one has the value true.
+/// Whether an operation has the value true. The right operand of `and` is valued where the left one
+/// has the value true.
 #[cycle(value)]
 #[inline(never)]
 fn both_hold<'e>(
@@ -228,10 +232,11 @@ fn all_hold<'e>(view: &View, frame: &'e Frame<'e>, first: &'e Code, rest: &'e [(
     true
 }
 
-/// The same value. Constants and locals, which most operands and arguments are, have it without a call, and others with one.
+/// The same value. Constants and locals, which most operands and arguments are, have it without a
+/// call, and others with one.
 #[cycle(value)]
 #[inline(always)]
-fn operand<'e>(view: &View, frame: &'e Frame<'e>, code: &'e Code) -> Word
+pub(crate) fn operand<'e>(view: &View, frame: &'e Frame<'e>, code: &'e Code) -> Word
     requires sound { IsSound view.now.signature.now (code_of code.now) }
     requires framed { IsSoundFrame view.now.signature.now frame.now }
     ensures { result ≡ code_value view.now frame.now code.now }
@@ -280,10 +285,10 @@ fn plus<'e>(view: &View, frame: &'e Frame<'e>, left: &'e Code, right: Number) ->
 /// The value of a remainder by what is known.
 #[cycle(value)]
 #[inline(never)]
-fn modulo<'e>(view: &View, frame: &'e Frame<'e>, left: &'e Code, right: Number) -> Word
+fn modulo<'e>(view: &View, frame: &'e Frame<'e>, left: &'e Code, right: Modulus) -> Word
     requires sound { IsSound view.now.signature.now (code_of left.now) }
     requires framed { IsSoundFrame view.now.signature.now frame.now }
-    ensures { result ≡ tree_value view.now frame.now (tree.With Remainder (code_of left.now) (Whole right)) }
+    ensures { result ≡ tree_value view.now frame.now (tree.With Remainder (code_of left.now) (Whole right.number)) }
 {
     let left = operand(view, frame, left);
     remainder_by(left, right)
@@ -297,11 +302,11 @@ fn plus_modulo<'e>(
     frame: &'e Frame<'e>,
     left: &'e Code,
     by: Number,
-    over: Number,
+    over: Modulus,
 ) -> Word
     requires sound { IsSound view.now.signature.now (code_of left.now) }
     requires framed { IsSoundFrame view.now.signature.now frame.now }
-    ensures { result ≡ tree_value view.now frame.now (tree.With Remainder (tree.With Add (code_of left.now) (Whole by)) (Whole over)) }
+    ensures { result ≡ tree_value view.now frame.now (tree.With Remainder (tree.With Add (code_of left.now) (Whole by)) (Whole over.number)) }
 {
     let left = operand(view, frame, left);
     let sum = added(left, by);
@@ -512,8 +517,8 @@ fn derived_two<'e>(
     value(view, &bound, body)
 }
 
-/// The value of a body under the values of these arguments, and behind them those that are bound. The last one is bound first. Nests as
-/// deep as there are arguments.
+/// The value of a body under the values of these arguments, and behind them those that are bound.
+/// The last one is bound first. Nests as deep as there are arguments.
 #[cycle(value)]
 #[inline(never)]
 fn linked<'e, 'b>(

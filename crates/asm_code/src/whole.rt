@@ -17,6 +17,7 @@ ghost use Rattle.asm_code.specs.Running.{Fits, shape_at, state_at};
 use crate::bodies::Bodies;
 use crate::form::form;
 use crate::frame::Frame;
+use crate::regions::Plain;
 use crate::resolve::resolve;
 use crate::resolve_rule::resolve_rule;
 use crate::rule_code::RuleCode;
@@ -29,7 +30,8 @@ use asm_state::word::Word;
 use asm_syntax::term::Term;
 use std::alloc::{AllocError, Global};
 
-/// The value of a term in which no name is bound, by way of its code: it is the term's value in the state that the view shows.
+/// The value of a term in which no name is bound, by way of its code: it is the term's value in the
+/// state that the view shows.
 pub fn value_by_code(
     alloc: Global,
     checked: &Checked,
@@ -54,8 +56,8 @@ pub fn resolve_main(alloc: Global, checked: &Checked) -> Result<RuleCode, AllocE
     resolve_rule(alloc, checked, &mut known, &[], main)
 }
 
-/// Forms what the rule that a specification starts with yields, by way of its code: it is what the rule does in the state that the view
-/// shows.
+/// Forms what the rule that a specification starts with yields, by way of its code: it is what the
+/// rule does in the state that the view shows.
 pub fn outcome_by_code<P: Picks>(
     alloc: Global,
     checked: &Checked,
@@ -69,5 +71,5 @@ pub fn outcome_by_code<P: Picks>(
         IfOk result (λ formed. Follows (shape_at running.now) o made.old made.new formed) }
 {
     let code = resolve_main(alloc, checked)?;
-    Ok(form(alloc, running, &Frame::Empty, &code, made))
+    Ok(form(alloc, &mut Plain, running, &Frame::Empty, &code, made))
 }

@@ -1,30 +1,35 @@
 use Rattle.std.proofs.Common.{◌≡◌, ℕ, ◌∷◌, ◌⊎◌, inl, inr, Some, None, sym, ap, subst, ◌∙◌, refl, arith, rules}
 use Rattle.std.proofs.lemmas.Bool.{false≢true}
-use Rattle.std.specs.Prelude.{option_map}
+use Rattle.std.specs.Prelude.{Ok, option_map}
+use Rattle.asm_state.specs.Signature.{Shape}
 use Rattle.asm_state.specs.Updates.{IsConsistent, none}
 use Rattle.asm_updates.specs.Entries.{Entries}
 use Rattle.asm_updates.specs.Stands.{Stands}
 use Rattle.asm_state.specs.Words.{value_of_code}
 use Rattle.asm_meaning.specs.Does.{Outcome}
-use Rattle.asm_meaning.specs.Formed.{Forms}
+use Rattle.asm_meaning.specs.Formed.{Follows, Forms}
 use Rattle.asm_meaning.specs.Taken.{taken}
 use Rattle.asm_meaning.specs.Valued.{shown}
+use Rattle.asm_meaning.specs.declared.outcome.Forming.{Forming}
 use Rattle.asm_meaning.specs.Yields.{Path, at, Exhausted}
 use Rattle.asm_meaning.proofs.Following.{following_laws-same as follows_same, following_laws-nothing as follows_nothing, following_laws-both as follows_both, following_laws-counted as follows_counted, following_laws-stopped as follows_stopped, following_laws-forms_same as forms_same}
 use Rattle.asm_meaning.proofs.Sequences.{sequence_laws-begins as begins, sequence_laws-goes_upon as goes_upon, part_laws-no_fault as no_fault_found, part_laws-fault as fault_found, stopping_laws-memory as stopped_for_memory}
 use Rattle.asm_code.specs.CodeViews.{code_of}
-use Rattle.asm_code.specs.Frames.{code_value, readings_of}
+use Rattle.asm_code.specs.Frames.{readings_of}
 use Rattle.asm_reader.specs.declared.picks.Picks.{Ghosts}
 use Rattle.asm_state.specs.declared.value.Value.{Value}
 use Rattle.asm_code.specs.declared.frame.Frame.{Frame}
 use Rattle.asm_code.specs.declared.running.Running.{Running}
 use Rattle.asm_code.specs.declared.rule_code.RuleCode.{RuleCode}
 use Rattle.asm_code.specs.Readings.{always, universe_at}
+use Rattle.asm_code.specs.Regions.{IsTaken}
+use Rattle.asm_code.specs.declared.regions.Region.{Region}
+use Rattle.asm_code.specs.declared.regions.Region.TheVariants as regions
 use Rattle.asm_code.specs.RuleMeaning.{meaning}
 use Rattle.asm_code.specs.RuleTree as tree
 use Rattle.asm_code.specs.RuleViews.{rule_of}
 use Rattle.asm_code.specs.Running.{shape_at, state_at, chosen_at, places_of, rule_at, rule_in, passing_in}
-use Rattle.asm_code.proofs.RuleForms.{skip_yields, assign_yields, par_yields, seq_yields, if_is, if_yes, if_no, if_left_out, let_is, let_with, choose_is, choose_some, choose_none, call_is, call_with, iterate_yields, call_yields, chosen_yields, other_yields, forall_yields, next_yields, none_yields, exhausted_yields, element_yields, passed_yields, exhausted_element_yields, no_element_yields, value_here, size_here, sound_part, size_of_part}
+use Rattle.asm_code.proofs.RuleForms.{skip_yields, assign_yields, par_yields, seq_yields, if_is, if_yes, if_no, if_left_out, let_is, let_with, choose_is, choose_some, choose_none, call_is, call_with, iterate_yields, forall_yields, next_yields, none_yields, exhausted_yields, element_yields, passed_yields, exhausted_element_yields, no_element_yields, value_here, size_here, sound_part, size_of_part}
 use Rattle.asm_code.proofs.CodeSequences.{parts_left, turns_left, part_goes_on, part_ends, part_stops, parts_end, turn_goes_on, turn_ends, turn_stops, turns_stop, iterate_yields_turns}
 use Rattle.asm_code.proofs.form.+form.Goals as goal
 use Rattle.asm_code.proofs.form.+form.Goals.{form_span-then-passes+in_ok-form_part, form_span-else-passes, form_turns-then-is_empty-via-then-is_empty, form_turns-then-is_empty-via-else-is_empty+then-is_some}
@@ -33,86 +38,93 @@ use Rattle.asm_code.proofs.form.+form.Goals.{form_span-then-passes+in_ok-form_pa
 abbrev element_does : {P : Type 0} {picks : Ghosts P} → Running P picks → Frame → Path → ℕ → Value → RuleCode → Outcome
 element_does r f q k v body = meaning (shape_at r) r.turns (chosen_at r) (rule_of body) (always v ∷ readings_of (shape_at r) f) (None ∷ places_of (shape_at r) f) (state_at r) (at q k)
 
-pub form-returns-in-Skip : goal.form-returns-in-Skip
-form-returns-in-Skip g t c =
+-- where a region was left
+nothing_done : (shape : Shape) (o : Outcome) (old new : Forming) (region : Region) → region ≡ regions.Left → IsTaken shape o old new (Ok region) → new ≡ old
+nothing_done shape o old new region is taken = subst (λ it. IsTaken shape o old new (Ok it)) is taken
+
+pub form-returns-in-Skip-clause-formed : goal.form-returns-in-Skip-clause-formed
+form-returns-in-Skip-clause-formed g t c =
     let a = c.args in
     let r = a.running.now in
     let shape = shape_at r in
     follows_nothing shape tt _ a.made.now (skip_yields shape r.turns (chosen_at r) (readings_of shape a.frame.now) (places_of shape a.frame.now) (state_at r) a.made.now.path.items a.rule.now c.in-Skip.is)
 
-pub form-returns-in-Assign : goal.form-returns-in-Assign
-form-returns-in-Assign g t c =
+pub form-returns-in-Assign-clause-formed : goal.form-returns-in-Assign-clause-formed
+form-returns-in-Assign-clause-formed g t c =
     let a = c.args in
     let r = a.running.now in
     let shape = shape_at r in
     follows_same shape c.assign.result _ _ _ _ (assign_yields shape r.turns (chosen_at r) (readings_of shape a.frame.now) (places_of shape a.frame.now) (state_at r) a.made.now.path.items a.rule.now c.in-Assign.place c.in-Assign.value c.in-Assign.is _ _ refl refl) c.assign.ensures
 
-pub form-returns-in-Par : goal.form-returns-in-Par
-form-returns-in-Par g t c =
+pub form-returns-in-Left-clause-formed : goal.form-returns-in-Left-clause-formed
+form-returns-in-Left-clause-formed g t c =
     let a = c.args in
     let r = a.running.now in
     let shape = shape_at r in
+    let left = c.region.new.made in
+    let same = nothing_done shape _ a.made.now left _ c.in-Left.is c.in_ok-region-in-Par.ensures.taken in
+    subst (λ (m : Forming). Follows shape (rule_at r a.frame.now m.path.items (rule_of a.rule.now)) m c.form_all.new.made c.form_all.result) same (
     follows_same shape c.form_all.result _ _ _ _
-    (par_yields shape r.turns (chosen_at r) (readings_of shape a.frame.now) (places_of shape a.frame.now) (state_at r) a.made.now.path.items a.rule.now c.in-Par.parts c.in-Par.is c.as_slice.result.now c.as_slice.ensures.value)
-    c.form_all.ensures
+    (par_yields shape r.turns (chosen_at r) (readings_of shape a.frame.now) (places_of shape a.frame.now) (state_at r) left.path.items a.rule.now c.in-Par.parts c.in-Par.is c.as_slice.result.now c.as_slice.ensures.value)
+    c.form_all.ensures.formed)
 
-pub form-returns-in-Seq : goal.form-returns-in-Seq
-form-returns-in-Seq g t c =
+pub form-returns-in-Seq-clause-formed : goal.form-returns-in-Seq-clause-formed
+form-returns-in-Seq-clause-formed g t c =
     let a = c.args in
     let r = a.running.now in
     let shape = shape_at r in
     follows_same shape c.form_in_order.result _ _ _ _
     (seq_yields shape r.turns (chosen_at r) (readings_of shape a.frame.now) (places_of shape a.frame.now) (state_at r) a.made.now.path.items a.rule.now c.in-Seq.parts c.in-Seq.is c.as_slice-in-Seq.result.now c.as_slice-in-Seq.ensures.value)
-    c.form_in_order.ensures
+    c.form_in_order.ensures.formed
 
-pub form-returns-in-If : goal.form-returns-in-If
-form-returns-in-If g t c =
+pub form-returns-in-If-clause-formed : goal.form-returns-in-If-clause-formed
+form-returns-in-If-clause-formed g t c =
     let a = c.args in
     let r = a.running.now in
     let shape = shape_at r in
     follows_same shape c.form_if.result _ _ _ _
     (if_is shape r.turns (chosen_at r) (readings_of shape a.frame.now) (places_of shape a.frame.now) (state_at r) a.made.now.path.items a.rule.now c.in-If.test c.in-If.yes c.in-If.no c.in-If.is _ c.deref.result.now c.deref-in-If.result.now refl c.deref.ensures c.deref-in-If.ensures)
-    c.form_if.ensures
+    c.form_if.ensures.formed
 
-pub form_if-returns-then-holds : goal.form_if-returns-then-holds
-form_if-returns-then-holds g t c =
+pub form_if-returns-then-holds-clause-formed : goal.form_if-returns-then-holds-clause-formed
+form_if-returns-then-holds-clause-formed g t c =
     let a = c.args in
     let r = a.running.now in
     let shape = shape_at r in
     follows_same shape c.form_part.result _ _ _ _
-    (if_yes shape r.turns (chosen_at r) (readings_of shape a.frame.now) (places_of shape a.frame.now) (state_at r) a.made.now.path.items a.test.now a.yes.now a.no.now (sym c.holds.ensures ∙ c.if-holds.true)) c.form_part.ensures
+    (if_yes shape r.turns (chosen_at r) (readings_of shape a.frame.now) (places_of shape a.frame.now) (state_at r) a.made.now.path.items a.test.now a.yes.now a.no.now (sym c.holds.ensures ∙ c.if-holds.true)) c.form_part.ensures.formed
 
-pub form_if-returns-in-Skip : goal.form_if-returns-in-Skip
-form_if-returns-in-Skip g t c =
+pub form_if-returns-in-Skip-clause-formed : goal.form_if-returns-in-Skip-clause-formed
+form_if-returns-in-Skip-clause-formed g t c =
     let a = c.args in
     let r = a.running.now in
     let shape = shape_at r in
     follows_nothing shape tt _ _ (if_left_out shape r.turns (chosen_at r) (readings_of shape a.frame.now) (places_of shape a.frame.now) (state_at r) a.made.now.path.items a.test.now a.yes.now a.no.now (sym c.holds.ensures ∙ c.if-holds.false) c.in-Skip.is)
 
-pub form_if-returns-in_default : goal.form_if-returns-in_default
-form_if-returns-in_default g t c =
+pub form_if-returns-in_default-clause-formed : goal.form_if-returns-in_default-clause-formed
+form_if-returns-in_default-clause-formed g t c =
     let a = c.args in
     let r = a.running.now in
     let shape = shape_at r in
     follows_same shape c.form_part-in_default.result _ _ _ _
-    (if_no shape r.turns (chosen_at r) (readings_of shape a.frame.now) (places_of shape a.frame.now) (state_at r) a.made.now.path.items a.test.now a.yes.now a.no.now (sym c.holds.ensures ∙ c.if-holds.false)) c.form_part-in_default.ensures
+    (if_no shape r.turns (chosen_at r) (readings_of shape a.frame.now) (places_of shape a.frame.now) (state_at r) a.made.now.path.items a.test.now a.yes.now a.no.now (sym c.holds.ensures ∙ c.if-holds.false)) c.form_part-in_default.ensures.formed
 
-pub form-returns-in-Let : goal.form-returns-in-Let
-form-returns-in-Let g t c =
+pub form-returns-in-Let-clause-formed : goal.form-returns-in-Let-clause-formed
+form-returns-in-Let-clause-formed g t c =
     let a = c.args in
     let r = a.running.now in
     let shape = shape_at r in
     follows_same shape c.form_let.result _ _ _ _
     (let_is shape r.turns (chosen_at r) (readings_of shape a.frame.now) (places_of shape a.frame.now) (state_at r) a.made.now.path.items a.rule.now c.in-Let.value c.in-Let.body c.in-Let.is _ c.deref-in-Let.result.now refl c.deref-in-Let.ensures)
-    c.form_let.ensures
+    c.form_let.ensures.formed
 
-pub form_let-returns : goal.form_let-returns
-form_let-returns g t c =
+pub form_let-returns-clause-formed : goal.form_let-returns-clause-formed
+form_let-returns-clause-formed g t c =
     let a = c.args in
     let r = a.running.now in
     let shape = shape_at r in
     follows_same shape c.form_part.result _ _ _ _
-    (let_with shape r.turns (chosen_at r) (readings_of shape a.frame.now) (places_of shape a.frame.now) (state_at r) a.made.now.path.items a.term.now a.body.now (value_of_code c.kept.result.value) (c.kept.ensures ∙ c.value-value.ensures)) c.form_part.ensures
+    (let_with shape r.turns (chosen_at r) (readings_of shape a.frame.now) (places_of shape a.frame.now) (state_at r) a.made.now.path.items a.term.now a.body.now (value_of_code c.kept.result.value) (c.kept.ensures ∙ c.value-value.ensures)) c.form_part.ensures.formed
 
 pub form_all-form_part-requires : goal.form_all-form_part-requires
 form_all-form_part-requires g t c κs within =
@@ -120,7 +132,7 @@ form_all-form_part-requires g t c κs within =
     let r = a.running.now in
     let shape = shape_at r in
     let small = size_of_part a.parts.now c.loop-i.i c.index-parts-i.result c.loop-i-test.true c.index-parts-i.is in
-    (omega (arith, c.decreases, small), (search rules, (sound_part shape a.parts.now c.loop-i.i c.index-parts-i.result c.loop-i-test.true c.index-parts-i.is c.requires.sound, (c.requires.framed, c.loop-i.invariant.same_count ∙ c.requires.fits))))
+    (omega (arith, c.decreases, small), (search rules, (search rules, (sound_part shape a.parts.now c.loop-i.i c.index-parts-i.result c.loop-i-test.true c.index-parts-i.is c.requires.sound, (c.requires.framed, (c.loop-i.invariant.ready, c.loop-i.invariant.same_count ∙ c.requires.fits))))))
 
 pub form_all-loop-i-preserved : goal.form_all-loop-i-preserved
 form_all-loop-i-preserved g t c =
@@ -129,25 +141,26 @@ form_all-loop-i-preserved g t c =
     let shape = shape_at r in
     let l = c.loop-i in
     record {
-      same_count = c.in_ok-form_part.ensures.count ∙ l.invariant.same_count;
-      same_path = c.in_ok-form_part.ensures.path ∙ l.invariant.same_path;
+      ready = c.in_ok-form_part.ensures.ready;
+      same_count = c.in_ok-form_part.ensures.formed.count ∙ l.invariant.same_count;
+      same_path = c.in_ok-form_part.ensures.formed.path ∙ l.invariant.same_path;
       follows = λ new result rest. l.invariant.follows new result (follows_same shape result _ _ _ _
           (next_yields shape r.turns (chosen_at r) (readings_of shape a.frame.now) (places_of shape a.frame.now) (state_at r) a.made.now.path.items a.parts.now l.i c.index-parts-i.result c.loop-i-test.true c.index-parts-i.is)
           (follows_both shape tt result _ _ _ _ _
-          (follows_same shape _ _ _ _ _ (ap (λ q. rule_at r a.frame.now (at q l.i) (rule_of c.index-parts-i.result)) l.invariant.same_path) c.in_ok-form_part.ensures)
+          (follows_same shape _ _ _ _ _ (ap (λ q. rule_at r a.frame.now (at q l.i) (rule_of c.index-parts-i.result)) l.invariant.same_path) c.in_ok-form_part.ensures.formed)
           rest));
     }
 
-pub form_all-returns : goal.form_all-returns
-form_all-returns g t c =
+pub form_all-returns-clause-formed : goal.form_all-returns-clause-formed
+form_all-returns-clause-formed g t c =
     let a = c.args in
     let r = a.running.now in
     let shape = shape_at r in
     let l = c.loop-i in
     l.invariant.follows _ _ (follows_nothing shape tt _ _ (none_yields shape r.turns (chosen_at r) (readings_of shape a.frame.now) (places_of shape a.frame.now) (state_at r) a.made.now.path.items a.parts.now l.i (omega arith)))
 
-pub form_all-returns-in_err-form_part : goal.form_all-returns-in_err-form_part
-form_all-returns-in_err-form_part g t c =
+pub form_all-returns-in_err-form_part-clause-formed : goal.form_all-returns-in_err-form_part-clause-formed
+form_all-returns-in_err-form_part-clause-formed g t c =
     let a = c.args in
     let r = a.running.now in
     let shape = shape_at r in
@@ -155,7 +168,7 @@ form_all-returns-in_err-form_part g t c =
     l.invariant.follows _ _ (follows_stopped shape c.form_part.result c.from_residual.result c.in_err-form_part.field-0.0 _ _ _ _ _ refl c.in_err-form_part.was c.from_residual.ensures.1
     (λ last ends. exhausted_yields shape r.turns (chosen_at r) (readings_of shape a.frame.now) (places_of shape a.frame.now) (state_at r) a.made.now.path.items a.parts.now l.i c.index-parts-i.result last c.loop-i-test.true c.index-parts-i.is
     (sym (ap (λ q. (rule_at r a.frame.now (at q l.i) (rule_of c.index-parts-i.result)).result) l.invariant.same_path) ∙ ends))
-    c.form_part.ensures)
+    c.form_part.ensures.formed)
 
 -- ---- sequences
 
@@ -165,6 +178,7 @@ form_in_order-loop-i-init g t c =
     let r = a.running.now in
     let shape = shape_at r in
     record {
+      ready = c.requires.ready;
       same_count = refl;
       same_path = refl;
       same_before = refl;
@@ -182,7 +196,7 @@ form_in_order-form_next-requires g t c κs within =
     let l = c.loop-i in
     let small = size_of_part a.parts.now l.i c.index-parts-i.result c.loop-i-test.true c.index-parts-i.is in
     let alone = l.invariant.same_count ∙ c.set_aside-before.ensures.count ∙ c.requires.fits in
-    (omega (arith, c.decreases, small), (search rules, (sound_part shape a.parts.now l.i c.index-parts-i.result c.loop-i-test.true c.index-parts-i.is c.requires.sound, (c.requires.framed, (alone, l.invariant.counted)))))
+    (omega (arith, c.decreases, small), (search rules, (search rules, (sound_part shape a.parts.now l.i c.index-parts-i.result c.loop-i-test.true c.index-parts-i.is c.requires.sound, (c.requires.framed, (l.invariant.ready, (alone, l.invariant.counted)))))))
 
 pub form_in_order-loop-i-preserved : goal.form_in_order-loop-i-preserved
 form_in_order-loop-i-preserved g t c =
@@ -191,12 +205,13 @@ form_in_order-loop-i-preserved g t c =
     let shape = shape_at r in
     let l = c.loop-i in
     let under = l.invariant.underway in
-    let on = c.in_ok-form_next.ensures.formed under.set under.stands under.consistent in
+    let on = c.in_ok-form_next.ensures.formed.formed under.set under.stands under.consistent in
     record {
-      same_count = c.in_ok-form_next.ensures.count ∙ l.invariant.same_count;
-      same_path = c.in_ok-form_next.ensures.path ∙ l.invariant.same_path;
+      ready = c.in_ok-form_next.ensures.ready;
+      same_count = c.in_ok-form_next.ensures.formed.count ∙ l.invariant.same_count;
+      same_path = c.in_ok-form_next.ensures.formed.path ∙ l.invariant.same_path;
       same_before = l.invariant.same_before;
-      counted = c.in_ok-form_next.ensures.so_far_count ∙ l.invariant.counted;
+      counted = c.in_ok-form_next.ensures.formed.so_far_count ∙ l.invariant.counted;
       underway = part_goes_on shape r.turns (chosen_at r) (readings_of shape a.frame.now) (places_of shape a.frame.now) a.made.now.path.items (state_at r) _ _ _ _ a.parts.now l.i under
           l.made.path.items c.index-parts-i.result l.invariant.same_path c.loop-i-test.true c.index-parts-i.is
           c.form_next.new.so_far c.form_next.new.made.set c.form_next.new.made.instances on
@@ -206,15 +221,15 @@ form_in_order-loop-i-preserved g t c =
 pub form_in_order-put_back-requires : goal.form_in_order-put_back-requires
 form_in_order-put_back-requires g t c =
     let l = c.loop-i.invariant in
-    c.in_ok-form_next.ensures.so_far_count ∙ l.counted ∙ sym c.requires.fits ∙ sym (ap (λ (s : Entries). s.count) (l.same_before ∙ c.set_aside-before.ensures.before))
+    c.in_ok-form_next.ensures.formed.so_far_count ∙ l.counted ∙ sym c.requires.fits ∙ sym (ap (λ (s : Entries). s.count) (l.same_before ∙ c.set_aside-before.ensures.before))
 
 pub form_in_order-put_back-requires-2 : goal.form_in_order-put_back-requires-2
 form_in_order-put_back-requires-2 g t c =
     let l = c.loop-i.invariant in
     l.counted ∙ sym c.requires.fits ∙ sym (ap (λ (s : Entries). s.count) (l.same_before ∙ c.set_aside-before.ensures.before))
 
-pub form_in_order-returns : goal.form_in_order-returns
-form_in_order-returns g t c =
+pub form_in_order-returns-clause-formed : goal.form_in_order-returns-clause-formed
+form_in_order-returns-clause-formed g t c =
     let a = c.args in
     let r = a.running.now in
     let shape = shape_at r in
@@ -229,14 +244,14 @@ form_in_order-returns g t c =
           (parts_left shape r.turns (chosen_at r) (readings_of shape a.frame.now) (places_of shape a.frame.now) a.made.now.path.items a.parts.now 0 (state_at r)) _ c.put_back-2.result c.put_back-2.ensures.stopped;
     }
 
-pub form_in_order-returns-then-is_some : goal.form_in_order-returns-then-is_some
-form_in_order-returns-then-is_some g t c =
+pub form_in_order-returns-then-is_some-clause-formed : goal.form_in_order-returns-then-is_some-clause-formed
+form_in_order-returns-then-is_some-clause-formed g t c =
     let a = c.args in
     let r = a.running.now in
     let shape = shape_at r in
     let l = c.loop-i in
     let under = l.invariant.underway in
-    let on = c.in_ok-form_next.ensures.formed under.set under.stands under.consistent in
+    let on = c.in_ok-form_next.ensures.formed.formed under.set under.stands under.consistent in
     record {
       count = c.put_back.ensures.count ∙ ap (λ (s : Entries). s.count) (c.loop-i.invariant.same_before ∙ c.set_aside-before.ensures.before);
       path = search rules;
@@ -249,8 +264,8 @@ form_in_order-returns-then-is_some g t c =
           (parts_left shape r.turns (chosen_at r) (readings_of shape a.frame.now) (places_of shape a.frame.now) a.made.now.path.items a.parts.now 0 (state_at r)) _ c.put_back.result c.put_back.ensures.stopped;
     }
 
-pub form_in_order-returns-in_err-form_next : goal.form_in_order-returns-in_err-form_next
-form_in_order-returns-in_err-form_next g t c =
+pub form_in_order-returns-in_err-form_next-clause-formed : goal.form_in_order-returns-in_err-form_next-clause-formed
+form_in_order-returns-in_err-form_next-clause-formed g t c =
     let a = c.args in
     let r = a.running.now in
     let shape = shape_at r in
@@ -263,11 +278,11 @@ form_in_order-returns-in_err-form_next g t c =
       exhausted = part_stops shape r.turns (chosen_at r) (readings_of shape a.frame.now) (places_of shape a.frame.now) a.made.now.path.items (state_at r) _ _ _ _ a.parts.now l.i under
           l.made.path.items c.index-parts-i.result l.invariant.same_path c.loop-i-test.true c.index-parts-i.is
           c.form_next.new.made.path.items c.form_next.result c.from_residual.result c.in_err-form_next.field-0.0 c.in_err-form_next.was c.from_residual.ensures.1
-          (c.form_next.ensures.exhausted under.set under.stands under.consistent);
+          (c.form_next.ensures.formed.exhausted under.set under.stands under.consistent);
     }
 
-pub form_next-returns : goal.form_next-returns
-form_next-returns g t c =
+pub form_next-returns-clause-formed : goal.form_next-returns-clause-formed
+form_next-returns-clause-formed g t c =
     let a = c.args in
     let r = a.running.now in
     let shape = shape_at r in
@@ -284,7 +299,7 @@ form_next-returns g t c =
           (forms_same shape _ _ _ _ _ _
           (ap (rule_in r a.frame.now (at a.made.now.path.items a.number) (rule_of a.rule.now)) (c.upon-view.ensures.fired U stands consistent))
           (subst (λ s. Forms s (meaning s r.turns (chosen_at r) (rule_of a.rule.now) (readings_of s a.frame.now) (places_of s a.frame.now) (shown v) (at a.made.now.path.items a.number)) c.clear.new.self c.form_part.new.made.set a.made.now.instances c.form_part.new.made.instances) c.upon-view.ensures.signature
-          c.in_ok-form_part.ensures.formed));
+          c.in_ok-form_part.ensures.formed.formed));
       exhausted = λ U stands consistent. tt;
     }
 
@@ -296,6 +311,7 @@ form_turns-loop-turn-init g t c =
     let r = a.running.now in
     let shape = shape_at r in
     record {
+      ready = c.requires.ready;
       same_count = refl;
       same_path = refl;
       same_before = refl;
@@ -314,12 +330,13 @@ form_turns-loop-turn-preserved g t c =
     let shape = shape_at r in
     let l = c.loop-turn in
     let under = l.invariant.underway in
-    let on = c.in_ok-form_next.ensures.formed under.set under.stands under.consistent in
+    let on = c.in_ok-form_next.ensures.formed.formed under.set under.stands under.consistent in
     record {
-      same_count = c.in_ok-form_next.ensures.count ∙ l.invariant.same_count;
-      same_path = c.in_ok-form_next.ensures.path ∙ l.invariant.same_path;
+      ready = c.in_ok-form_next.ensures.ready;
+      same_count = c.in_ok-form_next.ensures.formed.count ∙ l.invariant.same_count;
+      same_path = c.in_ok-form_next.ensures.formed.path ∙ l.invariant.same_path;
       same_before = l.invariant.same_before;
-      counted = c.in_ok-form_next.ensures.so_far_count ∙ l.invariant.counted;
+      counted = c.in_ok-form_next.ensures.formed.so_far_count ∙ l.invariant.counted;
       underway = turn_goes_on shape r.turns (chosen_at r) (readings_of shape a.frame.now) (places_of shape a.frame.now) a.made.now.path.items (state_at r) _ _ _ _ r.turns (rule_of a.body.now) l.turn under
           l.made.path.items c.from.result l.invariant.same_path c.loop-turn-test.true c.from.ensures
           c.form_next.new.so_far c.form_next.new.made.set c.form_next.new.made.instances on
@@ -330,16 +347,16 @@ form_turns-loop-turn-preserved g t c =
 pub form_turns-put_back-requires : goal.form_turns-put_back-requires
 form_turns-put_back-requires g t c =
     let l = c.loop-turn.invariant in
-    c.in_ok-form_next.ensures.so_far_count ∙ l.counted ∙ sym c.requires.fits ∙ sym (ap (λ (s : Entries). s.count) (l.same_before ∙ c.set_aside-before.ensures.before))
+    c.in_ok-form_next.ensures.formed.so_far_count ∙ l.counted ∙ sym c.requires.fits ∙ sym (ap (λ (s : Entries). s.count) (l.same_before ∙ c.set_aside-before.ensures.before))
 
-pub form_turns-returns-then-is_empty : goal.form_turns-returns-then-is_empty
-form_turns-returns-then-is_empty g t c =
+pub form_turns-returns-then-is_empty-clause-formed : goal.form_turns-returns-then-is_empty-clause-formed
+form_turns-returns-then-is_empty-clause-formed g t c =
     let a = c.args in
     let r = a.running.now in
     let shape = shape_at r in
     let l = c.loop-turn in
     let under = l.invariant.underway in
-    let on = c.in_ok-form_next.ensures.formed under.set under.stands under.consistent in
+    let on = c.in_ok-form_next.ensures.formed.formed under.set under.stands under.consistent in
     let last : (on.set ≡ none) ⊎ (¬ (IsConsistent on.set)) = elim c.then-is_empty.branch [
       | form_turns-then-is_empty-via-then-is_empty w ↦ inl ((c.is_empty.ensures.empty shape on.set on.stands).0 w.if-is_empty.true)
       | form_turns-then-is_empty-via-else-is_empty+then-is_some w ↦ inr (fault_found shape c.form_next.new.made.set on.set w.first_fault.result
@@ -355,8 +372,8 @@ form_turns-returns-then-is_empty g t c =
       exhausted = stopped_for_memory (rule_at r a.frame.now a.made.now.path.items (tree.Iterate (rule_of a.body.now))) _ c.put_back.result c.put_back.ensures.stopped;
     }
 
-pub form_turns-returns-in_err-form_next : goal.form_turns-returns-in_err-form_next
-form_turns-returns-in_err-form_next g t c =
+pub form_turns-returns-in_err-form_next-clause-formed : goal.form_turns-returns-in_err-form_next-clause-formed
+form_turns-returns-in_err-form_next-clause-formed g t c =
     let a = c.args in
     let r = a.running.now in
     let shape = shape_at r in
@@ -369,11 +386,11 @@ form_turns-returns-in_err-form_next g t c =
       exhausted = turn_stops shape r.turns (chosen_at r) (readings_of shape a.frame.now) (places_of shape a.frame.now) a.made.now.path.items (state_at r) _ _ _ _ r.turns (rule_of a.body.now) l.turn under
           l.made.path.items c.from.result l.invariant.same_path c.loop-turn-test.true c.from.ensures
           c.form_next.new.made.path.items c.form_next.result c.from_residual.result c.in_err-form_next.field-0.0 c.in_err-form_next.was c.from_residual.ensures.1
-          (c.form_next.ensures.exhausted under.set under.stands under.consistent);
+          (c.form_next.ensures.formed.exhausted under.set under.stands under.consistent);
     }
 
-pub form_turns-returns : goal.form_turns-returns
-form_turns-returns g t c =
+pub form_turns-returns-clause-formed : goal.form_turns-returns-clause-formed
+form_turns-returns-clause-formed g t c =
     let a = c.args in
     let r = a.running.now in
     let shape = shape_at r in
@@ -385,14 +402,14 @@ form_turns-returns g t c =
       exhausted = turns_stop shape r.turns (chosen_at r) (readings_of shape a.frame.now) (places_of shape a.frame.now) a.made.now.path.items (state_at r) _ _ _ _ r.turns (rule_of a.body.now) l.turn l.invariant.underway c.loop-turn-test.false ∙ ap Exhausted (sym l.invariant.same_path);
     }
 
-pub form-returns-in-Iterate : goal.form-returns-in-Iterate
-form-returns-in-Iterate g t c =
+pub form-returns-in-Iterate-clause-formed : goal.form-returns-in-Iterate-clause-formed
+form-returns-in-Iterate-clause-formed g t c =
     let a = c.args in
     let r = a.running.now in
     let shape = shape_at r in
     follows_same shape c.form_turns.result _ _ _ _
     (iterate_yields shape r.turns (chosen_at r) (readings_of shape a.frame.now) (places_of shape a.frame.now) (state_at r) a.made.now.path.items a.rule.now c.in-Iterate.body c.in-Iterate.is c.deref-in-Iterate.result.now c.deref-in-Iterate.ensures)
-    c.form_turns.ensures
+    c.form_turns.ensures.formed
 
 -- ---- values of a universe
 
@@ -407,16 +424,18 @@ form_span-loop-i-preserved g t c =
     let there = value_here shape.universes a.over c.universe-universe.result.now l.i (value_of_code c.kept.result.value) c.universe-universe.ensures (c.element.ensures ∙ ap Some (sym c.kept.ensures)) in
     elim c.if-passes.branch [
       | form_span-then-passes+in_ok-form_part w ↦ rw w.made-is (record {
-        same_count = w.in_ok-form_part.ensures.count ∙ l.invariant.same_count;
-        same_path = w.in_ok-form_part.ensures.path ∙ l.invariant.same_path;
+        ready = rw w.regions-is w.in_ok-form_part.ensures.ready;
+        same_count = w.in_ok-form_part.ensures.formed.count ∙ l.invariant.same_count;
+        same_path = w.in_ok-form_part.ensures.formed.path ∙ l.invariant.same_path;
         follows = λ new result rest. l.invariant.follows new result (follows_same shape result _ _ _ _
             (element_yields shape r.turns (chosen_at r) (readings_of shape a.frame.now) (places_of shape a.frame.now) (state_at r) a.made.now.path.items a.over (option_map code_of a.test.now) a.body.now a.to us l.i (value_of_code c.kept.result.value) test there (sym w.if-passes.true ∙ c.passes.ensures))
             (follows_counted shape result _ _ _ _ refl refl w.saturating_add-made.ensures
             (follows_both shape tt result _ _ _ _ _
-            (follows_same shape _ _ _ _ _ (ap (λ q. element_does r a.frame.now q l.i (value_of_code c.kept.result.value) a.body.now) l.invariant.same_path) w.in_ok-form_part.ensures)
+            (follows_same shape _ _ _ _ _ (ap (λ q. element_does r a.frame.now q l.i (value_of_code c.kept.result.value) a.body.now) l.invariant.same_path) w.in_ok-form_part.ensures.formed)
             rest)));
       })
       | form_span-else-passes w ↦ rw w.made-is (record {
+        ready = rw w.regions-is l.invariant.ready;
         same_count = l.invariant.same_count;
         same_path = l.invariant.same_path;
         follows = λ new result rest. l.invariant.follows new result (follows_same shape result _ _ _ _
@@ -425,16 +444,16 @@ form_span-loop-i-preserved g t c =
       })
     ]
 
-pub form_span-returns : goal.form_span-returns
-form_span-returns g t c =
+pub form_span-returns-clause-formed : goal.form_span-returns-clause-formed
+form_span-returns-clause-formed g t c =
     let a = c.args in
     let r = a.running.now in
     let shape = shape_at r in
     let l = c.loop-i in
     l.invariant.follows _ _ (follows_nothing shape tt _ _ (no_element_yields shape r.turns (chosen_at r) (readings_of shape a.frame.now) (places_of shape a.frame.now) (state_at r) a.made.now.path.items a.over (option_map code_of a.test.now) a.body.now a.to (universe_at shape a.over) l.i (omega arith)))
 
-pub form_span-returns-in_err-form_part : goal.form_span-returns-in_err-form_part
-form_span-returns-in_err-form_part g t c =
+pub form_span-returns-in_err-form_part-clause-formed : goal.form_span-returns-in_err-form_part-clause-formed
+form_span-returns-in_err-form_part-clause-formed g t c =
     let a = c.args in
     let r = a.running.now in
     let shape = shape_at r in
@@ -444,62 +463,65 @@ form_span-returns-in_err-form_part g t c =
     l.invariant.follows _ _ (follows_stopped shape c.form_part.result residual.result c.in_err-form_part.field-0.0 _ _ _ _ _ refl c.in_err-form_part.was residual.ensures.1
     (λ last ends. exhausted_element_yields shape r.turns (chosen_at r) (readings_of shape a.frame.now) (places_of shape a.frame.now) (state_at r) a.made.now.path.items a.over (option_map code_of a.test.now) a.body.now a.to (universe_at shape a.over) l.i (value_of_code c.kept.result.value) last c.loop-i-test.true there (sym c.if-passes.true ∙ c.passes.ensures)
     (sym (ap (λ q. (element_does r a.frame.now q l.i (value_of_code c.kept.result.value) a.body.now).result) l.invariant.same_path) ∙ ends))
-    c.form_part.ensures)
+    c.form_part.ensures.formed)
 
-pub form-returns-in-Forall : goal.form-returns-in-Forall
-form-returns-in-Forall g t c =
+pub form-returns-in-Left-2-clause-formed : goal.form-returns-in-Left-2-clause-formed
+form-returns-in-Left-2-clause-formed g t c =
     let a = c.args in
     let r = a.running.now in
     let shape = shape_at r in
+    let left = c.region-in-Forall.new.made in
+    let same = nothing_done shape _ a.made.now left _ c.in-Left-2.is c.in_ok-region-in-Forall.ensures.taken in
+    subst (λ (m : Forming). Follows shape (rule_at r a.frame.now m.path.items (rule_of a.rule.now)) m c.form_span.new.made c.form_span.result) same (
     follows_same shape c.form_span.result _ _ _ _
-    (forall_yields shape r.turns (chosen_at r) (readings_of shape a.frame.now) (places_of shape a.frame.now) (state_at r) a.made.now.path.items a.rule.now c.in-Forall.over c.in-Forall.test c.in-Forall.body c.in-Forall.is _ refl c.deref-in-Forall.result.now c.deref-in-Forall.ensures _
+    (forall_yields shape r.turns (chosen_at r) (readings_of shape a.frame.now) (places_of shape a.frame.now) (state_at r) left.path.items a.rule.now c.in-Forall.over c.in-Forall.test c.in-Forall.body c.in-Forall.is _ refl c.deref-in-Left-2.result.now c.deref-in-Left-2.ensures _
     (size_here shape.universes c.in-Forall.over c.universe.result.now c.size-size.result c.universe.ensures c.size-size.ensures.size))
-    c.form_span.ensures
+    c.form_span.ensures.formed)
 
-pub form-returns-in-Choose : goal.form-returns-in-Choose
-form-returns-in-Choose g t c =
+pub form-returns-in-Choose-clause-formed : goal.form-returns-in-Choose-clause-formed
+form-returns-in-Choose-clause-formed g t c =
     let a = c.args in
     let r = a.running.now in
     let shape = shape_at r in
     follows_same shape c.form_choose.result _ _ _ _
     (choose_is shape r.turns (chosen_at r) (readings_of shape a.frame.now) (places_of shape a.frame.now) (state_at r) a.made.now.path.items a.rule.now c.in-Choose.over c.in-Choose.test c.in-Choose.body c.in-Choose.none c.in-Choose.is _ c.deref-in-Choose.result.now c.deref-in-Choose-2.result.now refl c.deref-in-Choose.ensures c.deref-in-Choose-2.ensures)
-    c.form_choose.ensures
+    c.form_choose.ensures.formed
 
-pub form_choose-returns : goal.form_choose-returns
-form_choose-returns g t c =
+pub form_choose-returns-clause-formed : goal.form_choose-returns-clause-formed
+form_choose-returns-clause-formed g t c =
     let a = c.args in
     let r = a.running.now in
     let shape = shape_at r in
     follows_same shape c.form_part-2.result _ _ _ _
     (choose_some shape r.turns (chosen_at r) (readings_of shape a.frame.now) (places_of shape a.frame.now) (state_at r) a.made.now.path.items a.over a.test.now a.body.now a.none.now (value_of_code c.kept.result.value)
     (ap Some c.kept.ensures ∙ sym c.in-Some.is ∙ c.chosen.ensures ∙ ap (λ q. taken (chosen_at r q) (passing_in r.view.now a.frame.now a.over a.test.now)) c.as_slice.ensures.value))
-    c.form_part-2.ensures
+    c.form_part-2.ensures.formed
 
-pub form_choose-returns-in_default : goal.form_choose-returns-in_default
-form_choose-returns-in_default g t c =
+pub form_choose-returns-in_default-clause-formed : goal.form_choose-returns-in_default-clause-formed
+form_choose-returns-in_default-clause-formed g t c =
     let a = c.args in
     let r = a.running.now in
     let shape = shape_at r in
     follows_same shape c.form_part.result _ _ _ _
     (choose_none shape r.turns (chosen_at r) (readings_of shape a.frame.now) (places_of shape a.frame.now) (state_at r) a.made.now.path.items a.over a.test.now a.body.now a.none.now
     (sym c.in_default.is ∙ c.chosen.ensures ∙ ap (λ q. taken (chosen_at r q) (passing_in r.view.now a.frame.now a.over a.test.now)) c.as_slice.ensures.value))
-    c.form_part.ensures
+    c.form_part.ensures.formed
 
 -- ---- calls
 
-pub form-returns-in-Call : goal.form-returns-in-Call
-form-returns-in-Call g t c =
+pub form-returns-in-Call-clause-formed : goal.form-returns-in-Call-clause-formed
+form-returns-in-Call-clause-formed g t c =
     let a = c.args in
     let r = a.running.now in
     let shape = shape_at r in
     follows_same shape c.form_call.result _ _ _ _
     (call_is shape r.turns (chosen_at r) (readings_of shape a.frame.now) (places_of shape a.frame.now) (state_at r) a.made.now.path.items a.rule.now c.in-Call.body c.in-Call.answer c.in-Call.arguments c.in-Call.is c.deref-in-Call.result.now _ c.as_slice-in-Call.result.now c.deref-in-Call.ensures refl c.as_slice-in-Call.ensures.value)
-    c.form_call.ensures
+    c.form_call.ensures.formed
 
-pub form_call-returns : goal.form_call-returns
-form_call-returns g t c =
+pub form_call-returns-clause-formed : goal.form_call-returns-clause-formed
+form_call-returns-clause-formed g t c =
     let a = c.args in
     let r = a.running.now in
     let shape = shape_at r in
     follows_same shape c.form_part.result _ _ _ _
-    (call_with shape r.turns (chosen_at r) (readings_of shape a.frame.now) (places_of shape a.frame.now) (state_at r) a.made.now.path.items a.body.now a.answer.now a.arguments.now c.in_ok-answer.answer c.in_ok-answer.ensures.location) c.form_part.ensures
+    (call_with shape r.turns (chosen_at r) (readings_of shape a.frame.now) (places_of shape a.frame.now) (state_at r) a.made.now.path.items a.body.now a.answer.now a.arguments.now c.in_ok-answer.answer c.in_ok-answer.ensures.location) c.form_part.ensures.formed

@@ -56,6 +56,7 @@ decreases-form_next g l = 5 * rule_size (rule_of l.rule.now) + 4
 -- whatever follows what the parts yield that are left follows what all of them yield, from the start on
 abbrev pub invariant-form_all-loop-i : goal.invariant-form_all-loop-i
 invariant-form_all-loop-i g l = record {
+  ready : g.G.Regions.is_ready l.regions;
   same_count : l.made.set.count ≡ l.initial.made.set.count;
   same_path : l.made.path.items ≡ l.initial.made.path.items;
   follows : (new : Forming) (r : Result (Unit {0}) Stopped)
@@ -70,6 +71,7 @@ invariant-form_span-loop-i g l =
     let left = span_yields shape l.running.turns (chosen_at l.running) (readings_of shape l.frame) (places_of shape l.frame) (state_at l.running) l.initial.made.path.items
     l.over (option_map code_of l.test) l.body l.to (universe_at shape l.over) in
     record {
+      ready : g.G.Regions.is_ready l.regions;
       same_count : l.made.set.count ≡ l.initial.made.set.count;
       same_path : l.made.path.items ≡ l.initial.made.path.items;
       follows : (new : Forming) (r : Result (Unit {0}) Stopped) → Follows shape (left l.i) l.made new r → Follows shape (left l.from) l.initial.made new r;
@@ -80,6 +82,7 @@ abbrev pub invariant-form_in_order-loop-i : goal.invariant-form_in_order-loop-i
 invariant-form_in_order-loop-i g l =
     let shape = shape_at l.running in
     record {
+      ready : g.G.Regions.is_ready l.regions;
       same_count : l.made.set.count ≡ l.initial.made.set.count;
       same_path : l.made.path.items ≡ l.initial.made.path.items;
       same_before : l.before ≡ l.initial.before;
@@ -95,6 +98,7 @@ abbrev pub invariant-form_turns-loop-turn : goal.invariant-form_turns-loop-turn
 invariant-form_turns-loop-turn g l =
     let shape = shape_at l.running in
     record {
+      ready : g.G.Regions.is_ready l.regions;
       same_count : l.made.set.count ≡ l.initial.made.set.count;
       same_path : l.made.path.items ≡ l.initial.made.path.items;
       same_before : l.before ≡ l.initial.before;

@@ -4,10 +4,10 @@ use Rattle.asm_code.proofs.functions.make_grid.Goals as goal
 
 pub returns-in-Some : goal.returns-in-Some
 returns-in-Some c =
-    grid_read c.args.signature.now c.args.f c.requires.fits c.in-Some.rows c.in-Some.columns c.in-Some.ensures.domain
-    c.universe.result.now c.universe-in-Some.result.now c.universe.ensures c.universe-in-Some.ensures c.first.result c.first.ensures
-    c.span_of.result c.span_of-in-Some.result c.span_of.ensures c.span_of-in-Some.ensures
-    c.in_ok-new.field-0 c.in_ok-new-2.field-0 c.args.row c.args.column c.in_ok-new.ensures.ok c.in_ok-new-2.ensures.ok
+    let is = c.in-Some.ensures in
+    let at = c.in-Some.place in
+    grid_read c.args.signature.now c.args.f c.requires.fits is.rows is.columns is.domain is.down is.across is.at_rows is.at_columns at.first is.begins
+    at.rows at.columns is.row_span is.column_span c.in_ok-new.field-0 c.in_ok-new-2.field-0 c.args.row c.args.column c.in_ok-new.ensures.ok c.in_ok-new-2.ensures.ok
 
 pub returns : goal.returns
 returns c =

@@ -4,8 +4,9 @@ use Rattle.asm_code.proofs.functions.make_row.Goals as goal
 
 pub returns-in-Some : goal.returns-in-Some
 returns-in-Some c =
-    row_read c.args.signature.now c.args.f c.requires.fits c.in-Some.universe c.in-Some.ensures.domain c.universe.result.now c.universe.ensures
-    c.first.result c.first.ensures c.span_of.result c.span_of.ensures c.in_ok-new.field-0 c.args.argument c.in_ok-new.ensures.ok
+    let is = c.in-Some.ensures in
+    row_read c.args.signature.now c.args.f c.requires.fits is.universe is.domain is.values is.at
+    c.in-Some.first is.begins c.in-Some.over is.span c.in_ok-new.field-0 c.args.argument c.in_ok-new.ensures.ok
 
 pub returns : goal.returns
 returns c =

@@ -1,24 +1,24 @@
-use Rattle.std.proofs.Common.{◌≡◌, ℕ, ◌≤◌, All}
+use Rattle.std.proofs.Common.{◌≡◌, ◌≤◌, ◌++◌, length, map, All}
 use Rattle.std.specs.Prelude.{option_map}
-use Rattle.asm_meaning.specs.Does.{both}
-use Rattle.asm_meaning.specs.Grouped.{counting}
-use Rattle.asm_meaning.specs.Intervals.{between}
+use Rattle.asm_code.proofs.OpenedRules.{bodies_from}
 use Rattle.asm_code.specs.CodeViews.{code_of}
-use Rattle.asm_code.specs.OpenedPieces.{IsCut, pieces_yield}
+use Rattle.asm_code.specs.Frames.{readings_of}
+use Rattle.asm_code.specs.Opening.{work_of}
 use Rattle.asm_code.specs.Pieces.{IsPiece}
 use Rattle.asm_code.specs.Readings.{universe_at}
 use Rattle.asm_code.specs.RuleViews.{rule_of}
-use Rattle.asm_code.specs.Running.{elements_at, span_at, shape_at}
+use Rattle.asm_code.specs.Running.{places_of, shape_at, state_at}
 use Rattle.asm_code.proofs.open.open_bodies.Given as goal
 
--- the pieces so far yield what the values so far do
+-- the works of the pieces so far, and those of the bodies for the values that are left
 abbrev pub invariant-loop-i : goal.invariant-loop-i
-invariant-loop-i g l = record {
-  low : l.from ≤ l.i;
-  few : l.instances ≤ l.i;
-  does : both (counting l.instances (pieces_yield l.running l.pieces.items))
-      (elements_at l.running l.frame l.path (option_map code_of l.test) (rule_of l.body) l.i (between l.i l.to (universe_at (shape_at l.running) l.over)))
-      ≡ span_at l.running l.frame l.path l.over (option_map code_of l.test) (rule_of l.body) l.from l.to;
-  are_pieces : All (IsPiece (shape_at l.running)) l.pieces.items;
-  are_cut : (cut : ℕ) → All (IsCut cut) l.pieces.items;
-}
+invariant-loop-i g l =
+    let shape = shape_at l.running in
+    let works = bodies_from shape (state_at l.running) (option_map code_of l.test) (rule_of l.body) (readings_of shape l.frame) (places_of shape l.frame) l.path l.to (universe_at shape l.over) in
+    record {
+      low : l.from ≤ l.i;
+      few : l.instances ≤ l.i;
+      counted : l.instances ≡ length l.pieces.items;
+      works : map (work_of shape) l.pieces.items ++ works l.i ≡ works l.from;
+      are_pieces : All (IsPiece shape) l.pieces.items;
+    }

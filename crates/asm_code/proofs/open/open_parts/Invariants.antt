@@ -1,16 +1,17 @@
-use Rattle.std.proofs.Common.{◌≡◌, ℕ, drop, map, All}
-use Rattle.asm_meaning.specs.Does.{both}
-use Rattle.asm_code.specs.OpenedPieces.{IsCut, pieces_yield}
+use Rattle.std.proofs.Common.{◌≡◌, ◌++◌, drop, map, All}
+use Rattle.asm_code.proofs.OpenedRules.{parts_from}
+use Rattle.asm_code.specs.Frames.{readings_of}
+use Rattle.asm_code.specs.Opening.{work_of}
 use Rattle.asm_code.specs.Pieces.{IsPiece}
-use Rattle.asm_code.specs.RuleViews.{rule_of, rules_of}
-use Rattle.asm_code.specs.Running.{parts_at, shape_at}
+use Rattle.asm_code.specs.Running.{places_of, shape_at}
 use Rattle.asm_code.proofs.open.open_parts.Given as goal
 
--- the pieces so far yield what the parts so far do
+-- the works of the pieces so far, and those of the parts that are left
 abbrev pub invariant-loop-i : goal.invariant-loop-i
-invariant-loop-i g l = record {
-  does : both (pieces_yield l.running l.pieces.items) (parts_at l.running l.frame l.path l.i (rules_of (map rule_of (drop l.i l.parts))))
-      ≡ parts_at l.running l.frame l.path 0 (rules_of (map rule_of l.parts));
-  are_pieces : All (IsPiece (shape_at l.running)) l.pieces.items;
-  are_cut : (cut : ℕ) → All (IsCut cut) l.pieces.items;
-}
+invariant-loop-i g l =
+    let shape = shape_at l.running in
+    let works = parts_from (readings_of shape l.frame) (places_of shape l.frame) l.path in
+    record {
+      works : map (work_of shape) l.pieces.items ++ works l.i (drop l.i l.parts) ≡ works 0 l.parts;
+      are_pieces : All (IsPiece shape) l.pieces.items;
+    }

@@ -1,24 +1,34 @@
-use Rattle.std.proofs.Common.{sym, ap, ◌∙◌, refl}
+use Rattle.std.proofs.Common.{◌∙◌, ap, sym, arith}
 use Rattle.std.specs.Prelude.{option_map}
+use Rattle.asm_meaning.specs.Intervals.{between}
 use Rattle.asm_meaning.specs.declared.part.Part.TheVariants as part
+use Rattle.asm_code.proofs.OpenedRules.{bodies_opened, opens_same}
+use Rattle.asm_code.proofs.RuleForms.{forall_form}
 use Rattle.asm_code.specs.CodeViews.{code_of}
-use Rattle.asm_code.specs.Pieces.{part_yields}
+use Rattle.asm_code.specs.Frames.{readings_of}
+use Rattle.asm_code.specs.Opening.{body_works, counted_works, part_opened}
+use Rattle.asm_code.specs.Readings.{universe_at}
 use Rattle.asm_code.specs.RuleTree as tree
 use Rattle.asm_code.specs.RuleViews.{rule_of}
-use Rattle.asm_code.specs.Running.{span_at}
+use Rattle.asm_code.specs.Running.{chosen_at, places_of, shape_at, state_at}
 use Rattle.asm_code.specs.declared.rule_code.RuleCode.{RuleCode}
-use Rattle.asm_code.proofs.OpenedRules.{opens_same}
-use Rattle.asm_code.proofs.RuleForms.{forall_form}
 use Rattle.asm_code.proofs.open.open_span.Goals as goal
 
 pub returns : goal.returns
 returns g c =
     let a = c.args in
     let r = a.running.now in
+    let shape = shape_at r in
+    let A = state_at r in
     let it = c.in-Forall in
-    let f = a.piece.now.frame in
-    let is = forall_form a.piece.now.rule.now it.over it.test it.body it.is ∙ ap (λ (P : RuleCode). tree.Forall it.over (option_map code_of it.test) (rule_of P)) (sym c.deref.ensures) in
-    opens_same r a.cut c.open_bodies.result _ _ _ refl
-    (ap (λ p. span_at r f p it.over (option_map code_of it.test) (rule_of c.deref.result.now) a.from a.to) c.as_slice.ensures
-    ∙ ap (λ R. part_yields r f a.piece.now.path R (part.Span a.from a.to)) (sym is))
-    (c.open_bodies.ensures a.cut)
+    let rs = readings_of shape a.piece.now.frame in
+    let ls = places_of shape a.piece.now.frame in
+    let p = a.piece.now.path in
+    let test = option_map code_of it.test in
+    let body = rule_of c.deref.result.now in
+    let is = forall_form a.piece.now.rule.now it.over it.test it.body it.is ∙ ap (λ (P : RuleCode). tree.Forall it.over test (rule_of P)) (sym c.deref.ensures) in
+    opens_same r c.open_bodies.result _ _
+    (ap (λ q. counted_works (body_works shape A test body rs ls q a.from (between a.from a.to (universe_at shape it.over)))) c.as_slice.ensures
+    ∙ bodies_opened a.cut shape A rs ls p a.from a.to it.over test body (omega arith)
+    ∙ ap (λ R. part_opened shape A (chosen_at r) a.cut R rs ls p (part.Span a.from a.to)) (sym is))
+    c.open_bodies.ensures

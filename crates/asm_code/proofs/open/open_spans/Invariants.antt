@@ -1,22 +1,23 @@
-use Rattle.std.proofs.Common.{◌≡◌, ◌-◌, ◌≤◌, All}
-use Rattle.asm_meaning.specs.Does.{both}
-use Rattle.asm_meaning.specs.declared.part.Part.TheVariants as part
-use Rattle.asm_code.specs.OpenedPieces.{IsCut, pieces_yield}
-use Rattle.asm_code.specs.Pieces.{IsPiece, part_yields}
+use Rattle.std.proofs.Common.{◌≡◌, ◌-◌, ◌≤◌, ◌++◌, map, All}
+use Rattle.asm_code.proofs.OpenedRules.{spans_from}
+use Rattle.asm_code.specs.Frames.{readings_of}
+use Rattle.asm_code.specs.Opening.{work_of}
+use Rattle.asm_code.specs.Pieces.{IsPiece}
 use Rattle.asm_code.specs.RuleViews.{rule_of}
-use Rattle.asm_code.specs.Running.{shape_at}
+use Rattle.asm_code.specs.Running.{places_of, shape_at}
 use Rattle.asm_code.proofs.open.open_spans.Given as goal
 
 abbrev pub decreases-loop-next : goal.decreases-loop-next
 decreases-loop-next g l = l.to - l.next
 
--- the spans so far yield what the positions so far do
+-- the works of the pieces so far, and those of the spans that are left
 abbrev pub invariant-loop-next : goal.invariant-loop-next
-invariant-loop-next g l = record {
-  low : l.from ≤ l.next;
-  high : l.next ≤ l.to;
-  does : both (pieces_yield l.running l.pieces.items) (part_yields l.running l.piece.frame l.piece.path (rule_of l.piece.rule.now) (part.Span l.next l.to))
-      ≡ part_yields l.running l.piece.frame l.piece.path (rule_of l.piece.rule.now) (part.Span l.from l.to);
-  are_pieces : All (IsPiece (shape_at l.running)) l.pieces.items;
-  are_cut : All (IsCut l.cut) l.pieces.items;
-}
+invariant-loop-next g l =
+    let shape = shape_at l.running in
+    let works = spans_from l.cut (rule_of l.piece.rule.now) (readings_of shape l.piece.frame) (places_of shape l.piece.frame) l.piece.path l.to in
+    record {
+      low : l.from ≤ l.next;
+      high : l.next ≤ l.to;
+      works : map (work_of shape) l.pieces.items ++ works l.next ≡ works l.from;
+      are_pieces : All (IsPiece shape) l.pieces.items;
+    }

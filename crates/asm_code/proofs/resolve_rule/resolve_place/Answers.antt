@@ -1,9 +1,8 @@
-use Rattle.std.proofs.Common.{map, sym, ◌∙◌}
+use Rattle.std.proofs.Common.{sym, ◌∙◌}
 use Rattle.asm_syntax.specs.Views.{spec_of}
 use Rattle.asm_meaning.specs.Meant.{meant_terms}
-use Rattle.asm_code.specs.CodeViews.{code_of, codes_of}
 use Rattle.asm_code.specs.Scopes.{slots_of}
-use Rattle.asm_code.proofs.RuleResolving.{held_resolved, answer_resolved, nowhere_resolved}
+use Rattle.asm_code.proofs.RuleResolving.{answer_resolved, nowhere_resolved}
 use Rattle.asm_code.proofs.resolve_rule.resolve_place.Goals as goal
 
 pub returns-in-Some-clause-resolved : goal.returns-in-Some-clause-resolved
@@ -16,9 +15,10 @@ returns-in_default-controlled-clause-resolved c =
     let a = c.args in
     nowhere_resolved (spec_of a.checked.now.spec) a.checked.now.well_formed (slots_of a.scope.now) a.name.now.text (meant_terms a.arguments.now) (sym c.answer_position.ensures ∙ c.in_default.is) c.in_default-controlled.ensures.none
 
-pub returns-clause-resolved : goal.returns-clause-resolved
-returns-clause-resolved c =
-    let a = c.args in
-    held_resolved (spec_of a.checked.now.spec) a.checked.now.well_formed (slots_of a.scope.now) a.name.now.text c.in-Some-controlled.function (sym c.answer_position.ensures ∙ c.in_default.is)
-    c.in-Some-controlled.ensures.some c.in-Some-controlled.ensures.kind
-    (meant_terms a.arguments.now) (codes_of (map code_of c.in_ok-arguments.arguments.items)) c.in_ok-arguments.ensures.resolved
+pub resolve_located-requires : goal.resolve_located-requires
+resolve_located-requires c = record {
+  known = c.requires.known;
+  free = sym c.answer_position.ensures ∙ c.in_default.is;
+  stands = c.in-Some-controlled.ensures.some;
+  kind = c.in-Some-controlled.ensures.kind;
+}

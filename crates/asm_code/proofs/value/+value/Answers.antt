@@ -66,12 +66,12 @@ plus-returns t c =
 pub modulo-returns : goal.modulo-returns
 modulo-returns t c =
     let a = c.args in
-    with_is a.view.now.signature.now (readings_of a.view.now.signature.now a.frame.now) (shown a.view.now) Remainder (code_of a.left.now) (Number a.right) c.operand-left.result c.remainder_by.result c.operand-left.ensures c.remainder_by.ensures
+    with_is a.view.now.signature.now (readings_of a.view.now.signature.now a.frame.now) (shown a.view.now) Remainder (code_of a.left.now) (Number a.right.number) c.operand-left.result c.remainder_by.result c.operand-left.ensures c.remainder_by.ensures
 
 pub plus_modulo-returns : goal.plus_modulo-returns
 plus_modulo-returns t c =
     let a = c.args in
-    turned_is a.view.now.signature.now (readings_of a.view.now.signature.now a.frame.now) (shown a.view.now) (code_of a.left.now) (Number a.by) (Number a.over) c.operand-left.result c.added-sum.result c.remainder_by.result
+    turned_is a.view.now.signature.now (readings_of a.view.now.signature.now a.frame.now) (shown a.view.now) (code_of a.left.now) (Number a.by) (Number a.over.number) c.operand-left.result c.added-sum.result c.remainder_by.result
     c.operand-left.ensures c.added-sum.ensures c.remainder_by.ensures
 
 pub derived_one-returns : goal.derived_one-returns

@@ -20,4 +20,4 @@ returns g c =
     let r = a.running.now in
     let s = spec_of a.checked.now.spec in
     let it = subst (λ shape. IsResolvedRule (program_of s) shape [] (main_rule s (inits s)) (rule_of c.in_ok-code.code)) (sym c.requires.shaped) c.in_ok-code.ensures in
-    follows_same (shape_at r) c.form.result _ _ _ _ (it.means r.turns _ r.choices.now.step nothing_bound [] [] (state_at r) a.made.now.path.items (stands_nothing (program_of s))) c.form.ensures
+    follows_same (shape_at r) c.form.result _ _ _ _ (it.means r.turns _ r.choices.now.step nothing_bound [] [] (state_at r) a.made.now.path.items (stands_nothing (program_of s))) c.form.ensures.formed
