@@ -1,5 +1,6 @@
 //! What codes yield, beside what trees yield.
 mod bodies;
+mod pieces;
 mod refusals;
 mod rows;
 mod terms;

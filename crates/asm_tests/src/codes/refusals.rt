@@ -11,8 +11,8 @@ use asm_meaning::{Choices, Outcome};
 use std::alloc::{AllocError, Global};
 use std::test::Fail;
 
-/// Every kind of rule, and derived functions that share bodies. Its locations are those of `c`, from
-/// 0 to 3, and that of `x`.
+/// Every kind of rule, and derived functions that share bodies. Its locations are those of `c`,
+/// from 0 to 3, and that of `x`.
 const TEXT: &[u8] = b"CoreASM T init M \
 enum Color = { red, green, blue } universe Idx = 0 .. 2 \
 function controlled c : Idx function controlled x initially 0 \

@@ -129,8 +129,8 @@ static COMPARED: [&str; 46] = [
     "(exists n in Idx with n = 3 and (forall c in One holds c = 7))",
 ];
 
-/// The term that the main rule assigns, where it is an assignment: its values by way of its tree and
-/// of its code.
+/// The term that the main rule assigns, where it is an assignment: its values by way of its tree
+/// and of its code.
 fn values(alloc: Global, checked: &Checked) -> Result<Option<(Word, Word)>, AllocError> {
     let Rule::Assign { value: term, .. } = main_of(checked) else {
         return Ok(None);
