@@ -18,6 +18,7 @@ pub mod ResolvedLists
 pub mod CodePaths
 pub mod CodeSequences
 pub mod RuleForms
+pub mod SoundMembers
 pub mod CodeCandidates
 pub mod Standing
 pub mod RuleResolving

@@ -26,5 +26,6 @@ pub mod rule_code;
 pub mod running;
 pub mod scope;
 pub mod shared;
+mod used;
 pub mod value;
 pub mod whole;

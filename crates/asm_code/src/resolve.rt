@@ -216,7 +216,7 @@ pub(crate) fn resolve_all<'e>(
 
 /// The code of a derived function's body.
 #[cycle(resolve)]
-fn resolve_body<'e>(
+pub(crate) fn resolve_body<'e>(
     alloc: Global,
     checked: &'e Checked,
     bodies: &mut Vec<Option<Arc<Code, Global>>>,

@@ -295,6 +295,26 @@ fn resolve_call<'e>(
     })
 }
 
+/// Resolves the body of a rule for a call with a target or without, and with so many arguments.
+pub(crate) fn resolve_named_rule<'e>(
+    alloc: Global,
+    checked: &'e Checked,
+    known: &mut Bodies,
+    name: &'e Name,
+    answers: bool,
+    arguments: usize,
+) -> Result<(), AllocError>
+    requires { AreKnown (spec_of checked.now.spec) known.old }
+    ensures { OnOk result (AreKnown (spec_of checked.now.spec) known.new) }
+{
+    if let Some(r) = number_of_rule(checked.named(&name.text)) {
+        let (names, _rule) = checked.rule(r);
+        let bound = names.len().min(arguments);
+        resolve_rule_body(alloc, checked, known, name, r, answers, bound)?;
+    }
+    Ok(())
+}
+
 /// The number of a rule.
 fn number_of_rule(it: Option<Named>) -> Option<usize>
     ensures { result ≡ rule_number it }

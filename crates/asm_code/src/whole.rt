@@ -22,6 +22,7 @@ use crate::resolve::resolve;
 use crate::resolve_rule::resolve_rule;
 use crate::rule_code::RuleCode;
 use crate::running::Running;
+use crate::used::resolve_used;
 use crate::value::value;
 use asm_check::Checked;
 use asm_meaning::{Forming, Stopped, View};
@@ -53,6 +54,7 @@ pub fn resolve_main(alloc: Global, checked: &Checked) -> Result<RuleCode, AllocE
 {
     let (_parameters, main) = checked.rule(checked.main());
     let mut known = Bodies::new(alloc, checked)?;
+    resolve_used(alloc, checked, &mut known, main)?;
     resolve_rule(alloc, checked, &mut known, &[], main)
 }
 

@@ -1,7 +1,6 @@
 pub mod Appending
 mod Exclusion
 mod FirstTokens
-pub mod MainRule
 pub mod FormedSet
 pub mod LocationFunctions
 pub mod ArgumentTexts

@@ -6,20 +6,20 @@ use Rattle.std.specs.List.Sorted.{IsPermutation}
 use Rattle.std.proofs.lemmas.List.{map-append}
 use Rattle.std.proofs.lemmas.List.Elements.{All-nil, All-append}
 use Rattle.std.proofs.lemmas.Option.{slice_get_within}
-use Rattle.asm_state.specs.Location.{State}
 use Rattle.asm_state.specs.Signature.{Shape}
 use Rattle.asm_state.specs.Updates.{UpdateSet, none, together}
 use Rattle.asm_state.proofs.Algebra.{union_laws}
 use Rattle.asm_updates.specs.Unions.{united}
 use Rattle.asm_striped.specs.declared.board.Entry.{Entry}
-use Rattle.asm_eval.specs.declared.piece.Piece.{Piece}
+use Rattle.asm_reader.specs.declared.picks.Picks.{Ghosts}
 use Rattle.asm_meaning.specs.Does.{Outcome, nothing, both}
-use Rattle.asm_eval.specs.Pieces.{IsPiece, piece_does, pieces_do}
 use Rattle.asm_meaning.specs.Grouped.{counting, all_both}
-use Rattle.asm_meaning.specs.Program.{Program}
-use Rattle.asm_meaning.specs.Setting.{Setting}
 use Rattle.asm_meaning.specs.Yields.{Path, Gives, Exhausted, beside}
 use Rattle.asm_meaning.proofs.Beside.{beside_laws}
+use Rattle.asm_code.specs.OpenedPieces.{pieces_yield}
+use Rattle.asm_code.specs.Pieces.{IsPiece, piece_yields}
+use Rattle.asm_code.specs.declared.piece.Piece.{Piece}
+use Rattle.asm_code.specs.declared.running.Running.{Running}
 use Rattle.asm_pool.specs.Pool.{RunsTask, RunsLists}
 use Rattle.asm_run.specs.declared.hand.RegionHand.{RegionHand}
 use Rattle.asm_run.specs.Hands.{LogStands, LogsStand, parts_of}
@@ -60,18 +60,18 @@ united_on f a (suc n) = ap (λ k. together (f k) (united f (range_with_len (a + 
 -- ---- what is left for the rounds behind
 
 -- what each answer of a list says
-abbrev EachLeft : Program → Option ℕ → List RegionOut → Type 0
+abbrev EachLeft : Shape → Option ℕ → List RegionOut → Type 0
 EachLeft program cut [] = Unit {0}
 EachLeft program cut (out ∷ outs) = IsLeft program cut out × EachLeft program cut outs
 
-are_pieces : (program : Program) (cut : Option ℕ) (outs : List RegionOut) → EachLeft program cut outs → All (IsPiece program) (news outs)
+are_pieces : (program : Shape) (cut : Option ℕ) (outs : List RegionOut) → EachLeft program cut outs → All (IsPiece program) (news outs)
 are_pieces program cut [] left = All-nil (IsPiece program)
 are_pieces program (Some cut) (region.Pieces pieces n ∷ outs) left = All-append (IsPiece program) pieces.items (news outs) left.0.0 (are_pieces program (Some cut) outs left.1)
 are_pieces program None (region.Pieces pieces n ∷ outs) left = absurd left.0
 are_pieces program cut (region.Done n ∷ outs) left = are_pieces program cut outs left.1
 are_pieces program cut (region.Exhausted p ∷ outs) left = are_pieces program cut outs left.1
 
-none_left : (program : Program) (outs : List RegionOut) → EachLeft program None outs → news outs ≡ []
+none_left : (program : Shape) (outs : List RegionOut) → EachLeft program None outs → news outs ≡ []
 none_left program [] left = refl
 none_left program (region.Pieces pieces n ∷ outs) left = absurd left.0
 none_left program (region.Done n ∷ outs) left = none_left program outs left.1
@@ -89,18 +89,18 @@ least_cons at (region.Pieces pieces k) outs = refl
 least_cons at (region.Done k) outs = refl
 least_cons at (region.Exhausted q) outs = refl
 
-module _ (s : Setting) (A : State) where
+module _ {P : Type 0} {picks : Ghosts P} (running : Running P picks) where
   abbrev f : Piece → Outcome
-  f = piece_does s A
+  f = piece_yields running
 
   abbrev does : List Piece → Outcome
-  does = pieces_do s A
+  does = pieces_yield running
 
   abbrev tells : Outcome → RegionOut → Type 0
-  tells = Tells s A
+  tells = Tells running
 
   abbrev adds : Outcome → RegionOut → UpdateSet
-  adds = added s A
+  adds = added running
 
   does-append : (ps qs : List Piece) → does (ps ++ qs) ≡ both (does ps) (does qs)
   does-append ps qs = ap all_both (map-append f ps qs) ∙ all_both-append (map f ps) (map f qs)
@@ -141,12 +141,12 @@ module _ (s : Setting) (A : State) where
   each_tells (p ∷ ps) [] long told = absurd (omega (arith, long))
   each_tells (p ∷ ps) (out ∷ outs) long told = (told 0 p out refl refl, each_tells ps outs (omega (arith, long)) (λ n. told (suc n)))
 
-  each_left : (cut : Option ℕ) (ps : List Piece) (outs : List RegionOut) → length outs ≡ length ps
-      → ((n : ℕ) (p : Piece) (out : RegionOut) → slice_get ps n ≡ Some p → slice_get outs n ≡ Some out → IsLeft s.program cut out) → EachLeft s.program cut outs
-  each_left cut [] [] long told = tt
-  each_left cut [] (out ∷ outs) long told = absurd (omega (arith, long))
-  each_left cut (p ∷ ps) [] long told = absurd (omega (arith, long))
-  each_left cut (p ∷ ps) (out ∷ outs) long told = (told 0 p out refl refl, each_left cut ps outs (omega (arith, long)) (λ n. told (suc n)))
+  each_left : (shape : Shape) (cut : Option ℕ) (ps : List Piece) (outs : List RegionOut) → length outs ≡ length ps
+      → ((n : ℕ) (p : Piece) (out : RegionOut) → slice_get ps n ≡ Some p → slice_get outs n ≡ Some out → IsLeft shape cut out) → EachLeft shape cut outs
+  each_left shape cut [] [] long told = tt
+  each_left shape cut [] (out ∷ outs) long told = absurd (omega (arith, long))
+  each_left shape cut (p ∷ ps) [] long told = absurd (omega (arith, long))
+  each_left shape cut (p ∷ ps) (out ∷ outs) long told = (told 0 p out refl refl, each_left shape cut ps outs (omega (arith, long)) (λ n. told (suc n)))
 
   all_added : (ps : List Piece) (outs : List RegionOut) → length outs ≡ length ps → united (adds_at ps outs) (range_with_len 0 (length ps)) ≡ all_add ps outs
   all_added [] [] long = refl
@@ -215,13 +215,13 @@ module _ (s : Setting) (A : State) where
   piece_there (p ∷ ps) zero low = (p, refl)
   piece_there (p ∷ ps) (suc n) low = piece_there ps n (omega (arith, low))
 
-  puts_set : (shape : Shape) (n : ℕ) (o : Outcome) (out : RegionOut) (more : List Entry) → Puts s A shape n o out more → LogStands shape more (adds o out)
+  puts_set : (shape : Shape) (n : ℕ) (o : Outcome) (out : RegionOut) (more : List Entry) → Puts running shape n o out more → LogStands shape more (adds o out)
   puts_set shape n o (region.Pieces pieces k) more is = subst (λ l. LogStands shape l none) (sym is) (nothing_put shape)
   puts_set shape n o (region.Done k) more are = set_put shape n (set_of o.result) more are
   puts_set shape n o (region.Exhausted q) more is = subst (λ l. LogStands shape l none) (sym is) (nothing_put shape)
 
   run_puts : (shape : Shape) (cut : Option ℕ) (are_enough : Bool) (ps : List Piece) (outs : List RegionOut) → length outs ≡ length ps
-      → (n : ℕ) (before after : RegionHand) (out : RegionOut) → slice_get outs n ≡ Some out → RunsPiece s A shape cut are_enough ps n before (Ok out) after
+      → (n : ℕ) (before after : RegionHand) (out : RegionOut) → slice_get outs n ≡ Some out → RunsPiece running shape cut are_enough ps n before (Ok out) after
       → PutsSet shape before.seat (adds_at ps outs n) after.seat
   run_puts shape cut are_enough ps outs long n before after out there did =
       let some = piece_there ps n (omega (arith, long, slice_get_within outs n out there)) in
@@ -232,28 +232,28 @@ module _ (s : Setting) (A : State) where
   -- ---- the round
 
   module _ (shape : Shape) (takes : RegionHand → Type 0) (cut : Option ℕ) (are_enough : Bool) (pieces : List Piece) (outs : List Answered) (long : length outs ≡ length pieces) (ok : All IsOk outs)
-      (each : (n : ℕ) → n < length pieces → (before : RegionHand) × (after : RegionHand) × RunsTask takes (RunsPiece s A shape cut are_enough pieces) outs before n after) where
+      (each : (n : ℕ) → n < length pieces → (before : RegionHand) × (after : RegionHand) × RunsTask takes (RunsPiece running shape cut are_enough pieces) outs before n after) where
     abbrev runs : ℕ → RegionHand → Answered → RegionHand → Type 0
-    runs = RunsPiece s A shape cut are_enough pieces
+    runs = RunsPiece running shape cut are_enough pieces
 
     abbrev as_long : length (answers outs) ≡ length pieces
     as_long = as_many_answers outs ∙ long
 
     worked_at : (n : ℕ) (p : Piece) (out : RegionOut) → slice_get pieces n ≡ Some p → slice_get (answers outs) n ≡ Some out
-        → (before : RegionHand) × (after : RegionHand) × IsWorked s A shape cut n (f p) before.seat out after.seat
+        → (before : RegionHand) × (after : RegionHand) × IsWorked running shape cut n (f p) before.seat out after.seat
     worked_at n p out at there =
         let (before, after, did) = answered_at runs takes outs ok (length pieces) long each n out there in
         (before, after, (did p at).0)
 
-    left : EachLeft s.program cut (answers outs)
-    left = each_left cut pieces (answers outs) as_long (λ n p out at there. (worked_at n p out at there).2.left)
+    left : EachLeft shape cut (answers outs)
+    left = each_left shape cut pieces (answers outs) as_long (λ n p out at there. (worked_at n p out at there).2.left)
 
-    pub new_are_pieces : All (IsPiece s.program) (news (answers outs))
-    new_are_pieces = are_pieces s.program cut (answers outs) left
+    pub new_are_pieces : All (IsPiece shape) (news (answers outs))
+    new_are_pieces = are_pieces shape cut (answers outs) left
 
     pub round_law : (q : Outcome) (hands others : List RegionHand) (lists : List (List ℕ)) (instances : ℕ) (at : Option Path)
         → IsPermutation (range_with_len 0 (length pieces)) (concat lists) → RunsLists takes runs outs hands lists others
-        → Holds shape q hands instances at → IsRound s A shape q pieces (news (answers outs)) others (tally instances (answers outs)) (least at (answers outs))
+        → Holds shape q hands instances at → IsRound running shape q pieces (news (answers outs)) others (tally instances (answers outs)) (least at (answers outs))
     round_law q hands others lists instances at once did held =
         let given = answers outs in
         let all = each_tells pieces given as_long (λ n p out here there. (worked_at n p out here there).2.tells) in
@@ -275,9 +275,9 @@ module _ (s : Setting) (A : State) where
         hands others lists (lists_answer runs takes outs ok hands others lists did)
 
   pub nothing_left : (shape : Shape) (takes : RegionHand → Type 0) (cut : Option ℕ) (are_enough : Bool) (pieces : List Piece) (outs : List Answered) → length outs ≡ length pieces → All IsOk outs
-      → ((n : ℕ) → n < length pieces → (before : RegionHand) × (after : RegionHand) × RunsTask takes (RunsPiece s A shape cut are_enough pieces) outs before n after)
+      → ((n : ℕ) → n < length pieces → (before : RegionHand) × (after : RegionHand) × RunsTask takes (RunsPiece running shape cut are_enough pieces) outs before n after)
       → IfNone cut (news (answers outs) ≡ [])
-  nothing_left shape takes None are_enough pieces outs long ok each = none_left s.program (answers outs) (left shape takes None are_enough pieces outs long ok each)
+  nothing_left shape takes None are_enough pieces outs long ok each = none_left shape (answers outs) (left shape takes None are_enough pieces outs long ok each)
   nothing_left shape takes (Some cut) are_enough pieces outs long ok each = tt
 
   -- ---- the rounds
@@ -289,7 +289,7 @@ module _ (s : Setting) (A : State) where
       subst (λ x. Holds shape x hands instances at) (sym (ap (λ ps. both o (does ps)) none ∙ beside_laws.last_unit o)) held
 
   -- what a round leaves, and what is held behind it
-  pub held_through : (shape : Shape) (o : Outcome) (pieces next : List Piece) (hands others : List RegionHand) (n k : ℕ) (at then : Option Path) → IsRound s A shape o pieces next hands n at
+  pub held_through : (shape : Shape) (o : Outcome) (pieces next : List Piece) (hands others : List RegionHand) (n k : ℕ) (at then : Option Path) → IsRound running shape o pieces next hands n at
       → ((q : Outcome) → Holds shape q hands n at → Holds shape (both q (does next)) others k then) → Holds shape (both o (does pieces)) others k then
   held_through shape o pieces next hands others n k at then round behind =
       subst (λ x. Holds shape x others k then) (sym round.loses_nothing) (behind round.done round.holds)

@@ -1,24 +1,24 @@
 -- What a task leaves that works its piece whole.
 use Rattle.std.proofs.Common.{ℕ, None, refl, sym, ap, subst, ◌∙◌, arith}
-use Rattle.asm_state.specs.Location.{State}
 use Rattle.asm_state.specs.Signature.{Shape}
 use Rattle.asm_state.specs.Updates.{none}
 use Rattle.asm_state.proofs.Algebra.{union_laws}
 use Rattle.asm_updates.specs.Entries.{Entries, AreEntries}
 use Rattle.asm_updates.specs.Stands.{Stands}
 use Rattle.asm_striped.specs.Seats.{SeatState}
+use Rattle.asm_reader.specs.declared.picks.Picks.{Ghosts}
 use Rattle.asm_meaning.specs.Does.{Outcome}
 use Rattle.asm_meaning.specs.Formed.{Forms}
-use Rattle.asm_meaning.specs.Setting.{Setting}
 use Rattle.asm_meaning.specs.Yields.{Gives}
+use Rattle.asm_code.specs.declared.running.Running.{Running}
 use Rattle.asm_run.specs.declared.job.RegionOut.TheVariants as region
 use Rattle.asm_run.specs.Hands.{Grows, puts}
 use Rattle.asm_run.specs.Rounds.{IsWorked, set_of}
 
-module _ (s : Setting) (A : State) (shape : Shape) where
+module _ {P : Type 0} {picks : Ghosts P} (running : Running P picks) (shape : Shape) where
   -- a set that was formed where none was, and was put
   pub set_worked : (n : ℕ) (o : Outcome) (before after : SeatState) (empty set : Entries) (instances : ℕ) → Stands shape empty none → Forms shape o empty set 0 instances
-      → AreEntries set.count set.ranges → Grows before (puts n set.ranges) after → IsWorked s A shape None n o before (region.Done instances) after
+      → AreEntries set.count set.ranges → Grows before (puts n set.ranges) after → IsWorked running shape None n o before (region.Done instances) after
   set_worked n o before after empty set instances nothing forms sound grows = record {
     tells = (forms.gives ∙ ap Gives (sym (ap set_of forms.gives)), omega (arith, forms.counts));
     left = tt;

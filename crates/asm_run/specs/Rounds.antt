@@ -16,21 +16,21 @@
 --     IsRound              what was held, with what the pieces do, is what is held after the round, with what the new pieces do
 use Rattle.std.specs.Prelude.{◌≡◌, ℕ, ◌+◌, ◌<◌, nat_le, Bool, true, false, ◌&&◌, not, List, [], ◌∷◌, ◌++◌, Option, Some, None, IfSome, MatchOption, All, min, length, map, slice_get, Result, Ok, Err}
 use Rattle.std.specs.declared.alloc.AllocError.{AllocError}
-use Rattle.asm_state.specs.Location.{State}
 use Rattle.asm_state.specs.Signature.{Shape}
 use Rattle.asm_state.specs.Updates.{UpdateSet, none}
 use Rattle.asm_striped.specs.declared.board.Entry.{Entry}
 use Rattle.asm_striped.specs.Seats.{SeatState}
-use Rattle.asm_eval.specs.declared.piece.Piece.{Piece}
+use Rattle.asm_reader.specs.declared.picks.Picks.{Ghosts}
 use Rattle.asm_meaning.specs.Does.{Outcome, both}
 use Rattle.asm_meaning.specs.Formed.{greatest_count}
-use Rattle.asm_meaning.specs.Meant.{meant}
-use Rattle.asm_eval.specs.Pieces.{IsCut, IsPiece, is_closed_part, piece_does, pieces_do, positions_in}
 use Rattle.asm_meaning.specs.Grouped.{counting}
-use Rattle.asm_meaning.specs.Program.{Program}
-use Rattle.asm_meaning.specs.Setting.{Setting}
 use Rattle.asm_meaning.specs.Yields.{Path, Gives, Exhausted, first_path}
 use Rattle.asm_meaning.specs.Yields as yields
+use Rattle.asm_code.specs.OpenedPieces.{IsCut, is_closed_part, pieces_yield}
+use Rattle.asm_code.specs.Pieces.{IsPiece, piece_yields, positions_in}
+use Rattle.asm_code.specs.RuleViews.{rule_of}
+use Rattle.asm_code.specs.declared.piece.Piece.{Piece}
+use Rattle.asm_code.specs.declared.running.Running.{Running}
 use Rattle.asm_run.specs.declared.hand.RegionHand.{RegionHand}
 use Rattle.asm_run.specs.declared.job.RegionOut.{RegionOut}
 use Rattle.asm_run.specs.declared.job.RegionOut.TheVariants as region
@@ -89,32 +89,32 @@ pub record Holds (shape : Shape) (o : Outcome) (hands : List RegionHand) (instan
 
 -- ---- the run of a task
 
-abbrev pub IsLeft : Program → Option ℕ → RegionOut → Type 0
-IsLeft program cut (region.Pieces pieces n) = MatchOption cut ⊥ (λ k. All (IsPiece program) pieces.items × All (IsCut k) pieces.items)
-IsLeft program cut (region.Done n) = Unit {0}
-IsLeft program cut (region.Exhausted p) = Unit {0}
+abbrev pub IsLeft : Shape → Option ℕ → RegionOut → Type 0
+IsLeft shape cut (region.Pieces pieces n) = MatchOption cut ⊥ (λ k. All (IsPiece shape) pieces.items × All (IsCut k) pieces.items)
+IsLeft shape cut (region.Done n) = Unit {0}
+IsLeft shape cut (region.Exhausted p) = Unit {0}
 
 -- no more positions than this
 abbrev pub is_within : ℕ → Option ℕ → Bool
 is_within k None = false
 is_within k (Some n) = nat_le n k
 
-abbrev pub is_short : Program → ℕ → Piece → Bool
-is_short program k piece = is_within k (positions_in program piece)
+abbrev pub is_short : Shape → ℕ → Piece → Bool
+is_short shape k piece = is_within k (positions_in shape piece)
 
 -- with a cut, each piece that can be opened; where there are enough pieces, a `forall` that is short is left whole
-abbrev pub is_opened : Program → Option ℕ → (are_enough : Bool) → Piece → Bool
-is_opened program None are_enough piece = false
-is_opened program (Some k) are_enough piece = not (are_enough && is_short program k piece) && not (is_closed_part (meant piece.rule.now) piece.part)
+abbrev pub is_opened : Shape → Option ℕ → (are_enough : Bool) → Piece → Bool
+is_opened shape None are_enough piece = false
+is_opened shape (Some k) are_enough piece = not (are_enough && is_short shape k piece) && not (is_closed_part (rule_of piece.rule.now) piece.part)
 
 abbrev pub shows_pieces : RegionOut → Bool
 shows_pieces (region.Pieces pieces n) = true
 shows_pieces (region.Done n) = false
 shows_pieces (region.Exhausted p) = false
 
-module _ (s : Setting) (A : State) where
+module _ {P : Type 0} {picks : Ghosts P} (running : Running P picks) where
   abbrev pub Tells : Outcome → RegionOut → Type 0
-  Tells o (region.Pieces pieces n) = o ≡ counting n (pieces_do s A pieces.items)
+  Tells o (region.Pieces pieces n) = o ≡ counting n (pieces_yield running pieces.items)
   Tells o (region.Done n) = (o.result ≡ Gives (set_of o.result)) × (n ≡ min o.instances greatest_count)
   Tells o (region.Exhausted p) = o.result ≡ Exhausted p
 
@@ -132,28 +132,28 @@ module _ (s : Setting) (A : State) where
     module _ (cut : Option ℕ) where
       pub record IsWorked (n : ℕ) (o : Outcome) (before : SeatState) (out : RegionOut) (after : SeatState) : Type 0 where
         pub tells : Tells o out
-        pub left : IsLeft s.program cut out
+        pub left : IsLeft shape cut out
         pub more : List Entry
         pub puts : Puts n o out more
         pub grows : Grows before more after
 
       -- where memory was refused, nothing was put
       abbrev pub Leaves : (are_enough : Bool) → Piece → ℕ → RegionHand → Answered → RegionHand → Type 0
-      Leaves are_enough piece n before (Ok out) after = IsWorked n (piece_does s A piece) before.seat out after.seat × (shows_pieces out ≡ is_opened s.program cut are_enough piece)
+      Leaves are_enough piece n before (Ok out) after = IsWorked n (piece_yields running piece) before.seat out after.seat × (shows_pieces out ≡ is_opened shape cut are_enough piece)
       Leaves are_enough piece n before (Err e) after = Grows before.seat [] after.seat
 
       abbrev pub RunsPiece : (are_enough : Bool) → List Piece → ℕ → RegionHand → Answered → RegionHand → Type 0
       RunsPiece are_enough pieces n before out after = (piece : Piece) → slice_get pieces n ≡ Some piece → Leaves are_enough piece n before out after
 
 -- a cut is from 1
-pub record IsTask (program : Program) (cut : Option ℕ) (pieces : List Piece) (n : ℕ) : Type 0 where
+pub record IsTask (shape : Shape) (cut : Option ℕ) (pieces : List Piece) (n : ℕ) : Type 0 where
   pub in_range : n < length pieces
-  pub are_pieces : All (IsPiece program) pieces
+  pub are_pieces : All (IsPiece shape) pieces
   pub is_cut : IfSome cut (λ k. 0 < k)
 
 -- ---- a round
 
-pub record IsRound (s : Setting) (A : State) (shape : Shape) (o : Outcome) (pieces next : List Piece) (hands : List RegionHand) (instances : ℕ) (at : Option Path) : Type 0 where
+pub record IsRound {P : Type 0} {picks : Ghosts P} (running : Running P picks) (shape : Shape) (o : Outcome) (pieces next : List Piece) (hands : List RegionHand) (instances : ℕ) (at : Option Path) : Type 0 where
   pub done : Outcome
-  pub loses_nothing : both o (pieces_do s A pieces) ≡ both done (pieces_do s A next)
+  pub loses_nothing : both o (pieces_yield running pieces) ≡ both done (pieces_yield running next)
   pub holds : Holds shape done hands instances at

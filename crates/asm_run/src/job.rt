@@ -3,17 +3,20 @@ ghost use Rattle.std.specs.Prelude.{◌≡◌, ◌<◌, IfErr, IfOk, IfSome, Non
 ghost use Rattle.asm_state.specs.Signature.{count_of};
 ghost use Rattle.asm_state.specs.Updates.{none};
 ghost use Rattle.asm_updates.specs.Stands.{Stands};
-ghost use Rattle.asm_eval.specs.Evaluated.{setting, shape_at, state_at};
-ghost use Rattle.asm_eval.specs.Pieces.{IsPiece, piece_does};
+ghost use Rattle.asm_code.specs.OpenedPieces.{Gives, is_closed_part};
+ghost use Rattle.asm_code.specs.Pieces.{IsPiece, piece_yields};
+ghost use Rattle.asm_code.specs.RuleViews.{rule_of};
+ghost use Rattle.asm_code.specs.Running.{shape_at};
 ghost use Rattle.asm_run.specs.Hands.{Grows, TakesHand};
 ghost use Rattle.asm_run.specs.Rounds.{IsTask, IsWorked, Leaves, RunsPiece, is_short};
 
 use crate::hand::RegionHand;
 use crate::put_set::put_set;
-use asm_eval::open::open_piece;
-use asm_eval::positions::positions_of;
-use asm_eval::whole_piece::form_piece;
-use asm_eval::{Evaluation, Opened, Piece};
+use asm_code::laws::opening_laws;
+use asm_code::open::{Opened, open_piece};
+use asm_code::piece::{Piece, form_piece};
+use asm_code::positions::positions_of;
+use asm_code::running::Running;
 use asm_meaning::{Path, Stopped};
 use asm_pool::Job;
 use asm_reader::Picks;
@@ -35,30 +38,32 @@ pub enum RegionOut<'a> {
     Exhausted(Path),
 }
 
-/// The pieces of a round. A task has the number of its piece. It opens the piece, or works it whole and puts its set into the table of the
-/// region.
+/// The pieces of a round. A task has the number of its piece. It opens the piece, or works it whole
+/// and puts its set into the table of the region.
 #[derive(Drop)]
 pub struct RegionJob<'a, P: Picks> {
     pub alloc: Global,
-    pub evaluation: &'a Evaluation<'a, 'a, P>,
+    pub running: &'a Running<'a, 'a, P>,
     pub pieces: &'a [Piece<'a>],
     /// At most so many elements are one piece. None: the pieces are worked whole.
     pub cut: Option<usize>,
-    /// There are enough pieces for all workers: a `forall` that isn't longer than the cut is worked whole.
+    /// There are enough pieces for all workers: a `forall` that isn't longer than the cut is worked
+    /// whole.
     pub are_enough: bool,
     pub striped: &'a Striped,
 }
 
 impl<'a, P: Picks> RegionJob<'a, P> {
-    /// A round that opens each piece that can be opened, or one that works all of them whole where there is no cut. It takes no memory.
+    /// A round that opens each piece that can be opened, or one that works all of them whole where
+    /// there is no cut. It takes no memory.
     pub fn new(
         alloc: Global,
-        evaluation: &'a Evaluation<'a, 'a, P>,
+        running: &'a Running<'a, 'a, P>,
         pieces: &'a [Piece<'a>],
         cut: Option<usize>,
         striped: &'a Striped,
     ) -> RegionJob<'a, P>
-        ensures evaluation { result.evaluation.now ≡ evaluation.now }
+        ensures running { result.running.now ≡ running.now }
         ensures pieces { result.pieces.now ≡ pieces.now }
         ensures cut { result.cut ≡ cut }
         ensures opens_all { result.are_enough ≡ false }
@@ -66,7 +71,7 @@ impl<'a, P: Picks> RegionJob<'a, P> {
     {
         RegionJob {
             alloc,
-            evaluation,
+            running,
             pieces,
             cut,
             are_enough: false,
@@ -82,17 +87,17 @@ fn put_piece<'a, P: Picks>(
     task: u64,
     hand: &mut RegionHand,
 ) -> Result<RegionOut<'a>, AllocError>
-    requires piece { IsPiece (setting job.now.evaluation.now).program piece.now }
-    requires count { job.now.striped.now.count ≡ count_of (shape_at job.now.evaluation.now) }
-    requires hand { TakesHand (shape_at job.now.evaluation.now) job.now.striped.now.table hand.old }
+    requires piece { IsPiece (shape_at job.now.running.now) piece.now }
+    requires count { job.now.striped.now.count ≡ count_of (shape_at job.now.running.now) }
+    requires hand { TakesHand (shape_at job.now.running.now) job.now.striped.now.table hand.old }
     ensures table { hand.new.seat.table ≡ hand.old.seat.table }
     ensures count { hand.new.own.set.count ≡ hand.old.own.set.count }
-    ensures worked { let at = job.now.evaluation.now in let o = piece_does (setting at) (state_at at) piece.now in
-        IfOk result (λ out. IsWorked (setting at) (state_at at) (shape_at at) None task o hand.old.seat out hand.new.seat) }
+    ensures worked { let at = job.now.running.now in let o = piece_yields at piece.now in
+        IfOk result (λ out. IsWorked at (shape_at at) None task o hand.old.seat out hand.new.seat) }
     ensures refused { IfErr result (λ _. Grows hand.old.seat [] hand.new.seat) }
 {
     hand.own.instances = 0;
-    match form_piece(job.alloc, job.evaluation, piece, &mut hand.own) {
+    match form_piece(job.alloc, job.running, piece, &mut hand.own) {
         Ok(()) => {
             put_set(job.striped, &mut hand.seat, task, &hand.own.set);
             Ok(RegionOut::Done(hand.own.instances))
@@ -112,12 +117,12 @@ fn close_piece<'a, P: Picks>(
     task: u64,
     hand: &mut RegionHand,
 ) -> Result<RegionOut<'a>, AllocError>
-    requires piece { IsPiece (setting job.now.evaluation.now).program piece.now }
-    requires count { job.now.striped.now.count ≡ count_of (shape_at job.now.evaluation.now) }
-    requires hand { TakesHand (shape_at job.now.evaluation.now) job.now.striped.now.table hand.old }
-    ensures hand { TakesHand (shape_at job.now.evaluation.now) job.now.striped.now.table hand.new }
-    ensures worked { let at = job.now.evaluation.now in let o = piece_does (setting at) (state_at at) piece.now in
-        IfOk result (λ out. IsWorked (setting at) (state_at at) (shape_at at) None task o hand.old.seat out hand.new.seat) }
+    requires piece { IsPiece (shape_at job.now.running.now) piece.now }
+    requires count { job.now.striped.now.count ≡ count_of (shape_at job.now.running.now) }
+    requires hand { TakesHand (shape_at job.now.running.now) job.now.striped.now.table hand.old }
+    ensures hand { TakesHand (shape_at job.now.running.now) job.now.striped.now.table hand.new }
+    ensures worked { let at = job.now.running.now in let o = piece_yields at piece.now in
+        IfOk result (λ out. IsWorked at (shape_at at) None task o hand.old.seat out hand.new.seat) }
     ensures refused { IfErr result (λ _. Grows hand.old.seat [] hand.new.seat) }
 {
     let worked = put_piece(job, piece, task, hand);
@@ -127,40 +132,55 @@ fn close_piece<'a, P: Picks>(
 
 /// Whether a piece has elements of a `forall`, and no more of them than are one piece.
 fn is_short_piece<P: Picks>(
-    evaluation: &Evaluation<'_, '_, P>,
+    running: &Running<'_, '_, P>,
     piece: &Piece<'_>,
     most: usize,
 ) -> bool
-    requires { IsPiece (setting evaluation.now).program piece.now }
-    ensures { result ≡ is_short (setting evaluation.now).program most piece.now }
+    requires { IsPiece (shape_at running.now) piece.now }
+    ensures { result ≡ is_short (shape_at running.now) most piece.now }
 {
-    match positions_of(evaluation.scene.checked, piece) {
+    match positions_of(running.view.signature, piece) {
         Some(positions) => positions <= most,
         None => false,
     }
 }
 
-/// Opens a piece where there is a cut and it can be opened, or else works it whole. So is one that has too few elements to be cut, where
-/// there are enough pieces besides.
+/// What a piece is opened to: its parts, or nothing where it is closed.
+fn open_into_parts<'a, P: Picks>(
+    alloc: Global,
+    running: &Running<'_, '_, P>,
+    piece: &'a Piece<'a>,
+    cut: usize,
+) -> Result<Opened<'a>, AllocError>
+    requires cut { 0 < cut }
+    requires piece { IsPiece (shape_at running.now) piece.now }
+    ensures { IfOk result (Gives running.now cut (is_closed_part (rule_of piece.now.rule.now) piece.now.part) (piece_yields running.now piece.now)) }
+{
+    opening_laws::<P>();
+    open_piece(alloc, running, piece, cut)
+}
+
+/// Opens a piece where there is a cut and it can be opened, or else works it whole. So is one that
+/// has too few elements to be cut, where there are enough pieces besides.
 fn work_piece<'a, P: Picks>(
     job: &RegionJob<'a, P>,
     piece: &'a Piece<'a>,
     task: u64,
     hand: &mut RegionHand,
 ) -> Result<RegionOut<'a>, AllocError>
-    requires piece { IsPiece (setting job.now.evaluation.now).program piece.now }
+    requires piece { IsPiece (shape_at job.now.running.now) piece.now }
     requires cut { IfSome job.now.cut (λ k. 0 < k) }
-    requires count { job.now.striped.now.count ≡ count_of (shape_at job.now.evaluation.now) }
-    requires hand { TakesHand (shape_at job.now.evaluation.now) job.now.striped.now.table hand.old }
-    ensures hand { TakesHand (shape_at job.now.evaluation.now) job.now.striped.now.table hand.new }
-    ensures leaves { let at = job.now.evaluation.now in
-        Leaves (setting at) (state_at at) (shape_at at) job.now.cut job.now.are_enough piece.now task hand.old result hand.new }
+    requires count { job.now.striped.now.count ≡ count_of (shape_at job.now.running.now) }
+    requires hand { TakesHand (shape_at job.now.running.now) job.now.striped.now.table hand.old }
+    ensures hand { TakesHand (shape_at job.now.running.now) job.now.striped.now.table hand.new }
+    ensures leaves { let at = job.now.running.now in
+        Leaves at (shape_at at) job.now.cut job.now.are_enough piece.now task hand.old result hand.new }
 {
     if let Some(most) = job.cut
-        && !(job.are_enough && is_short_piece(job.evaluation, piece, most))
-        && let Opened::Pieces { pieces, instances } = open_piece(
+        && !(job.are_enough && is_short_piece(job.running, piece, most))
+        && let Opened::Pieces { pieces, instances } = open_into_parts(
             job.alloc,
-            job.evaluation,
+            job.running,
             piece,
             most,
         )?
@@ -175,11 +195,11 @@ impl<'a, P: Picks> Job for RegionJob<'a, P> {
 
     type Out = Result<RegionOut<'a>, AllocError>;
 
-    ghost has_task = { λ job n. IsTask (setting job.evaluation.now).program job.cut job.pieces.now n × (job.striped.now.count ≡ count_of (shape_at job.evaluation.now)) };
+    ghost has_task = { λ job n. IsTask (shape_at job.running.now) job.cut job.pieces.now n × (job.striped.now.count ≡ count_of (shape_at job.running.now)) };
 
-    ghost takes_hand = { λ job hand. TakesHand (shape_at job.evaluation.now) job.striped.now.table hand };
+    ghost takes_hand = { λ job hand. TakesHand (shape_at job.running.now) job.striped.now.table hand };
 
-    ghost runs = { λ job n before out after. RunsPiece (setting job.evaluation.now) (state_at job.evaluation.now) (shape_at job.evaluation.now) job.cut job.are_enough job.pieces.now n before out after };
+    ghost runs = { λ job n before out after. RunsPiece job.running.now (shape_at job.running.now) job.cut job.are_enough job.pieces.now n before out after };
 
     fn run(&self, n: usize, hand: &mut RegionHand) -> Result<RegionOut<'a>, AllocError> {
         let pieces = self.pieces;

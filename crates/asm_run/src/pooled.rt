@@ -1,15 +1,12 @@
 //! Regions worked by many workers.
 ghost use Rattle.std.specs.Prelude.{◌≡◌, IfOk, IsTrue};
-ghost use Rattle.asm_syntax.specs.PlainTree as plain;
-ghost use Rattle.asm_syntax.specs.Views.{spec_of, rule_of};
 ghost use Rattle.asm_state.specs.Signature.{count_of};
-ghost use Rattle.asm_check.specs.Shapes.{shape_of};
-ghost use Rattle.asm_meaning.specs.Does.{does};
-ghost use Rattle.asm_eval.specs.Environments.{environment_in};
-ghost use Rattle.asm_eval.specs.Evaluated.{Fits, outcome_at, shape_at};
-ghost use Rattle.asm_meaning.specs.Meant.{meant};
 ghost use Rattle.asm_meaning.specs.Formed.{Follows, IsFormed};
-ghost use Rattle.asm_meaning.specs.Valued.{program, shown};
+ghost use Rattle.asm_code.specs.Frames.{IsSoundFrame};
+ghost use Rattle.asm_code.specs.Regions.{IsTaken};
+ghost use Rattle.asm_code.specs.RuleMeaning.{IsSoundRule};
+ghost use Rattle.asm_code.specs.RuleViews.{rule_of};
+ghost use Rattle.asm_code.specs.Running.{Fits, rule_at, rule_shown, shape_at};
 ghost use Rattle.asm_run.specs.Limits.{are_in_range};
 
 use crate::add_set::add_set;
@@ -17,18 +14,23 @@ use crate::limits::Limits;
 use crate::region::work_region;
 use crate::rounds::Shares;
 use crate::weight::is_little;
-use asm_check::Checked;
-use asm_eval::form::form;
-use asm_eval::whole::whole;
-use asm_eval::{Env, Evaluation, Piece, Scene, walk};
+use asm_code::form::form;
+use asm_code::frame::Frame;
+use asm_code::outcome::whole;
+use asm_code::piece::Piece;
+use asm_code::regions::{FormedBy, Plain, Region};
+use asm_code::rule_code::RuleCode;
+use asm_code::running::Running;
+use asm_meaning::from_nothing::{nothing_formed, outcome_of};
 use asm_meaning::{Choices, Forming, Outcome, Part, Path, Stopped, View};
 use asm_pool::{Gate, PoolError};
 use asm_reader::Picks;
-use asm_syntax::rule::Rule;
+use asm_state::signature::Signature;
 use std::alloc::{AllocError, Global};
 use std::thread::Threads;
 
-/// Works a region by many workers: in so many rounds it is cut into pieces, which the workers share.
+/// Works a region by many workers: in so many rounds it is cut into pieces, which the workers
+/// share.
 #[derive(Drop)]
 pub struct Pooled<'r, R, G> {
     rt: &'r R,
@@ -52,132 +54,135 @@ impl<'r, R: Threads + Sync, G: Gate + Sync> Pooled<'r, R, G> {
         }
     }
 
-    /// What the rule yields at this path, in the state that the view shows, under the environment and these choices: the rule is one region,
-    /// which the workers share.
-    pub fn region<'a, 'e, P: Picks + Sync>(
+    /// What the rule yields at this path, under the frame: the rule is one region, which the
+    /// workers share.
+    pub fn region<'e, P: Picks + Sync>(
         &self,
         alloc: Global,
-        checked: &'a Checked,
-        view: &'a View<'_>,
-        env: &'e Env<'e>,
-        rule: &'e Rule,
-        choices: &'a Choices<'a, P>,
+        running: &Running<'_, '_, P>,
+        frame: &'e Frame<'e>,
+        rule: &'e RuleCode,
         path: &[u64],
-        turns: u32,
     ) -> Result<Outcome, AllocError>
-        requires { view.now.signature.now ≡ shape_of (spec_of checked.now.spec) }
-        ensures { let o = does (program checked.now) turns (P.script choices.now.script.now) choices.now.step (shown view.now) (environment_in checked.now env.now) path.now (plain.plain_rule (rule_of rule.now)) in
-            IfOk result (IsFormed view.now.signature.now o) }
+        requires sound { IsSoundRule (shape_at running.now) (rule_of rule.now) }
+        requires framed { IsSoundFrame (shape_at running.now) frame.now }
+        ensures { IfOk result (IsFormed (shape_at running.now) (rule_at running.now frame.now path.now (rule_of rule.now))) }
     {
-        if self.shares.workers == 1 || self.is_left_whole(checked, rule) {
-            return whole(alloc, checked, view, env, rule, choices, path, turns);
+        if self.shares.workers == 1 || self.is_left_whole(running.view.signature, rule) {
+            return whole(alloc, running, frame, rule, path);
         }
-        self.work(alloc, checked, view, env, rule, choices, path, turns)
+        self.work(alloc, running, frame, rule, path)
     }
 
-    /// What the rule yields at this path, as `whole` answers it. The workers share each of its regions, and this thread does the rest.
-    pub fn outcome<'a, 'e, P: Picks + Sync>(
+    /// What the rule yields at this path, as `whole` answers it. The workers share each of its
+    /// regions, and this thread does the rest.
+    pub fn outcome<'e, P: Picks + Sync>(
         &self,
         alloc: Global,
-        checked: &'a Checked,
-        view: &'a View<'_>,
-        env: &'e Env<'e>,
-        rule: &'e Rule,
-        choices: &'a Choices<'a, P>,
+        running: &Running<'_, '_, P>,
+        frame: &'e Frame<'e>,
+        rule: &'e RuleCode,
         path: &[u64],
-        turns: u32,
     ) -> Result<Outcome, AllocError>
-        requires { view.now.signature.now ≡ shape_of (spec_of checked.now.spec) }
-        ensures { let o = does (program checked.now) turns (P.script choices.now.script.now) choices.now.step (shown view.now) (environment_in checked.now env.now) path.now (plain.plain_rule (rule_of rule.now)) in
-            IfOk result (IsFormed view.now.signature.now o) }
+        requires sound { IsSoundRule (shape_at running.now) (rule_of rule.now) }
+        requires framed { IsSoundFrame (shape_at running.now) frame.now }
+        ensures { IfOk result (IsFormed (shape_at running.now) (rule_at running.now frame.now path.now (rule_of rule.now))) }
     {
-        if self.shares.workers == 1 {
-            return whole(alloc, checked, view, env, rule, choices, path, turns);
-        }
-        let regions = |alloc: Global, view: &View<'_>, env: &Env<
-            '_,
-        >, rule: &Rule, made: &mut Forming| -> Result<(), Stopped>
-            requires shaped { view.now.signature.now ≡ shape_of (spec_of checked.now.spec) }
-            requires fits { made.old.set.count ≡ count_of view.now.signature.now }
-            ensures { let o = does (program checked.entry.now) turns (P.script choices.entry.now.script.now) choices.entry.now.step (shown view.now) (environment_in checked.entry.now env.now) made.old.path.items (meant rule.now) in
-                Follows view.now.signature.now o made.old made.new result }
-        { self.form_region(alloc, checked, view, env, rule, choices, turns, made) };
-        walk::outcome(
-            alloc, &regions, checked, view, env, rule, choices, path, turns,
-        )
+        let mut made = nothing_formed(alloc, running.view.signature, path)?;
+        let formed = self.form(alloc, running, frame, rule, &mut made);
+        outcome_of(made, formed)
     }
 
-    /// Forms what the rule yields at the path where the evaluation stands, as `form` does. The workers share each of its regions, and this
-    /// thread does the rest.
+    /// Forms what the rule yields at the path where the evaluation stands, as `form` does. The
+    /// workers share each of its regions, and this thread does the rest.
     pub fn form<'e, P: Picks + Sync>(
         &self,
         alloc: Global,
-        evaluation: &Evaluation<'_, '_, P>,
-        env: &'e Env<'e>,
-        rule: &'e Rule,
+        running: &Running<'_, '_, P>,
+        frame: &'e Frame<'e>,
+        rule: &'e RuleCode,
         made: &mut Forming,
     ) -> Result<(), Stopped>
-        requires { Fits evaluation.now made.old }
-        ensures { Follows (shape_at evaluation.now) (outcome_at evaluation.now env.now made.old.path.items (meant rule.now)) made.old made.new result }
+        requires sound { IsSoundRule (shape_at running.now) (rule_of rule.now) }
+        requires framed { IsSoundFrame (shape_at running.now) frame.now }
+        requires fits { Fits running.now made.old }
+        ensures { Follows (shape_at running.now) (rule_at running.now frame.now made.old.path.items (rule_of rule.now)) made.old made.new result }
     {
         if self.shares.workers == 1 {
-            return form(alloc, evaluation, env, rule, made);
+            return form(alloc, &mut Plain, running, frame, rule, made);
         }
-        let checked = evaluation.scene.checked;
-        let choices = evaluation.choices;
-        let turns = evaluation.turns;
-        let regions = |alloc: Global, view: &View<'_>, env: &Env<
-            '_,
-        >, rule: &Rule, made: &mut Forming| -> Result<(), Stopped>
-            requires shaped { view.now.signature.now ≡ shape_of (spec_of checked.now.spec) }
+        let (rt, gate, shares) = (self.rt, self.gate, self.shares);
+        let regions = |alloc: Global,
+                       view: &View<'_>,
+                       choices: &Choices<'_, P>,
+                       turns: u32,
+                       frame: &Frame<'_>,
+                       rule: &RuleCode,
+                       made: &mut Forming|
+         -> Result<Region, Stopped>
+            requires sound { IsSoundRule view.now.signature.now (rule_of rule.now) }
+            requires framed { IsSoundFrame view.now.signature.now frame.now }
             requires fits { made.old.set.count ≡ count_of view.now.signature.now }
-            ensures { let o = does (program checked.entry.now) turns (P.script choices.entry.now.script.now) choices.entry.now.step (shown view.now) (environment_in checked.entry.now env.now) made.old.path.items (meant rule.now) in
-                Follows view.now.signature.now o made.old made.new result }
-        { self.form_region(alloc, checked, view, env, rule, choices, turns, made) };
-        walk::form_by_regions(alloc, &regions, evaluation, env, rule, made)
+            ensures { IsTaken view.now.signature.now (rule_shown P.script view.now choices.now turns frame.now made.old.path.items (rule_of rule.now)) made.old made.new result }
+        {
+            let pooled = Pooled { rt, gate, shares };
+            pooled.take_region(alloc, view, choices, turns, frame, rule, made)
+        };
+        let mut by = FormedBy { form: &regions };
+        form(alloc, &mut by, running, frame, rule, made)
     }
 
-    /// Whether a region takes so little work that it isn't shared. Where there is one round of opening at most, each region is.
-    fn is_left_whole(&self, checked: &Checked, rule: &Rule) -> bool {
-        self.shares.rounds > 1 && is_little(checked, rule)
+    /// Forms a region, as a function by which regions are formed. It leaves none.
+    fn take_region<'e, P: Picks + Sync>(
+        &self,
+        alloc: Global,
+        view: &View<'_>,
+        choices: &Choices<'_, P>,
+        turns: u32,
+        frame: &'e Frame<'e>,
+        rule: &'e RuleCode,
+        made: &mut Forming,
+    ) -> Result<Region, Stopped>
+        requires sound { IsSoundRule view.now.signature.now (rule_of rule.now) }
+        requires framed { IsSoundFrame view.now.signature.now frame.now }
+        requires fits { made.old.set.count ≡ count_of view.now.signature.now }
+        ensures { IsTaken view.now.signature.now (rule_shown P.script view.now choices.now turns frame.now made.old.path.items (rule_of rule.now)) made.old made.new result }
+    {
+        let running = Running {
+            view,
+            choices,
+            turns,
+        };
+        self.form_region(alloc, &running, frame, rule, made)?;
+        Ok(Region::Formed)
+    }
+
+    /// Whether a region takes so little work that it isn't shared. Where there is one round of
+    /// opening at most, each region is.
+    fn is_left_whole(&self, signature: &Signature, rule: &RuleCode) -> bool
+        requires { IsSoundRule signature.now (rule_of rule.now) }
+    {
+        self.shares.rounds > 1 && is_little(signature, rule)
     }
 
     /// Forms what a region yields at the path where the evaluation stands, by rounds of workers.
-    fn form_region<'a, 'e, P: Picks + Sync>(
+    fn form_region<'e, P: Picks + Sync>(
         &self,
         alloc: Global,
-        checked: &'a Checked,
-        view: &'a View<'_>,
-        env: &'e Env<'e>,
-        rule: &'e Rule,
-        choices: &'a Choices<'a, P>,
-        turns: u32,
+        running: &Running<'_, '_, P>,
+        frame: &'e Frame<'e>,
+        rule: &'e RuleCode,
         made: &mut Forming,
     ) -> Result<(), Stopped>
-        requires shaped { view.now.signature.now ≡ shape_of (spec_of checked.now.spec) }
-        requires fits { made.old.set.count ≡ count_of view.now.signature.now }
-        ensures { let o = does (program checked.now) turns (P.script choices.now.script.now) choices.now.step (shown view.now) (environment_in checked.now env.now) made.old.path.items (meant rule.now) in
-            Follows view.now.signature.now o made.old made.new result }
+        requires sound { IsSoundRule (shape_at running.now) (rule_of rule.now) }
+        requires framed { IsSoundFrame (shape_at running.now) frame.now }
+        requires fits { Fits running.now made.old }
+        ensures { Follows (shape_at running.now) (rule_at running.now frame.now made.old.path.items (rule_of rule.now)) made.old made.new result }
     {
-        if self.is_left_whole(checked, rule) {
-            let scene = Scene { checked, view };
-            let evaluation = Evaluation {
-                scene,
-                choices,
-                turns,
-            };
-            return form(alloc, &evaluation, env, rule, made);
+        if self.is_left_whole(running.view.signature, rule) {
+            return form(alloc, &mut Plain, running, frame, rule, made);
         }
-        let outcome = self.work(
-            alloc,
-            checked,
-            view,
-            env,
-            rule,
-            choices,
-            made.path.as_slice(),
-            turns,
-        )?;
+        let outcome = self.work(alloc, running, frame, rule, made.path.as_slice())?;
         match outcome {
             Outcome::Set { set, instances } => add_set(made, set, instances),
             Outcome::Exhausted(path) => {
@@ -187,38 +192,30 @@ impl<'r, R: Threads + Sync, G: Gate + Sync> Pooled<'r, R, G> {
         }
     }
 
-    /// What the rule yields at this path, in the state that the view shows, under the environment and these choices, by rounds of workers.
-    fn work<'a, 'e, P: Picks + Sync>(
+    /// What the rule yields at this path, by rounds of workers.
+    fn work<'a, P: Picks + Sync>(
         &self,
         alloc: Global,
-        checked: &'a Checked,
-        view: &'a View<'_>,
-        env: &'e Env<'e>,
-        rule: &'e Rule,
-        choices: &'a Choices<'a, P>,
+        running: &'a Running<'a, 'a, P>,
+        frame: &'a Frame<'a>,
+        rule: &'a RuleCode,
         path: &[u64],
-        turns: u32,
     ) -> Result<Outcome, AllocError>
-        requires { view.now.signature.now ≡ shape_of (spec_of checked.now.spec) }
-        ensures { let o = does (program checked.now) turns (P.script choices.now.script.now) choices.now.step (shown view.now) (environment_in checked.now env.now) path.now (plain.plain_rule (rule_of rule.now)) in
-            IfOk result (IsFormed view.now.signature.now o) }
+        requires sound { IsSoundRule (shape_at running.now) (rule_of rule.now) }
+        requires framed { IsSoundFrame (shape_at running.now) frame.now }
+        ensures { IfOk result (IsFormed (shape_at running.now) (rule_at running.now frame.now path.now (rule_of rule.now))) }
     {
-        let evaluation = Evaluation {
-            scene: Scene { checked, view },
-            choices,
-            turns,
-        };
         let mut pieces = Vec::with_capacity(alloc, 1)?;
         pieces.push(Piece {
             rule,
-            env: *env,
+            frame: *frame,
             path: Path::new(path.to_vec(alloc)?),
             part: Part::Whole,
         })?;
         match work_region(
             self.rt,
             alloc,
-            &evaluation,
+            &*running,
             self.shares,
             pieces.as_slice(),
             self.gate,

@@ -1,12 +1,14 @@
 //! The outcome of a region, by rounds.
 ghost use Rattle.std.specs.Prelude.{◌≡◌, All, IfOk};
-ghost use Rattle.asm_eval.specs.Evaluated.{setting, shape_at, state_at};
 ghost use Rattle.asm_meaning.specs.Formed.{IsFormed};
-ghost use Rattle.asm_eval.specs.Pieces.{IsPiece, pieces_do};
+ghost use Rattle.asm_code.specs.OpenedPieces.{pieces_yield};
+ghost use Rattle.asm_code.specs.Pieces.{IsPiece};
+ghost use Rattle.asm_code.specs.Running.{shape_at};
 
 use crate::hand::{join_hands, split_hands};
 use crate::rounds::{Region, Shares, SoFar, work_rounds};
-use asm_eval::{Evaluation, Piece};
+use asm_code::piece::Piece;
+use asm_code::running::Running;
 use asm_meaning::Outcome;
 use asm_pool::{Gate, PoolError};
 use asm_reader::Picks;
@@ -14,22 +16,23 @@ use asm_striped::Striped;
 use std::alloc::Global;
 use std::thread::Threads;
 
-/// What the pieces yield beside each other. The workers put it into a table, which this thread opens, and closes behind the last round.
+/// What the pieces yield beside each other. The workers put it into a table, which this thread
+/// opens, and closes behind the last round.
 pub(crate) fn work_region<'a, R: Threads + Sync, G: Gate + Sync, P: Picks + Sync>(
     rt: &R,
     alloc: Global,
-    evaluation: &'a Evaluation<'a, 'a, P>,
+    running: &'a Running<'a, 'a, P>,
     shares: Shares,
     pieces: &'a [Piece<'a>],
     gate: &G,
 ) -> Result<Outcome, PoolError>
-    requires { All (IsPiece (setting evaluation.now).program) pieces.now }
-    ensures { let at = evaluation.now in IfOk result (IsFormed (shape_at at) (pieces_do (setting at) (state_at at) pieces.now)) }
+    requires { All (IsPiece (shape_at running.now)) pieces.now }
+    ensures { let at = running.now in IfOk result (IsFormed (shape_at at) (pieces_yield at pieces.now)) }
 {
-    let signature = evaluation.scene.view.signature;
+    let signature = running.view.signature;
     let (striped, mut seat) = Striped::open(alloc, signature.count(), shares.workers as u64 + 1)?;
     let region = Region {
-        evaluation,
+        running,
         striped: &striped,
         shares,
     };

@@ -2,8 +2,9 @@
 ghost use Rattle.std.specs.Prelude.{◌≡◌, ℕ, ◌<◌, ◌≤◌, [], All, IfNone, IfOk, IfSome, IsOk, OnOk, length, vec_len};
 ghost use Rattle.asm_state.specs.Signature.{count_of};
 ghost use Rattle.asm_meaning.specs.Does as does;
-ghost use Rattle.asm_eval.specs.Evaluated.{setting, shape_at, state_at};
-ghost use Rattle.asm_eval.specs.Pieces.{IsPiece, pieces_do};
+ghost use Rattle.asm_code.specs.OpenedPieces.{pieces_yield};
+ghost use Rattle.asm_code.specs.Pieces.{IsPiece};
+ghost use Rattle.asm_code.specs.Running.{shape_at};
 ghost use Rattle.asm_run.specs.declared.limits.TheConstants.{WORKERS};
 ghost use Rattle.asm_run.specs.Hands.{TakesHand, parts_of};
 ghost use Rattle.asm_run.specs.Rounds.{Holds, IsRound, answers, first_of, least, news, tally};
@@ -11,9 +12,9 @@ ghost use Rattle.asm_run.specs.Rounds.{Holds, IsRound, answers, first_of, least,
 use crate::hand::RegionHand;
 use crate::job::{RegionJob, RegionOut};
 use crate::weight::{Doing, workers_for};
-use asm_check::shared::checked_is_shared;
-use asm_eval::shared::views_and_pieces_are_shared;
-use asm_eval::{Evaluation, Piece};
+use asm_code::piece::Piece;
+use asm_code::running::Running;
+use asm_code::shared::views_and_pieces_are_shared;
 use asm_meaning::Path;
 use asm_pool::{Gate, PoolError, work_by};
 use asm_reader::Picks;
@@ -109,7 +110,7 @@ pub(crate) struct Shares {
 /// What stays the same over the rounds of a region.
 #[derive(Drop)]
 pub(crate) struct Region<'a, P: Picks> {
-    pub evaluation: &'a Evaluation<'a, 'a, P>,
+    pub running: &'a Running<'a, 'a, P>,
     pub striped: &'a Striped,
     pub shares: Shares,
 }
@@ -121,8 +122,10 @@ struct Round<'a> {
     so_far: SoFar,
 }
 
-/// At most so many workers are worth a round. Where there is one round of opening at most, each round is shared by all of them.
+/// At most so many workers are worth a round. Where there is one round of opening at most, each
+/// round is shared by all of them.
 fn most_workers<P: Picks>(region: &Region<'_, P>, doing: Doing, pieces: &[Piece<'_>]) -> usize
+    requires { All (IsPiece (shape_at region.now.running.now)) pieces.now }
     ensures { 0 < result }
 {
     let Shares {
@@ -133,12 +136,13 @@ fn most_workers<P: Picks>(region: &Region<'_, P>, doing: Doing, pieces: &[Piece<
     if rounds <= 1 {
         return workers;
     }
-    let evaluation = region.evaluation;
-    workers_for(evaluation.scene.checked, doing, pieces, workers)
+    let running = region.running;
+    workers_for(running.view.signature, doing, pieces, workers)
 }
 
-/// Opens the pieces, or works them whole, each once. The new pieces borrow from them. Where there are enough of them, a `forall` that isn't
-/// longer than the cut isn't opened: each of its elements would be a piece.
+/// Opens the pieces, or works them whole, each once. The new pieces borrow from them. Where there
+/// are enough of them, a `forall` that isn't longer than the cut isn't opened: each of its elements
+/// would be a piece.
 fn work_round<'a, R: Threads + Sync, G: Gate + Sync, P: Picks + Sync>(
     rt: &R,
     alloc: Global,
@@ -148,20 +152,19 @@ fn work_round<'a, R: Threads + Sync, G: Gate + Sync, P: Picks + Sync>(
     so_far: SoFar,
     gate: &G,
 ) -> Result<Round<'a>, PoolError>
-    requires pieces { All (IsPiece (setting region.now.evaluation.now).program) pieces.now }
+    requires pieces { All (IsPiece (shape_at region.now.running.now)) pieces.now }
     requires cut { IfSome cut (λ k. 0 < k) }
     requires hands { vec_len so_far.hands ≡ region.now.shares.workers }
-    requires fit { All (TakesHand (shape_at region.now.evaluation.now) region.now.striped.now.table) so_far.hands.items }
-    requires count { region.now.striped.now.count ≡ count_of (shape_at region.now.evaluation.now) }
-    ensures pieces { IfOk result (λ r. All (IsPiece (setting region.now.evaluation.now).program) r.next.items) }
+    requires fit { All (TakesHand (shape_at region.now.running.now) region.now.striped.now.table) so_far.hands.items }
+    requires count { region.now.striped.now.count ≡ count_of (shape_at region.now.running.now) }
+    ensures pieces { IfOk result (λ r. All (IsPiece (shape_at region.now.running.now)) r.next.items) }
     ensures whole { IfOk result (λ r. IfNone cut (r.next.items ≡ [])) }
     ensures hands { IfOk result (λ r. vec_len r.so_far.hands ≡ region.now.shares.workers) }
     ensures parts { IfOk result (λ r. parts_of r.so_far.hands.items ≡ parts_of so_far.hands.items) }
-    ensures fit { IfOk result (λ r. All (TakesHand (shape_at region.now.evaluation.now) region.now.striped.now.table) r.so_far.hands.items) }
-    ensures holds { let at = region.now.evaluation.now in IfOk result (λ r. (o : does.Outcome) → Holds (shape_at at) o so_far.hands.items so_far.instances so_far.exhausted
-        → IsRound (setting at) (state_at at) (shape_at at) o pieces.now r.next.items r.so_far.hands.items r.so_far.instances r.so_far.exhausted) }
+    ensures fit { IfOk result (λ r. All (TakesHand (shape_at region.now.running.now) region.now.striped.now.table) r.so_far.hands.items) }
+    ensures holds { let at = region.now.running.now in IfOk result (λ r. (o : does.Outcome) → Holds (shape_at at) o so_far.hands.items so_far.instances so_far.exhausted
+        → IsRound at (shape_at at) o pieces.now r.next.items r.so_far.hands.items r.so_far.instances r.so_far.exhausted) }
 {
-    checked_is_shared();
     views_and_pieces_are_shared();
     striped_is_shared();
     let workers = region.shares.workers;
@@ -169,7 +172,7 @@ fn work_round<'a, R: Threads + Sync, G: Gate + Sync, P: Picks + Sync>(
     let most = most_workers(region, Doing { cut, are_enough }, pieces);
     let job = RegionJob {
         alloc,
-        evaluation: region.evaluation,
+        running: region.running,
         pieces,
         cut,
         are_enough,
@@ -188,8 +191,8 @@ fn work_round<'a, R: Threads + Sync, G: Gate + Sync, P: Picks + Sync>(
     })
 }
 
-/// Works the pieces in so many rounds of opening, and one more in which what is left is worked whole. The pieces of a round borrow
-/// the frames of those of the round before.
+/// Works the pieces in so many rounds of opening, and one more in which what is left is worked
+/// whole. The pieces of a round borrow the frames of those of the round before.
 #[cycle(rounds)]
 pub(crate) fn work_rounds<'a, R: Threads + Sync, G: Gate + Sync, P: Picks + Sync>(
     rt: &R,
@@ -200,14 +203,14 @@ pub(crate) fn work_rounds<'a, R: Threads + Sync, G: Gate + Sync, P: Picks + Sync
     so_far: SoFar,
     gate: &G,
 ) -> Result<SoFar, PoolError>
-    requires pieces { All (IsPiece (setting region.now.evaluation.now).program) pieces.now }
+    requires pieces { All (IsPiece (shape_at region.now.running.now)) pieces.now }
     requires hands { vec_len so_far.hands ≡ region.now.shares.workers }
-    requires fit { All (TakesHand (shape_at region.now.evaluation.now) region.now.striped.now.table) so_far.hands.items }
-    requires count { region.now.striped.now.count ≡ count_of (shape_at region.now.evaluation.now) }
-    ensures fit { IfOk result (λ r. All (TakesHand (shape_at region.now.evaluation.now) region.now.striped.now.table) r.hands.items) }
+    requires fit { All (TakesHand (shape_at region.now.running.now) region.now.striped.now.table) so_far.hands.items }
+    requires count { region.now.striped.now.count ≡ count_of (shape_at region.now.running.now) }
+    ensures fit { IfOk result (λ r. All (TakesHand (shape_at region.now.running.now) region.now.striped.now.table) r.hands.items) }
     ensures parts { IfOk result (λ r. parts_of r.hands.items ≡ parts_of so_far.hands.items) }
-    ensures holds { let at = region.now.evaluation.now in IfOk result (λ r. (o : does.Outcome) → Holds (shape_at at) o so_far.hands.items so_far.instances so_far.exhausted
-        → Holds (shape_at at) (does.both o (pieces_do (setting at) (state_at at) pieces.now)) r.hands.items r.instances r.exhausted) }
+    ensures holds { let at = region.now.running.now in IfOk result (λ r. (o : does.Outcome) → Holds (shape_at at) o so_far.hands.items so_far.instances so_far.exhausted
+        → Holds (shape_at at) (does.both o (pieces_yield at pieces.now)) r.hands.items r.instances r.exhausted) }
 {
     if pieces.is_empty() {
         return Ok(so_far);

@@ -14,16 +14,19 @@ use crate::pooled::Pooled;
 use crate::sink::Sink;
 use crate::steps::run_steps;
 use asm_check::check;
+use asm_code::whole::resolve_main;
 use asm_pool::{Gate, NoGate};
 use asm_reader::{read, read_script};
 use std::alloc::Global;
 use std::thread::Threads;
 
-/// Runs the specification with this text, and writes its trace: the text of each step when it is whole, and then the last lines.
+/// Runs the specification with this text, and writes its trace: the text of each step when it is
+/// whole, and then the last lines.
 ///
-/// A text that is no specification is refused, and so are a specification with a fault, a text that is no script, and limits out of their
-/// ranges; then nothing is written. With one worker no thread is started, and with more each `par` and `forall` that isn't within another is
-/// worked by them; a thread that was started has ended when the call returns.
+/// A text that is no specification is refused, and so are a specification with a fault, a text that
+/// is no script, and limits out of their ranges; then nothing is written. With one worker no thread
+/// is started, and with more each `par` and `forall` that isn't within another is worked by them; a
+/// thread that was started has ended when the call returns.
 pub fn run<R: Threads + Sync, S: Sink>(
     rt: &R,
     alloc: Global,
@@ -35,8 +38,8 @@ pub fn run<R: Threads + Sync, S: Sink>(
     requires { S.has_failed out.old ≡ false }
     // The bytes grew by the trace of the book's run, and by nothing else.
     ensures done { IfOk result (IsDone spec.now script.now limits.now (S.bytes out.old) (S.bytes out.new)) }
-    // What a refusal says of the text, of the script, of the limits, and of what was written. Those of texts and limits exclude one another,
-    // and a run (`laws`).
+    // What a refusal says of the text, of the script, of the limits, and of what was written. Those
+    // of texts and limits exclude one another, and a run (`laws`).
     ensures refused { IfErr result (Explains spec.now script.now limits.now (S.bytes out.old) (S.bytes out.new)) }
     // A text that is too long is refused as that, whatever memory there is.
     ensures too_long { 1_048_576 < length spec.now → result ≡ Err (Read (Lex TooLong)) }
@@ -48,7 +51,8 @@ pub fn run<R: Threads + Sync, S: Sink>(
     run_gated(rt, alloc, &NoGate, spec, script, limits, out)
 }
 
-/// Runs the specification as `run` does, and the workers call the gate before and after each of their tasks.
+/// Runs the specification as `run` does, and the workers call the gate before and after each of
+/// their tasks.
 pub fn run_gated<R: Threads + Sync, G: Gate + Sync, S: Sink>(
     rt: &R,
     alloc: Global,
@@ -61,8 +65,8 @@ pub fn run_gated<R: Threads + Sync, G: Gate + Sync, S: Sink>(
     requires { S.has_failed out.old ≡ false }
     // The bytes grew by the trace of the book's run, and by nothing else.
     ensures done { IfOk result (IsDone spec.now script.now limits.now (S.bytes out.old) (S.bytes out.new)) }
-    // What a refusal says of the text, of the script, of the limits, and of what was written. Those of texts and limits exclude one another,
-    // and a run (`laws`).
+    // What a refusal says of the text, of the script, of the limits, and of what was written. Those
+    // of texts and limits exclude one another, and a run (`laws`).
     ensures refused { IfErr result (Explains spec.now script.now limits.now (S.bytes out.old) (S.bytes out.new)) }
     // A text that is too long is refused as that, whatever memory there is.
     ensures too_long { 1_048_576 < length spec.now → result ≡ Err (Read (Lex TooLong)) }
@@ -77,10 +81,10 @@ pub fn run_gated<R: Threads + Sync, G: Gate + Sync, S: Sink>(
     if !limits.are_in_range() {
         return Err(RunError::Limits);
     }
-    let (_parameters, main) = checked.rule(checked.main());
+    let code = resolve_main(alloc, &checked)?;
     let machine = Machine {
         checked: &checked,
-        main,
+        code: &code,
         turns: limits.turns,
     };
     let pooled = Pooled::new(rt, limits, gate);

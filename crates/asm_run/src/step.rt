@@ -11,7 +11,9 @@ use crate::location_texts::LocationTexts;
 use crate::machine::Machine;
 use crate::pooled::Pooled;
 use crate::trace::push_step;
-use asm_eval::{Env, Evaluation, Scene};
+use asm_code::frame::Frame;
+use asm_code::laws::resolving_laws;
+use asm_code::running::Running;
 use asm_meaning::{Choices, Forming, Stopped, View};
 use asm_pool::Gate;
 use asm_reader::Picks;
@@ -38,22 +40,19 @@ fn form_main<'a, R: Threads + Sync, G: Gate + Sync, P: Picks + Sync>(
     ensures exhausted { let o = main_outcome (spec_of machine.now.checked.now.spec) machine.now.turns (P.script choices.now.script.now) choices.now.step state.now in
         IfErr result (IsStoppedAt o made.new.path.items) }
 {
+    resolving_laws();
     made.set.clear();
     made.instances = 0;
     made.path.clear();
     let signature = machine.checked.signature();
     let nothing = Summary::new(alloc, signature.count());
     let view = View::new(signature, state, &nothing);
-    let env = Env::new();
-    let at = Evaluation {
-        scene: Scene {
-            checked: machine.checked,
-            view: &view,
-        },
+    let running = Running {
+        view: &view,
         choices,
         turns: machine.turns,
     };
-    pooled.form(alloc, &at, &env, machine.main, made)
+    pooled.form(alloc, &running, &Frame::Empty, machine.code, made)
 }
 
 /// Why a run ends at a step.
@@ -61,11 +60,13 @@ fn form_main<'a, R: Threads + Sync, G: Gate + Sync, P: Picks + Sync>(
 pub enum Stop {
     /// The step's set has this first fault.
     Fault(Fault),
-    /// There is no set: an `iterate` has made its last turn, the one at the path where the forming stands.
+    /// There is no set: an `iterate` has made its last turn, the one at the path where the forming
+    /// stands.
     Exhausted,
 }
 
-/// Forms the set of a step. Fires it and puts the text of the step in place of what was there, or answers why the run ends.
+/// Forms the set of a step. Fires it and puts the text of the step in place of what was there, or
+/// answers why the run ends.
 pub fn make_step<R: Threads + Sync, G: Gate + Sync, P: Picks + Sync>(
     alloc: Global,
     pooled: &Pooled<'_, R, G>,

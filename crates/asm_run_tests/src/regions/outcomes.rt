@@ -1,11 +1,17 @@
 //! What rules yield where workers share their regions.
+ghost use Rattle.std.specs.Prelude.{◌≡◌};
+ghost use Rattle.asm_syntax.specs.Views.{spec_of};
+ghost use Rattle.asm_check.specs.Shapes.{shape_of};
+
 use asm_check::Checked;
-use asm_eval::Env;
-use asm_meaning::{Choices, Outcome};
+use asm_code::frame::Frame;
+use asm_code::running::Running;
+use asm_code::whole::resolve_main;
+use asm_meaning::{Choices, Outcome, View};
 use asm_pool::NoGate;
 use asm_run::limits::Limits;
 use asm_run::pooled::Pooled;
-use asm_tests::beginning::{Beginning, main_of};
+use asm_tests::beginning::Beginning;
 use asm_tests::plain::{FIVE, ONE, Plain, TWO};
 use asm_tests::rules::{ASKING, Counting, YIELDED, Yielded, is_exhausted, is_set, specification};
 use std::alloc::{AllocError, Global};
@@ -37,7 +43,33 @@ static CUTTINGS: [Limits; 3] = [
     },
 ];
 
-/// What the main rule yields in the initial state: as one region, or where each of its regions is shared.
+/// What the main rule yields in what the view shows: as one region, or where each of its regions is
+/// shared.
+fn main_outcome<'a, R: Threads + Sync>(
+    alloc: Global,
+    pooled: &Pooled<'_, R, NoGate>,
+    checked: &'a Checked,
+    view: &'a View<'_>,
+    choices: &'a Choices<'a, Counting>,
+    turns: u32,
+    is_region: bool,
+) -> Result<Outcome, AllocError>
+    requires { view.now.signature.now ≡ shape_of (spec_of checked.now.spec) }
+{
+    let code = resolve_main(alloc, checked)?;
+    let running = Running {
+        view,
+        choices,
+        turns,
+    };
+    if is_region {
+        pooled.region(alloc, &running, &Frame::Empty, &code, &[])
+    } else {
+        pooled.outcome(alloc, &running, &Frame::Empty, &code, &[])
+    }
+}
+
+/// The same in the initial state.
 fn outcome_by<R: Threads + Sync>(
     alloc: Global,
     pooled: &Pooled<'_, R, NoGate>,
@@ -48,34 +80,13 @@ fn outcome_by<R: Threads + Sync>(
 ) -> Result<Outcome, AllocError> {
     let beginning = Beginning::of(alloc, checked)?;
     let view = beginning.view();
-    let env = Env::new();
     let choices = Choices {
         script: picks,
         step: 1,
     };
-    if is_region {
-        pooled.region(
-            alloc,
-            checked,
-            &view,
-            &env,
-            main_of(checked),
-            &choices,
-            &[],
-            turns,
-        )
-    } else {
-        pooled.outcome(
-            alloc,
-            checked,
-            &view,
-            &env,
-            main_of(checked),
-            &choices,
-            &[],
-            turns,
-        )
-    }
+    main_outcome(
+        alloc, pooled, checked, &view, &choices, turns, is_region,
+    )
 }
 
 /// What a main rule with this body yields so, and how often it asks.

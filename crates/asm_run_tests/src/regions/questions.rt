@@ -1,19 +1,24 @@
 //! Two workers ask which candidates are taken.
+ghost use Rattle.std.specs.Prelude.{◌≡◌};
+ghost use Rattle.asm_syntax.specs.Views.{spec_of};
+ghost use Rattle.asm_check.specs.Shapes.{shape_of};
 ghost use Rattle.asm_reader.specs.ScriptLines.{no_lines};
 
 use super::meetings::Meeting;
 use asm_check::Checked;
-use asm_eval::Env;
-use asm_meaning::{Choices, Outcome};
+use asm_code::frame::Frame;
+use asm_code::running::Running;
+use asm_code::whole::resolve_main;
+use asm_meaning::{Choices, Outcome, View};
 use asm_pool::NoGate;
 use asm_reader::Picks;
 use asm_run::limits::Limits;
 use asm_run::pooled::Pooled;
-use asm_tests::beginning::{Beginning, main_of};
+use asm_tests::beginning::Beginning;
 use asm_tests::plain::{Entry, Plain};
 use asm_tests::rules::is_set;
 use asm_tests::text::checked_of;
-use std::alloc::AllocError;
+use std::alloc::{AllocError, Global};
 use std::sync::atomic::{AtomicU64, Ordering};
 use std::test::Fail;
 use std::thread::Threads;
@@ -52,7 +57,27 @@ const LIMITS: Limits = Limits {
     rounds: 1,
 };
 
-/// What the main rule yields in the initial state, its regions worked by two workers.
+/// What the main rule yields in what the view shows, its regions worked by two workers.
+fn main_outcome<'a, R: Threads + Sync>(
+    rt: &R,
+    alloc: Global,
+    checked: &'a Checked,
+    view: &'a View<'_>,
+    choices: &'a Choices<'a, Holding>,
+) -> Result<Outcome, AllocError>
+    requires { view.now.signature.now ≡ shape_of (spec_of checked.now.spec) }
+{
+    let code = resolve_main(alloc, checked)?;
+    let running = Running {
+        view,
+        choices,
+        turns: 1000,
+    };
+    let pooled = Pooled::new(rt, &LIMITS, &NoGate);
+    pooled.outcome(alloc, &running, &Frame::Empty, &code, &[])
+}
+
+/// The same in the initial state.
 fn outcome_of<R: Threads + Sync + AllocGlobal>(
     rt: &R,
     checked: &Checked,
@@ -61,22 +86,11 @@ fn outcome_of<R: Threads + Sync + AllocGlobal>(
     let alloc = rt.alloc();
     let beginning = Beginning::of(alloc, checked)?;
     let view = beginning.view();
-    let env = Env::new();
     let choices = Choices {
         script: picks,
         step: 1,
     };
-    let pooled = Pooled::new(rt, &LIMITS, &NoGate);
-    pooled.outcome(
-        alloc,
-        checked,
-        &view,
-        &env,
-        main_of(checked),
-        &choices,
-        &[],
-        1000,
-    )
+    main_outcome(rt, alloc, checked, &view, &choices)
 }
 
 /// The first colour, at each of the two locations that aren't stray.

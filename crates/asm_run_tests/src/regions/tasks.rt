@@ -3,18 +3,21 @@ ghost use Rattle.std.specs.Prelude.{◌≡◌, ◌<◌, ◌+◌, All, IfOk, leng
 ghost use Rattle.asm_state.specs.Signature.{count_of};
 ghost use Rattle.asm_syntax.specs.Views.{spec_of};
 ghost use Rattle.asm_check.specs.Shapes.{shape_of};
-ghost use Rattle.asm_eval.specs.Evaluated.{setting, shape_at};
-ghost use Rattle.asm_eval.specs.Pieces.{IsPiece};
+ghost use Rattle.asm_code.specs.Pieces.{IsPiece};
+ghost use Rattle.asm_code.specs.Running.{shape_at};
 
 use asm_check::Checked;
-use asm_eval::open::open_piece;
-use asm_eval::{Evaluation, Opened, Piece, Scene};
-use asm_meaning::{Choices, View};
+use asm_code::frame::Frame;
+use asm_code::open::{Opened, open_piece};
+use asm_code::piece::Piece;
+use asm_code::running::Running;
+use asm_code::whole::resolve_main;
+use asm_meaning::{Choices, Part, Path, View};
 use asm_pool::Job;
 use asm_run::hand::RegionHand;
 use asm_run::job::{RegionJob, RegionOut};
 use asm_striped::{Met, StripeSeat, Striped};
-use asm_tests::beginning::{Beginning, main_piece};
+use asm_tests::beginning::Beginning;
 use asm_tests::plain::{Entry, FIVE, TWO, has_entries, value};
 use asm_tests::rules::Counting;
 use asm_tests::text::checked_of;
@@ -31,19 +34,19 @@ rule M = par a := b b := a endpar";
 /// element was counted.
 fn run_first_task<'a>(
     alloc: Global,
-    evaluation: &'a Evaluation<'a, 'a, Counting>,
+    running: &'a Running<'a, 'a, Counting>,
     pieces: &'a [Piece<'a>],
     striped: &'a Striped,
     seat: StripeSeat,
 ) -> Result<(bool, StripeSeat), AllocError>
-    requires pieces { All (IsPiece (setting evaluation.now).program) pieces.now × (0 < length pieces.now) }
-    requires count { striped.now.count ≡ count_of (shape_at evaluation.now) }
+    requires pieces { All (IsPiece (shape_at running.now)) pieces.now × (0 < length pieces.now) }
+    requires count { striped.now.count ≡ count_of (shape_at running.now) }
     requires seat { seat.table ≡ striped.now.table }
     ensures table { IfOk result (λ r. r.1.table ≡ seat.table) }
     ensures parts { IfOk result (λ r. r.1.parts ≡ seat.parts) }
 {
-    let mut hand = RegionHand::new(alloc, evaluation.scene.view.signature, seat);
-    let job = RegionJob::new(alloc, evaluation, pieces, None, striped);
+    let mut hand = RegionHand::new(alloc, running.view.signature, seat);
+    let job = RegionJob::new(alloc, running, pieces, None, striped);
     let is_done = matches!(job.run(0, &mut hand)?, RegionOut::Done(0));
     let RegionHand { seat, own: _ } = hand;
     Ok((is_done, seat))
@@ -70,18 +73,18 @@ fn put_five(
 /// What a seat finds that puts 5 at the location of `a` once the first task is done, and what was put in all. None: it isn't done.
 fn put_behind_first_task<'a>(
     alloc: Global,
-    evaluation: &'a Evaluation<'a, 'a, Counting>,
+    running: &'a Running<'a, 'a, Counting>,
     pieces: &'a [Piece<'a>],
 ) -> Result<Option<(Met, Summary)>, AllocError>
-    requires { All (IsPiece (setting evaluation.now).program) pieces.now }
+    requires { All (IsPiece (shape_at running.now)) pieces.now }
 {
-    let count = evaluation.scene.view.signature.count();
+    let count = running.view.signature.count();
     if count == 0 || pieces.is_empty() {
         return Ok(None);
     }
     let (striped, mut s) = Striped::open(alloc, count, 2)?;
     let t = striped.split(&mut s);
-    let (is_done, s) = run_first_task(alloc, evaluation, pieces, &striped, s)?;
+    let (is_done, s) = run_first_task(alloc, running, pieces, &striped, s)?;
     let found = put_five(alloc, striped, t, s)?;
     Ok(is_done.then_some(found))
 }
@@ -95,15 +98,21 @@ fn put_behind_first_part<'a>(
 ) -> Result<Option<(Met, Summary)>, AllocError>
     requires { view.now.signature.now ≡ shape_of (spec_of checked.now.spec) }
 {
-    let evaluation = Evaluation {
-        scene: Scene { checked, view },
+    let code = resolve_main(alloc, checked)?;
+    let running = Running {
+        view,
         choices,
         turns: 1000,
     };
-    let region = main_piece(alloc, checked);
-    match open_piece(alloc, &evaluation, &region, 64)? {
+    let region = Piece {
+        rule: &code,
+        frame: Frame::Empty,
+        path: Path::new(Vec::new(alloc)),
+        part: Part::Whole,
+    };
+    match open_piece(alloc, &running, &region, 64)? {
         Opened::Pieces { pieces, .. } => {
-            put_behind_first_task(alloc, &evaluation, pieces.as_slice())
+            put_behind_first_task(alloc, &running, pieces.as_slice())
         }
         Opened::Closed => Ok(None),
     }

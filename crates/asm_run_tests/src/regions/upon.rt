@@ -5,12 +5,14 @@ ghost use Rattle.asm_syntax.specs.Views.{spec_of};
 ghost use Rattle.asm_check.specs.Shapes.{shape_of};
 
 use asm_check::Checked;
-use asm_eval::{Env, Evaluation, Scene};
+use asm_code::frame::Frame;
+use asm_code::running::Running;
+use asm_code::whole::resolve_main;
 use asm_meaning::{Choices, Forming, Stopped, View};
 use asm_pool::NoGate;
 use asm_run::limits::Limits;
 use asm_run::pooled::Pooled;
-use asm_tests::beginning::{Beginning, main_of};
+use asm_tests::beginning::Beginning;
 use asm_tests::plain::{Entry, FIVE, ONE, THREE, TWO, has_entries, summary_of};
 use asm_tests::rules::{Counting, specification};
 use std::alloc::{AllocError, Global};
@@ -51,13 +53,13 @@ fn formed<'a, R: Threads + Sync>(
     requires view { view.now.signature.now ≡ shape_of (spec_of checked.now.spec) }
     requires before { made.set.count ≡ count_of view.now.signature.now }
 {
-    let evaluation = Evaluation {
-        scene: Scene { checked, view },
+    let code = resolve_main(alloc, checked)?;
+    let running = Running {
+        view,
         choices,
         turns: 3,
     };
-    let env = Env::new();
-    pooled.form(alloc, &evaluation, &env, main_of(checked), &mut made)?;
+    pooled.form(alloc, &running, &Frame::Empty, &code, &mut made)?;
     Ok(made)
 }
 

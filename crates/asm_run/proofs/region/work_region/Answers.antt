@@ -1,8 +1,8 @@
 use Rattle.std.proofs.Common.{◌≡◌, ◌∙◌, ◌++◌, None, [], ap, refl, subst, arith}
 use Rattle.asm_state.specs.Updates.{none}
 use Rattle.asm_meaning.specs.Does.{nothing}
-use Rattle.asm_eval.specs.Evaluated.{setting, shape_at, state_at}
-use Rattle.asm_eval.specs.Pieces.{pieces_do}
+use Rattle.asm_code.specs.Running.{shape_at}
+use Rattle.asm_code.specs.OpenedPieces.{pieces_yield}
 use Rattle.asm_meaning.proofs.Beside.{beside_laws}
 use Rattle.asm_striped.specs.Log.{IsSummaryOfLog}
 use Rattle.asm_run.specs.Hands.{logs_of}
@@ -19,15 +19,15 @@ close-requires-clause-parts g c =
     let own = c.in_ok-split_hands.ensures.parts in
     let joined = c.join_hands.ensures.parts in
     let kept = c.in_ok-hands.ensures.parts in
-    let each = new_parts (shape_at c.args.evaluation.now) table hands.items c.in_ok-split_hands.ensures.hands in
+    let each = new_parts (shape_at c.args.running.now) table hands.items c.in_ok-split_hands.ensures.hands in
     let many = c.in_ok-split_hands.ensures.len in
     omega (arith, opened, own, joined, kept, each, many, hands.ok)
 
 pub returns-in-Some : goal.returns-in-Some
 returns-in-Some g c =
-    let at = c.args.evaluation.now in
+    let at = c.args.running.now in
     let shape = shape_at at in
-    let o = pieces_do (setting at) (state_at at) c.args.pieces.now in
+    let o = pieces_yield at c.args.pieces.now in
     let f = c.in_ok-hands.field-0 in
     let new = c.in_ok-split_hands.field-0.items in
     let before : Holds shape nothing new 0 None = record { set = none; stand = new_stand shape c.in_ok-striped.striped.table new c.in_ok-split_hands.ensures.hands; reads = (refl, refl) } in
@@ -36,9 +36,9 @@ returns-in-Some g c =
 
 pub returns-in_ok-set-in-None : goal.returns-in_ok-set-in-None
 returns-in_ok-set-in-None g c =
-    let at = c.args.evaluation.now in
+    let at = c.args.running.now in
     let shape = shape_at at in
-    let o = pieces_do (setting at) (state_at at) c.args.pieces.now in
+    let o = pieces_yield at c.args.pieces.now in
     let f = c.in_ok-hands.field-0 in
     let new = c.in_ok-split_hands.field-0.items in
     let set = c.in_ok-set-in-None.set in

@@ -1,11 +1,11 @@
-use Rattle.std.proofs.Common.{◌≡◌, true}
+use Rattle.std.proofs.Common.{◌≡◌, true, inl}
 use Rattle.std.proofs.lemmas.Result.{err_from_is_err_and}
 use Rattle.asm_syntax.specs.SourceTree.{Spec}
 use Rattle.asm_syntax.specs.Views.{spec_of}
 use Rattle.asm_run.specs.Headline.{IsAccepted}
 use Rattle.asm_run.specs.Limits.{are_in_range}
 use Rattle.asm_run.proofs.FirstTokens.{first_token, memory_read, memory_later}
-use Rattle.asm_run.proofs.MainRule.{main_is}
+use Rattle.asm_run.proofs.Running.{Appends-none}
 use Rattle.asm_run.proofs.Whole.{refused_text, refused_tree, refused_script, whole}
 use Rattle.asm_run.proofs.run.run_gated.Goals as goal
 
@@ -32,10 +32,15 @@ returns-in_err-script-clause-refused g c =
     let p = err_from_is_err_and c.from_residual-in_err-script.result c.from_residual-in_err-script.ensures.1 in
     rw (p.1, p.2) (refused_script c.args.spec.now c.args.script.now limits (g.S.Sink.bytes c.args.out.now) tree accepted c.in_err-script.field-0.0 c.in_err-script.ensures.refused)
 
-pub run_steps-requires-clause-main : goal.run_steps-requires-clause-main
-run_steps-requires-clause-main g c κs within =
-    let one = c.main.ensures.one in
-    main_is (spec_of c.in_ok-checked.checked.spec) one.0 c.main.result _ _ one.1 (c.main.ensures.main one.0 one.1) c.rule.ensures
+pub returns-in_err-code-clause-refused : goal.returns-in_err-code-clause-refused
+returns-in_err-code-clause-refused g c =
+    let p = err_from_is_err_and c.from_residual-in_err-code.result c.from_residual-in_err-code.ensures.1 in
+    rw (p.1, p.2) (inl (Appends-none (g.S.Sink.bytes c.args.out.now)))
+
+pub returns-in_err-code-clause-memory : goal.returns-in_err-code-clause-memory
+returns-in_err-code-clause-memory g c =
+    let p = err_from_is_err_and c.from_residual-in_err-code.result c.from_residual-in_err-code.ensures.1 in
+    rw (p.1, p.2) (λ e. first_token c.args.spec.now (spec_of c.in_ok-tree.tree) c.in_ok-tree.ensures.found)
 
 pub returns-clause-done : goal.returns-clause-done
 returns-clause-done g c =

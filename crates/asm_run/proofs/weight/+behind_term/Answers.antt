@@ -1,0 +1,17 @@
+use Rattle.std.proofs.Common.{arith}
+use Rattle.asm_code.proofs.SoundMembers.{member_laws-chain as operand_sound, member_laws-held as argument_sound}
+use Rattle.asm_run.proofs.weight.+behind_term.Goals as goal
+
+pub behind_term-requires-in-loop-argument : goal.behind_term-requires-in-loop-argument
+behind_term-requires-in-loop-argument t c =
+    let items = c.deref-argument-items in
+    let item = c.argument-item in
+    let at = argument_sound c.args.signature.now c.args.term.now c.requires c.in-Held.function c.in-Held.arguments c.in-Held.is items.result.now items.ensures.value c.loop-argument.argument-index item.result c.loop-argument-test.true item.is in
+    (omega (arith, c.decreases, at.0), at.1)
+
+pub behind_term-requires-in-loop-operand : goal.behind_term-requires-in-loop-operand
+behind_term-requires-in-loop-operand t c =
+    let items = c.deref-operand-items in
+    let item = c.loop-operand-item in
+    let at = operand_sound c.args.signature.now c.args.term.now c.requires c.in-Chain.first c.in-Chain.rest c.in-Chain.is items.result.now items.ensures.value c.loop-operand.operand-index item.result c.loop-operand-test.true item.is in
+    (omega (arith, c.decreases, at.0), at.1)

@@ -1,0 +1,10 @@
+use Rattle.std.proofs.Common.{sym, subst}
+use Rattle.asm_code.specs.RuleMeaning.{IsSoundRule}
+use Rattle.asm_code.specs.RuleViews.{rule_of}
+use Rattle.asm_run_tests.proofs.regions.outcomes.main_outcome.Goals as goal
+
+pub region-requires-clause-sound : goal.region-requires-clause-sound
+region-requires-clause-sound g c κs within = subst (λ shape. IsSoundRule shape (rule_of c.in_ok-code.code)) (sym c.requires) c.in_ok-code.ensures.sound
+
+pub outcome-requires-clause-sound : goal.outcome-requires-clause-sound
+outcome-requires-clause-sound g c κs within = subst (λ shape. IsSoundRule shape (rule_of c.in_ok-code.code)) (sym c.requires) c.in_ok-code.ensures.sound
