@@ -1,27 +1,39 @@
--- What is asked of a function that forms regions: a `par` or a `forall` that stands under no other rule of the two. It may share the work.
---     TakesRegions    it may be called in any state of the specification, with every rule, wherever what is formed fits the state
---     FormsRegions    each of its calls forms what the rule yields in this setting, as `form` does
-use Rattle.std.specs.Prelude.{◌≡◌, Result}
+-- What comes of a region, and what is asked of a function that forms regions.
+--     IsTaken shape o old new     a region that yields o was formed, or it was left and nothing was done
+--     TakesRegions pre            the function may be called with every sound rule and frame, wherever what is formed fits the state
+--     TakesThem script post       each of its calls forms the region, as `form` does, or leaves it
+use Rattle.std.specs.Prelude.{◌≡◌, ℕ, Result, Ok, Err}
 use Rattle.std.proofs.Common.{Bor, MutBor, Global}
-use Rattle.asm_state.specs.Signature.{count_of}
-use Rattle.asm_syntax.specs.Views.{spec_of}
-use Rattle.asm_syntax.specs.declared.rule.Rule.{Rule}
-use Rattle.asm_check.specs.Shapes.{shape_of}
-use Rattle.asm_check.specs.declared.checked.Checked.{Checked}
-use Rattle.asm_eval.specs.Environments.{environment}
-use Rattle.asm_meaning.specs.Meant.{meant}
+use Rattle.asm_state.specs.Signature.{Shape, count_of}
+use Rattle.asm_reader.specs.ScriptLines.{Script}
+use Rattle.asm_meaning.specs.Does.{Outcome}
 use Rattle.asm_meaning.specs.Formed.{Follows}
-use Rattle.asm_meaning.specs.Setting.{Setting, outcome}
-use Rattle.asm_meaning.specs.Valued.{shown}
-use Rattle.asm_eval.specs.declared.env.Env.{Env}
+use Rattle.asm_meaning.specs.declared.choices.Choices.{Choices}
 use Rattle.asm_meaning.specs.declared.outcome.Forming.{Forming}
 use Rattle.asm_meaning.specs.declared.stopped.Stopped.{Stopped}
 use Rattle.asm_meaning.specs.declared.view.View.{View}
+use Rattle.asm_eval.specs.Frames.{IsSoundFrame}
+use Rattle.asm_eval.specs.RuleMeaning.{IsSoundRule}
+use Rattle.asm_eval.specs.RuleViews.{rule_of}
+use Rattle.asm_eval.specs.Running.{rule_shown}
+use Rattle.asm_eval.specs.declared.frame.Frame.{Frame}
+use Rattle.asm_eval.specs.declared.regions.Region.{Region}
+use Rattle.asm_eval.specs.declared.regions.Region.TheVariants as region
+use Rattle.asm_eval.specs.declared.rule_code.RuleCode.{RuleCode}
 
-abbrev pub TakesRegions : Checked → (Global → Bor View → Bor Env → Bor Rule → MutBor Forming → Type 0) → Type 0
-TakesRegions checked pre = (alloc : Global) (view : Bor View) (e : Bor Env) (R : Bor Rule) (made : MutBor Forming)
-    → view.now.signature.now ≡ shape_of (spec_of checked.spec) → made.now.set.count ≡ count_of view.now.signature.now → pre alloc view e R made
+abbrev pub IsTaken : Shape → Outcome → (old new : Forming) → Result Region Stopped → Type 0
+IsTaken shape o old new (Ok region.Formed) = Follows {T = Region} shape o old new (Ok region.Formed)
+IsTaken shape o old new (Ok region.Left) = new ≡ old
+IsTaken shape o old new (Err e) = Follows {T = Region} shape o old new (Err e)
 
-abbrev pub FormsRegions : Setting → (Global → Bor View → Bor Env → Bor Rule → MutBor Forming → Result (Unit {0}) Stopped → MutBor Forming → Type 0) → Type 0
-FormsRegions s post = (alloc : Global) (view : Bor View) (e : Bor Env) (R : Bor Rule) (made : MutBor Forming) (result : Result (Unit {0}) Stopped) (new : MutBor Forming)
-    → post alloc view e R made result new → Follows view.now.signature.now (outcome s (shown view.now) (environment s.shape e.now) made.now.path.items (meant R.now)) made.now new.now result
+module _ {P : Type 0} where
+  abbrev pub TakesRegions : (Global → Bor View → Bor (Choices P) → ℕ → Bor Frame → Bor RuleCode → MutBor Forming → Type 0) → Type 0
+  TakesRegions pre = (alloc : Global) (view : Bor View) (choices : Bor (Choices P)) (turns : ℕ) (f : Bor Frame) (R : Bor RuleCode) (made : MutBor Forming)
+      → let shape = view.now.signature.now in
+      IsSoundRule shape (rule_of R.now) → IsSoundFrame shape f.now → made.now.set.count ≡ count_of shape
+      → pre alloc view choices turns f R made
+
+  abbrev pub TakesThem : (script : P → Script) → (Global → Bor View → Bor (Choices P) → ℕ → Bor Frame → Bor RuleCode → MutBor Forming → Result Region Stopped → MutBor Forming → Type 0) → Type 0
+  TakesThem script post = (alloc : Global) (view : Bor View) (choices : Bor (Choices P)) (turns : ℕ) (f : Bor Frame) (R : Bor RuleCode) (made : MutBor Forming) (result : Result Region Stopped) (new : MutBor Forming)
+      → post alloc view choices turns f R made result new
+      → IsTaken view.now.signature.now (rule_shown script view.now choices.now turns f.now made.now.path.items (rule_of R.now)) made.now new.now result

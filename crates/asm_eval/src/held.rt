@@ -1,25 +1,137 @@
-//! Values that need no environment: of functions and universes.
-ghost use Rattle.std.specs.Prelude.{◌≡◌, ◌<◌, List, [], IfSome, IfNone, slice_get};
-ghost use Rattle.asm_state.specs.Signature.{functions_of};
-ghost use Rattle.asm_syntax.specs.Views.{spec_of};
-ghost use Rattle.asm_meaning.specs.Declarations as declared;
+//! What needs no frame: values of locations and of functions, and numbers of locations.
+ghost use Rattle.std.specs.Prelude.{◌≡◌, ◌≤◌, ◌<◌, ◌+◌, ◌*◌, ◌||◌, slice_get};
+ghost use Rattle.asm_state.specs.declared.limits.TheConstants.{LOCATIONS};
+ghost use Rattle.asm_state.specs.FirstLocations.{position_in_grid};
+ghost use Rattle.asm_state.specs.Signature.{count_of, functions_of};
 ghost use Rattle.asm_meaning.specs.Declarations.{function_at};
-ghost use Rattle.asm_meaning.specs.Valued.{program, shown, held};
+ghost use Rattle.asm_meaning.specs.Valued.{shown, held};
 ghost use Rattle.asm_meaning.specs.Value as spec;
+ghost use Rattle.asm_eval.specs.Ands as conditions;
+ghost use Rattle.asm_eval.specs.Readings as reading;
+ghost use Rattle.asm_eval.specs.Readings.{place_in, content};
+ghost use Rattle.asm_eval.specs.RuleMeaning.{number_from};
+ghost use Rattle.asm_eval.specs.Sound.{IsCell, AreCells};
 
-use asm_check::{Checked, Named};
-use asm_meaning::view::View;
+use crate::code::{Grid, Span};
+use asm_meaning::View;
 use asm_state::function::FunctionKind;
-use asm_state::universe::Universe;
-use asm_state::value::Value;
 use asm_state::word::Word;
-use asm_syntax::name::Name;
 
 /// Whether a value is the truth value true.
+#[inline(always)]
 pub(crate) fn is_true(value: Word) -> bool
     ensures { result ≡ spec.is_true value }
 {
-    matches!(value.value(), Value::Truth(true))
+    value.code() == 3
+}
+
+/// Whether a value is the truth value false.
+#[inline(always)]
+pub(crate) fn is_false(value: Word) -> bool
+    ensures { result ≡ conditions.is_false value }
+{
+    value.code() == 2
+}
+
+/// Whether a value is a truth value.
+#[inline(always)]
+pub(crate) fn is_truth(value: Word) -> bool
+    ensures { result ≡ (spec.is_true value || conditions.is_false value) }
+{
+    let code = value.code();
+    code == 2 || code == 3
+}
+
+/// The content of a location that isn't stray.
+#[inline(always)]
+pub(crate) fn cell(view: &View, n: usize) -> Word
+    requires { IsCell view.now.signature.now n }
+    ensures { result ≡ content view.now.signature.now (shown view.now) n }
+{
+    view.content(n)
+}
+
+/// The same by a call, so that whoever asks for it keeps its own frame small.
+#[inline(never)]
+pub(crate) fn far_cell(view: &View, n: usize) -> Word
+    requires { IsCell view.now.signature.now n }
+    ensures { result ≡ content view.now.signature.now (shown view.now) n }
+{
+    cell(view, n)
+}
+
+/// The content of the location with this number: `Undef` at a stray one.
+#[inline(never)]
+pub(crate) fn located(view: &View, n: usize) -> Word
+    requires { n < count_of view.now.signature.now }
+    ensures { result ≡ content view.now.signature.now (shown view.now) n }
+{
+    match view.signature.stray(n) {
+        Some(_) => Word::undef(),
+        None => view.content(n),
+    }
+}
+
+/// The position of a value among those of a span, if it is one of them.
+#[inline(always)]
+fn position(over: Span, value: Word) -> Option<usize>
+    ensures { result ≡ place_in over.low over.count value }
+{
+    let code = value.code();
+    if over.low <= code && code - over.low < over.count as u64 {
+        Some((code - over.low) as usize)
+    } else {
+        None
+    }
+}
+
+/// The content behind the first location of a function, at the position of an argument.
+#[inline(always)]
+pub(crate) fn in_row(view: &View, first: usize, over: Span, argument: Word) -> Word
+    requires cells { AreCells view.now.signature.now first over.count }
+    ensures { result ≡ reading.in_row view.now.signature.now (shown view.now) first (place_in over.low over.count argument) }
+{
+    match position(over, argument) {
+        None => Word::undef(),
+        Some(i) => cell(view, first + i),
+    }
+}
+
+/// The same at the positions of two arguments.
+#[inline(always)]
+pub(crate) fn in_grid(view: &View, place: &Grid, row: Word, column: Word) -> Word
+    requires cells { AreCells view.now.signature.now place.now.first (place.now.rows.count * place.now.columns.count) }
+    ensures { result ≡ reading.in_grid view.now.signature.now (shown view.now) place.now.first place.now.columns.count (place_in place.now.rows.low place.now.rows.count row) (place_in place.now.columns.low place.now.columns.count column) }
+{
+    match (position(place.rows, row), position(place.columns, column)) {
+        (Some(i), Some(j)) => cell(view, place.first + (i * place.columns.count + j)),
+        _ => Word::undef(),
+    }
+}
+
+/// The number of the location at the position of an argument, from the first one of a function on:
+/// that of the stray one where the argument has no position.
+#[inline(always)]
+pub(crate) fn number_in_row(first: usize, over: Span, argument: Word) -> usize
+    requires { first + over.count ≤ LOCATIONS }
+    ensures { result ≡ number_from first over.count (place_in over.low over.count argument) }
+{
+    match position(over, argument) {
+        None => first + over.count,
+        Some(i) => first + i,
+    }
+}
+
+/// The same at the positions of two arguments.
+#[inline(always)]
+pub(crate) fn number_in_grid(place: &Grid, row: Word, column: Word) -> usize
+    requires { place.now.first + place.now.rows.count * place.now.columns.count ≤ LOCATIONS }
+    ensures { result ≡ number_from place.now.first (place.now.rows.count * place.now.columns.count) (position_in_grid (place_in place.now.rows.low place.now.rows.count row) place.now.columns.count (place_in place.now.columns.low place.now.columns.count column)) }
+{
+    match (position(place.rows, row), position(place.columns, column)) {
+        (Some(i), Some(j)) => place.first + (i * place.columns.count + j),
+        _ => place.first + place.rows.count * place.columns.count,
+    }
 }
 
 /// The value of the controlled or static function with this number.
@@ -31,26 +143,5 @@ pub(crate) fn function_value(view: &View, f: usize, values: &[Word]) -> Word
     match view.signature.function(f).kind {
         FunctionKind::Controlled => view.read(f, values),
         FunctionKind::Static => view.signature.given(f, values),
-    }
-}
-
-/// The number of a universe.
-fn universe_number(it: Option<Named>) -> Option<usize>
-    ensures { result ≡ declared.universe_number it }
-{
-    match it {
-        Some(Named::Universe(n)) => Some(n),
-        _ => None,
-    }
-}
-
-/// The universe that the name stands for.
-pub(crate) fn universe_of<'a>(checked: &'a Checked, name: &Name) -> Option<&'a Universe>
-    ensures some { IfSome result (λ u. u.now ≡ spec.universe (program checked.now) name.now.text) }
-    ensures none { IfNone result (spec.universe (program checked.now) name.now.text ≡ []) }
-{
-    match universe_number(checked.named(&name.text)) {
-        None => None,
-        Some(n) => Some(checked.signature().universe(n)),
     }
 }

@@ -1,27 +1,31 @@
-//! The evaluation of terms and rules, which are read off the tree of a specification.
+//! A specification resolved: terms and rules in which names are positions and functions numbers of
+//! locations; the pass that makes them, and their evaluation, with the meaning of the text's.
 #![tactic(auto)]
 
-mod beneath;
-mod binder;
+mod applied;
+pub mod bodies;
 mod choose;
-pub mod env;
-pub mod evaluation;
+pub mod code;
 mod find;
 pub mod form;
-mod guarded;
+pub mod frame;
+mod functions;
 mod held;
 pub mod laws;
+mod make;
+pub mod modulus;
 pub mod open;
+pub mod outcome;
 pub mod piece;
+mod place;
 pub mod positions;
+pub mod regions;
+pub mod resolve;
+pub mod resolve_rule;
+pub mod rule_code;
+pub mod running;
+pub mod scope;
 pub mod shared;
-mod target;
-mod terms;
+mod used;
 pub mod value;
-pub mod walk;
 pub mod whole;
-pub mod whole_piece;
-
-pub use env::Env;
-pub use evaluation::{Evaluation, Scene};
-pub use piece::{Opened, Piece};

@@ -1,96 +1,134 @@
-//! Opening pieces.
-ghost use Rattle.std.specs.Prelude.{◌≡◌, ◌<◌, ◌≤◌, ℕ, true, false, length, IfOk};
-ghost use Rattle.asm_state.specs.Location.{State};
-ghost use Rattle.asm_meaning.specs.Cases.{all_run};
-ghost use Rattle.asm_meaning.specs.Does.{parts};
-ghost use Rattle.asm_eval.specs.Beneath.{has_one_beneath};
-ghost use Rattle.asm_eval.specs.Environments.{environment, environment_in};
-ghost use Rattle.asm_eval.specs.Evaluated.{setting, state_at, meant_forall};
-ghost use Rattle.asm_meaning.specs.Meant.{meant, meant_rules};
-ghost use Rattle.asm_eval.specs.Pieces.{IsInterval, IsPartOf, IsPiece, Opens, OpensTo, is_closed, span_does};
-ghost use Rattle.asm_meaning.specs.Setting.{Setting, outcome};
-ghost use Rattle.asm_meaning.specs.Value.{universe};
-ghost use Rattle.asm_meaning.specs.Valued.{program};
+//! Opening pieces of resolved rules.
+ghost use Rattle.std.specs.Prelude.{◌≡◌, ◌-◌, ◌<◌, ◌≤◌, Some, map, option_map, IfOk};
+ghost use Rattle.asm_meaning.specs.Intervals.{between};
 ghost use Rattle.asm_meaning.specs.Yields as yields;
 ghost use Rattle.asm_meaning.specs.declared.part.Part.TheVariants as part;
+ghost use Rattle.asm_eval.specs.CodeViews.{code_of};
+ghost use Rattle.asm_eval.specs.Frames.{IsSoundFrame, readings_of};
+ghost use Rattle.asm_eval.specs.OpenedPieces.{Opens, OpensTo};
+ghost use Rattle.asm_eval.specs.Opening.{body_works, counted_works, one_work, part_opened, part_works, rule_works};
+ghost use Rattle.asm_eval.specs.Pieces.{IsInterval, IsPartOf, IsPiece};
+ghost use Rattle.asm_eval.specs.Readings.{universe_at};
+ghost use Rattle.asm_eval.specs.RuleMeaning.{AreSoundRules, IsSoundRule, IsSoundTest};
+ghost use Rattle.asm_eval.specs.RuleViews.{rule_of, rules_of};
+ghost use Rattle.asm_eval.specs.Running.{chosen_at, places_of, shape_at, state_at};
+ghost use Rattle.asm_eval.specs.Sound.{IsUniverseNumber};
 
-use crate::beneath::beneath;
-use crate::binder::Binder;
-use crate::choose::holds;
-use crate::env::Env;
-use crate::evaluation::Evaluation;
-use crate::held::universe_of;
-use crate::piece::{Opened, Piece};
-use asm_check::Checked;
-use asm_meaning::part::Part;
-use asm_meaning::path::Path;
+use crate::choose::{chosen, passes};
+use crate::code::Code;
+use crate::frame::Frame;
+use crate::piece::Piece;
+use crate::place::answer_number;
+use crate::rule_code::RuleCode;
+use crate::running::Running;
+use crate::value::{holds, value};
+use asm_meaning::{Part, Path};
 use asm_reader::Picks;
-use asm_syntax::name::Name;
-use asm_syntax::rule::Rule;
 use std::alloc::{AllocError, Global};
 
-/// The pieces that a piece is made of, in order; they borrow from it. A span longer than the cut gives spans, and each other part its one
-/// step of evaluation: a `par` its parts, a `forall` the bodies for the elements whose condition holds, an `if`, `let`, `choose` or call
-/// the one rule beneath it, if there is one. A `skip`, an assignment, a `seq`, an `iterate` and a `while` are closed.
+/// What comes of opening a piece.
+#[derive(Drop)]
+pub enum Opened<'a> {
+    /// The pieces that it is made of, in order, and how many elements were counted in opening it.
+    Pieces {
+        pieces: Vec<Piece<'a>>,
+        instances: u64,
+    },
+    /// It isn't opened: it is evaluated whole.
+    Closed,
+}
+
+/// The pieces that a piece is made of, in order; they borrow from it. A span longer than the cut
+/// gives spans, each of which but the last has as many positions as the cut. Each other part gives
+/// its one step of evaluation: a `par` its parts, a `forall` the bodies for the elements whose
+/// condition holds, an `if`, `let`, `choose` or call the one rule beneath it. A `skip`, an
+/// assignment, a `seq` and an `iterate` are closed.
 pub fn open_piece<'a, P: Picks>(
     alloc: Global,
-    evaluation: &Evaluation<'a, '_, P>,
+    running: &Running<'_, '_, P>,
     piece: &'a Piece<'a>,
     cut: usize,
 ) -> Result<Opened<'a>, AllocError>
     requires cut { 0 < cut }
-    requires piece { IsPiece (setting evaluation.now).program piece.now }
-    ensures { IfOk result (Opens (setting evaluation.now) (state_at evaluation.now) cut piece.now) }
+    requires piece { IsPiece (shape_at running.now) piece.now }
+    ensures { IfOk result (Opens running.now cut piece.now) }
 {
     match piece.part {
-        Part::Whole => open_rule(alloc, evaluation, &*piece, cut),
-        Part::Span { from, to } => open_span(alloc, evaluation, &*piece, from, to, cut),
+        Part::Whole => open_rule(alloc, running, &*piece, cut),
+        Part::Span { from, to } => open_span(alloc, running, &*piece, from, to, cut),
     }
 }
 
 /// What a piece that has all of its rule is made of.
 fn open_rule<'a, P: Picks>(
     alloc: Global,
-    evaluation: &Evaluation<'a, '_, P>,
+    running: &Running<'_, '_, P>,
     piece: &'a Piece<'a>,
     cut: usize,
 ) -> Result<Opened<'a>, AllocError>
-    requires { 0 < cut }
-    ensures { let R = meant piece.now.rule.now in
-        let o = outcome (setting evaluation.now) (state_at evaluation.now) (environment_in evaluation.now.scene.checked.now piece.now.env) piece.now.path R in
-        IfOk result (OpensTo (setting evaluation.now) (state_at evaluation.now) cut (is_closed R) o) }
+    requires cut { 0 < cut }
+    requires sound { IsSoundRule (shape_at running.now) (rule_of piece.now.rule.now) }
+    requires framed { IsSoundFrame (shape_at running.now) piece.now.frame }
+    ensures { let f = piece.now.frame in
+        let works = rule_works (shape_at running.now) (state_at running.now) (chosen_at running.now) cut (rule_of piece.now.rule.now) (readings_of (shape_at running.now) f) (places_of (shape_at running.now) f) piece.now.path in
+        IfOk result (OpensTo running.now works) }
 {
+    let path = piece.path.as_slice();
     match piece.rule {
-        Rule::Skip => Ok(Opened::Closed),
-        Rule::Assign { .. } => Ok(Opened::Closed),
-        Rule::Seq(_) => Ok(Opened::Closed),
-        Rule::Iterate(_) | Rule::While { .. } => Ok(Opened::Closed),
-        Rule::SetResult { .. } => Ok(Opened::Closed),
-        Rule::Par(rules) => open_parts(alloc, rules.as_slice(), &piece.env, piece.path.as_slice()),
-        Rule::Forall { over, .. } => {
-            let size = size_of(evaluation.scene.checked, over);
-            open_span(alloc, evaluation, &*piece, 0, size, cut)
+        RuleCode::Skip => Ok(Opened::Closed),
+        RuleCode::Assign { .. } => Ok(Opened::Closed),
+        RuleCode::Seq(_) => Ok(Opened::Closed),
+        RuleCode::Iterate(_) => Ok(Opened::Closed),
+        RuleCode::Par(parts) => open_parts(alloc, running, parts.as_slice(), &piece.frame, path),
+        RuleCode::Forall { over, .. } => {
+            let size = running.view.signature.universe(*over).size();
+            open_span(alloc, running, &*piece, 0, size, cut)
         }
-        _ => open_beneath(alloc, evaluation, &*piece),
+        RuleCode::If { test, yes, no } => {
+            let tested = holds(running.view, &piece.frame, test);
+            if tested {
+                open_one(alloc, running, yes, piece.frame, path, 0)
+            } else {
+                open_one(alloc, running, no, piece.frame, path, 1)
+            }
+        }
+        RuleCode::Let { value: term, body } => {
+            let value = value(running.view, &piece.frame, term);
+            let bound = Frame::One {
+                value: value.kept(),
+                outer: &piece.frame,
+            };
+            open_one(alloc, running, body, bound, path, 0)
+        }
+        RuleCode::Choose {
+            over,
+            test,
+            body,
+            none,
+        } => match chosen(running, &piece.frame, *over, test, path) {
+            Some(value) => {
+                let bound = Frame::One {
+                    value: value.kept(),
+                    outer: &piece.frame,
+                };
+                open_one(alloc, running, body, bound, path, 0)
+            }
+            None => open_one(alloc, running, none, piece.frame, path, 1),
+        },
+        RuleCode::Call {
+            body,
+            answer,
+            arguments,
+        } => {
+            let answer = answer_number(alloc, running.view, &piece.frame, answer)?;
+            let bound = Frame::Terms {
+                answer,
+                codes: arguments.as_slice(),
+                caller: &piece.frame,
+            };
+            open_one(alloc, running, body, bound, path, 0)
+        }
     }
-}
-
-/// How many elements the universe has.
-fn size_of(checked: &Checked, over: &Name) -> usize
-    ensures { result ≡ length (universe (program checked.now) over.now.text) }
-{
-    match universe_of(checked, over) {
-        Some(universe) => universe.size(),
-        None => 0,
-    }
-}
-
-/// The path with these numbers.
-fn path_with(alloc: Global, numbers: &[u64]) -> Result<Path, AllocError>
-    ensures { IfOk result (λ p. p ≡ numbers.now) }
-{
-    let numbers = numbers.to_vec(alloc)?;
-    Ok(Path::new(numbers))
 }
 
 /// The path of the part with this number.
@@ -102,49 +140,61 @@ fn path_below(alloc: Global, path: &[u64], number: u64) -> Result<Path, AllocErr
     Ok(Path::new(numbers))
 }
 
-/// The parts of a `par`.
-fn open_parts<'a>(
-    alloc: Global,
-    rules: &'a [Rule],
-    env: &Env<'a>,
-    path: &[u64],
-) -> Result<Opened<'a>, AllocError>
-    ensures { (s : Setting) (A : State) (cut : ℕ) → IfOk result (OpensTo s A cut false (parts (all_run s.program s.turns s.script s.step (meant_rules rules.now)) 0 A (environment s.shape env.now) path.now)) }
+/// The path with these numbers.
+fn path_with(alloc: Global, numbers: &[u64]) -> Result<Path, AllocError>
+    ensures { IfOk result (λ p. p ≡ numbers.now) }
 {
-    let mut pieces = Vec::with_capacity(alloc, rules.len())?;
-    for i in 0..rules.len() {
-        let path = path_below(alloc, path, i as u64)?;
-        pieces.push(Piece {
-            rule: &rules[i],
-            env: *env,
-            path,
-            part: Part::Whole,
-        })?;
-    }
+    let numbers = numbers.to_vec(alloc)?;
+    Ok(Path::new(numbers))
+}
+
+/// The one rule beneath another.
+fn open_one<'a, P: Picks>(
+    alloc: Global,
+    running: &Running<'_, '_, P>,
+    rule: &'a RuleCode,
+    frame: Frame<'a>,
+    path: &[u64],
+    number: u64,
+) -> Result<Opened<'a>, AllocError>
+    requires sound { IsSoundRule (shape_at running.now) (rule_of rule.now) }
+    requires framed { IsSoundFrame (shape_at running.now) frame }
+    ensures { let shape = shape_at running.now in
+        IfOk result (OpensTo running.now (one_work (rule_of rule.now) (readings_of shape frame.entry) (places_of shape frame.entry) path.now number)) }
+{
+    let path = path_below(alloc, path, number)?;
+    let mut pieces = Vec::new(alloc);
+    pieces.push(Piece {
+        rule,
+        frame,
+        path,
+        part: Part::Whole,
+    })?;
     Ok(Opened::Pieces {
         pieces,
         instances: 0,
     })
 }
 
-/// The one rule beneath an `if`, a `let`, a `choose` or a call, if there is one.
-fn open_beneath<'a, P: Picks>(
+/// The parts of a `par`.
+fn open_parts<'a, P: Picks>(
     alloc: Global,
-    evaluation: &Evaluation<'a, '_, P>,
-    piece: &'a Piece<'a>,
+    running: &Running<'_, '_, P>,
+    parts: &'a [RuleCode],
+    frame: &Frame<'a>,
+    path: &[u64],
 ) -> Result<Opened<'a>, AllocError>
-    requires { has_one_beneath (meant piece.now.rule.now) ≡ true }
-    ensures { let R = meant piece.now.rule.now in
-        let o = outcome (setting evaluation.now) (state_at evaluation.now) (environment_in evaluation.now.scene.checked.now piece.now.env) piece.now.path R in
-        (cut : ℕ) → IfOk result (OpensTo (setting evaluation.now) (state_at evaluation.now) cut (is_closed R) o) }
+    requires sound { AreSoundRules (shape_at running.now) (rules_of (map rule_of parts.now)) }
+    requires framed { IsSoundFrame (shape_at running.now) frame.now }
+    ensures { let shape = shape_at running.now in
+        IfOk result (OpensTo running.now (Some (part_works 0 (rules_of (map rule_of parts.now)) (readings_of shape frame.now) (places_of shape frame.now) path.now, 0))) }
 {
-    let path = piece.path.as_slice();
-    let mut pieces = Vec::new(alloc);
-    if let Some(below) = beneath(alloc, evaluation, &piece.env, piece.rule, path)? {
-        let path = path_below(alloc, path, below.number)?;
+    let mut pieces = Vec::with_capacity(alloc, parts.len())?;
+    for i in 0..parts.len() {
+        let path = path_below(alloc, path, i as u64)?;
         pieces.push(Piece {
-            rule: below.rule,
-            env: below.env,
+            rule: &parts[i],
+            frame: *frame,
             path,
             part: Part::Whole,
         })?;
@@ -158,37 +208,45 @@ fn open_beneath<'a, P: Picks>(
 /// What a `forall` at an interval of positions is made of.
 fn open_span<'a, P: Picks>(
     alloc: Global,
-    evaluation: &Evaluation<'a, '_, P>,
+    running: &Running<'_, '_, P>,
     piece: &'a Piece<'a>,
     from: usize,
     to: usize,
     cut: usize,
 ) -> Result<Opened<'a>, AllocError>
     requires cut { 0 < cut }
-    requires part { IsPartOf (setting evaluation.now).program (meant piece.now.rule.now) (part.Span from to) }
-    ensures { let o = span_does (setting evaluation.now) (state_at evaluation.now) (environment_in evaluation.now.scene.checked.now piece.now.env) piece.now.path (meant piece.now.rule.now) from to in
-        IfOk result (OpensTo (setting evaluation.now) (state_at evaluation.now) cut false o) }
+    requires sound { IsSoundRule (shape_at running.now) (rule_of piece.now.rule.now) }
+    requires framed { IsSoundFrame (shape_at running.now) piece.now.frame }
+    requires part { IsPartOf (shape_at running.now) (rule_of piece.now.rule.now) (part.Span from to) }
+    ensures { let f = piece.now.frame in
+        let works = part_opened (shape_at running.now) (state_at running.now) (chosen_at running.now) cut (rule_of piece.now.rule.now) (readings_of (shape_at running.now) f) (places_of (shape_at running.now) f) piece.now.path (part.Span from to) in
+        IfOk result (OpensTo running.now works) }
 {
     match piece.rule {
-        Rule::Forall {
-            name,
-            over,
-            test,
-            body,
-        } => {
+        RuleCode::Forall { over, test, body } => {
             if to - from > cut {
-                return open_spans(alloc, &*piece, from, to, cut);
+                return open_spans(alloc, running, &*piece, from, to, cut);
             }
-            let binder = Binder { name, over, test };
-            open_bodies(alloc, evaluation, &*piece, &binder, body, from, to)
+            open_bodies(
+                alloc,
+                running,
+                &piece.frame,
+                piece.path.as_slice(),
+                *over,
+                test,
+                body,
+                from,
+                to,
+            )
         }
         _ => unreachable!(),
     }
 }
 
 /// Spans of at most so many positions.
-fn open_spans<'a>(
+fn open_spans<'a, P: Picks>(
     alloc: Global,
+    running: &Running<'_, '_, P>,
     piece: &'a Piece<'a>,
     from: usize,
     to: usize,
@@ -196,8 +254,13 @@ fn open_spans<'a>(
 ) -> Result<Opened<'a>, AllocError>
     requires cut { 0 < cut }
     requires rises { from ≤ to }
-    ensures { (s : Setting) (A : State) → IsPartOf s.program (meant piece.now.rule.now) (part.Span from to)
-        → IfOk result (OpensTo s A cut false (span_does s A (environment s.shape piece.now.env) piece.now.path (meant piece.now.rule.now) from to)) }
+    requires long { cut < to - from }
+    requires sound { IsSoundRule (shape_at running.now) (rule_of piece.now.rule.now) }
+    requires framed { IsSoundFrame (shape_at running.now) piece.now.frame }
+    requires part { IsPartOf (shape_at running.now) (rule_of piece.now.rule.now) (part.Span from to) }
+    ensures { let f = piece.now.frame in
+        let works = part_opened (shape_at running.now) (state_at running.now) (chosen_at running.now) cut (rule_of piece.now.rule.now) (readings_of (shape_at running.now) f) (places_of (shape_at running.now) f) piece.now.path (part.Span from to) in
+        IfOk result (OpensTo running.now works) }
 {
     let mut pieces = Vec::with_capacity(alloc, (to - from).div_ceil(cut))?;
     let mut next = from;
@@ -206,7 +269,7 @@ fn open_spans<'a>(
         let path = path_with(alloc, piece.path.as_slice())?;
         pieces.push(Piece {
             rule: piece.rule,
-            env: piece.env,
+            frame: piece.frame,
             path,
             part: Part::Span {
                 from: next,
@@ -221,37 +284,42 @@ fn open_spans<'a>(
     })
 }
 
-/// The bodies for the elements at an interval of positions for which the condition holds. Each is counted.
+/// The bodies for the values at an interval of positions for which the condition holds. Each is
+/// counted.
 fn open_bodies<'a, P: Picks>(
     alloc: Global,
-    evaluation: &Evaluation<'a, '_, P>,
-    piece: &'a Piece<'a>,
-    binder: &Binder<'a>,
-    body: &'a Rule,
+    running: &Running<'_, '_, P>,
+    frame: &'a Frame<'a>,
+    path: &[u64],
+    over: usize,
+    test: &'a Option<Code>,
+    body: &'a RuleCode,
     from: usize,
     to: usize,
 ) -> Result<Opened<'a>, AllocError>
-    requires { IsInterval (setting evaluation.now).program binder.now.over.now.text from to }
-    ensures { let o = span_does (setting evaluation.now) (state_at evaluation.now) (environment_in evaluation.now.scene.checked.now piece.now.env) piece.now.path (meant_forall binder.now body.now) from to in
-        (cut : ℕ) → IfOk result (OpensTo (setting evaluation.now) (state_at evaluation.now) cut false o) }
+    requires universe { IsUniverseNumber (shape_at running.now) over }
+    requires interval { IsInterval (shape_at running.now) over from to }
+    requires sound_test { IsSoundTest (shape_at running.now) (option_map code_of test.now) }
+    requires sound { IsSoundRule (shape_at running.now) (rule_of body.now) }
+    requires framed { IsSoundFrame (shape_at running.now) frame.now }
+    ensures { let shape = shape_at running.now in
+        let works = body_works shape (state_at running.now) (option_map code_of test.now) (rule_of body.now) (readings_of shape frame.now) (places_of shape frame.now) path.now from (between from to (universe_at shape over)) in
+        IfOk result (OpensTo running.now (counted_works works)) }
 {
     let mut pieces = Vec::new(alloc);
     let mut instances = 0;
-    let Some(universe) = universe_of(evaluation.scene.checked, binder.over) else {
-        return Ok(Opened::Pieces { pieces, instances });
-    };
+    let universe = running.view.signature.universe(over);
     for i in from..to {
-        let bound = Env::One {
-            name: binder.name,
+        let bound = Frame::One {
             value: universe.element(i).kept(),
-            outer: &piece.env,
+            outer: frame,
         };
-        if holds(alloc, evaluation, &bound, binder.test)? {
-            let path = path_below(alloc, piece.path.as_slice(), i as u64)?;
+        if passes(running.view, &bound, test) {
+            let below = path_below(alloc, path, i as u64)?;
             pieces.push(Piece {
                 rule: body,
-                env: bound,
-                path,
+                frame: bound,
+                path: below,
                 part: Part::Whole,
             })?;
             instances += 1;

@@ -1,31 +1,593 @@
-//! The value of a term.
-ghost use Rattle.std.specs.Prelude.{◌≡◌, IfOk};
-ghost use Rattle.asm_syntax.specs.Views.{spec_of};
-ghost use Rattle.asm_check.specs.Shapes.{shape_of};
-ghost use Rattle.asm_eval.specs.Environments.{environment_in};
-ghost use Rattle.asm_meaning.specs.Valued.{term_value};
+//! The values of codes.
+ghost use Rattle.std.specs.Prelude.{◌≡◌, ◌≤◌, ◌<◌, ◌*◌, length, map, slice_index_or, true};
+ghost use Rattle.std.specs.List.{list_all};
+ghost use Rattle.asm_state.specs.Signature.{functions_of};
+ghost use Rattle.asm_state.specs.declared.operation.Op.TheVariants.{Add, Remainder, Equal, Or};
+ghost use Rattle.asm_state.specs.declared.value.Value.TheVariants.{Undef, Truth, Number as Whole};
+ghost use Rattle.asm_eval.specs.Ands as conditions;
+ghost use Rattle.asm_eval.specs.Ands.{is_and};
+ghost use Rattle.asm_meaning.specs.Value as spec;
+ghost use Rattle.asm_meaning.specs.Valued.{shown};
+ghost use Rattle.asm_eval.specs.CodeTree as tree;
+ghost use Rattle.asm_eval.specs.CodeViews.{code_of, codes_of, link_of, links_of};
+ghost use Rattle.asm_eval.specs.Frames.{IsSoundFrame, bound_value, code_value, position_value, tree_value, AllSound};
+ghost use Rattle.asm_eval.specs.Sound.{AreCells, AreSoundLinks, IsSound, IsUniverseNumber};
 
-use crate::env::Env;
-use crate::evaluation::Scene;
-use crate::terms;
-use asm_check::Checked;
-use asm_meaning::view::View;
+use crate::applied::{added, applied, are_ands, equal_to, far_applied, remainder_by};
+use crate::code::{Code, Grid, Span};
+use crate::find::{Found, find};
+use crate::frame::Frame;
+use crate::held::{
+    far_cell, function_value, in_grid, in_row, is_false, is_true, is_truth, located,
+};
+use crate::modulus::Modulus;
+use asm_meaning::View;
+use asm_state::number::Number;
+use asm_state::operation::Op;
 use asm_state::word::Word;
-use asm_syntax::term::Term;
-use std::alloc::{AllocError, Global};
 
-/// The value of the term, in the state that the view shows and under the environment.
-pub fn value<'a, 'e>(
-    alloc: Global,
-    checked: &'a Checked,
-    view: &'a View<'_>,
-    env: &'e Env<'e>,
-    term: &'e Term,
-) -> Result<Word, AllocError>
-    requires { view.now.signature.now ≡ shape_of (spec_of checked.now.spec) }
-    ensures { IfOk result (λ v. v ≡ term_value checked.now view.now (environment_in checked.now env.now) term.now) }
+/// So many arguments are valued in one array. A function that has more is a derived one.
+const FEW: usize = 4;
+
+/// The value of the code in the state that the view shows and under the frame.
+///
+/// Nests as deep as codes, codes in frames and derived functions do; a chain of any length is
+/// valued in one loop. It takes no memory.
+#[cycle(value)]
+pub fn value<'e>(view: &View, frame: &'e Frame<'e>, code: &'e Code) -> Word
+    requires sound { IsSound view.now.signature.now (code_of code.now) }
+    requires framed { IsSoundFrame view.now.signature.now frame.now }
+    ensures { result ≡ code_value view.now frame.now code.now }
 {
-    let scene = Scene { checked, view };
-    let value = terms::value(alloc, &scene, env, term)?;
-    Ok(value)
+    match code {
+        Code::Constant(value) => *value,
+        Code::Local(position) => local(view, frame, *position),
+        Code::Cell(n) => far_cell(view, *n),
+        Code::Row {
+            first,
+            over,
+            argument,
+        } => row_value(view, frame, *first, *over, argument),
+        Code::Grid { place, row, column } => grid_value(view, frame, place, row, column),
+        Code::Held {
+            function,
+            arguments,
+        } => held(view, frame, *function, arguments.as_slice()),
+        Code::Derived { body, arguments } => derived(view, frame, body, arguments.as_slice()),
+        Code::DerivedOne { body, argument } => derived_one(view, frame, body, argument),
+        Code::DerivedTwo {
+            body,
+            first,
+            second,
+        } => derived_two(view, frame, body, first, second),
+        Code::With {
+            operation,
+            left,
+            right,
+        } => with(view, frame, *operation, left, *right),
+        Code::Plus { left, right } => plus(view, frame, left, *right),
+        Code::PlusModulo { left, by, over } => plus_modulo(view, frame, left, *by, *over),
+        Code::Modulo { left, right } => modulo(view, frame, left, *right),
+        Code::Equals { left, right } => equals(view, frame, left, *right),
+        Code::Both {
+            operation,
+            left,
+            right,
+        } => both(view, frame, *operation, left, right),
+        Code::Chain { first, rest } => chain(view, frame, first, rest.as_slice()),
+        Code::Exists { over, test } => Word::truth(exists(view, frame, *over, test)),
+        Code::Every { over, test } => Word::truth(every(view, frame, *over, test)),
+    }
+}
+
+/// Whether the value of the code is the truth value true. What it doesn't hang on isn't valued.
+#[cycle(value)]
+pub fn holds<'e>(view: &View, frame: &'e Frame<'e>, code: &'e Code) -> bool
+    requires sound { IsSound view.now.signature.now (code_of code.now) }
+    requires framed { IsSoundFrame view.now.signature.now frame.now }
+    ensures { result ≡ spec.is_true (code_value view.now frame.now code.now) }
+{
+    match code {
+        Code::With {
+            operation,
+            left,
+            right,
+        } => with_holds(view, frame, *operation, left, *right),
+        Code::Equals { left, right } => is_true(equals(view, frame, left, *right)),
+        Code::Both {
+            operation,
+            left,
+            right,
+        } => both_hold(view, frame, *operation, left, right),
+        Code::Chain { first, rest } => chain_holds(view, frame, first, rest.as_slice()),
+        Code::Exists { over, test } => exists(view, frame, *over, test),
+        Code::Every { over, test } => every(view, frame, *over, test),
+        _ => is_true(value(view, frame, code)),
+    }
+}
+
+/// Whether an operation whose right operand is known has the value true.
+#[cycle(value)]
+#[inline(never)]
+fn with_holds<'e>(
+    view: &View,
+    frame: &'e Frame<'e>,
+    operation: Op,
+    left: &'e Code,
+    right: Word,
+) -> bool
+    requires sound { IsSound view.now.signature.now (code_of left.now) }
+    requires framed { IsSoundFrame view.now.signature.now frame.now }
+    ensures { result ≡ spec.is_true (tree_value view.now frame.now (tree.With operation (code_of left.now) right)) }
+{
+    match operation {
+        Op::Not => fails(view, frame, left),
+        _ => is_true(with(view, frame, operation, left, right)),
+    }
+}
+
+/// Whether the value of the code is the truth value false.
+#[cycle(value)]
+#[inline(never)]
+fn fails<'e>(view: &View, frame: &'e Frame<'e>, code: &'e Code) -> bool
+    requires sound { IsSound view.now.signature.now (code_of code.now) }
+    requires framed { IsSoundFrame view.now.signature.now frame.now }
+    ensures { result ≡ conditions.is_false (code_value view.now frame.now code.now) }
+{
+    match code {
+        Code::Exists { over, test } => !exists(view, frame, *over, test),
+        Code::Every { over, test } => !every(view, frame, *over, test),
+        _ => is_false(value(view, frame, code)),
+    }
+}
+
+/// Whether one of two operands has the value true, where both are truth values. The right one is
+/// asked for no more than that needs.
+#[cycle(value)]
+#[inline(never)]
+fn either_holds<'e>(view: &View, frame: &'e Frame<'e>, left: &'e Code, right: &'e Code) -> bool
+    requires left { IsSound view.now.signature.now (code_of left.now) }
+    requires right { IsSound view.now.signature.now (code_of right.now) }
+    requires framed { IsSoundFrame view.now.signature.now frame.now }
+    ensures { result ≡ spec.is_true (tree_value view.now frame.now (tree.Both Or (code_of left.now) (code_of right.now))) }
+{
+    let tested = operand(view, frame, left);
+    if is_false(tested) {
+        return holds(view, frame, right);
+    }
+    if !is_true(tested) {
+        return false;
+    }
+    let other = operand(view, frame, right);
+    is_truth(other)
+}
+
+/// Whether an operation has the value true. The right operand of `and` is valued where the left one
+/// has the value true.
+#[cycle(value)]
+#[inline(never)]
+fn both_hold<'e>(
+    view: &View,
+    frame: &'e Frame<'e>,
+    operation: Op,
+    left: &'e Code,
+    right: &'e Code,
+) -> bool
+    requires left { IsSound view.now.signature.now (code_of left.now) }
+    requires right { IsSound view.now.signature.now (code_of right.now) }
+    requires framed { IsSoundFrame view.now.signature.now frame.now }
+    ensures { result ≡ spec.is_true (tree_value view.now frame.now (tree.Both operation (code_of left.now) (code_of right.now))) }
+{
+    match operation {
+        Op::And => {
+            if !holds(view, frame, left) {
+                return false;
+            }
+            holds(view, frame, right)
+        }
+        Op::Or => either_holds(view, frame, left, right),
+        _ => is_true(both(view, frame, operation, left, right)),
+    }
+}
+
+/// Whether a chain has the value true.
+#[cycle(value)]
+#[inline(never)]
+fn chain_holds<'e>(
+    view: &View,
+    frame: &'e Frame<'e>,
+    first: &'e Code,
+    rest: &'e [(Op, Code)],
+) -> bool
+    requires first { IsSound view.now.signature.now (code_of first.now) }
+    requires rest { AreSoundLinks view.now.signature.now (links_of (map link_of rest.now)) }
+    requires framed { IsSoundFrame view.now.signature.now frame.now }
+    ensures { result ≡ spec.is_true (tree_value view.now frame.now (tree.Chain (code_of first.now) (links_of (map link_of rest.now)))) }
+{
+    if are_ands(rest) {
+        return all_hold(view, frame, first, rest);
+    }
+    is_true(chain(view, frame, first, rest))
+}
+
+/// Whether each operand of a chain of `and` has the value true.
+#[cycle(value)]
+#[inline(never)]
+fn all_hold<'e>(view: &View, frame: &'e Frame<'e>, first: &'e Code, rest: &'e [(Op, Code)]) -> bool
+    requires first { IsSound view.now.signature.now (code_of first.now) }
+    requires rest { AreSoundLinks view.now.signature.now (links_of (map link_of rest.now)) }
+    requires ands { list_all is_and rest.now ≡ true }
+    requires framed { IsSoundFrame view.now.signature.now frame.now }
+    ensures { result ≡ spec.is_true (tree_value view.now frame.now (tree.Chain (code_of first.now) (links_of (map link_of rest.now)))) }
+{
+    if !holds(view, frame, first) {
+        return false;
+    }
+    for i in 0..rest.len() {
+        let tested = holds(view, frame, &rest[i].1);
+        if !tested {
+            return false;
+        }
+    }
+    true
+}
+
+/// The same value. Constants and locals, which most operands and arguments are, have it without a
+/// call, and others with one.
+#[cycle(value)]
+#[inline(always)]
+pub(crate) fn operand<'e>(view: &View, frame: &'e Frame<'e>, code: &'e Code) -> Word
+    requires sound { IsSound view.now.signature.now (code_of code.now) }
+    requires framed { IsSoundFrame view.now.signature.now frame.now }
+    ensures { result ≡ code_value view.now frame.now code.now }
+{
+    match code {
+        Code::Constant(value) => *value,
+        Code::Local(position) => local(view, frame, *position),
+        Code::Plus { left, right } => plus(view, frame, left, *right),
+        Code::PlusModulo { left, by, over } => plus_modulo(view, frame, left, *by, *over),
+        Code::Modulo { left, right } => modulo(view, frame, left, *right),
+        Code::Cell(n) => far_cell(view, *n),
+        Code::Row {
+            first,
+            over,
+            argument,
+        } => row_value(view, frame, *first, *over, argument),
+        Code::Grid { place, row, column } => grid_value(view, frame, place, row, column),
+        _ => value(view, frame, code),
+    }
+}
+
+/// The value of an operation whose right operand is known.
+#[cycle(value)]
+#[inline(never)]
+fn with<'e>(view: &View, frame: &'e Frame<'e>, operation: Op, left: &'e Code, right: Word) -> Word
+    requires sound { IsSound view.now.signature.now (code_of left.now) }
+    requires framed { IsSoundFrame view.now.signature.now frame.now }
+    ensures { result ≡ tree_value view.now frame.now (tree.With operation (code_of left.now) right) }
+{
+    let left = operand(view, frame, left);
+    far_applied(operation, left, right)
+}
+
+/// The value of an addition whose right operand is known.
+#[cycle(value)]
+#[inline(never)]
+fn plus<'e>(view: &View, frame: &'e Frame<'e>, left: &'e Code, right: Number) -> Word
+    requires sound { IsSound view.now.signature.now (code_of left.now) }
+    requires framed { IsSoundFrame view.now.signature.now frame.now }
+    ensures { result ≡ tree_value view.now frame.now (tree.With Add (code_of left.now) (Whole right)) }
+{
+    let left = operand(view, frame, left);
+    added(left, right)
+}
+
+/// The value of a remainder by what is known.
+#[cycle(value)]
+#[inline(never)]
+fn modulo<'e>(view: &View, frame: &'e Frame<'e>, left: &'e Code, right: Modulus) -> Word
+    requires sound { IsSound view.now.signature.now (code_of left.now) }
+    requires framed { IsSoundFrame view.now.signature.now frame.now }
+    ensures { result ≡ tree_value view.now frame.now (tree.With Remainder (code_of left.now) (Whole right.number)) }
+{
+    let left = operand(view, frame, left);
+    remainder_by(left, right)
+}
+
+/// The value of a remainder of an addition.
+#[cycle(value)]
+#[inline(never)]
+fn plus_modulo<'e>(
+    view: &View,
+    frame: &'e Frame<'e>,
+    left: &'e Code,
+    by: Number,
+    over: Modulus,
+) -> Word
+    requires sound { IsSound view.now.signature.now (code_of left.now) }
+    requires framed { IsSoundFrame view.now.signature.now frame.now }
+    ensures { result ≡ tree_value view.now frame.now (tree.With Remainder (tree.With Add (code_of left.now) (Whole by)) (Whole over.number)) }
+{
+    let left = operand(view, frame, left);
+    let sum = added(left, by);
+    remainder_by(sum, over)
+}
+
+/// The value of a test for equality with what is known.
+#[cycle(value)]
+#[inline(never)]
+fn equals<'e>(view: &View, frame: &'e Frame<'e>, left: &'e Code, right: Word) -> Word
+    requires sound { IsSound view.now.signature.now (code_of left.now) }
+    requires framed { IsSoundFrame view.now.signature.now frame.now }
+    ensures { result ≡ tree_value view.now frame.now (tree.With Equal (code_of left.now) right) }
+{
+    let left = operand(view, frame, left);
+    equal_to(left, right)
+}
+
+/// The value of an operation with two operands.
+#[cycle(value)]
+#[inline(never)]
+fn both<'e>(
+    view: &View,
+    frame: &'e Frame<'e>,
+    operation: Op,
+    left: &'e Code,
+    right: &'e Code,
+) -> Word
+    requires left { IsSound view.now.signature.now (code_of left.now) }
+    requires right { IsSound view.now.signature.now (code_of right.now) }
+    requires framed { IsSoundFrame view.now.signature.now frame.now }
+    ensures { result ≡ tree_value view.now frame.now (tree.Both operation (code_of left.now) (code_of right.now)) }
+{
+    let a = operand(view, frame, left);
+    let b = operand(view, frame, right);
+    applied(operation, a, b)
+}
+
+/// The value of operations taken from the left.
+#[cycle(value)]
+#[inline(never)]
+fn chain<'e>(view: &View, frame: &'e Frame<'e>, first: &'e Code, rest: &'e [(Op, Code)]) -> Word
+    requires first { IsSound view.now.signature.now (code_of first.now) }
+    requires rest { AreSoundLinks view.now.signature.now (links_of (map link_of rest.now)) }
+    requires framed { IsSoundFrame view.now.signature.now frame.now }
+    ensures { result ≡ tree_value view.now frame.now (tree.Chain (code_of first.now) (links_of (map link_of rest.now))) }
+{
+    let mut total = operand(view, frame, first);
+    for (operation, right) in rest {
+        let right = operand(view, frame, right);
+        total = applied(*operation, total, right);
+    }
+    total
+}
+
+/// The content of a location by one argument.
+#[cycle(value)]
+#[inline(never)]
+fn row_value<'e>(
+    view: &View,
+    frame: &'e Frame<'e>,
+    first: usize,
+    over: Span,
+    argument: &'e Code,
+) -> Word
+    requires cells { AreCells view.now.signature.now first over.count }
+    requires sound { IsSound view.now.signature.now (code_of argument.now) }
+    requires framed { IsSoundFrame view.now.signature.now frame.now }
+    ensures { result ≡ tree_value view.now frame.now (tree.Row first over.low over.count (code_of argument.now)) }
+{
+    let argument = operand(view, frame, argument);
+    in_row(view, first, over, argument)
+}
+
+/// The content of a location by two arguments.
+#[cycle(value)]
+#[inline(never)]
+fn grid_value<'e>(
+    view: &View,
+    frame: &'e Frame<'e>,
+    place: &'e Grid,
+    row: &'e Code,
+    column: &'e Code,
+) -> Word
+    requires cells { AreCells view.now.signature.now place.now.first (place.now.rows.count * place.now.columns.count) }
+    requires row { IsSound view.now.signature.now (code_of row.now) }
+    requires column { IsSound view.now.signature.now (code_of column.now) }
+    requires framed { IsSoundFrame view.now.signature.now frame.now }
+    ensures { result ≡ tree_value view.now frame.now (tree.Grid place.now.first place.now.rows.low place.now.rows.count place.now.columns.low place.now.columns.count (code_of row.now) (code_of column.now)) }
+{
+    let a = operand(view, frame, row);
+    let b = operand(view, frame, column);
+    in_grid(view, place, a, b)
+}
+
+/// The value of what a position stands for.
+#[cycle(value)]
+#[inline(always)]
+fn local<'e>(view: &View, frame: &'e Frame<'e>, position: usize) -> Word
+    requires framed { IsSoundFrame view.now.signature.now frame.now }
+    ensures { result ≡ position_value view.now frame.now position }
+{
+    if let Frame::Values { values } = frame {
+        return value_or_undef(values, position);
+    }
+    far_local(view, frame, position)
+}
+
+/// The value in an index, which is `Undef` behind the last one.
+#[inline(always)]
+fn value_or_undef(values: &[Word], i: usize) -> Word
+    ensures { result ≡ slice_index_or values.now i Undef }
+{
+    match values.get(i) {
+        Some(value) => *value,
+        None => Word::undef(),
+    }
+}
+
+/// The same of any frame.
+#[cycle(value)]
+#[inline(never)]
+fn far_local<'e>(view: &View, frame: &'e Frame<'e>, position: usize) -> Word
+    requires framed { IsSoundFrame view.now.signature.now frame.now }
+    ensures { result ≡ position_value view.now frame.now position }
+{
+    match find(frame, position) {
+        Found::Nothing => Word::undef(),
+        Found::Known(value) => value,
+        Found::Located(n) => located(view, n),
+        Found::ByName(code, caller) => value(view, caller, code),
+    }
+}
+
+/// The value of a controlled or static function.
+#[cycle(value)]
+#[inline(never)]
+fn held<'e>(view: &View, frame: &'e Frame<'e>, function: usize, arguments: &'e [Code]) -> Word
+    requires known { function < functions_of view.now.signature.now }
+    requires few { length arguments.now ≤ 4 }
+    requires sound { AllSound view.now.signature.now arguments.now }
+    requires framed { IsSoundFrame view.now.signature.now frame.now }
+    ensures { result ≡ tree_value view.now frame.now (tree.Held function (codes_of (map code_of arguments.now))) }
+{
+    let mut values = [Word::undef(); FEW];
+    for i in 0..arguments.len() {
+        values[i] = operand(view, frame, &arguments[i]);
+    }
+    function_value(view, function, &values[..arguments.len()])
+}
+
+/// The value of a derived function's body under the values of its arguments.
+#[cycle(value)]
+#[inline(never)]
+fn derived<'e>(view: &View, frame: &'e Frame<'e>, body: &'e Code, arguments: &'e [Code]) -> Word
+    requires body { IsSound view.now.signature.now (code_of body.now) }
+    requires sound { AllSound view.now.signature.now arguments.now }
+    requires framed { IsSoundFrame view.now.signature.now frame.now }
+    ensures { result ≡ tree_value view.now frame.now (tree.Derived (code_of body.now) (codes_of (map code_of arguments.now))) }
+{
+    if arguments.len() <= FEW {
+        let mut values = [Word::undef(); FEW];
+        for i in 0..arguments.len() {
+            values[i] = operand(view, frame, &arguments[i]);
+        }
+        let bound = Frame::Values {
+            values: &values[..arguments.len()],
+        };
+        return value(view, &bound, body);
+    }
+    linked(view, frame, &Frame::Empty, body, arguments)
+}
+
+/// The same with one argument.
+#[cycle(value)]
+#[inline(never)]
+fn derived_one<'e>(view: &View, frame: &'e Frame<'e>, body: &'e Code, argument: &'e Code) -> Word
+    requires body { IsSound view.now.signature.now (code_of body.now) }
+    requires sound { IsSound view.now.signature.now (code_of argument.now) }
+    requires framed { IsSoundFrame view.now.signature.now frame.now }
+    ensures { result ≡ tree_value view.now frame.now (tree.Derived (code_of body.now) (tree.code_then (code_of argument.now) tree.no_codes)) }
+{
+    let values = [operand(view, frame, argument)];
+    let bound = Frame::Values { values: &values };
+    value(view, &bound, body)
+}
+
+/// The same with two arguments.
+#[cycle(value)]
+#[inline(never)]
+fn derived_two<'e>(
+    view: &View,
+    frame: &'e Frame<'e>,
+    body: &'e Code,
+    first: &'e Code,
+    second: &'e Code,
+) -> Word
+    requires body { IsSound view.now.signature.now (code_of body.now) }
+    requires first { IsSound view.now.signature.now (code_of first.now) }
+    requires second { IsSound view.now.signature.now (code_of second.now) }
+    requires framed { IsSoundFrame view.now.signature.now frame.now }
+    ensures { result ≡ tree_value view.now frame.now (tree.Derived (code_of body.now) (tree.code_then (code_of first.now) (tree.code_then (code_of second.now) tree.no_codes))) }
+{
+    let a = operand(view, frame, first);
+    let b = operand(view, frame, second);
+    let values = [a, b];
+    let bound = Frame::Values { values: &values };
+    value(view, &bound, body)
+}
+
+/// The value of a body under the values of these arguments, and behind them those that are bound.
+/// The last one is bound first. Nests as deep as there are arguments.
+#[cycle(value)]
+#[inline(never)]
+fn linked<'e, 'b>(
+    view: &View,
+    frame: &'e Frame<'e>,
+    bound: &'b Frame<'b>,
+    body: &'b Code,
+    arguments: &'e [Code],
+) -> Word
+    requires body { IsSound view.now.signature.now (code_of body.now) }
+    requires sound { AllSound view.now.signature.now arguments.now }
+    requires framed { IsSoundFrame view.now.signature.now frame.now }
+    requires bound { IsSoundFrame view.now.signature.now bound.now }
+    ensures { result ≡ bound_value view.now frame.now bound.now body.now arguments.now }
+{
+    match arguments.split_last() {
+        None => value(view, bound, body),
+        Some((last, others)) => {
+            let more = Frame::One {
+                value: operand(view, frame, last).kept(),
+                outer: bound,
+            };
+            linked(view, frame, &more, body, others)
+        }
+    }
+}
+
+/// Whether the test has the value true for some value of the universe.
+#[cycle(value)]
+#[inline(never)]
+fn exists<'e>(view: &View, frame: &'e Frame<'e>, over: usize, test: &'e Code) -> bool
+    requires universe { IsUniverseNumber view.now.signature.now over }
+    requires sound { IsSound view.now.signature.now (code_of test.now) }
+    requires framed { IsSoundFrame view.now.signature.now frame.now }
+    ensures { Truth result ≡ tree_value view.now frame.now (tree.Exists over (code_of test.now)) }
+{
+    let universe = view.signature.universe(over);
+    for i in 0..universe.size() {
+        let bound = Frame::One {
+            value: universe.element(i).kept(),
+            outer: frame,
+        };
+        let tested = holds(view, &bound, test);
+        if tested {
+            return true;
+        }
+    }
+    false
+}
+
+/// Whether the test has the value true for each value of the universe.
+#[cycle(value)]
+#[inline(never)]
+fn every<'e>(view: &View, frame: &'e Frame<'e>, over: usize, test: &'e Code) -> bool
+    requires universe { IsUniverseNumber view.now.signature.now over }
+    requires sound { IsSound view.now.signature.now (code_of test.now) }
+    requires framed { IsSoundFrame view.now.signature.now frame.now }
+    ensures { Truth result ≡ tree_value view.now frame.now (tree.Every over (code_of test.now)) }
+{
+    let universe = view.signature.universe(over);
+    for i in 0..universe.size() {
+        let bound = Frame::One {
+            value: universe.element(i).kept(),
+            outer: frame,
+        };
+        let tested = holds(view, &bound, test);
+        if !tested {
+            return false;
+        }
+    }
+    true
 }

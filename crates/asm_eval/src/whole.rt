@@ -1,47 +1,77 @@
-//! The outcome of a rule.
-ghost use Rattle.std.specs.Prelude.{◌≡◌, IfOk};
-ghost use Rattle.asm_syntax.specs.PlainTree as plain;
-ghost use Rattle.asm_syntax.specs.Views.{spec_of, rule_of};
+//! Values of terms, and outcomes of rules, by way of their codes.
+ghost use Rattle.std.specs.Prelude.{◌≡◌, [], IfOk};
+ghost use Rattle.asm_syntax.specs.PlainTree.{plain_term};
+ghost use Rattle.asm_syntax.specs.Views.{spec_of, term_of};
+ghost use Rattle.asm_check.specs.Faults.{inits};
 ghost use Rattle.asm_check.specs.Shapes.{shape_of};
+ghost use Rattle.asm_meaning.specs.Declarations.{main_rule};
 ghost use Rattle.asm_meaning.specs.Does.{does};
-ghost use Rattle.asm_eval.specs.Environments.{environment_in};
+ghost use Rattle.asm_meaning.specs.Formed.{Follows};
+ghost use Rattle.asm_meaning.specs.Program.{nothing_bound};
 ghost use Rattle.asm_meaning.specs.Valued.{program, shown};
-ghost use Rattle.asm_meaning.specs.Formed.{IsFormed};
+ghost use Rattle.asm_meaning.specs.Value as spec;
+ghost use Rattle.asm_eval.specs.RuleScopes.{resolved_rule_in};
+ghost use Rattle.asm_eval.specs.RuleViews.{rule_of};
+ghost use Rattle.asm_eval.specs.Running.{Fits, shape_at, state_at};
 
-use crate::env::Env;
-use crate::evaluation::{Evaluation, Scene};
+use crate::bodies::Bodies;
 use crate::form::form;
+use crate::frame::Frame;
+use crate::regions::Plain;
+use crate::resolve::resolve;
+use crate::resolve_rule::resolve_rule;
+use crate::rule_code::RuleCode;
+use crate::running::Running;
+use crate::used::resolve_used;
+use crate::value::value;
 use asm_check::Checked;
-use asm_meaning::choices::Choices;
-use asm_meaning::from_nothing::{nothing_formed, outcome_of};
-use asm_meaning::outcome::Outcome;
-use asm_meaning::view::View;
+use asm_meaning::{Forming, Stopped, View};
 use asm_reader::Picks;
-use asm_syntax::rule::Rule;
+use asm_state::word::Word;
+use asm_syntax::term::Term;
 use std::alloc::{AllocError, Global};
 
-/// What the rule yields at this path, in the state that the view shows, under the environment and these choices, all of it on this
-/// thread.
-pub fn whole<'a, 'e, P: Picks>(
+/// The value of a term in which no name is bound, by way of its code: it is the term's value in the
+/// state that the view shows.
+pub fn value_by_code(
     alloc: Global,
-    checked: &'a Checked,
-    view: &'a View<'_>,
-    env: &'e Env<'e>,
-    rule: &'e Rule,
-    choices: &'a Choices<'a, P>,
-    path: &[u64],
-    turns: u32,
-) -> Result<Outcome, AllocError>
+    checked: &Checked,
+    view: &View,
+    term: &Term,
+) -> Result<Word, AllocError>
     requires { view.now.signature.now ≡ shape_of (spec_of checked.now.spec) }
-    ensures { let o = does (program checked.now) turns (P.script choices.now.script.now) choices.now.step (shown view.now) (environment_in checked.now env.now) path.now (plain.plain_rule (rule_of rule.now)) in
-        IfOk result (IsFormed view.now.signature.now o) }
+    ensures { IfOk result (λ v. v ≡ spec.value (program checked.now) (shown view.now) nothing_bound (plain_term (term_of term.now))) }
 {
-    let mut made = nothing_formed(alloc, view.signature, path)?;
-    let evaluation = Evaluation {
-        scene: Scene { checked, view },
-        choices,
-        turns,
-    };
-    let formed = form(alloc, &evaluation, env, rule, &mut made);
-    outcome_of(made, formed)
+    let mut known = Bodies::new(alloc, checked)?;
+    let code = resolve(alloc, checked, &mut known.terms, &[], term)?;
+    Ok(value(view, &Frame::Empty, &code))
+}
+
+/// The code of the rule that a specification starts with.
+pub fn resolve_main(alloc: Global, checked: &Checked) -> Result<RuleCode, AllocError>
+    ensures { let s = spec_of checked.now.spec in
+        IfOk result (λ c. resolved_rule_in s [] (main_rule s (inits s)) (rule_of c)) }
+{
+    let (_parameters, main) = checked.rule(checked.main());
+    let mut known = Bodies::new(alloc, checked)?;
+    resolve_used(alloc, checked, &mut known, main)?;
+    resolve_rule(alloc, checked, &mut known, &[], main)
+}
+
+/// Forms what the rule that a specification starts with yields, by way of its code: it is what the
+/// rule does in the state that the view shows.
+pub fn outcome_by_code<P: Picks>(
+    alloc: Global,
+    checked: &Checked,
+    running: &Running<'_, '_, P>,
+    made: &mut Forming,
+) -> Result<Result<(), Stopped>, AllocError>
+    requires shaped { shape_at running.now ≡ shape_of (spec_of checked.now.spec) }
+    requires fits { Fits running.now made.old }
+    ensures { let s = spec_of checked.now.spec in
+        let o = does (program checked.now) running.now.turns (P.script running.now.choices.now.script.now) running.now.choices.now.step (state_at running.now) nothing_bound made.old.path.items (main_rule s (inits s)) in
+        IfOk result (λ formed. Follows (shape_at running.now) o made.old made.new formed) }
+{
+    let code = resolve_main(alloc, checked)?;
+    Ok(form(alloc, &mut Plain, running, &Frame::Empty, &code, made))
 }

@@ -8,8 +8,8 @@ use Rattle.asm_reader.specs.declared.picks.Picks.{Ghosts}
 use Rattle.asm_meaning.specs.contracts.choices.Choices as Choices
 use Rattle.asm_meaning.specs.contracts.path.Path as Path
 use Rattle.asm_meaning.specs.contracts.view.View as View
-use Rattle.asm_code.specs.contracts.piece.Piece as Piece
-use Rattle.asm_code.specs.contracts.running.Running as Running
+use Rattle.asm_eval.specs.contracts.piece.Piece as Piece
+use Rattle.asm_eval.specs.contracts.running.Running as Running
 use Rattle.asm_striped.specs.contracts.striped.Striped as Striped
 use Rattle.asm_run.specs.contracts.job.RegionJob as RegionJob
 use Rattle.asm_run.specs.contracts.job.RegionOut as RegionOut

@@ -16,10 +16,10 @@ use Rattle.asm_meaning.specs.Does.{Outcome, nothing, both}
 use Rattle.asm_meaning.specs.Grouped.{counting, all_both}
 use Rattle.asm_meaning.specs.Yields.{Path, Gives, Exhausted, beside}
 use Rattle.asm_meaning.proofs.Beside.{beside_laws}
-use Rattle.asm_code.specs.OpenedPieces.{pieces_yield}
-use Rattle.asm_code.specs.Pieces.{IsPiece, piece_yields}
-use Rattle.asm_code.specs.declared.piece.Piece.{Piece}
-use Rattle.asm_code.specs.declared.running.Running.{Running}
+use Rattle.asm_eval.specs.OpenedPieces.{pieces_yield}
+use Rattle.asm_eval.specs.Pieces.{IsPiece, piece_yields}
+use Rattle.asm_eval.specs.declared.piece.Piece.{Piece}
+use Rattle.asm_eval.specs.declared.running.Running.{Running}
 use Rattle.asm_pool.specs.Pool.{RunsTask, RunsLists}
 use Rattle.asm_run.specs.declared.hand.RegionHand.{RegionHand}
 use Rattle.asm_run.specs.Hands.{LogStands, LogsStand, parts_of}

@@ -10,7 +10,7 @@ use Rattle.asm_reader.specs.declared.picks.Picks.{Ghosts}
 use Rattle.asm_meaning.specs.Does.{Outcome}
 use Rattle.asm_meaning.specs.Formed.{Forms}
 use Rattle.asm_meaning.specs.Yields.{Gives}
-use Rattle.asm_code.specs.declared.running.Running.{Running}
+use Rattle.asm_eval.specs.declared.running.Running.{Running}
 use Rattle.asm_run.specs.declared.job.RegionOut.TheVariants as region
 use Rattle.asm_run.specs.Hands.{Grows, puts}
 use Rattle.asm_run.specs.Rounds.{IsWorked, set_of}

@@ -1,14 +1,14 @@
 //! The outcome of a region, by rounds.
 ghost use Rattle.std.specs.Prelude.{◌≡◌, All, IfOk};
 ghost use Rattle.asm_meaning.specs.Formed.{IsFormed};
-ghost use Rattle.asm_code.specs.OpenedPieces.{pieces_yield};
-ghost use Rattle.asm_code.specs.Pieces.{IsPiece};
-ghost use Rattle.asm_code.specs.Running.{shape_at};
+ghost use Rattle.asm_eval.specs.OpenedPieces.{pieces_yield};
+ghost use Rattle.asm_eval.specs.Pieces.{IsPiece};
+ghost use Rattle.asm_eval.specs.Running.{shape_at};
 
 use crate::hand::{join_hands, split_hands};
 use crate::rounds::{Region, Shares, SoFar, work_rounds};
-use asm_code::piece::Piece;
-use asm_code::running::Running;
+use asm_eval::piece::Piece;
+use asm_eval::running::Running;
 use asm_meaning::Outcome;
 use asm_pool::{Gate, PoolError};
 use asm_reader::Picks;

@@ -2,9 +2,9 @@
 ghost use Rattle.std.specs.Prelude.{◌≡◌, ℕ, ◌<◌, ◌≤◌, [], All, IfNone, IfOk, IfSome, IsOk, OnOk, length, vec_len};
 ghost use Rattle.asm_state.specs.Signature.{count_of};
 ghost use Rattle.asm_meaning.specs.Does as does;
-ghost use Rattle.asm_code.specs.OpenedPieces.{pieces_yield};
-ghost use Rattle.asm_code.specs.Pieces.{IsPiece};
-ghost use Rattle.asm_code.specs.Running.{shape_at};
+ghost use Rattle.asm_eval.specs.OpenedPieces.{pieces_yield};
+ghost use Rattle.asm_eval.specs.Pieces.{IsPiece};
+ghost use Rattle.asm_eval.specs.Running.{shape_at};
 ghost use Rattle.asm_run.specs.declared.limits.TheConstants.{WORKERS};
 ghost use Rattle.asm_run.specs.Hands.{TakesHand, parts_of};
 ghost use Rattle.asm_run.specs.Rounds.{Holds, IsRound, answers, first_of, least, news, tally};
@@ -12,9 +12,9 @@ ghost use Rattle.asm_run.specs.Rounds.{Holds, IsRound, answers, first_of, least,
 use crate::hand::RegionHand;
 use crate::job::{RegionJob, RegionOut};
 use crate::weight::{Doing, workers_for};
-use asm_code::piece::Piece;
-use asm_code::running::Running;
-use asm_code::shared::views_and_pieces_are_shared;
+use asm_eval::piece::Piece;
+use asm_eval::running::Running;
+use asm_eval::shared::views_and_pieces_are_shared;
 use asm_meaning::Path;
 use asm_pool::{Gate, PoolError, work_by};
 use asm_reader::Picks;

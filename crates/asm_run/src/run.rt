@@ -14,7 +14,7 @@ use crate::pooled::Pooled;
 use crate::sink::Sink;
 use crate::steps::run_steps;
 use asm_check::check;
-use asm_code::whole::resolve_main;
+use asm_eval::whole::resolve_main;
 use asm_pool::{Gate, NoGate};
 use asm_reader::{read, read_script};
 use std::alloc::Global;

@@ -3,12 +3,9 @@ ghost use Rattle.std.specs.Prelude.{◌≡◌, IfOk, length};
 ghost use Rattle.asm_state.specs.Signature.{count_of};
 ghost use Rattle.asm_syntax.specs.Views.{spec_of};
 ghost use Rattle.asm_check.specs.Shapes.{shape_of};
-ghost use Rattle.asm_eval.specs.Pieces.{IsPiece};
-ghost use Rattle.asm_meaning.specs.Program.{Program};
 
 use asm_check::Checked;
-use asm_eval::{Env, Piece};
-use asm_meaning::{Part, Path, View};
+use asm_meaning::View;
 use asm_state::state::State;
 use asm_syntax::rule::Rule;
 use asm_updates::summary::Summary;
@@ -54,16 +51,4 @@ impl<'a> Beginning<'a> {
 pub fn main_of(checked: &Checked) -> &Rule {
     let (_parameters, main) = checked.rule(checked.main());
     main
-}
-
-/// All of the main rule as a piece.
-pub fn main_piece(alloc: Global, checked: &Checked) -> Piece<'_>
-    ensures { (program : Program) → IsPiece program result }
-{
-    Piece {
-        rule: main_of(checked),
-        env: Env::new(),
-        path: Path::new(Vec::new(alloc)),
-        part: Part::Whole,
-    }
 }

@@ -2,15 +2,10 @@
 #![tactic(auto)]
 
 pub mod beginning;
-pub mod beside;
 #[cfg(test)]
 mod checking;
 #[cfg(test)]
-mod choices;
-#[cfg(test)]
-mod codes;
-#[cfg(test)]
-mod pieces;
+mod evaluation;
 pub mod plain;
 #[cfg(test)]
 mod pool;
@@ -21,8 +16,6 @@ mod state;
 mod striped;
 #[cfg(test)]
 mod syntax;
-#[cfg(test)]
-mod terms;
 pub mod text;
 #[cfg(test)]
 mod two;

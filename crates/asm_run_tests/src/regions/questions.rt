@@ -6,9 +6,9 @@ ghost use Rattle.asm_reader.specs.ScriptLines.{no_lines};
 
 use super::meetings::Meeting;
 use asm_check::Checked;
-use asm_code::frame::Frame;
-use asm_code::running::Running;
-use asm_code::whole::resolve_main;
+use asm_eval::frame::Frame;
+use asm_eval::running::Running;
+use asm_eval::whole::resolve_main;
 use asm_meaning::{Choices, Outcome, View};
 use asm_pool::NoGate;
 use asm_reader::Picks;

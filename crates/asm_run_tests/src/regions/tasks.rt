@@ -3,15 +3,15 @@ ghost use Rattle.std.specs.Prelude.{◌≡◌, ◌<◌, ◌+◌, All, IfOk, leng
 ghost use Rattle.asm_state.specs.Signature.{count_of};
 ghost use Rattle.asm_syntax.specs.Views.{spec_of};
 ghost use Rattle.asm_check.specs.Shapes.{shape_of};
-ghost use Rattle.asm_code.specs.Pieces.{IsPiece};
-ghost use Rattle.asm_code.specs.Running.{shape_at};
+ghost use Rattle.asm_eval.specs.Pieces.{IsPiece};
+ghost use Rattle.asm_eval.specs.Running.{shape_at};
 
 use asm_check::Checked;
-use asm_code::frame::Frame;
-use asm_code::open::{Opened, open_piece};
-use asm_code::piece::Piece;
-use asm_code::running::Running;
-use asm_code::whole::resolve_main;
+use asm_eval::frame::Frame;
+use asm_eval::open::{Opened, open_piece};
+use asm_eval::piece::Piece;
+use asm_eval::running::Running;
+use asm_eval::whole::resolve_main;
 use asm_meaning::{Choices, Part, Path, View};
 use asm_pool::Job;
 use asm_run::hand::RegionHand;

@@ -5,9 +5,9 @@ ghost use Rattle.asm_syntax.specs.Views.{spec_of};
 ghost use Rattle.asm_check.specs.Shapes.{shape_of};
 
 use asm_check::Checked;
-use asm_code::frame::Frame;
-use asm_code::running::Running;
-use asm_code::whole::resolve_main;
+use asm_eval::frame::Frame;
+use asm_eval::running::Running;
+use asm_eval::whole::resolve_main;
 use asm_meaning::{Choices, Forming, Stopped, View};
 use asm_pool::NoGate;
 use asm_run::limits::Limits;

@@ -1,48 +1,47 @@
 use Rattle.std.proofs.Common.{◌≡◌, filter, ap, sym, ◌∙◌, arith, Some}
 use Rattle.asm_state.specs.Words.{value_of_code}
 use Rattle.asm_meaning.specs.declared.walk.Walk.TheVariants.{Met}
-use Rattle.asm_eval.specs.Environments.{environment_in}
-use Rattle.asm_eval.specs.Scenes.{is_candidate}
 use Rattle.asm_meaning.specs.Taken.{walk_to}
 use Rattle.asm_meaning.proofs.Candidates.{candidate_laws-one_more as one_more_passes, candidate_laws-none_more as none_more_passes, candidate_laws-met as met_at, candidate_laws-passed as passed_all}
-use Rattle.asm_eval.proofs.NoCondition.{all_hold}
+use Rattle.asm_eval.specs.Running.{is_passing}
+use Rattle.asm_eval.proofs.CodeCandidates.{all_pass_here, passing_here}
 use Rattle.asm_eval.proofs.choose.find_candidate.Goals as goal
-use Rattle.asm_eval.proofs.choose.find_candidate.Goals.{then-branch+else-met-number, else-branch}
+use Rattle.asm_eval.proofs.choose.find_candidate.Goals.{then-passes+else-met-number, else-passes}
 
--- src/choose.rt:77:9
 pub returns-then-is_none : goal.returns-then-is_none
-returns-then-is_none g c =
+returns-then-is_none c =
     let a = c.args in
-    c.element_at.ensures ∙ ap (walk_to a.number) (all_hold a.evaluation.now.scene.checked.now a.evaluation.now.scene.view.now (environment_in a.evaluation.now.scene.checked.now a.env.now) a.binder.now.name.now.text a.binder.now.test.now a.universe.now c.if-is_none.ensures)
+    c.element_at.ensures ∙ ap (walk_to a.number) (all_pass_here a.view.now a.frame.now a.over c.universe-universe.result.now c.universe-universe.ensures a.test.now c.if-is_none.ensures)
 
--- src/choose.rt:88:17
 pub returns-then-met-number : goal.returns-then-met-number
-returns-then-met-number g c =
+returns-then-met-number c =
     let a = c.args in
-    let p = is_candidate a.evaluation.now.scene (environment_in a.evaluation.now.scene.checked.now a.env.now) a.binder.now in
+    let us = c.universe-universe.result.now in
+    let p = is_passing a.view.now a.frame.now a.test.now in
     let same : c.element-then-met-number.result ≡ value_of_code c.kept.result.value = grind (arith, c.element-then-met-number.ensures, c.element.ensures, c.kept.ensures) in
-    ap Met same ∙ met_at p a.universe.now c.loop-i.i (value_of_code c.kept.result.value) c.loop-i.met (c.element.ensures ∙ ap Some (sym c.kept.ensures)) (sym c.in_ok-holds.ensures ∙ c.if-branch.true) c.loop-i.invariant.counted
-    ∙ ap (λ n. walk_to n (filter p a.universe.now)) c.if-met-number.true
+    ap Met same ∙ met_at p us c.loop-i.i (value_of_code c.kept.result.value) c.loop-i.met (c.element.ensures ∙ ap Some (sym c.kept.ensures)) (sym c.passes.ensures ∙ c.if-passes.true) c.loop-i.invariant.counted
+    ∙ ap (λ n. walk_to n (filter p us)) c.if-met-number.true ∙ ap (walk_to a.number) (passing_here a.view.now a.frame.now a.over us c.universe-universe.ensures a.test.now)
 
--- src/choose.rt:80:5
 pub loop-i-preserved : goal.loop-i-preserved
-loop-i-preserved g c =
+loop-i-preserved c =
     let a = c.args in
-    let p = is_candidate a.evaluation.now.scene (environment_in a.evaluation.now.scene.checked.now a.env.now) a.binder.now in
-    elim c.if-branch.branch [
-      | then-branch+else-met-number w ↦ record {
-        counted = w.met-is ∙ one_more_passes p a.universe.now c.loop-i.i (value_of_code c.kept.result.value) c.loop-i.met (c.element.ensures ∙ ap Some (sym c.kept.ensures)) (sym c.in_ok-holds.ensures ∙ w.if-branch.true) c.loop-i.invariant.counted;
+    let us = c.universe-universe.result.now in
+    let p = is_passing a.view.now a.frame.now a.test.now in
+    elim c.if-passes.branch [
+      | then-passes+else-met-number w ↦ record {
+        counted = w.met-is ∙ one_more_passes p us c.loop-i.i (value_of_code c.kept.result.value) c.loop-i.met (c.element.ensures ∙ ap Some (sym c.kept.ensures)) (sym c.passes.ensures ∙ w.if-passes.true) c.loop-i.invariant.counted;
         behind = omega arith;
       }
-      | else-branch w ↦ record {
-        counted = w.met-is ∙ none_more_passes p a.universe.now c.loop-i.i (value_of_code c.kept.result.value) c.loop-i.met (c.element.ensures ∙ ap Some (sym c.kept.ensures)) (sym c.in_ok-holds.ensures ∙ w.if-branch.false) c.loop-i.invariant.counted;
+      | else-passes w ↦ record {
+        counted = w.met-is ∙ none_more_passes p us c.loop-i.i (value_of_code c.kept.result.value) c.loop-i.met (c.element.ensures ∙ ap Some (sym c.kept.ensures)) (sym c.passes.ensures ∙ w.if-passes.false) c.loop-i.invariant.counted;
         behind = omega arith;
       }
     ]
 
--- src/choose.rt:64:1
 pub returns : goal.returns
-returns g c =
+returns c =
     let a = c.args in
-    let p = is_candidate a.evaluation.now.scene (environment_in a.evaluation.now.scene.checked.now a.env.now) a.binder.now in
-    passed_all p a.universe.now c.loop-i.i c.loop-i.met a.number (omega (arith, c.size-i-end.ensures.size)) c.loop-i.invariant.counted c.loop-i.invariant.behind
+    let us = c.universe-universe.result.now in
+    let p = is_passing a.view.now a.frame.now a.test.now in
+    passed_all p us c.loop-i.i c.loop-i.met a.number (omega (arith, c.size-i-end.ensures.size)) c.loop-i.invariant.counted c.loop-i.invariant.behind
+    ∙ ap (walk_to a.number) (passing_here a.view.now a.frame.now a.over us c.universe-universe.ensures a.test.now)

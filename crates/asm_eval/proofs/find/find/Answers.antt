@@ -1,18 +1,21 @@
-use Rattle.std.proofs.Common.{◌≡◌, ◌∙◌, map, ap, sym, subst}
-use Rattle.asm_syntax.specs.Views.{term_of, terms_of}
-use Rattle.asm_syntax.specs.PlainTree.{plain_terms}
-use Rattle.asm_eval.specs.Environments.{environment, bound_around}
-use Rattle.asm_meaning.specs.Meant.{text_of}
-use Rattle.asm_meaning.specs.Program.{bound_to, bind_terms}
-use Rattle.asm_eval.proofs.Bound.{no_term_there}
+use Rattle.std.proofs.Common.{sym, ap, subst, ◌∙◌, arith}
+use Rattle.asm_eval.specs.Frames.{IsSoundFrame, load, readings_of}
+use Rattle.asm_eval.specs.Readings.{at_position}
+use Rattle.asm_eval.proofs.Cases.{later}
 use Rattle.asm_eval.proofs.find.find.Goals as goal
 
-pub returns-in-None-term_of-clause-bound : goal.returns-in-None-term_of-clause-bound
-returns-in-None-term_of-clause-bound c = λ shape same.
-    let x = c.args.name.now.text in
-    let t = c.in-Terms in
-    let inner = bind_terms (map text_of t.names.now) (plain_terms (terms_of (map term_of t.terms.now))) (environment shape t.caller.now) in
-    no_term_there t.names.now t.terms.now (environment shape t.caller.now) x c.in-None-term_of.ensures
-    ∙ sym (subst (λ s. bound_around s x inner t.answer ≡ bound_to inner x) same (c.in_default-located.ensures.other inner))
-    ∙ ap (λ e. bound_to (environment shape e) x) (sym t.is)
-    ∙ c.loop-rest.invariant shape
+pub loop-rest-preserved : goal.loop-rest-preserved
+loop-rest-preserved c =
+    let same = ap load c.in-One.is in record {
+      reading = λ shape. sym (later _ _ c.loop-rest.left c.if-left-eq0.false) ∙ ap (λ f. at_position (readings_of shape f) c.loop-rest.left) (sym c.in-One.is) ∙ c.loop-rest.invariant.reading shape;
+      sound = λ shape s. subst (IsSoundFrame shape) c.in-One.is (c.loop-rest.invariant.sound shape s);
+      load = omega (arith, c.loop-rest.invariant.load, same);
+    }
+
+pub returns-in-Terms : goal.returns-in-Terms
+returns-in-Terms c =
+    let same = ap load c.in-Terms.is in record {
+      reading = λ shape. c.in_terms.ensures.reading shape ∙ ap (λ f. at_position (readings_of shape f) c.loop-rest.left) (sym c.in-Terms.is) ∙ c.loop-rest.invariant.reading shape;
+      sound = λ shape s. let inner = subst (IsSoundFrame shape) c.in-Terms.is (c.loop-rest.invariant.sound shape s) in c.in_terms.ensures.sound shape inner.0 inner.1 inner.2;
+      load = omega (arith, c.loop-rest.invariant.load, same, c.in_terms.ensures.load);
+    }

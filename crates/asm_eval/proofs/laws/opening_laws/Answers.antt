@@ -2,4 +2,4 @@ use Rattle.asm_eval.proofs.OpeningLaws.{opening_laws}
 use Rattle.asm_eval.proofs.laws.opening_laws.Goals as goal
 
 pub returns : goal.returns
-returns c = opening_laws
+returns g c = λ running. opening_laws running

@@ -1,77 +1,88 @@
-use Rattle.std.proofs.Common.{◌∙◌, ℕ, ap, sym, subst, All, arith, refl, Some}
+use Rattle.std.proofs.Common.{◌∙◌, ◌∷◌, ◌++◌, ◌+◌, length, map, Some, None, ap, sym, subst, All, arith}
+use Rattle.std.specs.Prelude.{option_map}
+use Rattle.std.proofs.lemmas.List.{length-map, length_push}
 use Rattle.std.proofs.lemmas.List.Elements.{All-nil}
-use Rattle.asm_state.specs.declared.value.Value.{Value}
 use Rattle.asm_state.specs.Words.{value_of_code}
-use Rattle.asm_meaning.specs.Does.{each}
-use Rattle.asm_eval.specs.Environments.{environment_in}
-use Rattle.asm_eval.specs.Evaluated.{setting, state_at}
-use Rattle.asm_eval.specs.Pieces.{piece_does, IsPiece, IsCut}
-use Rattle.asm_meaning.specs.Intervals.{between}
-use Rattle.asm_eval.specs.Scenes.{with_element, is_candidate}
-use Rattle.asm_meaning.specs.Yields.{at}
-use Rattle.asm_eval.proofs.FormedRules.{rule_does}
-use Rattle.asm_eval.proofs.OpenedPieces.{all_more}
-use Rattle.asm_meaning.proofs.Groups.{body_laws-begin as bodies_begin, body_laws-counted as bodies_then, body_laws-passed as bodies_else, body_laws-end as bodies_end}
+use Rattle.asm_eval.proofs.Lists.{all_more}
+use Rattle.asm_eval.proofs.OpenedRules.{bodies_from, body_more, body_passed, given, no_bodies, none_left, none_yet, one_more}
+use Rattle.asm_eval.proofs.RuleForms.{value_here}
+use Rattle.asm_eval.specs.CodeViews.{code_of}
+use Rattle.asm_eval.specs.Frames.{readings_of}
+use Rattle.asm_eval.specs.Opening.{all_of, counted_works, work_of}
+use Rattle.asm_eval.specs.Pieces.{IsPiece}
+use Rattle.asm_eval.specs.Readings.{always, universe_at}
+use Rattle.asm_eval.specs.RuleViews.{rule_of}
+use Rattle.asm_eval.specs.Running.{places_of, shape_at, state_at}
 use Rattle.asm_eval.proofs.open.open_bodies.Goals as goal
-use Rattle.asm_eval.proofs.open.open_bodies.Goals.{then-branch+in_ok-path+in_ok-push, else-branch}
+use Rattle.asm_eval.proofs.open.open_bodies.Goals.{then-passes+in_ok-below+in_ok-push, else-passes}
 
 pub loop-i-init : goal.loop-i-init
 loop-i-init g c =
     let a = c.args in
+    let r = a.running.now in
+    let shape = shape_at r in
     let none = c.new-pieces.ensures.items in
-    let m = λ (v : Value) (k : ℕ). rule_does a.evaluation.now (with_element a.binder.now v (environment_in a.evaluation.now.scene.checked.now a.piece.now.env)) (at a.piece.now.path k) a.body.now in
-    let test = is_candidate a.evaluation.now.scene (environment_in a.evaluation.now.scene.checked.now a.piece.now.env) a.binder.now in
+    let all = bodies_from shape (state_at r) (option_map code_of a.test.now) (rule_of a.body.now) (readings_of shape a.frame.now) (places_of shape a.frame.now) a.path.now a.to (universe_at shape a.over) a.from in
     record {
       low = omega arith;
       few = omega arith;
-      does = bodies_begin (piece_does (setting a.evaluation.now) (state_at a.evaluation.now)) m test a.to c.in-Some.universe.now a.from _ none;
-      are_pieces = subst (All (IsPiece (setting a.evaluation.now).program)) (sym none) (All-nil (IsPiece (setting a.evaluation.now).program));
-      are_cut = λ cut. subst (All (IsCut cut)) (sym none) (All-nil (IsCut cut));
+      counted = sym (ap length none);
+      works = none_yet (work_of shape) _ all none;
+      are_pieces = subst (All (IsPiece shape)) (sym none) (All-nil (IsPiece shape));
     }
 
 pub loop-i-preserved : goal.loop-i-preserved
 loop-i-preserved g c =
     let a = c.args in
+    let r = a.running.now in
+    let shape = shape_at r in
+    let A = state_at r in
     let l = c.loop-i in
-    let f = piece_does (setting a.evaluation.now) (state_at a.evaluation.now) in
-    let m = λ (v : Value) (k : ℕ). rule_does a.evaluation.now (with_element a.binder.now v (environment_in a.evaluation.now.scene.checked.now a.piece.now.env)) (at a.piece.now.path k) a.body.now in
-    let test = is_candidate a.evaluation.now.scene (environment_in a.evaluation.now.scene.checked.now a.piece.now.env) a.binder.now in
-    elim c.if-branch.branch [
-      | then-branch+in_ok-path+in_ok-push w ↦
+    let rs = readings_of shape a.frame.now in
+    let ls = places_of shape a.frame.now in
+    let us = universe_at shape a.over in
+    let test = option_map code_of a.test.now in
+    let body = rule_of a.body.now in
+    let v = value_of_code c.kept.result.value in
+    let there = value_here shape.universes a.over c.universe-universe.result.now l.i v c.universe-universe.ensures (c.element.ensures ∙ ap Some (sym c.kept.ensures)) in
+    let rest = bodies_from shape A test body rs ls a.path.now a.to us in
+    elim c.if-passes.branch [
+      | then-passes+in_ok-below+in_ok-push w ↦
           let more = ap (λ v. v.items) w.pieces-is ∙ w.in_ok-push.ensures.items in
+          let longer = ap length more ∙ length_push l.pieces.items _ in
+          let counted = l.invariant.counted in
           record {
             low = omega (arith, l.invariant.low);
             few = omega (arith, l.invariant.few, w.instances-is);
-            does = bodies_then f m test a.to c.in-Some.universe.now l.i l.instances c.if-branch.instances l.pieces.items c.if-branch.pieces.items _ (value_of_code c.kept.result.value) _
-                c.loop-i-test.true (c.element.ensures ∙ ap Some (sym c.kept.ensures)) (sym w.if-branch.true ∙ c.in_ok-holds.ensures) w.instances-is more
-                (ap (λ q. rule_does a.evaluation.now (with_element a.binder.now (value_of_code c.kept.result.value) (environment_in a.evaluation.now.scene.checked.now a.piece.now.env)) q a.body.now)
-                (w.in_ok-path.ensures ∙ ap (λ q. at q l.i) w.as_slice.ensures))
-                l.invariant.does;
-            are_pieces = all_more (IsPiece (setting a.evaluation.now).program) _ _ _ more l.invariant.are_pieces tt;
-            are_cut = λ cut. all_more (IsCut cut) _ _ _ more (l.invariant.are_cut cut) tt;
+            counted = w.instances-is ∙ ap (λ n. n + 1) counted ∙ sym longer;
+            works = one_more (work_of shape) l.pieces.items c.if-passes.pieces.items _ (rest (l.i + 1)) more
+                ∙ ap (λ q. map (work_of shape) l.pieces.items ++ all_of body (always v ∷ rs) (None ∷ ls) q ∷ rest (l.i + 1)) w.in_ok-below.ensures
+                ∙ ap (λ ws. map (work_of shape) l.pieces.items ++ ws) (body_more shape A test body rs ls a.path.now a.to us l.i v c.loop-i-test.true there (sym w.if-passes.true ∙ c.passes.ensures))
+                ∙ l.invariant.works;
+            are_pieces = all_more (IsPiece shape) _ _ _ more l.invariant.are_pieces (c.requires.sound, c.requires.framed, tt);
           }
-      | else-branch w ↦ record {
-        low = omega (arith, l.invariant.low);
-        few = omega (arith, l.invariant.few, w.instances-is);
-        does = bodies_else f m test a.to c.in-Some.universe.now l.i l.instances c.if-branch.instances l.pieces.items c.if-branch.pieces.items (value_of_code c.kept.result.value) _
-            c.loop-i-test.true (c.element.ensures ∙ ap Some (sym c.kept.ensures)) (sym w.if-branch.false ∙ c.in_ok-holds.ensures) w.instances-is (ap (λ v. v.items) w.pieces-is) l.invariant.does;
-        are_pieces = subst (All (IsPiece (setting a.evaluation.now).program)) (sym (ap (λ v. v.items) w.pieces-is)) l.invariant.are_pieces;
-        are_cut = λ cut. subst (All (IsCut cut)) (sym (ap (λ v. v.items) w.pieces-is)) (l.invariant.are_cut cut);
-      }
+      | else-passes w ↦
+          let same = ap (λ v. v.items) w.pieces-is in
+          record {
+            low = omega (arith, l.invariant.low);
+            few = omega (arith, l.invariant.few, w.instances-is);
+            counted = w.instances-is ∙ l.invariant.counted ∙ sym (ap length same);
+            works = ap (λ ps. map (work_of shape) ps ++ rest (l.i + 1)) same
+                ∙ ap (λ ws. map (work_of shape) l.pieces.items ++ ws) (body_passed shape A test body rs ls a.path.now a.to us l.i v c.loop-i-test.true there (sym w.if-passes.false ∙ c.passes.ensures))
+                ∙ l.invariant.works;
+            are_pieces = subst (All (IsPiece shape)) (sym same) l.invariant.are_pieces;
+          }
     ]
 
 pub returns : goal.returns
-returns g c = λ cut.
+returns g c =
     let a = c.args in
+    let r = a.running.now in
+    let shape = shape_at r in
     let l = c.loop-i in
-    let f = piece_does (setting a.evaluation.now) (state_at a.evaluation.now) in
-    let m = λ (v : Value) (k : ℕ). rule_does a.evaluation.now (with_element a.binder.now v (environment_in a.evaluation.now.scene.checked.now a.piece.now.env)) (at a.piece.now.path k) a.body.now in
-    let test = is_candidate a.evaluation.now.scene (environment_in a.evaluation.now.scene.checked.now a.piece.now.env) a.binder.now in (
-      refl,
-      record {
-        loses_nothing = ap (λ vs. each m test a.from (between a.from a.to vs)) (sym c.in-Some.ensures.some)
-            ∙ bodies_end f m test a.to c.in-Some.universe.now l.i l.instances l.pieces.items _ (omega (arith, c.loop-i-test.false)) l.invariant.does;
-        are_pieces = l.invariant.are_pieces;
-        are_cut = l.invariant.are_cut cut;
-      },
-    )
+    let none = no_bodies shape (state_at r) (option_map code_of a.test.now) (rule_of a.body.now) (readings_of shape a.frame.now) (places_of shape a.frame.now) a.path.now a.to (universe_at shape a.over) l.i (omega (arith, c.loop-i-test.false)) in
+    record {
+      works = ap (λ n. given n (map (work_of shape) l.pieces.items)) (l.invariant.counted ∙ sym (length-map l.pieces.items (work_of shape)))
+          ∙ ap counted_works (none_left (work_of shape) l.pieces.items _ _ none l.invariant.works);
+      are_pieces = l.invariant.are_pieces;
+    }

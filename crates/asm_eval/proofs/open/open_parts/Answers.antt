@@ -1,53 +1,52 @@
-use Rattle.std.proofs.Common.{◌∙◌, ◌+◌, drop, ap, sym, subst, All, arith, refl}
+use Rattle.std.proofs.Common.{◌∙◌, ◌∷◌, ◌++◌, ◌+◌, drop, map, ap, sym, subst, All, arith}
 use Rattle.std.proofs.lemmas.List.Elements.{All-nil}
-use Rattle.asm_meaning.specs.Does.{both}
-use Rattle.asm_eval.specs.Environments.{environment}
-use Rattle.asm_meaning.specs.Meant.{meant}
-use Rattle.asm_eval.specs.Pieces.{piece_does, pieces_do, IsPiece, IsCut}
-use Rattle.asm_meaning.specs.Setting.{outcome}
-use Rattle.asm_meaning.proofs.Beside.{beside_laws}
-use Rattle.asm_eval.proofs.OpenedPieces.{parts_from, next_part, no_part, all_more}
-use Rattle.asm_meaning.proofs.Groups.{group_laws-more as more_both, group_laws-counting_none as counting_none}
+use Rattle.asm_eval.proofs.Lists.{all_more}
+use Rattle.asm_eval.proofs.OpenedRules.{given, no_parts, none_left, none_yet, one_more, parts_from, parts_more}
+use Rattle.asm_eval.proofs.RuleForms.{sound_part}
+use Rattle.asm_eval.specs.Frames.{readings_of}
+use Rattle.asm_eval.specs.Opening.{all_of, work_of}
+use Rattle.asm_eval.specs.Pieces.{IsPiece}
+use Rattle.asm_eval.specs.RuleViews.{rule_of}
+use Rattle.asm_eval.specs.Running.{places_of, shape_at}
 use Rattle.asm_eval.proofs.open.open_parts.Goals as goal
 
 pub loop-i-init : goal.loop-i-init
-loop-i-init c =
+loop-i-init g c =
     let a = c.args in
+    let shape = shape_at a.running.now in
     let none = c.in_ok-pieces.ensures.items in
     record {
-      does = λ s A. ap (λ ps. both (pieces_do s A ps) (parts_from s A (environment s.shape a.env.now) a.path.now 0 a.rules.now)) none
-          ∙ beside_laws.first_unit (parts_from s A (environment s.shape a.env.now) a.path.now 0 a.rules.now);
-      are_pieces = λ program. subst (All (IsPiece program)) (sym none) (All-nil (IsPiece program));
-      are_cut = λ cut. subst (All (IsCut cut)) (sym none) (All-nil (IsCut cut));
+      works = none_yet (work_of shape) _ (parts_from (readings_of shape a.frame.now) (places_of shape a.frame.now) a.path.now 0 a.parts.now) none;
+      are_pieces = subst (All (IsPiece shape)) (sym none) (All-nil (IsPiece shape));
     }
 
 pub loop-i-preserved : goal.loop-i-preserved
-loop-i-preserved c =
+loop-i-preserved g c =
     let a = c.args in
+    let shape = shape_at a.running.now in
+    let rs = readings_of shape a.frame.now in
+    let ls = places_of shape a.frame.now in
     let l = c.loop-i in
+    let part = c.index-parts-i in
+    let below = c.loop-i-test.true in
     let more = c.in_ok-push.ensures.items in
+    let rest = parts_from rs ls a.path.now (l.i + 1) (drop (l.i + 1) a.parts.now) in
     record {
-      does = λ s A.
-          let rest = parts_from s A (environment s.shape a.env.now) a.path.now (l.i + 1) (drop (l.i + 1) a.rules.now) in
-          more_both (piece_does s A) l.pieces.items c.push.new.self.items _ rest more
-          ∙ ap (both (pieces_do s A l.pieces.items))
-          (ap (λ q. both (outcome s A (environment s.shape a.env.now) q (meant c.index-rules-i.result)) rest) c.in_ok-path.ensures
-          ∙ next_part s A (environment s.shape a.env.now) a.path.now a.rules.now l.i c.index-rules-i.result c.loop-i-test.true c.index-rules-i.is)
-          ∙ l.invariant.does s A;
-      are_pieces = λ program. all_more (IsPiece program) _ _ _ more (l.invariant.are_pieces program) tt;
-      are_cut = λ cut. all_more (IsCut cut) _ _ _ more (l.invariant.are_cut cut) tt;
+      works = one_more (work_of shape) l.pieces.items c.push.new.self.items _ rest more
+          ∙ ap (λ q. map (work_of shape) l.pieces.items ++ all_of (rule_of part.result) rs ls q ∷ rest) c.in_ok-path.ensures
+          ∙ ap (λ ws. map (work_of shape) l.pieces.items ++ ws) (parts_more rs ls a.path.now a.parts.now l.i part.result below part.is)
+          ∙ l.invariant.works;
+      are_pieces = all_more (IsPiece shape) _ _ _ more l.invariant.are_pieces
+          (sound_part shape a.parts.now l.i part.result below part.is c.requires.sound, c.requires.framed, tt);
     }
 
 pub returns : goal.returns
-returns c = λ s A cut.
+returns g c =
     let a = c.args in
-    let l = c.loop-i in (
-      refl,
-      record {
-        loses_nothing = sym (l.invariant.does s A)
-            ∙ ap (both (pieces_do s A l.pieces.items)) (no_part s A (environment s.shape a.env.now) a.path.now a.rules.now l.i (omega (arith, c.loop-i-test.false)))
-            ∙ beside_laws.last_unit (pieces_do s A l.pieces.items) ∙ sym (counting_none (pieces_do s A l.pieces.items));
-        are_pieces = l.invariant.are_pieces s.program;
-        are_cut = l.invariant.are_cut cut;
-      },
-    )
+    let shape = shape_at a.running.now in
+    let l = c.loop-i in
+    let none = no_parts (readings_of shape a.frame.now) (places_of shape a.frame.now) a.path.now a.parts.now l.i (omega (arith, c.loop-i-test.false)) in
+    record {
+      works = ap (given 0) (none_left (work_of shape) l.pieces.items _ _ none l.invariant.works);
+      are_pieces = l.invariant.are_pieces;
+    }

@@ -1,18 +1,17 @@
-use Rattle.std.proofs.Common.{◌≡◌, ℕ, drop, All}
-use Rattle.asm_state.specs.Location.{State}
-use Rattle.asm_meaning.specs.Does.{both}
-use Rattle.asm_eval.specs.Environments.{environment}
-use Rattle.asm_eval.specs.Pieces.{pieces_do, IsPiece, IsCut}
-use Rattle.asm_meaning.specs.Program.{Program}
-use Rattle.asm_meaning.specs.Setting.{Setting}
-use Rattle.asm_eval.proofs.OpenedPieces.{parts_from}
+use Rattle.std.proofs.Common.{◌≡◌, ◌++◌, drop, map, All}
+use Rattle.asm_eval.proofs.OpenedRules.{parts_from}
+use Rattle.asm_eval.specs.Frames.{readings_of}
+use Rattle.asm_eval.specs.Opening.{work_of}
+use Rattle.asm_eval.specs.Pieces.{IsPiece}
+use Rattle.asm_eval.specs.Running.{places_of, shape_at}
 use Rattle.asm_eval.proofs.open.open_parts.Given as goal
 
--- the pieces so far do what the parts so far do
+-- the works of the pieces so far, and those of the parts that are left
 abbrev pub invariant-loop-i : goal.invariant-loop-i
-invariant-loop-i l = record {
-  does : (s : Setting) (A : State) → both (pieces_do s A l.pieces.items) (parts_from s A (environment s.shape l.env) l.path l.i (drop l.i l.rules))
-      ≡ parts_from s A (environment s.shape l.env) l.path 0 l.rules;
-  are_pieces : (program : Program) → All (IsPiece program) l.pieces.items;
-  are_cut : (cut : ℕ) → All (IsCut cut) l.pieces.items;
-}
+invariant-loop-i g l =
+    let shape = shape_at l.running in
+    let works = parts_from (readings_of shape l.frame) (places_of shape l.frame) l.path in
+    record {
+      works : map (work_of shape) l.pieces.items ++ works l.i (drop l.i l.parts) ≡ works 0 l.parts;
+      are_pieces : All (IsPiece shape) l.pieces.items;
+    }

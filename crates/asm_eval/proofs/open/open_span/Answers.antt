@@ -1,20 +1,34 @@
-use Rattle.std.proofs.Common.{false, sym, subst}
-use Rattle.std.specs.Prelude.{IfOk}
-use Rattle.asm_eval.specs.Environments.{environment_in}
-use Rattle.asm_eval.specs.Evaluated.{setting, state_at}
-use Rattle.asm_eval.specs.Pieces.{OpensTo, span_does}
-use Rattle.asm_eval.proofs.OpenedPieces.{meant_each}
+use Rattle.std.proofs.Common.{◌∙◌, ap, sym, arith}
+use Rattle.std.specs.Prelude.{option_map}
+use Rattle.asm_meaning.specs.Intervals.{between}
+use Rattle.asm_meaning.specs.declared.part.Part.TheVariants as part
+use Rattle.asm_eval.proofs.OpenedRules.{bodies_opened, opens_same}
+use Rattle.asm_eval.proofs.RuleForms.{forall_form}
+use Rattle.asm_eval.specs.CodeViews.{code_of}
+use Rattle.asm_eval.specs.Frames.{readings_of}
+use Rattle.asm_eval.specs.Opening.{body_works, counted_works, part_opened}
+use Rattle.asm_eval.specs.Readings.{universe_at}
+use Rattle.asm_eval.specs.RuleTree as tree
+use Rattle.asm_eval.specs.RuleViews.{rule_of}
+use Rattle.asm_eval.specs.Running.{chosen_at, places_of, shape_at, state_at}
+use Rattle.asm_eval.specs.declared.rule_code.RuleCode.{RuleCode}
 use Rattle.asm_eval.proofs.open.open_span.Goals as goal
-
-pub returns-then-to-from : goal.returns-then-to-from
-returns-then-to-from g c = let on = c.args.evaluation.now in c.open_spans.ensures (setting on) (state_at on) c.requires.part
 
 pub returns : goal.returns
 returns g c =
     let a = c.args in
-    let s = setting a.evaluation.now in
-    let A = state_at a.evaluation.now in
-    let f = c.in-Forall in
-    subst (λ R. IfOk c.open_bodies.result (OpensTo s A a.cut false (span_does s A (environment_in a.evaluation.now.scene.checked.now a.piece.now.env) a.piece.now.path R a.from a.to)))
-    (sym (meant_each a.piece.now.rule.now f.name f.over f.test f.body c.deref.result.now f.is c.deref.ensures))
-    (c.open_bodies.ensures a.cut)
+    let r = a.running.now in
+    let shape = shape_at r in
+    let A = state_at r in
+    let it = c.in-Forall in
+    let rs = readings_of shape a.piece.now.frame in
+    let ls = places_of shape a.piece.now.frame in
+    let p = a.piece.now.path in
+    let test = option_map code_of it.test in
+    let body = rule_of c.deref.result.now in
+    let is = forall_form a.piece.now.rule.now it.over it.test it.body it.is ∙ ap (λ (P : RuleCode). tree.Forall it.over test (rule_of P)) (sym c.deref.ensures) in
+    opens_same r c.open_bodies.result _ _
+    (ap (λ q. counted_works (body_works shape A test body rs ls q a.from (between a.from a.to (universe_at shape it.over)))) c.as_slice.ensures
+    ∙ bodies_opened a.cut shape A rs ls p a.from a.to it.over test body (omega arith)
+    ∙ ap (λ R. part_opened shape A (chosen_at r) a.cut R rs ls p (part.Span a.from a.to)) (sym is))
+    c.open_bodies.ensures

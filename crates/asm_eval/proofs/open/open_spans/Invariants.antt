@@ -1,24 +1,23 @@
-use Rattle.std.proofs.Common.{◌≡◌, ◌-◌, ◌≤◌, All}
-use Rattle.asm_state.specs.Location.{State}
-use Rattle.asm_meaning.specs.Does.{both}
-use Rattle.asm_eval.specs.Environments.{environment}
-use Rattle.asm_meaning.specs.Meant.{meant}
-use Rattle.asm_eval.specs.Pieces.{pieces_do, span_does, IsPartOf, IsPiece, IsCut}
-use Rattle.asm_meaning.specs.Setting.{Setting}
-use Rattle.asm_meaning.specs.declared.part.Part.TheVariants as part
+use Rattle.std.proofs.Common.{◌≡◌, ◌-◌, ◌≤◌, ◌++◌, map, All}
+use Rattle.asm_eval.proofs.OpenedRules.{spans_from}
+use Rattle.asm_eval.specs.Frames.{readings_of}
+use Rattle.asm_eval.specs.Opening.{work_of}
+use Rattle.asm_eval.specs.Pieces.{IsPiece}
+use Rattle.asm_eval.specs.RuleViews.{rule_of}
+use Rattle.asm_eval.specs.Running.{places_of, shape_at}
 use Rattle.asm_eval.proofs.open.open_spans.Given as goal
 
 abbrev pub decreases-loop-next : goal.decreases-loop-next
-decreases-loop-next l = l.to - l.next
+decreases-loop-next g l = l.to - l.next
 
--- the spans so far do what the positions so far do
+-- the works of the pieces so far, and those of the spans that are left
 abbrev pub invariant-loop-next : goal.invariant-loop-next
-invariant-loop-next l = record {
-  low : l.from ≤ l.next;
-  high : l.next ≤ l.to;
-  does : (s : Setting) (A : State) → IsPartOf s.program (meant l.piece.rule.now) (part.Span l.from l.to)
-      → both (pieces_do s A l.pieces.items) (span_does s A (environment s.shape l.piece.env) l.piece.path (meant l.piece.rule.now) l.next l.to)
-      ≡ span_does s A (environment s.shape l.piece.env) l.piece.path (meant l.piece.rule.now) l.from l.to;
-  are_pieces : (s : Setting) → IsPartOf s.program (meant l.piece.rule.now) (part.Span l.from l.to) → All (IsPiece s.program) l.pieces.items;
-  are_cut : All (IsCut l.cut) l.pieces.items;
-}
+invariant-loop-next g l =
+    let shape = shape_at l.running in
+    let works = spans_from l.cut (rule_of l.piece.rule.now) (readings_of shape l.piece.frame) (places_of shape l.piece.frame) l.piece.path l.to in
+    record {
+      low : l.from ≤ l.next;
+      high : l.next ≤ l.to;
+      works : map (work_of shape) l.pieces.items ++ works l.next ≡ works l.from;
+      are_pieces : All (IsPiece shape) l.pieces.items;
+    }

@@ -1,5 +1,5 @@
-use Rattle.asm_code.specs.Running.{shape_at}
-use Rattle.asm_code.specs.Pieces.{piece_yields}
+use Rattle.asm_eval.specs.Running.{shape_at}
+use Rattle.asm_eval.specs.Pieces.{piece_yields}
 use Rattle.asm_run.proofs.Tasks.{set_worked}
 use Rattle.asm_run.proofs.job.put_piece.Goals as goal
 

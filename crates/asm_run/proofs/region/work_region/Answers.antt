@@ -1,8 +1,8 @@
 use Rattle.std.proofs.Common.{◌≡◌, ◌∙◌, ◌++◌, None, [], ap, refl, subst, arith}
 use Rattle.asm_state.specs.Updates.{none}
 use Rattle.asm_meaning.specs.Does.{nothing}
-use Rattle.asm_code.specs.Running.{shape_at}
-use Rattle.asm_code.specs.OpenedPieces.{pieces_yield}
+use Rattle.asm_eval.specs.Running.{shape_at}
+use Rattle.asm_eval.specs.OpenedPieces.{pieces_yield}
 use Rattle.asm_meaning.proofs.Beside.{beside_laws}
 use Rattle.asm_striped.specs.Log.{IsSummaryOfLog}
 use Rattle.asm_run.specs.Hands.{logs_of}

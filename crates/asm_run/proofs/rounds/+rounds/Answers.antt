@@ -1,9 +1,9 @@
 use Rattle.std.proofs.Common.{◌≡◌, List, [], ◌∷◌, length, refl, subst, arith, rules}
 use Rattle.std.proofs.lemmas.Result.{IfOk-weaker}
 use Rattle.asm_meaning.specs.Does.{both}
-use Rattle.asm_code.specs.Running.{shape_at}
-use Rattle.asm_code.specs.OpenedPieces.{pieces_yield}
-use Rattle.asm_code.specs.declared.piece.Piece.{Piece}
+use Rattle.asm_eval.specs.Running.{shape_at}
+use Rattle.asm_eval.specs.OpenedPieces.{pieces_yield}
+use Rattle.asm_eval.specs.declared.piece.Piece.{Piece}
 use Rattle.asm_run.specs.Rounds.{Holds}
 use Rattle.asm_run.proofs.RoundLaw.{held_before_none, held_through}
 use Rattle.asm_run.proofs.rounds.+rounds.Goals as goal

@@ -3,9 +3,9 @@ use denote.Param.Send.{sendable}
 use mir.Syntax.{erased}
 use Rattle.std.proofs.Common.{◌≡◌, List, [], All, map, length, sym, subst, arith}
 use Rattle.std.specs.Prelude.{IfNone}
-use Rattle.asm_code.specs.Running.{shape_at}
-use Rattle.asm_code.specs.Pieces.{IsPiece}
-use Rattle.asm_code.specs.declared.piece.Piece.{Piece}
+use Rattle.asm_eval.specs.Running.{shape_at}
+use Rattle.asm_eval.specs.Pieces.{IsPiece}
+use Rattle.asm_eval.specs.declared.piece.Piece.{Piece}
 use Rattle.asm_run.specs.Hands.{TakesHand}
 use Rattle.asm_run.specs.Rounds.{IsRound, answers, news, tally}
 use Rattle.asm_run.proofs.Crossing.{job_shared, out_sent}

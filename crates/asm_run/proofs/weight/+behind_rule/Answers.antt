@@ -1,5 +1,5 @@
 use Rattle.std.proofs.Common.{arith}
-use Rattle.asm_code.proofs.SoundMembers.{member_laws-par as par_sound, member_laws-seq as seq_sound}
+use Rattle.asm_eval.proofs.SoundMembers.{member_laws-par as par_sound, member_laws-seq as seq_sound}
 use Rattle.asm_run.proofs.weight.+behind_rule.Goals as goal
 
 pub behind_rule-requires : goal.behind_rule-requires

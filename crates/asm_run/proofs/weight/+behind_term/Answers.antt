@@ -1,5 +1,5 @@
 use Rattle.std.proofs.Common.{arith}
-use Rattle.asm_code.proofs.SoundMembers.{member_laws-chain as operand_sound, member_laws-held as argument_sound}
+use Rattle.asm_eval.proofs.SoundMembers.{member_laws-chain as operand_sound, member_laws-held as argument_sound}
 use Rattle.asm_run.proofs.weight.+behind_term.Goals as goal
 
 pub behind_term-requires-in-loop-argument : goal.behind_term-requires-in-loop-argument

@@ -1,4 +1,4 @@
-use Rattle.asm_code.proofs.SoundMembers.{member_laws-codes as code_sound}
+use Rattle.asm_eval.proofs.SoundMembers.{member_laws-codes as code_sound}
 use Rattle.asm_run.proofs.weight.behind_terms.Goals as goal
 
 pub behind_term-requires : goal.behind_term-requires

@@ -1,6 +1,6 @@
 use Rattle.std.proofs.Common.{◌≡◌, ◌<◌, List, [], ◌∷◌, Some, length, refl, ap, arith}
 use Rattle.std.specs.Prelude.{slice_get}
-use Rattle.asm_code.specs.declared.piece.Piece.{Piece}
+use Rattle.asm_eval.specs.declared.piece.Piece.{Piece}
 use Rattle.asm_run_tests.proofs.regions.tasks.run_first_task.Goals as goal
 
 first : (ps : List Piece) → 0 < length ps → (p : Piece) × (slice_get ps 0 ≡ Some p)

@@ -1,0 +1,67 @@
+-- Members of lists of codes and of chains: each is sound, and no greater than the whole.
+use Rattle.std.proofs.Common.{◌≡◌, ℕ, zero, suc, ◌≤◌, ◌<◌, List, [], ◌∷◌, ◌++◌, ◌+◌, length, map, get_or, refl, sym, ap, subst, arith}
+use Rattle.asm_state.specs.declared.operation.Op.{Op}
+use Rattle.asm_state.specs.Location.{State}
+use Rattle.asm_state.specs.Signature.{Shape}
+use Rattle.asm_meaning.specs.Value.{Reading}
+use Rattle.asm_eval.specs.CodeViews.{code_of, codes_of, link_of, links_of}
+use Rattle.asm_eval.specs.Readings.{reading, readings}
+use Rattle.asm_eval.specs.Sizes.{size, sizes, link_sizes}
+use Rattle.asm_eval.specs.Sound.{IsSound, AreSound, AreSoundLinks, count}
+use Rattle.asm_eval.specs.CodeTree as tree
+use Rattle.asm_eval.specs.declared.code.Code.{Code}
+
+-- what the codes of a list are worth
+pub readings_map : (shape : Shape) (rs : List Reading) (A : State) (ts : List Code)
+    → readings shape (codes_of (map code_of ts)) rs A ≡ map (λ (t : Code). reading shape (code_of t) rs A) ts
+unfolding readings
+readings_map shape rs A [] = refl
+readings_map shape rs A (t ∷ ts) = ap (λ vs. reading shape (code_of t) rs A ∷ vs) (readings_map shape rs A ts)
+
+pub size_within : (ts : List Code) (i : ℕ) (t : Code) → i < length ts → t ≡ get_or ts i t → size (code_of t) ≤ sizes (codes_of (map code_of ts))
+size_within [] i t below is = absurd (omega (arith, below))
+size_within (u ∷ ts) zero t below is = let same = ap (λ (t : Code). size (code_of t)) is in omega (arith, same)
+size_within (u ∷ ts) (suc i) t below is = let rest = size_within ts i t (omega (arith, below)) is in omega (arith, rest)
+
+pub sound_within : (shape : Shape) (ts : List Code) (i : ℕ) (t : Code) → i < length ts → t ≡ get_or ts i t → AreSound shape (codes_of (map code_of ts)) → IsSound shape (code_of t)
+sound_within shape [] i t below is sound = absurd (omega (arith, below))
+sound_within shape (u ∷ ts) zero t below is sound = subst (λ (t : Code). IsSound shape (code_of t)) (sym is) sound.0
+sound_within shape (u ∷ ts) (suc i) t below is sound = sound_within shape ts i t (omega (arith, below)) is sound.1
+
+pub link_size_within : (links : List (Op × Code)) (i : ℕ) (l : Op × Code) → i < length links → l ≡ get_or links i l → size (code_of l.1) ≤ link_sizes (links_of (map link_of links))
+link_size_within [] i l below is = absurd (omega (arith, below))
+link_size_within (k ∷ links) zero l below is = let same = ap (λ (l : Op × Code). size (code_of l.1)) is in omega (arith, same)
+link_size_within (k ∷ links) (suc i) l below is = let rest = link_size_within links i l (omega (arith, below)) is in omega (arith, rest)
+
+pub link_sound_within : (shape : Shape) (links : List (Op × Code)) (i : ℕ) (l : Op × Code) → i < length links → l ≡ get_or links i l → AreSoundLinks shape (links_of (map link_of links)) → IsSound shape (code_of l.1)
+link_sound_within shape [] i l below is sound = absurd (omega (arith, below))
+link_sound_within shape (k ∷ links) zero l below is sound = subst (λ (l : Op × Code). IsSound shape (code_of l.1)) (sym is) sound.0
+link_sound_within shape (k ∷ links) (suc i) l below is sound = link_sound_within shape links i l (omega (arith, below)) is sound.1
+
+pub count_of_codes : (ts : List Code) → count (codes_of (map code_of ts)) ≡ length ts
+count_of_codes [] = refl
+count_of_codes (t ∷ ts) = let rest = count_of_codes ts in omega (arith, rest)
+
+-- each code has a node
+pub size_some : (t : tree.Code) → 1 ≤ size t
+size_some (tree.Constant v) = omega arith
+size_some (tree.Local i) = omega arith
+size_some (tree.Cell n) = omega arith
+size_some (tree.Row first low many t) = omega arith
+size_some (tree.Grid first low rows left columns s t) = omega arith
+size_some (tree.Held f ts) = omega arith
+size_some (tree.Derived t ts) = omega arith
+size_some (tree.With o t v) = omega arith
+size_some (tree.Both o s t) = omega arith
+size_some (tree.Chain t links) = omega arith
+size_some (tree.Exists u t) = omega arith
+size_some (tree.Every u t) = omega arith
+
+-- the last of a list, and the others
+pub sizes_last : (ts : List Code) (t : Code) → sizes (codes_of (map code_of (ts ++ t ∷ []))) ≡ sizes (codes_of (map code_of ts)) + size (code_of t)
+sizes_last [] t = omega arith
+sizes_last (u ∷ ts) t = let rest = sizes_last ts t in omega (arith, rest)
+
+pub sound_last : (shape : Shape) (ts : List Code) (t : Code) → AreSound shape (codes_of (map code_of (ts ++ t ∷ []))) → AreSound shape (codes_of (map code_of ts)) × IsSound shape (code_of t)
+sound_last shape [] t sound = (tt, sound.0)
+sound_last shape (u ∷ ts) t sound = let rest = sound_last shape ts t sound.1 in ((sound.0, rest.0), rest.1)

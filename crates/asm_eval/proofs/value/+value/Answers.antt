@@ -1,0 +1,375 @@
+use Rattle.std.proofs.Common.{◌||◌, ◌≤◌, ◌&&◌, List, ◌∷◌, ◌++◌, map, Some, refl, sym, ap, subst, ◌∙◌, arith}
+use Rattle.asm_meaning.specs.Value as spec
+use Rattle.asm_state.specs.declared.operation.Op.{Op}
+use Rattle.asm_state.specs.declared.operation.Op.TheVariants.{Add, Remainder, Equal}
+use Rattle.asm_state.specs.declared.value.Value.TheVariants.{Number}
+use Rattle.asm_state.specs.Words.{value_of_code}
+use Rattle.asm_meaning.specs.Valued.{shown}
+use Rattle.asm_eval.specs.CodeViews.{code_of}
+use Rattle.asm_eval.specs.Founds.{found_load, IsSoundFound}
+use Rattle.asm_eval.specs.Frames.{AllSound, bound_value, code_value, load, readings_of}
+use Rattle.asm_eval.specs.Readings.{always, reading}
+use Rattle.asm_eval.specs.Sizes.{size, sizes}
+use Rattle.asm_eval.specs.Sound.{IsSound, AreSound, count}
+use Rattle.asm_eval.specs.CodeViews.{codes_of, link_of, links_of}
+use Rattle.asm_eval.specs.declared.code.Code.{Code}
+use Rattle.std.specs.List.{list_all}
+use Rattle.std.proofs.lemmas.List.{take_all}
+use Rattle.std.proofs.lemmas.List.Folds.{list_all_at}
+use Rattle.asm_eval.specs.CodeTree as tree
+use Rattle.asm_eval.proofs.Ands.{not_holds, not_of, both_or, or_false, or_neither, or_true, both_and, chain_true, holds_in}
+use Rattle.asm_eval.proofs.Arguments.{all_valued}
+use Rattle.asm_eval.proofs.Cases.{of_constant, of_local, of_cell, with_is, turned_is, one_is, two_is, both_is, row_is, grid_is, chain_begins, chain_ends, chain_goes_on, of_held, of_derived}
+use Rattle.asm_eval.proofs.CodeForms.{every_form, exists_form, held_form}
+use Rattle.asm_eval.specs.Ands.{is_false}
+use Rattle.asm_eval.proofs.Members.{size_within, sound_within, link_size_within, link_sound_within, count_of_codes, size_some, sizes_last, sound_last}
+use Rattle.asm_eval.proofs.BoundValues.{bound_nothing, last_bound, values_bound}
+use Rattle.asm_eval.proofs.Quantified.{passes, none_more, all_more, exists_at, fails_at, exists_past, every_past}
+use Rattle.asm_eval.proofs.value.+value.Goals as goal
+
+pub value-returns-in-Constant : goal.value-returns-in-Constant
+value-returns-in-Constant t c = let a = c.args in of_constant a.view.now.signature.now (readings_of a.view.now.signature.now a.frame.now) (shown a.view.now) a.code.now c.in-Constant.value c.in-Constant.is
+
+pub value-returns-in-Local : goal.value-returns-in-Local
+value-returns-in-Local t c =
+    let a = c.args in
+    of_local a.view.now.signature.now (readings_of a.view.now.signature.now a.frame.now) (shown a.view.now) a.code.now c.in-Local.position c.local.result c.in-Local.is c.local.ensures
+
+pub value-returns-in-Cell : goal.value-returns-in-Cell
+value-returns-in-Cell t c =
+    let a = c.args in
+    of_cell a.view.now.signature.now (readings_of a.view.now.signature.now a.frame.now) (shown a.view.now) a.code.now c.in-Cell.n c.far_cell.result c.in-Cell.is c.far_cell.ensures
+
+pub operand-returns-in-Constant : goal.operand-returns-in-Constant
+operand-returns-in-Constant t c = let a = c.args in of_constant a.view.now.signature.now (readings_of a.view.now.signature.now a.frame.now) (shown a.view.now) a.code.now c.in-Constant.value c.in-Constant.is
+
+pub operand-returns-in-Local : goal.operand-returns-in-Local
+operand-returns-in-Local t c =
+    let a = c.args in
+    of_local a.view.now.signature.now (readings_of a.view.now.signature.now a.frame.now) (shown a.view.now) a.code.now c.in-Local.position c.local.result c.in-Local.is c.local.ensures
+
+pub operand-returns-in-Cell : goal.operand-returns-in-Cell
+operand-returns-in-Cell t c =
+    let a = c.args in
+    of_cell a.view.now.signature.now (readings_of a.view.now.signature.now a.frame.now) (shown a.view.now) a.code.now c.in-Cell.n c.far_cell.result c.in-Cell.is c.far_cell.ensures
+
+pub with-returns : goal.with-returns
+with-returns t c =
+    let a = c.args in
+    with_is a.view.now.signature.now (readings_of a.view.now.signature.now a.frame.now) (shown a.view.now) a.operation (code_of a.left.now) a.right c.operand-left.result c.far_applied.result c.operand-left.ensures c.far_applied.ensures
+
+pub plus-returns : goal.plus-returns
+plus-returns t c =
+    let a = c.args in
+    with_is a.view.now.signature.now (readings_of a.view.now.signature.now a.frame.now) (shown a.view.now) Add (code_of a.left.now) (Number a.right) c.operand-left.result c.added.result c.operand-left.ensures c.added.ensures
+
+pub modulo-returns : goal.modulo-returns
+modulo-returns t c =
+    let a = c.args in
+    with_is a.view.now.signature.now (readings_of a.view.now.signature.now a.frame.now) (shown a.view.now) Remainder (code_of a.left.now) (Number a.right.number) c.operand-left.result c.remainder_by.result c.operand-left.ensures c.remainder_by.ensures
+
+pub plus_modulo-returns : goal.plus_modulo-returns
+plus_modulo-returns t c =
+    let a = c.args in
+    turned_is a.view.now.signature.now (readings_of a.view.now.signature.now a.frame.now) (shown a.view.now) (code_of a.left.now) (Number a.by) (Number a.over.number) c.operand-left.result c.added-sum.result c.remainder_by.result
+    c.operand-left.ensures c.added-sum.ensures c.remainder_by.ensures
+
+pub derived_one-returns : goal.derived_one-returns
+derived_one-returns t c =
+    let a = c.args in
+    one_is a.view.now.signature.now (readings_of a.view.now.signature.now a.frame.now) (shown a.view.now) (code_of a.body.now) (code_of a.argument.now) c.operand.result c.value.result c.operand.ensures c.value.ensures
+
+pub derived_two-returns : goal.derived_two-returns
+derived_two-returns t c =
+    let a = c.args in
+    two_is a.view.now.signature.now (readings_of a.view.now.signature.now a.frame.now) (shown a.view.now) (code_of a.body.now) (code_of a.first.now) (code_of a.second.now) c.operand-a.result c.operand-b.result c.value.result
+    c.operand-a.ensures c.operand-b.ensures c.value.ensures
+
+pub equals-returns : goal.equals-returns
+equals-returns t c =
+    let a = c.args in
+    with_is a.view.now.signature.now (readings_of a.view.now.signature.now a.frame.now) (shown a.view.now) Equal (code_of a.left.now) a.right c.operand-left.result c.equal_to.result c.operand-left.ensures c.equal_to.ensures
+
+pub both-returns : goal.both-returns
+both-returns t c =
+    let a = c.args in
+    both_is a.view.now.signature.now (readings_of a.view.now.signature.now a.frame.now) (shown a.view.now) a.operation (code_of a.left.now) (code_of a.right.now) c.operand-a.result c.operand-b.result c.applied.result
+    c.operand-a.ensures c.operand-b.ensures c.applied.ensures
+
+pub row_value-returns : goal.row_value-returns
+row_value-returns t c =
+    let a = c.args in
+    row_is a.view.now.signature.now (readings_of a.view.now.signature.now a.frame.now) (shown a.view.now) a.first a.over.low a.over.count (code_of a.argument.now) c.operand-argument.result c.in_row.result c.operand-argument.ensures c.in_row.ensures
+
+pub grid_value-returns : goal.grid_value-returns
+grid_value-returns t c =
+    let a = c.args in
+    grid_is a.view.now.signature.now (readings_of a.view.now.signature.now a.frame.now) (shown a.view.now) a.place.now.first a.place.now.rows.low a.place.now.rows.count a.place.now.columns.low a.place.now.columns.count (code_of a.row.now) (code_of a.column.now) c.operand-a.result c.operand-b.result c.in_grid.result
+    c.operand-a.ensures c.operand-b.ensures c.in_grid.ensures
+
+pub chain-loop-operation-init : goal.chain-loop-operation-init
+chain-loop-operation-init t c =
+    let a = c.args in
+    chain_begins a.view.now.signature.now (readings_of a.view.now.signature.now a.frame.now) (shown a.view.now) (code_of a.first.now) (links_of (map link_of a.rest.now)) c.operand-total.result c.operand-total.ensures
+
+pub chain-operand-right-requires : goal.chain-operand-right-requires
+chain-operand-right-requires t c =
+    let a = c.args in
+    let shape = a.view.now.signature.now in
+    let small = link_size_within a.rest.now c.loop-operation.operation-index c.loop-operation-item.result c.loop-operation-test.true c.loop-operation-item.is in
+    (omega (arith, c.decreases, small), (link_sound_within shape a.rest.now c.loop-operation.operation-index c.loop-operation-item.result c.loop-operation-test.true c.loop-operation-item.is c.requires.rest, c.requires.framed))
+
+pub chain-loop-operation-preserved : goal.chain-loop-operation-preserved
+chain-loop-operation-preserved t c =
+    let a = c.args in
+    chain_goes_on a.view.now.signature.now (readings_of a.view.now.signature.now a.frame.now) (shown a.view.now) a.rest.now c.loop-operation.operation-index c.loop-operation-item.result
+    c.loop-operation.total c.operand-right.result _ _ c.loop-operation-test.true c.loop-operation-item.is c.loop-operation.invariant c.operand-right.ensures c.applied-total.ensures
+
+pub chain-returns : goal.chain-returns
+chain-returns t c =
+    let a = c.args in
+    chain_ends a.view.now.signature.now (readings_of a.view.now.signature.now a.frame.now) (shown a.view.now) a.rest.now c.loop-operation.operation-index c.loop-operation.total _
+    (omega arith) c.loop-operation.invariant
+
+pub far_local-value-requires : goal.far_local-value-requires
+far_local-value-requires t c =
+    let sound = subst (IsSoundFound c.args.view.now.signature.now) c.in-ByName.is (c.find.ensures.sound c.args.view.now.signature.now c.requires.framed) in
+    let lighter = subst (λ f. found_load f ≤ load c.args.frame.now) c.in-ByName.is c.find.ensures.load in
+    (omega (arith, c.decreases, lighter), (sound.0, sound.1))
+
+pub held-returns : goal.held-returns
+held-returns t c =
+    let a = c.args in
+    of_held a.view.now.signature.now (readings_of a.view.now.signature.now a.frame.now) (shown a.view.now) a.function a.arguments.now _ _
+    (all_valued (code_value a.view.now a.frame.now) a.arguments.now c.loop-i.values c.loop-i.i c.loop-i-test.false c.loop-i.auto.i-end c.loop-i.invariant.valued) c.function_value.ensures
+
+pub held-operand-requires : goal.held-operand-requires
+held-operand-requires t c =
+    let a = c.args in
+    let small = size_within a.arguments.now c.loop-i.i c.index-arguments-i.result c.loop-i-test.true c.index-arguments-i.is in
+    (omega (arith, c.decreases, small), (sound_within a.view.now.signature.now a.arguments.now c.loop-i.i c.index-arguments-i.result c.loop-i-test.true c.index-arguments-i.is c.requires.sound, c.requires.framed))
+
+pub derived-operand-requires : goal.derived-operand-requires
+derived-operand-requires t c =
+    let a = c.args in
+    let small = size_within a.arguments.now c.loop-i.i c.index-arguments-i.result c.loop-i-test.true c.index-arguments-i.is in
+    (omega (arith, c.decreases, small), (sound_within a.view.now.signature.now a.arguments.now c.loop-i.i c.index-arguments-i.result c.loop-i-test.true c.index-arguments-i.is c.requires.sound, c.requires.framed))
+
+pub derived-returns-then-arguments-le-FEW : goal.derived-returns-then-arguments-le-FEW
+derived-returns-then-arguments-le-FEW t c =
+    let a = c.args in
+    let are = all_valued (code_value a.view.now a.frame.now) a.arguments.now c.loop-i.values c.loop-i.i c.loop-i-test.false c.loop-i.auto.i-end c.loop-i.invariant.valued in
+    let it = of_derived a.view.now.signature.now (readings_of a.view.now.signature.now a.frame.now) (shown a.view.now) a.body.now a.arguments.now _ are in
+    c.value.ensures ∙ it
+
+pub every-returns-then-not-tested : goal.every-returns-then-not-tested
+every-returns-then-not-tested t c =
+    let a = c.args in
+    let fails = sym c.holds-tested.ensures ∙ c.if-not-tested.true in
+    fails_at a.view.now.signature.now (readings_of a.view.now.signature.now a.frame.now) (shown a.view.now) a.over (code_of a.test.now) c.universe-universe.result.now c.loop-i.i (value_of_code c.kept.result.value) c.universe-universe.ensures (c.element.ensures ∙ ap Some (sym c.kept.ensures)) fails
+
+pub every-loop-i-preserved : goal.every-loop-i-preserved
+every-loop-i-preserved t c =
+    let a = c.args in
+    let passed = sym c.holds-tested.ensures ∙ c.if-not-tested.false in
+    all_more (passes a.view.now.signature.now (readings_of a.view.now.signature.now a.frame.now) (shown a.view.now) a.over (code_of a.test.now)) c.universe-universe.result.now c.loop-i.i (value_of_code c.kept.result.value) (c.element.ensures ∙ ap Some (sym c.kept.ensures)) c.loop-i.invariant passed
+
+pub every-returns : goal.every-returns
+every-returns t c =
+    let a = c.args in
+    every_past a.view.now.signature.now (readings_of a.view.now.signature.now a.frame.now) (shown a.view.now) a.over (code_of a.test.now) c.universe-universe.result.now c.loop-i.i c.universe-universe.ensures (omega (arith, c.size-i-end.ensures.size)) c.loop-i.invariant
+
+pub exists-returns-then-tested : goal.exists-returns-then-tested
+exists-returns-then-tested t c =
+    let a = c.args in
+    let passed = sym c.holds-tested.ensures ∙ c.if-tested.true in
+    exists_at a.view.now.signature.now (readings_of a.view.now.signature.now a.frame.now) (shown a.view.now) a.over (code_of a.test.now) c.universe-universe.result.now c.loop-i.i (value_of_code c.kept.result.value) c.universe-universe.ensures (c.element.ensures ∙ ap Some (sym c.kept.ensures)) passed
+
+pub exists-loop-i-preserved : goal.exists-loop-i-preserved
+exists-loop-i-preserved t c =
+    let a = c.args in
+    let fails = sym c.holds-tested.ensures ∙ c.if-tested.false in
+    none_more (passes a.view.now.signature.now (readings_of a.view.now.signature.now a.frame.now) (shown a.view.now) a.over (code_of a.test.now)) c.universe-universe.result.now c.loop-i.i (value_of_code c.kept.result.value) (c.element.ensures ∙ ap Some (sym c.kept.ensures)) c.loop-i.invariant fails
+
+pub exists-returns : goal.exists-returns
+exists-returns t c =
+    let a = c.args in
+    exists_past a.view.now.signature.now (readings_of a.view.now.signature.now a.frame.now) (shown a.view.now) a.over (code_of a.test.now) c.universe-universe.result.now c.loop-i.i c.universe-universe.ensures (omega (arith, c.size-i-end.ensures.size)) c.loop-i.invariant
+
+pub derived-returns : goal.derived-returns
+derived-returns t c =
+    let a = c.args in
+    let shape = a.view.now.signature.now in
+    let rs = readings_of shape a.frame.now in
+    let A = shown a.view.now in
+    c.linked.ensures ∙ ap (λ us. reading shape (code_of a.body.now) us A) (values_bound (code_value a.view.now a.frame.now) a.arguments.now)
+    ∙ of_derived shape rs A a.body.now a.arguments.now (map (code_value a.view.now a.frame.now) a.arguments.now) refl
+
+pub linked-returns-in-None : goal.linked-returns-in-None
+linked-returns-in-None t c = let a = c.args in c.value.ensures ∙ sym (bound_nothing a.view.now a.frame.now a.bound.now a.body.now a.arguments.now c.in-None.ensures.cases)
+
+pub linked-operand-requires : goal.linked-operand-requires
+linked-operand-requires t c =
+    let a = c.args in
+    let shape = a.view.now.signature.now in
+    let parts = c.in-Some.ensures.cases.0 in
+    let same = ap (λ (ts : List Code). sizes (codes_of (map code_of ts))) parts in
+    let split = sizes_last c.in-Some.others.now c.in-Some.last.now in
+    let sound = sound_last shape c.in-Some.others.now c.in-Some.last.now (subst (AllSound shape) parts c.requires.sound) in
+    (omega (arith, c.decreases, same, split), (sound.1, c.requires.framed))
+
+pub linked-linked-requires : goal.linked-linked-requires
+linked-linked-requires t c =
+    let a = c.args in
+    let shape = a.view.now.signature.now in
+    let parts = c.in-Some.ensures.cases.0 in
+    let same = ap (λ (ts : List Code). sizes (codes_of (map code_of ts))) parts in
+    let split = sizes_last c.in-Some.others.now c.in-Some.last.now in
+    let some = size_some (code_of c.in-Some.last.now) in
+    let sound = sound_last shape c.in-Some.others.now c.in-Some.last.now (subst (AllSound shape) parts c.requires.sound) in
+    (omega (arith, c.decreases, same, split, some), (c.requires.body, (sound.0, (c.requires.framed, c.requires.bound))))
+
+pub linked-returns-in-Some : goal.linked-returns-in-Some
+linked-returns-in-Some t c =
+    let a = c.args in
+    let shape = a.view.now.signature.now in
+    c.linked.ensures
+    ∙ ap (λ v. reading shape (code_of a.body.now) (map (λ (t : Code). always (code_value a.view.now a.frame.now t)) c.in-Some.others.now ++ always v ∷ readings_of shape a.bound.now) (shown a.view.now)) (c.kept.ensures ∙ c.operand.ensures)
+    ∙ ap (λ rs. reading shape (code_of a.body.now) rs (shown a.view.now)) (sym (last_bound (λ (t : Code). always (code_value a.view.now a.frame.now t)) c.in-Some.others.now c.in-Some.last.now (readings_of shape a.bound.now)))
+    ∙ ap (bound_value a.view.now a.frame.now a.bound.now a.body.now) (sym c.in-Some.ensures.cases.0)
+
+pub value-held-requires : goal.value-held-requires
+value-held-requires t c =
+    let a = c.args in
+    let shape = a.view.now.signature.now in
+    let form = held_form a.code.now c.in-Held.function c.in-Held.arguments c.in-Held.is in
+    let same = c.as_slice.ensures.value in
+    let sound = subst (IsSound shape) form c.requires.sound in
+    let whole = ap size form in
+    let as_many = ap (λ (ts : List Code). sizes (codes_of (map code_of ts))) same in
+    let counted = count_of_codes c.as_slice.result.now in
+    let counts = ap (λ (ts : List Code). count (codes_of (map code_of ts))) same in
+    let few = sound.1 in
+    (omega (arith, c.decreases, whole, as_many), (sound.0, (omega (arith, counted, counts, few), (subst (λ (ts : List Code). AreSound shape (codes_of (map code_of ts))) (sym same) sound.2, c.requires.framed))))
+
+pub with_holds-returns-in-Not : goal.with_holds-returns-in-Not
+with_holds-returns-in-Not t c =
+    let a = c.args in
+    let shape = a.view.now.signature.now in
+    let rs = readings_of shape a.frame.now in
+    let A = shown a.view.now in
+    c.fails.ensures ∙ sym (ap (λ o. spec.is_true (reading shape (tree.With o (code_of a.left.now) a.right) rs A)) c.in-Not.is ∙ not_holds shape rs A (code_of a.left.now) a.right)
+
+pub fails-returns-in-Exists : goal.fails-returns-in-Exists
+fails-returns-in-Exists t c =
+    let a = c.args in
+    let shape = a.view.now.signature.now in
+    let rs = readings_of shape a.frame.now in
+    let A = shown a.view.now in
+    not_of c.exists.result _ (c.exists.ensures ∙ ap (λ k. reading shape k rs A)
+    (ap (λ (k : Code). tree.Exists c.in-Exists.over (code_of k)) c.deref.ensures ∙ sym (exists_form a.code.now c.in-Exists.over c.in-Exists.test c.in-Exists.is)))
+
+pub fails-returns-in-Every : goal.fails-returns-in-Every
+fails-returns-in-Every t c =
+    let a = c.args in
+    let shape = a.view.now.signature.now in
+    let rs = readings_of shape a.frame.now in
+    let A = shown a.view.now in
+    not_of c.every.result _ (c.every.ensures ∙ ap (λ k. reading shape k rs A)
+    (ap (λ (k : Code). tree.Every c.in-Every.over (code_of k)) c.deref-in-Every.ensures ∙ sym (every_form a.code.now c.in-Every.over c.in-Every.test c.in-Every.is)))
+
+pub either_holds-returns-then-is_false : goal.either_holds-returns-then-is_false
+either_holds-returns-then-is_false t c =
+    let a = c.args in
+    let shape = a.view.now.signature.now in
+    let rs = readings_of shape a.frame.now in
+    let A = shown a.view.now in
+    c.holds.ensures ∙ sym (both_or shape rs A (code_of a.left.now) (code_of a.right.now)
+    ∙ or_false (reading shape (code_of a.left.now) rs A) (reading shape (code_of a.right.now) rs A) (ap is_false (sym c.operand-tested.ensures) ∙ sym c.is_false.ensures ∙ c.if-is_false.true))
+
+pub either_holds-returns-then-not-is_true : goal.either_holds-returns-then-not-is_true
+either_holds-returns-then-not-is_true t c =
+    let a = c.args in
+    let shape = a.view.now.signature.now in
+    let rs = readings_of shape a.frame.now in
+    let A = shown a.view.now in
+    sym (both_or shape rs A (code_of a.left.now) (code_of a.right.now)
+    ∙ or_neither (reading shape (code_of a.left.now) rs A) (reading shape (code_of a.right.now) rs A) (ap is_false (sym c.operand-tested.ensures) ∙ sym c.is_false.ensures ∙ c.if-is_false.false)
+    (ap spec.is_true (sym c.operand-tested.ensures) ∙ sym c.is_true.ensures ∙ c.if-not-is_true.true))
+
+pub either_holds-returns : goal.either_holds-returns
+either_holds-returns t c =
+    let a = c.args in
+    let shape = a.view.now.signature.now in
+    let rs = readings_of shape a.frame.now in
+    let A = shown a.view.now in
+    c.is_truth.ensures ∙ ap (λ v. spec.is_true v || is_false v) c.operand-other.ensures ∙ sym (both_or shape rs A (code_of a.left.now) (code_of a.right.now)
+    ∙ or_true (reading shape (code_of a.left.now) rs A) (reading shape (code_of a.right.now) rs A) (ap spec.is_true (sym c.operand-tested.ensures) ∙ sym c.is_true.ensures ∙ c.if-not-is_true.false))
+
+pub both_hold-returns-in-Or : goal.both_hold-returns-in-Or
+both_hold-returns-in-Or t c =
+    let a = c.args in
+    let shape = a.view.now.signature.now in
+    let rs = readings_of shape a.frame.now in
+    let A = shown a.view.now in
+    c.either_holds.ensures ∙ sym (ap (λ o. spec.is_true (reading shape (tree.Both o (code_of a.left.now) (code_of a.right.now)) rs A)) c.in-Or.is)
+
+pub both_hold-returns-then-not-holds : goal.both_hold-returns-then-not-holds
+both_hold-returns-then-not-holds t c =
+    let a = c.args in
+    let shape = a.view.now.signature.now in
+    let rs = readings_of shape a.frame.now in
+    let A = shown a.view.now in
+    let left = sym c.holds.ensures ∙ c.if-not-holds.true in
+    sym (ap (λ o. spec.is_true (reading shape (tree.Both o (code_of a.left.now) (code_of a.right.now)) rs A)) c.in-And.is ∙ both_and shape rs A (code_of a.left.now) (code_of a.right.now)
+    ∙ ap (λ b. b && spec.is_true (reading shape (code_of a.right.now) rs A)) left)
+
+pub both_hold-returns-else-not-holds : goal.both_hold-returns-else-not-holds
+both_hold-returns-else-not-holds t c =
+    let a = c.args in
+    let shape = a.view.now.signature.now in
+    let rs = readings_of shape a.frame.now in
+    let A = shown a.view.now in
+    let left = sym c.holds.ensures ∙ c.if-not-holds.false in
+    c.holds-in-And.ensures
+    ∙ sym (ap (λ o. spec.is_true (reading shape (tree.Both o (code_of a.left.now) (code_of a.right.now)) rs A)) c.in-And.is ∙ both_and shape rs A (code_of a.left.now) (code_of a.right.now)
+    ∙ ap (λ b. b && spec.is_true (reading shape (code_of a.right.now) rs A)) left)
+
+pub all_hold-returns-then-not-holds : goal.all_hold-returns-then-not-holds
+all_hold-returns-then-not-holds t c =
+    let a = c.args in
+    let shape = a.view.now.signature.now in
+    let rs = readings_of shape a.frame.now in
+    let A = shown a.view.now in
+    let first = sym c.holds.ensures ∙ c.if-not-holds.true in
+    sym (chain_true shape rs A (code_of a.first.now) a.rest.now c.requires.ands ∙ ap (λ b. b && list_all (holds_in shape rs A) a.rest.now) first)
+
+pub all_hold-holds-tested-requires : goal.all_hold-holds-tested-requires
+all_hold-holds-tested-requires t c =
+    let a = c.args in
+    let shape = a.view.now.signature.now in
+    let small = link_size_within a.rest.now c.loop-i.i c.index-rest-i.result c.loop-i-test.true c.index-rest-i.is in
+    let same = ap (λ (l : Op × Code). size (code_of l.1)) c.index-rest-i.is in
+    let sound = link_sound_within shape a.rest.now c.loop-i.i c.index-rest-i.result c.loop-i-test.true c.index-rest-i.is c.requires.rest in
+    (omega (arith, c.decreases, small, same), (subst (λ (l : Op × Code). IsSound shape (code_of l.1)) c.index-rest-i.is sound, c.requires.framed))
+
+pub all_hold-returns-then-not-tested : goal.all_hold-returns-then-not-tested
+all_hold-returns-then-not-tested t c =
+    let a = c.args in
+    let shape = a.view.now.signature.now in
+    let rs = readings_of shape a.frame.now in
+    let A = shown a.view.now in
+    let first = sym c.holds.ensures ∙ c.if-not-holds.false in
+    let fails = sym c.holds-tested.ensures ∙ c.if-not-tested.true in
+    let more = list_all_at (holds_in shape rs A) a.rest.now c.loop-i.i c.index-rest-i.result c.loop-i-test.true fails in
+    sym (chain_true shape rs A (code_of a.first.now) a.rest.now c.requires.ands ∙ (λ i. first i && more i))
+
+pub all_hold-returns : goal.all_hold-returns
+all_hold-returns t c =
+    let a = c.args in
+    let shape = a.view.now.signature.now in
+    let rs = readings_of shape a.frame.now in
+    let A = shown a.view.now in
+    let first = sym c.holds.ensures ∙ c.if-not-holds.false in
+    let more = ap (list_all (holds_in shape rs A)) (sym (take_all c.loop-i.i a.rest.now (omega arith))) ∙ c.loop-i.invariant in
+    sym (chain_true shape rs A (code_of a.first.now) a.rest.now c.requires.ands ∙ (λ i. first i && more i))

@@ -1,5 +1,0 @@
-use Rattle.asm_code.specs.Running.{shape_at}
-use Rattle.asm_tests.proofs.codes.pieces.outcomes_of.Goals as goal
-
-pub whole_piece-requires : goal.whole_piece-requires
-whole_piece-requires c = c.piece_of.ensures (shape_at c.args.running.now) c.requires
