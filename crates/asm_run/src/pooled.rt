@@ -13,7 +13,7 @@ use crate::add_set::add_set;
 use crate::limits::Limits;
 use crate::region::work_region;
 use crate::rounds::Shares;
-use crate::weight::is_little;
+use crate::weight::{is_little, may_be_shared};
 use asm_eval::form::form;
 use asm_eval::frame::Frame;
 use asm_eval::outcome::whole;
@@ -52,6 +52,24 @@ impl<'r, R: Threads + Sync, G: Gate + Sync> Pooled<'r, R, G> {
                 rounds: limits.rounds,
             },
         }
+    }
+
+    /// The same for runs of this rule alone: where no region that it comes to may be worth a thread,
+    /// one worker does all of it. Where there is one round of opening at most, nothing changes.
+    pub fn for_rule(self, signature: &Signature, rule: &RuleCode) -> Pooled<'r, R, G>
+        requires { IsSoundRule signature.now (rule_of rule.now) }
+    {
+        let Pooled { rt, gate, shares } = self;
+        if shares.rounds <= 1 || may_be_shared(signature, rule) {
+            return Pooled { rt, gate, shares };
+        }
+        let Shares { cut, rounds, .. } = shares;
+        let shares = Shares {
+            workers: 1,
+            cut,
+            rounds,
+        };
+        Pooled { rt, gate, shares }
     }
 
     /// What the rule yields at this path, under the frame: the rule is one region, which the

@@ -14,6 +14,7 @@ use crate::pooled::Pooled;
 use crate::sink::Sink;
 use crate::steps::run_steps;
 use asm_check::check;
+use asm_eval::laws::resolving_laws;
 use asm_eval::whole::resolve_main;
 use asm_pool::{Gate, NoGate};
 use asm_reader::{read, read_script};
@@ -87,6 +88,7 @@ pub fn run_gated<R: Threads + Sync, G: Gate + Sync, S: Sink>(
         code: &code,
         turns: limits.turns,
     };
-    let pooled = Pooled::new(rt, limits, gate);
+    resolving_laws();
+    let pooled = Pooled::new(rt, limits, gate).for_rule(checked.signature(), &code);
     run_steps(alloc, &pooled, &machine, &script, limits.steps, out)
 }

@@ -34,6 +34,50 @@ pub(crate) fn is_little(signature: &Signature, rule: &RuleCode) -> bool
     behind_rule(signature, rule, SHARE).is_some()
 }
 
+/// So many nodes of a rule are looked at, at most, to see whether a run may have work to share.
+const LOOKED_AT: u32 = 65_536;
+
+/// Whether some region that the rule comes to may be worth a thread, in whatever state. It is told
+/// once for a run, so that a run of little regions doesn't weigh them in each step.
+pub(crate) fn may_be_shared(signature: &Signature, rule: &RuleCode) -> bool
+    requires { IsSoundRule signature.now (rule_of rule.now) }
+{
+    behind_regions(signature, rule, LOOKED_AT).is_none()
+}
+
+/// What is left of so many nodes behind those of the rule that are outside of regions, and behind
+/// its regions, each of which takes little. None: a region may be worth a thread, or there are not
+/// so many.
+fn behind_regions(signature: &Signature, rule: &RuleCode, left: u32) -> Option<u32>
+    requires { IsSoundRule signature.now (rule_of rule.now) }
+{
+    let left = left.checked_sub(1)?;
+    match rule {
+        RuleCode::Skip | RuleCode::Assign { .. } => Some(left),
+        RuleCode::Par(_) | RuleCode::Forall { .. } => {
+            let most = left.min(SHARE);
+            let over = behind_rule(signature, rule, most)?;
+            left.checked_sub(most.checked_sub(over)?)
+        }
+        RuleCode::Seq(parts) => {
+            let mut left = left;
+            for part in parts {
+                left = behind_regions(signature, part, left)?;
+            }
+            Some(left)
+        }
+        RuleCode::If { yes, no, .. } => {
+            behind_regions(signature, no, behind_regions(signature, yes, left)?)
+        }
+        RuleCode::Let { body, .. } => behind_regions(signature, body, left),
+        RuleCode::Choose { body, none, .. } => {
+            behind_regions(signature, none, behind_regions(signature, body, left)?)
+        }
+        RuleCode::Iterate(body) => behind_regions(signature, body, left),
+        RuleCode::Call { body, .. } => behind_regions(signature, body, left),
+    }
+}
+
 /// So many of the workers a round is worth: one for each share of its nodes, and all where that
 /// can't be told.
 pub(crate) fn workers_for(
