@@ -1,9 +1,11 @@
 //! The parameters of a body, among which a name is found by its text.
-ghost use Rattle.std.specs.Prelude.{◌≡◌, IfOk, IfSome, map};
+ghost use Rattle.std.specs.Prelude.{◌≡◌, ◌+◌, IfOk, map};
+ghost use Rattle.std.specs.List.{position};
+ghost use Rattle.std.specs.Option.{ForSome};
 ghost use Rattle.asm_syntax.specs.Tree as tree;
 ghost use Rattle.asm_meaning.specs.Meant.{text_of};
 ghost use Rattle.asm_meaning.specs.Program.{is_name};
-ghost use Rattle.asm_eval.specs.Slots.{AreFirst, called_slots, found_from, position_of};
+ghost use Rattle.asm_eval.specs.Slots.{AreFirst, called_slots, found_from, position_of, value_slot};
 
 use asm_syntax::name::Name;
 use std::alloc::{AllocError, Global};
@@ -19,7 +21,7 @@ pub struct Parameters<'a> {
     pub names: &'a [Name],
     /// Where the first of each text stands, if there are more than a few names.
     positions: Option<BTreeMap<Vec<u8>, usize>>,
-    ghost first: { IfSome positions (λ m. AreFirst (map text_of names.now) m.entries) },
+    ghost first: { ForSome positions (λ m. AreFirst (map text_of names.now) m.entries) },
 }
 
 impl<'a> Parameters<'a> {
@@ -50,16 +52,40 @@ impl<'a> Parameters<'a> {
     ) -> Result<Option<(usize, bool)>, AllocError>
         ensures { IfOk result (λ o. o ≡ found_from before (slots_in self.now) name.now.text) }
     {
-        if self.answers && is_result(name) {
+        if !self.answers {
+            let found = find_among(before, self.names, &self.positions, name)?;
+            return Ok(found);
+        }
+        if is_result(name) {
             return Ok(Some((before, true)));
         }
-        match index_of(self.names, &self.positions, name) {
-            None => Ok(None),
-            Some(index) => {
-                let behind = index + self.answers as usize;
-                let position = before.checked_add(behind).ok_or(AllocError)?;
-                Ok(Some((position, false)))
-            }
+        let found = find_among(behind(before, 1)?, self.names, &self.positions, name)?;
+        Ok(found)
+    }
+}
+
+/// The position so many behind another one. No memory holds more names than a position can count.
+pub(crate) fn behind(position: usize, count: usize) -> Result<usize, AllocError>
+    ensures { IfOk result (λ n. n ≡ position + count) }
+{
+    position.checked_add(count).ok_or(AllocError)
+}
+
+/// The position of a name among parameters, where the first of them has this one.
+fn find_among(
+    first: usize,
+    names: &[Name],
+    positions: &Option<BTreeMap<Vec<u8>, usize>>,
+    name: &Name,
+) -> Result<Option<(usize, bool)>, AllocError>
+    requires { ForSome positions.now (λ m. AreFirst (map text_of names.now) m.entries) }
+    ensures { IfOk result (λ o. o ≡ found_from first (map value_slot (map text_of names.now)) name.now.text) }
+{
+    match index_of(names, positions, name) {
+        None => Ok(None),
+        Some(index) => {
+            let position = behind(first, index)?;
+            Ok(Some((position, false)))
         }
     }
 }
@@ -69,7 +95,7 @@ fn positions(
     alloc: Global,
     names: &[Name],
 ) -> Result<Option<BTreeMap<Vec<u8>, usize>>, AllocError>
-    ensures { IfOk result (λ o. IfSome o (λ m. AreFirst (map text_of names.now) m.entries)) }
+    ensures { IfOk result (λ o. ForSome o (λ m. AreFirst (map text_of names.now) m.entries)) }
 {
     if names.len() <= FEW {
         return Ok(None);
@@ -101,13 +127,20 @@ fn index_of(
     positions: &Option<BTreeMap<Vec<u8>, usize>>,
     name: &Name,
 ) -> Option<usize>
-    requires { IfSome positions.now (λ m. AreFirst (map text_of names.now) m.entries) }
+    requires { ForSome positions.now (λ m. AreFirst (map text_of names.now) m.entries) }
     ensures { result ≡ position_of (map text_of names.now) name.now.text }
 {
     match positions {
-        None => names.iter().position(|it| it.text.is(&name.text)),
+        None => index_among(names, name),
         Some(positions) => positions.get(name.text.as_bytes()).copied(),
     }
+}
+
+/// The same, by looking at one name after the other.
+fn index_among(names: &[Name], name: &Name) -> Option<usize>
+    ensures { result ≡ position (λ it. is_name (text_of it) name.now.text) names.now }
+{
+    names.iter().position(|it| it.text.is(&name.text))
 }
 
 /// Whether the name is the word `result`.

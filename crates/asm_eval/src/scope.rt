@@ -4,7 +4,7 @@ ghost use Rattle.asm_eval.specs.Scopes.{names_of, slots_of};
 ghost use Rattle.asm_eval.specs.Slots as slots;
 ghost use Rattle.asm_eval.specs.Slots.{found_from};
 
-use crate::parameters::Parameters;
+use crate::parameters::{Parameters, behind};
 use asm_syntax::name::Name;
 use std::alloc::AllocError;
 
@@ -43,23 +43,27 @@ pub(crate) fn answer_position<'a>(
     ensures { IfOk result (λ o. o ≡ slots.answer_position (slots_of scope.now) name.now.text) }
 {
     match find(scope, name)? {
-        Some((position, true)) => Ok(Some(position)),
-        _ => Ok(None),
+        None => Ok(None),
+        Some((position, is_located)) => {
+            if is_located {
+                return Ok(Some(position));
+            }
+            Ok(None)
+        }
     }
 }
 
-/// The position of a name, and whether the name stands for a location there. No memory holds more
-/// names than a position can count.
+/// The position of a name, and whether the name stands for a location there.
 fn find<'a>(scope: &'a Scope<'a>, name: &Name) -> Result<Option<(usize, bool)>, AllocError>
     ensures { IfOk result (λ o. o ≡ found_from 0 (slots_of scope.now) name.now.text) }
 {
     let mut rest = scope;
-    let mut before: usize = 0;
+    let mut before = 0;
     while let Scope::Within { name: inner, outer } = rest {
         if inner.text.is(&name.text) {
             return Ok(Some((before, false)));
         }
-        before = before.checked_add(1).ok_or(AllocError)?;
+        before = behind(before, 1)?;
         rest = outer;
     }
     match *rest {
