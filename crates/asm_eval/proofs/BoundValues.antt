@@ -5,7 +5,7 @@ use Rattle.asm_meaning.specs.Value.{Reading}
 use Rattle.asm_eval.specs.Readings.{always}
 
 module _ {X : Type 0} (f : X → Value) (more : List Reading) where
-  values_are : (xs : List X) → map always (map f xs) ++ more ≡ map (λ (x : X). always (f x)) xs ++ more
+  pub values_are : (xs : List X) → map always (map f xs) ++ more ≡ map (λ (x : X). always (f x)) xs ++ more
   values_are [] = refl
   values_are (x ∷ xs) = ap (λ (rs : List Reading). always (f x) ∷ rs) (values_are xs)
 
@@ -18,8 +18,3 @@ module _ {X : Type 0} (f : X → Value) (more : List Reading) where
   pub alone_bound : (xs ys : List X) (vs : List Value) → length xs ≡ 0 → vs ≡ map f ys → map always vs ++ more ≡ map (λ (x : X). always (f x)) (xs ++ ys) ++ more
   alone_bound [] ys vs none are = lasts_bound [] ys vs are
   alone_bound (x ∷ xs) ys vs none are = absurd (omega (arith, none))
-
--- with nothing bound behind them
-pub values_bound : {X : Type 0} (f : X → Value) (xs : List X) → map (λ (x : X). always (f x)) xs ++ [] ≡ map always (map f xs)
-values_bound f [] = refl
-values_bound f (x ∷ xs) = ap (λ (rs : List Reading). always (f x) ∷ rs) (values_bound f xs)

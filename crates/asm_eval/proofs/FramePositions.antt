@@ -16,15 +16,8 @@ behind_values (v ∷ vs) rs zero past = absurd (omega (arith, past))
 behind_values (v ∷ vs) rs (suc i) past =
     let e : suc i - length (v ∷ vs) ≡ i - length vs = omega arith in ap (at_position rs) e ∙ behind_values vs rs i (omega (arith, past))
 
-module _ {L : Type 0} where
-  -- no value is a location
-  pub none_within : (vs : List Value) (ls : List (Option L)) (i : ℕ) → i < length vs → None ≡ slice_index_or (map (λ (v : Value). None) vs ++ ls) i None
-  none_within [] ls i below = absurd (omega (arith, below))
-  none_within (v ∷ vs) ls zero below = refl
-  none_within (v ∷ vs) ls (suc i) below = none_within vs ls i (omega (arith, below))
-
-  pub none_behind : (vs : List Value) (ls : List (Option L)) (i : ℕ) → length vs ≤ i → slice_index_or ls (i - length vs) None ≡ slice_index_or (map (λ (v : Value). None) vs ++ ls) i None
-  none_behind [] ls i past = let e : i - length {A = Value} [] ≡ i = omega arith in ap (λ k. slice_index_or ls k None) e
-  none_behind (v ∷ vs) ls zero past = absurd (omega (arith, past))
-  none_behind (v ∷ vs) ls (suc i) past =
-      let e : suc i - length (v ∷ vs) ≡ i - length vs = omega arith in ap (λ k. slice_index_or ls k None) e ∙ none_behind vs ls i (omega (arith, past))
+-- no value is a location
+pub none_within : {L : Type 0} (vs : List Value) (ls : List (Option L)) (i : ℕ) → i < length vs → None ≡ slice_index_or (map (λ (v : Value). None) vs ++ ls) i None
+none_within [] ls i below = absurd (omega (arith, below))
+none_within (v ∷ vs) ls zero below = refl
+none_within (v ∷ vs) ls (suc i) below = none_within vs ls i (omega (arith, below))

@@ -543,7 +543,7 @@ fn linked<'e, 'b>(
     }
     let more = Frame::Values {
         values: &values[..lasts.len()],
-        outer: bound,
+        outer: &*bound,
     };
     if others.is_empty() {
         return value(view, &more, body);

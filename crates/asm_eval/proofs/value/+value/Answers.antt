@@ -1,4 +1,4 @@
-use Rattle.std.proofs.Common.{◌||◌, ◌≤◌, ◌&&◌, List, ◌∷◌, ◌++◌, map, Some, refl, sym, ap, subst, ◌∙◌, arith}
+use Rattle.std.proofs.Common.{◌≡◌, ◌||◌, ◌≤◌, ◌<◌, ◌&&◌, List, [], length, map, Some, refl, sym, ap, subst, ◌∙◌, arith}
 use Rattle.asm_meaning.specs.Value as spec
 use Rattle.asm_state.specs.declared.operation.Op.{Op}
 use Rattle.asm_state.specs.declared.operation.Op.TheVariants.{Add, Remainder, Equal}
@@ -8,12 +8,13 @@ use Rattle.asm_meaning.specs.Valued.{shown}
 use Rattle.asm_eval.specs.CodeViews.{code_of}
 use Rattle.asm_eval.specs.Founds.{found_load, IsSoundFound}
 use Rattle.asm_eval.specs.Frames.{AllSound, bound_value, code_value, load, readings_of}
-use Rattle.asm_eval.specs.Readings.{always, at_position, reading}
+use Rattle.asm_eval.specs.Readings.{at_position, reading}
 use Rattle.asm_eval.specs.Sizes.{size, sizes}
 use Rattle.asm_eval.specs.Sound.{IsSound, AreSound, count}
 use Rattle.asm_eval.specs.CodeViews.{codes_of, link_of, links_of}
 use Rattle.asm_eval.specs.declared.code.Code.{Code}
 use Rattle.std.specs.List.{list_all}
+use Rattle.std.proofs.lemmas.Grind.{common_steps}
 use Rattle.std.proofs.lemmas.List.{append-nil, take_all}
 use Rattle.std.proofs.lemmas.List.Folds.{list_all_at}
 use Rattle.asm_eval.specs.CodeTree as tree
@@ -23,7 +24,7 @@ use Rattle.asm_eval.proofs.Cases.{of_constant, of_local, of_cell, with_is, turne
 use Rattle.asm_eval.proofs.CodeForms.{every_form, exists_form, held_form}
 use Rattle.asm_eval.specs.Ands.{is_false}
 use Rattle.asm_eval.proofs.Members.{size_within, sound_within, link_size_within, link_sound_within, count_of_codes, sizes_some, sizes_parts, sound_parts}
-use Rattle.asm_eval.proofs.BoundValues.{alone_bound, lasts_bound, values_bound}
+use Rattle.asm_eval.proofs.BoundValues.{alone_bound, lasts_bound, values_are}
 use Rattle.asm_eval.proofs.FramePositions.{within_values}
 use Rattle.asm_eval.proofs.Quantified.{passes, none_more, all_more, exists_at, fails_at, exists_past, every_past}
 use Rattle.asm_eval.proofs.value.+value.Goals as goal
@@ -211,8 +212,9 @@ derived-returns t c =
     let shape = a.view.now.signature.now in
     let rs = readings_of shape a.frame.now in
     let A = shown a.view.now in
-    c.linked.ensures ∙ ap (λ us. reading shape (code_of a.body.now) us A) (values_bound (code_value a.view.now a.frame.now) a.arguments.now)
-    ∙ of_derived shape rs A a.body.now a.arguments.now (map (code_value a.view.now a.frame.now) a.arguments.now) refl
+    let f = code_value a.view.now a.frame.now in
+    c.linked.ensures ∙ ap (λ us. reading shape (code_of a.body.now) us A) (sym (values_are f [] a.arguments.now) ∙ append-nil _)
+    ∙ of_derived shape rs A a.body.now a.arguments.now (map f a.arguments.now) refl
 
 pub linked-operand-requires : goal.linked-operand-requires
 linked-operand-requires t c =
@@ -234,8 +236,9 @@ linked-returns-then-is_empty t c =
     let shape = a.view.now.signature.now in
     let f = code_value a.view.now a.frame.now in
     let are = all_valued f c.split_at.result.1.now c.loop-i.values c.loop-i.i c.loop-i-test.false c.loop-i.auto.i-end c.loop-i.invariant.valued in
+    let none : length c.split_at.result.0.now ≡ 0 = grind (arith, common_steps, sym c.is_empty.ensures ∙ c.if-is_empty.true) in
     c.value.ensures
-    ∙ ap (λ rs. reading shape (code_of a.body.now) rs (shown a.view.now)) (alone_bound f (readings_of shape a.bound.now) c.split_at.result.0.now c.split_at.result.1.now _ (omega arith) are)
+    ∙ ap (λ rs. reading shape (code_of a.body.now) rs (shown a.view.now)) (alone_bound f (readings_of shape a.bound.now) c.split_at.result.0.now c.split_at.result.1.now _ none are)
     ∙ ap (bound_value a.view.now a.frame.now a.bound.now a.body.now) (sym c.split_at.ensures.by_index.0)
 
 pub linked-linked-requires : goal.linked-linked-requires
@@ -245,7 +248,8 @@ linked-linked-requires t c =
     let parts = c.split_at.ensures.by_index.0 in
     let same = ap (λ (ts : List Code). sizes (codes_of (map code_of ts))) parts in
     let split = sizes_parts c.split_at.result.0.now c.split_at.result.1.now in
-    let some = sizes_some c.split_at.result.1.now (omega arith) in
+    let others : 0 < length c.split_at.result.0.now = grind (arith, common_steps, sym c.is_empty.ensures ∙ c.if-is_empty.false) in
+    let some = sizes_some c.split_at.result.1.now (omega (arith, others)) in
     let sound = sound_parts shape c.split_at.result.0.now c.split_at.result.1.now (subst (AllSound shape) parts c.requires.sound) in
     (omega (arith, c.decreases, same, split, some), (c.requires.body, (sound.0, (c.requires.framed, c.requires.bound))))
 
