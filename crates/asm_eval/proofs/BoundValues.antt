@@ -1,23 +1,20 @@
--- Values of arguments that are bound on links of a frame.
-use Rattle.std.proofs.Common.{◌≡◌, List, [], ◌∷◌, ◌++◌, length, map, refl, ap, arith}
+-- Values of arguments that are bound in arrays, the last ones before the others.
+use Rattle.std.proofs.Common.{◌≡◌, List, [], ◌∷◌, ◌++◌, length, map, refl, ap, ◌∙◌, arith}
 use Rattle.asm_state.specs.declared.value.Value.{Value}
 use Rattle.asm_meaning.specs.Value.{Reading}
-use Rattle.asm_meaning.specs.declared.view.View.{View}
-use Rattle.asm_eval.specs.Frames.{bound_value, code_value}
 use Rattle.asm_eval.specs.Readings.{always}
-use Rattle.asm_eval.specs.declared.code.Code.{Code}
-use Rattle.asm_eval.specs.declared.frame.Frame.{Frame}
 
--- the last one is bound before the others
-pub last_bound : {X Y : Type 0} (f : X → Y) (xs : List X) (x : X) (more : List Y) → map f (xs ++ x ∷ []) ++ more ≡ map f xs ++ f x ∷ more
-last_bound f [] x more = refl
-last_bound f (y ∷ xs) x more = ap (λ ys. f y ∷ ys) (last_bound f xs x more)
+module _ {X : Type 0} (f : X → Value) (more : List Reading) where
+  pub values_are : (xs : List X) → map always (map f xs) ++ more ≡ map (λ (x : X). always (f x)) xs ++ more
+  values_are [] = refl
+  values_are (x ∷ xs) = ap (λ (rs : List Reading). always (f x) ∷ rs) (values_are xs)
 
--- with nothing bound behind them
-pub values_bound : {X : Type 0} (f : X → Value) (xs : List X) → map (λ (x : X). always (f x)) xs ++ [] ≡ map always (map f xs)
-values_bound f [] = refl
-values_bound f (x ∷ xs) = ap (λ (rs : List Reading). always (f x) ∷ rs) (values_bound f xs)
+  -- the last ones stand behind the others
+  pub lasts_bound : (xs ys : List X) (vs : List Value) → vs ≡ map f ys → map (λ (x : X). always (f x)) xs ++ (map always vs ++ more) ≡ map (λ (x : X). always (f x)) (xs ++ ys) ++ more
+  lasts_bound [] ys vs are = ap (λ us. map always us ++ more) are ∙ values_are ys
+  lasts_bound (x ∷ xs) ys vs are = ap (λ (rs : List Reading). always (f x) ∷ rs) (lasts_bound xs ys vs are)
 
-pub bound_nothing : (view : View) (f bound : Frame) (body : Code) (ts : List Code) → length ts ≡ 0 → bound_value view f bound body ts ≡ code_value view bound body
-bound_nothing view f bound body [] none = refl
-bound_nothing view f bound body (t ∷ ts) none = absurd (omega (arith, none))
+  -- where there are no others
+  pub alone_bound : (xs ys : List X) (vs : List Value) → length xs ≡ 0 → vs ≡ map f ys → map always vs ++ more ≡ map (λ (x : X). always (f x)) (xs ++ ys) ++ more
+  alone_bound [] ys vs none are = lasts_bound [] ys vs are
+  alone_bound (x ∷ xs) ys vs none are = absurd (omega (arith, none))

@@ -25,6 +25,7 @@ pub mod Standing
 pub mod RuleResolving
 pub mod RulePasses
 pub mod MainRule
+pub mod FramePositions
 pub mod BoundValues
 pub mod Ands
 pub mod SpanLaws

@@ -57,11 +57,15 @@ size_some (tree.Chain t links) = omega arith
 size_some (tree.Exists u t) = omega arith
 size_some (tree.Every u t) = omega arith
 
--- the last of a list, and the others
-pub sizes_last : (ts : List Code) (t : Code) → sizes (codes_of (map code_of (ts ++ t ∷ []))) ≡ sizes (codes_of (map code_of ts)) + size (code_of t)
-sizes_last [] t = omega arith
-sizes_last (u ∷ ts) t = let rest = sizes_last ts t in omega (arith, rest)
+pub sizes_some : (ts : List Code) → 0 < length ts → 1 ≤ sizes (codes_of (map code_of ts))
+sizes_some [] some = absurd (omega (arith, some))
+sizes_some (t ∷ ts) some = let first = size_some (code_of t) in omega (arith, first)
 
-pub sound_last : (shape : Shape) (ts : List Code) (t : Code) → AreSound shape (codes_of (map code_of (ts ++ t ∷ []))) → AreSound shape (codes_of (map code_of ts)) × IsSound shape (code_of t)
-sound_last shape [] t sound = (tt, sound.0)
-sound_last shape (u ∷ ts) t sound = let rest = sound_last shape ts t sound.1 in ((sound.0, rest.0), rest.1)
+-- the last ones of a list, and the others
+pub sizes_parts : (ts us : List Code) → sizes (codes_of (map code_of (ts ++ us))) ≡ sizes (codes_of (map code_of ts)) + sizes (codes_of (map code_of us))
+sizes_parts [] us = omega arith
+sizes_parts (t ∷ ts) us = let rest = sizes_parts ts us in omega (arith, rest)
+
+pub sound_parts : (shape : Shape) (ts us : List Code) → AreSound shape (codes_of (map code_of (ts ++ us))) → AreSound shape (codes_of (map code_of ts)) × AreSound shape (codes_of (map code_of us))
+sound_parts shape [] us sound = (tt, sound)
+sound_parts shape (t ∷ ts) us sound = let rest = sound_parts shape ts us sound.1 in ((sound.0, rest.0), rest.1)

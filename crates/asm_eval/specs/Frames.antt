@@ -36,7 +36,7 @@ by_name shape rs ts = map (λ (t : Code). reading shape (code_of t) rs) ts
 abbrev pub readings_of : Shape → Frame → List Reading
 readings_of shape frame.Empty = []
 readings_of shape (frame.One' v p outer) = always (value_of_code v.value) ∷ readings_of shape outer
-readings_of shape (frame.Values vs) = map always vs.now
+readings_of shape (frame.Values' vs p outer) = map always vs.now ++ readings_of shape outer
 readings_of shape (frame.Terms' answer codes p caller) = answer_contents shape answer ++ by_name shape (readings_of shape caller) codes.now
 
 abbrev pub terms_readings : Shape → Option ℕ → List Code → (caller : Frame) → List Reading
@@ -45,7 +45,7 @@ terms_readings shape answer ts caller = answer_contents shape answer ++ by_name 
 abbrev pub load : Frame → ℕ
 load frame.Empty = 0
 load (frame.One' v p outer) = load outer
-load (frame.Values vs) = 0
+load (frame.Values' vs p outer) = load outer
 load (frame.Terms' answer codes p caller) = sizes (codes_of (map code_of codes.now)) + load caller
 
 abbrev pub terms_load : List Code → (caller : Frame) → ℕ
@@ -54,7 +54,7 @@ terms_load ts caller = sizes (codes_of (map code_of ts)) + load caller
 abbrev pub IsSoundFrame : Shape → Frame → Type 0
 IsSoundFrame shape frame.Empty = Unit {0}
 IsSoundFrame shape (frame.One' v p outer) = IsSoundFrame shape outer
-IsSoundFrame shape (frame.Values vs) = Unit {0}
+IsSoundFrame shape (frame.Values' vs p outer) = IsSoundFrame shape outer
 IsSoundFrame shape (frame.Terms' answer codes p caller) = IsAnswer shape answer × AllSound shape codes.now × IsSoundFrame shape caller
 
 -- the value of a code in what a view shows

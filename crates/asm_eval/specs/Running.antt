@@ -4,7 +4,7 @@
 --     rule_upon               the same in the state in which a set has been fired
 --     parts_at, in_order_at   what rules yield, beside and after each other
 --     Fits at made            the set that is being formed has the locations of the state
-use Rattle.std.specs.Prelude.{◌≡◌, ℕ, Bool, List, [], ◌∷◌, Option, None, option_map}
+use Rattle.std.specs.Prelude.{◌≡◌, ℕ, Bool, List, [], ◌∷◌, ◌++◌, map, Option, None, option_map}
 use Rattle.asm_state.specs.declared.value.Value.{Value}
 use Rattle.asm_state.specs.Location.{Location, State}
 use Rattle.asm_state.specs.Signature.{Shape, count_of, location_at}
@@ -38,7 +38,7 @@ location_numbered shape n = option_map (location_at shape) n
 abbrev pub places_of : Shape → Frame → Locations
 places_of shape frame.Empty = []
 places_of shape (frame.One' v p outer) = None ∷ places_of shape outer
-places_of shape (frame.Values vs) = []
+places_of shape (frame.Values' vs p outer) = map (λ (v : Value). None) vs.now ++ places_of shape outer
 places_of shape (frame.Terms' answer codes p caller) = answer_locations (location_numbered shape answer)
 
 -- the location of a place in what a view shows

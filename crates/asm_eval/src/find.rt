@@ -30,24 +30,29 @@ pub(crate) fn find<'a>(frame: &'a Frame<'a>, position: usize) -> Found<'a>
 {
     let mut rest = frame;
     let mut left = position;
-    while let Frame::One { value, outer } = rest {
-        if left == 0 {
-            return Found::Known(Word::again(*value));
+    loop {
+        match rest {
+            Frame::One { value, outer } => {
+                if left == 0 {
+                    return Found::Known(Word::again(*value));
+                }
+                left -= 1;
+                rest = outer;
+            }
+            Frame::Values { values, outer } => {
+                if let Some(value) = values.get(left) {
+                    return Found::Known(*value);
+                }
+                left -= values.len();
+                rest = outer;
+            }
+            Frame::Terms {
+                answer,
+                codes,
+                caller,
+            } => return in_terms(*answer, codes, caller, left),
+            Frame::Empty => return Found::Nothing,
         }
-        left -= 1;
-        rest = outer;
-    }
-    match *rest {
-        Frame::Empty | Frame::One { .. } => Found::Nothing,
-        Frame::Values { values } => match values.get(left) {
-            None => Found::Nothing,
-            Some(value) => Found::Known(*value),
-        },
-        Frame::Terms {
-            answer,
-            codes,
-            caller,
-        } => in_terms(answer, codes, caller, left),
     }
 }
 

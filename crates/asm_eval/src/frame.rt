@@ -12,9 +12,10 @@ pub enum Frame<'a> {
         value: Kept,
         outer: &'a Frame<'a>,
     },
-    /// The values of a derived function's parameters, and nothing else.
+    /// The values of a derived function's first parameters, and those of the others behind them.
     Values {
         values: &'a [Word],
+        outer: &'a Frame<'a>,
     },
     /// In the body of a rule: the location that `result` stands for, where the call has a target,
     /// and behind it the codes of the call's arguments, which belong to the frame of the call.

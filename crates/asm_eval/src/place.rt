@@ -87,7 +87,12 @@ fn answer_at<'e>(frame: &'e Frame<'e>, position: usize) -> Option<usize>
             }
             answer_at(outer, position - 1)
         }
-        Frame::Values { .. } => None,
+        Frame::Values { values, outer } => {
+            if position < values.len() {
+                return None;
+            }
+            answer_at(outer, position - values.len())
+        }
         Frame::Terms { answer, .. } => {
             if position == 0 {
                 return *answer;

@@ -1,9 +1,9 @@
 //! The values of codes.
-ghost use Rattle.std.specs.Prelude.{◌≡◌, ◌≤◌, ◌<◌, ◌*◌, length, map, slice_index_or, true};
+ghost use Rattle.std.specs.Prelude.{◌≡◌, ◌≤◌, ◌<◌, ◌*◌, length, map, true};
 ghost use Rattle.std.specs.List.{list_all};
 ghost use Rattle.asm_state.specs.Signature.{functions_of};
 ghost use Rattle.asm_state.specs.declared.operation.Op.TheVariants.{Add, Remainder, Equal, Or};
-ghost use Rattle.asm_state.specs.declared.value.Value.TheVariants.{Undef, Truth, Number as Whole};
+ghost use Rattle.asm_state.specs.declared.value.Value.TheVariants.{Truth, Number as Whole};
 ghost use Rattle.asm_eval.specs.Ands as conditions;
 ghost use Rattle.asm_eval.specs.Ands.{is_and};
 ghost use Rattle.asm_meaning.specs.Value as spec;
@@ -28,6 +28,9 @@ use asm_state::word::Word;
 
 /// So many arguments are valued in one array. A function that has more is a derived one.
 const FEW: usize = 4;
+
+/// The arguments of a function that has more are valued in arrays for so many each.
+const MANY: usize = 64;
 
 /// The value of the code in the state that the view shows and under the frame.
 ///
@@ -409,21 +412,12 @@ fn local<'e>(view: &View, frame: &'e Frame<'e>, position: usize) -> Word
     requires framed { IsSoundFrame view.now.signature.now frame.now }
     ensures { result ≡ position_value view.now frame.now position }
 {
-    if let Frame::Values { values } = frame {
-        return value_or_undef(values, position);
+    if let Frame::Values { values, .. } = frame {
+        if let Some(value) = values.get(position) {
+            return *value;
+        }
     }
     far_local(view, frame, position)
-}
-
-/// The value in an index, which is `Undef` behind the last one.
-#[inline(always)]
-fn value_or_undef(values: &[Word], i: usize) -> Word
-    ensures { result ≡ slice_index_or values.now i Undef }
-{
-    match values.get(i) {
-        Some(value) => *value,
-        None => Word::undef(),
-    }
 }
 
 /// The same of any frame.
@@ -474,6 +468,7 @@ fn derived<'e>(view: &View, frame: &'e Frame<'e>, body: &'e Code, arguments: &'e
         }
         let bound = Frame::Values {
             values: &values[..arguments.len()],
+            outer: &Frame::Empty,
         };
         return value(view, &bound, body);
     }
@@ -490,7 +485,10 @@ fn derived_one<'e>(view: &View, frame: &'e Frame<'e>, body: &'e Code, argument: 
     ensures { result ≡ tree_value view.now frame.now (tree.Derived (code_of body.now) (tree.code_then (code_of argument.now) tree.no_codes)) }
 {
     let values = [operand(view, frame, argument)];
-    let bound = Frame::Values { values: &values };
+    let bound = Frame::Values {
+        values: &values,
+        outer: &Frame::Empty,
+    };
     value(view, &bound, body)
 }
 
@@ -513,12 +511,16 @@ fn derived_two<'e>(
     let a = operand(view, frame, first);
     let b = operand(view, frame, second);
     let values = [a, b];
-    let bound = Frame::Values { values: &values };
+    let bound = Frame::Values {
+        values: &values,
+        outer: &Frame::Empty,
+    };
     value(view, &bound, body)
 }
 
 /// The value of a body under the values of these arguments, and behind them those that are bound.
-/// The last one is bound first. Nests as deep as there are arguments.
+/// The last ones are bound first, as many as an array has room for. Nests as deep as there are
+/// arrays, so that an argument takes little more of the stack than its value.
 #[cycle(value)]
 #[inline(never)]
 fn linked<'e, 'b>(
@@ -534,16 +536,19 @@ fn linked<'e, 'b>(
     requires bound { IsSoundFrame view.now.signature.now bound.now }
     ensures { result ≡ bound_value view.now frame.now bound.now body.now arguments.now }
 {
-    match arguments.split_last() {
-        None => value(view, bound, body),
-        Some((last, others)) => {
-            let more = Frame::One {
-                value: operand(view, frame, last).kept(),
-                outer: bound,
-            };
-            linked(view, frame, &more, body, others)
-        }
+    let (others, lasts) = arguments.split_at(arguments.len().saturating_sub(MANY));
+    let mut values = [Word::undef(); MANY];
+    for i in 0..lasts.len() {
+        values[i] = operand(view, frame, &lasts[i]);
     }
+    let more = Frame::Values {
+        values: &values[..lasts.len()],
+        outer: &*bound,
+    };
+    if others.is_empty() {
+        return value(view, &more, body);
+    }
+    linked(view, frame, &more, body, others)
 }
 
 /// Whether the test has the value true for some value of the universe.

@@ -1,4 +1,4 @@
-use Rattle.std.proofs.Common.{◌||◌, ◌≤◌, ◌&&◌, List, ◌∷◌, ◌++◌, map, Some, refl, sym, ap, subst, ◌∙◌, arith}
+use Rattle.std.proofs.Common.{◌≡◌, ◌||◌, ◌≤◌, ◌<◌, ◌&&◌, List, [], length, map, Some, refl, sym, ap, subst, ◌∙◌, arith}
 use Rattle.asm_meaning.specs.Value as spec
 use Rattle.asm_state.specs.declared.operation.Op.{Op}
 use Rattle.asm_state.specs.declared.operation.Op.TheVariants.{Add, Remainder, Equal}
@@ -8,13 +8,14 @@ use Rattle.asm_meaning.specs.Valued.{shown}
 use Rattle.asm_eval.specs.CodeViews.{code_of}
 use Rattle.asm_eval.specs.Founds.{found_load, IsSoundFound}
 use Rattle.asm_eval.specs.Frames.{AllSound, bound_value, code_value, load, readings_of}
-use Rattle.asm_eval.specs.Readings.{always, reading}
+use Rattle.asm_eval.specs.Readings.{at_position, reading}
 use Rattle.asm_eval.specs.Sizes.{size, sizes}
 use Rattle.asm_eval.specs.Sound.{IsSound, AreSound, count}
 use Rattle.asm_eval.specs.CodeViews.{codes_of, link_of, links_of}
 use Rattle.asm_eval.specs.declared.code.Code.{Code}
 use Rattle.std.specs.List.{list_all}
-use Rattle.std.proofs.lemmas.List.{take_all}
+use Rattle.std.proofs.lemmas.Grind.{common_steps}
+use Rattle.std.proofs.lemmas.List.{append-nil, take_all}
 use Rattle.std.proofs.lemmas.List.Folds.{list_all_at}
 use Rattle.asm_eval.specs.CodeTree as tree
 use Rattle.asm_eval.proofs.Ands.{not_holds, not_of, both_or, or_false, or_neither, or_true, both_and, chain_true, holds_in}
@@ -22,8 +23,9 @@ use Rattle.asm_eval.proofs.Arguments.{all_valued}
 use Rattle.asm_eval.proofs.Cases.{of_constant, of_local, of_cell, with_is, turned_is, one_is, two_is, both_is, row_is, grid_is, chain_begins, chain_ends, chain_goes_on, of_held, of_derived}
 use Rattle.asm_eval.proofs.CodeForms.{every_form, exists_form, held_form}
 use Rattle.asm_eval.specs.Ands.{is_false}
-use Rattle.asm_eval.proofs.Members.{size_within, sound_within, link_size_within, link_sound_within, count_of_codes, size_some, sizes_last, sound_last}
-use Rattle.asm_eval.proofs.BoundValues.{bound_nothing, last_bound, values_bound}
+use Rattle.asm_eval.proofs.Members.{size_within, sound_within, link_size_within, link_sound_within, count_of_codes, sizes_some, sizes_parts, sound_parts}
+use Rattle.asm_eval.proofs.BoundValues.{alone_bound, lasts_bound, values_are}
+use Rattle.asm_eval.proofs.FramePositions.{within_values}
 use Rattle.asm_eval.proofs.Quantified.{passes, none_more, all_more, exists_at, fails_at, exists_past, every_past}
 use Rattle.asm_eval.proofs.value.+value.Goals as goal
 
@@ -131,6 +133,14 @@ chain-returns t c =
     chain_ends a.view.now.signature.now (readings_of a.view.now.signature.now a.frame.now) (shown a.view.now) a.rest.now c.loop-operation.operation-index c.loop-operation.total _
     (omega arith) c.loop-operation.invariant
 
+pub local-returns-in-Some : goal.local-returns-in-Some
+local-returns-in-Some t c =
+    let a = c.args in
+    let shape = a.view.now.signature.now in
+    let here = c.in-Some.ensures.lookup in
+    ap (λ r. r (shown a.view.now)) (within_values c.in-Values.values.now (readings_of shape c.in-Values.outer.now) a.position c.in-Some.value.now here.3.0 here.1
+    ∙ sym (ap (λ f. at_position (readings_of shape f) a.position) c.in-Values.is))
+
 pub far_local-value-requires : goal.far_local-value-requires
 far_local-value-requires t c =
     let sound = subst (IsSoundFound c.args.view.now.signature.now) c.in-ByName.is (c.find.ensures.sound c.args.view.now.signature.now c.requires.framed) in
@@ -160,7 +170,7 @@ derived-returns-then-arguments-le-FEW t c =
     let a = c.args in
     let are = all_valued (code_value a.view.now a.frame.now) a.arguments.now c.loop-i.values c.loop-i.i c.loop-i-test.false c.loop-i.auto.i-end c.loop-i.invariant.valued in
     let it = of_derived a.view.now.signature.now (readings_of a.view.now.signature.now a.frame.now) (shown a.view.now) a.body.now a.arguments.now _ are in
-    c.value.ensures ∙ it
+    c.value.ensures ∙ ap (λ rs. reading a.view.now.signature.now (code_of a.body.now) rs (shown a.view.now)) (append-nil _) ∙ it
 
 pub every-returns-then-not-tested : goal.every-returns-then-not-tested
 every-returns-then-not-tested t c =
@@ -202,41 +212,56 @@ derived-returns t c =
     let shape = a.view.now.signature.now in
     let rs = readings_of shape a.frame.now in
     let A = shown a.view.now in
-    c.linked.ensures ∙ ap (λ us. reading shape (code_of a.body.now) us A) (values_bound (code_value a.view.now a.frame.now) a.arguments.now)
-    ∙ of_derived shape rs A a.body.now a.arguments.now (map (code_value a.view.now a.frame.now) a.arguments.now) refl
-
-pub linked-returns-in-None : goal.linked-returns-in-None
-linked-returns-in-None t c = let a = c.args in c.value.ensures ∙ sym (bound_nothing a.view.now a.frame.now a.bound.now a.body.now a.arguments.now c.in-None.ensures.cases)
+    let f = code_value a.view.now a.frame.now in
+    c.linked.ensures ∙ ap (λ us. reading shape (code_of a.body.now) us A) (sym (values_are f [] a.arguments.now) ∙ append-nil _)
+    ∙ of_derived shape rs A a.body.now a.arguments.now (map f a.arguments.now) refl
 
 pub linked-operand-requires : goal.linked-operand-requires
 linked-operand-requires t c =
     let a = c.args in
     let shape = a.view.now.signature.now in
-    let parts = c.in-Some.ensures.cases.0 in
+    let parts = c.split_at.ensures.by_index.0 in
     let same = ap (λ (ts : List Code). sizes (codes_of (map code_of ts))) parts in
-    let split = sizes_last c.in-Some.others.now c.in-Some.last.now in
-    let sound = sound_last shape c.in-Some.others.now c.in-Some.last.now (subst (AllSound shape) parts c.requires.sound) in
-    (omega (arith, c.decreases, same, split), (sound.1, c.requires.framed))
+    let split = sizes_parts c.split_at.result.0.now c.split_at.result.1.now in
+    let sound = sound_parts shape c.split_at.result.0.now c.split_at.result.1.now (subst (AllSound shape) parts c.requires.sound) in
+    let small = size_within c.split_at.result.1.now c.loop-i.i c.index-lasts-i.result c.loop-i-test.true c.index-lasts-i.is in
+    (omega (arith, c.decreases, same, split, small), (sound_within shape c.split_at.result.1.now c.loop-i.i c.index-lasts-i.result c.loop-i-test.true c.index-lasts-i.is sound.1, c.requires.framed))
+
+pub linked-value-requires : goal.linked-value-requires
+linked-value-requires t c = (omega (arith, c.decreases), (c.requires.body, c.requires.bound))
+
+pub linked-returns-then-is_empty : goal.linked-returns-then-is_empty
+linked-returns-then-is_empty t c =
+    let a = c.args in
+    let shape = a.view.now.signature.now in
+    let f = code_value a.view.now a.frame.now in
+    let are = all_valued f c.split_at.result.1.now c.loop-i.values c.loop-i.i c.loop-i-test.false c.loop-i.auto.i-end c.loop-i.invariant.valued in
+    let none : length c.split_at.result.0.now ≡ 0 = grind (arith, common_steps, sym c.is_empty.ensures ∙ c.if-is_empty.true) in
+    c.value.ensures
+    ∙ ap (λ rs. reading shape (code_of a.body.now) rs (shown a.view.now)) (alone_bound f (readings_of shape a.bound.now) c.split_at.result.0.now c.split_at.result.1.now _ none are)
+    ∙ ap (bound_value a.view.now a.frame.now a.bound.now a.body.now) (sym c.split_at.ensures.by_index.0)
 
 pub linked-linked-requires : goal.linked-linked-requires
 linked-linked-requires t c =
     let a = c.args in
     let shape = a.view.now.signature.now in
-    let parts = c.in-Some.ensures.cases.0 in
+    let parts = c.split_at.ensures.by_index.0 in
     let same = ap (λ (ts : List Code). sizes (codes_of (map code_of ts))) parts in
-    let split = sizes_last c.in-Some.others.now c.in-Some.last.now in
-    let some = size_some (code_of c.in-Some.last.now) in
-    let sound = sound_last shape c.in-Some.others.now c.in-Some.last.now (subst (AllSound shape) parts c.requires.sound) in
+    let split = sizes_parts c.split_at.result.0.now c.split_at.result.1.now in
+    let others : 0 < length c.split_at.result.0.now = grind (arith, common_steps, sym c.is_empty.ensures ∙ c.if-is_empty.false) in
+    let some = sizes_some c.split_at.result.1.now (omega (arith, others)) in
+    let sound = sound_parts shape c.split_at.result.0.now c.split_at.result.1.now (subst (AllSound shape) parts c.requires.sound) in
     (omega (arith, c.decreases, same, split, some), (c.requires.body, (sound.0, (c.requires.framed, c.requires.bound))))
 
-pub linked-returns-in-Some : goal.linked-returns-in-Some
-linked-returns-in-Some t c =
+pub linked-returns : goal.linked-returns
+linked-returns t c =
     let a = c.args in
     let shape = a.view.now.signature.now in
+    let f = code_value a.view.now a.frame.now in
+    let are = all_valued f c.split_at.result.1.now c.loop-i.values c.loop-i.i c.loop-i-test.false c.loop-i.auto.i-end c.loop-i.invariant.valued in
     c.linked.ensures
-    ∙ ap (λ v. reading shape (code_of a.body.now) (map (λ (t : Code). always (code_value a.view.now a.frame.now t)) c.in-Some.others.now ++ always v ∷ readings_of shape a.bound.now) (shown a.view.now)) (c.kept.ensures ∙ c.operand.ensures)
-    ∙ ap (λ rs. reading shape (code_of a.body.now) rs (shown a.view.now)) (sym (last_bound (λ (t : Code). always (code_value a.view.now a.frame.now t)) c.in-Some.others.now c.in-Some.last.now (readings_of shape a.bound.now)))
-    ∙ ap (bound_value a.view.now a.frame.now a.bound.now a.body.now) (sym c.in-Some.ensures.cases.0)
+    ∙ ap (λ rs. reading shape (code_of a.body.now) rs (shown a.view.now)) (lasts_bound f (readings_of shape a.bound.now) c.split_at.result.0.now c.split_at.result.1.now _ are)
+    ∙ ap (bound_value a.view.now a.frame.now a.bound.now a.body.now) (sym c.split_at.ensures.by_index.0)
 
 pub value-held-requires : goal.value-held-requires
 value-held-requires t c =

@@ -109,6 +109,13 @@ invariant-derived-loop-i l = record {
   room : length l.values ≡ 4;
 }
 
+-- the same of the last arguments
+abbrev pub invariant-linked-loop-i : goal.invariant-linked-loop-i
+invariant-linked-loop-i l = record {
+  valued : take l.i l.values ≡ map (code_value l.view l.frame) (take l.i l.lasts);
+  room : length l.values ≡ 64;
+}
+
 -- no value so far passes the test
 abbrev pub invariant-exists-loop-i : goal.invariant-exists-loop-i
 invariant-exists-loop-i l =
