@@ -131,11 +131,7 @@ fn close_piece<'a, P: Picks>(
 }
 
 /// Whether a piece has elements of a `forall`, and no more of them than are one piece.
-fn is_short_piece<P: Picks>(
-    running: &Running<'_, '_, P>,
-    piece: &Piece<'_>,
-    most: usize,
-) -> bool
+fn is_short_piece<P: Picks>(running: &Running<'_, '_, P>, piece: &Piece<'_>, most: usize) -> bool
     requires { IsPiece (shape_at running.now) piece.now }
     ensures { result ≡ is_short (shape_at running.now) most piece.now }
 {

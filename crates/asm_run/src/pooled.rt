@@ -130,14 +130,13 @@ impl<'r, R: Threads + Sync, G: Gate + Sync> Pooled<'r, R, G> {
             return form(alloc, &mut Plain, running, frame, rule, made);
         }
         let (rt, gate, shares) = (self.rt, self.gate, self.shares);
-        let regions = |alloc: Global,
-                       view: &View<'_>,
-                       choices: &Choices<'_, P>,
-                       turns: u32,
-                       frame: &Frame<'_>,
-                       rule: &RuleCode,
-                       made: &mut Forming|
-         -> Result<Region, Stopped>
+        let regions = |alloc: Global, view: &View<'_>, choices: &Choices<
+            '_,
+            P,
+        >, turns: u32, frame: &Frame<'_>, rule: &RuleCode, made: &mut Forming| -> Result<
+            Region,
+            Stopped,
+        >
             requires sound { IsSoundRule view.now.signature.now (rule_of rule.now) }
             requires framed { IsSoundFrame view.now.signature.now frame.now }
             requires fits { made.old.set.count ≡ count_of view.now.signature.now }

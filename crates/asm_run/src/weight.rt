@@ -117,12 +117,7 @@ fn behind_pieces(
 }
 
 /// What is left behind one piece.
-fn behind_piece(
-    signature: &Signature,
-    doing: Doing,
-    piece: &Piece<'_>,
-    left: u32,
-) -> Option<u32>
+fn behind_piece(signature: &Signature, doing: Doing, piece: &Piece<'_>, left: u32) -> Option<u32>
     requires { IsPiece signature.now piece.now }
 {
     behind_part(signature, doing, piece.rule, piece.part, left)
@@ -147,7 +142,9 @@ fn behind_part(
         }
         RuleCode::Par(parts) => left.checked_sub(few(parts.len())),
         RuleCode::Call {
-            answer, arguments, ..
+            answer,
+            arguments,
+            ..
         } => {
             let left = match answer {
                 Some(place) => behind_place(signature, place, left)?,
@@ -310,12 +307,7 @@ fn behind_terms(signature: &Signature, terms: &[Code], left: u32) -> Option<u32>
 }
 
 /// What is left behind so many elements, each with its test.
-fn behind_tests(
-    signature: &Signature,
-    elements: u32,
-    test: &Option<Code>,
-    left: u32,
-) -> Option<u32>
+fn behind_tests(signature: &Signature, elements: u32, test: &Option<Code>, left: u32) -> Option<u32>
     requires { IsSoundTest signature.now (option_map code_of test.now) }
 {
     let left = left.checked_sub(elements)?;

@@ -84,9 +84,7 @@ fn outcome_by<R: Threads + Sync>(
         script: picks,
         step: 1,
     };
-    main_outcome(
-        alloc, pooled, checked, &view, &choices, turns, is_region,
-    )
+    main_outcome(alloc, pooled, checked, &view, &choices, turns, is_region)
 }
 
 /// What a main rule with this body yields so, and how often it asks.
