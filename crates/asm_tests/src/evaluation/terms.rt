@@ -31,10 +31,15 @@ derived five(p, q, r, s, t) = p + q * r - s mod t derived nested(p) = twice(sum(
 derived around(p) = (exists i in Idx with c(i) = p) \
 derived deep(p, q) = third(nested(p), twice(q), g(p)) or around(q) \
 derived hides(x, c) = (forall q in Near holds x + q > c) \
+derived many(p0, p1, p2, p3, p4, p5, p6, p7, p8, p9, p10, p11, p12, p13, p14, p15, p16, p17, \
+p18, p19, p20, p21, p22, p23, p24, p25, p26, p27, p28, p29, p30, p31, p32, p33, p34, p35, p36, \
+p37, p38, p39, p40, p41, p42, p43, p44, p45, p46, p47, p48, p49, p50, p51, p52, p53, p54, p55, \
+p56, p57, p58, p59, p60, p61, p62, p63, p64, p65) = \
+p0 * 1000 + p1 * 100 + p2 * 10 + p65 \
 rule M = x := ";
 
 /// Terms with their values.
-static VALUED: [(&str, Plain); 81] = [
+static VALUED: [(&str, Plain); 82] = [
     ("x", Plain::Undef),
     ("blue", Plain::Element(2)),
     ("1 + 2 * 3 - 4", THREE),
@@ -130,6 +135,12 @@ static VALUED: [(&str, Plain); 81] = [
     (
         "(exists n in Idx with n = 3 and (forall c in One holds c = 7))",
         Plain::True,
+    ),
+    (
+        "many(1, 2, 3, 0, 0, 0, 0, 0, 0, 0, 0, 0, 0, 0, 0, 0, 0, 0, 0, 0, 0, 0, 0, 0, 0, 0, 0, \
+0, 0, 0, 0, 0, 0, 0, 0, 0, 0, 0, 0, 0, 0, 0, 0, 0, 0, 0, 0, 0, 0, 0, 0, 0, 0, 0, 0, 0, 0, 0, \
+0, 0, 0, 0, 0, 0, 0, 4)",
+        Plain::Number(1234),
     ),
 ];
 
