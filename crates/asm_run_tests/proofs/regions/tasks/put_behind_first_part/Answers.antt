@@ -5,4 +5,4 @@ use Rattle.asm_run_tests.proofs.regions.tasks.put_behind_first_part.Goals as goa
 
 pub open_piece-requires-clause-piece : goal.open_piece-requires-clause-piece
 open_piece-requires-clause-piece c =
-    (subst (λ shape. IsSoundRule shape (rule_of c.in_ok-code.code)) (sym c.requires) c.in_ok-code.ensures.sound, (tt, tt))
+    (subst (λ shape. IsSoundRule shape (rule_of c.in_ok-code.code)) (sym c.requires) c.in_ok-code.ensures.sound, tt, tt)
