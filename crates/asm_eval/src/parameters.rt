@@ -91,10 +91,7 @@ fn find_among(
 }
 
 /// The first position of each text, if there are more than a few names.
-fn positions(
-    alloc: Global,
-    names: &[Name],
-) -> Result<Option<BTreeMap<Vec<u8>, usize>>, AllocError>
+fn positions(alloc: Global, names: &[Name]) -> Result<Option<BTreeMap<Vec<u8>, usize>>, AllocError>
     ensures { IfOk result (λ o. ForSome o (λ m. AreFirst (map text_of names.now) m.entries)) }
 {
     if names.len() <= FEW {
@@ -105,10 +102,7 @@ fn positions(
 }
 
 /// The first position of each text: the names are gone through from the last one to the first.
-fn first_positions(
-    alloc: Global,
-    names: &[Name],
-) -> Result<BTreeMap<Vec<u8>, usize>, AllocError>
+fn first_positions(alloc: Global, names: &[Name]) -> Result<BTreeMap<Vec<u8>, usize>, AllocError>
     ensures { IfOk result (λ m. AreFirst (map text_of names.now) m.entries) }
 {
     let mut positions = BTreeMap::new(alloc);

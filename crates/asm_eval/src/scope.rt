@@ -23,10 +23,7 @@ pub enum Scope<'a> {
 }
 
 /// The position of a name, which is that of the first of its text.
-pub(crate) fn position<'a>(
-    scope: &'a Scope<'a>,
-    name: &Name,
-) -> Result<Option<usize>, AllocError>
+pub(crate) fn position<'a>(scope: &'a Scope<'a>, name: &Name) -> Result<Option<usize>, AllocError>
     ensures { IfOk result (λ o. o ≡ slots.position_of (names_of scope.now) name.now.text) }
 {
     match find(scope, name)? {

@@ -155,8 +155,8 @@ resolve-resolve_within-requires t c =
     let same = ap (λ t. weight (program a.checked.now) (with_value c.in-Exists.name.text Undef (scope_environment a.scope.now)) (plain_term (term_of t))) c.deref-in-Some.ensures in
     (omega (arith, c.decreases, it, whole, same), c.requires.bodies)
 
-pub resolve-resolve_within-requires-in-Some : goal.resolve-resolve_within-requires-in-Some
-resolve-resolve_within-requires-in-Some t c =
+pub resolve-resolve_within-requires-in-Some-universe_numbered : goal.resolve-resolve_within-requires-in-Some-universe_numbered
+resolve-resolve_within-requires-in-Some-universe_numbered t c =
     let a = c.args in
     let it = (falls a.checked.now (scope_environment a.scope.now)).at_every c.in-Every.name.text c.in-Every.over.text (plain_term (term_of c.in-Every.test.value)) Undef in
     let whole = ap (weight (program a.checked.now) (scope_environment a.scope.now)) (plain_every a.term.now c.in-Every.name c.in-Every.over c.in-Every.test c.in-Every.is) in
@@ -361,7 +361,7 @@ resolve_name-returns-in-Some-clause-resolved t c =
     let a = c.args in
     let spec = spec_of a.checked.now.spec in
     as_resolved (program_of spec) (shape_of spec) (names_of a.scope.now) _ _ _ _ refl (local_form (code.Local c.in-Some.i) c.in-Some.i refl)
-    (local_resolved spec a.checked.now.well_formed (names_of a.scope.now) a.name.now.text (plain_terms (terms_of (map term_of a.arguments.now))) c.in-Some.i (sym c.in_ok-position.ensures ∙ c.in-Some.is))
+    (local_resolved spec a.checked.now.well_formed (names_of a.scope.now) a.name.now.text (plain_terms (terms_of (map term_of a.arguments.now))) c.in-Some.i (sym c.in_ok-i.ensures ∙ c.in-Some.is))
 
 pub resolve_name-resolve_function-requires : goal.resolve_name-resolve_function-requires
 resolve_name-resolve_function-requires t c =
@@ -372,7 +372,7 @@ resolve_name-resolve_function-requires t c =
       (
         c.requires.bodies,
         (
-          sym c.in_ok-position.ensures ∙ c.in_default.is,
+          sym c.in_ok-i.ensures ∙ c.in_default.is,
           (
             sym is ∙ c.named.ensures.named,
             function_below spec (shape_of spec) c.named.result c.in-Some-Function.f a.checked.now.well_formed refl c.named.ensures.in_range is,
@@ -397,7 +397,7 @@ resolve_name-resolve_body-requires t c =
     let spec = spec_of a.checked.now.spec in
     let is = c.in-Some-Derived.is ∙ ap Some c.in-Some-Derived.field-0-is in
     let it = body_lighter a.checked.now (scope_environment a.scope.now) a.name.now.text a.arguments.now (Some (number.Derived c.in-Some-Derived.d)) []
-    (scope_free (program a.checked.now) a.scope.now a.name.now.text (sym c.in_ok-position.ensures ∙ c.in_default.is)) (sym is ∙ c.named.ensures.named) in
+    (scope_free (program a.checked.now) a.scope.now a.name.now.text (sym c.in_ok-i.ensures ∙ c.in_default.is)) (sym is ∙ c.named.ensures.named) in
     (omega (arith, c.decreases, it), (c.requires.bodies, subst (IsInRange spec) is c.named.ensures.in_range))
 
 pub resolve_name-returns-in-Some-Element-clause-resolved : goal.resolve_name-returns-in-Some-Element-clause-resolved
@@ -407,7 +407,7 @@ resolve_name-returns-in-Some-Element-clause-resolved t c =
     let is = c.in-Some-Element.is ∙ ap Some c.in-Some-Element.field-0-is in
     as_resolved (program_of spec) (shape_of spec) (names_of a.scope.now) _ _ _ _ refl (constant_form (code.Constant c.of.result) c.of.result refl ∙ ap codes.Constant c.of.ensures)
     (constant_resolved spec a.checked.now.well_formed (names_of a.scope.now) a.name.now.text (plain_terms (terms_of (map term_of a.arguments.now))) (Some (number.Element c.in-Some-Element.e)) _
-    (sym c.in_ok-position.ensures ∙ c.in_default.is) (sym is ∙ c.named.ensures.named) (λ A vs. value_laws.element_at c.in-Some-Element.e _ refl))
+    (sym c.in_ok-i.ensures ∙ c.in_default.is) (sym is ∙ c.named.ensures.named) (λ A vs. value_laws.element_at c.in-Some-Element.e _ refl))
 
 pub resolve_name-returns-in_ok-arguments-in-Some-Derived-clause-resolved : goal.resolve_name-returns-in_ok-arguments-in-Some-Derived-clause-resolved
 resolve_name-returns-in_ok-arguments-in-Some-Derived-clause-resolved t c =
@@ -419,7 +419,7 @@ resolve_name-returns-in_ok-arguments-in-Some-Derived-clause-resolved t c =
     let cs = c.in_ok-arguments-in-Some-Derived.arguments in
     if_ok c.make_derived.result (λ k. code_of k ≡ codes.Derived (code_of (arc_value b)) (codes_of (map code_of cs.items))) _
     (λ k form. as_resolved (program_of spec) (shape_of spec) (names_of a.scope.now) _ _ _ _ refl form
-    (derived_resolved spec a.checked.now.well_formed (names_of a.scope.now) a.name.now.text (plain_terms (terms_of (map term_of a.arguments.now))) c.in-Some-Derived.d (sym c.in_ok-position.ensures ∙ c.in_default.is)
+    (derived_resolved spec a.checked.now.well_formed (names_of a.scope.now) a.name.now.text (plain_terms (terms_of (map term_of a.arguments.now))) c.in-Some-Derived.d (sym c.in_ok-i.ensures ∙ c.in_default.is)
     (sym is ∙ c.named.ensures.named) body.parameters body.body body.stands (code_of (arc_value b)) body.resolved (codes_of (map code_of cs.items)) c.in_ok-arguments-in-Some-Derived.ensures.resolved))
     c.make_derived.ensures
 
@@ -430,7 +430,7 @@ resolve_name-returns-in-Some-Universe-clause-resolved t c =
     let is = c.in-Some-Universe.is ∙ ap Some c.in-Some-Universe.field-0-is in
     as_resolved (program_of spec) (shape_of spec) (names_of a.scope.now) _ _ _ _ refl (constant_form (code.Constant c.undef.result) c.undef.result refl ∙ ap codes.Constant c.undef.ensures)
     (constant_resolved spec a.checked.now.well_formed (names_of a.scope.now) a.name.now.text (plain_terms (terms_of (map term_of a.arguments.now))) c.named.result Undef
-    (sym c.in_ok-position.ensures ∙ c.in_default.is) c.named.ensures.named (λ A vs. universe_undef (program_of spec) A vs spec c.in-Some-Universe.field-0-0 ∙ ap (λ it. declared_value (program_of spec) A (numbered spec it) vs) (sym is)))
+    (sym c.in_ok-i.ensures ∙ c.in_default.is) c.named.ensures.named (λ A vs. universe_undef (program_of spec) A vs spec c.in-Some-Universe.field-0-0 ∙ ap (λ it. declared_value (program_of spec) A (numbered spec it) vs) (sym is)))
 
 pub resolve_name-returns-in-Some-Rule-clause-resolved : goal.resolve_name-returns-in-Some-Rule-clause-resolved
 resolve_name-returns-in-Some-Rule-clause-resolved t c =
@@ -439,7 +439,7 @@ resolve_name-returns-in-Some-Rule-clause-resolved t c =
     let is = c.in-Some-Rule.is ∙ ap Some c.in-Some-Rule.field-0-is in
     as_resolved (program_of spec) (shape_of spec) (names_of a.scope.now) _ _ _ _ refl (constant_form (code.Constant c.undef-in-Some-Rule.result) c.undef-in-Some-Rule.result refl ∙ ap codes.Constant c.undef-in-Some-Rule.ensures)
     (constant_resolved spec a.checked.now.well_formed (names_of a.scope.now) a.name.now.text (plain_terms (terms_of (map term_of a.arguments.now))) c.named.result Undef
-    (sym c.in_ok-position.ensures ∙ c.in_default.is) c.named.ensures.named (λ A vs. named_rule_undef (program_of spec) A vs spec c.in-Some-Rule.field-0-0 ∙ ap (λ it. declared_value (program_of spec) A (numbered spec it) vs) (sym is)))
+    (sym c.in_ok-i.ensures ∙ c.in_default.is) c.named.ensures.named (λ A vs. named_rule_undef (program_of spec) A vs spec c.in-Some-Rule.field-0-0 ∙ ap (λ it. declared_value (program_of spec) A (numbered spec it) vs) (sym is)))
 
 pub resolve_name-returns-in-None-clause-resolved : goal.resolve_name-returns-in-None-clause-resolved
 resolve_name-returns-in-None-clause-resolved t c =
@@ -448,4 +448,4 @@ resolve_name-returns-in-None-clause-resolved t c =
     let is = c.in-None.is in
     as_resolved (program_of spec) (shape_of spec) (names_of a.scope.now) _ _ _ _ refl (constant_form (code.Constant c.undef-in-None.result) c.undef-in-None.result refl ∙ ap codes.Constant c.undef-in-None.ensures)
     (constant_resolved spec a.checked.now.well_formed (names_of a.scope.now) a.name.now.text (plain_terms (terms_of (map term_of a.arguments.now))) c.named.result Undef
-    (sym c.in_ok-position.ensures ∙ c.in_default.is) c.named.ensures.named (λ A vs. ap (λ it. declared_value (program_of spec) A (numbered spec it) vs) (sym is)))
+    (sym c.in_ok-i.ensures ∙ c.in_default.is) c.named.ensures.named (λ A vs. ap (λ it. declared_value (program_of spec) A (numbered spec it) vs) (sym is)))
