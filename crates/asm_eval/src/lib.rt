@@ -16,6 +16,7 @@ mod make;
 pub mod modulus;
 pub mod open;
 pub mod outcome;
+pub mod parameters;
 pub mod piece;
 mod place;
 pub mod positions;
