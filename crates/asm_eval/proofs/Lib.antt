@@ -18,6 +18,7 @@ pub mod FoundNames
 pub mod ResolvedLists
 pub mod CodePaths
 pub mod CodeSequences
+pub mod SingleUpdates
 pub mod RuleForms
 pub mod SoundMembers
 pub mod CodeCandidates

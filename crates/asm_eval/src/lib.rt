@@ -27,6 +27,7 @@ pub mod rule_code;
 pub mod running;
 pub mod scope;
 pub mod shared;
+mod single;
 mod used;
 pub mod value;
 pub mod whole;
