@@ -2,7 +2,7 @@
 --     single_upon      what such a rule yields in the state in which a set has been fired
 --     goes_by_none     it has no update
 --     goes_by_one      it has one
-use Rattle.std.proofs.Common.{◌≡◌, ℕ, ◌≤◌, refl, sym, ap, subst, ◌∙◌}
+use Rattle.std.proofs.Common.{◌≡◌, ℕ, ◌≤◌, refl, sym, subst}
 use Rattle.std.specs.Prelude.{Result as Returned, Ok, Err, IfOk, OnOk}
 use Rattle.asm_state.specs.Signature.{Shape}
 use Rattle.asm_state.specs.Updates.{UpdateSet, none, merge, fire}
@@ -30,9 +30,6 @@ use Rattle.asm_eval.specs.declared.running.Running.{Running}
 use Rattle.asm_eval.specs.declared.single.Single.{Single}
 
 module _ {P : Type 0} {picks : Ghosts P} (r : Running P picks) (v : View) (f : Frame) (R : RuleCode) (q : Path) (same : v.signature.now ≡ shape_at r) where
-  shape : Shape
-  shape = shape_at r
-
   pub single_shown : (is it : Single) → is ≡ it → YieldsSingle v f R is → IsSingle (shape_at r) it (rule_in r f q R (shown v))
   single_shown is it which single =
       subst (λ s. IsSingle s it (meaning s r.turns (chosen_at r) R (readings_of s f) (places_of s f) (shown v) q)) same

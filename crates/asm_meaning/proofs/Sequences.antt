@@ -1,8 +1,8 @@
 -- Sequences: the sets of the parts so far, joined by turbo merges, and what is left.
 -- The lemmas that are public are the clauses of sequence_laws, part_laws and stopping_laws.
-use Rattle.std.proofs.Common.{IsTrue, ◌≡◌, ◌≢◌, ℕ, ◌+◌, ◌≤◌, min, Bool, true, false, not, cond, ◌||◌, Option, Some, None, ◌⊎◌, inl, inr, refl, sym, ap, subst, ◌∙◌, arith}
+use Rattle.std.proofs.Common.{IsTrue, ◌≡◌, ◌≢◌, ℕ, ◌+◌, ◌≤◌, min, Bool, true, false, not, cond, ◌||◌, ◌⊎◌, inl, inr, refl, sym, ap, subst, ◌∙◌, arith}
 use Rattle.std.specs.Bool.{Decides}
-use Rattle.std.specs.Prelude.{Result as Returned, Ok, Err, OnOk, IfErr, IsErrAnd, is_some, IfNone, IfSome}
+use Rattle.std.specs.Prelude.{Result as Returned, Ok, Err, OnOk, IfErr, IsErrAnd}
 use Rattle.std.proofs.lemmas.Bool.{false_from_ne_true, false≢true}
 use Rattle.std.proofs.lemmas.Result.{on_ok_weaker, IfErr-at_err}
 use Rattle.std.proofs.Math.Bool.{or-true}
@@ -16,9 +16,7 @@ use Rattle.asm_state.proofs.Members.{member_laws}
 use Rattle.asm_state.proofs.Updates.{test_laws}
 use Rattle.asm_state.proofs.Summaries.{fire_laws}
 use Rattle.asm_updates.specs.Entries.{Entries}
-use Rattle.asm_updates.specs.Faults.{fault_of}
 use Rattle.asm_updates.specs.Stands.{Stands, Adds}
-use Rattle.asm_updates.specs.declared.fault.Fault.{Fault as NumberedFault}
 use Rattle.asm_meaning.specs.Does.{Outcome, nothing, following, part_and, turn_and}
 use Rattle.asm_meaning.specs.Formed.{Forms, GoesOn, IsStoppedAt, greatest_count}
 use Rattle.asm_meaning.specs.PartSets.{IsPartSet, ends_parts, ends_turns}

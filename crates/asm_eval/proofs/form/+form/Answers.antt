@@ -1,10 +1,8 @@
-use Rattle.std.proofs.Common.{◌≡◌, ℕ, ◌∷◌, ◌⊎◌, inl, inr, Some, None, sym, ap, subst, ◌∙◌, refl, arith, rules}
-use Rattle.std.proofs.lemmas.Bool.{false≢true}
+use Rattle.std.proofs.Common.{◌≡◌, ℕ, ◌∷◌, Some, None, sym, ap, subst, ◌∙◌, refl, arith, rules}
 use Rattle.std.specs.Prelude.{Ok, option_map}
 use Rattle.asm_state.specs.Signature.{Shape, location_at}
-use Rattle.asm_state.specs.Updates.{IsConsistent, none, one}
+use Rattle.asm_state.specs.Updates.{one}
 use Rattle.asm_updates.specs.Entries.{Entries}
-use Rattle.asm_updates.specs.Stands.{Stands}
 use Rattle.asm_state.specs.Words.{value_of_code}
 use Rattle.asm_meaning.specs.Does.{Outcome}
 use Rattle.asm_meaning.specs.Formed.{Follows, Forms, GoesOn}
@@ -13,7 +11,7 @@ use Rattle.asm_meaning.specs.Valued.{shown}
 use Rattle.asm_meaning.specs.declared.outcome.Forming.{Forming}
 use Rattle.asm_meaning.specs.Yields.{Path, at, Exhausted}
 use Rattle.asm_meaning.proofs.Following.{following_laws-same as follows_same, following_laws-nothing as follows_nothing, following_laws-both as follows_both, following_laws-counted as follows_counted, following_laws-stopped as follows_stopped, following_laws-forms_same as forms_same}
-use Rattle.asm_meaning.proofs.Sequences.{sequence_laws-begins as begins, sequence_laws-goes_upon as goes_upon, sequence_laws-goes_by as goes_by, part_laws-consistent_part as consistent_part, part_laws-ending_part as ending_part, part_laws-some_turn as some_turn, part_laws-consistent_turn as consistent_turn, part_laws-ending_turn as ending_turn, stopping_laws-memory as stopped_for_memory}
+use Rattle.asm_meaning.proofs.Sequences.{sequence_laws-begins as begins, sequence_laws-goes_upon as goes_upon, part_laws-consistent_part as consistent_part, part_laws-ending_part as ending_part, part_laws-some_turn as some_turn, part_laws-consistent_turn as consistent_turn, part_laws-ending_turn as ending_turn, stopping_laws-memory as stopped_for_memory}
 use Rattle.asm_eval.specs.CodeViews.{code_of}
 use Rattle.asm_eval.specs.Frames.{readings_of}
 use Rattle.asm_reader.specs.declared.picks.Picks.{Ghosts}
