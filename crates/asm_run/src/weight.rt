@@ -13,8 +13,11 @@ use asm_eval::rule_code::{Place, RuleCode};
 use asm_meaning::Part;
 use asm_state::signature::Signature;
 
-/// So many nodes of rules and terms are evaluated in about the time that a thread takes to start
-/// and to end.
+/// A region of fewer nodes of rules and terms is evaluated before another thread had its part of
+/// it: a table is to be opened and closed, and a thread started.
+const REGION: u32 = 32_768;
+
+/// So many nodes of a round are worth a thread.
 const SHARE: u32 = 16_384;
 
 /// The nodes of a value that is bound.
@@ -35,7 +38,7 @@ pub(crate) struct Doing {
 pub(crate) fn is_little(signature: &Signature, rule: &RuleCode) -> bool
     requires { IsSoundRule signature.now (rule_of rule.now) }
 {
-    behind_rule(signature, rule, BOUND, SHARE).is_some()
+    behind_rule(signature, rule, BOUND, REGION).is_some()
 }
 
 /// So many nodes of a rule are looked at, at most, to see whether a run may have work to share.
@@ -59,7 +62,7 @@ fn behind_regions(signature: &Signature, rule: &RuleCode, local: u32, left: u32)
     match rule {
         RuleCode::Skip | RuleCode::Assign { .. } => Some(left),
         RuleCode::Par(_) | RuleCode::Forall { .. } => {
-            let most = left.min(SHARE);
+            let most = left.min(REGION);
             let over = behind_rule(signature, rule, local, most)?;
             left.checked_sub(most.checked_sub(over)?)
         }
