@@ -1,5 +1,5 @@
 //! The parameters of a body, among which a name is found by its text.
-ghost use Rattle.std.specs.Prelude.{◌≡◌, ◌+◌, IfOk, map};
+ghost use Rattle.std.specs.Prelude.{◌≡◌, ◌≤◌, ◌+◌, ◌^◌, IfOk, IfErr, map};
 ghost use Rattle.std.specs.List.{position};
 ghost use Rattle.std.specs.Option.{ForSome};
 ghost use Rattle.asm_syntax.specs.Tree as tree;
@@ -64,9 +64,11 @@ impl<'a> Parameters<'a> {
     }
 }
 
-/// The position so many behind another one. No memory holds more names than a position can count.
+/// The position so many behind another one. It is refused where 64 bits can't hold it: no memory
+/// has so many names.
 pub(crate) fn behind(position: usize, count: usize) -> Result<usize, AllocError>
-    ensures { IfOk result (λ n. n ≡ position + count) }
+    ensures position { IfOk result (λ n. n ≡ position + count) }
+    ensures refused { IfErr result (λ e. 2 ^ 64 ≤ position + count) }
 {
     position.checked_add(count).ok_or(AllocError)
 }
