@@ -6,11 +6,10 @@ use Rattle.std.specs.Map.{lookup}
 use Rattle.std.proofs.lemmas.List.{length-map, length-take-le, map-append, take_all, take_more}
 use Rattle.asm_syntax.specs.Tree.{Name, result}
 use Rattle.asm_syntax.specs.declared.name.Name as syntax
-use Rattle.asm_check.specs.Positions.{is_spelled}
-use Rattle.asm_check.proofs.Positioned.{spelled_same}
+use Rattle.asm_eval.proofs.SpelledTexts.{spelled_same}
 use Rattle.asm_meaning.specs.Meant.{text_of}
 use Rattle.asm_meaning.specs.Program.{is_name}
-use Rattle.asm_eval.specs.Slots.{Slot, value_slot, names_in, position_of, is_located, located_position, answer_position, called_slots, found_from}
+use Rattle.asm_eval.specs.Slots.{Slot, value_slot, names_in, position_of, is_located, is_spelled, located_position, answer_position, called_slots, found_from}
 
 -- ---- positions, by what is found
 

@@ -14,6 +14,7 @@ pub mod Resolving
 pub mod KeptBodies
 pub mod LinkCodes
 pub mod ScopeLaws
+pub mod SpelledTexts
 pub mod FoundNames
 pub mod ResolvedLists
 pub mod CodePaths

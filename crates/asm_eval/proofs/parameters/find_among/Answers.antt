@@ -10,5 +10,5 @@ returns-in-None c = let a = c.args in sym (values_found a.first (map text_of a.n
 pub returns-in_ok-position-in-Some : goal.returns-in_ok-position-in-Some
 returns-in_ok-position-in-Some c =
     let a = c.args in
-    ap (λ n. Some (n, false)) c.in_ok-position-in-Some.ensures
+    ap (λ n. Some (n, false)) c.in_ok-position-in-Some.ensures.position
     ∙ sym (values_found a.first (map text_of a.names.now) a.name.now.text ∙ ap (option_map (value_at a.first)) (sym c.index_of.ensures ∙ c.in-Some.is))

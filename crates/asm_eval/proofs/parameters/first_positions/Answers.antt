@@ -1,9 +1,9 @@
 use Rattle.std.proofs.Common.{◌-◌, map, take, length, ap, ◌∙◌, arith}
 use Rattle.std.specs.Map.{lookup}
 use Rattle.std.proofs.lemmas.List.{length-take-le}
-use Rattle.asm_check.specs.Positions.{is_spelled}
-use Rattle.asm_check.proofs.Positioned.{lookup_inserted}
+use Rattle.asm_eval.proofs.SpelledTexts.{lookup_inserted}
 use Rattle.asm_meaning.specs.Meant.{text_of}
+use Rattle.asm_eval.specs.Slots.{is_spelled}
 use Rattle.asm_eval.proofs.FoundNames.{first_or, first_or_none, found_by, one_more_known}
 use Rattle.asm_eval.proofs.parameters.first_positions.Goals as goal
 

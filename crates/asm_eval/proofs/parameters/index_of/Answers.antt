@@ -1,4 +1,4 @@
-use Rattle.std.proofs.Common.{map, sym, ap, ◌∙◌}
+use Rattle.std.proofs.Common.{map, ap, ◌∙◌}
 use Rattle.asm_meaning.specs.Meant.{text_of}
 use Rattle.asm_eval.specs.Slots.{position_of}
 use Rattle.asm_eval.proofs.FoundNames.{position_among}

@@ -1,6 +1,6 @@
 use Rattle.std.proofs.Common.{map, sym, ◌∙◌}
 use Rattle.asm_meaning.specs.Meant.{text_of}
-use Rattle.asm_eval.proofs.FoundNames.{answer_is_found, behind_answer, without_answer}
+use Rattle.asm_eval.proofs.FoundNames.{without_answer}
 use Rattle.asm_eval.proofs.parameters.Parameters.find.Goals as goal
 
 pub returns-then-not-self : goal.returns-then-not-self
