@@ -88,7 +88,9 @@ const TURNED: &[u8] = b"step 1 instances 0\na := 2\nb := 3\nend limit\nstate\na 
 
 /// A thousand elements, in 16 pieces of 64 at most. Together they are worth two threads.
 const THOUSAND: &[u8] = b"CoreASM T\ninit M\nuniverse U = 1 .. 1000\nfunction controlled a\n\
-rule M = forall i in U do a := 1 endforall\n";
+rule M = forall i in U do a := 1 + i - i + i - i + i - i + i - i + i - i + i - i + i - i + i - i \
++ i - i + i - i + i - i + i - i + i - i + i - i + i - i + i - i + i - i + i - i + i - i + i - i \
+endforall\n";
 
 const DONE: &[u8] = b"step 1 instances 1000\na := 1\nend limit\nstate\na = 1\n";
 
@@ -144,9 +146,13 @@ fn turns_meet_by_the_default_rounds(rt: HostRuntime) -> Result<(), Fail> {
     Ok(())
 }
 
-/// And so are many elements, of which the workers are told how much work they are.
+/// And so are many elements with much work, where three of four workers are worth it.
 #[test]
 fn elements_meet_by_the_default_rounds(rt: HostRuntime) -> Result<(), Fail> {
-    assert!(rt; is_shared(&rt, THOUSAND, &DEFAULT, 17, End::Limit, DONE)?);
+    let four = Limits {
+        workers: 4,
+        ..DEFAULT
+    };
+    assert!(rt; is_shared(&rt, THOUSAND, &four, 17, End::Limit, DONE)?);
     Ok(())
 }
