@@ -7,7 +7,7 @@ pub mod Soonest
 pub mod Errors
 pub mod FaultLists
 pub mod Answering
-pub mod Positions
+pub mod Keys
 pub mod Tables
 pub mod UseViews
 pub mod Collected
