@@ -1,11 +1,11 @@
-use Rattle.std.proofs.Common.{sym, false, true, ◌∙◌}
+use Rattle.std.proofs.Common.{refl, false, true}
 use Rattle.asm_check.specs.Names.{declared}
 use Rattle.asm_check.specs.UseViews.{use_of}
 use Rattle.asm_check.proofs.Stepping.{stepping_there, step_there}
 use Rattle.asm_check.proofs.steps.step.Goals as goal
 
 pub returns-then-not-may_be_step-clause-step : goal.returns-then-not-may_be_step-clause-step
-returns-then-not-may_be_step-clause-step c = λ spec table. c.may_be_step.ensures (sym c.if-not-may_be_step.ensures) c.args.used.is_bound (declared spec c.args.used.name.now.text)
+returns-then-not-may_be_step-clause-step c = λ spec table. c.if-not-may_be_step.ensures refl c.args.used.is_bound (declared spec c.args.used.name.now.text)
 
 pub returns-then-is_step-clause-step : goal.returns-then-is_step-clause-step
 returns-then-is_step-clause-step c = λ spec table.
