@@ -11,6 +11,7 @@ pub mod Collecting
 pub mod CountedSizes
 pub mod CycleNotes
 pub mod Declared
+pub mod DeclaredBytes
 pub mod Domains
 pub mod ElementCounts
 pub mod ElementNumbers

@@ -7,6 +7,7 @@ pub mod Soonest
 pub mod Errors
 pub mod FaultLists
 pub mod Answering
+pub mod Keyed
 pub mod Keys
 pub mod Tables
 pub mod UseViews

@@ -12,7 +12,7 @@ ghost use Rattle.asm_check.specs.Names.{declared, declares, predeclared, declara
 ghost use Rattle.asm_syntax.specs.SourceTree as source;
 
 use crate::error::FaultKind;
-use crate::keyed::digest_of;
+use crate::keyed::declared_names;
 use crate::least::Least;
 use crate::meaning::{Declaration, Meaning};
 use crate::name_table::Names;
@@ -31,7 +31,7 @@ pub(crate) fn first_names<'a>(
     ensures table { IfOk result (λ names. IsTableOf (spec_of spec.now) names) }
     ensures least { OnOk result (found_of least.new.found ≡ noted (found_of least.old.found) (twice_faults (spec_of spec.now))) }
 {
-    let declared = digest_of(spec);
+    let declared = declared_names(spec);
     let mut names = Names::new(alloc, declared.key, declared.count)?;
     predeclare_all(&mut names, least)?;
     declare_items(&mut names, &spec.items, least)?;
