@@ -1,4 +1,4 @@
-use Rattle.std.proofs.Common.{◌≡◌, length, true, false, ◌+◌, ◌≤◌, refl, sym, subst, arith}
+use Rattle.std.proofs.Common.{length, true, false, ◌+◌, ◌≤◌, refl, sym, subst, arith}
 use Rattle.asm_syntax.specs.Views.{spec_of}
 use Rattle.asm_check.specs.declared.least.Least.{Least}
 use Rattle.asm_check.specs.Errors.{found_of}
