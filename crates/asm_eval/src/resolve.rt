@@ -152,7 +152,7 @@ fn resolve_name<'e>(
     if let Some(i) = position(scope, name)? {
         return Ok(Code::Local(i));
     }
-    match checked.named(&name.text) {
+    match checked.named_text(&name.text) {
         Some(Named::Function(f)) => {
             resolve_function(alloc, checked, bodies, scope, name, f, arguments)
         }
@@ -258,7 +258,7 @@ pub(crate) fn universe_numbered(checked: &Checked, name: &Name) -> Option<usize>
     ensures known { IfSome result (λ n. n < length (shape_of (spec_of checked.now.spec)).universes) }
     ensures none { IfNone result (spec.universe (program_of (spec_of checked.now.spec)) name.now.text ≡ []) }
 {
-    match number_of_universe(checked.named(&name.text)) {
+    match number_of_universe(checked.named_text(&name.text)) {
         None => None,
         Some(n) => Some(n),
     }

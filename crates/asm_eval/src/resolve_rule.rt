@@ -279,7 +279,7 @@ fn resolve_call<'e>(
     ensures resolved { IfOk result (call_resolved checked.now scope.now target.now name.now.text arguments.now) }
     ensures known { OnOk result (AreKnown (spec_of checked.now.spec) known.new) }
 {
-    let Some(r) = number_of_rule(checked.named(&name.text)) else {
+    let Some(r) = number_of_rule(checked.named_text(&name.text)) else {
         return Ok(RuleCode::Skip);
     };
     let answer = resolve_target(alloc, checked, known, scope, target)?;
@@ -306,7 +306,7 @@ pub(crate) fn resolve_named_rule<'e>(
     requires { AreKnown (spec_of checked.now.spec) known.old }
     ensures { OnOk result (AreKnown (spec_of checked.now.spec) known.new) }
 {
-    if let Some(r) = number_of_rule(checked.named(&name.text)) {
+    if let Some(r) = number_of_rule(checked.named_text(&name.text)) {
         let (names, _rule) = checked.rule(r);
         let bound = names.len().min(arguments);
         resolve_rule_body(alloc, checked, known, name, r, answers, bound)?;
@@ -505,7 +505,7 @@ fn controlled(checked: &Checked, name: &Name) -> Option<usize>
     ensures some { IfSome result (λ f. declared.declared (program_of (spec_of checked.now.spec)) name.now.text ≡ Some (declared.Controlled f (domain_of (shape_of (spec_of checked.now.spec)) f))) }
     ensures none { IfNone result ((vs : List ValueHere) → location_of (declared.declared (program_of (spec_of checked.now.spec)) name.now.text) vs ≡ None) }
 {
-    match checked.named(&name.text) {
+    match checked.named_text(&name.text) {
         Some(Named::Function(f)) => match checked.signature().function(f).kind {
             FunctionKind::Controlled => Some(f),
             FunctionKind::Static => None,

@@ -374,8 +374,8 @@ resolve_name-resolve_function-requires t c =
         (
           sym c.in_ok-i.ensures ∙ c.in_default.is,
           (
-            sym is ∙ c.named.ensures.named,
-            function_below spec (shape_of spec) c.named.result c.in-Some-Function.f a.checked.now.well_formed refl c.named.ensures.in_range is,
+            sym is ∙ c.named_text.ensures.named,
+            function_below spec (shape_of spec) c.named_text.result c.in-Some-Function.f a.checked.now.well_formed refl c.named_text.ensures.in_range is,
           ),
         ),
       ),
@@ -383,12 +383,12 @@ resolve_name-resolve_function-requires t c =
 
 pub resolve_name-overflow_cast-e : goal.resolve_name-overflow_cast-e
 resolve_name-overflow_cast-e t c =
-    let low = element_below (spec_of c.args.checked.now.spec) c.named.result c.in-Some-Element.e c.args.checked.now.well_formed c.named.ensures.in_range (c.in-Some-Element.is ∙ ap Some c.in-Some-Element.field-0-is) in
+    let low = element_below (spec_of c.args.checked.now.spec) c.named_text.result c.in-Some-Element.e c.args.checked.now.well_formed c.named_text.ensures.in_range (c.in-Some-Element.is ∙ ap Some c.in-Some-Element.field-0-is) in
     omega (arith, low)
 
 pub resolve_name-invariant_of-of : goal.resolve_name-invariant_of-of
 resolve_name-invariant_of-of t c = record {
-  in_range = element_below (spec_of c.args.checked.now.spec) c.named.result c.in-Some-Element.e c.args.checked.now.well_formed c.named.ensures.in_range (c.in-Some-Element.is ∙ ap Some c.in-Some-Element.field-0-is);
+  in_range = element_below (spec_of c.args.checked.now.spec) c.named_text.result c.in-Some-Element.e c.args.checked.now.well_formed c.named_text.ensures.in_range (c.in-Some-Element.is ∙ ap Some c.in-Some-Element.field-0-is);
 }
 
 pub resolve_name-resolve_body-requires : goal.resolve_name-resolve_body-requires
@@ -397,8 +397,8 @@ resolve_name-resolve_body-requires t c =
     let spec = spec_of a.checked.now.spec in
     let is = c.in-Some-Derived.is ∙ ap Some c.in-Some-Derived.field-0-is in
     let it = body_lighter a.checked.now (scope_environment a.scope.now) a.name.now.text a.arguments.now (Some (number.Derived c.in-Some-Derived.d)) []
-    (scope_free (program a.checked.now) a.scope.now a.name.now.text (sym c.in_ok-i.ensures ∙ c.in_default.is)) (sym is ∙ c.named.ensures.named) in
-    (omega (arith, c.decreases, it), (c.requires.bodies, subst (IsInRange spec) is c.named.ensures.in_range))
+    (scope_free (program a.checked.now) a.scope.now a.name.now.text (sym c.in_ok-i.ensures ∙ c.in_default.is)) (sym is ∙ c.named_text.ensures.named) in
+    (omega (arith, c.decreases, it), (c.requires.bodies, subst (IsInRange spec) is c.named_text.ensures.in_range))
 
 pub resolve_name-returns-in-Some-Element-clause-resolved : goal.resolve_name-returns-in-Some-Element-clause-resolved
 resolve_name-returns-in-Some-Element-clause-resolved t c =
@@ -407,7 +407,7 @@ resolve_name-returns-in-Some-Element-clause-resolved t c =
     let is = c.in-Some-Element.is ∙ ap Some c.in-Some-Element.field-0-is in
     as_resolved (program_of spec) (shape_of spec) (names_of a.scope.now) _ _ _ _ refl (constant_form (code.Constant c.of.result) c.of.result refl ∙ ap codes.Constant c.of.ensures)
     (constant_resolved spec a.checked.now.well_formed (names_of a.scope.now) a.name.now.text (plain_terms (terms_of (map term_of a.arguments.now))) (Some (number.Element c.in-Some-Element.e)) _
-    (sym c.in_ok-i.ensures ∙ c.in_default.is) (sym is ∙ c.named.ensures.named) (λ A vs. value_laws.element_at c.in-Some-Element.e _ refl))
+    (sym c.in_ok-i.ensures ∙ c.in_default.is) (sym is ∙ c.named_text.ensures.named) (λ A vs. value_laws.element_at c.in-Some-Element.e _ refl))
 
 pub resolve_name-returns-in_ok-arguments-in-Some-Derived-clause-resolved : goal.resolve_name-returns-in_ok-arguments-in-Some-Derived-clause-resolved
 resolve_name-returns-in_ok-arguments-in-Some-Derived-clause-resolved t c =
@@ -420,7 +420,7 @@ resolve_name-returns-in_ok-arguments-in-Some-Derived-clause-resolved t c =
     if_ok c.make_derived.result (λ k. code_of k ≡ codes.Derived (code_of (arc_value b)) (codes_of (map code_of cs.items))) _
     (λ k form. as_resolved (program_of spec) (shape_of spec) (names_of a.scope.now) _ _ _ _ refl form
     (derived_resolved spec a.checked.now.well_formed (names_of a.scope.now) a.name.now.text (plain_terms (terms_of (map term_of a.arguments.now))) c.in-Some-Derived.d (sym c.in_ok-i.ensures ∙ c.in_default.is)
-    (sym is ∙ c.named.ensures.named) body.parameters body.body body.stands (code_of (arc_value b)) body.resolved (codes_of (map code_of cs.items)) c.in_ok-arguments-in-Some-Derived.ensures.resolved))
+    (sym is ∙ c.named_text.ensures.named) body.parameters body.body body.stands (code_of (arc_value b)) body.resolved (codes_of (map code_of cs.items)) c.in_ok-arguments-in-Some-Derived.ensures.resolved))
     c.make_derived.ensures
 
 pub resolve_name-returns-in-Some-Universe-clause-resolved : goal.resolve_name-returns-in-Some-Universe-clause-resolved
@@ -429,8 +429,8 @@ resolve_name-returns-in-Some-Universe-clause-resolved t c =
     let spec = spec_of a.checked.now.spec in
     let is = c.in-Some-Universe.is ∙ ap Some c.in-Some-Universe.field-0-is in
     as_resolved (program_of spec) (shape_of spec) (names_of a.scope.now) _ _ _ _ refl (constant_form (code.Constant c.undef.result) c.undef.result refl ∙ ap codes.Constant c.undef.ensures)
-    (constant_resolved spec a.checked.now.well_formed (names_of a.scope.now) a.name.now.text (plain_terms (terms_of (map term_of a.arguments.now))) c.named.result Undef
-    (sym c.in_ok-i.ensures ∙ c.in_default.is) c.named.ensures.named (λ A vs. universe_undef (program_of spec) A vs spec c.in-Some-Universe.field-0-0 ∙ ap (λ it. declared_value (program_of spec) A (numbered spec it) vs) (sym is)))
+    (constant_resolved spec a.checked.now.well_formed (names_of a.scope.now) a.name.now.text (plain_terms (terms_of (map term_of a.arguments.now))) c.named_text.result Undef
+    (sym c.in_ok-i.ensures ∙ c.in_default.is) c.named_text.ensures.named (λ A vs. universe_undef (program_of spec) A vs spec c.in-Some-Universe.field-0-0 ∙ ap (λ it. declared_value (program_of spec) A (numbered spec it) vs) (sym is)))
 
 pub resolve_name-returns-in-Some-Rule-clause-resolved : goal.resolve_name-returns-in-Some-Rule-clause-resolved
 resolve_name-returns-in-Some-Rule-clause-resolved t c =
@@ -438,8 +438,8 @@ resolve_name-returns-in-Some-Rule-clause-resolved t c =
     let spec = spec_of a.checked.now.spec in
     let is = c.in-Some-Rule.is ∙ ap Some c.in-Some-Rule.field-0-is in
     as_resolved (program_of spec) (shape_of spec) (names_of a.scope.now) _ _ _ _ refl (constant_form (code.Constant c.undef-in-Some-Rule.result) c.undef-in-Some-Rule.result refl ∙ ap codes.Constant c.undef-in-Some-Rule.ensures)
-    (constant_resolved spec a.checked.now.well_formed (names_of a.scope.now) a.name.now.text (plain_terms (terms_of (map term_of a.arguments.now))) c.named.result Undef
-    (sym c.in_ok-i.ensures ∙ c.in_default.is) c.named.ensures.named (λ A vs. named_rule_undef (program_of spec) A vs spec c.in-Some-Rule.field-0-0 ∙ ap (λ it. declared_value (program_of spec) A (numbered spec it) vs) (sym is)))
+    (constant_resolved spec a.checked.now.well_formed (names_of a.scope.now) a.name.now.text (plain_terms (terms_of (map term_of a.arguments.now))) c.named_text.result Undef
+    (sym c.in_ok-i.ensures ∙ c.in_default.is) c.named_text.ensures.named (λ A vs. named_rule_undef (program_of spec) A vs spec c.in-Some-Rule.field-0-0 ∙ ap (λ it. declared_value (program_of spec) A (numbered spec it) vs) (sym is)))
 
 pub resolve_name-returns-in-None-clause-resolved : goal.resolve_name-returns-in-None-clause-resolved
 resolve_name-returns-in-None-clause-resolved t c =
@@ -447,5 +447,5 @@ resolve_name-returns-in-None-clause-resolved t c =
     let spec = spec_of a.checked.now.spec in
     let is = c.in-None.is in
     as_resolved (program_of spec) (shape_of spec) (names_of a.scope.now) _ _ _ _ refl (constant_form (code.Constant c.undef-in-None.result) c.undef-in-None.result refl ∙ ap codes.Constant c.undef-in-None.ensures)
-    (constant_resolved spec a.checked.now.well_formed (names_of a.scope.now) a.name.now.text (plain_terms (terms_of (map term_of a.arguments.now))) c.named.result Undef
-    (sym c.in_ok-i.ensures ∙ c.in_default.is) c.named.ensures.named (λ A vs. ap (λ it. declared_value (program_of spec) A (numbered spec it) vs) (sym is)))
+    (constant_resolved spec a.checked.now.well_formed (names_of a.scope.now) a.name.now.text (plain_terms (terms_of (map term_of a.arguments.now))) c.named_text.result Undef
+    (sym c.in_ok-i.ensures ∙ c.in_default.is) c.named_text.ensures.named (λ A vs. ap (λ it. declared_value (program_of spec) A (numbered spec it) vs) (sym is)))

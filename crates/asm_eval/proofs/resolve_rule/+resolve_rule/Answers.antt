@@ -251,8 +251,8 @@ resolve_parts-returns-clause-resolved t c =
 pub resolve_call-resolve_rule_body-requires : goal.resolve_call-resolve_rule_body-requires
 resolve_call-resolve_rule_body-requires t c =
     let spec = spec_of c.args.checked.now.spec in
-    let is = rule_is c.named.result c.in-Some.r (sym c.number_of_rule.ensures ∙ c.in-Some.is) in
-    (omega (arith, c.decreases), (c.in_ok-answer.ensures.known, (sym c.named.ensures.named ∙ is, subst (IsInRange spec) is c.named.ensures.in_range)))
+    let is = rule_is c.named_text.result c.in-Some.r (sym c.number_of_rule.ensures ∙ c.in-Some.is) in
+    (omega (arith, c.decreases), (c.in_ok-answer.ensures.known, (sym c.named_text.ensures.named ∙ is, subst (IsInRange spec) is c.named_text.ensures.in_range)))
 
 pub resolve_rule_body-resolve_rule-requires : goal.resolve_rule_body-resolve_rule-requires
 resolve_rule_body-resolve_rule-requires t c =
@@ -288,7 +288,7 @@ resolve_call-returns-clause-resolved t c =
     let a = c.args in
     let spec = spec_of a.checked.now.spec in
     called_here spec a.checked.now.well_formed (slots_of a.scope.now) (meant_target a.target.now) a.name.now.text c.in-Some.r c.min-bound.result c.in_ok-answer.answer
-    (ap rule_number (sym c.named.ensures.named) ∙ sym c.number_of_rule.ensures ∙ c.in-Some.is) c.in_ok-body.body
+    (ap rule_number (sym c.named_text.ensures.named) ∙ sym c.number_of_rule.ensures ∙ c.in-Some.is) c.in_ok-body.body
     (subst (λ b. IsRuleBody spec c.in-Some.r b c.min-bound.result (rule_of (arc_value c.in_ok-body.body))) c.is_some.ensures c.in_ok-body.ensures.body)
     c.in_ok-answer.ensures.resolved a.arguments.now c.in_ok-arguments.arguments c.in_ok-arguments.ensures.resolved c.rule.result.0.now c.rule.result.1.now c.rule.ensures c.min-bound.ensures
 
@@ -296,7 +296,7 @@ pub resolve_call-returns-in_default-clause-resolved : goal.resolve_call-returns-
 resolve_call-returns-in_default-clause-resolved t c =
     let a = c.args in
     not_called_here (spec_of a.checked.now.spec) a.checked.now.well_formed (slots_of a.scope.now) (meant_target a.target.now) a.name.now.text a.arguments.now
-    (ap rule_number (sym c.named.ensures.named) ∙ sym c.number_of_rule.ensures ∙ c.in_default.is)
+    (ap rule_number (sym c.named_text.ensures.named) ∙ sym c.number_of_rule.ensures ∙ c.in_default.is)
 
 pub resolve_other-returns-in-None-clause-resolved : goal.resolve_other-returns-in-None-clause-resolved
 resolve_other-returns-in-None-clause-resolved t c =

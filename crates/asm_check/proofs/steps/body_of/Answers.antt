@@ -4,11 +4,11 @@ use Rattle.asm_check.specs.Names.{answers, is_result}
 use Rattle.asm_check.specs.Tables.{meaning_of}
 use Rattle.asm_check.specs.UseViews.{role_of}
 use Rattle.asm_check.proofs.AnsweringRules.{any_result}
-use Rattle.asm_check.proofs.results.is_answering.Goals as goal
+use Rattle.asm_check.proofs.steps.body_of.Goals as goal
 
-pub returns-in_ok-uses-in-Rule : goal.returns-in_ok-uses-in-Rule
-returns-in_ok-uses-in-Rule c =
-    c.has_result.ensures
+pub returns-in_ok-steps-in-Rule-clause-answering : goal.returns-in_ok-steps-in-Rule-clause-answering
+returns-in_ok-steps-in-Rule-clause-answering c =
+    c.has_result-is_answering.ensures
     ∙ ap (list_any (λ u. is_result (role_of u.role))) c.deref.ensures.value
     ∙ sym (any_result c.in_ok-uses-in-Rule.uses.items)
     ∙ ap (list_any (λ u. is_result u.role)) c.in_ok-uses-in-Rule.ensures
