@@ -1,8 +1,8 @@
 //! The program over any reader and writers, and the status that it ends with.
-ghost use Rattle.std.specs.Prelude.{◌≡◌, ◌≢◌, ◌≤◌, ◌⊎◌, [], map, IsTrue, IfOk, IfErr};
+ghost use Rattle.std.specs.Prelude.{◌≡◌, ◌≢◌, ◌≤◌, ◌⊎◌, [], map, false, IsTrue, IfOk, IfErr};
 ghost use Rattle.asm_run.specs.Limits.{are_in_range};
 ghost use Rattle.asm_tool.specs.CommandLine.{refusals};
-ghost use Rattle.asm_tool.specs.Statuses.{IsFaultOfWords, Tells, TellsOfWords, run_fault, status_at, status_in, status_of};
+ghost use Rattle.asm_tool.specs.Statuses.{IsFaultOfWords, Tells, TellsOfWords, Writes, WritesOfWords, run_fault, status_at, status_in, status_of};
 
 use crate::fault::Fault;
 use crate::folder::Folder;
@@ -14,7 +14,6 @@ use asm_run::error::RunError;
 use asm_run::laws::answers_tell;
 use asm_run::limits::Limits;
 use asm_run::run::run;
-use asm_run::through::Through;
 use std::alloc::Global;
 use std::convert::AsStr;
 use std::io::{Read, Write};
@@ -30,12 +29,14 @@ pub fn status<
     F: Folder,
     S: AsStr,
     I: Read + Drop,
-    O: Write + Finish,
+    O: Finish,
     E: Write,
 >(rt: &R, folder: &F, words: &[S], input: I, out: &mut O, err: &mut E) -> u8
+    requires { O.has_failed out.old ≡ false }
     ensures taken { refusals (map S.text words.entry.now) ≡ [] → result ≤ 3 }
     ensures refused { refusals (map S.text words.entry.now) ≢ [] → (result ≡ 3) ⊎ (result ≡ 4) }
     ensures told { TellsOfWords (map S.text words.entry.now) (F.contents folder.now) (I.remaining input) result }
+    ensures wrote { result ≤ 1 → WritesOfWords (map S.text words.entry.now) (F.contents folder.now) (I.remaining input) (O.bytes out.old) (O.bytes out.new) }
     ensures finished { result ≤ 1 → IsTrue (O.is_finished out.new) }
 {
     match end(rt, folder, words, input, out) {
@@ -64,16 +65,18 @@ pub fn refusal<E: Write>(fault: &Fault, err: &mut E) -> u8
 }
 
 /// The end of the run, once its whole trace is written. The words come first, then the text, then the script.
-fn end<R: Threads + Sync + AllocGlobal, F: Folder, S: AsStr, I: Read + Drop, O: Write + Finish>(
+fn end<R: Threads + Sync + AllocGlobal, F: Folder, S: AsStr, I: Read + Drop, O: Finish>(
     rt: &R,
     folder: &F,
     words: &[S],
     input: I,
     out: &mut O,
 ) -> Result<End, Fault>
+    requires { O.has_failed out.old ≡ false }
     ensures taken { IfOk result (λ _. refusals (map S.text words.entry.now) ≡ []) }
     ensures refused { IfErr result (IsFaultOfWords (map S.text words.entry.now)) }
     ensures told { TellsOfWords (map S.text words.entry.now) (F.contents folder.now) (I.remaining input) (status_in result) }
+    ensures wrote { IfOk result (λ _. WritesOfWords (map S.text words.entry.now) (F.contents folder.now) (I.remaining input) (O.bytes out.old) (O.bytes out.new)) }
     ensures finished { IfOk result (λ _. IsTrue (O.is_finished out.new)) }
 {
     let alloc = rt.alloc();
@@ -91,7 +94,7 @@ fn end<R: Threads + Sync + AllocGlobal, F: Folder, S: AsStr, I: Read + Drop, O: 
 }
 
 /// The end of the run of this text with this script, once its whole trace is written.
-fn written<R: Threads + Sync, O: Write + Finish>(
+fn written<R: Threads + Sync, O: Finish>(
     rt: &R,
     alloc: Global,
     text: &[u8],
@@ -99,14 +102,15 @@ fn written<R: Threads + Sync, O: Write + Finish>(
     limits: &Limits,
     out: &mut O,
 ) -> Result<End, Fault>
-    requires { IsTrue (are_in_range limits.now) }
+    requires range { IsTrue (are_in_range limits.now) }
+    requires open { O.has_failed out.old ≡ false }
     ensures low { IfErr result (λ fault. status_of fault ≤ 3) }
+    ensures wrote { IfOk result (λ _. Writes text.now script.now limits.now (O.bytes out.old) (O.bytes out.new)) }
     ensures told { Tells text.now script.now limits.now (status_in result) }
     ensures finished { IfOk result (λ _. IsTrue (O.is_finished out.new)) }
 {
     answers_tell();
-    let mut sink = Through::new(&mut *out);
-    let answer = run(rt, alloc, text, script, limits, &mut sink);
+    let answer = run(rt, alloc, text, script, limits, out);
     // What a run wrote before a refusal is shown too.
     let finished = out.finish();
     let end = match answer {

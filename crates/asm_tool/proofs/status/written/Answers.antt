@@ -3,7 +3,7 @@ use Rattle.std.specs.Prelude.{Result}
 use Rattle.asm_run.specs.Ends as run
 use Rattle.asm_run.specs.declared.end.End.{End}
 use Rattle.asm_run.specs.declared.error.RunError.{RunError}
-use Rattle.asm_tool.proofs.Told.{at_fault}
+use Rattle.asm_tool.proofs.Told.{at_fault, done_kept}
 use Rattle.asm_tool.proofs.status.written.Goals as goal
 
 pub returns-in-Err-clause-told : goal.returns-in-Err-clause-told
@@ -12,3 +12,7 @@ returns-in-Err-clause-told g c =
     let told = c.answers_tell.ensures c.args.text.now c.args.script.now l _ _ c.run-answer.result c.run-answer.ensures.done c.run-answer.ensures.refused in
     rw c.refused_run.ensures (at_fault c.args.text.now c.args.script.now l c.in-Err.error
     (subst (λ (a : Result End RunError). run.Tells c.args.text.now c.args.script.now l a) c.in-Err.is told))
+
+pub returns-in-Ok-finished-clause-wrote : goal.returns-in-Ok-finished-clause-wrote
+returns-in-Ok-finished-clause-wrote g c =
+    done_kept c.args.text.now c.args.script.now c.args.limits.now _ _ _ c.in-Ok.end c.in-Ok.ensures.done c.in-Ok-finished.ensures.kept
