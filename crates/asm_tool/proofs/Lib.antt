@@ -1,8 +1,9 @@
-pub mod Rules
-pub mod SignedTexts
-pub mod GivenValues
 pub mod GivenNumbers
+pub mod GivenValues
 pub mod Options
 pub mod ReadNumbers
-pub mod WorkedWords
+pub mod Rules
+pub mod Shown
+pub mod SignedTexts
 pub mod Told
+pub mod WorkedWords

@@ -3,20 +3,14 @@
 --     word_fault, read_fault, buffer_fault         the fault of words, of a read or of a buffer that failed with an error of this kind
 --     run_fault error                              the fault of a refused run
 --     Tells text script_text limits status         0: their run makes all its steps; 1: it ends before; 2: one of the texts is refused
---     TellsOfWords words contents input status     the same of words, of files with these contents and of an input with these bytes
---     Writes text script_text limits old new       known bytes grow by the trace of their run, and by nothing else
---     WritesOfWords words contents input old new   the same of words, files and an input
+--     OfWords words contents input P               this holds of the texts that the words name, and of the limits that they give
+--     TellsOfWords words contents input status     what the status tells of them
 use Rattle.std.specs.Prelude.{◌≡◌, ◌≢◌, ◌≤◌, ◌⊎◌, ℕ, List, [], Option, None, Some, IfSome, Ok, Err, Result, codes, take}
 use Rattle.std.specs.declared.io.ErrorKind.{ErrorKind}
 use Rattle.std.specs.declared.io.ErrorKind.TheVariants.{OutOfMemory}
 use Rattle.clap.specs.Simple.{matches_of}
 use Rattle.clap.specs.Walk.{Row, Text, first_of}
-use Rattle.asm_syntax.specs.SourceTree.{Spec}
-use Rattle.asm_reader.specs.ScriptLines.{Script as Lines}
-use Rattle.asm_reader.specs.ScriptText.{IsScript}
 use Rattle.asm_run.specs.Ends.{EndsEarly, IsRefused, MakesAllSteps}
-use Rattle.asm_run.specs.Headline.{IsAccepted, IsWritten, book_run}
-use Rattle.asm_run.specs.Written.{names_in, locations_in}
 use Rattle.asm_run.specs.declared.end.End.{End}
 use Rattle.asm_run.specs.declared.end.End.TheVariants.{Limit, Clash, Outside, Exhausted}
 use Rattle.asm_run.specs.declared.error.RunError.{RunError}
@@ -46,6 +40,10 @@ word_fault kind = NotText
 abbrev pub read_fault : ErrorKind → Fault
 read_fault OutOfMemory = Memory
 read_fault kind = File
+
+-- a fault of a read that failed
+abbrev pub IsReadFault : Fault → Type 0
+IsReadFault fault = (fault ≡ Memory) ⊎ (fault ≡ File)
 
 abbrev pub buffer_fault : ErrorKind → Fault
 buffer_fault OutOfMemory = Memory
@@ -98,29 +96,15 @@ bytes_of contents others (Some name) = contents name
 abbrev pub IsFront : Option (List ℕ) → ℕ → List ℕ → Type 0
 IsFront known most text = IfSome known (λ bytes. text ≡ take most bytes)
 
--- the same of words, of files with these contents and of an input with these bytes, where they are known; without a script it has no bytes
+-- this holds of the text, of the script and of limits with the steps and turns that these words give, where the files have these
+-- contents and the input has these bytes, and where they are known; without a script it has no bytes
+abbrev pub OfWords : List Text → (contents : Text → Option (List ℕ)) → (input : Option (List ℕ)) → (List ℕ → List ℕ → Limits → Type 0) → Type 0
+OfWords words contents input P =
+    let rows : List Row = matches_of command words in
+    IfSome (bytes_of contents input (first_of (codes "spec") rows)) (λ text.
+    IfSome (bytes_of contents (Some []) (first_of (codes "script") rows)) (λ script_text.
+    (limits : Limits) → IsNumber rows (codes "steps") limits.steps → IsNumber rows (codes "turns") limits.turns
+    → P text script_text limits))
+
 abbrev pub TellsOfWords : List Text → (contents : Text → Option (List ℕ)) → (input : Option (List ℕ)) → ℕ → Type 0
-TellsOfWords words contents input status =
-    let rows : List Row = matches_of command words in
-    IfSome (bytes_of contents input (first_of (codes "spec") rows)) (λ text.
-    IfSome (bytes_of contents (Some []) (first_of (codes "script") rows)) (λ script_text.
-    (limits : Limits) → IsNumber rows (codes "steps") limits.steps → IsNumber rows (codes "turns") limits.turns
-    → Tells text script_text limits status))
-
--- ---- what is written
-
-module _ (text script_text : List ℕ) (limits : Limits) (old new : Option (List ℕ)) where
-  pub record Writes : Type 0 where
-    pub tree : Spec
-    pub accepted : IsAccepted text tree
-    pub script : Lines
-    pub spelled : IsScript script_text script
-    pub written : IsWritten (names_in tree) (locations_in tree) 1 old new (book_run tree limits.turns script limits.steps)
-
-abbrev pub WritesOfWords : List Text → (contents : Text → Option (List ℕ)) → (input old new : Option (List ℕ)) → Type 0
-WritesOfWords words contents input old new =
-    let rows : List Row = matches_of command words in
-    IfSome (bytes_of contents input (first_of (codes "spec") rows)) (λ text.
-    IfSome (bytes_of contents (Some []) (first_of (codes "script") rows)) (λ script_text.
-    (limits : Limits) → IsNumber rows (codes "steps") limits.steps → IsNumber rows (codes "turns") limits.turns
-    → Writes text script_text limits old new))
+TellsOfWords words contents input status = OfWords words contents input (λ text script_text limits. Tells text script_text limits status)

@@ -1,13 +1,15 @@
 //! Where the trace goes.
-ghost use Rattle.std.specs.Prelude.{◌≡◌, ◌==◌, Bool, false, length, IsTrue, IfOk, IfErr};
+ghost use Rattle.std.specs.Prelude.{◌≡◌, ◌==◌, Bool, length, IsTrue, IsFalse, IfOk, IfErr};
 ghost use Rattle.std.specs.Io.Buffered.{writer_buffer, writer_contents};
 ghost use Rattle.std.specs.Io.KnownBytes.{Keeps, WriteAppends};
 ghost use Rattle.std.specs.Io.{WritesAtMost};
 ghost use Rattle.asm_run.specs.Sink.{is_failure};
+ghost use Rattle.asm_tool.specs.Output.{output_has_failed};
 ghost use Rattle.asm_tool.specs.Statuses.{status_of};
 
 use crate::fault::Fault;
 use asm_run::sink::{Sink, SinkFault};
+pub use asm_run::through::Through;
 use std::alloc::Global;
 use std::io::{BufWriter, Write};
 
@@ -29,23 +31,23 @@ pub trait Finish: Sink {
 #[derive(Drop)]
 pub struct Output<W: Write + Drop> {
     writer: BufWriter<W>,
-    failed: bool,
+    has_failed: bool,
 }
 
 impl<W: Write + Drop> Sink for Output<W> {
     ghost bytes = { λ o. writer_contents W.contents o.writer };
 
-    ghost has_failed = { λ o. o.failed };
+    ghost has_failed = { λ o. output_has_failed o };
 
     fn write(&mut self, piece: &[u8]) -> Result<usize, SinkFault> {
         match self.writer.write(piece) {
             Ok(0) if !piece.is_empty() => {
-                self.failed = true;
+                self.has_failed = true;
                 Ok(0)
             }
             Ok(taken) => Ok(taken),
             Err(_) => {
-                self.failed = true;
+                self.has_failed = true;
                 Err(SinkFault)
             }
         }
@@ -65,13 +67,13 @@ impl<W: Write + Drop> Finish for Output<W> {
 
 /// A buffer in front of this writer.
 pub fn buffered<W: Write + Drop>(alloc: Global, writer: W) -> Result<Output<W>, Fault>
-    ensures fresh { IfOk result (λ o. o.failed ≡ false) }
+    ensures fresh { IfOk result (λ o. IsFalse (output_has_failed o)) }
     ensures failed { IfErr result (λ fault. status_of fault ≡ 3) }
 {
     match BufWriter::with_capacity(alloc, BUFFER, writer) {
         Ok(writer) => Ok(Output {
             writer,
-            failed: false,
+            has_failed: false,
         }),
         Err(error) => Err(Fault::of_buffer(&error)),
     }
