@@ -1,3 +1,4 @@
+pub mod Appending
 pub mod GivenNumbers
 pub mod GivenValues
 pub mod Options

@@ -48,10 +48,13 @@ module _ (old new : Option (List ℕ)) (text script_text : List ℕ) (limits : L
 
 -- ---- on standard error
 
--- a number, and where something is wrong, if it is at a place
+-- where something is wrong, if it is at a place, and the end of the line
+abbrev pub placed : (before : List ℕ) → Option ℕ → List ℕ
+placed before None = line_end
+placed before (Some place) = before ++ (decimal place ++ line_end)
+
 abbrev pub numbered : (kind : List ℕ) → ℕ → (before : List ℕ) → Option ℕ → List ℕ
-numbered kind number before None = kind ++ (decimal number ++ line_end)
-numbered kind number before (Some place) = kind ++ (decimal number ++ (before ++ (decimal place ++ line_end)))
+numbered kind number before place = kind ++ (decimal number ++ placed before place)
 
 abbrev pub line_of : Fault → Option (List ℕ)
 line_of (Words error) = None

@@ -2,7 +2,7 @@
 ghost use Rattle.std.specs.Prelude.{◌≡◌, ◌++◌, decimal, IsTrue, IsErr, OnOk, OnErr};
 ghost use Rattle.std.specs.Io.KnownBytes.{Appends};
 ghost use Rattle.asm_run.specs.Sink.{AppendsFront};
-ghost use Rattle.asm_tool.specs.Shown.{IsSaid, line_of, numbered};
+ghost use Rattle.asm_tool.specs.Shown.{IsSaid, line_of, numbered, placed};
 
 use crate::fault::Fault;
 use asm_run::sink::{Sink, SinkFault};
@@ -50,6 +50,7 @@ fn text<E: Sink>(err: &mut E, error: &clap::Error) -> Result<(), SinkFault> {
 }
 
 /// Writes a number, and the place of what is wrong, where it has one.
+#[tactic(auto, using(crate::proofs::Appending::appending))]
 fn numbered<E: Sink>(
     err: &mut E,
     kind: &[u8],
@@ -63,14 +64,28 @@ fn numbered<E: Sink>(
 {
     whole(err, kind)?;
     whole(err, Buffer::new().format(number).as_bytes())?;
-    if let Some(place) = place {
-        whole(err, before)?;
-        whole(err, Buffer::new().format(place).as_bytes())?;
+    placed(err, before, place)
+}
+
+/// Writes the place, where there is one, and the end of the line.
+#[tactic(auto, using(crate::proofs::Appending::appending))]
+fn placed<E: Sink>(err: &mut E, before: &[u8], place: Option<usize>) -> Result<(), SinkFault>
+    ensures whole { OnOk result (Appends (E.bytes err.old) (E.bytes err.new) (placed before.now place)) }
+    ensures cut { OnErr result (AppendsFront (E.bytes err.old) (E.bytes err.new) (placed before.now place)) }
+    ensures failed { IsErr result → IsTrue (E.has_failed err.new) }
+{
+    match place {
+        Some(place) => {
+            whole(err, before)?;
+            whole(err, Buffer::new().format(place).as_bytes())?;
+            whole(err, b"\n")
+        }
+        None => whole(err, b"\n"),
     }
-    whole(err, b"\n")
 }
 
 /// Writes the whole text, in as many pieces as the sink takes.
+#[tactic(auto, using(crate::proofs::Appending::appending))]
 fn whole<E: Sink>(err: &mut E, text: &[u8]) -> Result<(), SinkFault>
     ensures whole { OnOk result (Appends (E.bytes err.old) (E.bytes err.new) text.now) }
     ensures cut { OnErr result (AppendsFront (E.bytes err.old) (E.bytes err.new) text.now) }

@@ -1,6 +1,7 @@
 use Rattle.std.proofs.Common.{List, map, subst, ℕ}
 use Rattle.asm_tool.specs.Statuses.{Tells, status_in}
-use Rattle.asm_tool.proofs.Told.{if_written, of_words}
+use Rattle.asm_tool.proofs.Shown.{explains_of_words, whole_of_words}
+use Rattle.asm_tool.proofs.Told.{of_words}
 use Rattle.asm_tool.proofs.status.end.Goals as goal
 
 pub returns-clause-told : goal.returns-clause-told
@@ -17,8 +18,14 @@ returns-clause-told g c =
 
 pub returns-clause-wrote : goal.returns-clause-wrote
 returns-clause-wrote g c =
-    let s = c.in_ok-settings.settings in
-    if_written (map g.S.AsStr.text c.args.words.now) (g.F.Folder.contents c.args.folder.now) (g.I.Read.remaining c.args.input) _ _ s
-    c.in_ok-text.text.items c.in_ok-script.script.items c.as_slice.result.now c.as_slice-2.result.now c.written.result
+    whole_of_words (map g.S.AsStr.text c.args.words.now) (g.F.Folder.contents c.args.folder.now) (g.I.Read.remaining c.args.input) _ _
+    c.in_ok-settings.settings c.in_ok-text.text.items c.in_ok-script.script.items c.as_slice.result.now c.as_slice-2.result.now
     c.as_slice.ensures.value c.as_slice-2.ensures.value
-    c.in_ok-settings.ensures.said c.in_ok-text.ensures.read c.in_ok-script.ensures.read c.written.ensures.wrote
+    c.in_ok-settings.ensures.said c.in_ok-text.ensures.read c.in_ok-script.ensures.read c.written.result c.written.ensures.wrote
+
+pub returns-clause-explained : goal.returns-clause-explained
+returns-clause-explained g c =
+    explains_of_words (map g.S.AsStr.text c.args.words.now) (g.F.Folder.contents c.args.folder.now) (g.I.Read.remaining c.args.input) _ _
+    c.in_ok-settings.settings c.in_ok-text.text.items c.in_ok-script.script.items c.as_slice.result.now c.as_slice-2.result.now
+    c.as_slice.ensures.value c.as_slice-2.ensures.value
+    c.in_ok-settings.ensures.said c.in_ok-text.ensures.read c.in_ok-script.ensures.read c.written.result c.written.ensures.explained c.written.ensures.unwritten

@@ -11,3 +11,9 @@ pub returns-in-Err-clause-told : goal.returns-in-Err-clause-told
 returns-in-Err-clause-told g c =
     subst (λ (n : ℕ). TellsOfWords (map g.S.AsStr.text c.args.words.now) (g.F.Folder.contents c.args.folder.now) (g.I.Read.remaining c.args.input) n)
     (ap status_in c.in-Err.is ∙ sym c.refusal.ensures) c.end.ensures.told
+
+pub returns-in-Ok-clause-explained : goal.returns-in-Ok-clause-explained
+returns-in-Ok-clause-explained g c = λ high. absurd (omega (arith, ends_low c.in-Ok.end, c.whole_trace.ensures, high))
+
+pub returns-in-Err-clause-wrote : goal.returns-in-Err-clause-wrote
+returns-in-Err-clause-wrote g c = λ low. absurd (omega (arith, faults_high c.in-Err.fault, c.refusal.ensures.status, low))
