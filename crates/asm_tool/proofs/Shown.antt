@@ -28,7 +28,7 @@ use Rattle.asm_run.specs.declared.limits.Limits.{Limits}
 use Rattle.asm_tool.proofs.Told.{holds_of_words, most_bytes, whole, whole_text}
 use Rattle.asm_tool.specs.CommandLine.{command}
 use Rattle.asm_tool.specs.Said.{AreSaid, IsNumber}
-use Rattle.asm_tool.specs.Shown.{AreFirstSteps, Explains, ExplainsOfWords, HasRun, IsFrontOfTrace, IsWholeTrace, LeavesUnwritten}
+use Rattle.asm_tool.specs.Shown.{Explains, ExplainsOfWords, HasRun, IsWholeTrace, LeavesUnwritten}
 use Rattle.asm_tool.specs.Statuses.{IsFront, IsReadFault, OfWords, bytes_of, run_fault, settings_fault, status_at, status_of}
 use Rattle.asm_tool.specs.declared.fault.Fault.{Fault}
 use Rattle.asm_tool.specs.declared.fault.Fault.TheVariants.{Words, NotText, Read, Check, Script, Memory, File, Write}
