@@ -1,11 +1,14 @@
 -- What the program writes, and what it says where the trace isn't whole.
---     HasRun text script_text limits P             the texts are those of a specification without faults and of a script, and this holds
---                                                  of their run
---     IsWholeTrace old new text script_text limits known bytes grow by the trace of the run, and by nothing else
---     line_of fault                                the line on standard error; of refused words it is their library's
---     IsSaid old new failed line                   known bytes grow by the line, or by a front of it where the writer has failed
---     Explains fault old new                       what a fault says of the texts, and of what was written
---     IsExplained                                  some fault says why the status is what it is
+--     HasRun text script_text limits P       the texts are those of a specification without
+--                                            faults and of a script, and P holds of their run
+--     IsWholeTrace old new                   known bytes grow by the trace of the run
+--     IsFrontOfTrace, AreFirstSteps          by a front of it; by the text of its first steps
+--     line_of fault                          the line on standard error; of refused words it is
+--                                            their library's
+--     IsSaid old new failed line             known bytes grow by the line, or by a front of it
+--                                            where the writer has failed
+--     Explains fault old new                 what a fault says of texts and of what is written
+--     IsExplained                            some fault says why the status is what it is
 use Rattle.std.specs.Prelude.{◌≡◌, ◌⊎◌, ℕ, Bool, List, ◌++◌, Option, None, Some, IfSome, IsTrue, codes, decimal, ⊤}
 use Rattle.std.specs.Io.KnownBytes.{Appends}
 use Rattle.clap.specs.Walk.{Text}
@@ -87,7 +90,7 @@ Explains Write old new text script_text limits = IsFrontOfTrace old new text scr
 Explains fault old new text script_text limits = ⊤
 
 module _ (words : List Text) (contents : Text → Option (List ℕ)) (input : Option (List ℕ)) (old new : Option (List ℕ)) where
-  -- what a fault says where it is answered for these words, of which the text and the script are read
+  -- what a fault says of the texts that these words name, and of what is written
   pub record ExplainsOfWords (fault : Fault) : Type 0 where
     pub texts : OfWords words contents input (Explains fault old new)
     pub unwritten : LeavesUnwritten fault old new

@@ -3,7 +3,7 @@
 --     word_fault, read_fault, buffer_fault         the fault of words, of a read or of a buffer that failed with an error of this kind
 --     run_fault error                              the fault of a refused run
 --     Tells text script_text limits status         0: their run makes all its steps; 1: it ends before; 2: one of the texts is refused
---     OfWords words contents input P               this holds of the texts that the words name, and of the limits that they give
+--     OfWords words contents input P               P holds of the texts that the words name
 --     TellsOfWords words contents input status     what the status tells of them
 use Rattle.std.specs.Prelude.{◌≡◌, ◌≢◌, ◌≤◌, ◌⊎◌, ℕ, List, [], Option, None, Some, IfSome, Ok, Err, Result, codes, take}
 use Rattle.std.specs.declared.io.ErrorKind.{ErrorKind}
@@ -96,8 +96,8 @@ bytes_of contents others (Some name) = contents name
 abbrev pub IsFront : Option (List ℕ) → ℕ → List ℕ → Type 0
 IsFront known most text = IfSome known (λ bytes. text ≡ take most bytes)
 
--- this holds of the text, of the script and of limits with the steps and turns that these words give, where the files have these
--- contents and the input has these bytes, and where they are known; without a script it has no bytes
+-- this holds of the text and of the script that these words name, where their bytes are known, and
+-- of limits with the steps and turns that the words give; a script that isn't named has no bytes
 abbrev pub OfWords : List Text → (contents : Text → Option (List ℕ)) → (input : Option (List ℕ)) → (List ℕ → List ℕ → Limits → Type 0) → Type 0
 OfWords words contents input P =
     let rows : List Row = matches_of command words in

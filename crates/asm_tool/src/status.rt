@@ -37,13 +37,19 @@ pub fn status<
     E: Sink,
 >(rt: &R, folder: &F, words: &[S], input: I, out: &mut O, err: &mut E) -> u8
     requires { O.has_failed out.old ≡ false }
+    // Words that are taken end with 3 at most, and others with 4, or 3 where memory ran out.
     ensures taken { refusals (map S.text words.entry.now) ≡ [] → result ≤ 3 }
     ensures refused { refusals (map S.text words.entry.now) ≢ [] → (result ≡ 3) ⊎ (result ≡ 4) }
+    // How the run of the texts ends that the words name.
     ensures told { TellsOfWords (map S.text words.entry.now) (F.contents folder.now) (I.remaining input) result }
+    // 0 and 1: the output grew by the trace of that run, and by nothing else. Nothing of it is kept
+    // back, and nothing is said on standard error.
     ensures wrote { result ≤ 1 → OfWords (map S.text words.entry.now) (F.contents folder.now) (I.remaining input) (IsWholeTrace (O.bytes out.old) (O.bytes out.new)) }
-    ensures quiet { result ≤ 1 → Keeps (E.bytes err.old) (E.bytes err.new) }
-    ensures explained { 2 ≤ result → IsExplained (map S.text words.entry.now) (F.contents folder.now) (I.remaining input) (O.bytes out.old) (O.bytes out.new) result (E.bytes err.old) (E.bytes err.new) (E.has_failed err.new) }
     ensures finished { result ≤ 1 → IsTrue (O.is_finished out.new) }
+    ensures quiet { result ≤ 1 → Keeps (E.bytes err.old) (E.bytes err.new) }
+    // 2 to 4: a fault with this status says why, of the texts and of what is written, and its line
+    // alone is said.
+    ensures explained { 2 ≤ result → IsExplained (map S.text words.entry.now) (F.contents folder.now) (I.remaining input) (O.bytes out.old) (O.bytes out.new) result (E.bytes err.old) (E.bytes err.new) (E.has_failed err.new) }
 {
     match end(rt, folder, words, input, out) {
         Ok(end) => whole_trace(end),
