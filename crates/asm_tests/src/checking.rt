@@ -42,7 +42,11 @@ fn first_wrong_name(alloc: Global, checked: &Checked) -> Result<Option<&'static 
 fn numbers_names(alloc: Global) -> Result<bool, Fail> {
     let checked = checked_of(alloc, TEXT)?;
     let first_wrong = first_wrong_name(alloc, &checked)?;
-    Ok(first_wrong == None && checked.named_text(&checked.spec.name.text) == None && checked.main() == 0)
+    Ok(
+        first_wrong == None
+            && checked.named_text(&checked.spec.name.text) == None
+            && checked.main() == 0,
+    )
 }
 
 #[test]
