@@ -1,9 +1,11 @@
 -- The key under which the names of a specification are hashed.
 --     declared_bytes items     the bytes of all names that are declared, each with a 0 behind it, which stands in no name
---     hasher_under digest      a hasher under the key that is the first 16 bytes of a digest
+--     hasher_under digest      a hasher that has been given the first 16 bytes of a digest
 use Rattle.std.specs.Prelude.{ℕ, ◌+◌, List, [], ◌∷◌, ◌++◌, flat_map, slice_index}
+use Rattle.std.specs.Hash as fed
 use Rattle.std.specs.Hash.DefaultHasher as sip
 use Rattle.std.specs.Int.{from_le_bytes, w64}
+use Rattle.std.specs.List.{fold}
 use Rattle.std.specs.declared.hash.DefaultHasher.{DefaultHasher}
 use Rattle.asm_syntax.specs.SourceTree.{Item}
 use Rattle.asm_check.specs.Names.{Text, Declaration, declarations_of}
@@ -23,4 +25,4 @@ eight_from i bytes =
     ∷ slice_index bytes (i + 4) ∷ slice_index bytes (i + 5) ∷ slice_index bytes (i + 6) ∷ slice_index bytes (i + 7) ∷ []
 
 abbrev pub hasher_under : List ℕ → DefaultHasher
-hasher_under digest = sip.with_keys (from_le_bytes w64 (eight_from 0 digest)) (from_le_bytes w64 (eight_from 8 digest))
+hasher_under digest = fold sip.write (fold sip.write sip.initial (fed.u64 (from_le_bytes w64 (eight_from 0 digest)))) (fed.u64 (from_le_bytes w64 (eight_from 8 digest)))

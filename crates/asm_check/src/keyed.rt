@@ -8,11 +8,10 @@ ghost use Rattle.asm_check.specs.Keyed.{name_bytes, item_bytes, declared_bytes, 
 
 use asm_syntax::name::Name;
 use asm_syntax::spec::{Item, Spec};
-use core::hash::keyed_hasher;
 use sha2::{Digest, Sha256};
-use std::hash::{BuildHasher, DefaultHasher};
+use std::hash::{BuildHasher, DefaultHasher, Hasher};
 
-/// What makes the hashers of a table of names: each begins with the same key.
+/// What makes the hashers of a table of names: each has been given the same key before.
 #[derive(Clone, Copy)]
 pub(crate) struct Keyed {
     begun: DefaultHasher,
@@ -106,7 +105,9 @@ impl NamesDigest {
         ensures { (m : List ℕ) → Holds256 self.digest m → result.key.begun ≡ hasher_under (sha256 m) }
     {
         let bytes = self.digest.finalize();
-        let begun = keyed_hasher(eight_from(&bytes, 0), eight_from(&bytes, 8));
+        let mut begun = DefaultHasher::new();
+        begun.write_u64(eight_from(&bytes, 0));
+        begun.write_u64(eight_from(&bytes, 8));
         Declared {
             count: self.count,
             key: Keyed { begun },
