@@ -151,8 +151,9 @@ fn turns_meet_by_the_default_rounds(rt: HostRuntime) -> Result<(), Fail> {
 fn elements_meet_by_the_default_rounds(rt: HostRuntime) -> Result<(), Fail> {
     let four = Limits {
         workers: 4,
+        cut: 16,
         ..DEFAULT
     };
-    assert!(rt; is_shared(&rt, THOUSAND, &four, 17, End::Limit, DONE)?);
+    assert!(rt; is_shared(&rt, THOUSAND, &four, 64, End::Limit, DONE)?);
     Ok(())
 }
