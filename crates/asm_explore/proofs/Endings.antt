@@ -1,0 +1,50 @@
+-- How searches end.
+--     refused_*       one that was refused isn't done, nor closed, and nothing is said of a bad step
+--     done_bad        where all nodes are expanded, nothing is said of a bad step
+use Rattle.std.proofs.Common.{◌≡◌, sym, subst}
+use Rattle.asm_explore.specs.declared.explored.Bad.{Bad}
+use Rattle.asm_explore.specs.declared.explored.Ended.{Ended}
+use Rattle.asm_explore.specs.declared.explored.Ended.TheVariants as ended
+use Rattle.asm_explore.specs.Ends.{IfBad, IsDone, IsRefused}
+
+pub refused_done : (e : Ended) → IsRefused e → IsDone e → ⊥
+refused_done ended.Closed r d = r
+refused_done ended.AtLimit r d = r
+refused_done (ended.Bad bad) r d = d
+refused_done ended.TooManyStates r d = d
+refused_done ended.TooManyOutcomes r d = d
+refused_done ended.Memory r d = d
+
+pub refused_closed : (e : Ended) → IsRefused e → e ≡ ended.Closed → ⊥
+refused_closed e r is = subst IsRefused is r
+
+pub refused_bad : (P : Bad → Type 0) (e : Ended) → IsRefused e → IfBad e P
+refused_bad P ended.Closed r = tt
+refused_bad P ended.AtLimit r = tt
+refused_bad P (ended.Bad bad) r = absurd r
+refused_bad P ended.TooManyStates r = tt
+refused_bad P ended.TooManyOutcomes r = tt
+refused_bad P ended.Memory r = tt
+
+pub done_bad : (P : Bad → Type 0) (e : Ended) → IsDone e → IfBad e P
+done_bad P ended.Closed d = tt
+done_bad P ended.AtLimit d = tt
+done_bad P (ended.Bad bad) d = absurd d
+done_bad P ended.TooManyStates d = tt
+done_bad P ended.TooManyOutcomes d = tt
+done_bad P ended.Memory d = tt
+
+-- what is said of a bad step, said otherwise
+pub if_bad_weaker : (P Q : Bad → Type 0) (e : Ended) → ((bad : Bad) → P bad → Q bad) → IfBad e P → IfBad e Q
+if_bad_weaker P Q ended.Closed f h = tt
+if_bad_weaker P Q ended.AtLimit f h = tt
+if_bad_weaker P Q (ended.Bad bad) f h = f bad h
+if_bad_weaker P Q ended.TooManyStates f h = tt
+if_bad_weaker P Q ended.TooManyOutcomes f h = tt
+if_bad_weaker P Q ended.Memory f h = tt
+
+pub closed_done : (e : Ended) → e ≡ ended.Closed → IsDone e
+closed_done e is = subst IsDone (sym is) tt
+
+pub at_limit_done : (e : Ended) → e ≡ ended.AtLimit → IsDone e
+at_limit_done e is = subst IsDone (sym is) tt

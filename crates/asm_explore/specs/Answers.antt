@@ -1,0 +1,33 @@
+-- What an answer claims of the runs of a specification.
+--     IsBadRun       the text is a script, under which the run of so many steps goes wrong in the last of them, and no shorter run does
+--     Claims         what each finding says
+use Rattle.std.specs.Prelude.{◌≡◌, ℕ, suc, Bool, true, false}
+use Rattle.std.specs.String.{string_bytes}
+use Rattle.asm_state.specs.Location.{State}
+use Rattle.asm_reader.specs.ScriptLines.{Script}
+use Rattle.asm_reader.specs.ScriptText.{IsScript}
+use Rattle.asm_meaning.specs.Run.{Specification, run}
+use Rattle.asm_explore.specs.declared.answer.BadRun.{BadRun}
+use Rattle.asm_explore.specs.declared.answer.Finding.{Finding}
+use Rattle.asm_explore.specs.declared.answer.Finding.TheVariants as finding
+use Rattle.asm_explore.specs.Search.{IsSafeUpTo, IsSafe, EndsSo}
+
+module _ (specification : Specification) (turns steps : ℕ) (right : State → Bool) where
+  pub record IsBadRun (bad : BadRun) : Type 0 where
+    pub script : Script
+    pub spelled : IsScript (string_bytes bad.script) script
+    pub wrong : EndsSo right bad.fault bad.step (run specification turns script bad.step)
+    -- no run of fewer steps goes wrong
+    pub before : ℕ
+    pub next : bad.step ≡ suc before
+    pub shortest : IsSafeUpTo specification turns (λ A. right A ≡ true) before
+
+  abbrev pub Claims : Finding → Type 0
+  Claims finding.Closed = IsSafe specification turns (λ A. right A ≡ true)
+  Claims (finding.SafeTo depth) = (depth ≡ steps) × IsSafeUpTo specification turns (λ A. right A ≡ true) depth
+  Claims (finding.Bad bad) = IsBadRun bad
+  Claims finding.WrongFirst = right specification.initial ≡ false
+  Claims (finding.TooManyStates depth) = IsSafeUpTo specification turns (λ A. right A ≡ true) depth
+  Claims (finding.TooManyOutcomes depth) = IsSafeUpTo specification turns (λ A. right A ≡ true) depth
+  Claims (finding.NoMemory depth) = IsSafeUpTo specification turns (λ A. right A ≡ true) depth
+  Claims (finding.Unwritten depth) = IsSafeUpTo specification turns (λ A. right A ≡ true) depth

@@ -1,0 +1,7 @@
+pub mod Marks
+pub mod Lists
+pub mod Sequences
+pub mod Search
+pub mod Reached
+pub mod Ends
+pub mod Answers

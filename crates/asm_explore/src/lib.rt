@@ -1,0 +1,30 @@
+//! All choices of a specification: the outcomes of one step through all scripts, and the states that come of them.
+#![tactic(auto)]
+
+pub mod answer;
+pub mod answering;
+mod beside;
+pub mod explored;
+pub mod fault;
+pub mod found;
+mod index;
+mod leading;
+mod listing;
+pub mod machine;
+pub mod node;
+mod picking;
+pub mod refusal;
+mod same;
+pub mod search;
+mod sets;
+mod sorting;
+pub mod updates;
+
+pub use answer::{Answered, BadRun, Finding};
+pub use explored::{Bad, Ended, Explored};
+pub use fault::Fault;
+pub use found::{Answer, Choice, Found};
+pub use machine::Machine;
+pub use node::Node;
+pub use refusal::Refusal;
+pub use updates::Updates;
