@@ -6,3 +6,4 @@ pub mod Reaching
 pub mod Chains
 pub mod Taken
 pub mod Endings
+pub mod MarkedSets

@@ -184,16 +184,16 @@ fn follow<M: Machine>(
         LeadsOn r (state_at (M.shape machine.now) n) (Known (M.shape machine.now) nodes.new.items below))) }
     ensures wrong { IfOk result (λ fault. IfSome fault (IsBadStep (M.shape machine.now) (M.specification machine.now) (M.turns machine.now) (M.right machine.now) nodes.old.items from one.now.choices.items)) }
 {
-    let set = match &one.answer {
-        Answer::Set(set) => set,
+    let updates = match &one.answer {
+        Answer::Set(updates) => updates,
         Answer::Exhausted(_) => return Ok(Some(Fault::Exhausted)),
     };
     let signature = machine.signature();
-    if set.first_fault(signature).is_some() {
+    if updates.set.first_fault(signature).is_some() {
         return Ok(Some(Fault::Inconsistent));
     }
     let known = nodes.as_slice();
-    let next = set.fire(alloc, signature, &known[from].state)?;
+    let next = updates.set.fire(alloc, signature, &known[from].state)?;
     let same = is_same_state(&next, &known[from].state, signature.count());
     index.count_idle(same);
     let fine = reach(

@@ -1,5 +1,5 @@
 //! The updates of an outcome.
-ghost use Rattle.asm_explore.specs.Marks.{IsMarked};
+ghost use Rattle.asm_explore.specs.Marks.{IsMarked, marked_is};
 
 use asm_updates::summary::Summary;
 
@@ -7,5 +7,5 @@ use asm_updates::summary::Summary;
 #[derive(Drop)]
 pub struct Updates {
     pub set: Summary,
-    pub ghost marked: { IsMarked set },
+    pub ghost marked: { IsMarked set } by { marked_is set },
 }

@@ -13,4 +13,4 @@ loop-i-preserved c =
 pub returns : goal.returns
 returns c = λ yes.
     all_same c.args.left.now c.args.right.now c.loop-i.i (omega (arith, c.len-i-end.ensures.len)) (omega (arith, c.len-i-end.ensures.len, c.len.ensures.len, c.len-else-count.ensures.len))
-    (sym c.count.ensures ∙ c.if-count.false ∙ c.count-2.ensures) c.loop-i.invariant ?
+    (sym c.count.ensures ∙ c.if-count.false ∙ c.count-2.ensures) c.loop-i.invariant
