@@ -2,9 +2,11 @@
 --     none_within             no value is a location
 --     sound_within            each of some sound codes is sound
 --     readings_map            what the codes of a list are worth
+--     universe_here           the universe with a number
 --     sound_part, size_of_part    a part of sound rules is sound, and has no more nodes than all of them
 use Rattle.std.proofs.Common.{◌≡◌, ℕ, zero, suc, ◌≤◌, ◌<◌, List, [], ◌∷◌, ◌++◌, length, map, get_or, Option, None, refl, sym, ap, subst, arith}
-use Rattle.std.specs.Prelude.{slice_index_or}
+use Rattle.std.specs.Prelude.{Some, slice_get, slice_index_or}
+use Rattle.std.proofs.lemmas.Option.{get_or_from_slice_get}
 use Rattle.asm_state.specs.declared.value.Value.{Value}
 use Rattle.asm_state.specs.Location.{State}
 use Rattle.asm_state.specs.Signature.{Shape}
@@ -42,3 +44,6 @@ pub size_of_part : (Ps : List RuleCode) (i : ℕ) (P : RuleCode) → i < length 
 size_of_part [] i P below is = absurd (omega (arith, below))
 size_of_part (Q ∷ Ps) zero P below is = let same = ap (λ (k : RuleCode). rule_size (rule_of k)) is in omega (arith, same)
 size_of_part (Q ∷ Ps) (suc i) P below is = let rest = size_of_part Ps i P (omega (arith, below)) is in omega (arith, rest)
+
+pub universe_here : (us : List (List Value)) (u : ℕ) (vs : List Value) → slice_get us u ≡ Some vs → slice_index_or us u [] ≡ vs
+universe_here us u vs is = get_or_from_slice_get us u vs [] is

@@ -7,3 +7,6 @@ pub mod Chains
 pub mod Taken
 pub mod Endings
 pub mod MarkedSets
+pub mod CodeLists
+pub mod CodeRules
+pub mod Yielded

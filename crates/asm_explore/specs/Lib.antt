@@ -1,5 +1,6 @@
 pub mod Marks
 pub mod Lists
+pub mod Explored
 pub mod Sequences
 pub mod Search
 pub mod Reached

@@ -4,15 +4,20 @@
 pub mod answer;
 pub mod answering;
 mod beside;
+mod candidates;
+pub mod exploration;
 pub mod explored;
 pub mod fault;
 pub mod found;
 mod index;
 mod leading;
+mod leaf;
 mod listing;
 pub mod machine;
 pub mod node;
+pub mod outcomes;
 mod picking;
+mod place;
 pub mod refusal;
 mod same;
 pub mod search;
@@ -21,6 +26,7 @@ mod sorting;
 pub mod updates;
 
 pub use answer::{Answered, BadRun, Finding};
+pub use exploration::Exploration;
 pub use explored::{Bad, Ended, Explored};
 pub use fault::Fault;
 pub use found::{Answer, Choice, Found};
