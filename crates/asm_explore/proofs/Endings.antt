@@ -48,3 +48,6 @@ closed_done e is = subst IsDone (sym is) tt
 
 pub at_limit_done : (e : Ended) → e ≡ ended.AtLimit → IsDone e
 at_limit_done e is = subst IsDone (sym is) tt
+
+pub done_full : (e : Ended) → IsDone e → e ≡ ended.TooManyStates → ⊥
+done_full e done is = subst IsDone is done

@@ -10,3 +10,5 @@ pub mod MarkedSets
 pub mod CodeLists
 pub mod CodeRules
 pub mod Yielded
+pub mod Choosing
+pub mod Specifications

@@ -6,3 +6,5 @@ pub mod Search
 pub mod Reached
 pub mod Ends
 pub mod Answers
+pub mod Conditions
+pub mod ChoiceLaws

@@ -6,7 +6,8 @@
 --     GoesWrong         how a step goes wrong
 --     ComesFrom         a node that a step leads to from an earlier one
 --     IsLinked          each node is the first one, or comes from an earlier one
---     Extends           nodes with more behind them, which have right states and are linked
+--     Rises, IsNear     nodes stand in the order of their depths; none is much deeper than one of them
+--     Extends           nodes with more behind them, which have right states, are linked, and have one depth
 --     IsBadStep         a step that goes wrong
 --     IsLooked          what stays true while nodes are expanded
 --     TakesTo, TakesBad a script makes the choices that lead to a node, and those of a bad step from it
@@ -31,6 +32,14 @@ use Rattle.asm_explore.specs.Search.{LeadsOn, EndsSo}
 
 abbrev pub steps_from : Specification → (turns : ℕ) → State → Situation → Result
 steps_from specification turns A s = (does specification.program turns s.script s.step A nothing_bound [] specification.main).result
+
+-- nodes stand in the order of their depths
+abbrev pub Rises : List Node → Type 0
+Rises nodes = (i j : ℕ) (m n : Node) → i ≤ j → slice_get nodes i ≡ Some m → slice_get nodes j ≡ Some n → m.depth ≤ n.depth
+
+-- none is more than one step deeper than the one with this number
+abbrev pub IsNear : List Node → ℕ → Type 0
+IsNear nodes i = (n : Node) → slice_get nodes i ≡ Some n → Each (λ m. m.depth ≤ n.depth + 1) nodes
 
 -- how a step goes wrong
 abbrev pub GoesWrong : (right : State → Bool) → Fault → Result → State → Type 0
@@ -84,11 +93,13 @@ module _ (shape : Shape) where
     abbrev pub IsLinked : List Node → Node → Type 0
     IsLinked nodes n = IsFirst n ⊎ ComesFrom nodes n
 
-    pub record Extends (right : State → Bool) (old new : List Node) : Type 0 where
+    -- all of one depth
+    pub record Extends (right : State → Bool) (below : ℕ) (old new : List Node) : Type 0 where
       pub more : List Node
       pub is : new ≡ old ++ more
       pub good : Each (IsGood right) more
       pub linked : Each (IsLinked new) more
+      pub deep : Each (λ n. n.depth ≡ below) more
 
     -- an outcome of the step from a node, which goes one step deeper
     abbrev pub IsOutcome : List Node → (from below : ℕ) → Found → Type 0
@@ -109,20 +120,21 @@ module _ (shape : Shape) where
     abbrev pub Expanded : List Node → Node → Type 0
     Expanded nodes n = (s : Situation) → LeadsOn (steps_from specification turns (state_at n) s) (state_at n) (Known nodes (n.depth + 1))
 
-    -- the first nodes are expanded, so many, unless they are as deep as the search goes
-    pub record IsLooked (right : State → Bool) (depth : ℕ) (i : ℕ) (nodes : List Node) : Type 0 where
+    -- the first nodes are expanded, so many, unless they are as deep as the search goes or aren't within
+    pub record IsLooked (right within : State → Bool) (depth : ℕ) (i : ℕ) (nodes : List Node) : Type 0 where
       pub begins : Known nodes 0 specification.initial
       pub good : Each (IsGood right) nodes
       pub linked : Each (IsLinked nodes) nodes
-      pub expanded : Each (λ n. n.depth < depth → Expanded nodes n) (take i nodes)
+      pub expanded : Each (λ n. n.depth < depth → within (state_at n) ≡ true → Expanded nodes n) (take i nodes)
+      pub rises : Rises nodes
 
     pub record IsBad (right : State → Bool) (nodes : List Node) (bad : Bad) : Type 0 where
       pub from : Node
       pub there : slice_get nodes bad.from ≡ Some from
       pub wrong : (s : Situation) → AreTaken s bad.choices.items → GoesWrong right bad.fault (steps_from specification turns (state_at from) s) (state_at from)
 
-    -- all nodes up to a depth are expanded
-    pub record IsSearched (right : State → Bool) (depth : ℕ) (nodes : List Node) : Type 0 where
+    -- all nodes up to a depth are expanded, if they are within
+    pub record IsSearched (right within : State → Bool) (depth : ℕ) (nodes : List Node) : Type 0 where
       pub begins : Known nodes 0 specification.initial
       pub good : Each (IsGood right) nodes
-      pub expanded : Each (λ n. n.depth < depth → Expanded nodes n) nodes
+      pub expanded : Each (λ n. n.depth < depth → within (state_at n) ≡ true → Expanded nodes n) nodes

@@ -1,5 +1,5 @@
 //! The answer of an exploration.
-ghost use Rattle.std.specs.Prelude.{◌≡◌, true, false, IfOk, length};
+ghost use Rattle.std.specs.Prelude.{◌≡◌, ℕ, true, false, IfOk, length};
 ghost use Rattle.asm_state.specs.Signature.{count_of, state_of};
 ghost use Rattle.asm_explore.specs.Answers.{Claims};
 ghost use Rattle.asm_explore.specs.Reached.{GoesWrongSo};
@@ -10,10 +10,9 @@ use crate::explored::{Bad, Ended};
 use crate::leading::script_to;
 use crate::machine::Machine;
 use crate::node::Node;
-use crate::refusal::Refusal;
 use crate::search::explore;
 use asm_state::state::State;
-use std::alloc::Global;
+use std::alloc::{AllocError, Global};
 
 /// The greatest depth.
 fn greatest_depth(nodes: &[Node]) -> u32 {
@@ -35,10 +34,10 @@ fn bad_run<M: Machine>(
     bad: &Bad,
     steps: u32,
     whole: u32,
-) -> Result<Finding, Refusal>
+) -> Result<Finding, AllocError>
     requires wrong { GoesWrongSo (M.specification machine.now) (M.turns machine.now) (M.right machine.now) nodes.now bad.now }
-    requires safe { IsSafeUpTo (M.specification machine.now) (M.turns machine.now) (λ A. M.right machine.now A ≡ true) whole }
-    ensures { IfOk result (Claims (M.specification machine.now) (M.turns machine.now) steps (M.right machine.now)) }
+    requires safe { IsSafeUpTo (M.specification machine.now) (M.turns machine.now) (M.within machine.now) (λ A. M.right machine.now A ≡ true) whole }
+    ensures { (limit states : ℕ) → IfOk result (Claims (M.specification machine.now) (M.turns machine.now) steps limit (M.right machine.now) (M.within machine.now) states) }
 {
     if bad.from >= nodes.len() {
         return Ok(Finding::Unwritten(whole));
@@ -65,12 +64,13 @@ pub fn explore_machine<M: Machine>(
     initial: State,
     steps: u32,
     limit: usize,
-) -> Result<Answered, Refusal>
+) -> Result<Answered, AllocError>
+    requires machine { M.is_sound machine.now }
     requires whole { length initial ≡ count_of (M.shape machine.now) }
     requires initial { state_of (M.shape machine.now) initial ≡ (M.specification machine.now).initial }
-    ensures { IfOk result (λ answer. Claims (M.specification machine.now) (M.turns machine.now) steps (M.right machine.now) answer.finding) }
+    ensures { IfOk result (λ answer. Claims (M.specification machine.now) (M.turns machine.now) steps limit (M.right machine.now) (M.within machine.now) answer.states answer.finding) }
 {
-    if !machine.is_right(alloc, &initial)? {
+    if !machine.is_right(alloc, &initial) {
         return Ok(Answered {
             finding: Finding::WrongFirst,
             states: 0,

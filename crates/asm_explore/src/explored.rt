@@ -1,10 +1,13 @@
 //! What a search has found.
+ghost use Rattle.std.specs.Prelude.{◌≡◌};
 ghost use Rattle.asm_explore.specs.Ends.{IsRefused};
+ghost use Rattle.asm_explore.specs.declared.explored.Ended.TheVariants as ended;
+ghost use Rattle.asm_explore.specs.declared.halt.Halt.TheVariants as halts;
 
 use crate::fault::Fault;
 use crate::found::Choice;
 use crate::node::Node;
-use crate::refusal::Refusal;
+use crate::halt::Halt;
 
 /// A step that goes wrong.
 #[derive(Drop)]
@@ -57,13 +60,14 @@ pub(crate) struct Looked {
     pub ended: Ended,
 }
 
-/// The end of a search that was refused.
-pub(crate) fn refused(refusal: Refusal) -> Ended
-    ensures { IsRefused result }
+/// The end of a search that was cut off.
+pub(crate) fn cut_off(halt: Halt) -> Ended
+    ensures refused { IsRefused result }
+    ensures states { result ≡ ended.TooManyStates → halt ≡ halts.States }
 {
-    match refusal {
-        Refusal::Memory => Ended::Memory,
-        Refusal::TooMany => Ended::TooManyOutcomes,
-        Refusal::TooManyStates => Ended::TooManyStates,
+    match halt {
+        Halt::Memory => Ended::Memory,
+        Halt::Outcomes => Ended::TooManyOutcomes,
+        Halt::States => Ended::TooManyStates,
     }
 }

@@ -10,7 +10,6 @@ ghost use Rattle.asm_explore.specs.Reached.{TakesTo, TakesBad};
 use crate::explored::Bad;
 use crate::found::Choice;
 use crate::node::Node;
-use crate::refusal::Refusal;
 use asm_reader::{Picks, Script, read_script};
 use asm_syntax::Refused;
 use std::alloc::{AllocError, Global};
@@ -147,7 +146,7 @@ fn takes_bad(script: &Script, nodes: &[Node], bad: &Bad) -> bool
 }
 
 /// The text of a script that makes the choices that lead to the bad step, and its own: what was written is read, and looked at.
-pub(crate) fn script_to(alloc: Global, nodes: &[Node], bad: &Bad) -> Result<Option<String>, Refusal>
+pub(crate) fn script_to(alloc: Global, nodes: &[Node], bad: &Bad) -> Result<Option<String>, AllocError>
     ensures { IfOk result (λ found. IfSome found (λ text. (script : Lines) × IsScript (string_bytes text) script × ((n : Node) → slice_get nodes.now bad.now.from ≡ Some n → TakesBad nodes.now script n bad.now))) }
 {
     let text = lines(alloc, nodes, bad)?;
@@ -159,7 +158,7 @@ pub(crate) fn script_to(alloc: Global, nodes: &[Node], bad: &Bad) -> Result<Opti
                 Ok(None)
             }
         }
-        Err(Refused::Memory) => Err(Refusal::Memory),
+        Err(Refused::Memory) => Err(AllocError),
         Err(Refused::Named(_)) => Ok(None),
     }
 }

@@ -4,15 +4,13 @@ ghost use Rattle.asm_explore.specs.declared.refusal.Refusal.TheVariants as refus
 
 use std::alloc::{AllocError, AllocFailed};
 
-/// Why the outcomes of a step weren't listed, or followed.
+/// Why the outcomes of a step weren't listed.
 #[derive(Clone, Copy, Debug, PartialEq, Eq)]
 pub enum Refusal {
     /// Memory ran out.
     Memory,
     /// There are more of them than the limit says.
     TooMany,
-    /// They lead to more states than the limit says.
-    TooManyStates,
 }
 
 impl From<AllocError> for Refusal {

@@ -1,23 +1,24 @@
 //! The search through all states.
-ghost use Rattle.std.specs.Prelude.{◌≡◌, ◌+◌, ◌<◌, ◌≤◌, [], true, false, IsTrue, IfSome, IfNone, IfOk, Some, length, slice_get};
+ghost use Rattle.std.specs.Prelude.{◌≡◌, ◌≢◌, ◌+◌, ◌<◌, ◌≤◌, [], true, false, IsTrue, IfSome, IfNone, IfErr, IfOk, Some, length, slice_get};
 ghost use Rattle.asm_state.specs.Location.{State as Contents};
 ghost use Rattle.asm_state.specs.Signature.{count_of, state_of};
 ghost use Rattle.asm_meaning.specs.Yields.{Result as Yielded};
-ghost use Rattle.asm_explore.specs.declared.explored.Ended.TheVariants.{Closed, AtLimit};
+ghost use Rattle.asm_explore.specs.declared.explored.Ended.TheVariants.{Closed, AtLimit, TooManyStates};
+ghost use Rattle.asm_explore.specs.declared.halt.Halt.TheVariants as halt;
 ghost use Rattle.asm_explore.specs.declared.found.Found.{Found};
 ghost use Rattle.asm_explore.specs.declared.node.Node.{Node};
 ghost use Rattle.asm_explore.specs.Ends.{IfBad, IsDone};
-ghost use Rattle.asm_explore.specs.Lists.{Situation, Each, AnyOf, Shows, AreCounted, IsCounted};
-ghost use Rattle.asm_explore.specs.Reached.{Known, IsGood, Extends, Follows, Expanded, IsLinked, IsLooked, IsOutcome, IsBadStep, IsBad, LeadsTo, GoesWrongSo, steps_from, state_at};
+ghost use Rattle.asm_explore.specs.Lists.{Situation, Each, AnyOf, Shows, AreCounted, IsCounted, Lists};
+ghost use Rattle.asm_explore.specs.Reached.{Known, IsNear, IsGood, Extends, Follows, Expanded, IsLinked, IsLooked, IsOutcome, IsBadStep, IsBad, LeadsTo, GoesWrongSo, steps_from, state_at};
 ghost use Rattle.asm_explore.specs.Search.{LeadsOn, IsSafeUpTo, IsSafe};
 
-use crate::explored::{Bad, Ended, Explored, Looked, refused};
+use crate::explored::{Bad, Ended, Explored, Looked, cut_off};
 use crate::fault::Fault;
 use crate::found::{Answer, Choice, Found, add_choices};
+use crate::halt::{Halt, halted};
 use crate::index::{Index, first_place, next_place};
 use crate::machine::Machine;
 use crate::node::Node;
-use crate::refusal::Refusal;
 use crate::same::is_same_value;
 use asm_state::state::State;
 use std::alloc::{AllocError, Global};
@@ -36,43 +37,39 @@ fn is_same_state(left: &State, right: &State, count: usize) -> bool
     true
 }
 
-/// The depth of a node, if it has this state.
-fn depth_of(nodes: &[Node], number: usize, state: &State, count: usize) -> Option<u32>
+/// Whether a node has this state.
+fn has_state(nodes: &[Node], number: usize, state: &State, count: usize) -> bool
     requires number { number < length nodes.now }
     requires nodes { Each (λ n. length n.state ≡ count) nodes.now }
     requires state { length state.now ≡ count }
-    ensures { IfSome result (λ d. AnyOf (λ n. (n.depth ≡ d) × (n.state ≡ state.now)) nodes.now) }
+    ensures { IsTrue result → AnyOf (λ n. n.state ≡ state.now) nodes.now }
 {
     let node = &nodes[number];
-    if is_same_state(&node.state, state, count) {
-        Some(node.depth)
-    } else {
-        None
-    }
+    is_same_state(&node.state, state, count)
 }
 
-/// The depth of the node that has this state, if the index leads to one.
-fn find(nodes: &[Node], index: &Index, state: &State, count: usize) -> Option<u32>
+/// Whether the index leads to a node that has this state.
+fn is_reached(nodes: &[Node], index: &Index, state: &State, count: usize) -> bool
     requires nodes { Each (λ n. length n.state ≡ count) nodes.now }
     requires state { length state.now ≡ count }
-    ensures { IfSome result (λ d. AnyOf (λ n. (n.depth ≡ d) × (n.state ≡ state.now)) nodes.now) }
+    ensures { IsTrue result → AnyOf (λ n. n.state ≡ state.now) nodes.now }
 {
     let slots = index.slots.as_slice();
     if slots.len() == 0 {
-        return None;
+        return false;
     }
     let mut at = first_place(state, count, slots.len());
     for _ in 0..slots.len() {
         let slot = slots[at];
         if slot == 0 || slot > nodes.len() {
-            return None;
+            return false;
         }
-        if let Some(depth) = depth_of(nodes, slot - 1, state, count) {
-            return Some(depth);
+        if has_state(nodes, slot - 1, state, count) {
+            return true;
         }
         at = next_place(at, slots.len());
     }
-    None
+    false
 }
 
 /// Notes where a node stands.
@@ -130,27 +127,27 @@ fn reach<M: Machine>(
     limit: usize,
     index: &mut Index,
     nodes: &mut Vec<Node>,
-) -> Result<bool, Refusal>
+) -> Result<bool, Halt>
+    requires machine { M.is_sound machine.now }
     requires state { length state ≡ count_of (M.shape machine.now) }
     requires from { from < length nodes.old.items }
     requires nodes { Each (IsGood (M.shape machine.now) (M.right machine.now)) nodes.old.items }
+    requires near { Each (λ n. n.depth ≤ below) nodes.old.items }
     requires leads { LeadsTo (M.shape machine.now) (M.specification machine.now) (M.turns machine.now) nodes.old.items from below choices.now (state_of (M.shape machine.now) state) }
-    ensures extends { Extends (M.shape machine.now) (M.specification machine.now) (M.turns machine.now) (M.right machine.now) nodes.old.items nodes.new.items }
+    ensures extends { Extends (M.shape machine.now) (M.specification machine.now) (M.turns machine.now) (M.right machine.now) below nodes.old.items nodes.new.items }
     ensures known { IfOk result (λ fine. IsTrue fine → Known (M.shape machine.now) nodes.new.items below (state_of (M.shape machine.now) state)) }
     ensures wrong { IfOk result (λ fine. fine ≡ false → M.right machine.now (state_of (M.shape machine.now) state) ≡ false) }
+    ensures full { IfErr result (λ h. h ≡ halt.States → limit ≤ length nodes.new.items) }
 {
     let count = machine.signature().count();
-    if let Some(depth) = find(nodes.as_slice(), index, &state, count) {
-        if depth <= below {
-            return Ok(true);
-        }
-        return Err(Refusal::TooManyStates);
+    if is_reached(nodes.as_slice(), index, &state, count) {
+        return Ok(true);
     }
-    if !machine.is_right(alloc, &state)? {
+    if !machine.is_right(alloc, &state) {
         return Ok(false);
     }
     if nodes.len() >= limit {
-        return Err(Refusal::TooManyStates);
+        return Err(Halt::States);
     }
     let mut all = Vec::new(alloc);
     add_choices(alloc, choices, &mut all)?;
@@ -174,15 +171,18 @@ fn follow<M: Machine>(
     limit: usize,
     index: &mut Index,
     nodes: &mut Vec<Node>,
-) -> Result<Option<Fault>, Refusal>
+) -> Result<Option<Fault>, Halt>
+    requires machine { M.is_sound machine.now }
     requires from { from < length nodes.old.items }
     requires one { IsCounted (count_of (M.shape machine.now)) one.now.answer }
     requires nodes { Each (IsGood (M.shape machine.now) (M.right machine.now)) nodes.old.items }
+    requires near { Each (λ n. n.depth ≤ below) nodes.old.items }
     requires outcome { IsOutcome (M.shape machine.now) (M.specification machine.now) (M.turns machine.now) nodes.old.items from below one.now }
-    ensures extends { Extends (M.shape machine.now) (M.specification machine.now) (M.turns machine.now) (M.right machine.now) nodes.old.items nodes.new.items }
+    ensures extends { Extends (M.shape machine.now) (M.specification machine.now) (M.turns machine.now) (M.right machine.now) below nodes.old.items nodes.new.items }
     ensures leads { IfOk result (λ fault. IfNone fault ((n : Node) (r : Yielded) → slice_get nodes.old.items from ≡ Some n → Shows (M.shape machine.now) one.now.answer r →
         LeadsOn r (state_at (M.shape machine.now) n) (Known (M.shape machine.now) nodes.new.items below))) }
     ensures wrong { IfOk result (λ fault. IfSome fault (IsBadStep (M.shape machine.now) (M.specification machine.now) (M.turns machine.now) (M.right machine.now) nodes.old.items from one.now.choices.items)) }
+    ensures full { IfErr result (λ h. h ≡ halt.States → limit ≤ length nodes.new.items) }
 {
     let updates = match &one.answer {
         Answer::Set(updates) => updates,
@@ -231,15 +231,18 @@ fn follow_all<M: Machine>(
     limit: usize,
     index: &mut Index,
     nodes: &mut Vec<Node>,
-) -> Result<Option<BadOutcome>, Refusal>
+) -> Result<Option<BadOutcome>, Halt>
+    requires machine { M.is_sound machine.now }
     requires from { from < length nodes.old.items }
     requires outcomes { AreCounted (count_of (M.shape machine.now)) outcomes.now }
     requires nodes { Each (IsGood (M.shape machine.now) (M.right machine.now)) nodes.old.items }
+    requires near { Each (λ n. n.depth ≤ below) nodes.old.items }
     requires sound { Each (IsOutcome (M.shape machine.now) (M.specification machine.now) (M.turns machine.now) nodes.old.items from below) outcomes.now }
-    ensures extends { Extends (M.shape machine.now) (M.specification machine.now) (M.turns machine.now) (M.right machine.now) nodes.old.items nodes.new.items }
+    ensures extends { Extends (M.shape machine.now) (M.specification machine.now) (M.turns machine.now) (M.right machine.now) below nodes.old.items nodes.new.items }
     ensures leads { IfOk result (λ bad. IfNone bad (Follows (M.shape machine.now) nodes.old.items nodes.new.items from below outcomes.now)) }
     ensures wrong { IfOk result (λ bad. IfSome bad (λ b. (f : Found) × (slice_get outcomes.now b.number ≡ Some f) ×
         IsBadStep (M.shape machine.now) (M.specification machine.now) (M.turns machine.now) (M.right machine.now) nodes.old.items from f.choices.items b.fault)) }
+    ensures full { IfErr result (λ h. h ≡ halt.States → limit ≤ length nodes.new.items) }
 {
     for k in 0..outcomes.len() {
         let fault = follow(
@@ -270,6 +273,23 @@ fn choices_of(alloc: Global, outcomes: &[Found], number: usize) -> Result<Vec<Ch
     Ok(choices)
 }
 
+/// The outcomes of the step from a state.
+fn outcomes_from<M: Machine>(
+    alloc: Global,
+    machine: &M,
+    state: &State,
+) -> Result<Vec<Found>, Halt>
+    requires machine { M.is_sound machine.now }
+    requires whole { length state.now ≡ count_of (M.shape machine.now) }
+    ensures lists { IfOk result (λ fs. Lists (M.shape machine.now) (steps_from (M.specification machine.now) (M.turns machine.now) (state_of (M.shape machine.now) state.now)) fs.items) }
+    ensures full { IfErr result (λ h. h ≢ halt.States) }
+{
+    match machine.outcomes(alloc, state) {
+        Ok(outcomes) => Ok(outcomes),
+        Err(refusal) => Err(halted(refusal)),
+    }
+}
+
 /// Follows all outcomes of a step from a node's state. Answers the first one with a fault, if there is one.
 fn expand<M: Machine>(
     alloc: Global,
@@ -279,18 +299,21 @@ fn expand<M: Machine>(
     limit: usize,
     index: &mut Index,
     nodes: &mut Vec<Node>,
-) -> Result<Option<Bad>, Refusal>
+) -> Result<Option<Bad>, Halt>
+    requires machine { M.is_sound machine.now }
     requires from { from < length nodes.old.items }
     requires nodes { Each (IsGood (M.shape machine.now) (M.right machine.now)) nodes.old.items }
+    requires near { Each (λ n. n.depth ≤ below) nodes.old.items }
     requires below { (n : Node) → slice_get nodes.old.items from ≡ Some n → below ≡ n.depth + 1 }
-    ensures extends { Extends (M.shape machine.now) (M.specification machine.now) (M.turns machine.now) (M.right machine.now) nodes.old.items nodes.new.items }
+    ensures extends { Extends (M.shape machine.now) (M.specification machine.now) (M.turns machine.now) (M.right machine.now) below nodes.old.items nodes.new.items }
     ensures expanded { IfOk result (λ bad. IfNone bad ((n : Node) (s : Situation) → slice_get nodes.old.items from ≡ Some n →
         LeadsOn (steps_from (M.specification machine.now) (M.turns machine.now) (state_at (M.shape machine.now) n) s) (state_at (M.shape machine.now) n) (Known (M.shape machine.now) nodes.new.items below))) }
     ensures wrong { IfOk result (λ bad. IfSome bad (λ b. (b.from ≡ from) ×
         IsBadStep (M.shape machine.now) (M.specification machine.now) (M.turns machine.now) (M.right machine.now) nodes.old.items from b.choices.items b.fault)) }
+    ensures full { IfErr result (λ h. h ≡ halt.States → limit ≤ length nodes.new.items) }
 {
     let known = nodes.as_slice();
-    let outcomes = machine.outcomes(alloc, &known[from].state)?;
+    let outcomes = outcomes_from(alloc, machine, &known[from].state)?;
     index.count(outcomes.len());
     match follow_all(
         alloc,
@@ -317,7 +340,7 @@ fn expand<M: Machine>(
     }
 }
 
-/// Expands a node, unless it is as deep as the search goes.
+/// Expands a node, unless it is as deep as the search goes, or isn't within.
 fn expand_above<M: Machine>(
     alloc: Global,
     machine: &M,
@@ -326,18 +349,24 @@ fn expand_above<M: Machine>(
     limit: usize,
     index: &mut Index,
     nodes: &mut Vec<Node>,
-) -> Result<Option<Bad>, Refusal>
+) -> Result<Option<Bad>, Halt>
+    requires machine { M.is_sound machine.now }
     requires from { from < length nodes.old.items }
+    requires near { IsNear nodes.old.items from }
     requires nodes { Each (IsGood (M.shape machine.now) (M.right machine.now)) nodes.old.items }
-    ensures extends { Extends (M.shape machine.now) (M.specification machine.now) (M.turns machine.now) (M.right machine.now) nodes.old.items nodes.new.items }
+    ensures extends { (n : Node) → slice_get nodes.old.items from ≡ Some n → Extends (M.shape machine.now) (M.specification machine.now) (M.turns machine.now) (M.right machine.now) (n.depth + 1) nodes.old.items nodes.new.items }
     ensures expanded { IfOk result (λ bad. IfNone bad ((n : Node) → slice_get nodes.old.items from ≡ Some n →
-        n.depth < steps → Expanded (M.shape machine.now) (M.specification machine.now) (M.turns machine.now) nodes.new.items n)) }
+        n.depth < steps → M.within machine.now (state_at (M.shape machine.now) n) ≡ true → Expanded (M.shape machine.now) (M.specification machine.now) (M.turns machine.now) nodes.new.items n)) }
     ensures wrong { IfOk result (λ bad. IfSome bad (λ b. (b.from ≡ from) ×
         IsBadStep (M.shape machine.now) (M.specification machine.now) (M.turns machine.now) (M.right machine.now) nodes.old.items from b.choices.items b.fault)) }
+    ensures full { IfErr result (λ h. h ≡ halt.States → limit ≤ length nodes.new.items) }
 {
     let known = nodes.as_slice();
     let depth = known[from].depth;
     if depth >= steps {
+        return Ok(None);
+    }
+    if !machine.is_within(alloc, &known[from].state) {
         return Ok(None);
     }
     let bad = expand(alloc, machine, from, depth + 1, limit, index, nodes)?;
@@ -365,14 +394,15 @@ fn expand_all<M: Machine>(
     index: &mut Index,
     nodes: &mut Vec<Node>,
 ) -> Looked
-    requires begins { Known (M.shape machine.now) nodes.old.items 0 (M.specification machine.now).initial }
-    requires good { Each (IsGood (M.shape machine.now) (M.right machine.now)) nodes.old.items }
-    requires linked { Each (IsLinked (M.shape machine.now) (M.specification machine.now) (M.turns machine.now) nodes.old.items) nodes.old.items }
+    requires machine { M.is_sound machine.now }
+    requires looked { IsLooked (M.shape machine.now) (M.specification machine.now) (M.turns machine.now) (M.right machine.now) (M.within machine.now) steps 0 nodes.old.items }
+    requires near { IsNear nodes.old.items 0 }
     ensures within { result.expanded ≤ length nodes.new.items }
-    ensures looked { IsLooked (M.shape machine.now) (M.specification machine.now) (M.turns machine.now) (M.right machine.now) steps result.expanded nodes.new.items }
+    ensures looked { IsLooked (M.shape machine.now) (M.specification machine.now) (M.turns machine.now) (M.right machine.now) (M.within machine.now) steps result.expanded nodes.new.items }
     ensures all { IsDone result.ended → result.expanded ≡ length nodes.new.items }
     ensures closed { result.ended ≡ Closed → Each (λ n. n.depth < steps) nodes.new.items }
     ensures wrong { IfBad result.ended (IsBad (M.shape machine.now) (M.specification machine.now) (M.turns machine.now) (M.right machine.now) nodes.new.items) }
+    ensures full { result.ended ≡ TooManyStates → limit ≤ length nodes.new.items }
 {
     for i in 0..usize::MAX {
         if i >= nodes.len() {
@@ -389,17 +419,17 @@ fn expand_all<M: Machine>(
                     ended: Ended::Bad(bad),
                 };
             }
-            Err(refusal) => {
+            Err(halt) => {
                 return Looked {
                     expanded: i,
-                    ended: refused(refusal),
+                    ended: cut_off(halt),
                 };
             }
         }
     }
     Looked {
         expanded: 0,
-        ended: Ended::TooManyStates,
+        ended: Ended::Memory,
     }
 }
 
@@ -442,13 +472,15 @@ pub fn explore<M: Machine>(
     steps: u32,
     limit: usize,
 ) -> Result<Explored, AllocError>
+    requires machine { M.is_sound machine.now }
     requires whole { length initial ≡ count_of (M.shape machine.now) }
     requires initial { state_of (M.shape machine.now) initial ≡ (M.specification machine.now).initial }
     requires right { M.right machine.now (M.specification machine.now).initial ≡ true }
-    ensures safe { IfOk result (λ explored. IsSafeUpTo (M.specification machine.now) (M.turns machine.now) (λ A. M.right machine.now A ≡ true) explored.whole) }
-    ensures closed { IfOk result (λ explored. explored.ended ≡ Closed → IsSafe (M.specification machine.now) (M.turns machine.now) (λ A. M.right machine.now A ≡ true)) }
+    ensures safe { IfOk result (λ explored. IsSafeUpTo (M.specification machine.now) (M.turns machine.now) (M.within machine.now) (λ A. M.right machine.now A ≡ true) explored.whole) }
+    ensures closed { IfOk result (λ explored. explored.ended ≡ Closed → IsSafe (M.specification machine.now) (M.turns machine.now) (M.within machine.now) (λ A. M.right machine.now A ≡ true)) }
     ensures at_limit { IfOk result (λ explored. explored.ended ≡ AtLimit → explored.whole ≡ steps) }
     ensures wrong { IfOk result (λ explored. IfBad explored.ended (GoesWrongSo (M.specification machine.now) (M.turns machine.now) (M.right machine.now) explored.nodes.items)) }
+    ensures full { IfOk result (λ explored. explored.ended ≡ TooManyStates → limit ≤ length explored.nodes.items) }
 {
     let mut nodes = Vec::new(alloc);
     nodes.push(Node {

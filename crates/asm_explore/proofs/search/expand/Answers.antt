@@ -30,7 +30,7 @@ follow_all-requires-clause-sound g c =
     (λ f sound n there.
     let same : y ≡ n = ap (λ ns. get_or ns a.from x) c.as_slice-known.ensures.value ∙ get_or_from_slice_get a.nodes.now.items a.from n x there in
     (c.requires.below n there, subst (λ m. IsSound shape (steps_from specification turns (state_at shape m)) f) same sound))
-    c.in_ok-outcomes.outcomes.items c.in_ok-outcomes.ensures.sound)
+    c.in_ok-outcomes.outcomes.items c.in_ok-outcomes.ensures.lists.sound)
 
 pub choices_of-requires : goal.choices_of-requires
 choices_of-requires g c =
@@ -51,4 +51,4 @@ returns-in-None-clause-expanded g c = λ n s there.
     subst (λ o. IfNone o (Follows shape a.nodes.now.items c.follow_all.new.nodes.items a.from a.below c.as_slice.result.now)) c.in-None.is c.in_ok-follow_all.ensures.leads in
     follows n (steps (state_at shape n) s) there
     (subst (λ fs. Shown shape fs (steps (state_at shape n) s)) (sym c.as_slice.ensures.value)
-    (subst (λ m. Shown shape c.in_ok-outcomes.outcomes.items (steps (state_at shape m) s)) same (c.in_ok-outcomes.ensures.complete s)))
+    (subst (λ m. Shown shape c.in_ok-outcomes.outcomes.items (steps (state_at shape m) s)) same (c.in_ok-outcomes.ensures.lists.complete s)))

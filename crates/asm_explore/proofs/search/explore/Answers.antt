@@ -23,12 +23,13 @@ returns-clause-safe g c =
     let specification = g.M.Machine.specification a.machine.now in
     let turns = g.M.Machine.turns a.machine.now in
     let right = g.M.Machine.right a.machine.now in
+    let within = g.M.Machine.within a.machine.now in
     let looked = c.expand_all-looked.ensures in
     let nodes = c.expand_all-looked.new.nodes.items in
     let i = c.expand_all-looked.result.expanded in
     let whole = c.least_depth-whole.result in
-    search_covers shape specification turns right whole nodes
-    (looked_whole shape specification turns right a.steps i whole nodes looked.within c.least_depth-whole.ensures.low
+    search_covers shape specification turns right within whole nodes
+    (looked_whole shape specification turns right within a.steps i whole nodes c.least_depth-whole.ensures.low
     (rest_of (Each (λ n. whole ≤ n.depth)) c.as_slice-all.result.now nodes i c.as_slice-all.ensures.value c.least_depth-whole.ensures.least) looked.looked)
 
 pub returns-clause-closed : goal.returns-clause-closed
@@ -38,12 +39,13 @@ returns-clause-closed g c = λ closed.
     let specification = g.M.Machine.specification a.machine.now in
     let turns = g.M.Machine.turns a.machine.now in
     let right = g.M.Machine.right a.machine.now in
+    let within = g.M.Machine.within a.machine.now in
     let looked = c.expand_all-looked.ensures in
     let nodes = c.expand_all-looked.new.nodes.items in
     let i = c.expand_all-looked.result.expanded in
     let all : i ≡ length nodes = looked.all (closed_done c.expand_all-looked.result.ended closed) in
-    closure_covers shape specification turns right a.steps nodes
-    (looked_done shape specification turns right a.steps i nodes (omega (arith, all)) looked.looked) (looked.closed closed)
+    closure_covers shape specification turns right within a.steps nodes
+    (looked_done shape specification turns right within a.steps i nodes (omega (arith, all)) looked.looked) (looked.closed closed)
 
 pub returns-clause-at_limit : goal.returns-clause-at_limit
 returns-clause-at_limit g c = λ at_limit.
@@ -60,7 +62,14 @@ returns-clause-wrong g c =
     let specification = g.M.Machine.specification a.machine.now in
     let turns = g.M.Machine.turns a.machine.now in
     let right = g.M.Machine.right a.machine.now in
+    let within = g.M.Machine.within a.machine.now in
     let looked = c.expand_all-looked.ensures in
     let nodes = c.expand_all-looked.new.nodes.items in
     if_bad_weaker (IsBad shape specification turns right nodes) (GoesWrongSo specification turns right nodes) c.expand_all-looked.result.ended
     (λ bad. bad_runs specification turns right shape nodes bad looked.looked.linked) looked.wrong
+
+pub expand_all-looked-requires-clause-looked : goal.expand_all-looked-requires-clause-looked
+expand_all-looked-requires-clause-looked g c = ?
+
+pub expand_all-looked-requires-clause-near : goal.expand_all-looked-requires-clause-near
+expand_all-looked-requires-clause-near g c = ?

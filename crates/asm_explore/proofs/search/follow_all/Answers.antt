@@ -7,7 +7,7 @@ use Rattle.asm_explore.specs.Lists.{Shows}
 use Rattle.asm_explore.specs.Reached.{IsOutcome, IsBadStep, Known, state_at}
 use Rattle.asm_explore.specs.Search.{LeadsOn}
 use Rattle.asm_explore.proofs.ListLemmas.{each_at}
-use Rattle.asm_explore.proofs.Reaching.{good_more, extends_none, extends_both, outcome_more, bad_step_less, follows_none, follows_more, follows_all, long_more}
+use Rattle.asm_explore.proofs.Reaching.{good_more, extends_none, extends_both, outcome_more, bad_step_less, follows_none, follows_more, follows_all, long_more, shallow_more}
 use Rattle.asm_explore.proofs.search.follow_all.Goals as goal
 
 pub loop-k-init : goal.loop-k-init
@@ -18,7 +18,7 @@ loop-k-init g c =
     let turns = g.M.Machine.turns a.machine.now in
     let right = g.M.Machine.right a.machine.now in
     record {
-      extends = extends_none shape specification turns right a.nodes.now.items;
+      extends = extends_none shape specification turns right a.below a.nodes.now.items;
       follows = follows_none shape specification turns right a.nodes.now.items a.from a.below a.outcomes.now a.nodes.now.items;
     }
 
@@ -31,7 +31,7 @@ follow-requires-clause-outcome g c =
     let turns = g.M.Machine.turns a.machine.now in
     let right = g.M.Machine.right a.machine.now in
     let f = c.index-outcomes-k.result in
-    outcome_more shape specification turns right a.nodes.now.items l.nodes.items l.invariant.extends a.from a.below f c.requires.from
+    outcome_more shape specification turns right a.below a.nodes.now.items l.nodes.items l.invariant.extends a.from f c.requires.from
     (each_at (IsOutcome shape specification turns a.nodes.now.items a.from a.below) a.outcomes.now l.k f c.loop-k-test.true c.index-outcomes-k.is c.requires.sound)
 
 pub loop-k-preserved : goal.loop-k-preserved
@@ -44,7 +44,7 @@ loop-k-preserved g c =
     let right = g.M.Machine.right a.machine.now in
     let f = c.index-outcomes-k.result in
     record {
-      extends = extends_both shape specification turns right a.nodes.now.items l.nodes.items c.follow.new.nodes.items l.invariant.extends c.in_ok-fault.ensures.extends;
+      extends = extends_both shape specification turns right a.below a.nodes.now.items l.nodes.items c.follow.new.nodes.items l.invariant.extends c.in_ok-fault.ensures.extends;
       follows = follows_more shape specification turns right a.nodes.now.items a.from a.below a.outcomes.now l.k f l.nodes.items c.follow.new.nodes.items
           c.loop-k-test.true c.index-outcomes-k.is l.invariant.extends c.in_ok-fault.ensures.extends
           (subst (λ o. IfNone o ((n : Node) (r : Result) → slice_get l.nodes.items a.from ≡ Some n → Shows shape f.answer r → LeadsOn r (state_at shape n) (Known shape c.follow.new.nodes.items a.below))) c.in_default.is
@@ -55,14 +55,14 @@ pub returns-in-Some-clause-extends : goal.returns-in-Some-clause-extends
 returns-in-Some-clause-extends g c =
     let a = c.args in
     let l = c.loop-k in
-    extends_both (g.M.Machine.shape a.machine.now) (g.M.Machine.specification a.machine.now) (g.M.Machine.turns a.machine.now) (g.M.Machine.right a.machine.now)
+    extends_both (g.M.Machine.shape a.machine.now) (g.M.Machine.specification a.machine.now) (g.M.Machine.turns a.machine.now) (g.M.Machine.right a.machine.now) a.below
     a.nodes.now.items l.nodes.items c.follow.new.nodes.items l.invariant.extends c.in_ok-fault.ensures.extends
 
 pub returns-in_err-fault-clause-extends : goal.returns-in_err-fault-clause-extends
 returns-in_err-fault-clause-extends g c =
     let a = c.args in
     let l = c.loop-k in
-    extends_both (g.M.Machine.shape a.machine.now) (g.M.Machine.specification a.machine.now) (g.M.Machine.turns a.machine.now) (g.M.Machine.right a.machine.now)
+    extends_both (g.M.Machine.shape a.machine.now) (g.M.Machine.specification a.machine.now) (g.M.Machine.turns a.machine.now) (g.M.Machine.right a.machine.now) a.below
     a.nodes.now.items l.nodes.items c.follow.new.nodes.items l.invariant.extends c.follow.ensures.extends
 
 pub returns-in-Some-clause-wrong : goal.returns-in-Some-clause-wrong
@@ -72,7 +72,7 @@ returns-in-Some-clause-wrong g c =
     let f = c.index-outcomes-k.result in (
       f,
       slice_get-get_or a.outcomes.now l.k f c.loop-k-test.true ∙ ap Some (sym c.index-outcomes-k.is),
-      bad_step_less (g.M.Machine.shape a.machine.now) (g.M.Machine.specification a.machine.now) (g.M.Machine.turns a.machine.now) (g.M.Machine.right a.machine.now)
+      bad_step_less (g.M.Machine.shape a.machine.now) (g.M.Machine.specification a.machine.now) (g.M.Machine.turns a.machine.now) (g.M.Machine.right a.machine.now) a.below
           a.nodes.now.items l.nodes.items l.invariant.extends a.from f.choices.items c.in-Some.fault c.requires.from
           (subst (λ o. IfSome o (IsBadStep (g.M.Machine.shape a.machine.now) (g.M.Machine.specification a.machine.now) (g.M.Machine.turns a.machine.now) (g.M.Machine.right a.machine.now) l.nodes.items a.from f.choices.items)) c.in-Some.is c.in_ok-fault.ensures.wrong),
     )
@@ -83,3 +83,10 @@ returns-clause-leads g c =
     let l = c.loop-k in
     follows_all (g.M.Machine.shape a.machine.now) (g.M.Machine.specification a.machine.now) (g.M.Machine.turns a.machine.now) (g.M.Machine.right a.machine.now)
     a.nodes.now.items a.from a.below a.outcomes.now l.k l.nodes.items (omega arith) l.invariant.follows
+
+pub follow-requires-clause-near : goal.follow-requires-clause-near
+follow-requires-clause-near g c =
+    let a = c.args in
+    let l = c.loop-k in
+    shallow_more (g.M.Machine.shape a.machine.now) (g.M.Machine.specification a.machine.now) (g.M.Machine.turns a.machine.now) (g.M.Machine.right a.machine.now) a.below
+    a.nodes.now.items l.nodes.items l.invariant.extends c.requires.near

@@ -4,11 +4,11 @@ use Rattle.asm_explore.specs.Lists.{AnyOf}
 use Rattle.asm_explore.proofs.Reaching.{found_known, pushed_known, extends_one, comes_from}
 use Rattle.asm_explore.proofs.search.reach.Goals as goal
 
-pub returns-then-depth-below-clause-known : goal.returns-then-depth-below-clause-known
-returns-then-depth-below-clause-known g c = λ yes.
+pub returns-then-is_reached-clause-known : goal.returns-then-is_reached-clause-known
+returns-then-is_reached-clause-known g c = λ yes.
     let a = c.args in
-    found_known (g.M.Machine.shape a.machine.now) a.nodes.now.items a.state c.in-Some.depth a.below c.if-depth-below.true
-    (subst (AnyOf (λ n. (n.depth ≡ c.in-Some.depth) × (n.state ≡ a.state))) c.as_slice.ensures.value c.in-Some.ensures)
+    found_known (g.M.Machine.shape a.machine.now) a.nodes.now.items a.state a.below c.requires.near
+    (subst (AnyOf (λ n. n.state ≡ a.state)) c.as_slice.ensures.value (c.is_reached.ensures c.if-is_reached.true))
 
 pub returns-in_err-note_last-clause-extends : goal.returns-in_err-note_last-clause-extends
 returns-in_err-note_last-clause-extends g c =
@@ -18,10 +18,10 @@ returns-in_err-note_last-clause-extends g c =
     let turns = g.M.Machine.turns a.machine.now in
     let right = g.M.Machine.right a.machine.now in
     let node : Node = record { state = a.state; from = a.from; choices = c.add_choices.new.into; depth = a.below } in
-    extends_one shape specification turns right a.nodes.now.items c.push.new.self.items node c.in_ok-push.ensures.items
-    (record { whole = c.requires.state; is_right = sym c.in_ok-is_right.ensures ∙ c.if-not-branch.false })
-    (comes_from shape specification turns right a.nodes.now.items a.from a.below a.choices.now node c.requires.from refl refl
-    (c.in_ok-add_choices.ensures ∙ ap (λ l. l ++ a.choices.now) c.new-all.ensures.items) c.requires.leads)
+    extends_one shape specification turns right a.below a.nodes.now.items c.push.new.self.items node c.in_ok-push.ensures.items
+    (record { whole = c.requires.state; is_right = sym c.is_right.ensures ∙ c.if-not-is_right.false })
+    (comes_from shape specification turns right a.below a.nodes.now.items a.from a.choices.now node c.requires.from refl refl
+    (c.in_ok-add_choices.ensures ∙ ap (λ l. l ++ a.choices.now) c.new-all.ensures.items) c.requires.leads) refl
 
 pub returns-clause-extends : goal.returns-clause-extends
 returns-clause-extends g c =
@@ -31,10 +31,10 @@ returns-clause-extends g c =
     let turns = g.M.Machine.turns a.machine.now in
     let right = g.M.Machine.right a.machine.now in
     let node : Node = record { state = a.state; from = a.from; choices = c.add_choices.new.into; depth = a.below } in
-    extends_one shape specification turns right a.nodes.now.items c.push.new.self.items node c.in_ok-push.ensures.items
-    (record { whole = c.requires.state; is_right = sym c.in_ok-is_right.ensures ∙ c.if-not-branch.false })
-    (comes_from shape specification turns right a.nodes.now.items a.from a.below a.choices.now node c.requires.from refl refl
-    (c.in_ok-add_choices.ensures ∙ ap (λ l. l ++ a.choices.now) c.new-all.ensures.items) c.requires.leads)
+    extends_one shape specification turns right a.below a.nodes.now.items c.push.new.self.items node c.in_ok-push.ensures.items
+    (record { whole = c.requires.state; is_right = sym c.is_right.ensures ∙ c.if-not-is_right.false })
+    (comes_from shape specification turns right a.below a.nodes.now.items a.from a.choices.now node c.requires.from refl refl
+    (c.in_ok-add_choices.ensures ∙ ap (λ l. l ++ a.choices.now) c.new-all.ensures.items) c.requires.leads) refl
 
 pub returns-clause-known : goal.returns-clause-known
 returns-clause-known g c = λ yes.
