@@ -238,6 +238,9 @@ both_of P Q (x ∷ xs) h (inr any) = both_of P Q xs h.1 any
 
 -- ---- nodes, expanded one after the other
 
+pub only_node : (old nodes : List Node) (n : Node) → nodes ≡ old ++ n ∷ [] → old ≡ [] → nodes ≡ n ∷ []
+only_node old nodes n is empty = is ∙ ap (λ l. l ++ n ∷ []) empty
+
 module _ (shape : Shape) (specification : Specification) (turns : ℕ) (right within : State → Bool) (depth : ℕ) where
   abbrev IsDone : List Node → Node → Type 0
   IsDone nodes n = n.depth < depth → within (state_at shape n) ≡ true → Expanded shape specification turns nodes n

@@ -103,9 +103,9 @@ list_if-returns-then-holds t c =
 pub list_if-returns-else-holds : goal.list_if-returns-else-holds
 list_if-returns-else-holds t c =
     let a = c.args in
-    ok_same (shape_on a.on.now) _ _ c.list_part-2.result
+    ok_same (shape_on a.on.now) _ _ c.list_part-else-holds.result
     (if_no a.on.now a.frame.now a.path.now a.test.now a.yes.now a.no.now (sym c.holds.ensures ∙ c.if-holds.false))
-    c.list_part-2.ensures
+    c.list_part-else-holds.ensures
 
 pub list_let-returns : goal.list_let-returns
 list_let-returns t c =
@@ -252,8 +252,8 @@ list_choose-returns t c =
 
 -- ---- calls
 
-pub list_call-returns-in_ok-answer : goal.list_call-returns-in_ok-answer
-list_call-returns-in_ok-answer t c =
+pub list_call-returns : goal.list_call-returns
+list_call-returns t c =
     let a = c.args in
     ok_same (shape_on a.on.now) _ _ c.list_part.result
     (call_with a.on.now a.frame.now a.path.now a.body.now a.answer.now a.arguments.now c.in_ok-answer.answer c.in_ok-answer.ensures.location)

@@ -1,11 +1,11 @@
-use Rattle.std.proofs.Common.{◌≡◌, ℕ, ◌≤◌, ◌<◌, ◌-◌, ◌∙◌, [], List, take, drop, length, sym, ap, subst, arith}
+use Rattle.std.proofs.Common.{◌≡◌, ℕ, ◌≤◌, ◌<◌, ◌-◌, ◌∙◌, [], List, take, drop, length, refl, sym, ap, subst, arith}
 use Rattle.std.proofs.lemmas.List.{drop_all, take_rest}
 use Rattle.asm_explore.specs.declared.node.Node.{Node}
 use Rattle.asm_explore.specs.Lists.{Each}
 use Rattle.asm_explore.specs.Reached.{IsBad, GoesWrongSo}
 use Rattle.asm_explore.proofs.Chains.{bad_runs}
 use Rattle.asm_explore.proofs.Endings.{if_bad_weaker, closed_done, at_limit_done}
-use Rattle.asm_explore.proofs.Reaching.{looked_whole, looked_done, search_covers, closure_covers}
+use Rattle.asm_explore.proofs.Reaching.{looked_none, near_none, only_node, looked_whole, looked_done, search_covers, closure_covers}
 use Rattle.asm_explore.proofs.search.explore.Goals as goal
 
 rest_of : (P : List Node → Type 0) (xs nodes : List Node) (i : ℕ) → xs ≡ nodes → P (take (length xs - i) (drop i xs)) → P (drop i nodes)
@@ -69,7 +69,20 @@ returns-clause-wrong g c =
     (λ bad. bad_runs specification turns right shape nodes bad looked.looked.linked) looked.wrong
 
 pub expand_all-looked-requires-clause-looked : goal.expand_all-looked-requires-clause-looked
-expand_all-looked-requires-clause-looked g c = ?
+expand_all-looked-requires-clause-looked g c =
+    let a = c.args in
+    let shape = g.M.Machine.shape a.machine.now in
+    let specification = g.M.Machine.specification a.machine.now in
+    let turns = g.M.Machine.turns a.machine.now in
+    let right = g.M.Machine.right a.machine.now in
+    let within = g.M.Machine.within a.machine.now in
+    let nodes = c.push.new.self.items in
+    looked_none shape specification turns right within a.steps nodes _ (only_node c.new-nodes.result.items nodes _ c.in_ok-push.ensures.items c.new-nodes.ensures.items)
+    (record { whole = c.requires.whole; is_right = ap right c.requires.initial ∙ c.requires.right }) refl c.requires.initial
 
 pub expand_all-looked-requires-clause-near : goal.expand_all-looked-requires-clause-near
-expand_all-looked-requires-clause-near g c = ?
+expand_all-looked-requires-clause-near g c =
+    let a = c.args in
+    let nodes = c.push.new.self.items in
+    near_none (g.M.Machine.shape a.machine.now) (g.M.Machine.specification a.machine.now) (g.M.Machine.turns a.machine.now) (g.M.Machine.right a.machine.now) (g.M.Machine.within a.machine.now) a.steps
+    nodes _ (only_node c.new-nodes.result.items nodes _ c.in_ok-push.ensures.items c.new-nodes.ensures.items) refl
