@@ -1,10 +1,13 @@
 -- How searches end.
 --     refused_*       one that was refused isn't done, nor closed, and nothing is said of a bad step
 --     done_bad        where all nodes are expanded, nothing is said of a bad step
-use Rattle.std.proofs.Common.{◌≡◌, sym, subst}
+use Rattle.std.proofs.Common.{◌≡◌, ◌≢◌, sym, subst}
 use Rattle.asm_explore.specs.declared.explored.Bad.{Bad}
 use Rattle.asm_explore.specs.declared.explored.Ended.{Ended}
 use Rattle.asm_explore.specs.declared.explored.Ended.TheVariants as ended
+use Rattle.std.specs.Prelude.{Result as Returned, Ok, Err, IfErr, IsErrAnd}
+use Rattle.asm_explore.specs.declared.halt.Halt.{Halt}
+use Rattle.asm_explore.specs.declared.halt.Halt.TheVariants as halt
 use Rattle.asm_explore.specs.Ends.{IfBad, IsDone, IsRefused}
 
 pub refused_done : (e : Ended) → IsRefused e → IsDone e → ⊥
@@ -51,3 +54,13 @@ at_limit_done e is = subst IsDone (sym is) tt
 
 pub done_full : (e : Ended) → IsDone e → e ≡ ended.TooManyStates → ⊥
 done_full e done is = subst IsDone is done
+
+-- what is said of an error stays so where it is handed on
+pub full_on : {S T : Type 0} (P : Halt → Type 0) (given : Returned S Halt) (returned : Returned T Halt) (h : Halt) → given ≡ Err h → IsErrAnd returned (λ again. again ≡ h)
+    → IfErr given P → IfErr returned P
+full_on P given (Ok x) h is same said = tt
+full_on P given (Err e) h is same said = subst P (sym same) (subst (λ r. IfErr r P) is said)
+
+pub never_full : {T : Type 0} (Q : Type 0) (r : Returned T Halt) → IfErr r (λ h. h ≢ halt.States) → IfErr r (λ h. h ≡ halt.States → Q)
+never_full Q (Ok x) said = tt
+never_full Q (Err e) said = λ is. absurd (said is)

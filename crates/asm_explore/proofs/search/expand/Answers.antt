@@ -1,4 +1,4 @@
-use Rattle.std.proofs.Common.{◌≡◌, ℕ, ◌+◌, ◌<◌, ◌∙◌, Bool, List, length, refl, ap, sym, subst, get_or}
+use Rattle.std.proofs.Common.{◌≡◌, ℕ, ◌≢◌, ◌+◌, ◌<◌, ◌≤◌, ◌∙◌, Bool, List, length, refl, ap, sym, subst, get_or}
 use Rattle.std.specs.Prelude.{Some, IfNone, IfSome, slice_get}
 use Rattle.std.proofs.lemmas.Option.{get_or_from_slice_get, slice_get_within}
 use Rattle.asm_state.specs.Location.{State}
@@ -10,6 +10,8 @@ use Rattle.asm_explore.specs.declared.search.BadOutcome.{BadOutcome}
 use Rattle.asm_explore.specs.Lists.{Situation, Each, AreTaken, Shown, IsSound}
 use Rattle.asm_explore.specs.Reached.{Follows, IsOutcome, IsBadStep, steps_from, state_at}
 use Rattle.asm_explore.proofs.ListLemmas.{each_weaker}
+use Rattle.asm_explore.specs.declared.halt.Halt.TheVariants as halt
+use Rattle.asm_explore.proofs.Endings.{full_on, never_full}
 use Rattle.asm_explore.proofs.search.expand.Goals as goal
 
 abbrev IsWrongAt : {M : Type 0} (shape : M → Shape) (specification : M → Specification) (turns : M → ℕ) (right : M → State → Bool) (m : M)
@@ -52,3 +54,12 @@ returns-in-None-clause-expanded g c = λ n s there.
     follows n (steps (state_at shape n) s) there
     (subst (λ fs. Shown shape fs (steps (state_at shape n) s)) (sym c.as_slice.ensures.value)
     (subst (λ m. Shown shape c.in_ok-outcomes.outcomes.items (steps (state_at shape m) s)) same (c.in_ok-outcomes.ensures.lists.complete s)))
+
+pub returns-in_err-outcomes-clause-full : goal.returns-in_err-outcomes-clause-full
+returns-in_err-outcomes-clause-full g c =
+    never_full (c.args.limit ≤ length c.args.nodes.now.items) c.from_residual.result
+    (full_on (λ h. h ≢ halt.States) c.outcomes_from.result c.from_residual.result c.in_err-outcomes.field-0.0 c.in_err-outcomes.was c.from_residual.ensures.1 c.outcomes_from.ensures.full)
+
+pub returns-in_err-follow_all-clause-full : goal.returns-in_err-follow_all-clause-full
+returns-in_err-follow_all-clause-full g c =
+    full_on (λ h. h ≡ halt.States → c.args.limit ≤ length c.follow_all.new.nodes.items) c.follow_all.result c.from_residual-2.result c.in_err-follow_all.field-0.0 c.in_err-follow_all.was c.from_residual-2.ensures.1 c.follow_all.ensures.full

@@ -1,4 +1,4 @@
-use Rattle.std.proofs.Common.{◌≡◌, ◌+◌, ◌≤◌, ◌∙◌, ap, sym, subst, get_or}
+use Rattle.std.proofs.Common.{length, ◌≡◌, ◌+◌, ◌≤◌, ◌∙◌, ap, sym, subst, get_or}
 use Rattle.std.proofs.lemmas.Bool.{false≢true}
 use Rattle.std.proofs.lemmas.Option.{get_or_from_slice_get}
 use Rattle.asm_explore.specs.declared.node.Node.{Node}
@@ -6,6 +6,8 @@ use Rattle.asm_explore.specs.Lists.{Each}
 use Rattle.asm_explore.specs.Reached.{Extends, Known, steps_from, state_at}
 use Rattle.asm_explore.specs.Search.{LeadsOn}
 use Rattle.asm_explore.proofs.Reaching.{if_none_weaker, extends_none, some_at}
+use Rattle.asm_explore.specs.declared.halt.Halt.TheVariants as halt
+use Rattle.asm_explore.proofs.Endings.{full_on}
 use Rattle.asm_explore.proofs.search.expand_above.Goals as goal
 
 pub expand-requires-clause-below : goal.expand-requires-clause-below
@@ -74,3 +76,7 @@ returns-clause-expanded g c =
     let same : y ≡ n = ap (λ ns. get_or ns a.from x) c.as_slice-known.ensures.value ∙ get_or_from_slice_get a.nodes.now.items a.from n x there in
     subst (λ m. LeadsOn (steps (state_at shape n) s) (state_at shape n) (Known shape c.expand.new.nodes.items (m.depth + 1))) same (h n s there))
     c.in_ok-bad.ensures.expanded
+
+pub returns-in_err-bad-clause-full : goal.returns-in_err-bad-clause-full
+returns-in_err-bad-clause-full g c =
+    full_on (λ h. h ≡ halt.States → c.args.limit ≤ length c.expand.new.nodes.items) c.expand.result c.from_residual.result c.in_err-bad.field-0.0 c.in_err-bad.was c.from_residual.ensures.1 c.expand.ensures.full

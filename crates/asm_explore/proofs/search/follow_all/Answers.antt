@@ -1,4 +1,4 @@
-use Rattle.std.proofs.Common.{◌≡◌, ◌∙◌, ap, sym, subst, arith}
+use Rattle.std.proofs.Common.{◌≡◌, ◌≤◌, ◌∙◌, length, ap, sym, subst, arith}
 use Rattle.std.specs.Prelude.{Some, IfNone, IfSome, slice_get}
 use Rattle.std.proofs.lemmas.Option.{slice_get-get_or}
 use Rattle.asm_meaning.specs.Yields.{Result}
@@ -8,6 +8,8 @@ use Rattle.asm_explore.specs.Reached.{IsOutcome, IsBadStep, Known, state_at}
 use Rattle.asm_explore.specs.Search.{LeadsOn}
 use Rattle.asm_explore.proofs.ListLemmas.{each_at}
 use Rattle.asm_explore.proofs.Reaching.{good_more, extends_none, extends_both, outcome_more, bad_step_less, follows_none, follows_more, follows_all, long_more, shallow_more}
+use Rattle.asm_explore.specs.declared.halt.Halt.TheVariants as halt
+use Rattle.asm_explore.proofs.Endings.{full_on}
 use Rattle.asm_explore.proofs.search.follow_all.Goals as goal
 
 pub loop-k-init : goal.loop-k-init
@@ -90,3 +92,7 @@ follow-requires-clause-near g c =
     let l = c.loop-k in
     shallow_more (g.M.Machine.shape a.machine.now) (g.M.Machine.specification a.machine.now) (g.M.Machine.turns a.machine.now) (g.M.Machine.right a.machine.now) a.below
     a.nodes.now.items l.nodes.items l.invariant.extends c.requires.near
+
+pub returns-in_err-fault-clause-full : goal.returns-in_err-fault-clause-full
+returns-in_err-fault-clause-full g c =
+    full_on (λ h. h ≡ halt.States → c.args.limit ≤ length c.follow.new.nodes.items) c.follow.result c.from_residual.result c.in_err-fault.field-0.0 c.in_err-fault.was c.from_residual.ensures.1 c.follow.ensures.full
