@@ -62,4 +62,4 @@ returns-in_err-outcomes-clause-full g c =
 
 pub returns-in_err-follow_all-clause-full : goal.returns-in_err-follow_all-clause-full
 returns-in_err-follow_all-clause-full g c =
-    full_on (λ h. h ≡ halt.States → c.args.limit ≤ length c.follow_all.new.nodes.items) c.follow_all.result c.from_residual-2.result c.in_err-follow_all.field-0.0 c.in_err-follow_all.was c.from_residual-2.ensures.1 c.follow_all.ensures.full
+    full_on (λ h. h ≡ halt.States → c.args.limit ≤ length c.follow_all.new.nodes.items) c.follow_all.result c.from_residual-in_err-follow_all.result c.in_err-follow_all.field-0.0 c.in_err-follow_all.was c.from_residual-in_err-follow_all.ensures.1 c.follow_all.ensures.full

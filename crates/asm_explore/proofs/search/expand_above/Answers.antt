@@ -41,7 +41,7 @@ pub returns-then-not-is_within-clause-expanded : goal.returns-then-not-is_within
 returns-then-not-is_within-clause-expanded g c = λ n there low inside.
     let a = c.args in
     let shape = g.M.Machine.shape a.machine.now in
-    let x = c.index-known-from.result in
+    let x = c.index-known-from-2.result in
     let y = get_or c.as_slice-known.result.now a.from x in
     let same : y ≡ n = ap (λ ns. get_or ns a.from x) c.as_slice-known.ensures.value ∙ get_or_from_slice_get a.nodes.now.items a.from n x there in
     absurd (false≢true (sym c.if-not-is_within.true ∙ c.is_within.ensures ∙ ap (λ (m : Node). g.M.Machine.within a.machine.now (state_at shape m)) same ∙ inside))

@@ -94,4 +94,4 @@ returns-else-fine-clause-wrong g c = λ n there s taken.
 
 pub returns-in_err-fine-clause-full : goal.returns-in_err-fine-clause-full
 returns-in_err-fine-clause-full g c =
-    full_on (λ h. h ≡ halt.States → c.args.limit ≤ length c.reach.new.nodes.items) c.reach.result c.from_residual-2.result c.in_err-fine.field-0.0 c.in_err-fine.was c.from_residual-2.ensures.1 c.reach.ensures.full
+    full_on (λ h. h ≡ halt.States → c.args.limit ≤ length c.reach.new.nodes.items) c.reach.result c.from_residual-in_err-fine.result c.in_err-fine.field-0.0 c.in_err-fine.was c.from_residual-in_err-fine.ensures.1 c.reach.ensures.full
