@@ -288,16 +288,16 @@ module _ (shape : Shape) (specification : Specification) (turns : ℕ) (right wi
       ∙ ap (λ m. take i old ++ m ∷ []) (get_or_from_slice_get old i n n there) in
       let near : Each (λ m. m.depth ≤ below) old = subst (λ b. Each (λ m. m.depth ≤ b) old) (sym deeper) (near_there n there) in
       let rises = rises_more shape specification turns right below old new extends so_far.rises near in (
-      record {
-        begins = known_more shape specification turns right below old new extends 0 specification.initial so_far.begins;
-        good = good_more shape specification turns right below old new extends so_far.good;
-        linked = linked_both shape specification turns right below old new extends so_far.linked;
-        expanded = subst (Each (IsDone new)) (sym first)
-            (each_append (IsDone new) (take i old) (n ∷ []) (each_weaker (IsDone old) (IsDone new) (done_more below old new extends) (take i old) so_far.expanded) (here, tt));
-        rises = rises;
-      },
-      near_next i n new (at_more shape specification turns right below old new extends i n there) rises
-          (subst (λ b. Each (λ m. m.depth ≤ b) new) deeper (shallow_more shape specification turns right below old new extends near)),
+        record {
+          begins = known_more shape specification turns right below old new extends 0 specification.initial so_far.begins;
+          good = good_more shape specification turns right below old new extends so_far.good;
+          linked = linked_both shape specification turns right below old new extends so_far.linked;
+          expanded = subst (Each (IsDone new)) (sym first)
+              (each_append (IsDone new) (take i old) (n ∷ []) (each_weaker (IsDone old) (IsDone new) (done_more below old new extends) (take i old) so_far.expanded) (here, tt));
+          rises = rises;
+        },
+        near_next i n new (at_more shape specification turns right below old new extends i n there) rises
+            (subst (λ b. Each (λ m. m.depth ≤ b) new) deeper (shallow_more shape specification turns right below old new extends near)),
       )
 
   -- there are more nodes

@@ -147,9 +147,13 @@ module _ (on : Exploration) (f : Frame) (p : Path) where
     one_yields : (vs : List Value) → vs ≡ passing_in on.view.now f u c → 0 < length vs → (s : Situation)
         → (j : ℕ) × (v : Value) × (j < length vs) × (slice_get vs j ≡ Some v) × (candidate_yields v s ≡ choose_yields s)
     one_yields vs all some s =
-        let one = some_is_taken (picked s p) vs some in
-        (one.0, one.1, one.2, one.3,
-        ap (λ (o : Outcome). o.result) (rules.choose_some (shape_on on) on.turns (picked s) rs ls (state_on on) p u c R N one.1 (one.4 ∙ ap (taken (picked s p)) all)))
+        let one = some_is_taken (picked s p) vs some in (
+          one.0,
+          one.1,
+          one.2,
+          one.3,
+          ap (λ (o : Outcome). o.result) (rules.choose_some (shape_on on) on.turns (picked s) rs ls (state_on on) p u c R N one.1 (one.4 ∙ ap (taken (picked s p)) all)),
+        )
 
     pub none_yields : (vs : List Value) → vs ≡ passing_in on.view.now f u c → vs ≡ [] → (s : Situation)
         → yields_on on f (at p 1) (rule_of N) s ≡ choose_yields s

@@ -6,8 +6,8 @@ ghost use Rattle.asm_explore.specs.declared.halt.Halt.TheVariants as halts;
 
 use crate::fault::Fault;
 use crate::found::Choice;
-use crate::node::Node;
 use crate::halt::Halt;
+use crate::node::Node;
 
 /// A step that goes wrong.
 #[derive(Drop)]

@@ -146,7 +146,11 @@ fn takes_bad(script: &Script, nodes: &[Node], bad: &Bad) -> bool
 }
 
 /// The text of a script that makes the choices that lead to the bad step, and its own: what was written is read, and looked at.
-pub(crate) fn script_to(alloc: Global, nodes: &[Node], bad: &Bad) -> Result<Option<String>, AllocError>
+pub(crate) fn script_to(
+    alloc: Global,
+    nodes: &[Node],
+    bad: &Bad,
+) -> Result<Option<String>, AllocError>
     ensures { IfOk result (λ found. IfSome found (λ text. (script : Lines) × IsScript (string_bytes text) script × ((n : Node) → slice_get nodes.now bad.now.from ≡ Some n → TakesBad nodes.now script n bad.now))) }
 {
     let text = lines(alloc, nodes, bad)?;

@@ -80,15 +80,7 @@ pub fn outcomes<'e>(
             body,
             answer,
             arguments,
-        } => list_call(
-            alloc,
-            on,
-            frame,
-            body,
-            answer,
-            arguments.as_slice(),
-            path,
-        ),
+        } => list_call(alloc, on, frame, body, answer, arguments.as_slice(), path),
     }
 }
 
@@ -439,9 +431,7 @@ fn list_one<'e>(
         Answer::Set(so_far) => {
             let part = list_upon(alloc, on, frame, rule, number, path, so_far)?;
             let signature = on.view.signature;
-            sort_part(
-                alloc, signature, so_far, one, part, turns, on.limit, sorted,
-            )?;
+            sort_part(alloc, signature, so_far, one, part, turns, on.limit, sorted)?;
             Ok(())
         }
         Answer::Exhausted(_) => Ok(()),

@@ -274,11 +274,7 @@ fn choices_of(alloc: Global, outcomes: &[Found], number: usize) -> Result<Vec<Ch
 }
 
 /// The outcomes of the step from a state.
-fn outcomes_from<M: Machine>(
-    alloc: Global,
-    machine: &M,
-    state: &State,
-) -> Result<Vec<Found>, Halt>
+fn outcomes_from<M: Machine>(alloc: Global, machine: &M, state: &State) -> Result<Vec<Found>, Halt>
     requires machine { M.is_sound machine.now }
     requires whole { length state.now ≡ count_of (M.shape machine.now) }
     ensures lists { IfOk result (λ fs. Lists (M.shape machine.now) (steps_from (M.specification machine.now) (M.turns machine.now) (state_of (M.shape machine.now) state.now)) fs.items) }

@@ -75,11 +75,7 @@ fn unite(updates: Updates, other: &Updates) -> Result<Updates, AllocError>
 }
 
 /// The union of two sets.
-pub(crate) fn union(
-    alloc: Global,
-    left: &Updates,
-    right: &Updates,
-) -> Result<Updates, AllocError>
+pub(crate) fn union(alloc: Global, left: &Updates, right: &Updates) -> Result<Updates, AllocError>
     requires { right.now.set.count ≡ left.now.set.count }
     ensures count { IfOk result (λ u. u.set.count ≡ left.now.set.count) }
     ensures answer { (shape : Shape) (x y : Yielded) → IfOk result (λ u.

@@ -273,9 +273,13 @@ pub list_in_order-list_next-requires : goal.list_in_order-list_next-requires
 list_in_order-list_next-requires t c =
     let a = c.args in
     let l = c.loop-i in
-    let less = size_of_part a.parts.now l.i c.index-parts-i.result c.loop-i-test.true c.index-parts-i.is in
-    (omega (arith, c.decreases, less), (sound_part (shape_on a.on.now) a.parts.now l.i c.index-parts-i.result c.loop-i-test.true c.index-parts-i.is c.requires.sound,
-    (c.requires.framed, subst (AreCounted (count_of (shape_on a.on.now))) (sym c.as_slice-front.ensures.value) l.invariant.front_counted)))
+    let less = size_of_part a.parts.now l.i c.index-parts-i.result c.loop-i-test.true c.index-parts-i.is in (
+      omega (arith, c.decreases, less),
+      (
+        sound_part (shape_on a.on.now) a.parts.now l.i c.index-parts-i.result c.loop-i-test.true c.index-parts-i.is c.requires.sound,
+        (c.requires.framed, subst (AreCounted (count_of (shape_on a.on.now))) (sym c.as_slice-front.ensures.value) l.invariant.front_counted),
+      ),
+    )
 
 pub list_in_order-loop-i-preserved : goal.list_in_order-loop-i-preserved
 list_in_order-loop-i-preserved t c =
