@@ -15,7 +15,7 @@ refused_done ended.Closed r d = r
 refused_done ended.AtLimit r d = r
 refused_done (ended.Bad bad) r d = d
 refused_done ended.TooManyStates r d = d
-refused_done ended.TooManyOutcomes r d = d
+refused_done (ended.TooManyOutcomes crowd) r d = d
 refused_done ended.Memory r d = d
 
 pub refused_closed : (e : Ended) → IsRefused e → e ≡ ended.Closed → ⊥
@@ -26,7 +26,7 @@ refused_bad P ended.Closed r = tt
 refused_bad P ended.AtLimit r = tt
 refused_bad P (ended.Bad bad) r = absurd r
 refused_bad P ended.TooManyStates r = tt
-refused_bad P ended.TooManyOutcomes r = tt
+refused_bad P (ended.TooManyOutcomes crowd) r = tt
 refused_bad P ended.Memory r = tt
 
 pub done_bad : (P : Bad → Type 0) (e : Ended) → IsDone e → IfBad e P
@@ -34,7 +34,7 @@ done_bad P ended.Closed d = tt
 done_bad P ended.AtLimit d = tt
 done_bad P (ended.Bad bad) d = absurd d
 done_bad P ended.TooManyStates d = tt
-done_bad P ended.TooManyOutcomes d = tt
+done_bad P (ended.TooManyOutcomes crowd) d = tt
 done_bad P ended.Memory d = tt
 
 -- what is said of a bad step, said otherwise
@@ -43,7 +43,7 @@ if_bad_weaker P Q ended.Closed f h = tt
 if_bad_weaker P Q ended.AtLimit f h = tt
 if_bad_weaker P Q (ended.Bad bad) f h = f bad h
 if_bad_weaker P Q ended.TooManyStates f h = tt
-if_bad_weaker P Q ended.TooManyOutcomes f h = tt
+if_bad_weaker P Q (ended.TooManyOutcomes crowd) f h = tt
 if_bad_weaker P Q ended.Memory f h = tt
 
 pub closed_done : (e : Ended) → e ≡ ended.Closed → IsDone e

@@ -33,6 +33,6 @@ module _ (specification : Specification) (turns steps limit : ℕ) (right within
   Claims states (finding.Bad bad) = IsBadRun bad
   Claims states finding.WrongFirst = right specification.initial ≡ false
   Claims states (finding.TooManyStates depth) = (limit ≤ states) × IsSafeTo depth
-  Claims states (finding.TooManyOutcomes depth) = IsSafeTo depth
+  Claims states (finding.TooManyOutcomes depth crowd) = IsSafeTo depth
   Claims states (finding.NoMemory depth) = IsSafeTo depth
   Claims states (finding.Unwritten depth) = IsSafeTo depth

@@ -17,6 +17,6 @@ IsDone _ = ⊥
 
 abbrev pub IsRefused : Ended → Type 0
 IsRefused ended.TooManyStates = Unit {0}
-IsRefused ended.TooManyOutcomes = Unit {0}
+IsRefused (ended.TooManyOutcomes crowd) = Unit {0}
 IsRefused ended.Memory = Unit {0}
 IsRefused _ = ⊥

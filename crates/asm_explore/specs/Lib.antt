@@ -1,6 +1,7 @@
 pub mod Marks
 pub mod Lists
 pub mod Explored
+pub mod Crowds
 pub mod Sequences
 pub mod Search
 pub mod Reached

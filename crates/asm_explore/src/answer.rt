@@ -1,5 +1,6 @@
 //! What is answered of a specification.
 use crate::fault::Fault;
+use crate::refusal::Crowd;
 
 /// A run that goes wrong.
 #[derive(Drop)]
@@ -24,8 +25,9 @@ pub enum Finding {
     WrongFirst,
     /// There are more states than the limit says; no run of at most so many steps goes wrong.
     TooManyStates(u32),
-    /// There are more outcomes of a step than the limit says; no run of at most so many steps goes wrong.
-    TooManyOutcomes(u32),
+    /// There are more outcomes of a step than the limit says, of the rule at a path; no run of at
+    /// most so many steps goes wrong.
+    TooManyOutcomes { depth: u32, crowd: Crowd },
     /// Memory ran out; no run of at most so many steps goes wrong.
     NoMemory(u32),
     /// A step goes wrong, but what was written isn't a script that makes the choices that lead to it, as where it is longer than a script may

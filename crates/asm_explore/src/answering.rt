@@ -10,6 +10,7 @@ use crate::explored::{Bad, Ended};
 use crate::leading::script_to;
 use crate::machine::Machine;
 use crate::node::Node;
+use crate::refusal::copy_crowd;
 use crate::search::explore;
 use asm_state::state::State;
 use std::alloc::{AllocError, Global};
@@ -88,7 +89,10 @@ pub fn explore_machine<M: Machine>(
         Ended::AtLimit => Finding::SafeTo(whole),
         Ended::Bad(bad) => bad_run(alloc, machine, nodes, bad, steps, whole)?,
         Ended::TooManyStates => Finding::TooManyStates(whole),
-        Ended::TooManyOutcomes => Finding::TooManyOutcomes(whole),
+        Ended::TooManyOutcomes(crowd) => Finding::TooManyOutcomes {
+            depth: whole,
+            crowd: copy_crowd(alloc, crowd)?,
+        },
         Ended::Memory => Finding::NoMemory(whole),
     };
     Ok(Answered {

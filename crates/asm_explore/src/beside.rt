@@ -7,7 +7,7 @@ ghost use Rattle.asm_explore.specs.Lists.{Situation, Shows, IsCounted, AreCounte
 
 use crate::found::{Answer, Choice, Found, add_choices, copy_path};
 use crate::listing::add;
-use crate::refusal::Refusal;
+use crate::overflow::Overflow;
 use crate::sets::{union, union_into};
 use asm_meaning::Path;
 use asm_state::signature::Signature;
@@ -88,7 +88,7 @@ fn beside_each(
     right: &[Found],
     limit: usize,
     found: &mut Vec<Found>,
-) -> Result<(), Refusal>
+) -> Result<(), Overflow>
     requires left { IsCounted (count_of signature.now) left.now.answer }
     requires right { AreCounted (count_of signature.now) right.now }
     ensures { OnOk result (IsJoined signature.now left.now right.now found.old.items found.new.items) }
@@ -107,7 +107,7 @@ pub(crate) fn beside_all(
     left: &[Found],
     right: &[Found],
     limit: usize,
-) -> Result<Vec<Found>, Refusal>
+) -> Result<Vec<Found>, Overflow>
     requires left { AreCounted (count_of signature.now) left.now }
     requires right { AreCounted (count_of signature.now) right.now }
     ensures { (o q : Situation → Yielded) → Lists signature.now o left.now → Lists signature.now q right.now →
@@ -222,7 +222,7 @@ pub(crate) fn beside_lists(
     left: Vec<Found>,
     right: Vec<Found>,
     limit: usize,
-) -> Result<Vec<Found>, Refusal>
+) -> Result<Vec<Found>, Overflow>
     requires left { AreCounted (count_of signature.now) left.items }
     requires right { AreCounted (count_of signature.now) right.items }
     ensures { (o q : Situation → Yielded) → Lists signature.now o left.items → Lists signature.now q right.items →

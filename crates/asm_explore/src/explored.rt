@@ -8,6 +8,7 @@ use crate::fault::Fault;
 use crate::found::Choice;
 use crate::halt::Halt;
 use crate::node::Node;
+use crate::refusal::Crowd;
 
 /// A step that goes wrong.
 #[derive(Drop)]
@@ -31,7 +32,7 @@ pub enum Ended {
     /// There are more states than the limit says.
     TooManyStates,
     /// There are more outcomes of a step than the limit says.
-    TooManyOutcomes,
+    TooManyOutcomes(Crowd),
     /// Memory ran out.
     Memory,
 }
@@ -67,7 +68,7 @@ pub(crate) fn cut_off(halt: Halt) -> Ended
 {
     match halt {
         Halt::Memory => Ended::Memory,
-        Halt::Outcomes => Ended::TooManyOutcomes,
+        Halt::Outcomes(crowd) => Ended::TooManyOutcomes(crowd),
         Halt::States => Ended::TooManyStates,
     }
 }

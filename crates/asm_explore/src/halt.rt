@@ -2,16 +2,16 @@
 ghost use Rattle.std.specs.Prelude.{◌≡◌, ◌≢◌};
 ghost use Rattle.asm_explore.specs.declared.halt.Halt.TheVariants as halt;
 
-use crate::refusal::Refusal;
+use crate::refusal::{Crowd, Refusal};
 use std::alloc::{AllocError, AllocFailed};
 
 /// Why a search was cut off.
-#[derive(Clone, Copy, Debug, PartialEq, Eq)]
+#[derive(Drop)]
 pub enum Halt {
     /// Memory ran out.
     Memory,
     /// A step has more outcomes than the limit says.
-    Outcomes,
+    Outcomes(Crowd),
     /// There are more states than the limit says.
     States,
 }
@@ -38,6 +38,6 @@ pub(crate) fn halted(refusal: Refusal) -> Halt
 {
     match refusal {
         Refusal::Memory => Halt::Memory,
-        Refusal::TooMany => Halt::Outcomes,
+        Refusal::TooMany(crowd) => Halt::Outcomes(crowd),
     }
 }

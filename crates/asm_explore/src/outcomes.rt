@@ -13,15 +13,14 @@ ghost use Rattle.asm_explore.specs.Explored.{shape_on, state_on, yields_on, part
 ghost use Rattle.asm_explore.specs.Lists.{Situation, AreCounted, IsCounted, Lists};
 ghost use Rattle.asm_explore.specs.Sequences.{Next, NextOne, Upon};
 
-use crate::beside::beside_lists;
 use crate::candidates::{candidate_at, candidates, passes};
+use crate::crowding::{add_part, beside_lists, close, exhaust, sort_part};
 use crate::exploration::Exploration;
 use crate::found::{Answer, Found};
 use crate::leaf::{assigned, empty};
-use crate::picking::add_part;
 use crate::place::answer_number;
 use crate::refusal::Refusal;
-use crate::sorting::{Sorted, close, exhaust, sort_part};
+use crate::sorting::Sorted;
 use crate::updates::Updates;
 use asm_eval::code::Code;
 use asm_eval::frame::Frame;
@@ -170,7 +169,8 @@ fn list_all<'e>(
     while i > 0 {
         i -= 1;
         let part = list_part(alloc, on, frame, &parts[i], i as u64, path)?;
-        let more = beside_lists(alloc, on.view.signature, part, found, on.limit)?;
+        let signature = on.view.signature;
+        let more = beside_lists(alloc, signature, part, found, on.limit, path)?;
         found = more;
     }
     Ok(found)
@@ -232,7 +232,8 @@ fn list_element<'e>(
 {
     if passes(on.view, frame, test) {
         let part = list_part(alloc, on, frame, body, number, path)?;
-        let found = beside_lists(alloc, on.view.signature, part, after, on.limit)?;
+        let signature = on.view.signature;
+        let found = beside_lists(alloc, signature, part, after, on.limit, path)?;
         Ok(found)
     } else {
         Ok(after)
@@ -331,7 +332,7 @@ fn list_in_order<'e>(
         )?;
         sorted = next;
     }
-    let found = close(alloc, sorted, on.limit)?;
+    let found = close(alloc, sorted, on.limit, path)?;
     Ok(found)
 }
 
@@ -431,7 +432,9 @@ fn list_one<'e>(
         Answer::Set(so_far) => {
             let part = list_upon(alloc, on, frame, rule, number, path, so_far)?;
             let signature = on.view.signature;
-            sort_part(alloc, signature, so_far, one, part, turns, on.limit, sorted)?;
+            sort_part(
+                alloc, signature, so_far, one, part, turns, on.limit, path, sorted,
+            )?;
             Ok(())
         }
         Answer::Exhausted(_) => Ok(()),

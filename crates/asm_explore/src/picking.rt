@@ -6,7 +6,7 @@ ghost use Rattle.asm_explore.specs.Lists.{Shows, IsCounted, IsPicked};
 
 use crate::found::{Answer, Choice, Found, add_choices, copy_answer};
 use crate::listing::add;
-use crate::refusal::Refusal;
+use crate::overflow::Overflow;
 use crate::sets::in_order;
 use asm_meaning::Path;
 use asm_state::word::Word;
@@ -37,7 +37,7 @@ fn add_chosen(
     number: u64,
     limit: usize,
     found: &mut Vec<Found>,
-) -> Result<(), Refusal>
+) -> Result<(), Overflow>
     ensures { OnOk result (IsPicked path.now number part.now found.old.items found.new.items) }
 {
     for i in 0..part.len() {
@@ -88,7 +88,7 @@ fn add_one(
     number: u64,
     limit: usize,
     found: &mut Vec<Found>,
-) -> Result<(), Refusal>
+) -> Result<(), Overflow>
     ensures { OnOk result (IsPicked path.now number (one ∷ []) found.old.items found.new.items) }
 {
     let chosen = choose_into(alloc, one, path, number)?;
@@ -104,7 +104,7 @@ pub(crate) fn add_part(
     number: u64,
     limit: usize,
     found: &mut Vec<Found>,
-) -> Result<(), Refusal>
+) -> Result<(), Overflow>
     ensures { OnOk result (IsPicked path.now number part.items found.old.items found.new.items) }
 {
     if part.len() == 1 {

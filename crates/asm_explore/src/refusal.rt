@@ -1,16 +1,29 @@
 //! Why outcomes weren't listed.
-ghost use Rattle.std.specs.Prelude.{◌≡◌};
+ghost use Rattle.std.specs.Prelude.{◌≡◌, IfOk};
 ghost use Rattle.asm_explore.specs.declared.refusal.Refusal.TheVariants as refusal;
 
-use std::alloc::{AllocError, AllocFailed};
+use crate::found::copy_path;
+use asm_meaning::Path;
+use std::alloc::{AllocError, AllocFailed, Global};
 
-/// Why the outcomes of a step weren't listed.
-#[derive(Clone, Copy, Debug, PartialEq, Eq)]
+/// A rule whose outcomes are more than the limit says.
+#[derive(Drop)]
+pub struct Crowd {
+    /// The path of the rule.
+    pub path: Path,
+    /// So many outcomes has its part, the candidate, or what has ended.
+    pub first: usize,
+    /// So many have those that stand beside it, or go on.
+    pub others: usize,
+}
+
+/// Why the outcomes of a rule weren't listed.
+#[derive(Drop)]
 pub enum Refusal {
     /// Memory ran out.
     Memory,
     /// There are more of them than the limit says.
-    TooMany,
+    TooMany(Crowd),
 }
 
 impl From<AllocError> for Refusal {
@@ -27,4 +40,16 @@ impl<T: Drop> From<AllocFailed<T>> for Refusal {
     fn from(_e: AllocFailed<T>) -> Refusal {
         Refusal::Memory
     }
+}
+
+/// The same again.
+pub(crate) fn copy_crowd(alloc: Global, crowd: &Crowd) -> Result<Crowd, AllocError>
+    ensures { IfOk result (λ c. c ≡ crowd.now) }
+{
+    let path = copy_path(alloc, &crowd.path)?;
+    Ok(Crowd {
+        path,
+        first: crowd.first,
+        others: crowd.others,
+    })
 }

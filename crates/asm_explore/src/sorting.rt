@@ -10,7 +10,7 @@ ghost use Rattle.asm_explore.specs.Sequences.{Sorts, SortsAll, Underway, Adds, E
 
 use crate::found::{Answer, Choice, Found, add_choices, copy_found, copy_path};
 use crate::listing::add;
-use crate::refusal::Refusal;
+use crate::overflow::Overflow;
 use crate::sets::{is_last, merged};
 use crate::updates::Updates;
 use asm_meaning::Path;
@@ -44,7 +44,7 @@ fn sort_one(
     turns: bool,
     limit: usize,
     sorted: &mut Sorted,
-) -> Result<(), Refusal>
+) -> Result<(), Overflow>
     requires so_far { so_far.now.set.count ≡ count_of signature.now }
     requires one { IsCounted (count_of signature.now) one.now.answer }
     ensures { OnOk result (Sorts signature.now turns so_far.now.set choices.now one.now sorted.old sorted.new) }
@@ -82,7 +82,7 @@ fn sort_all(
     turns: bool,
     limit: usize,
     sorted: &mut Sorted,
-) -> Result<(), Refusal>
+) -> Result<(), Overflow>
     requires so_far { so_far.now.set.count ≡ count_of signature.now }
     requires part { AreCounted (count_of signature.now) part.now }
     ensures { OnOk result (SortsAll signature.now turns so_far.now.set choices.now part.now sorted.old sorted.new) }
@@ -105,7 +105,7 @@ pub(crate) fn sort_part(
     turns: bool,
     limit: usize,
     sorted: &mut Sorted,
-) -> Result<(), Refusal>
+) -> Result<(), Overflow>
     requires so_far { so_far.now.set.count ≡ count_of signature.now }
     requires part { AreCounted (count_of signature.now) part.items }
     ensures { OnOk result (SortsAll signature.now turns so_far.now.set one.now.choices.items part.items sorted.old sorted.new) }
@@ -124,7 +124,7 @@ fn add_each(
     more: &[Found],
     limit: usize,
     done: &mut Vec<Found>,
-) -> Result<(), Refusal>
+) -> Result<(), Overflow>
     ensures { OnOk result (Adds done.old.items more.now done.new.items) }
 {
     for i in 0..more.len() {
@@ -155,7 +155,7 @@ fn exhaust_each(
     path: &[u64],
     limit: usize,
     done: &mut Vec<Found>,
-) -> Result<(), Refusal>
+) -> Result<(), Overflow>
     ensures { OnOk result (Exhausts path.now done.old.items more.now done.new.items) }
 {
     for i in 0..more.len() {
@@ -166,7 +166,7 @@ fn exhaust_each(
 }
 
 /// All outcomes, where the sets so far are those of the whole.
-pub(crate) fn close(alloc: Global, sorted: Sorted, limit: usize) -> Result<Vec<Found>, Refusal>
+pub(crate) fn close(alloc: Global, sorted: Sorted, limit: usize) -> Result<Vec<Found>, Overflow>
     ensures { (shape : Shape) (A : State) (total : Situation → Yielded) (left : Situation → State → Yielded) → ((s : Situation) (B : State) → left s B ≡ Gives none) →
         Underway shape A total left sorted.done.items sorted.more.items → IfOk result (λ fs. Lists shape total fs.items) }
 {
@@ -181,7 +181,7 @@ pub(crate) fn exhaust(
     sorted: Sorted,
     path: &[u64],
     limit: usize,
-) -> Result<Vec<Found>, Refusal>
+) -> Result<Vec<Found>, Overflow>
     ensures { (shape : Shape) (A : State) (total : Situation → Yielded) (left : Situation → State → Yielded) → ((s : Situation) (B : State) → left s B ≡ Exhausted path.now) →
         Underway shape A total left sorted.done.items sorted.more.items → IfOk result (λ fs. Lists shape total fs.items) }
 {

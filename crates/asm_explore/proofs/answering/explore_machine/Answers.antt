@@ -1,7 +1,7 @@
 use Rattle.std.proofs.Common.{◌≡◌, ◌≤◌, length, sym, subst}
 use Rattle.asm_explore.specs.Answers.{Claims}
 use Rattle.asm_explore.proofs.answering.explore_machine.Goals as goal
-use Rattle.asm_explore.proofs.answering.explore_machine.Goals.{in-Closed, in-AtLimit, in-Bad+in_ok-finding-in-Bad, in-TooManyStates, in-TooManyOutcomes, in-Memory}
+use Rattle.asm_explore.proofs.answering.explore_machine.Goals.{in-Closed, in-AtLimit, in-Bad+in_ok-finding-in-Bad, in-TooManyStates, in-TooManyOutcomes+in_ok-copy_crowd-in-TooManyOutcomes, in-Memory}
 
 pub returns : goal.returns
 returns g c =
@@ -15,6 +15,6 @@ returns g c =
       | in-Bad+in_ok-finding-in-Bad w ↦ subst claims (sym w.finding-is) (w.in_ok-finding-in-Bad.ensures a.limit states)
       | in-TooManyStates w ↦ subst claims (sym w.finding-is)
           (subst (λ ns. a.limit ≤ length ns) (sym c.as_slice-nodes.ensures.value) (explored.full w.in-TooManyStates.is), explored.safe)
-      | in-TooManyOutcomes w ↦ subst claims (sym w.finding-is) explored.safe
+      | in-TooManyOutcomes+in_ok-copy_crowd-in-TooManyOutcomes w ↦ subst claims (sym w.finding-is) explored.safe
       | in-Memory w ↦ subst claims (sym w.finding-is) explored.safe
     ]

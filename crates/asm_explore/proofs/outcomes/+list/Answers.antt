@@ -146,7 +146,7 @@ list_all-loop-i-preserved t c =
           (parts_left a.on.now a.frame.now a.path.now a.parts.now (l.i - 1)) c.in_ok-more.more.items
           (λ s. ap (λ k. beside (here s) (parts_left a.on.now a.frame.now a.path.now a.parts.now k s)) back
           ∙ part_next a.on.now a.frame.now a.path.now a.parts.now (l.i - 1) c.index-parts-i.result low c.index-parts-i.is s)
-          (c.in_ok-more.ensures here (parts_left a.on.now a.frame.now a.path.now a.parts.now l.i) c.in_ok-part.ensures l.invariant.lists);
+          (c.in_ok-more.ensures.lists here (parts_left a.on.now a.frame.now a.path.now a.parts.now l.i) c.in_ok-part.ensures l.invariant.lists);
     }
 
 pub list_all-returns : goal.list_all-returns
@@ -209,7 +209,7 @@ list_element-returns-in_ok-found t c = λ o lists.
     let here = yields_on a.on.now a.frame.now (at a.path.now a.number) (rule_of a.body.now) in
     lists_same (shape_on a.on.now) (λ s. beside (here s) (o s)) _ c.in_ok-found.found.items
     (λ s. ap (λ b. cond b (beside (here s) (o s)) (o s)) (sym c.if-passes.true ∙ c.passes.ensures))
-    (c.in_ok-found.ensures here o c.in_ok-part.ensures lists)
+    (c.in_ok-found.ensures.lists here o c.in_ok-part.ensures lists)
 
 pub list_element-returns-else-passes : goal.list_element-returns-else-passes
 list_element-returns-else-passes t c = λ o lists.
@@ -240,7 +240,7 @@ list_choose-loop-k-preserved t c =
     let l = c.loop-k in
     choosing_more a.on.now a.frame.now a.path.now a.over a.test.now a.body.now a.none.now c.as_slice-all.result.now (c.as_slice-all.ensures.value ∙ c.in_ok-values.ensures)
     l.k (value_of_code c.kept.result.value) (c.candidate_at-value.ensures ∙ ap Some (sym c.kept.ensures)) c.in_ok-part.part.items l.found.items c.add_part.new.found.items
-    c.in_ok-part.ensures c.in_ok-add_part.ensures l.invariant
+    c.in_ok-part.ensures c.in_ok-add_part.ensures.picks l.invariant
 
 pub list_choose-returns : goal.list_choose-returns
 list_choose-returns t c =
@@ -297,7 +297,7 @@ pub list_in_order-returns : goal.list_in_order-returns
 list_in_order-returns t c =
     let a = c.args in
     let l = c.loop-i in
-    c.in_ok-found.ensures (shape_on a.on.now) (state_on a.on.now) (in_order_on a.on.now a.frame.now a.path.now (rules_of (map rule_of a.parts.now))) (order_left a.on.now a.frame.now a.path.now a.parts.now l.i)
+    c.in_ok-found.ensures.lists (shape_on a.on.now) (state_on a.on.now) (in_order_on a.on.now a.frame.now a.path.now (rules_of (map rule_of a.parts.now))) (order_left a.on.now a.frame.now a.path.now a.parts.now l.i)
     (order_ends a.on.now a.frame.now a.path.now a.parts.now l.i (omega arith)) l.invariant
 
 pub list_turns-loop-turn-init : goal.list_turns-loop-turn-init
@@ -347,7 +347,7 @@ list_turns-returns t c =
     let l = c.loop-turn in
     let R = rule_of a.body.now in
     let past : a.on.now.turns - l.turn ≡ 0 = omega (arith, c.loop-turn-test.false) in
-    c.in_ok-found.ensures (shape_on a.on.now) (state_on a.on.now) (yields_on a.on.now a.frame.now a.path.now (tree.Iterate R))
+    c.in_ok-found.ensures.lists (shape_on a.on.now) (state_on a.on.now) (yields_on a.on.now a.frame.now a.path.now (tree.Iterate R))
     (turns_left a.on.now a.frame.now a.path.now R (a.on.now.turns - l.turn) l.turn)
     (λ s B. ap (λ n. turns_left a.on.now a.frame.now a.path.now R n l.turn s B) past) l.invariant
 
@@ -386,7 +386,7 @@ list_one-returns-in_ok-sort_part-in-Set t c =
     let a = c.args in
     let upon = c.in_ok-part-in-Set.ensures in
     next_one (shape_on a.on.now) a.turns (state_on a.on.now) (here_on a.on.now a.frame.now (at a.path.now a.number) (rule_of a.rule.now)) a.one.now c.in-Set.so_far c.in_ok-part-in-Set.part.items
-    a.sorted.now c.sort_part.new.sorted c.in-Set.is upon.state upon.fired upon.lists c.in_ok-sort_part-in-Set.ensures
+    a.sorted.now c.sort_part.new.sorted c.in-Set.is upon.state upon.fired upon.lists c.in_ok-sort_part-in-Set.ensures.sorts
 
 pub list_upon-returns-in_err-found : goal.list_upon-returns-in_err-found
 list_upon-returns-in_err-found t c =
