@@ -1,11 +1,10 @@
 -- The law of choice, of lists of outcomes.
-use Rattle.std.proofs.Common.{◌≡◌, ℕ, [], subst}
+use Rattle.std.proofs.Common.{[], subst}
 use Rattle.asm_meaning.proofs.Free.{scripted_is_free}
 use Rattle.asm_meaning.proofs.Scripted.{free_has_script}
 use Rattle.asm_meaning.specs.Program.{nothing_bound}
 use Rattle.asm_meaning.specs.Yields.{Result}
 use Rattle.asm_explore.specs.ChoiceLaws.{ChoiceLaws, MayYield}
-use Rattle.asm_explore.specs.declared.found.Found.{Found}
 use Rattle.asm_explore.specs.Lists.{Situation, AreTaken, Shows, Shown, IsSound}
 use Rattle.asm_explore.specs.Reached.{steps_from}
 use Rattle.asm_explore.proofs.ListLemmas.{each_weaker}

@@ -1,13 +1,13 @@
 -- The tree of each variant of the program's rule codes, and what it yields, by what its parts yield.
 --     *_form        the tree of a code
 --     *_yields, *_is, *_with, if_*, choose_*     what it yields
-use Rattle.std.proofs.Common.{◌++◌, ◌≡◌, ◌∙◌, ℕ, zero, suc, ◌+◌, ◌-◌, ◌≤◌, ◌<◌, true, false, cond, List, [], ◌∷◌, length, get_or, map, drop, Option, Some, None, refl, ap, sym, subst, arith, Box, Vec, Global, add-one}
-use Rattle.std.specs.Prelude.{option_map, slice_get, slice_index_or}
+use Rattle.std.proofs.Common.{◌++◌, ◌≡◌, ◌∙◌, ℕ, ◌+◌, ◌≤◌, ◌<◌, true, false, cond, List, [], ◌∷◌, length, get_or, map, drop, Option, Some, None, refl, ap, sym, Box, Vec, Global, add-one}
+use Rattle.std.specs.Prelude.{option_map, slice_get}
 use Rattle.std.specs.Arc.{arc_value}
 use Rattle.std.proofs.lemmas.List.{drop_more, at_drop_more, at_drop_all}
 use Rattle.std.proofs.Math.ListN.{drop_of_length-le}
 use Rattle.asm_state.specs.declared.value.Value.{Value}
-use Rattle.asm_state.specs.Location.{Location, State}
+use Rattle.asm_state.specs.Location.{State}
 use Rattle.asm_state.specs.Signature.{Shape}
 use Rattle.asm_state.specs.Updates.{UpdateSet, fire}
 use Rattle.asm_meaning.specs.Does.{Outcome, nothing, both, parts, in_order, part_and, turns_of, counted, each}
@@ -16,14 +16,14 @@ use Rattle.asm_meaning.specs.Program.{nothing_bound}
 use Rattle.asm_meaning.specs.Taken.{taken}
 use Rattle.asm_meaning.specs.Targets.{update}
 use Rattle.asm_meaning.specs.Value.{Reading, is_true}
-use Rattle.asm_meaning.specs.Yields.{Path, Exhausted, Gives, beside, at}
+use Rattle.asm_meaning.specs.Yields.{Path, Gives, at}
 use Rattle.asm_meaning.proofs.Candidates.{candidate_laws-some as some_taken, candidate_laws-none as none_taken}
 use Rattle.asm_meaning.proofs.Intervals.{interval_laws-all as between_all, interval_laws-next as each_next, interval_laws-none as each_none}
 use Rattle.asm_eval.specs.CodeViews.{code_of, codes_of}
 use Rattle.asm_eval.specs.CodeTree as codes
 use Rattle.asm_eval.specs.Frames.{answer_contents, by_name}
 use Rattle.asm_eval.specs.Readings.{always, reading, universe_at}
-use Rattle.asm_eval.specs.RuleMeaning.{Locations, meaning, meanings, named_readings, passes, passing, located_at, answer_readings, answer_locations, IsSoundRule, AreSoundRules, rule_size, rule_sizes}
+use Rattle.asm_eval.specs.RuleMeaning.{Locations, meaning, meanings, named_readings, passes, passing, located_at, answer_readings, answer_locations}
 use Rattle.asm_eval.specs.RuleTree as tree
 use Rattle.asm_eval.specs.RuleViews.{place_of, rule_of, rule_step, rules_of}
 use Rattle.asm_eval.specs.Running.{location_numbered}

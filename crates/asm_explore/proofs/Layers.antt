@@ -1,16 +1,16 @@
 -- Runs through known states.
 --     layers_are_safe      where states are covered up to a depth, each run of at most so many steps is fine
 --     closure_is_safe      where they are covered at every depth, each run is
-use Rattle.std.proofs.Common.{◌≡◌, ℕ, zero, suc, ◌+◌, ◌≤◌, ◌<◌, Bool, true, false, cond, [], refl, sym, ap, subst, ◌∙◌, arith}
+use Rattle.std.proofs.Common.{◌≡◌, ℕ, zero, suc, ◌+◌, ◌≤◌, ◌<◌, Bool, true, cond, [], refl, sym, ap, subst, ◌∙◌, arith}
 use Rattle.asm_state.specs.Location.{State}
-use Rattle.asm_state.specs.Updates.{UpdateSet, IsConsistent, is_consistent, fire}
+use Rattle.asm_state.specs.Updates.{UpdateSet, IsConsistent, fire}
 use Rattle.asm_state.proofs.Updates.{test_laws}
 use Rattle.asm_reader.specs.ScriptLines.{Script}
 use Rattle.asm_meaning.specs.Does.{Outcome, does}
 use Rattle.asm_meaning.specs.Program.{nothing_bound}
-use Rattle.asm_meaning.specs.Run.{Run, AtLimit, AtFault, Specification, run, run_from, step_and, fired, ended}
-use Rattle.asm_meaning.specs.Yields.{Result, Gives, Exhausted}
-use Rattle.asm_explore.specs.Search.{IsFine, IsSafeUpTo, IsSafe, LeadsOn, Covers}
+use Rattle.asm_meaning.specs.Run.{Run, AtFault, Specification, run_from, step_and, fired, ended}
+use Rattle.asm_meaning.specs.Yields.{Result, Gives}
+use Rattle.asm_explore.specs.Search.{IsFine, IsSafeUpTo, IsSafe, Covers}
 
 module _ (specification : Specification) (turns : ℕ) (within : State → Bool) (ok : State → Type 0) where
   -- a step with a consistent set, and a fine run after it

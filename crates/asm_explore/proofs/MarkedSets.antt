@@ -1,8 +1,7 @@
 -- The marks of sets that are made of others.
 --     joined_marked     a set that stands for what two others make of what they stand for
 
-use Rattle.std.proofs.Common.{◌≡◌, ℕ, sym, subst, ◌∙◌}
-use Rattle.asm_state.specs.Location.{Location}
+use Rattle.std.proofs.Common.{◌≡◌, sym, ◌∙◌}
 use Rattle.asm_state.specs.Signature.{Shape}
 use Rattle.asm_state.specs.Updates.{UpdateSet}
 use Rattle.asm_updates.specs.Entries.{Entries, AreEntries}

@@ -5,7 +5,7 @@
 --     set_leads, follows_none, follows_more, follows_all      the outcomes of a step, followed one after the other
 --     looked_*                                    nodes, expanded one after the other
 --     search_covers                               a whole search covers what runs come to
-use Rattle.std.proofs.Common.{◌≡◌, ℕ, zero, suc, ◌+◌, ◌<◌, ◌≤◌, Bool, true, List, [], ◌∷◌, ◌++◌, length, take, drop, get_or, ◌⊎◌, inl, inr, refl, sym, ap, subst, ◌∙◌, arith, append_assoc, append-nil, add-one}
+use Rattle.std.proofs.Common.{◌≡◌, ℕ, zero, suc, ◌+◌, ◌<◌, ◌≤◌, Bool, true, List, [], ◌∷◌, ◌++◌, length, take, drop, get_or, ◌⊎◌, inl, inr, refl, sym, ap, subst, ◌∙◌, arith, append_assoc, append-nil}
 use Rattle.std.specs.Prelude.{slice_get, Option, Some, None, IfNone}
 use Rattle.std.proofs.lemmas.List.{take_all, take_more, take-append-le, take-append-drop}
 use Rattle.std.proofs.lemmas.Option.{get_or_from_slice_get, slice_get_within, slice_get-get_or}
@@ -14,7 +14,6 @@ use Rattle.asm_state.specs.Location.{State}
 use Rattle.asm_state.specs.Signature.{Shape, count_of, state_of}
 use Rattle.asm_state.specs.Updates.{UpdateSet, IsConsistent, fire}
 use Rattle.asm_updates.specs.Stands.{Stands}
-use Rattle.asm_reader.specs.ScriptLines.{Script}
 use Rattle.asm_meaning.specs.Run.{Specification}
 use Rattle.asm_meaning.specs.Yields.{Path, Result, Gives, Exhausted}
 use Rattle.asm_explore.specs.declared.found.Answer.TheVariants as answer
@@ -25,8 +24,8 @@ use Rattle.asm_explore.specs.declared.updates.Updates.{Updates}
 use Rattle.asm_explore.specs.declared.fault.Fault.{Fault}
 use Rattle.asm_explore.specs.Lists.{Situation, Each, AnyOf, AreTaken, Shows, Shown}
 use Rattle.asm_explore.specs.Reached.{steps_from, state_at, Known, Rises, IsNear, IsGood, Extends, Follows, Expanded, IsLinked, IsLooked, IsOutcome, IsBadStep, LeadsTo, IsSearched}
-use Rattle.asm_explore.specs.Search.{LeadsOn, Covers, IsSafeUpTo, IsSafe}
-use Rattle.asm_explore.proofs.ListLemmas.{each_append, each_at, each_weaker, each_take_more, any_first, any_last, any_at, any_weaker, any_take_more}
+use Rattle.asm_explore.specs.Search.{LeadsOn, IsSafeUpTo, IsSafe}
+use Rattle.asm_explore.proofs.ListLemmas.{each_append, each_at, each_weaker, any_first, any_last, any_weaker, any_take_more}
 use Rattle.asm_explore.proofs.Layers.{layers_are_safe, closure_is_safe}
 
 pub some_at : (nodes : List Node) (i : ℕ) → i < length nodes → (n : Node) × (slice_get nodes i ≡ Some n)

@@ -2,8 +2,8 @@
 --     next_same      one entry more
 --     all_same       a set whose entries are those of another stands for the same updates
 --     sets_shown     its answer shows what that of the other shows
-use Rattle.std.proofs.Common.{◌≡◌, ℕ, ◌+◌, ◌<◌, ◌≤◌, List, length, take, get_or, ap, sym, subst, ◌∙◌}
-use Rattle.std.specs.Prelude.{slice_get, Option, Some, None}
+use Rattle.std.proofs.Common.{◌≡◌, ℕ, ◌+◌, ◌<◌, ◌≤◌, length, take, get_or, ap, sym, subst, ◌∙◌}
+use Rattle.std.specs.Prelude.{slice_get}
 use Rattle.std.proofs.lemmas.List.{take_more_same, take_all}
 use Rattle.std.proofs.lemmas.Option.{slice_get-get_or, get_or_from_slice_get}
 use Rattle.asm_state.specs.Signature.{Shape}
@@ -12,9 +12,8 @@ use Rattle.asm_state.specs.declared.value.Value.{Value}
 use Rattle.asm_state.specs.declared.value.Value.TheVariants.{Undef}
 use Rattle.asm_updates.specs.Entries.{NamedRanges, found}
 use Rattle.asm_updates.specs.Stands.{Stands}
-use Rattle.asm_meaning.specs.Yields.{Result, Gives, Exhausted}
+use Rattle.asm_meaning.specs.Yields.{Gives, Exhausted}
 use Rattle.asm_explore.specs.Lists.{Shows, IsShownBy}
-use Rattle.asm_explore.specs.Marks.{IsMarked}
 use Rattle.asm_explore.specs.declared.found.Answer.{Answer}
 use Rattle.asm_explore.specs.declared.found.Answer.TheVariants as answer
 use Rattle.asm_explore.specs.declared.updates.Updates.{Updates}

@@ -5,10 +5,10 @@
 --     next_none, next_more, next_all            how the first outcomes so far go on
 --     begun, underway_next, ended               a sequence from part to part
 --     closed, all_exhausted                     its end
-use Rattle.std.proofs.Common.{◌≡◌, ℕ, ◌+◌, ◌<◌, ◌≤◌, Bool, true, false, cond, not, ◌&&◌, ◌||◌, List, [], ◌∷◌, ◌++◌, length, take, get_or, ◌⊎◌, inl, inr, refl, sym, ap, subst, ◌∙◌, arith}
+use Rattle.std.proofs.Common.{◌≡◌, ℕ, ◌+◌, ◌<◌, ◌≤◌, Bool, true, false, cond, not, ◌&&◌, ◌||◌, List, [], ◌++◌, length, take, get_or, ◌⊎◌, inl, inr, refl, sym, ap, subst, ◌∙◌, arith}
 use Rattle.std.specs.Prelude.{Option, Some, None, is_some, IfNone, IfSome}
 use Rattle.std.proofs.Math.Bool.{or-true}
-use Rattle.std.proofs.lemmas.Bool.{false_from_ne_true, false≢true}
+use Rattle.std.proofs.lemmas.Bool.{false_from_ne_true}
 use Rattle.std.proofs.lemmas.List.{take_all}
 use Rattle.asm_state.specs.Location.{Proper, Stray, State}
 use Rattle.asm_state.specs.Signature.{Shape, count_of}
@@ -23,13 +23,12 @@ use Rattle.asm_updates.specs.Faults.{fault_of}
 use Rattle.asm_updates.specs.Stands.{Stands}
 use Rattle.asm_updates.specs.declared.fault.Fault.{Fault as NumberedFault}
 use Rattle.asm_meaning.specs.Yields.{Path, Result, Gives, Exhausted, after}
-use Rattle.asm_explore.specs.declared.found.Answer.{Answer}
 use Rattle.asm_explore.specs.declared.found.Answer.TheVariants as answer
 use Rattle.asm_explore.specs.declared.found.Choice.{Choice}
 use Rattle.asm_explore.specs.declared.found.Found.{Found}
 use Rattle.asm_explore.specs.declared.sorting.Sorted.{Sorted}
 use Rattle.asm_explore.specs.declared.updates.Updates.{Updates}
-use Rattle.asm_explore.specs.Lists.{Situation, Each, AnyOf, AreTaken, Shows, IsShownBy, Shown, IsCounted, AreCounted, IsSound, Lists, Grows}
+use Rattle.asm_explore.specs.Lists.{Situation, Each, AreTaken, Shows, IsShownBy, Shown, IsCounted, AreCounted, IsSound, Lists, Grows}
 use Rattle.asm_explore.specs.Sequences.{ends, step_of, IsTold, Merges, ComesAfter, IsOn, Underway, Ends, GoesOn, Sorts, SortsAll, StepsTo, Next, NextOne, Adds, Exhausts}
 use Rattle.asm_explore.proofs.ListLemmas.{each_weaker, each_take_more, any_take_more, grows_each, grows_any, taken_both}
 

@@ -3,7 +3,7 @@
 --     step_is             what the code of the main rule yields is the step of the specification
 --     agrees_nothing      where no name is bound
 --     same_claims         what is claimed by one pair of conditions is claimed by others that are the same
-use Rattle.std.proofs.Common.{◌≡◌, ℕ, Bool, List, [], Option, Some, None, refl, sym, ap, subst, ◌∙◌}
+use Rattle.std.proofs.Common.{◌≡◌, ℕ, Bool, List, [], refl, ap, subst, ◌∙◌}
 use Rattle.asm_state.specs.Location.{State}
 use Rattle.asm_state.specs.Signature.{Shape, state_of}
 use Rattle.asm_state.specs.Updates.{UpdateSet, IsConsistent, none, fire}

@@ -3,7 +3,7 @@
 --     takes_none         the choices that lead to the first node
 --     takes_back         one node more
 --     takes_begin, takes_earlier, takes_end      along the nodes that lead to one
-use Rattle.std.proofs.Common.{◌≡◌, ℕ, zero, suc, ◌+◌, ◌-◌, List, [], ◌∷◌, refl, sym, ap, subst, ◌∙◌, arith}
+use Rattle.std.proofs.Common.{◌≡◌, ℕ, suc, List, sym, subst, ◌∙◌}
 use Rattle.std.specs.Prelude.{slice_get, Some}
 use Rattle.asm_reader.specs.ScriptLines.{Script}
 use Rattle.asm_explore.specs.declared.node.Node.{Node}

@@ -22,7 +22,7 @@ use Rattle.asm_meaning.specs.Yields.{Path, at, Result, Gives, Exhausted, beside,
 use Rattle.asm_eval.specs.CodeViews.{code_of, codes_of}
 use Rattle.asm_eval.specs.Frames.{readings_of, answer_contents, by_name}
 use Rattle.asm_eval.specs.Readings.{always, reading, universe_at}
-use Rattle.asm_eval.specs.RuleMeaning.{Locations, meaning, passes, passing, place_location, answer_locations}
+use Rattle.asm_eval.specs.RuleMeaning.{Locations, meaning, passes, place_location, answer_locations}
 use Rattle.asm_eval.specs.RuleTree as tree
 use Rattle.asm_eval.specs.RuleViews.{place_of, rule_of, rules_of}
 use Rattle.asm_eval.specs.Running.{places_of, passing_in, answer_in, location_numbered}

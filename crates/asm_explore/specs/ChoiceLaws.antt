@@ -1,6 +1,6 @@
 -- Complete and sound lists have just what a step may yield, for whatever choices.
 --     ChoiceLaws      each result that `Yields` relates is shown, and each outcome shows one that it relates, where a script makes its choices
-use Rattle.std.specs.Prelude.{◌≡◌, ℕ, List, []}
+use Rattle.std.specs.Prelude.{ℕ, List, []}
 use Rattle.asm_state.specs.Location.{State}
 use Rattle.asm_state.specs.Signature.{Shape}
 use Rattle.asm_syntax.specs.Tree.{Name}

@@ -3,7 +3,7 @@
 --     outcome_on on f p R s A      what R yields under a frame, at a path, in a situation and a state
 --     here_on, yields_on           its result, and that in the state of the exploration
 --     parts_on, in_order_on        the results of rules beside and after each other
-use Rattle.std.specs.Prelude.{ℕ, List}
+use Rattle.std.specs.Prelude.{ℕ}
 use Rattle.asm_state.specs.Location.{State}
 use Rattle.asm_state.specs.Signature.{Shape}
 use Rattle.asm_meaning.specs.Does.{Outcome, parts, in_order, turns_of}

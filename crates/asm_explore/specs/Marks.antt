@@ -1,7 +1,7 @@
 -- The marks of sets that may have a fault.
 --     IsMarked s      where a summary isn't marked, no location of it is faulty, by whatever shape it has the locations of
 --     marked_is       which can be so in one way alone
-use Rattle.std.specs.Prelude.{◌≡◌, false, ℕ, ◌<◌, Option, Some, None}
+use Rattle.std.specs.Prelude.{◌≡◌, Option, Some, None}
 use Rattle.std.proofs.Props.{props}
 use Rattle.asm_state.specs.Location.{Location, Proper, Stray}
 use Rattle.asm_state.specs.Signature.{Shape, IsSound, count_of, location_at}

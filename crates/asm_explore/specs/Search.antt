@@ -9,10 +9,9 @@
 use Rattle.std.specs.Prelude.{◌≡◌, ℕ, suc, ◌≤◌, ◌<◌, Bool, true, false, []}
 use Rattle.asm_state.specs.Location.{State}
 use Rattle.asm_state.specs.Updates.{UpdateSet, IsConsistent, fire}
-use Rattle.asm_syntax.specs.Tree.{Rule}
 use Rattle.asm_reader.specs.ScriptLines.{Script}
 use Rattle.asm_meaning.specs.Does.{does}
-use Rattle.asm_meaning.specs.Program.{Program, nothing_bound}
+use Rattle.asm_meaning.specs.Program.{nothing_bound}
 use Rattle.asm_meaning.specs.Run.{Run, AtLimit, AtExhausted, AtFault, Specification, run}
 use Rattle.asm_meaning.specs.Yields.{Path, Result, Gives}
 use Rattle.asm_explore.specs.declared.fault.Fault.{Fault}

@@ -4,7 +4,7 @@
 --     Sorts, SortsAll         how outcomes of the next part are added to those that are done and to those that go on
 --     Underway                what stays true from part to part: each situation has its whole outcome among those that are done, or
 --                             the set so far among those that go on
-use Rattle.std.specs.Prelude.{◌≡◌, ℕ, Bool, true, false, cond, not, ◌&&◌, ◌||◌, List, ◌⊎◌, ◌++◌, Result as Returned, IfOk}
+use Rattle.std.specs.Prelude.{◌≡◌, ℕ, Bool, false, cond, not, ◌&&◌, ◌||◌, List, ◌⊎◌, ◌++◌, Result as Returned, IfOk}
 use Rattle.std.proofs.Common.{Vec, Global}
 use Rattle.asm_state.specs.Location.{State}
 use Rattle.asm_state.specs.Signature.{Shape, count_of}

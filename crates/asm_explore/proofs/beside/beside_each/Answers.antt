@@ -1,4 +1,4 @@
-use Rattle.asm_explore.proofs.ListLemmas.{joined_more, joined_all}
+use Rattle.asm_explore.proofs.ListLemmas.{joined_more}
 use Rattle.asm_explore.proofs.beside.beside_each.Goals as goal
 
 pub loop-i-preserved : goal.loop-i-preserved

@@ -1,4 +1,4 @@
-use Rattle.std.proofs.Common.{◌≡◌, ◌∙◌, ◌++◌, ◌∷◌, [], filter, take, Vec, Global, ap, sym, append-nil, arith}
+use Rattle.std.proofs.Common.{◌∙◌, ◌++◌, ◌∷◌, [], filter, take, Vec, Global, ap, sym, append-nil, arith}
 use Rattle.std.proofs.lemmas.List.{take_all}
 use Rattle.asm_state.specs.declared.value.Value.{Value}
 use Rattle.asm_eval.specs.Running.{is_passing}

@@ -1,4 +1,4 @@
-use Rattle.std.proofs.Common.{◌≡◌, [], Some, None, refl, sym, ap, subst}
+use Rattle.std.proofs.Common.{[], Some, None, refl, sym, ap, subst}
 use Rattle.asm_meaning.specs.Program.{nothing_bound}
 use Rattle.asm_meaning.specs.Value.{is_true}
 use Rattle.asm_meaning.specs.Valued.{program}

@@ -1,7 +1,6 @@
-use Rattle.std.proofs.Common.{◌≡◌, suc, ◌<◌, ◌∙◌, length, ap, sym, subst, arith}
+use Rattle.std.proofs.Common.{◌≡◌, suc, ◌∙◌, ap, sym, subst, arith}
 use Rattle.std.specs.Prelude.{Some, slice_get}
 use Rattle.std.proofs.lemmas.Option.{slice_get-get_or}
-use Rattle.asm_explore.specs.declared.node.Node.{Node}
 use Rattle.asm_explore.specs.Lists.{AreTaken}
 use Rattle.asm_explore.proofs.Taken.{takes_end, takes_earlier}
 use Rattle.asm_explore.proofs.leading.takes_all.Goals as goal

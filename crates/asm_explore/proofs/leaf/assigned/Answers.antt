@@ -1,6 +1,6 @@
-use Rattle.std.proofs.Common.{◌∙◌, ◌<◌, ap, sym, subst}
+use Rattle.std.proofs.Common.{◌∙◌, ap, sym, subst}
 use Rattle.asm_state.specs.Signature.{location_at}
-use Rattle.asm_state.specs.Updates.{none, one}
+use Rattle.asm_state.specs.Updates.{one}
 use Rattle.asm_state.proofs.Algebra.{union_laws}
 use Rattle.asm_updates.specs.Stands.{Stands}
 use Rattle.asm_eval.specs.Running.{location_numbered}

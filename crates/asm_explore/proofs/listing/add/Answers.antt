@@ -1,4 +1,4 @@
-use Rattle.std.proofs.Common.{◌≡◌, subst}
+use Rattle.std.proofs.Common.{subst}
 use Rattle.asm_explore.specs.Lists.{AnyOf, IsShownBy}
 use Rattle.asm_explore.proofs.ListLemmas.{known, pushed}
 use Rattle.asm_explore.proofs.listing.add.Goals as goal

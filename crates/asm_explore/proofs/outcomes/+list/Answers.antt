@@ -1,13 +1,11 @@
-use Rattle.std.proofs.Common.{◌≡◌, ◌<◌, ◌-◌, ◌+◌, suc, true, false, cond, Some, None, [], rules, sym, ap, subst, ◌∙◌, arith, length, map, refl}
+use Rattle.std.proofs.Common.{◌≡◌, ◌<◌, ◌-◌, ◌+◌, suc, true, false, cond, Some, rules, sym, ap, subst, ◌∙◌, arith, length, map, refl}
 use Rattle.std.specs.Prelude.{option_map}
 use Rattle.asm_state.specs.Signature.{count_of}
-use Rattle.asm_state.specs.Updates.{none}
 use Rattle.asm_state.specs.Words.{value_of_code}
 use Rattle.asm_meaning.specs.Does.{nothing}
-use Rattle.asm_meaning.specs.Value.{is_true}
 use Rattle.asm_meaning.specs.Valued.{shown}
-use Rattle.asm_meaning.specs.Yields.{at, beside, Gives, Exhausted}
-use Rattle.asm_eval.specs.CodeViews.{code_of, codes_of}
+use Rattle.asm_meaning.specs.Yields.{at, beside}
+use Rattle.asm_eval.specs.CodeViews.{code_of}
 use Rattle.asm_eval.specs.Frames.{readings_of}
 use Rattle.asm_eval.specs.Readings.{universe_at}
 use Rattle.asm_eval.specs.RuleMeaning.{meaning}

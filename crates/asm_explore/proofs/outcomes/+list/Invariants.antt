@@ -1,8 +1,5 @@
-use Rattle.std.proofs.Common.{◌≡◌, ◌+◌, ◌*◌, ◌-◌, ◌≤◌, length, map, take}
-use Rattle.std.specs.Prelude.{option_map}
+use Rattle.std.proofs.Common.{◌+◌, ◌*◌, ◌-◌, ◌≤◌, length, map, take}
 use Rattle.asm_meaning.specs.Yields.{at}
-use Rattle.asm_eval.specs.CodeViews.{code_of}
-use Rattle.asm_eval.specs.Readings.{universe_at}
 use Rattle.asm_eval.specs.RuleMeaning.{rule_size, rule_sizes}
 use Rattle.asm_eval.specs.RuleTree as tree
 use Rattle.asm_eval.specs.RuleViews.{rule_of, rules_of}

@@ -1,4 +1,4 @@
-use Rattle.std.proofs.Common.{◌≡◌, sym, subst}
+use Rattle.std.proofs.Common.{sym, subst}
 use Rattle.asm_explore.specs.Lists.{IsShownBy}
 use Rattle.asm_explore.specs.declared.found.Found.{Found}
 use Rattle.asm_explore.proofs.ListLemmas.{any_at}

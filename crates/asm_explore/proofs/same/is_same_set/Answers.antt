@@ -1,6 +1,4 @@
-use Rattle.std.proofs.Common.{◌≡◌, ◌<◌, length, get_or, sym, ◌∙◌, arith}
-use Rattle.std.proofs.lemmas.List.{take_more_same, take_all}
-use Rattle.asm_updates.specs.Entries.{Entries}
+use Rattle.std.proofs.Common.{◌<◌, length, sym, ◌∙◌, arith}
 use Rattle.asm_explore.proofs.SameSets.{next_same, all_same}
 use Rattle.asm_explore.proofs.same.is_same_set.Goals as goal
 

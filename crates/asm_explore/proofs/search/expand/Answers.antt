@@ -1,4 +1,4 @@
-use Rattle.std.proofs.Common.{◌≡◌, ℕ, ◌≢◌, ◌+◌, ◌<◌, ◌≤◌, ◌∙◌, Bool, List, length, refl, ap, sym, subst, get_or}
+use Rattle.std.proofs.Common.{◌≡◌, ℕ, ◌≢◌, ◌<◌, ◌≤◌, ◌∙◌, Bool, List, length, ap, sym, subst, get_or}
 use Rattle.std.specs.Prelude.{Some, IfNone, IfSome, slice_get}
 use Rattle.std.proofs.lemmas.Option.{get_or_from_slice_get, slice_get_within}
 use Rattle.asm_state.specs.Location.{State}
@@ -7,7 +7,7 @@ use Rattle.asm_meaning.specs.Run.{Specification}
 use Rattle.asm_explore.specs.declared.found.Found.{Found}
 use Rattle.asm_explore.specs.declared.node.Node.{Node}
 use Rattle.asm_explore.specs.declared.search.BadOutcome.{BadOutcome}
-use Rattle.asm_explore.specs.Lists.{Situation, Each, AreTaken, Shown, IsSound}
+use Rattle.asm_explore.specs.Lists.{Each, Shown, IsSound}
 use Rattle.asm_explore.specs.Reached.{Follows, IsOutcome, IsBadStep, steps_from, state_at}
 use Rattle.asm_explore.proofs.ListLemmas.{each_weaker}
 use Rattle.asm_explore.specs.declared.halt.Halt.TheVariants as halt

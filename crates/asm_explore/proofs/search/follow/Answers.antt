@@ -1,17 +1,12 @@
 use Rattle.std.proofs.Common.{◌≡◌, ◌≤◌, ◌∙◌, length, refl, false, ap, sym, subst, get_or}
 use Rattle.std.proofs.lemmas.Option.{get_or_from_slice_get}
-use Rattle.asm_state.specs.Location.{State}
 use Rattle.asm_state.specs.Signature.{state_of}
-use Rattle.asm_state.specs.Updates.{UpdateSet, IsConsistent, fire}
+use Rattle.asm_state.specs.Updates.{fire}
 use Rattle.asm_updates.specs.Stands.{Stands}
-use Rattle.asm_meaning.specs.Yields.{Result}
-use Rattle.asm_explore.specs.Lists.{AreTaken, Shows}
-use Rattle.asm_explore.specs.declared.node.Node.{Node}
+use Rattle.asm_explore.specs.Lists.{AreTaken}
 use Rattle.asm_explore.specs.Reached.{Known, steps_from, state_at}
-use Rattle.asm_explore.specs.Search.{LeadsOn}
 use Rattle.asm_explore.proofs.Reaching.{set_leads, set_wrong, path_wrong}
 use Rattle.asm_explore.proofs.Sequenced.{no_fault_found, fault_found}
-use Rattle.asm_explore.specs.declared.halt.Halt.{Halt}
 use Rattle.asm_explore.specs.declared.halt.Halt.TheVariants as halt
 use Rattle.asm_explore.proofs.Endings.{full_on}
 use Rattle.asm_explore.proofs.search.follow.Goals as goal

@@ -7,7 +7,7 @@ use Rattle.asm_explore.specs.Lists.{Shows}
 use Rattle.asm_explore.specs.Reached.{IsOutcome, IsBadStep, Known, state_at}
 use Rattle.asm_explore.specs.Search.{LeadsOn}
 use Rattle.asm_explore.proofs.ListLemmas.{each_at}
-use Rattle.asm_explore.proofs.Reaching.{good_more, extends_none, extends_both, outcome_more, bad_step_less, follows_none, follows_more, follows_all, long_more, shallow_more}
+use Rattle.asm_explore.proofs.Reaching.{extends_none, extends_both, outcome_more, bad_step_less, follows_none, follows_more, follows_all, shallow_more}
 use Rattle.asm_explore.specs.declared.halt.Halt.TheVariants as halt
 use Rattle.asm_explore.proofs.Endings.{full_on}
 use Rattle.asm_explore.proofs.search.follow_all.Goals as goal

@@ -1,4 +1,3 @@
-use Rattle.std.proofs.Common.{◌≡◌}
 use Rattle.asm_state.specs.Updates.{merge}
 use Rattle.asm_explore.proofs.MarkedSets.{joined_marked}
 use Rattle.asm_explore.proofs.sets.follow.Goals as goal

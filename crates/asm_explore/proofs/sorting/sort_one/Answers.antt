@@ -1,4 +1,4 @@
-use Rattle.std.proofs.Common.{◌∙◌, ◌++◌, ap, sym, subst, refl, inl, inr, true, false}
+use Rattle.std.proofs.Common.{◌∙◌, ◌++◌, ap, subst, refl, inl, inr}
 use Rattle.asm_explore.specs.declared.found.Answer.TheVariants as answer
 use Rattle.asm_explore.specs.declared.found.Found.{Found}
 use Rattle.asm_explore.specs.Sequences.{IsTold}
