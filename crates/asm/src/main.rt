@@ -3,12 +3,12 @@
 
 use asm_tool::folder::Disk;
 use asm_tool::input::words;
-use asm_tool::output::buffered;
+use asm_tool::output::{Through, buffered};
 use asm_tool::status::{refusal, status};
 use std::process::ExitCode;
 
 fn main(rt: HostRuntime) -> ExitCode {
-    let mut err = rt.stderr();
+    let mut err = Through::new(rt.stderr());
     let status = match words(&rt) {
         Ok(words) => match buffered(rt.alloc(), rt.stdout()) {
             Ok(mut out) => {

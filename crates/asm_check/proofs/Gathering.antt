@@ -15,7 +15,7 @@ use Rattle.asm_check.specs.Gathering.{IsGathered, Gathers, repeated, predeclares
 use Rattle.asm_check.proofs.Apart.{texts}
 use Rattle.asm_check.proofs.Declared.{same_text}
 use Rattle.asm_check.proofs.Firsts.{grown}
-use Rattle.asm_check.specs.Positions.{is_key}
+use Rattle.asm_check.specs.Keys.{is_key}
 use Rattle.asm_check.proofs.Lookups.{text_turned}
 use Rattle.asm_check.proofs.Noted.{noted_after}
 use Rattle.asm_check.proofs.Repeats.{repeated_one}

@@ -11,6 +11,7 @@ pub mod Collecting
 pub mod CountedSizes
 pub mod CycleNotes
 pub mod Declared
+pub mod DeclaredBytes
 pub mod Domains
 pub mod ElementCounts
 pub mod ElementNumbers
@@ -35,13 +36,13 @@ pub mod Looked
 pub mod Lookups
 pub mod Marks
 pub mod NameNumbers
+pub mod NamedTexts
 pub mod NamesNumbered
 pub mod Noted
 pub mod Numbered
 pub mod NumberedBodies
 pub mod OneLeast
 pub mod IndicesWhere
-pub mod Positioned
 pub mod Ranks
 pub mod Reaching
 pub mod Readers
@@ -61,6 +62,7 @@ pub mod Sole
 pub mod Soonest
 pub mod SoonestWith
 pub mod SoundShapes
+pub mod Spelled
 pub mod StepFaults
 pub mod Stepping
 pub mod Suited

@@ -1,19 +1,24 @@
 -- What a look-up in the table of names answers.
-use Rattle.std.proofs.Common.{◌≡◌, ℕ, suc, nat_eq, Bool, true, false, cond, List, [], ◌∷◌, map, Option, Some, None, refl, sym, ap, subst, ◌∙◌, is_some}
-use Rattle.std.specs.Prelude.{find, option_map, IfSome, IfNone}
+use Rattle.std.proofs.Common.{◌≡◌, ℕ, suc, ◌<◌, nat_eq, Bool, true, false, cond, List, [], ◌∷◌, length, map, Option, Some, None, refl, sym, ap, subst, ◌∙◌, arith, position, is_some}
+use Rattle.std.specs.Prelude.{find, option_map, IfSome, IfNone, not, nat_lt, ◌+◌}
 use Rattle.std.specs.Bool.{one_answer}
 use Rattle.std.specs.Cmp.{unsigned_Decides}
 use Rattle.std.specs.Cmp.Lexicographic.{pointwise}
-use Rattle.std.specs.Map.{lookup}
+use Rattle.std.specs.List.{position_or_len}
+use Rattle.std.specs.Map.{keys_of, lookup}
 use Rattle.std.proofs.lemmas.Slice.Eq.{slice_eq-Decides}
 use Rattle.asm_syntax.specs.SourceTree.{Spec}
 use Rattle.asm_check.specs.declared.meaning.Declaration.{Declaration as CodeDeclaration}
 use Rattle.asm_check.specs.Names as names
 use Rattle.asm_check.specs.Names.{Text, Declaration, is_text, is_among, first_declarations, declared}
 use Rattle.asm_check.specs.Tables.{Entry, meaning_of, declaration_of, IsTableOf, text_at}
-use Rattle.asm_check.specs.Positions.{is_key, position_of}
+use Rattle.asm_check.specs.Keys.{is_key}
 use Rattle.asm_check.proofs.Firsts.{first_stands}
 use Rattle.asm_check.proofs.Declared.{same_text}
+
+pub none_of : {X : Type 0} (o : Option X) → is_some o ≡ false → o ≡ None
+none_of None e = refl
+none_of (Some x) e = cc
 
 abbrev pub is_of : Text → Declaration → Bool
 is_of x d = is_text d.name.text x
@@ -53,25 +58,29 @@ got_declared spec entries x key got table e found =
 
 -- ---- positions
 
-at_position : (entries : List Entry) (x : Text) (i : ℕ) → position_of (is_key x) entries ≡ Some i → text_at entries i ≡ x
-at_position [] x i is = cc
-at_position (e ∷ es) x i is = by_test (is_key x e.0) refl is (at_position es x)
-  where
-    by_next : (o : Option ℕ) → option_map suc o ≡ Some i → ((j : ℕ) → o ≡ Some j → text_at es j ≡ x) → text_at (e ∷ es) i ≡ x
-    by_next None there rest = cc
-    by_next (Some j) there rest = let next : suc j ≡ i = cc in subst (λ n. text_at (e ∷ es) n ≡ x) next (rest j refl)
+abbrev index : Text → List Entry → ℕ
+index x entries = position_or_len (is_key x) (keys_of entries)
 
-    by_test : (b : Bool) → is_key x e.0 ≡ b → cond b (Some 0) (option_map suc (position_of (is_key x) es)) ≡ Some i → ((j : ℕ) → position_of (is_key x) es ≡ Some j → text_at es j ≡ x)
-        → text_at (e ∷ es) i ≡ x
-    by_test true key there rest =
-        let first : 0 ≡ i = cc in
-        subst (λ n. text_at (e ∷ es) n ≡ x) first (same_text e.0.now x (sym (text_turned x e.0.now) ∙ key))
-    by_test false key there rest = by_next (position_of (is_key x) es) there rest
+at_index : (entries : List Entry) (x : Text) → index x entries < length (keys_of entries) → text_at entries (index x entries) ≡ x
+at_index [] x h = absurd (omega (arith, h))
+at_index (e ∷ es) x h = by_test (is_key x e.0) refl h (at_index es x)
+  where
+    by_test : (b : Bool) → is_key x e.0 ≡ b → cond (not b) (1 + index x es) 0 < suc (length (keys_of es)) → (index x es < length (keys_of es) → text_at es (index x es) ≡ x)
+        → text_at (e ∷ es) (cond (not b) (1 + index x es) 0) ≡ x
+    by_test true is below rest = same_text e.0.now x (sym (text_turned x e.0.now) ∙ is)
+    by_test false other below rest =
+        let next : 1 + index x es ≡ suc (index x es) = omega arith in
+        ap (text_at (e ∷ es)) next ∙ rest (omega (arith, below))
 
 -- the name at the position that is found
-pub named_at : (entries : List Entry) (x key : Text) (r : Option ℕ) → key ≡ x → r ≡ position_of (is_key key) entries → IfSome r (λ i. text_at entries i ≡ x)
-named_at entries x key None e found = tt
-named_at entries x key (Some i) e found = at_position entries key i (sym found) ∙ e
+pub named_at : (entries : List Entry) (x key : Text) (r : Option ℕ) → key ≡ x → r ≡ position (is_key key) (keys_of entries) → IfSome r (λ i. text_at entries i ≡ x)
+named_at entries x key r e found =
+    subst (λ y. IfSome r (λ i. text_at entries i ≡ y)) e
+    (subst (λ o. IfSome o (λ i. text_at entries i ≡ key)) (sym found) (by_test (nat_lt (index key entries) (length (keys_of entries))) refl))
+  where
+    by_test : (b : Bool) → nat_lt (index key entries) (length (keys_of entries)) ≡ b → IfSome (cond b (Some (index key entries)) None) (λ i. text_at entries i ≡ key)
+    by_test true below = at_index entries key (grind (arith, below))
+    by_test false above = tt
 
 -- a name that has no position isn't declared
 pub undeclared : (spec : Spec) (entries : List Entry) (x key : Text) (r : Option ℕ) → IsTableOf spec entries → key ≡ x → is_some r ≡ is_some (lookup (is_key key) entries)

@@ -11,8 +11,8 @@ use Rattle.asm_syntax.specs.declared.name.Name as code
 use Rattle.asm_syntax.specs.Views.{name_of}
 use Rattle.asm_check.specs.Names.{Text, text_of, is_text, is_among, Role, InTerm, AsTarget, AsUniverse, AsResult, Use, use_of, plain_use, term_count, rule_role, uses_of_term, uses_of_terms, uses_of_links, uses_of_test, uses_of_target, uses_of_rule, uses_of_rules, uses_of_branch}
 use Rattle.asm_check.specs.Collected.{IsSameScope}
-use Rattle.asm_check.specs.Positions.{is_spelled}
-use Rattle.asm_check.proofs.Positioned.{one_more_key}
+use Rattle.asm_check.specs.Keys.{is_spelled}
+use Rattle.asm_check.proofs.Spelled.{one_more_key}
 
 pub nat_symmetric : (x y : ℕ) → nat_eq x y ≡ nat_eq y x
 nat_symmetric x y = grind (arith, nat_tests)

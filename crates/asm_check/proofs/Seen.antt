@@ -11,8 +11,8 @@ use Rattle.asm_check.specs.Faults.{parameters_of}
 use Rattle.asm_check.specs.FaultLists.{repeats, at_with}
 use Rattle.asm_check.specs.Gathering.{IsSeen, parameter_faults}
 use Rattle.asm_check.specs.Soonest.{noted}
-use Rattle.asm_check.specs.Positions.{is_key, is_spelled}
-use Rattle.asm_check.proofs.Positioned.{has_text, one_more_key}
+use Rattle.asm_check.specs.Keys.{is_key, is_spelled}
+use Rattle.asm_check.proofs.Spelled.{has_text, one_more_key}
 use Rattle.asm_check.proofs.Lookups.{text_turned}
 use Rattle.asm_check.proofs.Noted.{noted_after}
 use Rattle.asm_check.proofs.Repeats.{repeated_one, at_with_append}

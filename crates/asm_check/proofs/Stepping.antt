@@ -1,8 +1,9 @@
 -- Steps that a loop collects, one element after another.
-use Rattle.std.proofs.Common.{◌≡◌, ℕ, zero, suc, ◌+◌, ◌<◌, Bool, true, false, cond, List, [], ◌∷◌, ◌++◌, length, map, drop, drop-cons, add-one, get_or, Option, Some, None, refl, sym, subst, ap, ◌∙◌, arith}
-use Rattle.std.specs.Prelude.{All, filter, slice_get}
-use Rattle.std.proofs.lemmas.List.{append_assoc, map-append, get_or-map, length-append}
+use Rattle.std.proofs.Common.{◌≡◌, ℕ, zero, suc, ◌+◌, ◌<◌, Bool, true, false, cond, List, [], ◌∷◌, ◌++◌, length, map, take, drop, get_or, Option, Some, None, is_some, refl, sym, subst, ap, ◌∙◌, arith}
+use Rattle.std.specs.Prelude.{All, IfNone, filter, option_map, slice_get}
+use Rattle.std.proofs.lemmas.List.{append_assoc, map-append, get_or-map, length-append, take_more, drop_more}
 use Rattle.std.proofs.lemmas.List.Elements.{All-append, All-cons, All-nil}
+use Rattle.std.proofs.lemmas.Option.{slice_get_within, get_or_from_slice_get}
 use Rattle.asm_syntax.specs.SourceTree.{Spec}
 use Rattle.asm_check.specs.Graph.{next_of}
 use Rattle.asm_check.specs.Names.{Text, Meaning, Role, InTerm, AsTarget, AsRule, AsAnswering, AsUniverse, AsCodomain, AsElement, AsResult, Use, declared}
@@ -11,6 +12,8 @@ use Rattle.asm_check.specs.Stepping.{is_stepping, stepping_to, onward_from}
 use Rattle.asm_check.specs.Tables.{Entry, IsTableOf, text_at, meaning_of}
 use Rattle.asm_check.specs.UseViews.{use_of}
 use Rattle.asm_check.specs.Ways.{is_call, is_use, called, used}
+use Rattle.asm_check.specs.Counted.{value_of_entry}
+use Rattle.asm_check.specs.declared.meaning.Declaration.{Declaration as CodeDeclaration}
 use Rattle.asm_check.specs.declared.uses.Use.{Use as CodeUse}
 use Rattle.asm_check.proofs.Apart.{entry_there, position_declared}
 
@@ -65,6 +68,11 @@ pub stepping_there : (spec : Spec) (in_rule : Bool) (u : Use) (m : Option Meanin
     → b ≡ cond in_rule (is_call u.role m) (is_use u.role u.is_bound m) → is_stepping spec in_rule u ≡ b
 stepping_there spec in_rule u m b means e = ap (λ o. cond in_rule (is_call u.role o) (is_use u.role u.is_bound o)) (sym means) ∙ sym e
 
+-- where a step leads, if the name is declared
+pub step_there : (spec : Spec) (in_rule : Bool) (u : Use) (r : Option ℕ) → is_stepping spec in_rule u ≡ true → IfNone r (declared spec u.name.text ≡ None) → is_stepping spec in_rule u ≡ is_some r
+step_there spec in_rule u None is none = undeclared_stepping spec in_rule u none
+step_there spec in_rule u (Some n) is none = is
+
 module _ (entries : List Entry) (in_rule : Bool) (uses rest more : List CodeUse) (positions : List ℕ) (x : CodeUse) (left : rest ≡ x ∷ more) (before : AreSteps entries in_rule uses rest positions) where
   pub step_taken : (n : ℕ) → n < length entries → text_at entries n ≡ x.name.now.text
       → ((spec : Spec) → IsTableOf spec entries → is_stepping spec in_rule (use_of x) ≡ true) → AreSteps entries in_rule uses more (positions ++ n ∷ [])
@@ -98,9 +106,27 @@ pub record AreEntrySteps (spec : Spec) (entries rest : List Entry) (lists : List
   pub graph : All (All (λ n. n < length entries)) lists
   pub steps : map (map (text_at entries)) lists ++ map (entry_onward spec) rest ≡ map (entry_onward spec) entries
 
-pub entry_left : (entries : List Entry) (i : ℕ) (e : Entry) → i < length entries → e ≡ get_or entries i e → drop i entries ≡ e ∷ drop (i + 1) entries
-entry_left entries i e inside is =
-    drop-cons entries i e inside ∙ (ap (λ x. x ∷ drop (suc i) entries) (sym is) ∙ ap (λ n. e ∷ drop n entries) (sym (add-one i)))
+-- the entry at a position, with what stands before and after it
+pub record IsEntryAt (entries : List Entry) (i : ℕ) (r : CodeDeclaration) : Type 0 where
+  pub entry : Entry
+  pub declared : entry.1 ≡ r
+  pub rest : drop i entries ≡ entry ∷ drop (i + 1) entries
+  pub front : take (i + 1) entries ≡ take i entries ++ entry ∷ []
+
+pub entry_at : (entries : List Entry) (i : ℕ) (r : CodeDeclaration) → option_map value_of_entry (slice_get entries i) ≡ Some r → IsEntryAt entries i r
+entry_at entries i r h = go (slice_get entries i) refl h
+  where
+    go : (o : Option Entry) → slice_get entries i ≡ o → option_map value_of_entry o ≡ Some r → IsEntryAt entries i r
+    go None s h = cc
+    go (Some e) s h =
+        let low : i < length entries = slice_get_within entries i e s in
+        let same : get_or entries i e ≡ e = get_or_from_slice_get entries i e e s in
+        record {
+          entry = e;
+          declared = cc;
+          rest = drop_more entries i e low ∙ ap (λ x. x ∷ drop (i + 1) entries) same;
+          front = take_more entries i e low ∙ ap (λ x. take i entries ++ x ∷ []) same;
+        }
 
 pub no_entry_yet : (spec : Spec) (entries rest : List Entry) (lists : List (List ℕ)) → lists ≡ [] → rest ≡ entries → AreEntrySteps spec entries rest lists
 no_entry_yet spec entries rest lists none all = record {

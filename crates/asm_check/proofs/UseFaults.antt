@@ -7,8 +7,8 @@ use Rattle.std.proofs.lemmas.Grind.{flat_map-append}
 use Rattle.asm_syntax.specs.SourceTree.{Spec}
 use Rattle.asm_syntax.specs.Views.{item_of}
 use Rattle.asm_syntax.specs.declared.spec.Item.{Item}
-use Rattle.asm_check.specs.Names.{Meaning, Use, uses_of, uses, declared, is_known, arguments_of, is_assignable}
-use Rattle.asm_check.specs.FaultLists.{faults_of_use, all_of_use, use_faults, miscounts, is_target}
+use Rattle.asm_check.specs.Names.{Meaning, InTerm, Use, uses_of, uses, declared, is_known, arguments_of, is_assignable}
+use Rattle.asm_check.specs.FaultLists.{faults_of_use, faults_of_bound, all_of_use, use_faults, miscounts, is_target}
 use Rattle.asm_check.specs.Soonest.{noted}
 use Rattle.asm_check.proofs.Noted.{noted_after}
 
@@ -64,3 +64,10 @@ module _ (spec : Spec) (u : Use) (m : Option Meaning) (means : m ≡ declared sp
   faults_last b k n a =
       same_faults ∙ ap (λ b. faults_at u.name.at b miscounted_there unassignable_there) k ∙ ap (λ b. faults_at u.name.at true b unassignable_there) n
       ∙ ap (λ b. faults_at u.name.at true false b) a
+
+-- a bound name in a term has only the fault of arguments
+pub bound_faults : (spec : Spec) (u : Use) → u.role ≡ InTerm → u.is_bound ≡ true → faults_of_use spec u ≡ faults_of_bound u
+bound_faults spec u role bound =
+    let m = declared spec u.name.text in
+    ap (λ r. faults_at u.name.at (is_known r u.is_bound m) (miscounts (arguments_of r u.is_bound m) u.count) (is_target r && not (is_assignable u.is_bound m))) role
+    ∙ ap (λ b. faults_at u.name.at (is_known InTerm b m) (miscounts (arguments_of InTerm b m) u.count) (is_target InTerm && not (is_assignable b m))) bound

@@ -34,6 +34,10 @@ abbrev pub is_target : Role → Bool
 is_target AsTarget = true
 is_target role = false
 
+-- of a bound name in a term
+abbrev pub faults_of_bound : Use → List (ℕ × ℕ)
+faults_of_bound u = cond (miscounts (Some 0) u.count) ((u.name.at, 10) ∷ []) []
+
 abbrev pub faults_of_use : Spec → Use → List (ℕ × ℕ)
 faults_of_use spec u =
     cond (is_known_use spec u)

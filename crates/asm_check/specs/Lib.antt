@@ -7,7 +7,8 @@ pub mod Soonest
 pub mod Errors
 pub mod FaultLists
 pub mod Answering
-pub mod Positions
+pub mod Keyed
+pub mod Keys
 pub mod Tables
 pub mod UseViews
 pub mod Collected

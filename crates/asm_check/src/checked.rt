@@ -73,8 +73,16 @@ impl Checked {
     }
 
     /// What a name stands for where no binder hides it.
+    pub fn named(&self, name: &str) -> Option<Named>
+        ensures named { result ≡ named (spec_of self.now.spec) name.now }
+        ensures in_range { IsInRange (spec_of self.now.spec) result }
+    {
+        self.numbering.found(name.as_bytes())
+    }
+
+    /// The same of a name of a tree, whose key mostly spares the look-up.
     #[inline(never)]
-    pub fn named(&self, name: &Text) -> Option<Named>
+    pub fn named_text(&self, name: &Text) -> Option<Named>
         ensures named { result ≡ named (spec_of self.now.spec) name.now }
         ensures in_range { IsInRange (spec_of self.now.spec) result }
     {

@@ -19,8 +19,9 @@ use crate::limits::note_limits;
 use crate::name_table::Names;
 use crate::names::first_names;
 use crate::numbering::Numbering;
-use crate::results::{answering_rules, note_start_results};
+use crate::results::note_start_results;
 use crate::starts::note_inits;
+use crate::steps::bodies_of;
 use crate::tables::note_entries;
 use asm_syntax::Refused;
 use asm_syntax::spec::Spec;
@@ -67,13 +68,14 @@ fn least_fault(
     ensures { IfOk result (λ found. IsSoonest (IsFault (spec_of spec.now)) (found_of found)) }
 {
     let mut least = noted;
-    let answering = answering_rules(alloc, names)?;
+    let bodies = bodies_of(alloc, spec, names)?;
+    let answering = bodies.answering.as_slice();
     note_inits(spec, names, &mut least);
-    note_start_results(spec, names, &answering, &mut least);
-    note_uses(alloc, spec, names, &answering, &mut least)?;
+    note_start_results(spec, names, answering, &mut least);
+    note_uses(alloc, spec, names, answering, &mut least)?;
     note_limits(alloc, spec, names, &mut least)?;
     note_entries(alloc, spec, names, &mut least)?;
     // The search for cycles comes last: it looks only at what stands before the faults that are found by then.
-    note_steps(alloc, spec, names, &mut least)?;
+    note_steps(alloc, spec, names, bodies.steps.as_slice(), &mut least)?;
     Ok(least.found)
 }

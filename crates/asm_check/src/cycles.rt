@@ -1,12 +1,13 @@
 //! Cycles of calls or uses, and ranks that are too great.
-ghost use Rattle.std.specs.Prelude.{◌≡◌, ◌<◌, suc, OnOk, length, option_map, true, false};
+ghost use Rattle.std.specs.Prelude.{◌≡◌, ◌<◌, ℕ, suc, OnOk, length, map, option_map, true, false};
 ghost use Rattle.asm_syntax.specs.Views.{spec_of};
 ghost use Rattle.asm_check.specs.Errors.{found_of, number_of};
 ghost use Rattle.asm_check.specs.Graph.{IsGraph, next_of, step_lists};
+ghost use Rattle.asm_check.specs.Onward.{onward};
 ghost use Rattle.asm_check.specs.Soonest.{IsSoonestWith};
 ghost use Rattle.asm_check.specs.Steps.{IsStepFault};
 ghost use Rattle.asm_check.specs.StepTables.{IsCycleAt, IsFaultOf, cycle_number};
-ghost use Rattle.asm_check.specs.Tables.{IsTableOf};
+ghost use Rattle.asm_check.specs.Tables.{IsTableOf, text_at};
 ghost use Rattle.asm_check.specs.Ways.{ReachesCycle, IsOnWay};
 
 use crate::error::FaultKind;
@@ -14,7 +15,6 @@ use crate::graph::{leads_back, on_ways, reaching_cycles};
 use crate::least::Least;
 use crate::meaning::{Declaration, Meaning};
 use crate::name_table::Names;
-use crate::steps::steps_of;
 use asm_syntax::spec::Spec;
 use std::alloc::{AllocError, Global};
 
@@ -26,13 +26,17 @@ pub(crate) fn note_steps(
     alloc: Global,
     spec: &Spec,
     names: &Names,
+    steps: &[Vec<usize>],
     least: &mut Least,
 ) -> Result<(), AllocError>
-    requires { IsTableOf (spec_of spec.now) names.now }
+    requires table { IsTableOf (spec_of spec.now) names.now }
+    requires len { length steps.now ≡ length names.now }
+    requires graph { IsGraph (step_lists steps.now) }
+    requires steps { (n : ℕ) → n < length names.now →
+        map (text_at names.now) (next_of (step_lists steps.now) n) ≡ onward (spec_of spec.now) (text_at names.now n) }
     ensures { OnOk result (IsSoonestWith (IsStepFault (spec_of spec.now)) (found_of least.old.found) (found_of least.new.found)) }
 {
-    let steps = steps_of(alloc, spec, names)?;
-    let steps = steps.as_slice();
+    let _ = spec;
     let reaching = reaching_cycles(alloc, steps)?;
     let reaching = reaching.as_slice();
     let long = on_ways(alloc, steps, RANK + 1)?;

@@ -4,7 +4,7 @@ ghost use Rattle.asm_syntax.specs.SourceTree as source;
 ghost use Rattle.asm_syntax.specs.Views.{spec_of};
 ghost use Rattle.asm_check.specs.Answering.{AreAnswering};
 ghost use Rattle.asm_check.specs.Errors.{found_of};
-ghost use Rattle.asm_check.specs.FaultLists.{use_faults, all_of_use, faults_of_use, miscounts};
+ghost use Rattle.asm_check.specs.FaultLists.{use_faults, all_of_use, faults_of_use, faults_of_bound, miscounts};
 ghost use Rattle.asm_check.specs.FaultLists as fault_lists;
 ghost use Rattle.asm_check.specs.Soonest.{noted};
 ghost use Rattle.asm_check.specs.Tables.{IsTableOf};
@@ -51,8 +51,28 @@ fn note_each(names: &Names, answering: &[bool], uses: &[Use], least: &mut Least)
     }
 }
 
-/// Notes the fault of a use, if it has one of the first three.
+/// Notes the fault of a use, if it has one of the first three. What is declared doesn't matter for a bound name in a term.
 fn note_use(names: &Names, used: Use, least: &mut Least)
+    ensures { (spec : source.Spec) → IsTableOf spec names.now →
+        found_of least.new.found ≡ noted (found_of least.old.found) (faults_of_use spec (use_of used.entry)) }
+{
+    match used.role {
+        Role::InTerm if used.is_bound => note_arguments(used, least),
+        _ => note_declared(names, used, least),
+    }
+}
+
+/// Notes arguments of a bound name.
+fn note_arguments(used: Use, least: &mut Least)
+    ensures { found_of least.new.found ≡ noted (found_of least.old.found) (faults_of_bound (use_of used.entry)) }
+{
+    if is_miscounted(Some(0), used.count) {
+        least.note(FaultKind::Arity, used.name.at);
+    }
+}
+
+/// Notes the fault of a use of what is declared.
+fn note_declared(names: &Names, used: Use, least: &mut Least)
     ensures { (spec : source.Spec) → IsTableOf spec names.now →
         found_of least.new.found ≡ noted (found_of least.old.found) (faults_of_use spec (use_of used.entry)) }
 {

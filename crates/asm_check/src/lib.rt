@@ -8,6 +8,7 @@ mod collector;
 mod cycles;
 mod error;
 mod graph;
+mod keyed;
 mod known;
 pub mod laws;
 mod least;

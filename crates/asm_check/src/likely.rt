@@ -1,7 +1,6 @@
-//! Where names probably stand in the table of all names.
+//! Where names probably stand in a table.
 ghost use Rattle.std.specs.Prelude.{◌<◌, ◌^◌};
 
-use crate::numbered_names::NumberedNames;
 use asm_syntax::name::Text;
 use std::alloc::{AllocError, Global};
 
@@ -13,31 +12,29 @@ pub(crate) struct Likely {
 }
 
 impl Likely {
-    /// No guess at all.
-    pub(crate) fn new(alloc: Global) -> Likely {
-        Likely {
-            indices: Vec::new(alloc),
-            mask: 0,
-        }
-    }
-
-    /// Guesses for these names. Of names whose keys fall together the last one is found at once.
-    pub(crate) fn of(alloc: Global, names: &NumberedNames) -> Result<Likely, AllocError> {
-        let mask = mask_for(names.len());
-        let mut likely = Likely {
+    /// Room for guesses of so many names, each of which is the first for now.
+    pub(crate) fn new(alloc: Global, count: usize) -> Result<Likely, AllocError> {
+        let mask = mask_for(count);
+        Ok(Likely {
             indices: vec![in alloc; 0; mask as usize + 1]?,
             mask,
-        };
-        for index in 0..names.len() {
-            let Some((name, _)) = names.get_index(index) else {
-                break;
-            };
-            let slot = likely.slot(name);
-            if slot < likely.indices.len() {
-                likely.indices[slot] = index;
-            }
+        })
+    }
+
+    /// The same guesses once more.
+    pub(crate) fn copy(&self, alloc: Global) -> Result<Likely, AllocError> {
+        Ok(Likely {
+            indices: self.indices.to_vec(alloc)?,
+            mask: self.mask,
+        })
+    }
+
+    /// Guesses that the name stands there. Of names whose keys fall together the last one is found at once.
+    pub(crate) fn put(&mut self, name: &Text, index: usize) {
+        let slot = self.slot(name);
+        if slot < self.indices.len() {
+            self.indices[slot] = index;
         }
-        Ok(likely)
     }
 
     /// Where the name probably stands if it is one of these, or else anywhere.

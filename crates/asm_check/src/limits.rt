@@ -52,7 +52,7 @@ pub(crate) fn note_limits(
 }
 
 /// The declaration at a position of the table.
-fn declared_at<'a>(names: &Names<'a>, i: usize) -> Declaration<'a>
+pub(crate) fn declared_at<'a>(names: &Names<'a>, i: usize) -> Declaration<'a>
     requires { i < length names.now }
     ensures { option_map value_of_entry (slice_get names.now i) ≡ Some result }
 {

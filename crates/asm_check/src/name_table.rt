@@ -1,21 +1,23 @@
-//! The table of declarations, in which names are found by their order.
-ghost use Rattle.std.specs.Prelude.{◌≡◌, ◌<◌, IfOk, IfSome, [], ◌∷◌, ◌++◌, cond, length, slice_get, is_some, not, option_map};
-ghost use Rattle.std.specs.Map.{lookup};
+//! The table of declarations, in which names are found by a hash.
+ghost use Rattle.std.specs.Prelude.{◌≡◌, ◌<◌, IfOk, IfSome, Some, [], ◌∷◌, ◌++◌, cond, length, position, slice_get, is_some, not, option_map};
+ghost use Rattle.std.specs.Map.{lookup, keys_of};
 ghost use Rattle.std.specs.Map.Iter.{deref_pair};
 ghost use Rattle.std.specs.Option.{option_copied};
-ghost use Rattle.asm_check.specs.Positions.{is_key, position_of};
+ghost use Rattle.asm_check.specs.Keys.{is_key};
 
+use crate::keyed::Keyed;
+use crate::likely::Likely;
 use crate::meaning::Declaration;
+use asm_syntax::name::Text;
+use indexmap::IndexMap;
 use std::alloc::{AllocError, Global};
-use std::collections::BTreeMap;
 use std::marker::Model;
 
-/// The declarations that count, the first of each name, in the order of the text. A hash of names could be made to collide by who
-/// writes a text, so a name is found by its order among all of them: in as many comparisons as the number of names has binary digits.
+/// The declarations that count, the first of each name, in the order of the text.
 #[derive(Drop)]
 pub(crate) struct Names<'a> {
-    entries: Vec<(&'a [u8], Declaration<'a>)>,
-    positions: BTreeMap<&'a [u8], usize>,
+    table: IndexMap<&'a [u8], Declaration<'a>, Keyed>,
+    likely: Likely,
 }
 
 impl<'a> Model for Names<'a> {
@@ -29,61 +31,90 @@ impl<'a> Model for Names<'a> {
 
     ghost coded = { Prim.hlevel (codes, term.the_row.coded, rule.the_row.coded) };
 
-    ghost view = { λ n. n.entries.items };
-
-    ghost use Rattle.asm_check.specs.Positions.{ArePositions};
-
-    ghost invariant = { λ n. ArePositions (λ k. k.now) (λ k. k.now) n.entries.items n.positions.entries };
+    ghost view = { λ n. n.table.entries };
 }
 
 impl<'a> Names<'a> {
-    /// No declaration yet.
-    pub(crate) fn new(alloc: Global) -> Names<'a>
-        ensures empty { result ≡ [] }
+    /// No declaration yet, and room for so many.
+    pub(crate) fn new(alloc: Global, key: Keyed, count: usize) -> Result<Names<'a>, AllocError>
+        ensures empty { IfOk result (λ names. names ≡ []) }
     {
-        Names {
-            entries: Vec::new(alloc),
-            positions: BTreeMap::new(alloc),
-        }
+        Ok(Names {
+            table: IndexMap::with_capacity_and_hasher(alloc, count, key)?,
+            likely: Likely::new(alloc, count)?,
+        })
+    }
+
+    /// What its hash begins with.
+    pub(crate) fn key(&self) -> Keyed {
+        *self.table.hasher()
+    }
+
+    /// Where names probably stand.
+    pub(crate) fn likely(&self) -> &Likely {
+        &self.likely
     }
 
     /// How many declarations there are.
     pub(crate) fn len(&self) -> usize
         ensures len { result ≡ length self.now }
     {
-        self.entries.len()
-    }
-
-    /// All declarations, with their names.
-    pub(crate) fn entries(&self) -> &[(&'a [u8], Declaration<'a>)]
-        ensures { result.now ≡ self.now }
-    {
-        self.entries.as_slice()
+        self.table.len()
     }
 
     /// The declaration at an index, with its name.
     pub(crate) fn get_index(&self, index: usize) -> Option<(&&'a [u8], &Declaration<'a>)>
         ensures entry { option_map deref_pair result ≡ slice_get self.now index }
     {
-        let (name, declared) = self.entries.get(index)?;
-        Some((name, declared))
+        self.table.get_index(index)
     }
 
     /// Where a name stands.
     pub(crate) fn get_index_of(&self, name: &[u8]) -> Option<usize>
-        ensures index { result ≡ position_of (is_key name.now) self.now }
+        ensures index { result ≡ position (is_key name.now) (keys_of self.now) }
         ensures within { IfSome result (λ i. i < length self.now) }
         ensures found { is_some result ≡ is_some (lookup (is_key name.now) self.now) }
     {
-        self.positions.get(name).copied()
+        self.table.get_index_of(name)
     }
 
     /// The declaration of a name.
-    pub(crate) fn get(&self, name: &[u8]) -> Option<&Declaration<'a>>
+    #[inline(always)]
+    pub(crate) fn get(&self, name: &Text) -> Option<&Declaration<'a>>
         ensures value { option_copied result ≡ lookup (is_key name.now) self.now }
     {
-        let (_, declared) = self.get_index(self.get_index_of(name)?)?;
-        Some(declared)
+        match self.found_at_once(name) {
+            Some(declared) => Some(declared),
+            None => self.found(name),
+        }
+    }
+
+    /// The same, if the name stands where it probably does.
+    #[inline(always)]
+    fn found_at_once(&self, name: &Text) -> Option<&Declaration<'a>>
+        ensures { IfSome result (λ declared. lookup (is_key name.now) self.now ≡ Some declared.now) }
+    {
+        let (text, declared) = self.table.get_index(self.likely.index(name)?)?;
+        if *text == name.as_bytes() {
+            Some(declared)
+        } else {
+            None
+        }
+    }
+
+    /// The same, by a look-up in the table.
+    #[inline(never)]
+    fn found(&self, name: &Text) -> Option<&Declaration<'a>>
+        ensures { option_copied result ≡ lookup (is_key name.now) self.now }
+    {
+        self.table.get(name.as_bytes())
+    }
+
+    /// Expects the name behind all others, from where it is found at once.
+    pub(crate) fn expect(&mut self, name: &Text)
+        ensures { self.new ≡ self.old }
+    {
+        self.likely.put(name, self.table.len());
     }
 
     /// Takes a declaration, but not of a name that has one. Answers whether it was taken.
@@ -95,12 +126,10 @@ impl<'a> Names<'a> {
         ensures added { IfOk result (λ added. added ≡ not (is_some (lookup (is_key name.now) self.old))) }
         ensures entries { IfOk result (λ added. self.new ≡ cond added (self.old ++ (name.entry, declared.entry) ∷ []) self.old) }
     {
-        if self.get_index_of(name).is_some() {
+        if self.table.get_index_of(name).is_some() {
             return Ok(false);
         }
-        self.entries.reserve(1)?;
-        self.positions.insert(name, self.entries.len())?;
-        self.entries.push_reserved((name, declared));
+        self.table.insert(name, declared)?;
         Ok(true)
     }
 }

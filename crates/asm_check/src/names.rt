@@ -12,6 +12,7 @@ ghost use Rattle.asm_check.specs.Names.{declared, declares, predeclared, declara
 ghost use Rattle.asm_syntax.specs.SourceTree as source;
 
 use crate::error::FaultKind;
+use crate::keyed::declared_names;
 use crate::least::Least;
 use crate::meaning::{Declaration, Meaning};
 use crate::name_table::Names;
@@ -30,7 +31,8 @@ pub(crate) fn first_names<'a>(
     ensures table { IfOk result (λ names. IsTableOf (spec_of spec.now) names) }
     ensures least { OnOk result (found_of least.new.found ≡ noted (found_of least.old.found) (twice_faults (spec_of spec.now))) }
 {
-    let mut names = Names::new(alloc);
+    let declared = declared_names(spec);
+    let mut names = Names::new(alloc, declared.key, declared.count)?;
     predeclare_all(&mut names, least)?;
     declare_items(&mut names, &spec.items, least)?;
     note_parameters(alloc, &spec.items, least)?;
@@ -148,6 +150,7 @@ fn declare_name<'a>(
         at: name.at,
         meaning,
     };
+    names.expect(&name.text);
     declare(names, name.text.as_bytes(), declared, least)
 }
 
@@ -203,7 +206,7 @@ fn note_repeats(alloc: Global, names: &[Name], least: &mut Least) -> Result<(), 
 pub(crate) fn meaning<'a>(names: &Names<'a>, name: &Text) -> Option<Meaning<'a>>
     ensures { (spec : source.Spec) → IsTableOf spec names.now → option_map meaning_of result ≡ declared spec name.now }
 {
-    let declared = names.get(name.as_bytes())?;
+    let declared = names.get(name)?;
     Some(declared.meaning)
 }
 

@@ -1,77 +1,62 @@
-//! Names with their numbers, in which a name is found by its order.
-ghost use Rattle.std.specs.Prelude.{◌≡◌, IfSome, OnOk, Some, [], ◌∷◌, ◌++◌, cond, length, slice_get, is_some, option_map, nat_eq};
+//! Names with their numbers, in which a name is found by a hash.
+ghost use Rattle.std.specs.Prelude.{◌≡◌, IfOk, IfSome, OnOk, Some, [], ◌∷◌, ◌++◌, cond, length, slice_get, is_some, option_map, nat_eq};
 ghost use Rattle.std.specs.Cmp.Lexicographic.{pointwise};
 ghost use Rattle.std.specs.Map.{lookup};
 ghost use Rattle.std.specs.Map.Iter.{deref_pair};
-ghost use Rattle.asm_check.specs.Positions.{position_of};
 
 use crate::checked::Named;
-use asm_syntax::name::Text;
+use crate::keyed::Keyed;
+use indexmap::IndexMap;
 use std::alloc::{AllocError, Global};
-use std::collections::BTreeMap;
 use std::marker::Model;
 
 /// What has a number has it here, beside its name. No name stands here twice.
 #[derive(Drop)]
 pub(crate) struct NumberedNames {
-    entries: Vec<(Text, Option<Named>)>,
-    positions: BTreeMap<Vec<u8>, usize>,
+    table: IndexMap<Vec<u8>, Option<Named>, Keyed>,
 }
 
 impl Model for NumberedNames {
-    ghost use Rattle.std.specs.Prelude.{List, Option, ℕ};
+    ghost use Rattle.std.specs.Prelude.{List, Option, ℕ, map};
     ghost use Rattle.asm_check.specs.declared.checked.Named.{Named};
 
     ghost Value = { List (List ℕ × Option Named) };
 
-    ghost view = { λ n. n.entries.items };
-
-    ghost use Rattle.asm_check.specs.Positions.{ArePositions, AreFoundByText};
-
-    ghost invariant = { λ n. ArePositions (λ k. k) (λ k. k.items) n.entries.items n.positions.entries × AreFoundByText n.entries.items };
+    ghost view = { λ n. map (λ e. (e.0.items, e.1)) n.table.entries };
 }
 
 impl NumberedNames {
-    /// No name yet.
-    pub(crate) fn new(alloc: Global) -> NumberedNames
-        ensures empty { result ≡ [] }
+    /// No name yet, and room for so many.
+    pub(crate) fn new(alloc: Global, key: Keyed, count: usize) -> Result<NumberedNames, AllocError>
+        ensures empty { IfOk result (λ names. names ≡ []) }
     {
-        NumberedNames {
-            entries: Vec::new(alloc),
-            positions: BTreeMap::new(alloc),
-        }
+        Ok(NumberedNames {
+            table: IndexMap::with_capacity_and_hasher(alloc, count, key)?,
+        })
     }
 
     /// How many names there are.
     pub(crate) fn len(&self) -> usize
         ensures len { result ≡ length self.now }
     {
-        self.entries.len()
+        self.table.len()
     }
 
     /// The name at an index, with its number.
     #[inline(always)]
-    pub(crate) fn get_index(&self, index: usize) -> Option<(&Text, &Option<Named>)>
+    pub(crate) fn get_index(&self, index: usize) -> Option<(&[u8], &Option<Named>)>
         ensures entry { option_map deref_pair result ≡ slice_get self.now index }
         ensures value { IfSome result (λ p. lookup (pointwise nat_eq p.0.now) self.now ≡ Some p.1.now) }
     {
-        let (name, number) = self.entries.get(index)?;
-        Some((name, number))
-    }
-
-    /// Where a name stands.
-    fn get_index_of(&self, name: &[u8]) -> Option<usize>
-        ensures { result ≡ position_of (pointwise nat_eq name.now) self.now }
-    {
-        self.positions.get(name).copied()
+        let (name, number) = self.table.get_index(index)?;
+        Some((name.as_slice(), number))
     }
 
     /// What stands beside a name.
-    pub(crate) fn get(&self, name: &Text) -> Option<Option<Named>>
+    pub(crate) fn get(&self, name: &[u8]) -> Option<Option<Named>>
         ensures value { result ≡ lookup (pointwise nat_eq name.now) self.now }
     {
-        let (_, number) = self.get_index(self.get_index_of(name.as_bytes())?)?;
-        Some(*number)
+        self.table.get(name).copied()
     }
 
     /// Takes a name with its number, but not a name that is there.
@@ -83,14 +68,10 @@ impl NumberedNames {
     ) -> Result<(), AllocError>
         ensures { OnOk result (self.new ≡ cond (is_some (lookup (pointwise nat_eq name.now) self.old)) self.old (self.old ++ (name.now, number) ∷ [])) }
     {
-        if self.get_index_of(name).is_some() {
+        if self.table.get_index_of(name).is_some() {
             return Ok(());
         }
-        let text = Text::new(alloc, name)?;
-        self.entries.reserve(1)?;
-        self.positions
-            .insert(name.to_vec(alloc)?, self.entries.len())?;
-        self.entries.push_reserved((text, number));
+        self.table.insert(name.to_vec(alloc)?, number)?;
         Ok(())
     }
 }

@@ -33,23 +33,23 @@ impl Numbering {
     pub(crate) fn of(alloc: Global, names: &Names) -> Result<Numbering, AllocError>
         ensures { IfOk result (λ n. (spec : source.Spec) → IsTableOf spec names.now → IsNumberingOf (first_declarations spec) n) }
     {
-        let mut numbering = Numbering::new(alloc);
+        let mut numbering = Numbering::new(alloc, names)?;
         for i in 0..names.len() {
             let (name, declared) = entry_at(names, i);
             numbering.add(alloc, name, declared.meaning)?;
         }
-        numbering.likely = Likely::of(alloc, &numbering.names)?;
         Ok(numbering)
     }
 
-    fn new(alloc: Global) -> Numbering
-        ensures { IsNumberingOf [] result }
+    /// No number yet, and room for those of so many names.
+    fn new(alloc: Global, names: &Names) -> Result<Numbering, AllocError>
+        ensures { IfOk result (IsNumberingOf []) }
     {
-        Numbering {
-            names: NumberedNames::new(alloc),
-            likely: Likely::new(alloc),
+        Ok(Numbering {
+            names: NumberedNames::new(alloc, names.key(), names.len())?,
+            likely: names.likely().copy(alloc)?,
             indices: Indices::new(alloc),
-        }
+        })
     }
 
     /// One more declaration.
@@ -69,7 +69,7 @@ impl Numbering {
     {
         match self.found_at_once(name) {
             Some(number) => number,
-            None => self.found(name),
+            None => self.found(name.as_bytes()),
         }
     }
 
@@ -79,12 +79,16 @@ impl Numbering {
         ensures { IfSome result (λ number. lookup (pointwise nat_eq name.now) self.now.names ≡ Some number) }
     {
         let (text, number) = self.names.get_index(self.likely.index(name)?)?;
-        if text.is(name) { Some(*number) } else { None }
+        if text == name.as_bytes() {
+            Some(*number)
+        } else {
+            None
+        }
     }
 
     /// The same, by a look-up in the table.
     #[inline(never)]
-    fn found(&self, name: &Text) -> Option<Named>
+    pub(crate) fn found(&self, name: &[u8]) -> Option<Named>
         ensures { result ≡ option_flatten (lookup (pointwise nat_eq name.now) self.now.names) }
     {
         self.names.get(name)?
@@ -127,7 +131,7 @@ impl Numbering {
         ensures { text_kept_at self.now index ≡ Some result.now }
     {
         let (name, _) = self.names.get_index(index).unwrap();
-        name.as_bytes()
+        name
     }
 }
 

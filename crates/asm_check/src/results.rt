@@ -1,5 +1,5 @@
 //! Rules that answer: those in whose bodies the word `result` stands.
-ghost use Rattle.std.specs.Prelude.{◌≡◌, IfOk, Some};
+ghost use Rattle.std.specs.Prelude.{◌≡◌};
 ghost use Rattle.std.specs.List.{list_any};
 ghost use Rattle.asm_syntax.specs.SourceTree as source;
 ghost use Rattle.asm_syntax.specs.Views.{spec_of, item_of};
@@ -10,46 +10,19 @@ ghost use Rattle.asm_check.specs.FaultLists as fault_lists;
 ghost use Rattle.asm_check.specs.Names.{declared};
 ghost use Rattle.asm_check.specs.Names as meanings;
 ghost use Rattle.asm_check.specs.Soonest.{noted};
-ghost use Rattle.asm_check.specs.Tables.{IsTableOf, meaning_of};
+ghost use Rattle.asm_check.specs.Tables.{IsTableOf};
 ghost use Rattle.asm_check.specs.UseViews.{use_of, role_of};
 
 use crate::error::FaultKind;
 use crate::least::Least;
-use crate::meaning::Meaning;
 use crate::name_table::Names;
 use crate::names::position;
-use crate::uses::{Role, Use, uses_of_named_rule};
+use crate::uses::{Role, Use};
 use asm_syntax::name::Text;
 use asm_syntax::spec::{Item, Spec};
-use std::alloc::{AllocError, Global};
-
-/// Of each declaration, by its position in the table, whether it is a rule that answers.
-pub(crate) fn answering_rules(alloc: Global, names: &Names) -> Result<Vec<bool>, AllocError>
-    ensures { IfOk result (λ answering. AreAnswering names.now answering.items) }
-{
-    let mut answering = Vec::new(alloc);
-    let entries = names.entries();
-    for entry in entries {
-        answering.push(is_answering(alloc, entry.1.meaning)?)?;
-    }
-    Ok(answering)
-}
-
-/// Whether it is a rule that answers.
-fn is_answering(alloc: Global, meaning: Meaning) -> Result<bool, AllocError>
-    ensures { IfOk result (λ b. b ≡ meanings.answers (Some (meaning_of meaning.entry))) }
-{
-    match meaning {
-        Meaning::Rule(parameters, body) => {
-            let uses = uses_of_named_rule(alloc, parameters, body)?;
-            Ok(has_result(&uses))
-        }
-        _ => Ok(false),
-    }
-}
 
 /// Whether the word `result` is among these uses.
-fn has_result(uses: &[Use]) -> bool
+pub(crate) fn has_result(uses: &[Use]) -> bool
     ensures { result ≡ list_any (λ u. meanings.is_result (role_of u.role)) uses.now }
 {
     uses.iter().any(|used| is_result(used.role))

@@ -1,5 +1,5 @@
 //! What a name may be declared as where it is used.
-ghost use Rattle.std.specs.Prelude.{◌≡◌, false, option_map, if◌then◌else◌};
+ghost use Rattle.std.specs.Prelude.{◌≡◌, Bool, Option, false, option_map, if◌then◌else◌};
 ghost use Rattle.asm_check.specs.Names as names;
 ghost use Rattle.asm_check.specs.Tables.{meaning_of};
 ghost use Rattle.asm_check.specs.UseViews.{role_of};
@@ -87,6 +87,18 @@ pub(crate) fn is_step(in_rule: bool, role: Role, is_bound: bool, meaning: Option
     match role {
         Role::AsRule | Role::AsAnswering => in_rule && matches!(meaning, Some(Meaning::Rule(_, _))),
         Role::InTerm => !in_rule && !is_bound && matches!(meaning, Some(Meaning::Derived(_, _))),
+        _ => false,
+    }
+}
+
+/// Whether a use in this role, in the body of a rule or else of a derived function, can be a step.
+pub(crate) fn may_be_step(in_rule: bool, role: Role) -> bool
+    ensures { result ≡ false → (is_bound : Bool) → (m : Option names.Meaning) →
+        (if in_rule then is_call (role_of role) m else is_use (role_of role) is_bound m) ≡ false }
+{
+    match role {
+        Role::AsRule | Role::AsAnswering => in_rule,
+        Role::InTerm => !in_rule,
         _ => false,
     }
 }

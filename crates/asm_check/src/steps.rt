@@ -1,59 +1,92 @@
-//! Calls of rules and uses of derived functions, as steps between declarations.
-ghost use Rattle.std.specs.Prelude.{◌≡◌, ◌<◌, ℕ, All, IfOk, Some, map, length};
+//! What the bodies of declarations hold: the word `result`, and calls of rules and uses of derived functions, as steps between
+//! declarations.
+ghost use Rattle.std.specs.Prelude.{◌≡◌, ◌<◌, ℕ, All, IfOk, IfSome, Some, is_some, map, length};
 ghost use Rattle.asm_syntax.specs.SourceTree as source;
 ghost use Rattle.asm_syntax.specs.Views.{spec_of};
+ghost use Rattle.asm_check.specs.Answering.{AreAnswering};
 ghost use Rattle.asm_check.specs.Graph.{IsGraph, next_of, step_lists};
+ghost use Rattle.asm_check.specs.Names as meanings;
 ghost use Rattle.asm_check.specs.Onward.{onward};
-ghost use Rattle.asm_check.specs.Stepping.{stepping_to, onward_from};
+ghost use Rattle.asm_check.specs.Stepping.{is_stepping, stepping_to, onward_from};
 ghost use Rattle.asm_check.specs.Tables.{IsTableOf, meaning_of, text_at};
 ghost use Rattle.asm_check.specs.UseViews.{use_of};
 
+use crate::limits::declared_at;
 use crate::meaning::Meaning;
 use crate::name_table::Names;
 use crate::names::{meaning, position};
-use crate::roles::is_step;
+use crate::results::has_result;
+use crate::roles::{is_step, may_be_step};
 use crate::uses::{Use, uses_of_body, uses_of_named_rule};
 use asm_syntax::spec::Spec;
 use std::alloc::{AllocError, Global};
 
-/// Of each declaration of the table, by its position, the positions of the rules that it calls, or of the derived
-/// functions that it uses.
-pub(crate) fn steps_of(
-    alloc: Global,
-    spec: &Spec,
-    names: &Names,
-) -> Result<Vec<Vec<usize>>, AllocError>
-    requires { IsTableOf (spec_of spec.now) names.now }
-    ensures len { IfOk result (λ steps. length steps.items ≡ length names.now) }
-    ensures graph { IfOk result (λ steps. IsGraph (step_lists steps.items)) }
-    ensures steps { IfOk result (λ steps. (n : ℕ) → n < length names.now →
-        map (text_at names.now) (next_of (step_lists steps.items) n) ≡ onward (spec_of spec.now) (text_at names.now n)) }
-{
-    let _ = spec;
-    let mut steps = Vec::new(alloc);
-    let entries = names.entries();
-    for entry in entries {
-        steps.push(steps_from(alloc, names, entry.1.meaning)?)?;
-    }
-    Ok(steps)
+/// What the bodies of all declarations hold, by the positions of these in the table.
+#[derive(Drop)]
+pub(crate) struct Bodies {
+    /// Whether it is the body of a rule that answers.
+    pub answering: Vec<bool>,
+    /// The positions of the rules that it calls, or of the derived functions that it uses.
+    pub steps: Vec<Vec<usize>>,
 }
 
-/// The positions to which the steps from a declaration lead.
-fn steps_from(alloc: Global, names: &Names, meaning: Meaning) -> Result<Vec<usize>, AllocError>
-    ensures within { IfOk result (λ steps. All (λ n. n < length names.now) steps.items) }
-    ensures steps { IfOk result (λ steps. (spec : source.Spec) → IsTableOf spec names.now →
-        map (text_at names.now) steps.items ≡ onward_from spec (Some (meaning_of meaning.entry))) }
+/// The same of one declaration.
+#[derive(Drop)]
+struct Body {
+    is_answering: bool,
+    steps: Vec<usize>,
+}
+
+/// What the bodies hold of all that is declared.
+pub(crate) fn bodies_of(alloc: Global, spec: &Spec, names: &Names) -> Result<Bodies, AllocError>
+    requires { IsTableOf (spec_of spec.now) names.now }
+    ensures answering { IfOk result (λ bodies. AreAnswering names.now bodies.answering.items) }
+    ensures len { IfOk result (λ bodies. length bodies.steps.items ≡ length names.now) }
+    ensures graph { IfOk result (λ bodies. IsGraph (step_lists bodies.steps.items)) }
+    ensures steps { IfOk result (λ bodies. (n : ℕ) → n < length names.now →
+        map (text_at names.now) (next_of (step_lists bodies.steps.items) n) ≡ onward (spec_of spec.now) (text_at names.now n)) }
+{
+    let _ = spec;
+    let mut answering = Vec::new(alloc);
+    let mut steps = Vec::new(alloc);
+    for i in 0..names.len() {
+        let declared = declared_at(names, i);
+        let body = body_of(alloc, names, declared.meaning)?;
+        answering.push(body.is_answering)?;
+        steps.push(body.steps)?;
+    }
+    Ok(Bodies { answering, steps })
+}
+
+/// What the body of a declaration holds, if it has one.
+fn body_of(alloc: Global, names: &Names, meaning: Meaning) -> Result<Body, AllocError>
+    ensures answering { IfOk result (λ body. body.is_answering ≡ meanings.answers (Some (meaning_of meaning.entry))) }
+    ensures within { IfOk result (λ body. All (λ n. n < length names.now) body.steps.items) }
+    ensures steps { IfOk result (λ body. (spec : source.Spec) → IsTableOf spec names.now →
+        map (text_at names.now) body.steps.items ≡ onward_from spec (Some (meaning_of meaning.entry))) }
 {
     match meaning {
         Meaning::Rule(parameters, body) => {
             let uses = uses_of_named_rule(alloc, parameters, body)?;
-            positions(alloc, names, &uses, true)
+            let is_answering = has_result(&uses);
+            let steps = positions(alloc, names, &uses, true)?;
+            Ok(Body {
+                is_answering,
+                steps,
+            })
         }
         Meaning::Derived(parameters, body) => {
             let uses = uses_of_body(alloc, parameters, body)?;
-            positions(alloc, names, &uses, false)
+            let steps = positions(alloc, names, &uses, false)?;
+            Ok(Body {
+                is_answering: false,
+                steps,
+            })
         }
-        _ => Ok(Vec::new(alloc)),
+        _ => Ok(Body {
+            is_answering: false,
+            steps: Vec::new(alloc),
+        }),
     }
 }
 
@@ -70,12 +103,26 @@ fn positions(
 {
     let mut positions = Vec::new(alloc);
     for used in uses {
-        let declared = meaning(names, &used.name.text);
-        if is_step(in_rule, used.role, used.is_bound, declared)
-            && let Some(position) = position(names, &used.name.text)
-        {
+        if let Some(position) = step(names, in_rule, *used) {
             positions.push(position)?;
         }
     }
     Ok(positions)
+}
+
+/// The position to which a use leads, if it is a step.
+fn step(names: &Names, in_rule: bool, used: Use) -> Option<usize>
+    ensures within { IfSome result (λ n. n < length names.now) }
+    ensures name { IfSome result (λ n. text_at names.now n ≡ used.entry.name.now.text) }
+    ensures step { (spec : source.Spec) → IsTableOf spec names.now → is_stepping spec in_rule (use_of used.entry) ≡ is_some result }
+{
+    if !may_be_step(in_rule, used.role) {
+        return None;
+    }
+    let declared = meaning(names, &used.name.text);
+    if is_step(in_rule, used.role, used.is_bound, declared) {
+        position(names, &used.name.text)
+    } else {
+        None
+    }
 }

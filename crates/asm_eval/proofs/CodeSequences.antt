@@ -16,6 +16,7 @@ use Rattle.asm_meaning.specs.Formed.{Forms, GoesOn, IsStoppedAt}
 use Rattle.asm_meaning.specs.Program.{nothing_bound}
 use Rattle.asm_meaning.specs.Value.{Reading}
 use Rattle.asm_meaning.specs.Yields.{Path, Exhausted, at}
+use Rattle.asm_meaning.specs.declared.part_set.PartSet.{PartSet}
 use Rattle.asm_meaning.specs.declared.stopped.Stopped.{Stopped}
 use Rattle.asm_meaning.specs.Underway.{IsUnderway}
 use Rattle.asm_meaning.proofs.Sequences.{sequence_laws-goes_on as goes_on, sequence_laws-ends as ends, sequence_laws-ends_with as ends_with, sequence_laws-ends_at as ends_at, part_laws-good_part as good_part, part_laws-faulty_part as faulty_part, part_laws-exhausted_part as exhausted_part, part_laws-good_turn as good_turn, part_laws-last_turn as last_turn, part_laws-exhausted_turn as exhausted_turn, stopping_laws-handed_on as stopped_on}
@@ -88,17 +89,17 @@ module _ (shape : Shape) (turns : ℕ) (chosen : Path → ℕ) (rs : List Readin
         then_part : parts_left Ps i (fire A under.set) ≡ part_then part (λ U. parts_left Ps (i + 1) (fire (fire A under.set) U))
         then_part = next_part q Ps i P (fire A under.set) same low is
 
-        pub part_goes_on : (joined set : Entries) (after : ℕ) (on : GoesOn shape part under.set joined set now after) → IsConsistent on.set
+        pub part_goes_on : (joined : Entries) (is_set : PartSet) (after : ℕ) (on : GoesOn shape part under.set joined is_set now after) → IsConsistent on.set
             → IsUnderway shape A total (parts_left Ps (i + 1)) joined before after
-        part_goes_on joined set after on consistent =
-            goes_on shape A total (parts_left Ps i) so_far before now under part (parts_left Ps (i + 1)) joined set after on consistent
+        part_goes_on joined is_set after on consistent =
+            goes_on shape A total (parts_left Ps i) so_far before now under part (parts_left Ps (i + 1)) joined is_set after on consistent
             (then_part ∙ good_part part on.set (λ U. parts_left Ps (i + 1) (fire (fire A under.set) U)) on.gives consistent)
 
-        pub part_ends : {T : Type 0} (joined set was old new : Entries) (after n : ℕ) (returned : Returned T Stopped) (on : GoesOn shape part under.set joined set now after)
+        pub part_ends : {T : Type 0} (joined : Entries) (is_set : PartSet) (was old new : Entries) (after n : ℕ) (returned : Returned T Stopped) (on : GoesOn shape part under.set joined is_set now after)
             → ¬ (IsConsistent on.set) → was ≡ old → n ≡ after → ((V : UpdateSet) → Stands shape joined V → OnOk returned (Adds shape V was new))
             → OnOk returned (Forms shape total old new before n)
-        part_ends joined set was old new after n returned on faulty kept counted put =
-            ends_with shape A total (parts_left Ps i) so_far before now under was old new n returned kept part joined set after on counted
+        part_ends joined is_set was old new after n returned on faulty kept counted put =
+            ends_with shape A total (parts_left Ps i) so_far before now under was old new n returned kept part joined is_set after on counted
             (then_part ∙ faulty_part part on.set (λ U. parts_left Ps (i + 1) (fire (fire A under.set) U)) on.gives faulty) put
 
         pub part_stops : {S T : Type 0} (path : Path) (given : Returned S Stopped) (returned : Returned T Stopped) (stop : Stopped)
@@ -123,17 +124,17 @@ module _ (shape : Shape) (turns : ℕ) (chosen : Path → ℕ) (rs : List Readin
         then_turn : turns_left limit r t (fire A under.set) ≡ turn_then turn (λ U. turns_left limit r (t + 1) (fire (fire A under.set) U))
         then_turn = next_turn q limit t number r (fire A under.set) same low is
 
-        pub turn_goes_on : (joined set : Entries) (after : ℕ) (on : GoesOn shape turn under.set joined set now after) → on.set ≢ none → IsConsistent on.set
+        pub turn_goes_on : (joined : Entries) (is_set : PartSet) (after : ℕ) (on : GoesOn shape turn under.set joined is_set now after) → on.set ≢ none → IsConsistent on.set
             → IsUnderway shape A total (turns_left limit r (t + 1)) joined before after
-        turn_goes_on joined set after on some consistent =
-            goes_on shape A total (turns_left limit r t) so_far before now under turn (turns_left limit r (t + 1)) joined set after on consistent
+        turn_goes_on joined is_set after on some consistent =
+            goes_on shape A total (turns_left limit r t) so_far before now under turn (turns_left limit r (t + 1)) joined is_set after on consistent
             (then_turn ∙ good_turn turn on.set (λ U. turns_left limit r (t + 1) (fire (fire A under.set) U)) on.gives some consistent)
 
-        pub turn_ends : {T : Type 0} (joined set was old new : Entries) (after n : ℕ) (returned : Returned T Stopped) (on : GoesOn shape turn under.set joined set now after)
+        pub turn_ends : {T : Type 0} (joined : Entries) (is_set : PartSet) (was old new : Entries) (after n : ℕ) (returned : Returned T Stopped) (on : GoesOn shape turn under.set joined is_set now after)
             → (on.set ≡ none) ⊎ (¬ (IsConsistent on.set)) → was ≡ old → n ≡ after → ((V : UpdateSet) → Stands shape joined V → OnOk returned (Adds shape V was new))
             → OnOk returned (Forms shape total old new before n)
-        turn_ends joined set was old new after n returned on last kept counted put =
-            ends_with shape A total (turns_left limit r t) so_far before now under was old new n returned kept turn joined set after on counted
+        turn_ends joined is_set was old new after n returned on last kept counted put =
+            ends_with shape A total (turns_left limit r t) so_far before now under was old new n returned kept turn joined is_set after on counted
             (then_turn ∙ last_turn turn on.set (λ U. turns_left limit r (t + 1) (fire (fire A under.set) U)) on.gives last) put
 
         pub turn_stops : {S T : Type 0} (path : Path) (given : Returned S Stopped) (returned : Returned T Stopped) (stop : Stopped)

@@ -19,9 +19,8 @@ use Rattle.asm_meaning.proofs.NumberedValues.{numbered_names-derived as numbered
 use Rattle.asm_eval.specs.CodeViews.{code_of}
 use Rattle.asm_eval.specs.RuleScopes.{AreRuleBodies, IsRuleBody}
 use Rattle.asm_eval.specs.RuleViews.{rule_of}
-use Rattle.asm_eval.specs.Scopes.{AreBodies, IsBody, names_of, resolved_in, slots_of}
-use Rattle.asm_eval.specs.Slots.{called_slots}
-use Rattle.asm_eval.specs.declared.scope.Bound.{Bound}
+use Rattle.asm_eval.specs.Scopes.{AreBodies, IsBody, resolved_in}
+use Rattle.asm_eval.specs.Slots.{Slot, called_slots, names_in}
 use Rattle.asm_eval.proofs.ScopeLaws.{parameter_names}
 use Rattle.asm_eval.specs.declared.bodies.RuleBody.{RuleBody}
 use Rattle.asm_eval.specs.declared.code.Code.{Code}
@@ -85,12 +84,12 @@ module _ (spec : Spec) where
   }
 
 -- the body of the derived function with a number, by the code of its term
-pub body_is : (spec : Spec) (d : ℕ) (xs : List NameHere) (t : Term) → meaning_at (derived_of spec) d ≡ Some (names.Derived (map name_of xs) (term_of t)) → (scope items : List Bound) → scope ≡ items
-    → slots_of items ≡ called_slots false (map text_of xs) → (c body : Code) → body ≡ c → resolved_in spec (names_of scope) (plain_term (term_of t)) (code_of c) → IsBody spec d (code_of body)
-body_is spec d xs t says scope items same is c body put it = record {
+pub body_is : (spec : Spec) (d : ℕ) (xs : List NameHere) (t : Term) → meaning_at (derived_of spec) d ≡ Some (names.Derived (map name_of xs) (term_of t)) → (slots : List Slot)
+    → slots ≡ called_slots false (map text_of xs) → (c body : Code) → body ≡ c → resolved_in spec (names_in slots) (plain_term (term_of t)) (code_of c) → IsBody spec d (code_of body)
+body_is spec d xs t says slots is c body put it = record {
   parameters = map text_of xs;
   body = plain_term (term_of t);
   stands = numbered_derived spec (Some (number.Derived d)) d xs t refl says;
-  resolved = subst (λ ns. resolved_in spec ns (plain_term (term_of t)) (code_of body)) (parameter_names scope items xs same is)
-      (subst (λ k. resolved_in spec (names_of scope) (plain_term (term_of t)) (code_of k)) (sym put) it);
+  resolved = subst (λ ns. resolved_in spec ns (plain_term (term_of t)) (code_of body)) (parameter_names slots xs is)
+      (subst (λ k. resolved_in spec (names_in slots) (plain_term (term_of t)) (code_of k)) (sym put) it);
 }

@@ -14,9 +14,12 @@ pub mod Resolving
 pub mod KeptBodies
 pub mod LinkCodes
 pub mod ScopeLaws
+pub mod SpelledTexts
+pub mod FoundNames
 pub mod ResolvedLists
 pub mod CodePaths
 pub mod CodeSequences
+pub mod SingleUpdates
 pub mod RuleForms
 pub mod SoundMembers
 pub mod CodeCandidates

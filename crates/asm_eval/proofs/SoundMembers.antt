@@ -1,5 +1,7 @@
 -- The members of sound codes, of a sound chain, and of a sound `par` and `seq`: they are sound, and smaller than the whole.
 use Rattle.std.proofs.Common.{◌≡◌, ℕ, ◌+◌, ◌<◌, List, length, map, get_or, ap, subst, sym, ◌∙◌, arith, Box, Vec, Global}
+use Rattle.std.specs.Arc.{arc_value}
+use Rattle.std.specs.declared.sync.Arc.{Arc}
 use Rattle.asm_state.specs.declared.operation.Op.{Op}
 use Rattle.asm_state.specs.Signature.{Shape}
 use Rattle.asm_eval.specs.CodeViews.{code_of, codes_of, link_of, links_of}
@@ -11,7 +13,7 @@ use Rattle.asm_eval.specs.declared.code.Code.{Code}
 use Rattle.asm_eval.specs.declared.code.Code.TheVariants as code
 use Rattle.asm_eval.specs.declared.rule_code.RuleCode.{RuleCode}
 use Rattle.asm_eval.specs.declared.rule_code.RuleCode.TheVariants as rule
-use Rattle.asm_eval.proofs.CodeForms.{chain_form, held_form}
+use Rattle.asm_eval.proofs.CodeForms.{chain_form, derived_form, held_form}
 use Rattle.asm_eval.proofs.Members.{sound_within, size_within, link_sound_within, link_size_within}
 use Rattle.asm_eval.proofs.RuleForms.{par_form, seq_form, sound_part, size_of_part}
 
@@ -27,6 +29,16 @@ module _ (shape : Shape) where
         let all = subst (λ (us : List Code). AreSound shape (codes_of (map code_of us))) (sym same) (subst (IsSound shape) whole sound).2 in
         let within = size_within us i u below at in
         let size_is : size (code_of t) ≡ 1 + sizes (codes_of (map code_of us)) = ap size whole ∙ ap (λ (us : List Code). 1 + sizes (codes_of (map code_of us))) (sym same) in
+        (omega (arith, within, size_is), sound_within shape us i u below at all)
+
+    pub member_laws-derived : (body : Arc Code Global) (ts : Vec Code Global) → t ≡ code.Derived body ts → (us : List Code) → us ≡ ts.items
+        → (i : ℕ) (u : Code) → i < length us → u ≡ get_or us i u → (size (code_of u) < size (code_of t)) × IsSound shape (code_of u)
+    member_laws-derived body ts is us same i u below at =
+        let whole = derived_form t body ts is in
+        let all = subst (λ (us : List Code). AreSound shape (codes_of (map code_of us))) (sym same) (subst (IsSound shape) whole sound).1 in
+        let within = size_within us i u below at in
+        let size_is : size (code_of t) ≡ 1 + (size (code_of (arc_value body)) + sizes (codes_of (map code_of us))) =
+        ap size whole ∙ ap (λ (us : List Code). 1 + (size (code_of (arc_value body)) + sizes (codes_of (map code_of us)))) (sym same) in
         (omega (arith, within, size_is), sound_within shape us i u below at all)
 
     pub member_laws-chain : (first : Box Code Global) (rest : Vec (Op × Code) Global) → t ≡ code.Chain first rest → (links : List (Op × Code)) → links ≡ rest.items

@@ -14,6 +14,7 @@ pub mod RuleTree
 pub mod RuleViews
 pub mod RuleMeaning
 pub mod Running
+pub mod Singles
 pub mod Regions
 pub mod RulesResolved
 pub mod RuleScopes

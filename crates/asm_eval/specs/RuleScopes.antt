@@ -35,7 +35,7 @@ use Rattle.asm_eval.specs.declared.bodies.RuleBody.{RuleBody}
 use Rattle.asm_eval.specs.declared.code.Code.{Code}
 use Rattle.asm_eval.specs.declared.rule_code.Place.{Place}
 use Rattle.asm_eval.specs.declared.rule_code.RuleCode.{RuleCode}
-use Rattle.asm_eval.specs.declared.scope.Bound.{Bound}
+use Rattle.asm_eval.specs.declared.scope.Scope.{Scope}
 
 module _ (spec : Spec) where
   abbrev pub resolved_rule_in : List Slot → Plain → tree.RuleCode → Type 0
@@ -62,7 +62,7 @@ module _ (spec : Spec) where
   abbrev pub AreKnown : Bodies → Type 0
   AreKnown known = AreBodies spec known.terms.items × AreRuleBodies known.rules.items
 
-module _ (checked : Checked) (s : List Bound) where
+module _ (checked : Checked) (s : Scope) where
   abbrev pub rule_resolved : Rule → RuleCode → Type 0
   rule_resolved R c = resolved_rule_in (spec_of checked.spec) (slots_of s) (meant R) (rule_of c)
 

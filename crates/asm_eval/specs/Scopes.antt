@@ -1,10 +1,11 @@
 -- What the pass keeps.
+--     slots_in parameters             the names of the positions in the body of a rule or a derived function
 --     slots_of scope, names_of scope  the names of the positions, with what each stands for, and without
 --     scope_environment scope         an environment in which these names are bound
 --     IsBody spec d c                 c stands for the body of the derived function numbered d
 --     AreBodies spec bodies           a place for each derived function, with its body or none
 --     term_resolved checked scope t c      c stands for a term of the code in a specification
-use Rattle.std.specs.Prelude.{◌≡◌, ℕ, List, [], map, length, slice_get, Option, Some}
+use Rattle.std.specs.Prelude.{◌≡◌, ℕ, List, [], ◌∷◌, map, length, slice_get, Option, Some}
 use Rattle.std.specs.Arc.{arc_value}
 use Rattle.std.specs.declared.sync.Arc.{Arc}
 use Rattle.std.proofs.Common.{Global}
@@ -19,26 +20,29 @@ use Rattle.asm_check.specs.Shapes.{shape_of}
 use Rattle.asm_check.specs.declared.checked.Checked.{Checked}
 use Rattle.asm_check.specs.declared.checked.Named.TheVariants as number
 use Rattle.asm_meaning.specs.Declarations.{numbered, program_of}
+use Rattle.asm_meaning.specs.Meant.{text_of}
 use Rattle.asm_meaning.specs.Program.{Derived, Environment, bind_values}
 use Rattle.asm_eval.specs.CodeTree as tree
 use Rattle.asm_eval.specs.CodeViews.{code_of, codes_of}
 use Rattle.asm_eval.specs.Resolved.{IsResolved, AreResolved}
 use Rattle.asm_eval.specs.declared.code.Code.{Code}
-use Rattle.asm_eval.specs.Slots.{Slot, value_slot, answer_slot, names_in}
-use Rattle.asm_eval.specs.declared.scope.Bound.{Bound}
-use Rattle.asm_eval.specs.declared.scope.Bound.TheVariants as bound
+use Rattle.asm_eval.specs.Slots.{Slot, called_slots, value_slot, names_in}
+use Rattle.asm_eval.specs.declared.parameters.Parameters.{Parameters}
+use Rattle.asm_eval.specs.declared.scope.Scope.{Scope}
+use Rattle.asm_eval.specs.declared.scope.Scope.TheVariants as scopes
 
-abbrev pub slot_of : Bound → Slot
-slot_of (bound.Named x) = value_slot x.now.text
-slot_of bound.Answer = answer_slot
+abbrev pub slots_in : Parameters → List Slot
+slots_in parameters = called_slots parameters.answers (map text_of parameters.names.now)
 
-abbrev pub slots_of : List Bound → List Slot
-slots_of scope = map slot_of scope
+abbrev pub slots_of : Scope → List Slot
+slots_of scopes.Empty = []
+slots_of (scopes.Within' x p outer) = value_slot x.now.text ∷ slots_of outer
+slots_of (scopes.Called parameters) = slots_in parameters.now
 
-abbrev pub names_of : List Bound → List Name
+abbrev pub names_of : Scope → List Name
 names_of scope = names_in (slots_of scope)
 
-abbrev pub scope_environment : List Bound → Environment
+abbrev pub scope_environment : Scope → Environment
 scope_environment scope = bind_values (names_of scope) []
 
 module _ (spec : Spec) where
@@ -55,14 +59,18 @@ module _ (spec : Spec) where
     pub as_many : length bodies ≡ length (derived_of spec)
     pub each : (d : ℕ) (c : Arc Code Global) → slice_get bodies d ≡ Some (Some c) → IsBody d (code_of (arc_value c))
 
-abbrev pub term_resolved : Checked → List Bound → Term → Code → Type 0
+abbrev pub term_resolved : Checked → Scope → Term → Code → Type 0
 term_resolved checked s t c = resolved_in (spec_of checked.spec) (names_of s) (plain_term (term_of t)) (code_of c)
 
-abbrev pub named_resolved : Checked → List Bound → Name → List Term → Code → Type 0
+-- under one more name
+abbrev pub inner_resolved : Checked → Scope → Name → Term → Code → Type 0
+inner_resolved checked s x t c = resolved_in (spec_of checked.spec) (x ∷ names_of s) (plain_term (term_of t)) (code_of c)
+
+abbrev pub named_resolved : Checked → Scope → Name → List Term → Code → Type 0
 named_resolved checked s x ts c = resolved_in (spec_of checked.spec) (names_of s) (Named x (plain_terms (terms_of (map term_of ts)))) (code_of c)
 
-abbrev pub all_resolved : Checked → List Bound → List Term → List Code → Type 0
+abbrev pub all_resolved : Checked → Scope → List Term → List Code → Type 0
 all_resolved checked s ts cs = AreResolved (program_of (spec_of checked.spec)) (shape_of (spec_of checked.spec)) (names_of s) (plain_terms (terms_of (map term_of ts))) (codes_of (map code_of cs))
 
-abbrev pub chain_resolved : Checked → List Bound → Term → List (Op × Term) → Code → Type 0
+abbrev pub chain_resolved : Checked → Scope → Term → List (Op × Term) → Code → Type 0
 chain_resolved checked s t links c = resolved_in (spec_of checked.spec) (names_of s) (Chain (plain_term (term_of t)) (plain_links (links_of (map (λ (l : Op × Term). (l.0, term_of l.1)) links)))) (code_of c)

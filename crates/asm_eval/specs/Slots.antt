@@ -3,7 +3,14 @@
 --     position_of names x         the position of a name, which is that of the first of its text
 --     answer_position slots x     the same where the first of its text stands for a location
 --     called_slots answers xs     the slots in the body of a rule with these parameters: of a call with a target, or without
-use Rattle.std.specs.Prelude.{ℕ, suc, Bool, true, false, cond, List, [], ◌∷◌, map, Option, Some, None, option_map, slice_index_or}
+--     found_from n slots x        the position of a name where the first slot has this one, and whether it stands for a location there
+--     is_spelled x y              whether a search for the text x in an ordered map ends at the text y
+--     AreFirst xs positions       an ordered map has the positions of these names
+use Rattle.std.specs.Prelude.{◌≡◌, ℕ, suc, Bool, true, false, cond, List, [], ◌∷◌, map, Option, Some, None, option_map, slice_index_or}
+use Rattle.std.specs.Cmp.Lexicographic.{slice_cmp}
+use Rattle.std.specs.Map.{lookup}
+use Rattle.std.specs.Ordering.{is_eq, nat_cmp}
+use Rattle.std.proofs.Common.{Vec, Global}
 use Rattle.asm_syntax.specs.Tree.{Name, result}
 use Rattle.asm_meaning.specs.Program.{is_name}
 
@@ -37,3 +44,13 @@ answer_position slots x = located_position slots (position_of (names_in slots) x
 abbrev pub called_slots : Bool → List Name → List Slot
 called_slots false xs = map value_slot xs
 called_slots true xs = answer_slot ∷ map value_slot xs
+
+abbrev pub found_from : ℕ → List Slot → Name → Option (ℕ × Bool)
+found_from n [] x = None
+found_from n (s ∷ slots) x = cond (is_name s.name x) (Some (n, s.located)) (found_from (suc n) slots x)
+
+abbrev pub is_spelled : List ℕ → List ℕ → Bool
+is_spelled x y = is_eq (slice_cmp nat_cmp x y)
+
+abbrev pub AreFirst : List Name → List (Vec ℕ Global × ℕ) → Type 0
+AreFirst xs positions = (x : Name) → lookup (λ (q : Vec ℕ Global). is_spelled x q.items) positions ≡ position_of xs x

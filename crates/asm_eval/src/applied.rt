@@ -4,6 +4,7 @@ ghost use Rattle.std.specs.Int.{int_rem_euclid};
 ghost use Rattle.std.specs.List.{list_all};
 ghost use Rattle.asm_state.specs.Operation.{op};
 ghost use Rattle.asm_eval.specs.Ands.{is_and, is_and_operation};
+ghost use Rattle.asm_meaning.specs.Value.{is_true};
 ghost use Rattle.asm_state.specs.declared.operation.Op.TheVariants.{Add, Remainder, Equal};
 ghost use Rattle.asm_state.specs.declared.value.Value.TheVariants.{Number as Whole};
 
@@ -113,6 +114,30 @@ pub(crate) fn far_applied(operation: Op, left: Word, right: Word) -> Word
         Op::Equal => Word::truth(left.code() == right.code()),
         Op::Different => Word::truth(left.code() != right.code()),
     }
+}
+
+/// Whether an operation has the value true. Comparisons have it without a call.
+#[inline(always)]
+pub(crate) fn is_so(operation: Op, left: Word, right: Word) -> bool
+    ensures { result ≡ is_true (op operation left right) }
+{
+    match operation {
+        Op::Less => is_yes(apply(Op::Less, left.value(), right.value())),
+        Op::AtMost => is_yes(apply(Op::AtMost, left.value(), right.value())),
+        Op::Greater => is_yes(apply(Op::Greater, left.value(), right.value())),
+        Op::AtLeast => is_yes(apply(Op::AtLeast, left.value(), right.value())),
+        Op::Equal => left.code() == right.code(),
+        Op::Different => left.code() != right.code(),
+        _ => is_yes(far_applied(operation, left, right).value()),
+    }
+}
+
+/// Whether a value is the truth value true.
+#[inline(always)]
+fn is_yes(value: Value) -> bool
+    ensures { result ≡ is_true value }
+{
+    matches!(value, Value::Truth(true))
 }
 
 /// Whether each operation of a chain is `and`.

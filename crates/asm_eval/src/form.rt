@@ -19,8 +19,10 @@ use crate::place::{answer_number, place_number};
 use crate::regions::{Region, Regions};
 use crate::rule_code::{Place, RuleCode};
 use crate::running::Running;
+use crate::single::{Single, single_update};
 use crate::value::{holds, value};
-use asm_meaning::kept::{furnish, put_back, set_aside};
+use asm_meaning::kept::{furnish, go_on, go_on_by, put_back, set_aside};
+use asm_meaning::part_set::PartSet;
 use asm_meaning::update::add_update;
 use asm_meaning::{Forming, Stopped, View};
 use asm_reader::Picks;
@@ -257,6 +259,7 @@ fn form_part<'e, P: Picks, G: Regions<P>>(
 
 /// Forms the parts that stand beside each other.
 #[cycle(form)]
+#[inline(never)]
 fn form_all<'e, P: Picks, G: Regions<P>>(
     alloc: Global,
     regions: &mut G,
@@ -340,7 +343,7 @@ fn form_in_order<'e, P: Picks, G: Regions<P>>(
     let before = set_aside(alloc, &mut made.set);
     let mut so_far = Summary::new(alloc, signature.count());
     for i in 0..parts.len() {
-        form_next(
+        let part = form_next(
             alloc,
             regions,
             running,
@@ -350,7 +353,7 @@ fn form_in_order<'e, P: Picks, G: Regions<P>>(
             &mut so_far,
             made,
         )?;
-        if made.set.first_fault(signature).is_some() {
+        if part.ends_parts() {
             return put_back(before, so_far, made);
         }
     }
@@ -379,7 +382,7 @@ fn form_turns<'e, P: Picks, G: Regions<P>>(
     let before = set_aside(alloc, &mut made.set);
     let mut so_far = Summary::new(alloc, signature.count());
     for turn in 0..running.turns {
-        form_next(
+        let part = form_next(
             alloc,
             regions,
             running,
@@ -389,7 +392,7 @@ fn form_turns<'e, P: Picks, G: Regions<P>>(
             &mut so_far,
             made,
         )?;
-        if made.set.is_empty() || made.set.first_fault(signature).is_some() {
+        if part.ends_turns() {
             return put_back(before, so_far, made);
         }
     }
@@ -409,7 +412,36 @@ fn form_next<'e, P: Picks, G: Regions<P>>(
     number: u64,
     so_far: &mut Summary,
     made: &mut Forming,
-) -> Result<(), Stopped>
+) -> Result<PartSet, Stopped>
+    requires sound { IsSoundRule (shape_at running.now) (rule_of rule.now) }
+    requires framed { IsSoundFrame (shape_at running.now) frame.now }
+    requires ready { G.is_ready regions.old }
+    requires fits { Fits running.now made.old }
+    requires so_far { so_far.old.count ≡ count_of (shape_at running.now) }
+    ensures ready { G.is_ready regions.new }
+    ensures formed { FollowsUpon (shape_at running.now) (λ U. rule_upon running.now U frame.now (yields.at made.old.path.items number) (rule_of rule.now)) so_far.old so_far.new made.old made.new result }
+{
+    let view = View::upon(running.view, so_far);
+    match single_update(alloc, &view, frame, rule)? {
+        Single::Nothing => Ok(PartSet::Empty),
+        Single::Update(n, value) => go_on_by(running.view.signature, n, value, so_far, made),
+        Single::Unknown => form_upon(alloc, regions, running, frame, rule, number, so_far, made),
+    }
+}
+
+/// The same of any rule.
+#[cycle(form)]
+#[inline(never)]
+fn form_upon<'e, P: Picks, G: Regions<P>>(
+    alloc: Global,
+    regions: &mut G,
+    running: &Running<'_, '_, P>,
+    frame: &'e Frame<'e>,
+    rule: &'e RuleCode,
+    number: u64,
+    so_far: &mut Summary,
+    made: &mut Forming,
+) -> Result<PartSet, Stopped>
     requires sound { IsSoundRule (shape_at running.now) (rule_of rule.now) }
     requires framed { IsSoundFrame (shape_at running.now) frame.now }
     requires ready { G.is_ready regions.old }
@@ -426,9 +458,9 @@ fn form_next<'e, P: Picks, G: Regions<P>>(
         turns: running.turns,
     };
     form_part(alloc, regions, &inner, frame, rule, number, made)?;
-    furnish(&mut made.spare, so_far);
-    so_far.then(&made.set)?;
-    Ok(())
+    let part = PartSet::of(running.view.signature, &made.set);
+    go_on(so_far, made)?;
+    Ok(part)
 }
 
 /// Adds the update of an assignment. A place that is no location gives none.

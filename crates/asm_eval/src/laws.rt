@@ -1,6 +1,7 @@
 //! Laws of resolved rules, and of their pieces.
 ghost use Rattle.std.specs.Prelude.{◌≡◌, ◌<◌, ℕ, List, length, map, get_or};
 ghost use Rattle.std.proofs.Common.{Box, Vec, Global};
+ghost use Rattle.std.specs.declared.sync.Arc.{Arc};
 ghost use Rattle.asm_state.specs.Signature.{Shape};
 ghost use Rattle.asm_state.specs.declared.operation.Op.{Op};
 ghost use Rattle.asm_eval.specs.CodeViews.{code_of, codes_of};
@@ -37,6 +38,8 @@ pub fn opening_laws<P: Picks>()
 pub fn member_laws()
     ensures codes { (shape : Shape) (ts : List Code) (i : ℕ) (t : Code) → i < length ts → t ≡ get_or ts i t → AreSound shape (codes_of (map code_of ts)) → IsSound shape (code_of t) }
     ensures held { (shape : Shape) (t : Code) → IsSound shape (code_of t) → (f : ℕ) (ts : Vec Code Global) → t ≡ code.Held f ts → (us : List Code) → us ≡ ts.items →
+        (i : ℕ) (u : Code) → i < length us → u ≡ get_or us i u → (size (code_of u) < size (code_of t)) × IsSound shape (code_of u) }
+    ensures derived { (shape : Shape) (t : Code) → IsSound shape (code_of t) → (body : Arc Code Global) (ts : Vec Code Global) → t ≡ code.Derived body ts → (us : List Code) → us ≡ ts.items →
         (i : ℕ) (u : Code) → i < length us → u ≡ get_or us i u → (size (code_of u) < size (code_of t)) × IsSound shape (code_of u) }
     ensures chain { (shape : Shape) (t : Code) → IsSound shape (code_of t) → (first : Box Code Global) (rest : Vec (Op × Code) Global) → t ≡ code.Chain first rest →
         (links : List (Op × Code)) → links ≡ rest.items → (i : ℕ) (l : Op × Code) → i < length links → l ≡ get_or links i l → (size (code_of l.1) < size (code_of t)) × IsSound shape (code_of l.1) }

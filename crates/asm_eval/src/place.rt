@@ -42,6 +42,7 @@ pub(crate) fn answer_number<'e>(
 }
 
 /// The number of the location that is updated, if there is one.
+#[inline(always)]
 pub(crate) fn place_number<'e>(
     alloc: Global,
     view: &View,
@@ -75,6 +76,7 @@ pub(crate) fn place_number<'e>(
 }
 
 /// The number of the location that a position stands for, if it stands for one.
+#[inline(never)]
 fn answer_at<'e>(frame: &'e Frame<'e>, position: usize) -> Option<usize>
     ensures in_range { (shape : Shape) → IsSoundFrame shape frame.now → IfSome result (λ n. n < count_of shape) }
     ensures location { (shape : Shape) → location_numbered shape result ≡ slice_index_or (places_of shape frame.now) position None }
@@ -144,6 +146,7 @@ fn grid_number<'e>(
 
 /// The number of the location of a controlled function with these arguments: the stray one where
 /// they are outside its domain.
+#[inline(never)]
 fn location_number<'e>(
     alloc: Global,
     view: &View,

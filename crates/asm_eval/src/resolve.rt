@@ -10,13 +10,14 @@ ghost use Rattle.asm_meaning.specs.Declarations.{program_of, universe_number};
 ghost use Rattle.asm_meaning.specs.Value as spec;
 ghost use Rattle.asm_eval.specs.CodeViews.{code_of};
 ghost use Rattle.asm_eval.specs.Slots.{position_of};
-ghost use Rattle.asm_eval.specs.Scopes.{AreBodies, IsBody, all_resolved, chain_resolved, names_of, named_resolved, term_resolved};
+ghost use Rattle.asm_eval.specs.Scopes.{AreBodies, IsBody, all_resolved, chain_resolved, inner_resolved, names_of, named_resolved, term_resolved};
 
 use crate::bodies::{keep, known, shared};
 use crate::code::Code;
 use crate::functions::{make_cell, make_grid, make_held, make_row};
 use crate::make::{make_derived, make_link};
-use crate::scope::{Bound, parameters, position, within};
+use crate::parameters::Parameters;
+use crate::scope::{Scope, position};
 use asm_check::{Checked, Named};
 use asm_state::element::Element;
 use asm_state::operation::Op;
@@ -34,7 +35,7 @@ pub fn resolve<'e>(
     alloc: Global,
     checked: &'e Checked,
     bodies: &mut Vec<Option<Arc<Code, Global>>>,
-    scope: &'e [Bound<'e>],
+    scope: &'e Scope<'e>,
     term: &'e Term,
 ) -> Result<Code, AllocError>
     requires bodies { AreBodies (spec_of checked.now.spec) bodies.old.items }
@@ -68,27 +69,38 @@ pub fn resolve<'e>(
         Term::Exists { name, over, test } => match universe_numbered(checked, over) {
             None => Ok(Code::Constant(Word::truth(false))),
             Some(over) => {
-                let inner = within(alloc, scope, name)?;
-                let test = resolve(alloc, checked, bodies, inner.as_slice(), test)?;
-                Ok(Code::Exists {
-                    over,
-                    test: Box::new(alloc, test)?,
-                })
+                let test = resolve_within(alloc, checked, bodies, scope, name, test)?;
+                Ok(Code::Exists { over, test })
             }
         },
         Term::Every { name, over, test } => match universe_numbered(checked, over) {
             None => Ok(Code::Constant(Word::truth(true))),
             Some(over) => {
-                let inner = within(alloc, scope, name)?;
-                let test = resolve(alloc, checked, bodies, inner.as_slice(), test)?;
-                Ok(Code::Every {
-                    over,
-                    test: Box::new(alloc, test)?,
-                })
+                let test = resolve_within(alloc, checked, bodies, scope, name, test)?;
+                Ok(Code::Every { over, test })
             }
         },
         Term::Answer(name) => resolve_name(alloc, checked, bodies, scope, name, &[]),
     }
+}
+
+/// The code of a term under one more name.
+#[cycle(resolve)]
+fn resolve_within<'e>(
+    alloc: Global,
+    checked: &'e Checked,
+    bodies: &mut Vec<Option<Arc<Code, Global>>>,
+    scope: &'e Scope<'e>,
+    name: &'e Name,
+    term: &'e Term,
+) -> Result<Box<Code>, AllocError>
+    requires bodies { AreBodies (spec_of checked.now.spec) bodies.old.items }
+    ensures resolved { IfOk result (λ b. inner_resolved checked.now scope.now name.now.text term.now b.value) }
+    ensures bodies { OnOk result (AreBodies (spec_of checked.now.spec) bodies.new.items) }
+{
+    let inner = Scope::Within { name, outer: scope };
+    let code = resolve(alloc, checked, bodies, &inner, term)?;
+    Ok(Box::new(alloc, code)?)
 }
 
 /// The code of a chain.
@@ -97,7 +109,7 @@ fn resolve_chain<'e>(
     alloc: Global,
     checked: &'e Checked,
     bodies: &mut Vec<Option<Arc<Code, Global>>>,
-    scope: &'e [Bound<'e>],
+    scope: &'e Scope<'e>,
     first: &'e Term,
     rest: &'e [(Op, Term)],
 ) -> Result<Code, AllocError>
@@ -129,7 +141,7 @@ fn resolve_name<'e>(
     alloc: Global,
     checked: &'e Checked,
     bodies: &mut Vec<Option<Arc<Code, Global>>>,
-    scope: &'e [Bound<'e>],
+    scope: &'e Scope<'e>,
     name: &'e Name,
     arguments: &'e [Term],
 ) -> Result<Code, AllocError>
@@ -137,10 +149,10 @@ fn resolve_name<'e>(
     ensures resolved { IfOk result (named_resolved checked.now scope.now name.now.text arguments.now) }
     ensures bodies { OnOk result (AreBodies (spec_of checked.now.spec) bodies.new.items) }
 {
-    if let Some(i) = position(scope, name) {
+    if let Some(i) = position(scope, name)? {
         return Ok(Code::Local(i));
     }
-    match checked.named(&name.text) {
+    match checked.named_text(&name.text) {
         Some(Named::Function(f)) => {
             resolve_function(alloc, checked, bodies, scope, name, f, arguments)
         }
@@ -164,7 +176,7 @@ fn resolve_function<'e>(
     alloc: Global,
     checked: &'e Checked,
     bodies: &mut Vec<Option<Arc<Code, Global>>>,
-    scope: &'e [Bound<'e>],
+    scope: &'e Scope<'e>,
     name: &'e Name,
     f: usize,
     arguments: &'e [Term],
@@ -199,7 +211,7 @@ pub(crate) fn resolve_all<'e>(
     alloc: Global,
     checked: &'e Checked,
     bodies: &mut Vec<Option<Arc<Code, Global>>>,
-    scope: &'e [Bound<'e>],
+    scope: &'e Scope<'e>,
     name: &'e Name,
     arguments: &'e [Term],
 ) -> Result<Vec<Code>, AllocError>
@@ -231,8 +243,9 @@ pub(crate) fn resolve_body<'e>(
         return Ok(body);
     }
     let (names, term) = checked.derived(d);
-    let scope = parameters(alloc, false, names)?;
-    let code = resolve(alloc, checked, bodies, scope.as_slice(), term)?;
+    let parameters = Parameters::new(alloc, false, names)?;
+    let scope = Scope::Called(&parameters);
+    let code = resolve(alloc, checked, bodies, &scope, term)?;
     let body = Arc::new(alloc, code)?;
     let kept = shared(&body)?;
     keep(bodies, d, kept);
@@ -245,7 +258,7 @@ pub(crate) fn universe_numbered(checked: &Checked, name: &Name) -> Option<usize>
     ensures known { IfSome result (λ n. n < length (shape_of (spec_of checked.now.spec)).universes) }
     ensures none { IfNone result (spec.universe (program_of (spec_of checked.now.spec)) name.now.text ≡ []) }
 {
-    match number_of_universe(checked.named(&name.text)) {
+    match number_of_universe(checked.named_text(&name.text)) {
         None => None,
         Some(n) => Some(n),
     }

@@ -19,9 +19,10 @@ ghost use Rattle.asm_eval.specs.Slots as slots;
 use crate::bodies::{Bodies, RuleBody, keep_rule, known_rule, shared_rule};
 use crate::code::Code;
 use crate::functions::{cell_place, grid_place, row_place};
+use crate::parameters::Parameters;
 use crate::resolve::{resolve, resolve_all, universe_numbered};
 use crate::rule_code::{Place, RuleCode};
-use crate::scope::{Bound, answer_position, parameters, within};
+use crate::scope::{Scope, answer_position};
 use asm_check::{Checked, Named};
 use asm_state::function::FunctionKind;
 use asm_state::word::Word;
@@ -38,7 +39,7 @@ pub fn resolve_rule<'e>(
     alloc: Global,
     checked: &'e Checked,
     known: &mut Bodies,
-    scope: &'e [Bound<'e>],
+    scope: &'e Scope<'e>,
     rule: &'e Rule,
 ) -> Result<RuleCode, AllocError>
     requires known { AreKnown (spec_of checked.now.spec) known.old }
@@ -83,8 +84,8 @@ pub fn resolve_rule<'e>(
         }
         Rule::Let { name, value, body } => {
             let value = resolve(alloc, checked, &mut known.terms, scope, value)?;
-            let inner = within(alloc, scope, name)?;
-            let body = resolve_boxed(alloc, checked, known, inner.as_slice(), body)?;
+            let inner = Scope::Within { name, outer: scope };
+            let body = resolve_boxed(alloc, checked, known, &inner, body)?;
             Ok(RuleCode::Let { value, body })
         }
         Rule::Forall {
@@ -127,7 +128,7 @@ fn resolve_forall<'e>(
     alloc: Global,
     checked: &'e Checked,
     known: &mut Bodies,
-    scope: &'e [Bound<'e>],
+    scope: &'e Scope<'e>,
     name: &'e Name,
     over: &'e Name,
     test: &'e Option<Term>,
@@ -140,10 +141,9 @@ fn resolve_forall<'e>(
     let Some(over) = universe_numbered(checked, over) else {
         return Ok(RuleCode::Skip);
     };
-    let names = within(alloc, scope, name)?;
-    let inner = names.as_slice();
-    let test = resolve_test(alloc, checked, known, inner, test)?;
-    let body = resolve_boxed(alloc, checked, known, inner, body)?;
+    let inner = Scope::Within { name, outer: scope };
+    let test = resolve_test(alloc, checked, known, &inner, test)?;
+    let body = resolve_boxed(alloc, checked, known, &inner, body)?;
     Ok(RuleCode::Forall { over, test, body })
 }
 
@@ -153,7 +153,7 @@ fn resolve_choose<'e>(
     alloc: Global,
     checked: &'e Checked,
     known: &mut Bodies,
-    scope: &'e [Bound<'e>],
+    scope: &'e Scope<'e>,
     name: &'e Name,
     over: &'e Name,
     test: &'e Option<Term>,
@@ -172,10 +172,9 @@ fn resolve_choose<'e>(
             no: Box::new(alloc, none)?,
         });
     };
-    let names = within(alloc, scope, name)?;
-    let inner = names.as_slice();
-    let test = resolve_test(alloc, checked, known, inner, test)?;
-    let body = resolve_boxed(alloc, checked, known, inner, body)?;
+    let inner = Scope::Within { name, outer: scope };
+    let test = resolve_test(alloc, checked, known, &inner, test)?;
+    let body = resolve_boxed(alloc, checked, known, &inner, body)?;
     Ok(RuleCode::Choose {
         over,
         test,
@@ -190,7 +189,7 @@ fn resolve_while<'e>(
     alloc: Global,
     checked: &'e Checked,
     known: &mut Bodies,
-    scope: &'e [Bound<'e>],
+    scope: &'e Scope<'e>,
     test: &'e Term,
     body: &'e Rule,
 ) -> Result<RuleCode, AllocError>
@@ -214,7 +213,7 @@ fn resolve_boxed<'e>(
     alloc: Global,
     checked: &'e Checked,
     known: &mut Bodies,
-    scope: &'e [Bound<'e>],
+    scope: &'e Scope<'e>,
     rule: &'e Rule,
 ) -> Result<Box<RuleCode>, AllocError>
     requires known { AreKnown (spec_of checked.now.spec) known.old }
@@ -231,7 +230,7 @@ fn resolve_other<'e>(
     alloc: Global,
     checked: &'e Checked,
     known: &mut Bodies,
-    scope: &'e [Bound<'e>],
+    scope: &'e Scope<'e>,
     rule: &'e Option<Box<Rule>>,
 ) -> Result<RuleCode, AllocError>
     requires known { AreKnown (spec_of checked.now.spec) known.old }
@@ -250,7 +249,7 @@ fn resolve_parts<'e>(
     alloc: Global,
     checked: &'e Checked,
     known: &mut Bodies,
-    scope: &'e [Bound<'e>],
+    scope: &'e Scope<'e>,
     parts: &'e [Rule],
 ) -> Result<Vec<RuleCode>, AllocError>
     requires known { AreKnown (spec_of checked.now.spec) known.old }
@@ -271,7 +270,7 @@ fn resolve_call<'e>(
     alloc: Global,
     checked: &'e Checked,
     known: &mut Bodies,
-    scope: &'e [Bound<'e>],
+    scope: &'e Scope<'e>,
     target: &'e Option<Target>,
     name: &'e Name,
     arguments: &'e [Term],
@@ -280,7 +279,7 @@ fn resolve_call<'e>(
     ensures resolved { IfOk result (call_resolved checked.now scope.now target.now name.now.text arguments.now) }
     ensures known { OnOk result (AreKnown (spec_of checked.now.spec) known.new) }
 {
-    let Some(r) = number_of_rule(checked.named(&name.text)) else {
+    let Some(r) = number_of_rule(checked.named_text(&name.text)) else {
         return Ok(RuleCode::Skip);
     };
     let answer = resolve_target(alloc, checked, known, scope, target)?;
@@ -307,7 +306,7 @@ pub(crate) fn resolve_named_rule<'e>(
     requires { AreKnown (spec_of checked.now.spec) known.old }
     ensures { OnOk result (AreKnown (spec_of checked.now.spec) known.new) }
 {
-    if let Some(r) = number_of_rule(checked.named(&name.text)) {
+    if let Some(r) = number_of_rule(checked.named_text(&name.text)) {
         let (names, _rule) = checked.rule(r);
         let bound = names.len().min(arguments);
         resolve_rule_body(alloc, checked, known, name, r, answers, bound)?;
@@ -347,8 +346,9 @@ fn resolve_rule_body<'e>(
         return Ok(body);
     }
     let (names, rule) = checked.rule(r);
-    let scope = parameters(alloc, answers, first_of(names, bound))?;
-    let code = resolve_rule(alloc, checked, known, scope.as_slice(), rule)?;
+    let parameters = Parameters::new(alloc, answers, first_of(names, bound))?;
+    let scope = Scope::Called(&parameters);
+    let code = resolve_rule(alloc, checked, known, &scope, rule)?;
     let body = Arc::new(alloc, code)?;
     let kept = RuleBody {
         answers,
@@ -374,7 +374,7 @@ fn resolve_test<'e>(
     alloc: Global,
     checked: &'e Checked,
     known: &mut Bodies,
-    scope: &'e [Bound<'e>],
+    scope: &'e Scope<'e>,
     test: &'e Option<Term>,
 ) -> Result<Option<Code>, AllocError>
     requires known { AreKnown (spec_of checked.now.spec) known.old }
@@ -395,7 +395,7 @@ fn resolve_assign<'e>(
     alloc: Global,
     checked: &'e Checked,
     known: &mut Bodies,
-    scope: &'e [Bound<'e>],
+    scope: &'e Scope<'e>,
     name: &'e Name,
     arguments: &'e [Term],
     value: &'e Term,
@@ -418,7 +418,7 @@ fn resolve_target<'e>(
     alloc: Global,
     checked: &'e Checked,
     known: &mut Bodies,
-    scope: &'e [Bound<'e>],
+    scope: &'e Scope<'e>,
     target: &'e Option<Target>,
 ) -> Result<Option<Place>, AllocError>
     requires known { AreKnown (spec_of checked.now.spec) known.old }
@@ -443,7 +443,7 @@ fn resolve_place<'e>(
     alloc: Global,
     checked: &'e Checked,
     known: &mut Bodies,
-    scope: &'e [Bound<'e>],
+    scope: &'e Scope<'e>,
     name: &'e Name,
     arguments: &'e [Term],
 ) -> Result<Option<Place>, AllocError>
@@ -451,7 +451,7 @@ fn resolve_place<'e>(
     ensures resolved { IfOk result (place_resolved checked.now scope.now name.now.text arguments.now) }
     ensures known { OnOk result (AreKnown (spec_of checked.now.spec) known.new) }
 {
-    if let Some(i) = answer_position(scope, name) {
+    if let Some(i) = answer_position(scope, name)? {
         return Ok(Some(Place::Answer(i)));
     }
     let Some(function) = controlled(checked, name) else {
@@ -466,7 +466,7 @@ fn resolve_located<'e>(
     alloc: Global,
     checked: &'e Checked,
     known: &mut Bodies,
-    scope: &'e [Bound<'e>],
+    scope: &'e Scope<'e>,
     name: &'e Name,
     f: usize,
     arguments: &'e [Term],
@@ -505,7 +505,7 @@ fn controlled(checked: &Checked, name: &Name) -> Option<usize>
     ensures some { IfSome result (λ f. declared.declared (program_of (spec_of checked.now.spec)) name.now.text ≡ Some (declared.Controlled f (domain_of (shape_of (spec_of checked.now.spec)) f))) }
     ensures none { IfNone result ((vs : List ValueHere) → location_of (declared.declared (program_of (spec_of checked.now.spec)) name.now.text) vs ≡ None) }
 {
-    match checked.named(&name.text) {
+    match checked.named_text(&name.text) {
         Some(Named::Function(f)) => match checked.signature().function(f).kind {
             FunctionKind::Controlled => Some(f),
             FunctionKind::Static => None,

@@ -213,7 +213,7 @@ fn meet_call<'e>(
         meet_terms(waiting, target.arguments.as_slice())?;
     }
     meet_terms(waiting, arguments)?;
-    if let Some(Named::Rule(number)) = waiting.checked.named(&name.text) {
+    if let Some(Named::Rule(number)) = waiting.checked.named_text(&name.text) {
         let call = Use::Rule {
             name,
             number,
@@ -239,7 +239,7 @@ fn meet_term<'e>(waiting: &mut Waiting<'e>, term: &'e Term) -> Result<(), AllocE
     match term {
         Term::Constant(_) | Term::Answer(_) => Ok(()),
         Term::Named { name, arguments } => {
-            if let Some(Named::Derived(d)) = waiting.checked.named(&name.text) {
+            if let Some(Named::Derived(d)) = waiting.checked.named_text(&name.text) {
                 waiting.uses.push((Use::Derived(d), false))?;
             }
             meet_terms(waiting, arguments.as_slice())

@@ -13,7 +13,7 @@ ghost use Rattle.asm_eval.specs.CodeViews.{code_of, codes_of, link_of, links_of}
 ghost use Rattle.asm_eval.specs.Frames.{IsSoundFrame, bound_value, code_value, position_value, tree_value, AllSound};
 ghost use Rattle.asm_eval.specs.Sound.{AreCells, AreSoundLinks, IsSound, IsUniverseNumber};
 
-use crate::applied::{added, applied, are_ands, equal_to, far_applied, remainder_by};
+use crate::applied::{added, applied, are_ands, equal_to, far_applied, is_so, remainder_by};
 use crate::code::{Code, Grid, Span};
 use crate::find::{Found, find};
 use crate::frame::Frame;
@@ -125,8 +125,26 @@ fn with_holds<'e>(
 {
     match operation {
         Op::Not => fails(view, frame, left),
-        _ => is_true(with(view, frame, operation, left, right)),
+        _ => compared_with(view, frame, operation, left, right),
     }
+}
+
+/// The same of an operation that values its operand, as comparisons do.
+#[cycle(value)]
+#[inline(never)]
+fn compared_with<'e>(
+    view: &View,
+    frame: &'e Frame<'e>,
+    operation: Op,
+    left: &'e Code,
+    right: Word,
+) -> bool
+    requires sound { IsSound view.now.signature.now (code_of left.now) }
+    requires framed { IsSoundFrame view.now.signature.now frame.now }
+    ensures { result ≡ spec.is_true (tree_value view.now frame.now (tree.With operation (code_of left.now) right)) }
+{
+    let left = operand(view, frame, left);
+    is_so(operation, left, right)
 }
 
 /// Whether the value of the code is the truth value false.
@@ -189,8 +207,28 @@ fn both_hold<'e>(
             holds(view, frame, right)
         }
         Op::Or => either_holds(view, frame, left, right),
-        _ => is_true(both(view, frame, operation, left, right)),
+        _ => compared(view, frame, operation, left, right),
     }
+}
+
+/// The same of an operation that values both operands, as comparisons do.
+#[cycle(value)]
+#[inline(never)]
+fn compared<'e>(
+    view: &View,
+    frame: &'e Frame<'e>,
+    operation: Op,
+    left: &'e Code,
+    right: &'e Code,
+) -> bool
+    requires left { IsSound view.now.signature.now (code_of left.now) }
+    requires right { IsSound view.now.signature.now (code_of right.now) }
+    requires framed { IsSoundFrame view.now.signature.now frame.now }
+    ensures { result ≡ spec.is_true (tree_value view.now frame.now (tree.Both operation (code_of left.now) (code_of right.now))) }
+{
+    let a = operand(view, frame, left);
+    let b = operand(view, frame, right);
+    is_so(operation, a, b)
 }
 
 /// Whether a chain has the value true.

@@ -22,6 +22,7 @@ use crate::resolve::resolve;
 use crate::resolve_rule::resolve_rule;
 use crate::rule_code::RuleCode;
 use crate::running::Running;
+use crate::scope::Scope;
 use crate::used::resolve_used;
 use crate::value::value;
 use asm_check::Checked;
@@ -43,7 +44,7 @@ pub fn value_by_code(
     ensures { IfOk result (λ v. v ≡ spec.value (program checked.now) (shown view.now) nothing_bound (plain_term (term_of term.now))) }
 {
     let mut known = Bodies::new(alloc, checked)?;
-    let code = resolve(alloc, checked, &mut known.terms, &[], term)?;
+    let code = resolve(alloc, checked, &mut known.terms, &Scope::Empty, term)?;
     Ok(value(view, &Frame::Empty, &code))
 }
 
@@ -55,7 +56,7 @@ pub fn resolve_main(alloc: Global, checked: &Checked) -> Result<RuleCode, AllocE
     let (_parameters, main) = checked.rule(checked.main());
     let mut known = Bodies::new(alloc, checked)?;
     resolve_used(alloc, checked, &mut known, main)?;
-    resolve_rule(alloc, checked, &mut known, &[], main)
+    resolve_rule(alloc, checked, &mut known, &Scope::Empty, main)
 }
 
 /// Forms what the rule that a specification starts with yields, by way of its code: it is what the

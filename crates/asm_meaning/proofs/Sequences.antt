@@ -1,27 +1,29 @@
 -- Sequences: the sets of the parts so far, joined by turbo merges, and what is left.
 -- The lemmas that are public are the clauses of sequence_laws, part_laws and stopping_laws.
-use Rattle.std.proofs.Common.{◌≡◌, ◌≢◌, ℕ, ◌+◌, ◌≤◌, min, Bool, true, false, not, cond, ◌||◌, Option, Some, None, ◌⊎◌, inl, inr, refl, sym, ap, subst, ◌∙◌, arith}
+use Rattle.std.proofs.Common.{IsTrue, ◌≡◌, ◌≢◌, ℕ, ◌+◌, ◌≤◌, min, Bool, true, false, not, cond, ◌||◌, ◌⊎◌, inl, inr, refl, sym, ap, subst, ◌∙◌, arith}
 use Rattle.std.specs.Bool.{Decides}
-use Rattle.std.specs.Prelude.{Result as Returned, Ok, Err, OnOk, IfErr, IsErrAnd, is_some, IfNone, IfSome}
-use Rattle.std.proofs.lemmas.Bool.{false_from_ne_true}
+use Rattle.std.specs.Prelude.{Result as Returned, Ok, Err, OnOk, IfErr, IsErrAnd}
+use Rattle.std.proofs.lemmas.Bool.{false_from_ne_true, false≢true}
 use Rattle.std.proofs.lemmas.Result.{on_ok_weaker, IfErr-at_err}
 use Rattle.std.proofs.Math.Bool.{or-true}
-use Rattle.asm_state.specs.Location.{Proper, Stray, State}
+use Rattle.asm_state.specs.Location.{Location, Proper, Stray, State}
 use Rattle.asm_state.specs.Signature.{Shape}
-use Rattle.asm_state.specs.Updates.{UpdateSet, IsConsistent, is_consistent, is_none, none, merge, fire, Fault, Clash, Outside, IsFirstFault}
+use Rattle.asm_state.specs.Updates.{UpdateSet, Has, IsConsistent, is_consistent, is_none, is_proper, none, one, merge, fire, Fault, Clash, Outside, IsFirstFault}
+use Rattle.asm_state.specs.declared.value.Value.{Value}
 use Rattle.asm_state.proofs.Algebra.{union_laws, merge_laws}
 use Rattle.asm_state.proofs.Faults.{fault_laws}
 use Rattle.asm_state.proofs.Members.{member_laws}
 use Rattle.asm_state.proofs.Updates.{test_laws}
 use Rattle.asm_state.proofs.Summaries.{fire_laws}
 use Rattle.asm_updates.specs.Entries.{Entries}
-use Rattle.asm_updates.specs.Faults.{fault_of}
 use Rattle.asm_updates.specs.Stands.{Stands, Adds}
-use Rattle.asm_updates.specs.declared.fault.Fault.{Fault as NumberedFault}
 use Rattle.asm_meaning.specs.Does.{Outcome, nothing, following, part_and, turn_and}
 use Rattle.asm_meaning.specs.Formed.{Forms, GoesOn, IsStoppedAt, greatest_count}
+use Rattle.asm_meaning.specs.PartSets.{IsPartSet, ends_parts, ends_turns}
 use Rattle.asm_meaning.specs.Underway.{IsUnderway}
 use Rattle.asm_meaning.specs.Yields.{Path, Result, Gives, Exhausted, after}
+use Rattle.asm_meaning.specs.declared.part_set.PartSet.{PartSet}
+use Rattle.asm_meaning.specs.declared.part_set.PartSet.TheVariants.{Empty, Consistent, Inconsistent}
 use Rattle.asm_meaning.specs.declared.stopped.Stopped.{Stopped}
 use Rattle.asm_meaning.specs.declared.stopped.Stopped.TheVariants as stopped
 
@@ -35,24 +37,57 @@ after_both U V (Exhausted q) = refl
 
 -- nothing is fired
 
-none_consistent : IsConsistent none
+pub none_consistent : IsConsistent none
 none_consistent = record { one_value = λ l v w h k. absurd (member_laws.of_none l v h); no_stray = λ f v. member_laws.of_none (Stray f) v }
 
-first_is_fault : (U : UpdateSet) (fault : Fault) → IsFirstFault U fault → ¬ (IsConsistent U)
+-- one update
+
+pub one_is_some : (l : Location) (v : Value) → one l v ≢ none
+one_is_some l v is = member_laws.of_none l v (subst (λ U. Has U l v) is ((member_laws.of_one l l v v).1 (refl, refl)))
+
+pub proper_consistent : (l : Location) (v : Value) → IsTrue (is_proper l) → IsConsistent (one l v)
+proper_consistent l v proper = record {
+  one_value = λ m u w h k. ((member_laws.of_one l m v u).0 h).1 ∙ sym ((member_laws.of_one l m v w).0 k).1;
+  no_stray = λ f u h. false≢true (subst (λ m. IsTrue (is_proper m)) (sym ((member_laws.of_one l (Stray f) v u).0 h).0) proper);
+}
+
+pub stray_inconsistent : (f : ℕ) (l : Location) (v : Value) → l ≡ Stray f → ¬ (IsConsistent (one l v))
+stray_inconsistent f l v is consistent = consistent.no_stray f v ((member_laws.of_one l (Stray f) v v).1 (sym is, refl))
+
+pub first_is_fault : (U : UpdateSet) (fault : Fault) → IsFirstFault U fault → ¬ (IsConsistent U)
 first_is_fault U (Clash (Proper f vs) r) first consistent = (fault_laws.no_fault U).0 consistent (Proper f vs) first.0.is_faulty
 first_is_fault U (Clash (Stray f) r) first consistent = absurd first
 first_is_fault U (Outside f) first consistent = (fault_laws.no_fault U).0 consistent (Stray f) first.is_faulty
 
--- what the code's search for a fault found
-pub part_laws-no_fault : (shape : Shape) (part : Entries) (U : UpdateSet) (found : Option NumberedFault) → is_some found ≡ false
-    → IfNone found ((V : UpdateSet) → Stands shape part V → IsConsistent V) → Stands shape part U → IsConsistent U
-part_laws-no_fault shape part U None is consistent stands = consistent U stands
-part_laws-no_fault shape part U (Some fault) is consistent stands = cc
+pub not_true : {b : Bool} → b ≡ false → b ≡ true → ⊥
+not_true is so = cc
 
-pub part_laws-fault : (shape : Shape) (part : Entries) (U : UpdateSet) (found : Option NumberedFault) → is_some found ≡ true
-    → IfSome found (λ fault. (V : UpdateSet) → Stands shape part V → IsFirstFault V (fault_of shape fault)) → Stands shape part U → ¬ (IsConsistent U)
-part_laws-fault shape part U None is first stands = cc
-part_laws-fault shape part U (Some fault) is first stands = first_is_fault U (fault_of shape fault) (first U stands)
+-- what the set of a part is
+
+pub part_laws-consistent_part : (V : UpdateSet) (part : PartSet) → IsPartSet V part → ends_parts part ≡ false → IsConsistent V
+part_laws-consistent_part V Empty is goes = subst IsConsistent (sym is) none_consistent
+part_laws-consistent_part V Consistent is goes = is.1
+part_laws-consistent_part V Inconsistent is goes = absurd (false≢true (sym goes))
+
+pub part_laws-ending_part : (V : UpdateSet) (part : PartSet) → IsPartSet V part → ends_parts part ≡ true → ¬ (IsConsistent V)
+part_laws-ending_part V Empty is ends = absurd (false≢true ends)
+part_laws-ending_part V Consistent is ends = absurd (false≢true ends)
+part_laws-ending_part V Inconsistent is ends = is
+
+pub part_laws-some_turn : (V : UpdateSet) (part : PartSet) → IsPartSet V part → ends_turns part ≡ false → V ≢ none
+part_laws-some_turn V Empty is goes = absurd (false≢true (sym goes))
+part_laws-some_turn V Consistent is goes = is.0
+part_laws-some_turn V Inconsistent is goes = absurd (false≢true (sym goes))
+
+pub part_laws-consistent_turn : (V : UpdateSet) (part : PartSet) → IsPartSet V part → ends_turns part ≡ false → IsConsistent V
+part_laws-consistent_turn V Empty is goes = absurd (false≢true (sym goes))
+part_laws-consistent_turn V Consistent is goes = is.1
+part_laws-consistent_turn V Inconsistent is goes = absurd (false≢true (sym goes))
+
+pub part_laws-ending_turn : (V : UpdateSet) (part : PartSet) → IsPartSet V part → ends_turns part ≡ true → (V ≡ none) ⊎ (¬ (IsConsistent V))
+part_laws-ending_turn V Empty is ends = inl is
+part_laws-ending_turn V Consistent is ends = absurd (false≢true ends)
+part_laws-ending_turn V Inconsistent is ends = inr is
 
 -- a test is false where what it tests isn't so
 false_by : {P : Type 0} (b : Bool) → Decides b P → ¬ P → b ≡ false
@@ -134,15 +169,29 @@ module _ (shape : Shape) where
   }
 
   -- a part that is formed from nothing, upon the sets so far
-  pub sequence_laws-goes_upon : (o : Outcome) (U : UpdateSet) (cleared so_far joined part : Entries) (before after : ℕ)
-      → Stands shape cleared none → Stands shape so_far U → ((V W : UpdateSet) → Stands shape so_far V → Stands shape part W → Stands shape joined (merge V W))
-      → Forms shape o cleared part before after → GoesOn shape o U joined part before after
-  sequence_laws-goes_upon o U cleared so_far joined part before after empty stands join formed =
-      let alone : Stands shape part formed.set = subst (Stands shape part) (union_laws.unit formed.set) (formed.adds none empty) in
-      record { set = formed.set; gives = formed.gives; stands = alone; merged = join U formed.set stands alone; counts = formed.counts }
+  pub sequence_laws-goes_upon : (o : Outcome) (U : UpdateSet) (cleared so_far joined made : Entries) (part : PartSet) (before after : ℕ)
+      → Stands shape cleared none → Stands shape so_far U → ((V W : UpdateSet) → Stands shape so_far V → Stands shape made W → Stands shape joined (merge V W))
+      → ((V : UpdateSet) → Stands shape made V → IsPartSet V part) → Forms shape o cleared made before after → GoesOn shape o U joined part before after
+  sequence_laws-goes_upon o U cleared so_far joined made part before after empty stands join is formed =
+      let alone : Stands shape made formed.set = subst (Stands shape made) (union_laws.unit formed.set) (formed.adds none empty) in
+      record { set = formed.set; gives = formed.gives; is = is formed.set alone; merged = join U formed.set stands alone; counts = formed.counts }
+
+  -- a part whose set is known
+  pub sequence_laws-goes_by : (o : Outcome) (U V : UpdateSet) (joined : Entries) (part : PartSet) (n : ℕ) → o ≡ of_set V 0 → n ≤ greatest_count
+      → IsPartSet V part → Stands shape joined (merge U V) → GoesOn shape o U joined part n n
+  sequence_laws-goes_by o U V joined part n outcome small is stands = record {
+    set = V;
+    gives = ap (λ (q : Outcome). q.result) outcome;
+    is = is;
+    merged = stands;
+    counts = still n greatest_count small ∙ ap (λ (q : Outcome). min (n + q.instances) greatest_count) (sym outcome);
+  }
+    where
+      still : (k g : ℕ) → k ≤ g → k ≡ min (k + 0) g
+      still k g h = omega arith
 
   module _ (A : State) (total : Outcome) (left : State → Outcome) (so_far : Entries) (before now : ℕ) (under : IsUnderway shape A total left so_far before now) where
-    pub sequence_laws-goes_on : (o : Outcome) (left_then : State → Outcome) (joined part : Entries) (after : ℕ) (on : GoesOn shape o under.set joined part now after)
+    pub sequence_laws-goes_on : (o : Outcome) (left_then : State → Outcome) (joined : Entries) (part : PartSet) (after : ℕ) (on : GoesOn shape o under.set joined part now after)
         → IsConsistent on.set → left (fire A under.set) ≡ following on.set o.instances (left_then (fire (fire A under.set) on.set))
         → IsUnderway shape A total left_then joined before after
     sequence_laws-goes_on o left_then joined part after on consistent is = record {
@@ -174,7 +223,7 @@ module _ (shape : Shape) where
         cut_off n a b g = omega arith
 
     module _ {T : Type 0} (was old new : Entries) (n : ℕ) (returned : Returned T Stopped) (same : was ≡ old) where
-      pub sequence_laws-ends_with : (o : Outcome) (joined part : Entries) (after : ℕ) (on : GoesOn shape o under.set joined part now after) → n ≡ after
+      pub sequence_laws-ends_with : (o : Outcome) (joined : Entries) (part : PartSet) (after : ℕ) (on : GoesOn shape o under.set joined part now after) → n ≡ after
           → left (fire A under.set) ≡ of_set on.set o.instances → ((V : UpdateSet) → Stands shape joined V → OnOk returned (Adds shape V was new))
           → OnOk returned (Forms shape total old new before n)
       sequence_laws-ends_with o joined part after on kept is put =

@@ -7,16 +7,18 @@
 --     Follows     what a call promises that forms an outcome, whether it ends, is exhausted or wants
 --                 memory
 --     FollowsUpon the same of a part of a sequence
-use Rattle.std.specs.Prelude.{◌≡◌, ℕ, ◌+◌, min, Result, OnOk, IfErr}
+use Rattle.std.specs.Prelude.{◌≡◌, ℕ, ◌+◌, min, Result, OnOk, IfOk, IfErr}
 use Rattle.asm_state.specs.Signature.{Shape, count_of}
 use Rattle.asm_state.specs.Updates.{UpdateSet, IsConsistent, merge}
 use Rattle.asm_updates.specs.Entries.{Entries}
 use Rattle.asm_updates.specs.Stands.{Stands, Adds}
+use Rattle.asm_meaning.specs.PartSets.{IsPartSet}
 use Rattle.asm_meaning.specs.Yields.{Path, Gives, Exhausted}
 use Rattle.asm_meaning.specs.Does as does
 use Rattle.asm_meaning.specs.declared.outcome.Forming.{Forming}
 use Rattle.asm_meaning.specs.declared.outcome.Outcome.{Outcome}
 use Rattle.asm_meaning.specs.declared.outcome.Outcome.TheVariants.{Set, Exhausted as ExhaustedAt}
+use Rattle.asm_meaning.specs.declared.part_set.PartSet.{PartSet}
 use Rattle.asm_meaning.specs.declared.stopped.Stopped.{Stopped}
 use Rattle.asm_meaning.specs.declared.stopped.Stopped.TheVariants as stopped
 
@@ -47,11 +49,11 @@ abbrev pub IsStoppedAt : does.Outcome → Path → Stopped → Type 0
 IsStoppedAt o p stopped.Memory = Unit {0}
 IsStoppedAt o p stopped.Exhausted = o.result ≡ Exhausted p
 
--- a part after the set U: its own set, and the turbo merge of U with it
-pub record GoesOn (shape : Shape) (o : does.Outcome) (U : UpdateSet) (so_far part : Entries) (before after : ℕ) : Type 0 where
+-- a part after the set U: what its own set is, and the turbo merge of U with it
+pub record GoesOn (shape : Shape) (o : does.Outcome) (U : UpdateSet) (so_far : Entries) (part : PartSet) (before after : ℕ) : Type 0 where
   pub set : UpdateSet
   pub gives : o.result ≡ Gives set
-  pub stands : Stands shape part set
+  pub is : IsPartSet set part
   pub merged : Stands shape so_far (merge U set)
   pub counts : after ≡ min (before + o.instances) greatest_count
 
@@ -64,9 +66,9 @@ pub record Follows {T : Type 0} (shape : Shape) (o : does.Outcome) (old new : Fo
 
 -- what a call promises that forms a part of a sequence, whose outcome depends on the set of the
 -- parts before it
-pub record FollowsUpon {T : Type 0} (shape : Shape) (o : UpdateSet → does.Outcome) (so_far joined : Entries) (old new : Forming) (result : Result T Stopped) : Type 0 where
+pub record FollowsUpon (shape : Shape) (o : UpdateSet → does.Outcome) (so_far joined : Entries) (old new : Forming) (result : Result PartSet Stopped) : Type 0 where
   pub count : new.set.count ≡ old.set.count
   pub so_far_count : OnOk result (joined.count ≡ so_far.count)
   pub path : OnOk result (new.path.items ≡ old.path.items)
-  pub formed : (U : UpdateSet) → Stands shape so_far U → IsConsistent U → OnOk result (GoesOn shape (o U) U joined new.set old.instances new.instances)
+  pub formed : (U : UpdateSet) → Stands shape so_far U → IsConsistent U → IfOk result (λ part. GoesOn shape (o U) U joined part old.instances new.instances)
   pub exhausted : (U : UpdateSet) → Stands shape so_far U → IsConsistent U → IfErr result (IsStoppedAt (o U) new.path.items)

@@ -24,5 +24,6 @@ pub mod Grouped
 pub mod InitialLaws
 pub mod SpecificationLaw
 pub mod Setting
+pub mod PartSets
 pub mod Formed
 pub mod Underway

@@ -45,6 +45,7 @@ ghost use Rattle.asm_meaning.specs.Law.{ScriptedIsFree, FreeHasScript};
 ghost use Rattle.asm_meaning.specs.Meant.{text_of};
 ghost use Rattle.asm_meaning.specs.Nested.{Within, Behind, Nests, AllNest};
 ghost use Rattle.asm_meaning.specs.Program.{Program, Environment, Controlled, Derived, NamedRule, bound_to, declared};
+ghost use Rattle.asm_meaning.specs.PartSets.{IsPartSet, ends_parts, ends_turns};
 ghost use Rattle.asm_meaning.specs.Ranks.{AreDerivedRanked, IsRanked};
 ghost use Rattle.asm_meaning.specs.Run.{ScriptedRuns, FreeRuns};
 ghost use Rattle.asm_meaning.specs.Scripts.{UnrepeatedScript};
@@ -60,6 +61,7 @@ ghost use Rattle.asm_meaning.specs.Valued.{declared_value, program};
 ghost use Rattle.asm_meaning.specs.Weights.{TermWeightsFall, CallWeightsFall, rule_weight};
 ghost use Rattle.asm_meaning.specs.Yields.{Path, Result, Gives, Exhausted, at, beside};
 ghost use Rattle.asm_meaning.specs.declared.outcome.Forming.{Forming};
+ghost use Rattle.asm_meaning.specs.declared.part_set.PartSet.{PartSet};
 ghost use Rattle.asm_meaning.specs.declared.stopped.Stopped.{Stopped};
 ghost use Rattle.asm_meaning.specs.declared.stopped.Stopped.TheVariants.{Memory};
 ghost use Rattle.asm_meaning.specs.declared.walk.Walk.TheVariants.{Met, Passed};
@@ -266,7 +268,7 @@ pub fn stopping_laws<S: Drop, T: Drop>()
     ensures memory { (o : Outcome) (p : Path) (returned : Returned T Stopped) → IfErr returned (λ stop. stop ≡ Memory) → IfErr returned (IsStoppedAt o p) }
 {}
 
-/// What a part of a sequence, or a turn, makes of what comes behind it; and what a search for a fault has found of its set.
+/// What a part of a sequence, or a turn, makes of what comes behind it; and what its set is, where it ends the sequence or doesn't.
 pub fn part_laws()
     ensures good_part { (o : Outcome) (V : UpdateSet) (rest : UpdateSet → Outcome) → o.result ≡ Gives V → IsConsistent V →
         part_and o.result o.instances rest ≡ following V o.instances (rest V) }
@@ -280,27 +282,30 @@ pub fn part_laws()
         turn_and o.result o.instances rest ≡ record { result = Gives V; instances = o.instances } }
     ensures exhausted_turn { (o : Outcome) (rest : UpdateSet → Outcome) (q : Path) → o.result ≡ Exhausted q →
         (turn_and o.result o.instances rest).result ≡ Exhausted q }
-    ensures no_fault { (shape : Shape) (part : Entries) (U : UpdateSet) (found : Option NumberedFault) → is_some found ≡ false →
-        IfNone found ((V : UpdateSet) → Stands shape part V → IsConsistent V) → Stands shape part U → IsConsistent U }
-    ensures fault { (shape : Shape) (part : Entries) (U : UpdateSet) (found : Option NumberedFault) → is_some found ≡ true →
-        IfSome found (λ fault. (V : UpdateSet) → Stands shape part V → IsFirstFault V (fault_of shape fault)) → Stands shape part U → ¬ (IsConsistent U) }
+    ensures consistent_part { (V : UpdateSet) (part : PartSet) → IsPartSet V part → ends_parts part ≡ false → IsConsistent V }
+    ensures ending_part { (V : UpdateSet) (part : PartSet) → IsPartSet V part → ends_parts part ≡ true → ¬ (IsConsistent V) }
+    ensures some_turn { (V : UpdateSet) (part : PartSet) → IsPartSet V part → ends_turns part ≡ false → V ≢ none }
+    ensures consistent_turn { (V : UpdateSet) (part : PartSet) → IsPartSet V part → ends_turns part ≡ false → IsConsistent V }
+    ensures ending_turn { (V : UpdateSet) (part : PartSet) → IsPartSet V part → ends_turns part ≡ true → (V ≡ none) ⊎ (¬ (IsConsistent V)) }
 {}
 
-/// A sequence on its way: at its beginning, a part that is formed upon the sets so far, behind a part whose set is consistent, and at
+/// A sequence on its way: at its beginning, a part that is formed upon the sets so far, or one whose set is known, behind a part whose set is consistent, and at
 /// its end, where a set ends it, nothing is left, or what is left is exhausted.
 pub fn sequence_laws<T: Drop>()
     ensures begins { (shape : Shape) (A : State) (total : Outcome) (left : State → Outcome) (so_far : Entries) (n : ℕ) → total ≡ left A → n ≤ greatest_count →
         Stands shape so_far none → IsUnderway shape A total left so_far n n }
-    ensures goes_upon { (shape : Shape) (o : Outcome) (U : UpdateSet) (cleared so_far joined part : Entries) (before after : ℕ) → Stands shape cleared none →
-        Stands shape so_far U → ((V W : UpdateSet) → Stands shape so_far V → Stands shape part W → Stands shape joined (merge V W)) →
-        Forms shape o cleared part before after → GoesOn shape o U joined part before after }
+    ensures goes_upon { (shape : Shape) (o : Outcome) (U : UpdateSet) (cleared so_far joined made : Entries) (part : PartSet) (before after : ℕ) → Stands shape cleared none →
+        Stands shape so_far U → ((V W : UpdateSet) → Stands shape so_far V → Stands shape made W → Stands shape joined (merge V W)) →
+        ((V : UpdateSet) → Stands shape made V → IsPartSet V part) → Forms shape o cleared made before after → GoesOn shape o U joined part before after }
+    ensures goes_by { (shape : Shape) (o : Outcome) (U V : UpdateSet) (joined : Entries) (part : PartSet) (n : ℕ) → o ≡ record { result = Gives V; instances = 0 } →
+        n ≤ greatest_count → IsPartSet V part → Stands shape joined (merge U V) → GoesOn shape o U joined part n n }
     ensures goes_on { (shape : Shape) (A : State) (total : Outcome) (left : State → Outcome) (so_far : Entries) (before now : ℕ) (under : IsUnderway shape A total left so_far before now)
-        (o : Outcome) (left_then : State → Outcome) (joined part : Entries) (after : ℕ) (on : GoesOn shape o under.set joined part now after) → IsConsistent on.set →
+        (o : Outcome) (left_then : State → Outcome) (joined : Entries) (part : PartSet) (after : ℕ) (on : GoesOn shape o under.set joined part now after) → IsConsistent on.set →
         left (fire A under.set) ≡ following on.set o.instances (left_then (fire (fire A under.set) on.set)) →
         IsUnderway shape A total left_then joined before after }
     ensures ends_with { (shape : Shape) (A : State) (total : Outcome) (left : State → Outcome) (so_far : Entries) (before now : ℕ) (under : IsUnderway shape A total left so_far before now)
         (was old new : Entries) (n : ℕ) (returned : Returned T Stopped) (same : was ≡ old)
-        (o : Outcome) (joined part : Entries) (after : ℕ) (on : GoesOn shape o under.set joined part now after) → n ≡ after →
+        (o : Outcome) (joined : Entries) (part : PartSet) (after : ℕ) (on : GoesOn shape o under.set joined part now after) → n ≡ after →
         left (fire A under.set) ≡ record { result = Gives on.set; instances = o.instances } →
         ((V : UpdateSet) → Stands shape joined V → OnOk returned (Adds shape V was new)) → OnOk returned (Forms shape total old new before n) }
     ensures ends { (shape : Shape) (A : State) (total : Outcome) (left : State → Outcome) (so_far : Entries) (before now : ℕ) (under : IsUnderway shape A total left so_far before now)

@@ -9,6 +9,7 @@ pub mod kept;
 pub mod laws;
 pub mod outcome;
 pub mod part;
+pub mod part_set;
 pub mod path;
 pub mod shared;
 pub mod stopped;

@@ -56,7 +56,7 @@ impl<'r, R: Threads + Sync, G: Gate + Sync> Pooled<'r, R, G> {
 
     /// The same for runs of this rule alone: where no region that it comes to may be worth a thread,
     /// one worker does all of it. Where there is one round of opening at most, nothing changes.
-    pub fn for_rule(self, signature: &Signature, rule: &RuleCode) -> Pooled<'r, R, G>
+    pub(crate) fn for_rule(self, signature: &Signature, rule: &RuleCode) -> Pooled<'r, R, G>
         requires { IsSoundRule signature.now (rule_of rule.now) }
     {
         let Pooled { rt, gate, shares } = self;

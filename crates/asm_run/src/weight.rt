@@ -13,9 +13,15 @@ use asm_eval::rule_code::{Place, RuleCode};
 use asm_meaning::Part;
 use asm_state::signature::Signature;
 
-/// So many nodes of rules and terms are evaluated in about the time that a thread takes to start
-/// and to end.
-const SHARE: u32 = 2000;
+/// A region of fewer nodes of rules and terms is evaluated before another thread had its part of
+/// it: a table is to be opened and closed, and a thread started.
+const REGION: u32 = 32_768;
+
+/// So many nodes of a round are worth a thread.
+const SHARE: u32 = 16_384;
+
+/// The nodes of a value that is bound.
+const BOUND: u32 = 1;
 
 /// What a round does with its pieces.
 #[derive(Clone, Copy, Debug)]
@@ -27,11 +33,12 @@ pub(crate) struct Doing {
 }
 
 /// Whether the rule is evaluated by so few nodes, whatever the state, that it isn't worth a thread.
-/// Calls, derived functions and `iterate` may take any number.
+/// An `iterate` may take any number. What a name stands for in a called rule is taken for the
+/// longest argument.
 pub(crate) fn is_little(signature: &Signature, rule: &RuleCode) -> bool
     requires { IsSoundRule signature.now (rule_of rule.now) }
 {
-    behind_rule(signature, rule, SHARE).is_some()
+    behind_rule(signature, rule, BOUND, REGION).is_some()
 }
 
 /// So many nodes of a rule are looked at, at most, to see whether a run may have work to share.
@@ -42,39 +49,48 @@ const LOOKED_AT: u32 = 65_536;
 pub(crate) fn may_be_shared(signature: &Signature, rule: &RuleCode) -> bool
     requires { IsSoundRule signature.now (rule_of rule.now) }
 {
-    behind_regions(signature, rule, LOOKED_AT).is_none()
+    behind_regions(signature, rule, BOUND, LOOKED_AT).is_none()
 }
 
 /// What is left of so many nodes behind those of the rule that are outside of regions, and behind
-/// its regions, each of which takes little. None: a region may be worth a thread, or there are not
-/// so many.
-fn behind_regions(signature: &Signature, rule: &RuleCode, left: u32) -> Option<u32>
+/// its regions, each of which takes little. A name stands for a term of so many nodes at most.
+/// None: a region may be worth a thread, or there are not so many.
+fn behind_regions(signature: &Signature, rule: &RuleCode, local: u32, left: u32) -> Option<u32>
     requires { IsSoundRule signature.now (rule_of rule.now) }
 {
     let left = left.checked_sub(1)?;
     match rule {
         RuleCode::Skip | RuleCode::Assign { .. } => Some(left),
         RuleCode::Par(_) | RuleCode::Forall { .. } => {
-            let most = left.min(SHARE);
-            let over = behind_rule(signature, rule, most)?;
+            let most = left.min(REGION);
+            let over = behind_rule(signature, rule, local, most)?;
             left.checked_sub(most.checked_sub(over)?)
         }
         RuleCode::Seq(parts) => {
             let mut left = left;
             for part in parts {
-                left = behind_regions(signature, part, left)?;
+                left = behind_regions(signature, part, local, left)?;
             }
             Some(left)
         }
         RuleCode::If { yes, no, .. } => {
-            behind_regions(signature, no, behind_regions(signature, yes, left)?)
+            let left = behind_regions(signature, yes, local, left)?;
+            behind_regions(signature, no, local, left)
         }
-        RuleCode::Let { body, .. } => behind_regions(signature, body, left),
+        RuleCode::Let { body, .. } => behind_regions(signature, body, local, left),
         RuleCode::Choose { body, none, .. } => {
-            behind_regions(signature, none, behind_regions(signature, body, left)?)
+            let left = behind_regions(signature, body, local, left)?;
+            behind_regions(signature, none, local, left)
         }
-        RuleCode::Iterate(body) => behind_regions(signature, body, left),
-        RuleCode::Call { body, .. } => behind_regions(signature, body, left),
+        RuleCode::Iterate(body) => behind_regions(signature, body, local, left),
+        RuleCode::Call {
+            body,
+            arguments,
+            ..
+        } => {
+            let longest = longest_of(signature, arguments.as_slice(), local, left)?;
+            behind_regions(signature, body, longest, left)
+        }
     }
 }
 
@@ -138,7 +154,7 @@ fn behind_part(
     };
     match rule {
         RuleCode::Skip | RuleCode::Assign { .. } | RuleCode::Seq(_) | RuleCode::Iterate(_) => {
-            behind_rule(signature, rule, left)
+            behind_rule(signature, rule, BOUND, left)
         }
         RuleCode::Par(parts) => left.checked_sub(few(parts.len())),
         RuleCode::Call {
@@ -147,15 +163,15 @@ fn behind_part(
             ..
         } => {
             let left = match answer {
-                Some(place) => behind_place(signature, place, left)?,
+                Some(place) => behind_place(signature, place, BOUND, left)?,
                 None => left,
             };
             left.checked_sub(few(arguments.len()))?.checked_sub(1)
         }
-        RuleCode::If { test, .. } => behind_term(signature, test, left),
-        RuleCode::Let { value, .. } => behind_term(signature, value, left),
+        RuleCode::If { test, .. } => behind_term(signature, test, BOUND, left),
+        RuleCode::Let { value, .. } => behind_term(signature, value, BOUND, left),
         RuleCode::Choose { over, test, .. } => {
-            behind_tests(signature, elements_of(signature, *over), test, left)
+            behind_tests(signature, elements_of(signature, *over), test, BOUND, left)
         }
         RuleCode::Forall { over, test, .. } => {
             let elements = elements_in(signature, part, *over);
@@ -166,7 +182,7 @@ fn behind_part(
             if doing.are_enough {
                 return behind_whole(signature, rule, part, left);
             }
-            behind_tests(signature, elements, test, left)
+            behind_tests(signature, elements, test, BOUND, left)
         }
     }
 }
@@ -178,50 +194,56 @@ fn behind_whole(signature: &Signature, rule: &RuleCode, part: Part, left: u32) -
     match rule {
         RuleCode::Forall { over, test, body } => {
             let elements = elements_in(signature, part, *over);
-            let left = behind_tests(signature, elements, test, left)?;
+            let left = behind_tests(signature, elements, test, BOUND, left)?;
             let share = left.checked_div(elements)?;
-            behind_each(elements, share, behind_rule(signature, body, share)?, left)
+            let over = behind_rule(signature, body, BOUND, share)?;
+            behind_each(elements, share, over, left)
         }
-        rule => behind_rule(signature, rule, left),
+        rule => behind_rule(signature, rule, BOUND, left),
     }
 }
 
-/// What is left of so many nodes behind a rule's evaluation.
-fn behind_rule(signature: &Signature, rule: &RuleCode, left: u32) -> Option<u32>
+/// What is left of so many nodes behind a rule's evaluation, where a name stands for a term of so
+/// many nodes at most.
+fn behind_rule(signature: &Signature, rule: &RuleCode, local: u32, left: u32) -> Option<u32>
     requires { IsSoundRule signature.now (rule_of rule.now) }
 {
     let left = left.checked_sub(1)?;
     match rule {
         RuleCode::Skip => Some(left),
         RuleCode::Assign { place, value } => {
-            behind_term(signature, value, behind_place(signature, place, left)?)
+            let left = behind_place(signature, place, local, left)?;
+            behind_term(signature, value, local, left)
         }
         RuleCode::Par(parts) => {
             let mut left = left;
             for part in parts {
-                left = behind_rule(signature, part, left)?;
+                left = behind_rule(signature, part, local, left)?;
             }
             Some(left)
         }
         RuleCode::Seq(parts) => {
             let mut left = left;
             for part in parts {
-                left = behind_rule(signature, part, left)?;
+                left = behind_rule(signature, part, local, left)?;
             }
             Some(left)
         }
         RuleCode::If { test, yes, no } => {
-            let left = behind_rule(signature, yes, behind_term(signature, test, left)?)?;
-            behind_rule(signature, no, left)
+            let left = behind_term(signature, test, local, left)?;
+            let left = behind_rule(signature, yes, local, left)?;
+            behind_rule(signature, no, local, left)
         }
         RuleCode::Let { value, body } => {
-            behind_rule(signature, body, behind_term(signature, value, left)?)
+            let left = behind_term(signature, value, local, left)?;
+            behind_rule(signature, body, local, left)
         }
         RuleCode::Forall { over, test, body } => {
             let elements = elements_of(signature, *over);
-            let left = behind_tests(signature, elements, test, left)?;
+            let left = behind_tests(signature, elements, test, local, left)?;
             let share = left.checked_div(elements)?;
-            behind_each(elements, share, behind_rule(signature, body, share)?, left)
+            let over = behind_rule(signature, body, local, share)?;
+            behind_each(elements, share, over, left)
         }
         RuleCode::Choose {
             over,
@@ -229,92 +251,151 @@ fn behind_rule(signature: &Signature, rule: &RuleCode, left: u32) -> Option<u32>
             body,
             none,
         } => {
-            let left = behind_tests(signature, elements_of(signature, *over), test, left)?;
-            let left = behind_rule(signature, body, left)?;
-            behind_rule(signature, none, left)
+            let elements = elements_of(signature, *over);
+            let left = behind_tests(signature, elements, test, local, left)?;
+            let left = behind_rule(signature, body, local, left)?;
+            behind_rule(signature, none, local, left)
         }
-        RuleCode::Call { .. } | RuleCode::Iterate(_) => None,
+        RuleCode::Call {
+            body,
+            answer,
+            arguments,
+        } => {
+            let longest = longest_of(signature, arguments.as_slice(), local, left)?;
+            let left = match answer {
+                Some(place) => behind_place(signature, place, local, left)?,
+                None => left,
+            };
+            behind_rule(signature, body, longest, left)
+        }
+        RuleCode::Iterate(_) => None,
     }
 }
 
 /// What is left behind the arguments of a place.
-fn behind_place(signature: &Signature, place: &Place, left: u32) -> Option<u32>
+fn behind_place(signature: &Signature, place: &Place, local: u32, left: u32) -> Option<u32>
     requires { IsSoundPlace signature.now (place_of place.now) }
 {
     match place {
         Place::Answer(_) | Place::Cell(_) => Some(left),
-        Place::Row { argument, .. } => behind_term(signature, argument, left),
+        Place::Row { argument, .. } => behind_term(signature, argument, local, left),
         Place::Grid { row, column, .. } => {
-            behind_term(signature, column, behind_term(signature, row, left)?)
+            let left = behind_term(signature, row, local, left)?;
+            behind_term(signature, column, local, left)
         }
-        Place::Held { arguments, .. } => behind_terms(signature, arguments.as_slice(), left),
+        Place::Held { arguments, .. } => behind_terms(signature, arguments.as_slice(), local, left),
     }
 }
 
-/// What is left of so many nodes behind a term's evaluation.
-fn behind_term(signature: &Signature, term: &Code, left: u32) -> Option<u32>
+/// What is left of so many nodes behind a term's evaluation, where a name stands for a term of so
+/// many nodes at most.
+fn behind_term(signature: &Signature, term: &Code, local: u32, left: u32) -> Option<u32>
     requires { IsSound signature.now (code_of term.now) }
 {
     let left = left.checked_sub(1)?;
     match term {
-        Code::Constant(_) | Code::Local(_) | Code::Cell(_) => Some(left),
-        Code::Row { argument, .. } => behind_term(signature, argument, left),
+        Code::Constant(_) | Code::Cell(_) => Some(left),
+        Code::Local(_) => left.checked_sub(local.saturating_sub(BOUND)),
+        Code::Row { argument, .. } => behind_term(signature, argument, local, left),
         Code::Grid { row, column, .. } => {
-            behind_term(signature, column, behind_term(signature, row, left)?)
+            let left = behind_term(signature, row, local, left)?;
+            behind_term(signature, column, local, left)
         }
         Code::Held { arguments, .. } => {
             let mut left = left;
             for argument in arguments {
-                left = behind_term(signature, argument, left)?;
+                left = behind_term(signature, argument, local, left)?;
             }
             Some(left)
         }
-        Code::Derived { .. } | Code::DerivedOne { .. } | Code::DerivedTwo { .. } => None,
-        Code::With { left: operand, .. } => behind_term(signature, operand, left),
-        Code::Plus { left: operand, .. } => behind_term(signature, operand, left),
-        Code::PlusModulo { left: operand, .. } => behind_term(signature, operand, left),
-        Code::Modulo { left: operand, .. } => behind_term(signature, operand, left),
-        Code::Equals { left: operand, .. } => behind_term(signature, operand, left),
+        Code::Derived { body, arguments } => {
+            let mut left = left;
+            for argument in arguments {
+                left = behind_term(signature, argument, local, left)?;
+            }
+            behind_term(signature, body, BOUND, left)
+        }
+        Code::DerivedOne { body, argument } => {
+            let left = behind_term(signature, argument, local, left)?;
+            behind_term(signature, body, BOUND, left)
+        }
+        Code::DerivedTwo {
+            body,
+            first,
+            second,
+        } => {
+            let left = behind_term(signature, first, local, left)?;
+            let left = behind_term(signature, second, local, left)?;
+            behind_term(signature, body, BOUND, left)
+        }
+        Code::With { left: operand, .. } => behind_term(signature, operand, local, left),
+        Code::Plus { left: operand, .. } => behind_term(signature, operand, local, left),
+        Code::PlusModulo { left: operand, .. } => behind_term(signature, operand, local, left),
+        Code::Modulo { left: operand, .. } => behind_term(signature, operand, local, left),
+        Code::Equals { left: operand, .. } => behind_term(signature, operand, local, left),
         Code::Both {
             left: first,
             right: second,
             ..
-        } => behind_term(signature, second, behind_term(signature, first, left)?),
+        } => {
+            let left = behind_term(signature, first, local, left)?;
+            behind_term(signature, second, local, left)
+        }
         Code::Chain { first, rest } => {
-            let mut left = behind_term(signature, first, left)?;
+            let mut left = behind_term(signature, first, local, left)?;
             for (_, operand) in rest {
-                left = behind_term(signature, operand, left)?;
+                left = behind_term(signature, operand, local, left)?;
             }
             Some(left)
         }
         Code::Exists { over, test } | Code::Every { over, test } => {
             let elements = elements_of(signature, *over);
             let share = left.checked_div(elements)?;
-            behind_each(elements, share, behind_term(signature, test, share)?, left)
+            let over = behind_term(signature, test, local, share)?;
+            behind_each(elements, share, over, left)
         }
     }
 }
 
 /// What is left behind these terms.
-fn behind_terms(signature: &Signature, terms: &[Code], left: u32) -> Option<u32>
+fn behind_terms(signature: &Signature, terms: &[Code], local: u32, left: u32) -> Option<u32>
     requires { AreSound signature.now (codes_of (map code_of terms.now)) }
 {
     let mut left = left;
     for term in terms {
-        left = behind_term(signature, term, left)?;
+        left = behind_term(signature, term, local, left)?;
     }
     Some(left)
 }
 
+/// How many nodes the longest of these terms has, and no fewer than a value that is bound.
+fn longest_of(signature: &Signature, terms: &[Code], local: u32, most: u32) -> Option<u32>
+    requires { AreSound signature.now (codes_of (map code_of terms.now)) }
+{
+    let mut longest = BOUND;
+    for term in terms {
+        let over = behind_term(signature, term, local, most)?;
+        longest = longest.max(most.checked_sub(over)?);
+    }
+    Some(longest)
+}
+
 /// What is left behind so many elements, each with its test.
-fn behind_tests(signature: &Signature, elements: u32, test: &Option<Code>, left: u32) -> Option<u32>
+fn behind_tests(
+    signature: &Signature,
+    elements: u32,
+    test: &Option<Code>,
+    local: u32,
+    left: u32,
+) -> Option<u32>
     requires { IsSoundTest signature.now (option_map code_of test.now) }
 {
     let left = left.checked_sub(elements)?;
     match test {
         Some(test) => {
             let share = left.checked_div(elements)?;
-            behind_each(elements, share, behind_term(signature, test, share)?, left)
+            let over = behind_term(signature, test, local, share)?;
+            behind_each(elements, share, over, left)
         }
         None => Some(left),
     }

@@ -1,7 +1,4 @@
 //! What a checked specification answers.
-ghost use Rattle.std.specs.Prelude.{IfOk};
-ghost use Rattle.asm_syntax.specs.Views.{spec_of};
-ghost use Rattle.asm_check.specs.NumberTables.{IsInRange};
 
 use crate::text::checked_of;
 use asm_check::{Checked, Named};
@@ -14,14 +11,6 @@ use std::test::Fail;
 const TEXT: &[u8] =
     b"CoreASM T init M enum E = { a, b } universe U = 0 .. 3 function controlled f : U -> E initially a \
 function static g : E * U initially { (b, 3) -> 7 } derived d(x) = x + 1 rule M = r(d(1)) rule r(p) = f(p) := b";
-
-/// What a name of a checked specification stands for.
-fn named(alloc: Global, checked: &Checked, name: &str) -> Result<Option<Named>, AllocError>
-    ensures { IfOk result (IsInRange (spec_of checked.now.spec)) }
-{
-    let text = Text::new(alloc, name.as_bytes())?;
-    Ok(checked.named(&text))
-}
 
 static NAMES: [(&str, Option<Named>); 12] = [
     ("E", Some(Named::Universe(0))),
@@ -38,10 +27,11 @@ static NAMES: [(&str, Option<Named>); 12] = [
     ("T", None),
 ];
 
-/// The first name of the table that stands for something else.
+/// The first name of the table that stands for something else, as a word or as a name of a tree.
 fn first_wrong_name(alloc: Global, checked: &Checked) -> Result<Option<&'static str>, AllocError> {
     for (name, number) in &NAMES {
-        if named(alloc, checked, name)? != *number {
+        let text = Text::new(alloc, name.as_bytes())?;
+        if checked.named(*name) != *number || checked.named_text(&text) != *number {
             return Ok(Some(*name));
         }
     }
@@ -52,7 +42,11 @@ fn first_wrong_name(alloc: Global, checked: &Checked) -> Result<Option<&'static 
 fn numbers_names(alloc: Global) -> Result<bool, Fail> {
     let checked = checked_of(alloc, TEXT)?;
     let first_wrong = first_wrong_name(alloc, &checked)?;
-    Ok(first_wrong == None && checked.named(&checked.spec.name.text) == None && checked.main() == 0)
+    Ok(
+        first_wrong == None
+            && checked.named_text(&checked.spec.name.text) == None
+            && checked.main() == 0,
+    )
 }
 
 #[test]
@@ -62,43 +56,41 @@ fn names_stand_for_numbers(rt: HostRuntime) -> Result<(), Fail> {
 }
 
 /// Whether a function or an element has this name by the number that the name stands for.
-fn is_named_again(alloc: Global, checked: &Checked, name: &str) -> Result<bool, AllocError> {
-    match named(alloc, checked, name)? {
-        Some(Named::Function(f)) => Ok(checked.function_name(f) == name.as_bytes()),
-        Some(Named::Element(e)) => Ok(checked.element_name(e) == name.as_bytes()),
-        _ => Ok(false),
+fn is_named_again(checked: &Checked, name: &str) -> bool {
+    match checked.named(name) {
+        Some(Named::Function(f)) => checked.function_name(f) == name.as_bytes(),
+        Some(Named::Element(e)) => checked.element_name(e) == name.as_bytes(),
+        _ => false,
     }
 }
 
 /// Whether a rule has one parameter and assigns, or a derived function has one and is a chain.
-fn has_its_body(alloc: Global, checked: &Checked, name: &str) -> Result<bool, AllocError> {
-    match named(alloc, checked, name)? {
+fn has_its_body(checked: &Checked, name: &str) -> bool {
+    match checked.named(name) {
         Some(Named::Rule(r)) => {
             let (parameters, body) = checked.rule(r);
-            Ok(parameters.len() == 1 && matches!(body, Rule::Assign { .. }))
+            parameters.len() == 1 && matches!(body, Rule::Assign { .. })
         }
         Some(Named::Derived(d)) => {
             let (parameters, body) = checked.derived(d);
-            Ok(parameters.len() == 1 && matches!(body, Term::Chain { .. }))
+            parameters.len() == 1 && matches!(body, Term::Chain { .. })
         }
-        _ => Ok(false),
+        _ => false,
     }
 }
 
 /// Whether the numbers that these names stand for lead back to the names, or to their bodies.
-fn lead_back(alloc: Global, checked: &Checked) -> Result<bool, AllocError> {
-    Ok(
-        is_named_again(alloc, checked, "g")?
-            && is_named_again(alloc, checked, "b")?
-            && has_its_body(alloc, checked, "r")?
-            && has_its_body(alloc, checked, "d")?,
-    )
+fn lead_back(checked: &Checked) -> bool {
+    is_named_again(checked, "g")
+        && is_named_again(checked, "b")
+        && has_its_body(checked, "r")
+        && has_its_body(checked, "d")
 }
 
 /// Whether names of the text lead back so.
 fn leads_back(alloc: Global) -> Result<bool, Fail> {
     let checked = checked_of(alloc, TEXT)?;
-    Ok(lead_back(alloc, &checked)?)
+    Ok(lead_back(&checked))
 }
 
 #[test]

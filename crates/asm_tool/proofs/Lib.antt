@@ -1,8 +1,10 @@
-pub mod Rules
-pub mod SignedTexts
-pub mod GivenValues
+pub mod Appending
 pub mod GivenNumbers
+pub mod GivenValues
 pub mod Options
 pub mod ReadNumbers
-pub mod WorkedWords
+pub mod Rules
+pub mod Shown
+pub mod SignedTexts
 pub mod Told
+pub mod WorkedWords

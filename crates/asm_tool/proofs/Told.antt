@@ -26,7 +26,7 @@ use Rattle.asm_run.specs.declared.end.End.TheVariants.{Limit, Clash, Outside, Ex
 use Rattle.asm_run.specs.declared.error.RunError.{RunError}
 use Rattle.asm_run.specs.declared.error.RunError.TheVariants as error
 use Rattle.asm_run.specs.declared.limits.Limits.{Limits}
-use Rattle.asm_tool.specs.Statuses.{IsFront, Tells, TellsOfWords, bytes_of, run_fault, status_at, status_of}
+use Rattle.asm_tool.specs.Statuses.{IsFront, OfWords, Tells, TellsOfWords, bytes_of, run_fault, status_at, status_of}
 use Rattle.asm_tool.specs.CommandLine.{command}
 use Rattle.asm_tool.specs.Said.{AreSaid, IsNumber}
 use Rattle.asm_tool.specs.declared.settings.Settings.{Settings}
@@ -72,14 +72,14 @@ one_number rows name n m a b =
 abbrev pub most_bytes : ℕ
 most_bytes = 1_048_577
 
-whole : (bytes : List ℕ) → length (take most_bytes bytes) ≤ 1_048_576 → take most_bytes bytes ≡ bytes
+pub whole : (bytes : List ℕ) → length (take most_bytes bytes) ≤ 1_048_576 → take most_bytes bytes ≡ bytes
 whole bytes short = by_length (cases_lt 1_048_577 (length bytes))
   where
     by_length : (1_048_577 < length bytes) ⊎ (length bytes ≤ 1_048_577) → take most_bytes bytes ≡ bytes
     by_length (inl long) = absurd (omega (arith, short, long, length-take-le most_bytes bytes (omega (arith, long))))
     by_length (inr low) = take_all most_bytes bytes low
 
-whole_text : (bytes : List ℕ) (s : Spec) → IsSpecification (take most_bytes bytes) s → take most_bytes bytes ≡ bytes
+pub whole_text : (bytes : List ℕ) (s : Spec) → IsSpecification (take most_bytes bytes) s → take most_bytes bytes ≡ bytes
 whole_text bytes s spelled = whole bytes spelled.1.0
 
 refused_front : (bytes : List ℕ) (e : ReadError) → IsRefusal (take most_bytes bytes) e → (script_text : List ℕ) → IsRefused bytes script_text
@@ -143,27 +143,39 @@ module _ (text script_text : List ℕ) (limits other : Limits) (steps : limits.s
 
 -- ---- of words that say so many steps and turns
 
-module _ (rows : List Row) (limits : Limits) (are_steps : IsNumber rows (codes "steps") limits.steps) (are_turns : IsNumber rows (codes "turns") limits.turns) where
-  of_known : (known known_script : Option (List ℕ)) (text script_text : List ℕ) (status : ℕ)
-      → IsFront known most_bytes text → IsFront known_script most_bytes script_text → Tells text script_text limits status
-      → IfSome known (λ bytes. IfSome known_script (λ script_bytes. (other : Limits) → IsNumber rows (codes "steps") other.steps → IsNumber rows (codes "turns") other.turns → Tells bytes script_bytes other status))
-  of_known None known_script text script_text status read read_script told = tt
-  of_known (Some bytes) None text script_text status read read_script told = tt
-  of_known (Some bytes) (Some script_bytes) text script_text status read read_script told = λ other steps turns.
-      of_fronts bytes script_bytes other status
-      (subst (λ (x : List ℕ). Tells x (take most_bytes script_bytes) other status) read
-      (subst (λ (x : List ℕ). Tells text x other status) read_script
-      (told_alike text script_text limits other
+-- what holds of the fronts that are read holds of the texts, and of all limits with as many steps and turns
+module _ (P : List ℕ → List ℕ → Limits → Type 0)
+    (fronts : (a b : List ℕ) (l : Limits) → P (take most_bytes a) (take most_bytes b) l → P a b l)
+    (alike : (a b : List ℕ) (l other : Limits) → l.steps ≡ other.steps → l.turns ≡ other.turns → P a b l → P a b other) where
+  of_known : (rows : List Row) (limits : Limits) → IsNumber rows (codes "steps") limits.steps → IsNumber rows (codes "turns") limits.turns
+      → (known known_script : Option (List ℕ)) (text script_text : List ℕ)
+      → IsFront known most_bytes text → IsFront known_script most_bytes script_text → P text script_text limits
+      → IfSome known (λ bytes. IfSome known_script (λ script_bytes. (other : Limits) → IsNumber rows (codes "steps") other.steps → IsNumber rows (codes "turns") other.turns → P bytes script_bytes other))
+  of_known rows limits are_steps are_turns None known_script text script_text read read_script holds = tt
+  of_known rows limits are_steps are_turns (Some bytes) None text script_text read read_script holds = tt
+  of_known rows limits are_steps are_turns (Some bytes) (Some script_bytes) text script_text read read_script holds = λ other steps turns.
+      fronts bytes script_bytes other
+      (subst (λ (x : List ℕ). P x (take most_bytes script_bytes) other) read
+      (subst (λ (x : List ℕ). P text x other) read_script
+      (alike text script_text limits other
       (one_number rows (codes "steps") limits.steps other.steps are_steps steps)
-      (one_number rows (codes "turns") limits.turns other.turns are_turns turns) status told)))
+      (one_number rows (codes "turns") limits.turns other.turns are_turns turns) holds)))
+
+  pub holds_of_words : (words : List Text) (contents : Text → Option (List ℕ)) (input : Option (List ℕ)) (s : Settings) (text script_text : List ℕ)
+      → AreSaid words s → IsFront (bytes_of contents input (option_map (λ name. name.now) s.spec)) most_bytes text
+      → IsFront (bytes_of contents (Some []) (option_map (λ name. name.now) s.script)) most_bytes script_text
+      → P text script_text s.limits → OfWords words contents input P
+  holds_of_words words contents input s text script_text said read read_script holds =
+      let rows = matches_of command words in
+      of_known rows s.limits said.steps said.turns
+      (bytes_of contents input (first_of (codes "spec") rows)) (bytes_of contents (Some []) (first_of (codes "script") rows)) text script_text
+      (subst (λ (o : Option Text). IsFront (bytes_of contents input o) most_bytes text) said.spec read)
+      (subst (λ (o : Option Text). IsFront (bytes_of contents (Some []) o) most_bytes script_text) said.script read_script) holds
 
 pub of_words : (words : List Text) (contents : Text → Option (List ℕ)) (input : Option (List ℕ)) (s : Settings) (text script_text : List ℕ) (status : ℕ)
     → AreSaid words s → IsFront (bytes_of contents input (option_map (λ name. name.now) s.spec)) most_bytes text
     → IsFront (bytes_of contents (Some []) (option_map (λ name. name.now) s.script)) most_bytes script_text
     → Tells text script_text s.limits status → TellsOfWords words contents input status
 of_words words contents input s text script_text status said read read_script told =
-    let rows = matches_of command words in
-    of_known rows s.limits said.steps said.turns
-    (bytes_of contents input (first_of (codes "spec") rows)) (bytes_of contents (Some []) (first_of (codes "script") rows)) text script_text status
-    (subst (λ (o : Option Text). IsFront (bytes_of contents input o) most_bytes text) said.spec read)
-    (subst (λ (o : Option Text). IsFront (bytes_of contents (Some []) o) most_bytes script_text) said.script read_script) told
+    holds_of_words (λ t b l. Tells t b l status) (λ t b l. of_fronts t b l status) (λ t b l other steps turns. told_alike t b l other steps turns status)
+    words contents input s text script_text said read read_script told

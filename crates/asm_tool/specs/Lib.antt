@@ -1,3 +1,5 @@
 pub mod CommandLine
+pub mod Output
 pub mod Said
+pub mod Shown
 pub mod Statuses

@@ -3,7 +3,8 @@
 --     word_fault, read_fault, buffer_fault         the fault of words, of a read or of a buffer that failed with an error of this kind
 --     run_fault error                              the fault of a refused run
 --     Tells text script_text limits status         0: their run makes all its steps; 1: it ends before; 2: one of the texts is refused
---     TellsOfWords words contents input status     the same of words, of files with these contents and of an input with these bytes
+--     OfWords words contents input P               P holds of the texts that the words name
+--     TellsOfWords words contents input status     what the status tells of them
 use Rattle.std.specs.Prelude.{◌≡◌, ◌≢◌, ◌≤◌, ◌⊎◌, ℕ, List, [], Option, None, Some, IfSome, Ok, Err, Result, codes, take}
 use Rattle.std.specs.declared.io.ErrorKind.{ErrorKind}
 use Rattle.std.specs.declared.io.ErrorKind.TheVariants.{OutOfMemory}
@@ -39,6 +40,10 @@ word_fault kind = NotText
 abbrev pub read_fault : ErrorKind → Fault
 read_fault OutOfMemory = Memory
 read_fault kind = File
+
+-- a fault of a read that failed
+abbrev pub IsReadFault : Fault → Type 0
+IsReadFault fault = (fault ≡ Memory) ⊎ (fault ≡ File)
 
 abbrev pub buffer_fault : ErrorKind → Fault
 buffer_fault OutOfMemory = Memory
@@ -91,11 +96,15 @@ bytes_of contents others (Some name) = contents name
 abbrev pub IsFront : Option (List ℕ) → ℕ → List ℕ → Type 0
 IsFront known most text = IfSome known (λ bytes. text ≡ take most bytes)
 
--- the same of words, of files with these contents and of an input with these bytes, where they are known; without a script it has no bytes
-abbrev pub TellsOfWords : List Text → (contents : Text → Option (List ℕ)) → (input : Option (List ℕ)) → ℕ → Type 0
-TellsOfWords words contents input status =
+-- this holds of the text and of the script that these words name, where their bytes are known, and
+-- of limits with the steps and turns that the words give; a script that isn't named has no bytes
+abbrev pub OfWords : List Text → (contents : Text → Option (List ℕ)) → (input : Option (List ℕ)) → (List ℕ → List ℕ → Limits → Type 0) → Type 0
+OfWords words contents input P =
     let rows : List Row = matches_of command words in
     IfSome (bytes_of contents input (first_of (codes "spec") rows)) (λ text.
     IfSome (bytes_of contents (Some []) (first_of (codes "script") rows)) (λ script_text.
     (limits : Limits) → IsNumber rows (codes "steps") limits.steps → IsNumber rows (codes "turns") limits.turns
-    → Tells text script_text limits status))
+    → P text script_text limits))
+
+abbrev pub TellsOfWords : List Text → (contents : Text → Option (List ℕ)) → (input : Option (List ℕ)) → ℕ → Type 0
+TellsOfWords words contents input status = OfWords words contents input (λ text script_text limits. Tells text script_text limits status)

@@ -7,67 +7,26 @@ ghost use Rattle.asm_tool.specs.declared.fault.Fault.TheVariants.{Memory};
 use crate::settings::WordFault;
 use asm_run::error::{CheckError, ReadError, ScriptError};
 use std::alloc::AllocError;
-use std::{fmt, io};
-use thiserror::Error;
+use std::io;
 
-/// What is wrong with a text, as the program says it: a number, and the offset where there is one.
-#[derive(Drop)]
-struct Refusal {
-    error: ReadError,
-}
-
-impl fmt::Display for Refusal {
-    fn fmt<W: fmt::Write>(&self, f: &mut fmt::Formatter<W>) -> fmt::Result {
-        let number = self.error.number();
-        match self.error.at() {
-            Some(at) => write!(f, "read {number} at {at}"),
-            None => write!(f, "read {number}"),
-        }
-    }
-}
-
-/// What is wrong with a script, as the program says it: a number, and the line where there is one.
-#[derive(Drop)]
-struct ScriptRefusal {
-    error: ScriptError,
-}
-
-impl fmt::Display for ScriptRefusal {
-    fn fmt<W: fmt::Write>(&self, f: &mut fmt::Formatter<W>) -> fmt::Result {
-        let number = self.error.number();
-        match self.error.line() {
-            Some(line) => write!(f, "script {number} line {line}"),
-            None => write!(f, "script {number}"),
-        }
-    }
-}
-
-/// What ends the program early. Its text is what the program says on standard error.
-#[derive(Debug, Drop, Error)]
+/// What ends the program early.
+#[derive(Debug, Drop)]
 pub enum Fault {
     /// The words ask for help or the version, or can't be understood.
-    #[error("{0}")]
     Words(clap::Error),
     /// A word isn't text.
-    #[error("error: a word is not UTF-8\n")]
     NotText,
     /// The text isn't a specification.
-    #[error("{}\n", Refusal {error: *.0})]
     Read(ReadError),
     /// The specification has a fault.
-    #[error("check {} at {}\n", .0.number(), .0.at)]
     Check(CheckError),
     /// The script is refused.
-    #[error("{}\n", ScriptRefusal {error: *.0})]
     Script(ScriptError),
     /// Memory ran out.
-    #[error("memory\n")]
     Memory,
     /// The specification or the script can't be read.
-    #[error("file\n")]
     File,
     /// The trace can't be written.
-    #[error("write\n")]
     Write,
 }
 

@@ -1,6 +1,6 @@
 //! The words, the text and the script that come in.
-ghost use Rattle.std.specs.Prelude.{◌≡◌, [], Some, option_map, IfOk, IfErr};
-ghost use Rattle.asm_tool.specs.Statuses.{IsFront, bytes_of, status_of};
+ghost use Rattle.std.specs.Prelude.{[], Some, option_map, IfOk, IfErr};
+ghost use Rattle.asm_tool.specs.Statuses.{IsFront, IsReadFault, bytes_of};
 
 use crate::fault::Fault;
 use crate::folder::Folder;
@@ -26,7 +26,7 @@ pub fn text<F: Folder, I: Read + Drop>(
     most: u64,
 ) -> Result<Vec<u8>, Fault>
     ensures read { IfOk result (λ text. IsFront (bytes_of (F.contents folder.now) (I.remaining input) (option_map (λ n. n.now) name.entry)) most text.items) }
-    ensures failed { IfErr result (λ fault. status_of fault ≡ 3) }
+    ensures failed { IfErr result IsReadFault }
 {
     match name {
         Some(name) => named(folder, alloc, name, most),
@@ -42,7 +42,7 @@ pub fn script<F: Folder>(
     most: u64,
 ) -> Result<Vec<u8>, Fault>
     ensures read { IfOk result (λ script. IsFront (bytes_of (F.contents folder.now) (Some []) (option_map (λ n. n.now) name.entry)) most script.items) }
-    ensures failed { IfErr result (λ fault. status_of fault ≡ 3) }
+    ensures failed { IfErr result IsReadFault }
 {
     match name {
         Some(name) => named(folder, alloc, name, most),
@@ -53,7 +53,7 @@ pub fn script<F: Folder>(
 /// The front of the file of this name.
 fn named<F: Folder>(folder: &F, alloc: Global, name: &str, most: u64) -> Result<Vec<u8>, Fault>
     ensures read { IfOk result (λ text. IsFront (F.contents folder.now name.now) most text.items) }
-    ensures failed { IfErr result (λ fault. status_of fault ≡ 3) }
+    ensures failed { IfErr result IsReadFault }
 {
     match folder.open(name) {
         Ok(file) => front(alloc, file, most),
@@ -64,7 +64,7 @@ fn named<F: Folder>(folder: &F, alloc: Global, name: &str, most: u64) -> Result<
 /// The input to its end, or so many bytes of it where it is longer.
 pub fn front<I: Read + Drop>(alloc: Global, input: I, most: u64) -> Result<Vec<u8>, Fault>
     ensures read { IfOk result (λ text. IsFront (I.remaining input) most text.items) }
-    ensures failed { IfErr result (λ fault. status_of fault ≡ 3) }
+    ensures failed { IfErr result IsReadFault }
 {
     let mut text = Vec::new(alloc);
     match input.take(most).read_to_end(&mut text) {

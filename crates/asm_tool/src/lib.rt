@@ -5,6 +5,7 @@ pub mod fault;
 pub mod folder;
 mod help;
 pub mod input;
+mod line;
 pub mod output;
 pub mod settings;
 pub mod status;

@@ -1,40 +1,80 @@
 //! Where the trace goes.
-ghost use Rattle.std.specs.Prelude.{◌≡◌, ◌==◌, Bool, length, IsTrue, IfOk, IfErr};
-ghost use Rattle.std.specs.Io.Buffered.{writer_buffer};
+ghost use Rattle.std.specs.Prelude.{◌≡◌, ◌==◌, Bool, length, IsTrue, IsFalse, IfOk, IfErr};
+ghost use Rattle.std.specs.Io.Buffered.{writer_buffer, writer_contents};
+ghost use Rattle.std.specs.Io.KnownBytes.{Keeps, WriteAppends};
+ghost use Rattle.std.specs.Io.{WritesAtMost};
+ghost use Rattle.asm_run.specs.Sink.{is_failure};
+ghost use Rattle.asm_tool.specs.Output.{output_has_failed};
 ghost use Rattle.asm_tool.specs.Statuses.{status_of};
 
 use crate::fault::Fault;
+use asm_run::sink::{Sink, SinkFault};
+pub use asm_run::through::Through;
 use std::alloc::Global;
-use std::io;
 use std::io::{BufWriter, Write};
 
 /// So many bytes of the trace are written at a time.
 const BUFFER: usize = 1 << 16;
 
-/// A writer that may keep back what it took.
-pub trait Finish {
+/// A sink that may keep back what it took.
+pub trait Finish: Sink {
     // Whether nothing is kept back.
     ghost is_finished: { Self → Bool };
 
     /// Hands on what is kept back.
-    fn finish(&mut self) -> io::Result<()>
-        ensures { IfOk result (λ _. IsTrue (is_finished self.new)) };
+    fn finish(&mut self) -> Result<(), SinkFault>
+        ensures finished { IfOk result (λ _. IsTrue (is_finished self.new)) }
+        ensures kept { Keeps (Self.bytes self.old) (Self.bytes self.new) };
 }
 
-impl<W: Write + Drop> Finish for BufWriter<W> {
-    ghost is_finished = { λ w. length (writer_buffer w) == 0 };
+/// A writer behind a buffer, and whether a write to it has failed.
+#[derive(Drop)]
+pub struct Output<W: Write + Drop> {
+    writer: BufWriter<W>,
+    has_failed: bool,
+}
 
-    fn finish(&mut self) -> io::Result<()> {
-        self.flush()
+impl<W: Write + Drop> Sink for Output<W> {
+    ghost bytes = { λ o. writer_contents W.contents o.writer };
+
+    ghost has_failed = { λ o. output_has_failed o };
+
+    fn write(&mut self, piece: &[u8]) -> Result<usize, SinkFault> {
+        match self.writer.write(piece) {
+            Ok(0) if !piece.is_empty() => {
+                self.has_failed = true;
+                Ok(0)
+            }
+            Ok(taken) => Ok(taken),
+            Err(_) => {
+                self.has_failed = true;
+                Err(SinkFault)
+            }
+        }
+    }
+}
+
+impl<W: Write + Drop> Finish for Output<W> {
+    ghost is_finished = { λ o. length (writer_buffer o.writer) == 0 };
+
+    fn finish(&mut self) -> Result<(), SinkFault> {
+        match self.writer.flush() {
+            Ok(()) => Ok(()),
+            Err(_) => Err(SinkFault),
+        }
     }
 }
 
 /// A buffer in front of this writer.
-pub fn buffered<W: Write + Drop>(alloc: Global, writer: W) -> Result<BufWriter<W>, Fault>
+pub fn buffered<W: Write + Drop>(alloc: Global, writer: W) -> Result<Output<W>, Fault>
+    ensures fresh { IfOk result (λ o. IsFalse (output_has_failed o)) }
     ensures failed { IfErr result (λ fault. status_of fault ≡ 3) }
 {
     match BufWriter::with_capacity(alloc, BUFFER, writer) {
-        Ok(buffer) => Ok(buffer),
+        Ok(writer) => Ok(Output {
+            writer,
+            has_failed: false,
+        }),
         Err(error) => Err(Fault::of_buffer(&error)),
     }
 }

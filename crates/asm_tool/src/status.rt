@@ -1,12 +1,15 @@
 //! The program over any reader and writers, and the status that it ends with.
-ghost use Rattle.std.specs.Prelude.{◌≡◌, ◌≢◌, ◌≤◌, ◌⊎◌, [], map, IsTrue, IfOk, IfErr};
+ghost use Rattle.std.specs.Prelude.{◌≡◌, ◌≢◌, ◌≤◌, ◌⊎◌, [], map, false, IsTrue, IfOk, IfErr};
 ghost use Rattle.asm_run.specs.Limits.{are_in_range};
 ghost use Rattle.asm_tool.specs.CommandLine.{refusals};
-ghost use Rattle.asm_tool.specs.Statuses.{IsFaultOfWords, Tells, TellsOfWords, run_fault, status_at, status_in, status_of};
+ghost use Rattle.std.specs.Io.KnownBytes.{Keeps};
+ghost use Rattle.asm_tool.specs.Shown.{Explains, ExplainsOfWords, IsExplained, IsSaid, IsWholeTrace, LeavesUnwritten, line_of};
+ghost use Rattle.asm_tool.specs.Statuses.{IsFaultOfWords, OfWords, Tells, TellsOfWords, run_fault, status_at, status_in, status_of};
 
 use crate::fault::Fault;
 use crate::folder::Folder;
 use crate::input;
+use crate::line::say;
 use crate::output::Finish;
 use crate::words::settings;
 use asm_run::end::End;
@@ -14,10 +17,10 @@ use asm_run::error::RunError;
 use asm_run::laws::answers_tell;
 use asm_run::limits::Limits;
 use asm_run::run::run;
-use asm_run::through::Through;
+use asm_run::sink::Sink;
 use std::alloc::Global;
 use std::convert::AsStr;
-use std::io::{Read, Write};
+use std::io::Read;
 use std::thread::Threads;
 
 /// One more than the bytes of the longest text, and of the longest script: reading goes no further, and what is of this length is too long.
@@ -30,13 +33,23 @@ pub fn status<
     F: Folder,
     S: AsStr,
     I: Read + Drop,
-    O: Write + Finish,
-    E: Write,
+    O: Finish,
+    E: Sink,
 >(rt: &R, folder: &F, words: &[S], input: I, out: &mut O, err: &mut E) -> u8
+    requires { O.has_failed out.old ≡ false }
+    // Words that are taken end with 3 at most, and others with 4, or 3 where memory ran out.
     ensures taken { refusals (map S.text words.entry.now) ≡ [] → result ≤ 3 }
     ensures refused { refusals (map S.text words.entry.now) ≢ [] → (result ≡ 3) ⊎ (result ≡ 4) }
+    // How the run of the texts ends that the words name.
     ensures told { TellsOfWords (map S.text words.entry.now) (F.contents folder.now) (I.remaining input) result }
+    // 0 and 1: the output grew by the trace of that run, and by nothing else. Nothing of it is kept
+    // back, and nothing is said on standard error.
+    ensures wrote { result ≤ 1 → OfWords (map S.text words.entry.now) (F.contents folder.now) (I.remaining input) (IsWholeTrace (O.bytes out.old) (O.bytes out.new)) }
     ensures finished { result ≤ 1 → IsTrue (O.is_finished out.new) }
+    ensures quiet { result ≤ 1 → Keeps (E.bytes err.old) (E.bytes err.new) }
+    // 2 to 4: a fault with this status says why, of the texts and of what is written, and its line
+    // alone is said.
+    ensures explained { 2 ≤ result → IsExplained (map S.text words.entry.now) (F.contents folder.now) (I.remaining input) (O.bytes out.old) (O.bytes out.new) result (E.bytes err.old) (E.bytes err.new) (E.has_failed err.new) }
 {
     match end(rt, folder, words, input, out) {
         Ok(end) => whole_trace(end),
@@ -55,25 +68,28 @@ fn whole_trace(end: End) -> u8
 }
 
 /// Says why there is no whole trace, and answers the status of that.
-pub fn refusal<E: Write>(fault: &Fault, err: &mut E) -> u8
-    ensures { result ≡ status_of fault.now }
+pub fn refusal<E: Sink>(fault: &Fault, err: &mut E) -> u8
+    ensures status { result ≡ status_of fault.now }
+    ensures said { IsSaid (E.bytes err.old) (E.bytes err.new) (E.has_failed err.new) (line_of fault.now) }
 {
-    // Where even this line can't be written, the status alone tells.
-    let _ = write!(err, "{fault}");
+    say(fault, err);
     fault.status()
 }
 
 /// The end of the run, once its whole trace is written. The words come first, then the text, then the script.
-fn end<R: Threads + Sync + AllocGlobal, F: Folder, S: AsStr, I: Read + Drop, O: Write + Finish>(
+fn end<R: Threads + Sync + AllocGlobal, F: Folder, S: AsStr, I: Read + Drop, O: Finish>(
     rt: &R,
     folder: &F,
     words: &[S],
     input: I,
     out: &mut O,
 ) -> Result<End, Fault>
+    requires { O.has_failed out.old ≡ false }
     ensures taken { IfOk result (λ _. refusals (map S.text words.entry.now) ≡ []) }
     ensures refused { IfErr result (IsFaultOfWords (map S.text words.entry.now)) }
     ensures told { TellsOfWords (map S.text words.entry.now) (F.contents folder.now) (I.remaining input) (status_in result) }
+    ensures wrote { IfOk result (λ _. OfWords (map S.text words.entry.now) (F.contents folder.now) (I.remaining input) (IsWholeTrace (O.bytes out.old) (O.bytes out.new))) }
+    ensures explained { IfErr result (ExplainsOfWords (map S.text words.entry.now) (F.contents folder.now) (I.remaining input) (O.bytes out.old) (O.bytes out.new)) }
     ensures finished { IfOk result (λ _. IsTrue (O.is_finished out.new)) }
 {
     let alloc = rt.alloc();
@@ -91,7 +107,7 @@ fn end<R: Threads + Sync + AllocGlobal, F: Folder, S: AsStr, I: Read + Drop, O: 
 }
 
 /// The end of the run of this text with this script, once its whole trace is written.
-fn written<R: Threads + Sync, O: Write + Finish>(
+fn written<R: Threads + Sync, O: Finish>(
     rt: &R,
     alloc: Global,
     text: &[u8],
@@ -99,14 +115,17 @@ fn written<R: Threads + Sync, O: Write + Finish>(
     limits: &Limits,
     out: &mut O,
 ) -> Result<End, Fault>
-    requires { IsTrue (are_in_range limits.now) }
+    requires range { IsTrue (are_in_range limits.now) }
+    requires open { O.has_failed out.old ≡ false }
     ensures low { IfErr result (λ fault. status_of fault ≤ 3) }
+    ensures wrote { IfOk result (λ _. IsWholeTrace (O.bytes out.old) (O.bytes out.new) text.now script.now limits.now) }
+    ensures explained { IfErr result (λ fault. Explains fault (O.bytes out.old) (O.bytes out.new) text.now script.now limits.now) }
+    ensures unwritten { IfErr result (λ fault. LeavesUnwritten fault (O.bytes out.old) (O.bytes out.new)) }
     ensures told { Tells text.now script.now limits.now (status_in result) }
     ensures finished { IfOk result (λ _. IsTrue (O.is_finished out.new)) }
 {
     answers_tell();
-    let mut sink = Through::new(&mut *out);
-    let answer = run(rt, alloc, text, script, limits, &mut sink);
+    let answer = run(rt, alloc, text, script, limits, out);
     // What a run wrote before a refusal is shown too.
     let finished = out.finish();
     let end = match answer {

@@ -1,6 +1,6 @@
 //! What the program shows over a reader and writers in memory.
 use asm_tool::folder::Disk;
-use asm_tool::output::buffered;
+use asm_tool::output::{Through, buffered};
 use asm_tool::status::{refusal, status};
 use std::io::{Read, Write};
 use std::rt::Files;
@@ -31,9 +31,10 @@ pub fn status_by<
     O: Write + Drop,
     E: Write,
 >(rt: &R, words: &[&str], input: I, out: O, err: &mut E) -> u8 {
+    let mut err = Through::new(err);
     match buffered(rt.alloc(), out) {
-        Ok(mut out) => status(rt, &Disk::new(rt), words, input, &mut out, err),
-        Err(fault) => refusal(&fault, err),
+        Ok(mut out) => status(rt, &Disk::new(rt), words, input, &mut out, &mut err),
+        Err(fault) => refusal(&fault, &mut err),
     }
 }
 

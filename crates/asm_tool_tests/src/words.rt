@@ -1,6 +1,7 @@
 //! The settings that words give, and words that can't be had.
 use asm_run::limits::Limits;
 use asm_tool::fault::Fault;
+use asm_tool::output::Through;
 use asm_tool::settings::{Settings, WordFault};
 use asm_tool::status::refusal;
 use asm_tool::words::settings;
@@ -62,10 +63,10 @@ fn each_word_is_read(rt: HostRuntime) -> Result<(), WordFault> {
 fn words_that_are_no_text(rt: HostRuntime) {
     let mut line = Vec::new(rt.alloc());
     let not_text = Fault::of_words(&io::Error::from(io::ErrorKind::InvalidData));
-    assert_eq!(rt; refusal(&not_text, &mut line), 4);
+    assert_eq!(rt; refusal(&not_text, &mut Through::new(&mut line)), 4);
     assert_eq!(rt; line.as_slice(), b"error: a word is not UTF-8\n".as_slice());
     let mut line = Vec::new(rt.alloc());
     let no_memory = Fault::of_words(&io::Error::from(io::ErrorKind::OutOfMemory));
-    assert_eq!(rt; refusal(&no_memory, &mut line), 3);
+    assert_eq!(rt; refusal(&no_memory, &mut Through::new(&mut line)), 3);
     assert_eq!(rt; line.as_slice(), b"memory\n".as_slice());
 }

@@ -123,3 +123,21 @@ marks_with shape a es n r mark known one each proper first off k h = elim (none_
       subst (IsSettled (location_at shape k)) (sym as_it_was) (first (known without) k h))
       (cases_eq k n)
 ]
+
+-- a proper location gets one value, and no other location changes
+pub marks_behind : (shape : Shape) (a : Entries) (es : NamedRanges) (n : ℕ) (v : Value) (mark : Bool) → (mark ≡ false → a.may_fault ≡ false) →
+    ((k : ℕ) → found es k ≡ cond (eqb k n) (Some (range (v, v))) (entry a k)) → IsTrue (is_proper (location_at shape n)) → MarksFaults shape a → Marks shape (marked mark es) es
+marks_behind shape a es n v mark known each proper first off k h = elim (none_or mark es off) [
+  | inl none ↦ settled-absent (location_at shape k) (found es k) (none k)
+  | inr without ↦
+      ⊎_elim
+      (λ (same : k ≡ n).
+      let yes : eqb n n ≡ true = grind (arith, nat_tests) in
+      let here : found es n ≡ Some (range (v, v)) = each n ∙ rw yes refl in
+      subst (λ m. IsSettled (location_at shape m) (found es m)) (sym same) (settled-proper (location_at shape n) (found es n) proper (subst HasOneValue (sym here) refl)))
+      (λ (other : k ≡ n → ⊥).
+      let skip : eqb k n ≡ false = grind (arith, nat_tests) in
+      let as_it_was : found es k ≡ entry a k = each k ∙ rw skip refl in
+      subst (IsSettled (location_at shape k)) (sym as_it_was) (first (known without) k h))
+      (cases_eq k n)
+]

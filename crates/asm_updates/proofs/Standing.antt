@@ -137,6 +137,36 @@ stands_with shape a c U W n r lt count each marks first is alone =
       marks_faults = marks;
     }
 
+-- an entry that is later than what was there
+later_entry : (f : ℕ → Option Range) (n k : ℕ) (r : Range) → cond (eqb k n) (Some r) (f k) ≡ later_range (f k) (cond (eqb k n) (Some r) None)
+later_entry f n k r =
+    ⊎_elim
+    (λ (same : k ≡ n). let yes : eqb k n ≡ true = grind (arith, nat_tests) in rw yes refl)
+    (λ (other : k ≡ n → ⊥). let skip : eqb k n ≡ false = grind (arith, nat_tests) in rw skip refl)
+    (cases_eq k n)
+
+pub stands_behind : (shape : Shape) (a c : Entries) (U W : UpdateSet) (n : ℕ) (r : Range) → n < a.count → c.count ≡ a.count →
+    ((k : ℕ) → entry c k ≡ cond (eqb k n) (Some r) (entry a k)) →
+    MarksFaults shape c → Stands shape a U → IsRange (Has W (location_at shape n)) r → ((l : Location) → Names W l → l ≡ location_at shape n) →
+    Stands shape c (merge U W)
+stands_behind shape a c U W n r lt count each marks first is alone =
+    let h : n < count_of shape = subst (λ x. n < x) first.has_count lt in
+    record {
+      is_sound = first.is_sound;
+      has_count = count ∙ first.has_count;
+      has_ranges = λ k below.
+          each k
+          ∙ later_entry (entry a) n k r
+          ∙ ap (λ x. later_range x (cond (eqb k n) (Some r) None)) (first.has_ranges k below)
+          ∙ ap (later_range (range_at U (location_at shape k))) (lone_range shape W n r first.is_sound h is alone k below)
+          ∙ merge_range U W (location_at shape k);
+      names_within = λ l (v, m). elim ((member_laws.of_merge U W l v).0 m) [
+        | inl x ↦ first.names_within l (v, x.0)
+        | inr y ↦ subst (IsLocationOf shape) (sym (alone l (v, y))) (number_laws.is_location shape n h)
+      ];
+      marks_faults = marks;
+    }
+
 one_is : (l : Location) (v : Value) → Has (one l v) l v
 one_is l v = (member_laws.of_one l l v v).1 (refl, refl)
 

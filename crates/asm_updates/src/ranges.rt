@@ -116,6 +116,7 @@ impl Ranges {
     }
 
     /// Gives a location these bounds. There is room for one more entry.
+    #[inline(always)]
     pub fn insert(&mut self, n: usize, bounds: (Word, Word))
         requires { 0 < self.old.spare }
         ensures entries { self.new.entries ≡ put self.old.entries n bounds }

@@ -191,6 +191,21 @@ impl Summary {
         Ok(())
     }
 
+    /// Goes on with a later set that has one update of a proper location alone.
+    pub fn then_proper(&mut self, n: usize, value: Word) -> Result<(), AllocError>
+        requires { n < self.old.count }
+        ensures count { self.new.count ≡ self.old.count }
+        ensures entries { OnOk result ((k : ℕ) → entry self.new k
+            ≡ (if k == n then Some (range (value, value)) else entry self.old k)) }
+        ensures merge { OnOk result ((shape : Shape) (U : UpdateSet) → IsTrue (is_proper (location_at shape n)) → Stands shape self.old U →
+            Stands shape self.new (merge U (one (location_at shape n) value))) }
+        ensures err { OnErr result (self.new ≡ self.old) }
+    {
+        self.ranges.reserve(1)?;
+        self.ranges.insert(n, (value, value));
+        Ok(())
+    }
+
     /// Whether one of two sets may have a fault.
     fn is_marked_with(&self, other: &Summary) -> bool
         ensures { result ≡ false → (self.now.may_fault ≡ false) × (other.now.may_fault ≡ false) }

@@ -11,7 +11,8 @@ use std::thread::Threads;
 
 const MOST_TURNS: u32 = 100_000_000;
 
-/// Holds task 1 until task 0 is taken a second time, and that taking until task 1 is taken. The first round has task 0 alone.
+/// Holds task 1 until task 0 is taken a second time, and that taking until task 1 is taken. The first
+/// round has task 0 alone.
 #[derive(Drop)]
 struct Second {
     zero_taken: AtomicU64,
@@ -30,11 +31,11 @@ impl Second {
         }
     }
 
-    /// Whether three tasks were done, two of them at the same time, and none was held in vain.
-    fn has_happened(&self) -> bool {
+    /// Whether so many tasks were done, two of them at the same time, and none was held in vain.
+    fn has_happened(&self, tasks: u64) -> bool {
         self.zero_taken.load(Ordering::SeqCst) == 2
             && self.one_taken.load(Ordering::SeqCst) == 1
-            && self.done.load(Ordering::SeqCst) == 3
+            && self.done.load(Ordering::SeqCst) == tasks
             && !self.late.load(Ordering::SeqCst)
     }
 
@@ -77,7 +78,23 @@ const CLASH: &[u8] =
 
 const CLASHED: &[u8] = b"end clash step 1 a least 2 greatest 3\nstate\na = 1\n";
 
-const LIMITS: Limits = Limits {
+/// Two parts that are each worth a thread, as turns always are.
+const TURNS: &[u8] =
+    b"CoreASM T\ninit M\nfunction controlled a initially 0\nfunction controlled b initially 0\n\
+rule M = par iterate if a < 2 then a := a + 1 endif enditerate\n\
+iterate if b < 3 then b := b + 1 endif enditerate endpar\n";
+
+const TURNED: &[u8] = b"step 1 instances 0\na := 2\nb := 3\nend limit\nstate\na = 2\nb = 3\n";
+
+/// A thousand elements, in 16 pieces of 64 at most. Together they are worth two threads.
+const THOUSAND: &[u8] = b"CoreASM T\ninit M\nuniverse U = 1 .. 1000\nfunction controlled a\n\
+rule M = forall i in U do a := 1 + i - i + i - i + i - i + i - i + i - i + i - i + i - i + i - i \
++ i - i + i - i + i - i + i - i + i - i + i - i + i - i + i - i + i - i + i - i + i - i + i - i \
+endforall\n";
+
+const DONE: &[u8] = b"step 1 instances 1000\na := 1\nend limit\nstate\na = 1\n";
+
+const ONE_ROUND: Limits = Limits {
     steps: 1,
     turns: 1000,
     workers: 2,
@@ -85,27 +102,58 @@ const LIMITS: Limits = Limits {
     rounds: 1,
 };
 
-/// Whether two workers make the step at the same time, and the run ends so with this trace.
+/// Two workers, and what else the program takes where no word says it.
+const DEFAULT: Limits = Limits {
+    steps: 1,
+    turns: 1000,
+    workers: 2,
+    cut: 64,
+    rounds: 4,
+};
+
+/// Whether two workers make the step at the same time, by so many tasks, and the run ends so with
+/// this trace.
 fn is_shared<R: Threads + Sync + AllocGlobal>(
     rt: &R,
     text: &[u8],
+    limits: &Limits,
+    tasks: u64,
     end: End,
     trace: &[u8],
 ) -> Result<bool, RunError> {
     let gate = Second::new();
     let mut out = Through::new(Vec::new(rt.alloc()));
-    let ended = run_gated(rt, rt.alloc(), &gate, text, b"", &LIMITS, &mut out)?;
-    Ok(ended == end && out.into_inner().as_slice() == trace && gate.has_happened())
+    let ended = run_gated(rt, rt.alloc(), &gate, text, b"", limits, &mut out)?;
+    Ok(ended == end && out.into_inner().as_slice() == trace && gate.has_happened(tasks))
 }
 
 #[test]
 fn run_meets(rt: HostRuntime) -> Result<(), Fail> {
-    assert!(rt; is_shared(&rt, SWAP, End::Limit, SWAPPED)?);
+    assert!(rt; is_shared(&rt, SWAP, &ONE_ROUND, 3, End::Limit, SWAPPED)?);
     Ok(())
 }
 
 #[test]
 fn updates_of_two_workers_clash(rt: HostRuntime) -> Result<(), Fail> {
-    assert!(rt; is_shared(&rt, CLASH, End::Clash, CLASHED)?);
+    assert!(rt; is_shared(&rt, CLASH, &ONE_ROUND, 3, End::Clash, CLASHED)?);
+    Ok(())
+}
+
+/// By the default rounds little work isn't shared, but turns are.
+#[test]
+fn turns_meet_by_the_default_rounds(rt: HostRuntime) -> Result<(), Fail> {
+    assert!(rt; is_shared(&rt, TURNS, &DEFAULT, 3, End::Limit, TURNED)?);
+    Ok(())
+}
+
+/// And so are many elements with much work, where three of four workers are worth it.
+#[test]
+fn elements_meet_by_the_default_rounds(rt: HostRuntime) -> Result<(), Fail> {
+    let four = Limits {
+        workers: 4,
+        cut: 16,
+        ..DEFAULT
+    };
+    assert!(rt; is_shared(&rt, THOUSAND, &four, 64, End::Limit, DONE)?);
     Ok(())
 }

@@ -8,9 +8,9 @@ use Rattle.asm_check.proofs.names.first_names.Goals as goal
 
 pub returns-clause-table : goal.returns-clause-table
 returns-clause-table c =
-    table_is (spec_of c.args.spec.now) _ _ _ _ _ _ _ c.new-names.ensures.empty (ap (map item_of) c.deref.ensures.value) c.in_ok-predeclare_all.ensures c.in_ok-declare_items.ensures
+    table_is (spec_of c.args.spec.now) _ _ _ _ _ _ _ c.in_ok-names.ensures.empty (ap (map item_of) c.deref.ensures.value) c.in_ok-predeclare_all.ensures c.in_ok-declare_items.ensures
 
 pub returns-clause-least : goal.returns-clause-least
 returns-clause-least c =
-    least_is (spec_of c.args.spec.now) _ _ _ _ _ _ _ c.new-names.ensures.empty (ap (map item_of) c.deref.ensures.value) _ c.in_ok-predeclare_all.ensures c.in_ok-declare_items.ensures
+    least_is (spec_of c.args.spec.now) _ _ _ _ _ _ _ c.in_ok-names.ensures.empty (ap (map item_of) c.deref.ensures.value) _ c.in_ok-predeclare_all.ensures c.in_ok-declare_items.ensures
     (c.in_ok-note_parameters.ensures ∙ ap (λ ys. noted (found_of c.declare_items.new.least.found) (parameter_faults (map item_of ys))) (c.deref-2.ensures.value ∙ sym c.deref.ensures.value))

@@ -1,4 +1,4 @@
-use Rattle.std.proofs.Common.{ap, ◌∙◌, None}
+use Rattle.std.proofs.Common.{ap, refl, ◌∙◌, None}
 use Rattle.std.specs.Prelude.{option_map}
 use Rattle.asm_check.specs.Tables.{meaning_of}
 use Rattle.asm_check.proofs.Lookups.{got_declared}
@@ -7,7 +7,7 @@ use Rattle.asm_check.proofs.names.meaning.Goals as goal
 pub returns-in_err-declared : goal.returns-in_err-declared
 returns-in_err-declared c = λ spec table.
     ap (option_map meaning_of) c.from_residual.ensures
-    ∙ got_declared spec c.args.names.now c.args.name.now c.as_bytes.result.now None table c.as_bytes.ensures c.in_err-declared.ensures.value
+    ∙ got_declared spec c.args.names.now c.args.name.now c.args.name.now None table refl c.in_err-declared.ensures.value
 
 pub returns : goal.returns
-returns c = λ spec table. got_declared spec c.args.names.now c.args.name.now c.as_bytes.result.now _ table c.as_bytes.ensures c.in_ok-declared.ensures.value
+returns c = λ spec table. got_declared spec c.args.names.now c.args.name.now c.args.name.now _ table refl c.in_ok-declared.ensures.value

@@ -1,13 +1,12 @@
-use Rattle.std.proofs.Common.{◌≡◌, ◌+◌, [], ◌∷◌, true, false, None, drop, ap, sym, subst, ◌∙◌, rules}
+use Rattle.std.proofs.Common.{◌≡◌, ◌+◌, [], ◌∷◌, drop, ap, sym, subst, ◌∙◌}
 use Rattle.std.specs.Prelude.{map, ◌++◌}
 use Rattle.std.proofs.lemmas.List.{drop_more, drop_all, append-nil}
-use Rattle.std.proofs.lemmas.Option.{MatchOption-at_none}
 use Rattle.asm_check.specs.Stepping.{stepping_to}
 use Rattle.asm_check.specs.Tables.{text_at}
 use Rattle.asm_check.specs.UseViews.{use_of}
-use Rattle.asm_check.proofs.Stepping.{AreSteps, no_step_yet, stepping_there, undeclared_stepping, step_taken, step_left}
+use Rattle.asm_check.proofs.Stepping.{AreSteps, no_step_yet, step_taken, step_left}
 use Rattle.asm_check.proofs.steps.positions.Goals as goal
-use Rattle.asm_check.proofs.steps.positions.Goals.{then-is_step+in-Some+in_ok-push, else-is_step, else-is_step-via-else-is_step, else-is_step-via-then-is_step+in-None-1}
+use Rattle.asm_check.proofs.steps.positions.Goals.{in-Some+in_ok-push, in_default}
 
 pub loop-used-init : goal.loop-used-init
 loop-used-init c = no_step_yet c.args.names.now c.args.in_rule c.args.uses.now _ c.new-positions.ensures.items
@@ -19,20 +18,13 @@ loop-used-preserved c =
     let entries = c.args.names.now in
     let i = c.loop-used.used-index in
     let left : drop i uses ≡ x ∷ drop (i + 1) uses = drop_more uses i x c.loop-used-test.true ∙ ap (λ y. y ∷ drop (i + 1) uses) (sym c.used-item.is) in
-    elim c.if-is_step.branch [
-      | then-is_step+in-Some+in_ok-push w ↦
+    elim c.match-step.branch [
+      | in-Some+in_ok-push w ↦
           subst (AreSteps entries c.args.in_rule uses (drop (i + 1) uses)) (sym (ap (λ v. v.items) w.positions-is ∙ w.in_ok-push.ensures.items))
-          (step_taken entries c.args.in_rule uses _ _ _ x left c.loop-used.invariant w.in-Some.position w.in-Some.ensures.found w.in-Some.ensures.name
-          (λ spec table. stepping_there spec c.args.in_rule (use_of x) _ true (c.meaning-declared.ensures spec table) w.if-is_step.ensures))
-      | else-is_step w ↦
+          (step_taken entries c.args.in_rule uses _ _ _ x left c.loop-used.invariant w.in-Some.position w.in-Some.ensures.within w.in-Some.ensures.name w.in-Some.ensures.step)
+      | in_default w ↦
           subst (AreSteps entries c.args.in_rule uses (drop (i + 1) uses)) (sym (ap (λ v. v.items) w.positions-is))
-          (step_left entries c.args.in_rule uses _ _ _ x left c.loop-used.invariant
-          (elim w.else-is_step.branch [
-            | else-is_step-via-else-is_step v ↦ λ spec table. stepping_there spec c.args.in_rule (use_of x) _ false (c.meaning-declared.ensures spec table) v.if-is_step.ensures
-            | else-is_step-via-then-is_step+in-None-1 v ↦ λ spec table.
-                let none : v.position.result ≡ None = search rules in
-                undeclared_stepping spec c.args.in_rule (use_of x) (MatchOption-at_none _ _ none (v.position.ensures.missing spec table))
-          ]))
+          (step_left entries c.args.in_rule uses _ _ _ x left c.loop-used.invariant w.in_default.ensures.step)
     ]
 
 pub returns : goal.returns

@@ -1,19 +1,17 @@
-use Rattle.std.proofs.Common.{◌≡◌, ℕ, ◌∷◌, ◌⊎◌, inl, inr, Some, None, sym, ap, subst, ◌∙◌, refl, arith, rules}
-use Rattle.std.proofs.lemmas.Bool.{false≢true}
+use Rattle.std.proofs.Common.{◌≡◌, ℕ, ◌∷◌, Some, None, sym, ap, subst, ◌∙◌, refl, arith, rules}
 use Rattle.std.specs.Prelude.{Ok, option_map}
-use Rattle.asm_state.specs.Signature.{Shape}
-use Rattle.asm_state.specs.Updates.{IsConsistent, none}
+use Rattle.asm_state.specs.Signature.{Shape, location_at}
+use Rattle.asm_state.specs.Updates.{one}
 use Rattle.asm_updates.specs.Entries.{Entries}
-use Rattle.asm_updates.specs.Stands.{Stands}
 use Rattle.asm_state.specs.Words.{value_of_code}
 use Rattle.asm_meaning.specs.Does.{Outcome}
-use Rattle.asm_meaning.specs.Formed.{Follows, Forms}
+use Rattle.asm_meaning.specs.Formed.{Follows, Forms, GoesOn}
 use Rattle.asm_meaning.specs.Taken.{taken}
 use Rattle.asm_meaning.specs.Valued.{shown}
 use Rattle.asm_meaning.specs.declared.outcome.Forming.{Forming}
 use Rattle.asm_meaning.specs.Yields.{Path, at, Exhausted}
 use Rattle.asm_meaning.proofs.Following.{following_laws-same as follows_same, following_laws-nothing as follows_nothing, following_laws-both as follows_both, following_laws-counted as follows_counted, following_laws-stopped as follows_stopped, following_laws-forms_same as forms_same}
-use Rattle.asm_meaning.proofs.Sequences.{sequence_laws-begins as begins, sequence_laws-goes_upon as goes_upon, part_laws-no_fault as no_fault_found, part_laws-fault as fault_found, stopping_laws-memory as stopped_for_memory}
+use Rattle.asm_meaning.proofs.Sequences.{sequence_laws-begins as begins, sequence_laws-goes_upon as goes_upon, part_laws-consistent_part as consistent_part, part_laws-ending_part as ending_part, part_laws-some_turn as some_turn, part_laws-consistent_turn as consistent_turn, part_laws-ending_turn as ending_turn, stopping_laws-memory as stopped_for_memory}
 use Rattle.asm_eval.specs.CodeViews.{code_of}
 use Rattle.asm_eval.specs.Frames.{readings_of}
 use Rattle.asm_reader.specs.declared.picks.Picks.{Ghosts}
@@ -28,11 +26,14 @@ use Rattle.asm_eval.specs.declared.regions.Region.TheVariants as regions
 use Rattle.asm_eval.specs.RuleMeaning.{meaning}
 use Rattle.asm_eval.specs.RuleTree as tree
 use Rattle.asm_eval.specs.RuleViews.{rule_of}
-use Rattle.asm_eval.specs.Running.{shape_at, state_at, chosen_at, places_of, rule_at, rule_in, passing_in}
+use Rattle.asm_eval.specs.Running.{shape_at, state_at, chosen_at, places_of, rule_at, rule_in, rule_upon, passing_in}
 use Rattle.asm_eval.proofs.RuleForms.{skip_yields, assign_yields, par_yields, seq_yields, if_is, if_yes, if_no, if_left_out, let_is, let_with, choose_is, choose_some, choose_none, call_is, call_with, iterate_yields, forall_yields, next_yields, none_yields, exhausted_yields, element_yields, passed_yields, exhausted_element_yields, no_element_yields, value_here, size_here, sound_part, size_of_part}
 use Rattle.asm_eval.proofs.CodeSequences.{parts_left, turns_left, part_goes_on, part_ends, part_stops, parts_end, turn_goes_on, turn_ends, turn_stops, turns_stop, iterate_yields_turns}
+use Rattle.asm_eval.proofs.SingleUpdates.{single_shown, single_upon, goes_by_none, goes_by_one}
+use Rattle.asm_eval.specs.declared.single.Single.TheVariants as single
+use Rattle.std.proofs.lemmas.Result.{on_ok_weaker}
 use Rattle.asm_eval.proofs.form.+form.Goals as goal
-use Rattle.asm_eval.proofs.form.+form.Goals.{form_span-then-passes+in_ok-form_part, form_span-else-passes, form_turns-then-is_empty-via-then-is_empty, form_turns-then-is_empty-via-else-is_empty+then-is_some}
+use Rattle.asm_eval.proofs.form.+form.Goals.{form_span-then-passes+in_ok-form_part, form_span-else-passes}
 
 -- what the body yields for a value
 abbrev element_does : {P : Type 0} {picks : Ghosts P} → Running P picks → Frame → Path → ℕ → Value → RuleCode → Outcome
@@ -205,23 +206,23 @@ form_in_order-loop-i-preserved g t c =
     let shape = shape_at r in
     let l = c.loop-i in
     let under = l.invariant.underway in
-    let on = c.in_ok-form_next.ensures.formed.formed under.set under.stands under.consistent in
+    let on = c.in_ok-part.ensures.formed.formed under.set under.stands under.consistent in
     record {
-      ready = c.in_ok-form_next.ensures.ready;
-      same_count = c.in_ok-form_next.ensures.formed.count ∙ l.invariant.same_count;
-      same_path = c.in_ok-form_next.ensures.formed.path ∙ l.invariant.same_path;
+      ready = c.in_ok-part.ensures.ready;
+      same_count = c.in_ok-part.ensures.formed.count ∙ l.invariant.same_count;
+      same_path = c.in_ok-part.ensures.formed.path ∙ l.invariant.same_path;
       same_before = l.invariant.same_before;
-      counted = c.in_ok-form_next.ensures.formed.so_far_count ∙ l.invariant.counted;
+      counted = c.in_ok-part.ensures.formed.so_far_count ∙ l.invariant.counted;
       underway = part_goes_on shape r.turns (chosen_at r) (readings_of shape a.frame.now) (places_of shape a.frame.now) a.made.now.path.items (state_at r) _ _ _ _ a.parts.now l.i under
           l.made.path.items c.index-parts-i.result l.invariant.same_path c.loop-i-test.true c.index-parts-i.is
-          c.form_next.new.so_far c.form_next.new.made.set c.form_next.new.made.instances on
-          (no_fault_found shape c.form_next.new.made.set on.set c.first_fault.result (sym c.is_some.ensures ∙ c.if-is_some.false) c.first_fault.ensures.consistent on.stands);
+          c.form_next.new.so_far c.in_ok-part.part c.form_next.new.made.instances on
+          (consistent_part on.set c.in_ok-part.part on.is (sym c.ends_parts.ensures ∙ c.if-ends_parts.false));
     }
 
 pub form_in_order-put_back-requires : goal.form_in_order-put_back-requires
 form_in_order-put_back-requires g t c =
     let l = c.loop-i.invariant in
-    c.in_ok-form_next.ensures.formed.so_far_count ∙ l.counted ∙ sym c.requires.fits ∙ sym (ap (λ (s : Entries). s.count) (l.same_before ∙ c.set_aside-before.ensures.before))
+    c.in_ok-part.ensures.formed.so_far_count ∙ l.counted ∙ sym c.requires.fits ∙ sym (ap (λ (s : Entries). s.count) (l.same_before ∙ c.set_aside-before.ensures.before))
 
 pub form_in_order-put_back-requires-2 : goal.form_in_order-put_back-requires-2
 form_in_order-put_back-requires-2 g t c =
@@ -244,28 +245,28 @@ form_in_order-returns-clause-formed g t c =
           (parts_left shape r.turns (chosen_at r) (readings_of shape a.frame.now) (places_of shape a.frame.now) a.made.now.path.items a.parts.now 0 (state_at r)) _ c.put_back-2.result c.put_back-2.ensures.stopped;
     }
 
-pub form_in_order-returns-then-is_some-clause-formed : goal.form_in_order-returns-then-is_some-clause-formed
-form_in_order-returns-then-is_some-clause-formed g t c =
+pub form_in_order-returns-then-ends_parts-clause-formed : goal.form_in_order-returns-then-ends_parts-clause-formed
+form_in_order-returns-then-ends_parts-clause-formed g t c =
     let a = c.args in
     let r = a.running.now in
     let shape = shape_at r in
     let l = c.loop-i in
     let under = l.invariant.underway in
-    let on = c.in_ok-form_next.ensures.formed.formed under.set under.stands under.consistent in
+    let on = c.in_ok-part.ensures.formed.formed under.set under.stands under.consistent in
     record {
       count = c.put_back.ensures.count ∙ ap (λ (s : Entries). s.count) (c.loop-i.invariant.same_before ∙ c.set_aside-before.ensures.before);
       path = search rules;
       formed = part_ends shape r.turns (chosen_at r) (readings_of shape a.frame.now) (places_of shape a.frame.now) a.made.now.path.items (state_at r) _ _ _ _ a.parts.now l.i under
           l.made.path.items c.index-parts-i.result l.invariant.same_path c.loop-i-test.true c.index-parts-i.is
-          c.form_next.new.so_far c.form_next.new.made.set l.before a.made.now.set c.put_back.new.made.set c.form_next.new.made.instances c.put_back.new.made.instances c.put_back.result on
-          (fault_found shape c.form_next.new.made.set on.set c.first_fault.result (sym c.is_some.ensures ∙ c.if-is_some.true) c.first_fault.ensures.first on.stands)
+          c.form_next.new.so_far c.in_ok-part.part l.before a.made.now.set c.put_back.new.made.set c.form_next.new.made.instances c.put_back.new.made.instances c.put_back.result on
+          (ending_part on.set c.in_ok-part.part on.is (sym c.ends_parts.ensures ∙ c.if-ends_parts.true))
           (l.invariant.same_before ∙ c.set_aside-before.ensures.before) c.put_back.ensures.instances (c.put_back.ensures.adds shape);
       exhausted = stopped_for_memory
           (parts_left shape r.turns (chosen_at r) (readings_of shape a.frame.now) (places_of shape a.frame.now) a.made.now.path.items a.parts.now 0 (state_at r)) _ c.put_back.result c.put_back.ensures.stopped;
     }
 
-pub form_in_order-returns-in_err-form_next-clause-formed : goal.form_in_order-returns-in_err-form_next-clause-formed
-form_in_order-returns-in_err-form_next-clause-formed g t c =
+pub form_in_order-returns-in_err-part-clause-formed : goal.form_in_order-returns-in_err-part-clause-formed
+form_in_order-returns-in_err-part-clause-formed g t c =
     let a = c.args in
     let r = a.running.now in
     let shape = shape_at r in
@@ -277,12 +278,52 @@ form_in_order-returns-in_err-form_next-clause-formed g t c =
       formed = search rules;
       exhausted = part_stops shape r.turns (chosen_at r) (readings_of shape a.frame.now) (places_of shape a.frame.now) a.made.now.path.items (state_at r) _ _ _ _ a.parts.now l.i under
           l.made.path.items c.index-parts-i.result l.invariant.same_path c.loop-i-test.true c.index-parts-i.is
-          c.form_next.new.made.path.items c.form_next.result c.from_residual.result c.in_err-form_next.field-0.0 c.in_err-form_next.was c.from_residual.ensures.1
+          c.form_next.new.made.path.items c.form_next.result c.from_residual.result c.in_err-part.field-0.0 c.in_err-part.was c.from_residual.ensures.1
           (c.form_next.ensures.formed.exhausted under.set under.stands under.consistent);
     }
 
-pub form_next-returns-clause-formed : goal.form_next-returns-clause-formed
-form_next-returns-clause-formed g t c =
+pub form_next-go_on_by-requires-clause-location : goal.form_next-go_on_by-requires-clause-location
+form_next-go_on_by-requires-clause-location g t c =
+    let a = c.args in
+    (single_shown a.running.now c.upon-view.result a.frame.now (rule_of a.rule.now) (at a.made.now.path.items a.number) c.upon-view.ensures.signature
+    c.in_ok-single_update.field-0 (single.Update c.in-Update.n c.in-Update.value) c.in-Update.is c.in_ok-single_update.ensures).0
+
+pub form_next-returns-in-Nothing-clause-formed : goal.form_next-returns-in-Nothing-clause-formed
+form_next-returns-in-Nothing-clause-formed g t c =
+    let a = c.args in
+    let r = a.running.now in
+    record {
+      count = refl;
+      so_far_count = refl;
+      path = refl;
+      formed = λ U stands consistent.
+          goes_by_none (shape_at r) _ U a.so_far.now a.made.now.instances
+          (single_upon r c.upon-view.result a.frame.now (rule_of a.rule.now) (at a.made.now.path.items a.number) c.upon-view.ensures.signature
+          c.in_ok-single_update.field-0 single.Nothing U c.in-Nothing.is (c.upon-view.ensures.fired U stands consistent) c.in_ok-single_update.ensures)
+          (omega (arith, a.made.now.in_range)) stands;
+      exhausted = λ U stands consistent. tt;
+    }
+
+pub form_next-returns-in-Update-clause-formed : goal.form_next-returns-in-Update-clause-formed
+form_next-returns-in-Update-clause-formed g t c =
+    let a = c.args in
+    let r = a.running.now in
+    let shape = shape_at r in
+    record {
+      count = c.go_on_by.ensures.count;
+      so_far_count = search rules;
+      path = search rules;
+      formed = λ U stands consistent.
+          goes_by_one shape _ U (one (location_at shape c.in-Update.n) c.in-Update.value) c.go_on_by.new.so_far a.made.now.instances c.go_on_by.new.made.instances c.go_on_by.result
+          (single_upon r c.upon-view.result a.frame.now (rule_of a.rule.now) (at a.made.now.path.items a.number) c.upon-view.ensures.signature
+          c.in_ok-single_update.field-0 (single.Update c.in-Update.n c.in-Update.value) U c.in-Update.is (c.upon-view.ensures.fired U stands consistent) c.in_ok-single_update.ensures).1
+          (omega (arith, a.made.now.in_range)) c.go_on_by.ensures.instances c.go_on_by.ensures.part
+          (on_ok_weaker c.go_on_by.result (λ merges. merges U stands) c.go_on_by.ensures.merge);
+      exhausted = λ U stands consistent. stopped_for_memory (rule_upon r U a.frame.now (at a.made.now.path.items a.number) (rule_of a.rule.now)) _ c.go_on_by.result c.go_on_by.ensures.stopped;
+    }
+
+pub form_upon-returns-clause-formed : goal.form_upon-returns-clause-formed
+form_upon-returns-clause-formed g t c =
     let a = c.args in
     let r = a.running.now in
     let shape = shape_at r in
@@ -292,14 +333,16 @@ form_next-returns-clause-formed g t c =
       path = search rules;
       formed = λ U stands consistent.
           let v = c.upon-view.result in
-          goes_upon shape _ U c.clear.new.self c.furnish.new.set c.then.new.self c.form_part.new.made.set a.made.now.instances c.form_part.new.made.instances
+          subst (λ n. GoesOn shape (rule_upon r U a.frame.now (at a.made.now.path.items a.number) (rule_of a.rule.now)) U c.go_on.new.so_far c.of-part.result a.made.now.instances n) (sym c.go_on.ensures.instances)
+          (goes_upon shape _ U c.clear.new.self a.so_far.now c.go_on.new.so_far c.form_part.new.made.set c.of-part.result a.made.now.instances c.form_part.new.made.instances
           (c.clear.ensures.empty shape r.view.now.sound c.requires.fits)
-          (subst (λ k. Stands shape k U) (sym c.furnish.ensures.same) stands)
-          (c.in_ok-then.ensures.merge shape)
+          stands
+          (c.in_ok-go_on.ensures.merge shape)
+          c.of-part.ensures
           (forms_same shape _ _ _ _ _ _
           (ap (rule_in r a.frame.now (at a.made.now.path.items a.number) (rule_of a.rule.now)) (c.upon-view.ensures.fired U stands consistent))
           (subst (λ s. Forms s (meaning s r.turns (chosen_at r) (rule_of a.rule.now) (readings_of s a.frame.now) (places_of s a.frame.now) (shown v) (at a.made.now.path.items a.number)) c.clear.new.self c.form_part.new.made.set a.made.now.instances c.form_part.new.made.instances) c.upon-view.ensures.signature
-          c.in_ok-form_part.ensures.formed.formed));
+          c.in_ok-form_part.ensures.formed.formed)));
       exhausted = λ U stands consistent. tt;
     }
 
@@ -330,50 +373,45 @@ form_turns-loop-turn-preserved g t c =
     let shape = shape_at r in
     let l = c.loop-turn in
     let under = l.invariant.underway in
-    let on = c.in_ok-form_next.ensures.formed.formed under.set under.stands under.consistent in
+    let on = c.in_ok-part.ensures.formed.formed under.set under.stands under.consistent in
     record {
-      ready = c.in_ok-form_next.ensures.ready;
-      same_count = c.in_ok-form_next.ensures.formed.count ∙ l.invariant.same_count;
-      same_path = c.in_ok-form_next.ensures.formed.path ∙ l.invariant.same_path;
+      ready = c.in_ok-part.ensures.ready;
+      same_count = c.in_ok-part.ensures.formed.count ∙ l.invariant.same_count;
+      same_path = c.in_ok-part.ensures.formed.path ∙ l.invariant.same_path;
       same_before = l.invariant.same_before;
-      counted = c.in_ok-form_next.ensures.formed.so_far_count ∙ l.invariant.counted;
+      counted = c.in_ok-part.ensures.formed.so_far_count ∙ l.invariant.counted;
       underway = turn_goes_on shape r.turns (chosen_at r) (readings_of shape a.frame.now) (places_of shape a.frame.now) a.made.now.path.items (state_at r) _ _ _ _ r.turns (rule_of a.body.now) l.turn under
           l.made.path.items c.from.result l.invariant.same_path c.loop-turn-test.true c.from.ensures
-          c.form_next.new.so_far c.form_next.new.made.set c.form_next.new.made.instances on
-          (λ is. false≢true (sym c.if-is_empty.false ∙ (c.is_empty.ensures.empty shape on.set on.stands).1 is))
-          (no_fault_found shape c.form_next.new.made.set on.set c.first_fault.result (sym c.is_some.ensures ∙ c.if-is_some.false) c.first_fault.ensures.consistent on.stands);
+          c.form_next.new.so_far c.in_ok-part.part c.form_next.new.made.instances on
+          (some_turn on.set c.in_ok-part.part on.is (sym c.ends_turns.ensures ∙ c.if-ends_turns.false))
+          (consistent_turn on.set c.in_ok-part.part on.is (sym c.ends_turns.ensures ∙ c.if-ends_turns.false));
     }
 
 pub form_turns-put_back-requires : goal.form_turns-put_back-requires
 form_turns-put_back-requires g t c =
     let l = c.loop-turn.invariant in
-    c.in_ok-form_next.ensures.formed.so_far_count ∙ l.counted ∙ sym c.requires.fits ∙ sym (ap (λ (s : Entries). s.count) (l.same_before ∙ c.set_aside-before.ensures.before))
+    c.in_ok-part.ensures.formed.so_far_count ∙ l.counted ∙ sym c.requires.fits ∙ sym (ap (λ (s : Entries). s.count) (l.same_before ∙ c.set_aside-before.ensures.before))
 
-pub form_turns-returns-then-is_empty-clause-formed : goal.form_turns-returns-then-is_empty-clause-formed
-form_turns-returns-then-is_empty-clause-formed g t c =
+pub form_turns-returns-then-ends_turns-clause-formed : goal.form_turns-returns-then-ends_turns-clause-formed
+form_turns-returns-then-ends_turns-clause-formed g t c =
     let a = c.args in
     let r = a.running.now in
     let shape = shape_at r in
     let l = c.loop-turn in
     let under = l.invariant.underway in
-    let on = c.in_ok-form_next.ensures.formed.formed under.set under.stands under.consistent in
-    let last : (on.set ≡ none) ⊎ (¬ (IsConsistent on.set)) = elim c.then-is_empty.branch [
-      | form_turns-then-is_empty-via-then-is_empty w ↦ inl ((c.is_empty.ensures.empty shape on.set on.stands).0 w.if-is_empty.true)
-      | form_turns-then-is_empty-via-else-is_empty+then-is_some w ↦ inr (fault_found shape c.form_next.new.made.set on.set w.first_fault.result
-          (sym w.is_some.ensures ∙ w.if-is_some.true) w.first_fault.ensures.first on.stands)
-    ] in
+    let on = c.in_ok-part.ensures.formed.formed under.set under.stands under.consistent in
     record {
       count = c.put_back.ensures.count ∙ ap (λ (s : Entries). s.count) (c.loop-turn.invariant.same_before ∙ c.set_aside-before.ensures.before);
       path = search rules;
       formed = turn_ends shape r.turns (chosen_at r) (readings_of shape a.frame.now) (places_of shape a.frame.now) a.made.now.path.items (state_at r) _ _ _ _ r.turns (rule_of a.body.now) l.turn under
           l.made.path.items c.from.result l.invariant.same_path c.loop-turn-test.true c.from.ensures
-          c.form_next.new.so_far c.form_next.new.made.set l.before a.made.now.set c.put_back.new.made.set c.form_next.new.made.instances c.put_back.new.made.instances c.put_back.result on
-          last (l.invariant.same_before ∙ c.set_aside-before.ensures.before) c.put_back.ensures.instances (c.put_back.ensures.adds shape);
+          c.form_next.new.so_far c.in_ok-part.part l.before a.made.now.set c.put_back.new.made.set c.form_next.new.made.instances c.put_back.new.made.instances c.put_back.result on
+          (ending_turn on.set c.in_ok-part.part on.is (sym c.ends_turns.ensures ∙ c.if-ends_turns.true)) (l.invariant.same_before ∙ c.set_aside-before.ensures.before) c.put_back.ensures.instances (c.put_back.ensures.adds shape);
       exhausted = stopped_for_memory (rule_at r a.frame.now a.made.now.path.items (tree.Iterate (rule_of a.body.now))) _ c.put_back.result c.put_back.ensures.stopped;
     }
 
-pub form_turns-returns-in_err-form_next-clause-formed : goal.form_turns-returns-in_err-form_next-clause-formed
-form_turns-returns-in_err-form_next-clause-formed g t c =
+pub form_turns-returns-in_err-part-clause-formed : goal.form_turns-returns-in_err-part-clause-formed
+form_turns-returns-in_err-part-clause-formed g t c =
     let a = c.args in
     let r = a.running.now in
     let shape = shape_at r in
@@ -385,7 +423,7 @@ form_turns-returns-in_err-form_next-clause-formed g t c =
       formed = search rules;
       exhausted = turn_stops shape r.turns (chosen_at r) (readings_of shape a.frame.now) (places_of shape a.frame.now) a.made.now.path.items (state_at r) _ _ _ _ r.turns (rule_of a.body.now) l.turn under
           l.made.path.items c.from.result l.invariant.same_path c.loop-turn-test.true c.from.ensures
-          c.form_next.new.made.path.items c.form_next.result c.from_residual.result c.in_err-form_next.field-0.0 c.in_err-form_next.was c.from_residual.ensures.1
+          c.form_next.new.made.path.items c.form_next.result c.from_residual.result c.in_err-part.field-0.0 c.in_err-part.was c.from_residual.ensures.1
           (c.form_next.ensures.formed.exhausted under.set under.stands under.consistent);
     }
 

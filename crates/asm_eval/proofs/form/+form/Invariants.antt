@@ -51,6 +51,9 @@ decreases-form_turns g l = 5 * rule_size (rule_of l.body.now) + 5
 abbrev pub decreases-form_next : goal.decreases-form_next
 decreases-form_next g l = 5 * rule_size (rule_of l.rule.now) + 4
 
+abbrev pub decreases-form_upon : goal.decreases-form_upon
+decreases-form_upon g l = 5 * rule_size (rule_of l.rule.now) + 3
+
 -- ---- the loops
 
 -- whatever follows what the parts yield that are left follows what all of them yield, from the start on

@@ -1,4 +1,4 @@
-use Rattle.std.proofs.Common.{[], ◌+◌, ◌≡◌, length, map, take, Some, refl, sym, ap, subst, ◌∙◌, arith}
+use Rattle.std.proofs.Common.{[], ◌∷◌, ◌+◌, ◌≡◌, length, map, take, Some, refl, sym, ap, subst, ◌∙◌, arith}
 use Rattle.std.specs.Prelude.{IfSome, slice_index_or}
 use Rattle.std.specs.Arc.{arc_value}
 use Rattle.std.proofs.lemmas.Grind.{common_steps}
@@ -33,12 +33,12 @@ use Rattle.asm_eval.specs.Readings.{reading}
 use Rattle.asm_eval.specs.Sound.{IsSound}
 use Rattle.asm_state.specs.Operation.{op}
 use Rattle.asm_eval.specs.Resolved.{IsResolved, AreResolvedLinks}
-use Rattle.asm_eval.specs.Scopes.{AreBodies, IsBody, all_resolved, chain_resolved as chain_has_code, named_resolved, names_of, scope_environment, term_resolved}
+use Rattle.asm_eval.specs.Scopes.{AreBodies, IsBody, all_resolved, chain_resolved as chain_has_code, named_resolved, names_of, scope_environment, slots_in, term_resolved}
 use Rattle.asm_eval.specs.declared.code.Code.TheVariants as code
 use Rattle.asm_eval.proofs.CodeForms.{constant_form, local_form, with_form, chain_form, exists_form, every_form}
 use Rattle.asm_eval.proofs.ResolvedLists.{as_resolved, if_both, if_ok, one_more, one_more_link, only_link, operand_falls, only_one, only_two, none_at_all}
 use Rattle.asm_eval.proofs.Resolving.{local_resolved, function_resolved, derived_resolved, constant_resolved, literal_resolved, not_resolved, negative_resolved, chain_resolved, link_resolved, exists_resolved, every_resolved, exists_of_none, every_of_none}
-use Rattle.asm_eval.proofs.ScopeLaws.{scope_free, names_within, environment_within, parameter_names}
+use Rattle.asm_eval.proofs.ScopeLaws.{scope_free, parameter_names}
 use Rattle.asm_eval.proofs.KeptBodies.{body_is}
 use Rattle.asm_eval.proofs.resolve.+resolve.Goals as goal
 
@@ -147,23 +147,24 @@ resolve-resolve-requires-in-Negative t c =
     let it = negative_falls a.checked.now (scope_environment a.scope.now) a.term.now c.in-Negative.inner c.in-Negative.is c.deref-in-Negative.result.now c.deref-in-Negative.ensures in
     (omega (arith, c.decreases, it), c.requires.bodies)
 
-pub resolve-resolve-requires-in-Some : goal.resolve-resolve-requires-in-Some
-resolve-resolve-requires-in-Some t c =
+pub resolve-resolve_within-requires : goal.resolve-resolve_within-requires
+resolve-resolve_within-requires t c =
     let a = c.args in
     let it = (falls a.checked.now (scope_environment a.scope.now)).at_exists c.in-Exists.name.text c.in-Exists.over.text (plain_term (term_of c.in-Exists.test.value)) Undef in
     let whole = ap (weight (program a.checked.now) (scope_environment a.scope.now)) (plain_exists a.term.now c.in-Exists.name c.in-Exists.over c.in-Exists.test c.in-Exists.is) in
     let same = ap (λ t. weight (program a.checked.now) (with_value c.in-Exists.name.text Undef (scope_environment a.scope.now)) (plain_term (term_of t))) c.deref-in-Some.ensures in
-    let inner = ap (λ e. weight (program a.checked.now) e (plain_term (term_of c.deref-in-Some.result.now))) (environment_within c.as_slice-in-Some.result.now c.in_ok-inner-in-Some.inner.items a.scope.now c.in-Exists.name.text c.as_slice-in-Some.ensures.value c.in_ok-inner-in-Some.ensures) in
-    (omega (arith, c.decreases, it, whole, same, inner), c.requires.bodies)
+    (omega (arith, c.decreases, it, whole, same), c.requires.bodies)
 
-pub resolve-resolve-requires-in-Some-universe_numbered : goal.resolve-resolve-requires-in-Some-universe_numbered
-resolve-resolve-requires-in-Some-universe_numbered t c =
+pub resolve-resolve_within-requires-in-Some-universe_numbered : goal.resolve-resolve_within-requires-in-Some-universe_numbered
+resolve-resolve_within-requires-in-Some-universe_numbered t c =
     let a = c.args in
     let it = (falls a.checked.now (scope_environment a.scope.now)).at_every c.in-Every.name.text c.in-Every.over.text (plain_term (term_of c.in-Every.test.value)) Undef in
     let whole = ap (weight (program a.checked.now) (scope_environment a.scope.now)) (plain_every a.term.now c.in-Every.name c.in-Every.over c.in-Every.test c.in-Every.is) in
     let same = ap (λ t. weight (program a.checked.now) (with_value c.in-Every.name.text Undef (scope_environment a.scope.now)) (plain_term (term_of t))) c.deref-in-Some-universe_numbered.ensures in
-    let inner = ap (λ e. weight (program a.checked.now) e (plain_term (term_of c.deref-in-Some-universe_numbered.result.now))) (environment_within c.as_slice-in-Some-universe_numbered.result.now c.in_ok-inner-in-Some-universe_numbered.inner.items a.scope.now c.in-Every.name.text c.as_slice-in-Some-universe_numbered.ensures.value c.in_ok-inner-in-Some-universe_numbered.ensures) in
-    (omega (arith, c.decreases, it, whole, same, inner), c.requires.bodies)
+    (omega (arith, c.decreases, it, whole, same), c.requires.bodies)
+
+pub resolve_within-resolve-requires : goal.resolve_within-resolve-requires
+resolve_within-resolve-requires t c = (omega (arith, c.decreases), c.requires.bodies)
 
 pub resolve-returns-in-Constant-clause-resolved : goal.resolve-returns-in-Constant-clause-resolved
 resolve-returns-in-Constant-clause-resolved t c =
@@ -195,15 +196,16 @@ resolve-returns-in-None-clause-resolved t c =
     as_resolved (program_of spec) (shape_of spec) (names_of a.scope.now) _ _ _ _ (plain_exists a.term.now c.in-Exists.name c.in-Exists.over c.in-Exists.test c.in-Exists.is)
     (constant_form (code.Constant c.truth.result) c.truth.result refl ∙ ap codes.Constant c.truth.ensures) (exists_of_none spec a.checked.now.well_formed (names_of a.scope.now) c.in-Exists.name.text c.in-Exists.over.text (plain_term (term_of c.in-Exists.test.value)) c.in-None.ensures.none)
 
-pub resolve-returns-in_ok-new-in-Some-clause-resolved : goal.resolve-returns-in_ok-new-in-Some-clause-resolved
-resolve-returns-in_ok-new-in-Some-clause-resolved t c =
+pub resolve-returns-in_ok-test-in-Some-clause-resolved : goal.resolve-returns-in_ok-test-in-Some-clause-resolved
+resolve-returns-in_ok-test-in-Some-clause-resolved t c =
     let a = c.args in
     let spec = spec_of a.checked.now.spec in
+    let n = c.in-Some.over in
     as_resolved (program_of spec) (shape_of spec) (names_of a.scope.now) _ _ _ _
     (plain_exists a.term.now c.in-Exists.name c.in-Exists.over c.in-Exists.test c.in-Exists.is ∙ ap (λ t. tree.Exists c.in-Exists.name.text c.in-Exists.over.text (plain_term (term_of t))) (sym c.deref-in-Some.ensures))
-    (exists_form (code.Exists c.in-Some.over c.in_ok-new-in-Some.field-0) c.in-Some.over c.in_ok-new-in-Some.field-0 refl ∙ ap (λ k. codes.Exists c.in-Some.over (code_of k)) c.in_ok-new-in-Some.ensures.ok)
-    (exists_resolved spec a.checked.now.well_formed (names_of a.scope.now) c.in-Exists.name.text c.in-Exists.over.text _ c.in-Some.over _ c.in-Some.ensures.number
-    (slice_index_or (shape_of spec).universes c.in-Some.over []) (slice_get-get_or (shape_of spec).universes c.in-Some.over [] c.in-Some.ensures.known) (subst (λ ns. IsResolved (program_of spec) (shape_of spec) ns (plain_term (term_of c.deref-in-Some.result.now)) (code_of c.in_ok-test-in-Some.test)) (names_within c.as_slice-in-Some.result.now c.in_ok-inner-in-Some.inner.items a.scope.now c.in-Exists.name.text c.as_slice-in-Some.ensures.value c.in_ok-inner-in-Some.ensures) c.in_ok-test-in-Some.ensures.resolved))
+    (exists_form (code.Exists n c.in_ok-test-in-Some.test) n c.in_ok-test-in-Some.test refl)
+    (exists_resolved spec a.checked.now.well_formed (names_of a.scope.now) c.in-Exists.name.text c.in-Exists.over.text _ n _ c.in-Some.ensures.number
+    (slice_index_or (shape_of spec).universes n []) (slice_get-get_or (shape_of spec).universes n [] c.in-Some.ensures.known) c.in_ok-test-in-Some.ensures.resolved)
 
 pub resolve-returns-in-None-universe_numbered-clause-resolved : goal.resolve-returns-in-None-universe_numbered-clause-resolved
 resolve-returns-in-None-universe_numbered-clause-resolved t c =
@@ -212,16 +214,24 @@ resolve-returns-in-None-universe_numbered-clause-resolved t c =
     as_resolved (program_of spec) (shape_of spec) (names_of a.scope.now) _ _ _ _ (plain_every a.term.now c.in-Every.name c.in-Every.over c.in-Every.test c.in-Every.is)
     (constant_form (code.Constant c.truth-in-None-universe_numbered.result) c.truth-in-None-universe_numbered.result refl ∙ ap codes.Constant c.truth-in-None-universe_numbered.ensures) (every_of_none spec a.checked.now.well_formed (names_of a.scope.now) c.in-Every.name.text c.in-Every.over.text (plain_term (term_of c.in-Every.test.value)) c.in-None-universe_numbered.ensures.none)
 
-pub resolve-returns-in_ok-new-in-Some-universe_numbered-clause-resolved : goal.resolve-returns-in_ok-new-in-Some-universe_numbered-clause-resolved
-resolve-returns-in_ok-new-in-Some-universe_numbered-clause-resolved t c =
+pub resolve-returns-in_ok-test-in-Some-universe_numbered-clause-resolved : goal.resolve-returns-in_ok-test-in-Some-universe_numbered-clause-resolved
+resolve-returns-in_ok-test-in-Some-universe_numbered-clause-resolved t c =
     let a = c.args in
     let spec = spec_of a.checked.now.spec in
     let n = c.in-Some-universe_numbered.over in
     as_resolved (program_of spec) (shape_of spec) (names_of a.scope.now) _ _ _ _
     (plain_every a.term.now c.in-Every.name c.in-Every.over c.in-Every.test c.in-Every.is ∙ ap (λ t. tree.Every c.in-Every.name.text c.in-Every.over.text (plain_term (term_of t))) (sym c.deref-in-Some-universe_numbered.ensures))
-    (every_form (code.Every n c.in_ok-new-in-Some-universe_numbered.field-0) n c.in_ok-new-in-Some-universe_numbered.field-0 refl ∙ ap (λ k. codes.Every n (code_of k)) c.in_ok-new-in-Some-universe_numbered.ensures.ok)
+    (every_form (code.Every n c.in_ok-test-in-Some-universe_numbered.test) n c.in_ok-test-in-Some-universe_numbered.test refl)
     (every_resolved spec a.checked.now.well_formed (names_of a.scope.now) c.in-Every.name.text c.in-Every.over.text _ n _ c.in-Some-universe_numbered.ensures.number
-    (slice_index_or (shape_of spec).universes n []) (slice_get-get_or (shape_of spec).universes n [] c.in-Some-universe_numbered.ensures.known) (subst (λ ns. IsResolved (program_of spec) (shape_of spec) ns (plain_term (term_of c.deref-in-Some-universe_numbered.result.now)) (code_of c.in_ok-test-in-Some-universe_numbered.test)) (names_within c.as_slice-in-Some-universe_numbered.result.now c.in_ok-inner-in-Some-universe_numbered.inner.items a.scope.now c.in-Every.name.text c.as_slice-in-Some-universe_numbered.ensures.value c.in_ok-inner-in-Some-universe_numbered.ensures) c.in_ok-test-in-Some-universe_numbered.ensures.resolved))
+    (slice_index_or (shape_of spec).universes n []) (slice_get-get_or (shape_of spec).universes n [] c.in-Some-universe_numbered.ensures.known) c.in_ok-test-in-Some-universe_numbered.ensures.resolved)
+
+-- ---- under one more name
+
+pub resolve_within-returns-clause-resolved : goal.resolve_within-returns-clause-resolved
+resolve_within-returns-clause-resolved t c =
+    let a = c.args in
+    let spec = spec_of a.checked.now.spec in
+    subst (λ k. IsResolved (program_of spec) (shape_of spec) (a.name.now.text ∷ names_of a.scope.now) (plain_term (term_of a.term.now)) (code_of k)) (sym c.in_ok-new.ensures.ok) c.in_ok-code.ensures.resolved
 
 -- ---- arguments
 
@@ -259,20 +269,20 @@ resolve_body-resolve-requires t c =
     let a = c.args in
     let stands = numbered_derived (spec_of a.checked.now.spec) (Some (number.Derived a.d)) a.d c.derived.result.0.now c.derived.result.1.now refl c.derived.ensures in
     let it = ap (λ it. body_weight (program a.checked.now) it []) stands in
-    let scope = ap (λ ns. term_weight (program a.checked.now) (bind_values ns []) c.derived.result.1.now) (parameter_names c.as_slice-2.result.now c.in_ok-scope.scope.items c.derived.result.0.now c.as_slice-2.ensures.value c.in_ok-scope.ensures) in
+    let scope = ap (λ ns. term_weight (program a.checked.now) (bind_values ns []) c.derived.result.1.now) (parameter_names (slots_in c.in_ok-parameters.parameters) c.derived.result.0.now c.in_ok-parameters.ensures) in
     (omega (arith, c.decreases, it, scope), c.requires.bodies)
 
 pub resolve_body-returns-clause-body : goal.resolve_body-returns-clause-body
 resolve_body-returns-clause-body t c =
     let a = c.args in
-    body_is (spec_of a.checked.now.spec) a.d c.derived.result.0.now c.derived.result.1.now c.derived.ensures c.as_slice-2.result.now c.in_ok-scope.scope.items c.as_slice-2.ensures.value c.in_ok-scope.ensures
+    body_is (spec_of a.checked.now.spec) a.d c.derived.result.0.now c.derived.result.1.now c.derived.ensures (slots_in c.in_ok-parameters.parameters) c.in_ok-parameters.ensures
     c.in_ok-code.code (arc_value c.in_ok-body-2.body) c.in_ok-body-2.ensures.ok c.in_ok-code.ensures.resolved
 
 pub resolve_body-returns-clause-bodies : goal.resolve_body-returns-clause-bodies
 resolve_body-returns-clause-bodies t c =
     let a = c.args in
     c.keep.ensures (spec_of a.checked.now.spec) c.in_ok-code.ensures.bodies
-    (body_is (spec_of a.checked.now.spec) a.d c.derived.result.0.now c.derived.result.1.now c.derived.ensures c.as_slice-2.result.now c.in_ok-scope.scope.items c.as_slice-2.ensures.value c.in_ok-scope.ensures
+    (body_is (spec_of a.checked.now.spec) a.d c.derived.result.0.now c.derived.result.1.now c.derived.ensures (slots_in c.in_ok-parameters.parameters) c.in_ok-parameters.ensures
     c.in_ok-code.code (arc_value c.in_ok-kept.kept) (c.in_ok-kept.ensures ∙ c.in_ok-body-2.ensures.ok) c.in_ok-code.ensures.resolved)
 
 -- ---- functions
@@ -351,7 +361,7 @@ resolve_name-returns-in-Some-clause-resolved t c =
     let a = c.args in
     let spec = spec_of a.checked.now.spec in
     as_resolved (program_of spec) (shape_of spec) (names_of a.scope.now) _ _ _ _ refl (local_form (code.Local c.in-Some.i) c.in-Some.i refl)
-    (local_resolved spec a.checked.now.well_formed (names_of a.scope.now) a.name.now.text (plain_terms (terms_of (map term_of a.arguments.now))) c.in-Some.i (sym c.position.ensures ∙ c.in-Some.is))
+    (local_resolved spec a.checked.now.well_formed (names_of a.scope.now) a.name.now.text (plain_terms (terms_of (map term_of a.arguments.now))) c.in-Some.i (sym c.in_ok-i.ensures ∙ c.in-Some.is))
 
 pub resolve_name-resolve_function-requires : goal.resolve_name-resolve_function-requires
 resolve_name-resolve_function-requires t c =
@@ -362,10 +372,10 @@ resolve_name-resolve_function-requires t c =
       (
         c.requires.bodies,
         (
-          sym c.position.ensures ∙ c.in_default.is,
+          sym c.in_ok-i.ensures ∙ c.in_default.is,
           (
-            sym is ∙ c.named.ensures.named,
-            function_below spec (shape_of spec) c.named.result c.in-Some-Function.f a.checked.now.well_formed refl c.named.ensures.in_range is,
+            sym is ∙ c.named_text.ensures.named,
+            function_below spec (shape_of spec) c.named_text.result c.in-Some-Function.f a.checked.now.well_formed refl c.named_text.ensures.in_range is,
           ),
         ),
       ),
@@ -373,12 +383,12 @@ resolve_name-resolve_function-requires t c =
 
 pub resolve_name-overflow_cast-e : goal.resolve_name-overflow_cast-e
 resolve_name-overflow_cast-e t c =
-    let low = element_below (spec_of c.args.checked.now.spec) c.named.result c.in-Some-Element.e c.args.checked.now.well_formed c.named.ensures.in_range (c.in-Some-Element.is ∙ ap Some c.in-Some-Element.field-0-is) in
+    let low = element_below (spec_of c.args.checked.now.spec) c.named_text.result c.in-Some-Element.e c.args.checked.now.well_formed c.named_text.ensures.in_range (c.in-Some-Element.is ∙ ap Some c.in-Some-Element.field-0-is) in
     omega (arith, low)
 
 pub resolve_name-invariant_of-of : goal.resolve_name-invariant_of-of
 resolve_name-invariant_of-of t c = record {
-  in_range = element_below (spec_of c.args.checked.now.spec) c.named.result c.in-Some-Element.e c.args.checked.now.well_formed c.named.ensures.in_range (c.in-Some-Element.is ∙ ap Some c.in-Some-Element.field-0-is);
+  in_range = element_below (spec_of c.args.checked.now.spec) c.named_text.result c.in-Some-Element.e c.args.checked.now.well_formed c.named_text.ensures.in_range (c.in-Some-Element.is ∙ ap Some c.in-Some-Element.field-0-is);
 }
 
 pub resolve_name-resolve_body-requires : goal.resolve_name-resolve_body-requires
@@ -387,8 +397,8 @@ resolve_name-resolve_body-requires t c =
     let spec = spec_of a.checked.now.spec in
     let is = c.in-Some-Derived.is ∙ ap Some c.in-Some-Derived.field-0-is in
     let it = body_lighter a.checked.now (scope_environment a.scope.now) a.name.now.text a.arguments.now (Some (number.Derived c.in-Some-Derived.d)) []
-    (scope_free (program a.checked.now) a.scope.now a.name.now.text (sym c.position.ensures ∙ c.in_default.is)) (sym is ∙ c.named.ensures.named) in
-    (omega (arith, c.decreases, it), (c.requires.bodies, subst (IsInRange spec) is c.named.ensures.in_range))
+    (scope_free (program a.checked.now) a.scope.now a.name.now.text (sym c.in_ok-i.ensures ∙ c.in_default.is)) (sym is ∙ c.named_text.ensures.named) in
+    (omega (arith, c.decreases, it), (c.requires.bodies, subst (IsInRange spec) is c.named_text.ensures.in_range))
 
 pub resolve_name-returns-in-Some-Element-clause-resolved : goal.resolve_name-returns-in-Some-Element-clause-resolved
 resolve_name-returns-in-Some-Element-clause-resolved t c =
@@ -397,7 +407,7 @@ resolve_name-returns-in-Some-Element-clause-resolved t c =
     let is = c.in-Some-Element.is ∙ ap Some c.in-Some-Element.field-0-is in
     as_resolved (program_of spec) (shape_of spec) (names_of a.scope.now) _ _ _ _ refl (constant_form (code.Constant c.of.result) c.of.result refl ∙ ap codes.Constant c.of.ensures)
     (constant_resolved spec a.checked.now.well_formed (names_of a.scope.now) a.name.now.text (plain_terms (terms_of (map term_of a.arguments.now))) (Some (number.Element c.in-Some-Element.e)) _
-    (sym c.position.ensures ∙ c.in_default.is) (sym is ∙ c.named.ensures.named) (λ A vs. value_laws.element_at c.in-Some-Element.e _ refl))
+    (sym c.in_ok-i.ensures ∙ c.in_default.is) (sym is ∙ c.named_text.ensures.named) (λ A vs. value_laws.element_at c.in-Some-Element.e _ refl))
 
 pub resolve_name-returns-in_ok-arguments-in-Some-Derived-clause-resolved : goal.resolve_name-returns-in_ok-arguments-in-Some-Derived-clause-resolved
 resolve_name-returns-in_ok-arguments-in-Some-Derived-clause-resolved t c =
@@ -409,8 +419,8 @@ resolve_name-returns-in_ok-arguments-in-Some-Derived-clause-resolved t c =
     let cs = c.in_ok-arguments-in-Some-Derived.arguments in
     if_ok c.make_derived.result (λ k. code_of k ≡ codes.Derived (code_of (arc_value b)) (codes_of (map code_of cs.items))) _
     (λ k form. as_resolved (program_of spec) (shape_of spec) (names_of a.scope.now) _ _ _ _ refl form
-    (derived_resolved spec a.checked.now.well_formed (names_of a.scope.now) a.name.now.text (plain_terms (terms_of (map term_of a.arguments.now))) c.in-Some-Derived.d (sym c.position.ensures ∙ c.in_default.is)
-    (sym is ∙ c.named.ensures.named) body.parameters body.body body.stands (code_of (arc_value b)) body.resolved (codes_of (map code_of cs.items)) c.in_ok-arguments-in-Some-Derived.ensures.resolved))
+    (derived_resolved spec a.checked.now.well_formed (names_of a.scope.now) a.name.now.text (plain_terms (terms_of (map term_of a.arguments.now))) c.in-Some-Derived.d (sym c.in_ok-i.ensures ∙ c.in_default.is)
+    (sym is ∙ c.named_text.ensures.named) body.parameters body.body body.stands (code_of (arc_value b)) body.resolved (codes_of (map code_of cs.items)) c.in_ok-arguments-in-Some-Derived.ensures.resolved))
     c.make_derived.ensures
 
 pub resolve_name-returns-in-Some-Universe-clause-resolved : goal.resolve_name-returns-in-Some-Universe-clause-resolved
@@ -419,8 +429,8 @@ resolve_name-returns-in-Some-Universe-clause-resolved t c =
     let spec = spec_of a.checked.now.spec in
     let is = c.in-Some-Universe.is ∙ ap Some c.in-Some-Universe.field-0-is in
     as_resolved (program_of spec) (shape_of spec) (names_of a.scope.now) _ _ _ _ refl (constant_form (code.Constant c.undef.result) c.undef.result refl ∙ ap codes.Constant c.undef.ensures)
-    (constant_resolved spec a.checked.now.well_formed (names_of a.scope.now) a.name.now.text (plain_terms (terms_of (map term_of a.arguments.now))) c.named.result Undef
-    (sym c.position.ensures ∙ c.in_default.is) c.named.ensures.named (λ A vs. universe_undef (program_of spec) A vs spec c.in-Some-Universe.field-0-0 ∙ ap (λ it. declared_value (program_of spec) A (numbered spec it) vs) (sym is)))
+    (constant_resolved spec a.checked.now.well_formed (names_of a.scope.now) a.name.now.text (plain_terms (terms_of (map term_of a.arguments.now))) c.named_text.result Undef
+    (sym c.in_ok-i.ensures ∙ c.in_default.is) c.named_text.ensures.named (λ A vs. universe_undef (program_of spec) A vs spec c.in-Some-Universe.field-0-0 ∙ ap (λ it. declared_value (program_of spec) A (numbered spec it) vs) (sym is)))
 
 pub resolve_name-returns-in-Some-Rule-clause-resolved : goal.resolve_name-returns-in-Some-Rule-clause-resolved
 resolve_name-returns-in-Some-Rule-clause-resolved t c =
@@ -428,8 +438,8 @@ resolve_name-returns-in-Some-Rule-clause-resolved t c =
     let spec = spec_of a.checked.now.spec in
     let is = c.in-Some-Rule.is ∙ ap Some c.in-Some-Rule.field-0-is in
     as_resolved (program_of spec) (shape_of spec) (names_of a.scope.now) _ _ _ _ refl (constant_form (code.Constant c.undef-in-Some-Rule.result) c.undef-in-Some-Rule.result refl ∙ ap codes.Constant c.undef-in-Some-Rule.ensures)
-    (constant_resolved spec a.checked.now.well_formed (names_of a.scope.now) a.name.now.text (plain_terms (terms_of (map term_of a.arguments.now))) c.named.result Undef
-    (sym c.position.ensures ∙ c.in_default.is) c.named.ensures.named (λ A vs. named_rule_undef (program_of spec) A vs spec c.in-Some-Rule.field-0-0 ∙ ap (λ it. declared_value (program_of spec) A (numbered spec it) vs) (sym is)))
+    (constant_resolved spec a.checked.now.well_formed (names_of a.scope.now) a.name.now.text (plain_terms (terms_of (map term_of a.arguments.now))) c.named_text.result Undef
+    (sym c.in_ok-i.ensures ∙ c.in_default.is) c.named_text.ensures.named (λ A vs. named_rule_undef (program_of spec) A vs spec c.in-Some-Rule.field-0-0 ∙ ap (λ it. declared_value (program_of spec) A (numbered spec it) vs) (sym is)))
 
 pub resolve_name-returns-in-None-clause-resolved : goal.resolve_name-returns-in-None-clause-resolved
 resolve_name-returns-in-None-clause-resolved t c =
@@ -437,5 +447,5 @@ resolve_name-returns-in-None-clause-resolved t c =
     let spec = spec_of a.checked.now.spec in
     let is = c.in-None.is in
     as_resolved (program_of spec) (shape_of spec) (names_of a.scope.now) _ _ _ _ refl (constant_form (code.Constant c.undef-in-None.result) c.undef-in-None.result refl ∙ ap codes.Constant c.undef-in-None.ensures)
-    (constant_resolved spec a.checked.now.well_formed (names_of a.scope.now) a.name.now.text (plain_terms (terms_of (map term_of a.arguments.now))) c.named.result Undef
-    (sym c.position.ensures ∙ c.in_default.is) c.named.ensures.named (λ A vs. ap (λ it. declared_value (program_of spec) A (numbered spec it) vs) (sym is)))
+    (constant_resolved spec a.checked.now.well_formed (names_of a.scope.now) a.name.now.text (plain_terms (terms_of (map term_of a.arguments.now))) c.named_text.result Undef
+    (sym c.in_ok-i.ensures ∙ c.in_default.is) c.named_text.ensures.named (λ A vs. ap (λ it. declared_value (program_of spec) A (numbered spec it) vs) (sym is)))

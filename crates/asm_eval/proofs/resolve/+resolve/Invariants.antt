@@ -1,10 +1,12 @@
 use Rattle.std.proofs.Common.{◌+◌, ◌*◌, [], map, take, Some}
+use Rattle.asm_state.specs.declared.value.Value.TheVariants.{Undef}
 use Rattle.asm_syntax.specs.Views.{spec_of, term_of, links_of}
 use Rattle.asm_syntax.specs.PlainTree.{plain_term, plain_links}
 use Rattle.asm_syntax.specs.Tree as tree
 use Rattle.asm_check.specs.Shapes.{shape_of}
 use Rattle.asm_check.specs.declared.checked.Named.TheVariants as number
 use Rattle.asm_meaning.specs.Declarations.{numbered, program_of}
+use Rattle.asm_meaning.specs.Program.{with_value}
 use Rattle.asm_meaning.specs.Valued.{program}
 use Rattle.asm_meaning.specs.Weights.{weight}
 use Rattle.asm_meaning.specs.TreeWeights.{term_weight, named_weight, body_weight, link_of}
@@ -15,6 +17,9 @@ use Rattle.asm_eval.proofs.resolve.+resolve.Given as goal
 
 abbrev pub decreases-resolve : goal.decreases-resolve
 decreases-resolve l = 4 * term_weight (program l.checked.now) (scope_environment l.scope.now) l.term.now + 3
+
+abbrev pub decreases-resolve_within : goal.decreases-resolve_within
+decreases-resolve_within l = 4 * term_weight (program l.checked.now) (with_value l.name.now.text Undef (scope_environment l.scope.now)) l.term.now + 4
 
 abbrev pub decreases-resolve_chain : goal.decreases-resolve_chain
 decreases-resolve_chain l = 4 * weight (program l.checked.now) (scope_environment l.scope.now) (tree.Chain (plain_term (term_of l.first.now)) (plain_links (links_of (map link_of l.rest.now)))) + 2

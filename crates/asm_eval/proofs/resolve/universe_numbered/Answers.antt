@@ -7,11 +7,11 @@ use Rattle.asm_eval.proofs.resolve.universe_numbered.Goals as goal
 pub returns-in-Some : goal.returns-in-Some
 returns-in-Some c =
     let number = sym c.number_of_universe.ensures ∙ c.in-Some.is in record {
-      number = ap universe_number (sym c.named.ensures.named) ∙ number;
-      known = universe_numbered (spec_of c.args.checked.now.spec) c.named.result c.in-Some.n c.args.checked.now.well_formed c.named.ensures.in_range number;
+      number = ap universe_number (sym c.named_text.ensures.named) ∙ number;
+      known = universe_numbered (spec_of c.args.checked.now.spec) c.named_text.result c.in-Some.n c.args.checked.now.well_formed c.named_text.ensures.in_range number;
       none = tt;
     }
 
 pub returns-in-None-clause-none : goal.returns-in-None-clause-none
 returns-in-None-clause-none c =
-    no_universe (spec_of c.args.checked.now.spec) c.args.name.now.text (ap universe_number (sym c.named.ensures.named) ∙ sym c.number_of_universe.ensures ∙ c.in-None.is)
+    no_universe (spec_of c.args.checked.now.spec) c.args.name.now.text (ap universe_number (sym c.named_text.ensures.named) ∙ sym c.number_of_universe.ensures ∙ c.in-None.is)

@@ -1,4 +1,4 @@
-use Rattle.std.proofs.Common.{◌+◌, length, take, None, sym, ap, subst, ◌∙◌, arith}
+use Rattle.std.proofs.Common.{◌+◌, ◌∷◌, length, take, None, refl, sym, ap, subst, ◌∙◌, arith}
 use Rattle.std.specs.Arc.{arc_value}
 use Rattle.std.proofs.lemmas.List.{take_all}
 use Rattle.asm_syntax.specs.Tree as plain
@@ -13,8 +13,8 @@ use Rattle.asm_meaning.proofs.TreeWeights.{tree_weights-call as call_is_less}
 use Rattle.std.specs.Prelude.{Option, IfSome}
 use Rattle.asm_eval.specs.RuleScopes.{AreRuleBodies, IsRuleBody}
 use Rattle.asm_eval.specs.RuleViews.{rule_of}
-use Rattle.asm_eval.specs.Scopes.{slots_of}
-use Rattle.asm_eval.proofs.ScopeLaws.{slots_within}
+use Rattle.asm_eval.specs.Scopes.{slots_in, slots_of}
+use Rattle.asm_eval.specs.Slots.{value_slot}
 use Rattle.asm_eval.proofs.RulePasses.{moved, skip_here, par_here, seq_here, if_here, let_here, forall_here, forall_none_here, choose_here, choose_none_here, iterate_here, while_here, if_yes_falls, if_no_falls, let_falls, forall_falls, choose_both_fall, iterate_falls, while_falls, par_falls, seq_falls, call_falls, other_falls, part_falls, called_here, not_called_here, rule_is, body_here, left_out_here}
 use Rattle.asm_eval.proofs.RuleResolving.{AllRulesResolved, one_more_rule, plain_assign, plain_set_result, plain_call, plain_forall, plain_choose, plain_while}
 use Rattle.asm_eval.proofs.resolve_rule.+resolve_rule.Goals as goal
@@ -97,7 +97,7 @@ resolve_rule-returns-in_ok-body-in-Let-clause-resolved t c =
     let a = c.args in
     let r = c.in-Let in
     let_here (spec_of a.checked.now.spec) a.checked.now.well_formed (slots_of a.scope.now) a.rule.now r.name r.value r.body r.is c.deref-in-Let.result.now c.deref-in-Let.ensures
-    c.in_ok-value-in-Let.value c.in_ok-value-in-Let.ensures.resolved (slots_of c.as_slice-in-Let.result.now) (slots_within c.as_slice-in-Let.result.now c.in_ok-inner-in-Let.inner.items a.scope.now r.name.text c.as_slice-in-Let.ensures.value c.in_ok-inner-in-Let.ensures)
+    c.in_ok-value-in-Let.value c.in_ok-value-in-Let.ensures.resolved (value_slot r.name.text ∷ slots_of a.scope.now) refl
     c.in_ok-body-in-Let.body c.in_ok-body-in-Let.ensures.resolved
 
 pub resolve_rule-resolve_boxed-requires-in-Iterate : goal.resolve_rule-resolve_boxed-requires-in-Iterate
@@ -170,7 +170,7 @@ pub resolve_forall-returns-clause-resolved : goal.resolve_forall-returns-clause-
 resolve_forall-returns-clause-resolved t c =
     let a = c.args in
     forall_here (spec_of a.checked.now.spec) a.checked.now.well_formed (slots_of a.scope.now) a.name.now.text a.over.now.text a.test.now a.body.now c.in-Some.over c.in-Some.ensures.number c.in-Some.ensures.known
-    (slots_of c.as_slice-inner.result.now) (slots_within c.as_slice-inner.result.now c.in_ok-names.names.items a.scope.now a.name.now.text c.as_slice-inner.ensures.value c.in_ok-names.ensures)
+    (value_slot a.name.now.text ∷ slots_of a.scope.now) refl
     c.in_ok-test.test c.in_ok-test.ensures.resolved c.in_ok-body.body c.in_ok-body.ensures.resolved
 
 pub resolve_choose-resolve_other-requires : goal.resolve_choose-resolve_other-requires
@@ -190,7 +190,7 @@ resolve_choose-returns-clause-resolved t c =
     let a = c.args in
     choose_here (spec_of a.checked.now.spec) a.checked.now.well_formed (slots_of a.scope.now) a.name.now.text a.over.now.text a.test.now a.body.now a.none.now c.in_ok-none.none c.in_ok-none.ensures.resolved c.in_ok-new-3.field-0 c.in_ok-new-3.ensures.ok
     c.in-Some.over c.in-Some.ensures.number c.in-Some.ensures.known
-    (slots_of c.as_slice-inner.result.now) (slots_within c.as_slice-inner.result.now c.in_ok-names.names.items a.scope.now a.name.now.text c.as_slice-inner.ensures.value c.in_ok-names.ensures)
+    (value_slot a.name.now.text ∷ slots_of a.scope.now) refl
     c.in_ok-test.test c.in_ok-test.ensures.resolved c.in_ok-body.body c.in_ok-body.ensures.resolved
 
 pub resolve_while-resolve_boxed-requires : goal.resolve_while-resolve_boxed-requires
@@ -251,8 +251,8 @@ resolve_parts-returns-clause-resolved t c =
 pub resolve_call-resolve_rule_body-requires : goal.resolve_call-resolve_rule_body-requires
 resolve_call-resolve_rule_body-requires t c =
     let spec = spec_of c.args.checked.now.spec in
-    let is = rule_is c.named.result c.in-Some.r (sym c.number_of_rule.ensures ∙ c.in-Some.is) in
-    (omega (arith, c.decreases), (c.in_ok-answer.ensures.known, (sym c.named.ensures.named ∙ is, subst (IsInRange spec) is c.named.ensures.in_range)))
+    let is = rule_is c.named_text.result c.in-Some.r (sym c.number_of_rule.ensures ∙ c.in-Some.is) in
+    (omega (arith, c.decreases), (c.in_ok-answer.ensures.known, (sym c.named_text.ensures.named ∙ is, subst (IsInRange spec) is c.named_text.ensures.in_range)))
 
 pub resolve_rule_body-resolve_rule-requires : goal.resolve_rule_body-resolve_rule-requires
 resolve_rule_body-resolve_rule-requires t c =
@@ -270,7 +270,7 @@ pub resolve_rule_body-returns-clause-body : goal.resolve_rule_body-returns-claus
 resolve_rule_body-returns-clause-body t c =
     let a = c.args in
     body_here (spec_of a.checked.now.spec) a.r a.bound a.answers c.rule.result.0.now c.rule.result.1.now c.rule.ensures c.first_of.result.now c.first_of.ensures
-    (slots_of c.as_slice-2.result.now) (ap slots_of c.as_slice-2.ensures.value ∙ c.in_ok-scope.ensures) c.in_ok-code.code (arc_value c.in_ok-body-2.body) c.in_ok-body-2.ensures.ok c.in_ok-code.ensures.resolved
+    (slots_in c.in_ok-parameters.parameters) c.in_ok-parameters.ensures c.in_ok-code.code (arc_value c.in_ok-body-2.body) c.in_ok-body-2.ensures.ok c.in_ok-code.ensures.resolved
 
 pub resolve_rule_body-returns-clause-known : goal.resolve_rule_body-returns-clause-known
 resolve_rule_body-returns-clause-known t c =
@@ -279,7 +279,7 @@ resolve_rule_body-returns-clause-known t c =
       c.in_ok-code.ensures.known.0,
       c.in_ok-keep_rule.ensures spec c.in_ok-code.ensures.known.1
           (body_here spec a.r a.bound a.answers c.rule.result.0.now c.rule.result.1.now c.rule.ensures c.first_of.result.now c.first_of.ensures
-          (slots_of c.as_slice-2.result.now) (ap slots_of c.as_slice-2.ensures.value ∙ c.in_ok-scope.ensures)
+          (slots_in c.in_ok-parameters.parameters) c.in_ok-parameters.ensures
           c.in_ok-code.code (arc_value c.in_ok-shared_rule.field-0) (c.in_ok-shared_rule.ensures ∙ c.in_ok-body-2.ensures.ok) c.in_ok-code.ensures.resolved),
     )
 
@@ -288,7 +288,7 @@ resolve_call-returns-clause-resolved t c =
     let a = c.args in
     let spec = spec_of a.checked.now.spec in
     called_here spec a.checked.now.well_formed (slots_of a.scope.now) (meant_target a.target.now) a.name.now.text c.in-Some.r c.min-bound.result c.in_ok-answer.answer
-    (ap rule_number (sym c.named.ensures.named) ∙ sym c.number_of_rule.ensures ∙ c.in-Some.is) c.in_ok-body.body
+    (ap rule_number (sym c.named_text.ensures.named) ∙ sym c.number_of_rule.ensures ∙ c.in-Some.is) c.in_ok-body.body
     (subst (λ b. IsRuleBody spec c.in-Some.r b c.min-bound.result (rule_of (arc_value c.in_ok-body.body))) c.is_some.ensures c.in_ok-body.ensures.body)
     c.in_ok-answer.ensures.resolved a.arguments.now c.in_ok-arguments.arguments c.in_ok-arguments.ensures.resolved c.rule.result.0.now c.rule.result.1.now c.rule.ensures c.min-bound.ensures
 
@@ -296,7 +296,7 @@ pub resolve_call-returns-in_default-clause-resolved : goal.resolve_call-returns-
 resolve_call-returns-in_default-clause-resolved t c =
     let a = c.args in
     not_called_here (spec_of a.checked.now.spec) a.checked.now.well_formed (slots_of a.scope.now) (meant_target a.target.now) a.name.now.text a.arguments.now
-    (ap rule_number (sym c.named.ensures.named) ∙ sym c.number_of_rule.ensures ∙ c.in_default.is)
+    (ap rule_number (sym c.named_text.ensures.named) ∙ sym c.number_of_rule.ensures ∙ c.in_default.is)
 
 pub resolve_other-returns-in-None-clause-resolved : goal.resolve_other-returns-in-None-clause-resolved
 resolve_other-returns-in-None-clause-resolved t c =

@@ -1,6 +1,10 @@
-use Rattle.std.proofs.Common.{◌∙◌}
-use Rattle.asm_eval.proofs.ScopeLaws.{position_among}
+use Rattle.std.proofs.Common.{sym, ap, ◌∙◌}
+use Rattle.asm_eval.specs.Scopes.{slots_of}
+use Rattle.asm_eval.proofs.FoundNames.{position_found, positions_found}
 use Rattle.asm_eval.proofs.scope.position.Goals as goal
 
-pub returns : goal.returns
-returns c = c.index_of.ensures ∙ position_among c.args.scope.now c.args.name.now.text
+pub returns-in-None : goal.returns-in-None
+returns-in-None c = ap position_found (sym c.in-None.is ∙ c.in_ok-find.ensures) ∙ positions_found (slots_of c.args.scope.now) c.args.name.now.text
+
+pub returns-in-Some : goal.returns-in-Some
+returns-in-Some c = ap position_found (sym c.in-Some.is ∙ c.in_ok-find.ensures) ∙ positions_found (slots_of c.args.scope.now) c.args.name.now.text

@@ -1,5 +1,6 @@
 use Rattle.std.proofs.Common.{◌≡◌, ◌||◌, ◌≤◌, ◌<◌, ◌&&◌, List, [], length, map, Some, refl, sym, ap, subst, ◌∙◌, arith}
 use Rattle.asm_meaning.specs.Value as spec
+use Rattle.asm_state.specs.Operation.{op}
 use Rattle.asm_state.specs.declared.operation.Op.{Op}
 use Rattle.asm_state.specs.declared.operation.Op.TheVariants.{Add, Remainder, Equal}
 use Rattle.asm_state.specs.declared.value.Value.TheVariants.{Number}
@@ -97,6 +98,20 @@ both-returns t c =
     let a = c.args in
     both_is a.view.now.signature.now (readings_of a.view.now.signature.now a.frame.now) (shown a.view.now) a.operation (code_of a.left.now) (code_of a.right.now) c.operand-a.result c.operand-b.result c.applied.result
     c.operand-a.ensures c.operand-b.ensures c.applied.ensures
+
+pub compared_with-returns : goal.compared_with-returns
+compared_with-returns t c =
+    let a = c.args in
+    c.is_so.ensures
+    ∙ ap spec.is_true (with_is a.view.now.signature.now (readings_of a.view.now.signature.now a.frame.now) (shown a.view.now) a.operation (code_of a.left.now) a.right c.operand-left.result
+    (op a.operation c.operand-left.result a.right) c.operand-left.ensures refl)
+
+pub compared-returns : goal.compared-returns
+compared-returns t c =
+    let a = c.args in
+    c.is_so.ensures
+    ∙ ap spec.is_true (both_is a.view.now.signature.now (readings_of a.view.now.signature.now a.frame.now) (shown a.view.now) a.operation (code_of a.left.now) (code_of a.right.now) c.operand-a.result c.operand-b.result
+    (op a.operation c.operand-a.result c.operand-b.result) c.operand-a.ensures c.operand-b.ensures refl)
 
 pub row_value-returns : goal.row_value-returns
 row_value-returns t c =

@@ -71,6 +71,12 @@ decreases-holds l = 8 * (size (code_of l.code.now) + load l.frame.now) + 5
 abbrev pub decreases-with_holds : goal.decreases-with_holds
 decreases-with_holds l = 8 * (size (code_of l.left.now) + load l.frame.now) + 7
 
+abbrev pub decreases-compared_with : goal.decreases-compared_with
+decreases-compared_with l = 8 * (size (code_of l.left.now) + load l.frame.now) + 3
+
+abbrev pub decreases-compared : goal.decreases-compared
+decreases-compared l = 8 * (size (code_of l.left.now) + size (code_of l.right.now) + load l.frame.now) + 3
+
 abbrev pub decreases-fails : goal.decreases-fails
 decreases-fails l = 8 * (size (code_of l.code.now) + load l.frame.now) + 5
 

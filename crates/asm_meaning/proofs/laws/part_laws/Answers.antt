@@ -1,4 +1,4 @@
-use Rattle.asm_meaning.proofs.Sequences.{part_laws-good_part, part_laws-faulty_part, part_laws-exhausted_part, part_laws-good_turn, part_laws-last_turn, part_laws-exhausted_turn, part_laws-no_fault, part_laws-fault}
+use Rattle.asm_meaning.proofs.Sequences.{part_laws-good_part, part_laws-faulty_part, part_laws-exhausted_part, part_laws-good_turn, part_laws-last_turn, part_laws-exhausted_turn, part_laws-consistent_part, part_laws-ending_part, part_laws-some_turn, part_laws-consistent_turn, part_laws-ending_turn}
 use Rattle.asm_meaning.proofs.laws.part_laws.Goals as goal
 
 pub returns-clause-good_part : goal.returns-clause-good_part
@@ -19,8 +19,17 @@ returns-clause-last_turn c = part_laws-last_turn
 pub returns-clause-exhausted_turn : goal.returns-clause-exhausted_turn
 returns-clause-exhausted_turn c = part_laws-exhausted_turn
 
-pub returns-clause-no_fault : goal.returns-clause-no_fault
-returns-clause-no_fault c = part_laws-no_fault
+pub returns-clause-consistent_part : goal.returns-clause-consistent_part
+returns-clause-consistent_part c = part_laws-consistent_part
 
-pub returns-clause-fault : goal.returns-clause-fault
-returns-clause-fault c = part_laws-fault
+pub returns-clause-ending_part : goal.returns-clause-ending_part
+returns-clause-ending_part c = part_laws-ending_part
+
+pub returns-clause-some_turn : goal.returns-clause-some_turn
+returns-clause-some_turn c = part_laws-some_turn
+
+pub returns-clause-consistent_turn : goal.returns-clause-consistent_turn
+returns-clause-consistent_turn c = part_laws-consistent_turn
+
+pub returns-clause-ending_turn : goal.returns-clause-ending_turn
+returns-clause-ending_turn c = part_laws-ending_turn

@@ -1,4 +1,4 @@
-use Rattle.asm_meaning.proofs.Sequences.{sequence_laws-begins, sequence_laws-goes_upon, sequence_laws-goes_on, sequence_laws-ends, sequence_laws-ends_with, sequence_laws-ends_at}
+use Rattle.asm_meaning.proofs.Sequences.{sequence_laws-begins, sequence_laws-goes_upon, sequence_laws-goes_by, sequence_laws-goes_on, sequence_laws-ends, sequence_laws-ends_with, sequence_laws-ends_at}
 use Rattle.asm_meaning.proofs.laws.sequence_laws.Goals as goal
 
 pub returns-clause-begins : goal.returns-clause-begins
@@ -6,6 +6,9 @@ returns-clause-begins c at = sequence_laws-begins
 
 pub returns-clause-goes_upon : goal.returns-clause-goes_upon
 returns-clause-goes_upon c at = sequence_laws-goes_upon
+
+pub returns-clause-goes_by : goal.returns-clause-goes_by
+returns-clause-goes_by c at = sequence_laws-goes_by
 
 pub returns-clause-goes_on : goal.returns-clause-goes_on
 returns-clause-goes_on c at = sequence_laws-goes_on

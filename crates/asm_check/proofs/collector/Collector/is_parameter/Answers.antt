@@ -1,7 +1,7 @@
 use Rattle.std.proofs.Common.{ap, ◌∙◌}
 use Rattle.std.specs.List.{list_any}
-use Rattle.asm_check.specs.Positions.{is_key}
-use Rattle.asm_check.proofs.Positioned.{has_text}
+use Rattle.asm_check.specs.Keys.{is_key}
+use Rattle.asm_check.proofs.Spelled.{has_text}
 use Rattle.asm_check.proofs.collector.Collector.is_parameter.Goals as goal
 
 pub returns : goal.returns

@@ -1,0 +1,24 @@
+use Rattle.std.proofs.Common.{refl, subst, sym}
+use Rattle.std.proofs.lemmas.Result.{IfOk-weaker}
+use Rattle.asm_meaning.specs.Valued.{shown}
+use Rattle.asm_eval.specs.Frames.{readings_of}
+use Rattle.asm_eval.specs.Running.{places_of}
+use Rattle.asm_eval.specs.Singles.{IsSingle}
+use Rattle.asm_eval.proofs.RuleForms.{skip_yields, assign_yields}
+use Rattle.asm_eval.proofs.single.update_alone.Goals as goal
+
+pub returns-in-Skip : goal.returns-in-Skip
+returns-in-Skip c turns chosen p =
+    let a = c.args in
+    let shape = a.view.now.signature.now in
+    sym (skip_yields shape turns chosen (readings_of shape a.frame.now) (places_of shape a.frame.now) (shown a.view.now) p a.rule.now c.in-Skip.is)
+
+pub returns-in-Assign : goal.returns-in-Assign
+returns-in-Assign c =
+    let a = c.args in
+    let shape = a.view.now.signature.now in
+    IfOk-weaker c.update_at.result _ _
+    (λ is single turns chosen p. subst (IsSingle shape is)
+    (assign_yields shape turns chosen (readings_of shape a.frame.now) (places_of shape a.frame.now) (shown a.view.now) p a.rule.now c.in-Assign.place c.in-Assign.value c.in-Assign.is _ _ refl refl)
+    single)
+    c.update_at.ensures
