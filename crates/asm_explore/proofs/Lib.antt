@@ -1,0 +1,14 @@
+pub mod ListLemmas
+pub mod Sequenced
+pub mod Layers
+pub mod SameSets
+pub mod Reaching
+pub mod Chains
+pub mod Taken
+pub mod Endings
+pub mod MarkedSets
+pub mod CodeLists
+pub mod CodeRules
+pub mod Yielded
+pub mod Choosing
+pub mod Specifications
