@@ -1,4 +1,7 @@
 pub mod ListLemmas
+pub mod Growing
+pub mod ReadBack
+pub mod LeftOut
 pub mod Sequenced
 pub mod Layers
 pub mod SameSets

@@ -1,5 +1,6 @@
 pub mod Marks
 pub mod Lists
+pub mod Written
 pub mod Explored
 pub mod Crowds
 pub mod Sequences
