@@ -2,6 +2,7 @@ pub mod ListLemmas
 pub mod Growing
 pub mod ReadBack
 pub mod LeftOut
+pub mod Backwards
 pub mod Sequenced
 pub mod Layers
 pub mod SameSets

@@ -1,94 +1,66 @@
 //! The script that leads to a bad step: its text, and whether it makes the choices.
-ghost use Rattle.std.specs.Prelude.{◌≡◌, ◌<◌, suc, Some, length, slice_get, IsTrue, IfOk, IfSome};
+ghost use Rattle.std.specs.Prelude.{◌≡◌, ◌++◌, ◌<◌, suc, Some, length, reverse, slice_get, IsTrue, IfErr, IfOk, IfSome, OnOk};
 ghost use Rattle.std.specs.String.{string_bytes};
+ghost use Rattle.asm_reader.specs.ExactLines.{exactly};
 ghost use Rattle.asm_reader.specs.ScriptLines.{Script as Lines};
 ghost use Rattle.asm_reader.specs.ScriptText.{IsScript};
+ghost use Rattle.asm_meaning.specs.Scripts.{IsUnrepeated};
 ghost use Rattle.asm_explore.specs.declared.node.Node.{Node};
 ghost use Rattle.asm_explore.specs.Lists.{AreTaken};
 ghost use Rattle.asm_explore.specs.Reached.{TakesTo, TakesBad};
+ghost use Rattle.asm_explore.specs.ScriptTo.{lines_for, lines_with, needed};
+ghost use Rattle.asm_explore.specs.Written.{IsTextRefusal, lines_said, lines_text, numbers_in};
 
 use crate::explored::Bad;
 use crate::found::Choice;
 use crate::node::Node;
+use crate::script_line::{ScriptLine, Zeros};
+use crate::writing::script_text;
+use crate::writing_error::WritingError;
 use asm_reader::{Picks, Script, read_script};
 use asm_syntax::Refused;
 use std::alloc::{AllocError, Global};
 
-/// Adds a path as scripts have it: a `-`, or numbers with a dot between each two.
-fn add_path(alloc: Global, text: &mut String, path: &[u64]) -> Result<(), AllocError> {
-    for i in 0..path.len() {
-        let number = path[i];
-        let shown = if i == 0 {
-            format!(in alloc; "{number}")?
-        } else {
-            format!(in alloc; ".{number}")?
-        };
-        text.push_str(&shown)?;
-    }
-    if path.len() == 0 {
-        text.push_str("-")?;
-    }
-    Ok(())
-}
-
-/// Adds a line for each choice, but for those of the first candidate, which is taken without a line.
-fn add_lines(
-    alloc: Global,
-    text: &mut String,
+/// Adds a line for each choice of a step, the last first.
+fn add_lines<'a>(
+    lines: &mut Vec<ScriptLine<'a>>,
     step: u64,
-    choices: &[Choice],
-) -> Result<(), AllocError> {
-    for i in 0..choices.len() {
-        let choice = &choices[i];
-        if choice.number > 0 {
-            let number = choice.number;
-            let front = format!(in alloc; "{step} ")?;
-            let back = format!(in alloc; " {number}\n")?;
-            text.push_str(&front)?;
-            add_path(alloc, text, choice.path.as_slice())?;
-            text.push_str(&back)?;
-        }
+    choices: &'a [Choice],
+) -> Result<(), AllocError>
+    ensures { OnOk result (lines_said lines.new.items ≡ lines_said lines.old.items ++ reverse (lines_for step choices.now)) }
+{
+    for k in 0..choices.len() {
+        let choice = &choices[choices.len() - 1 - k];
+        lines.push(ScriptLine {
+            step,
+            path: choice.path.as_slice(),
+            number: choice.number,
+        })?;
     }
     Ok(())
 }
 
-/// The nodes that lead to one, from it on, without the first node.
-fn leading(alloc: Global, nodes: &[Node], last: usize) -> Result<Vec<usize>, AllocError> {
-    let mut found = Vec::new(alloc);
-    let mut at = last;
-    for _ in 0..nodes.len() {
-        if at >= nodes.len() {
-            return Ok(found);
-        }
+/// A line for each choice of the steps that lead to a bad step, and of its own.
+fn lines_with<'a>(
+    alloc: Global,
+    nodes: &'a [Node],
+    bad: &'a Bad,
+) -> Result<Vec<ScriptLine<'a>>, AllocError>
+    requires { bad.now.from < length nodes.now }
+    ensures { IfOk result (λ lines. (n : Node) → slice_get nodes.now bad.now.from ≡ Some n → lines_said lines.items ≡ lines_with nodes.now n bad.now) }
+{
+    let mut lines = Vec::new(alloc);
+    let mut at = bad.from;
+    let mut step = nodes[at].depth;
+    add_lines(&mut lines, u64::from(step) + 1, bad.choices.as_slice())?;
+    while step > 0 && at < nodes.len() {
         let node = &nodes[at];
-        if node.depth == 0 {
-            return Ok(found);
-        }
-        found.push(at)?;
+        add_lines(&mut lines, u64::from(step), node.choices.as_slice())?;
         at = node.from;
+        step -= 1;
     }
-    Ok(found)
-}
-
-/// The lines for the choices of the steps that lead to a bad step, and for its own.
-fn lines(alloc: Global, nodes: &[Node], bad: &Bad) -> Result<String, AllocError> {
-    let mut text = String::new(alloc);
-    let found = leading(alloc, nodes, bad.from)?;
-    for k in 0..found.len() {
-        let at = found[found.len() - 1 - k];
-        if at < nodes.len() {
-            let node = &nodes[at];
-            add_lines(
-                alloc,
-                &mut text,
-                u64::from(node.depth),
-                node.choices.as_slice(),
-            )?;
-        }
-    }
-    let step = found.len() as u64 + 1;
-    add_lines(alloc, &mut text, step, bad.choices.as_slice())?;
-    Ok(text)
+    lines.reverse();
+    Ok(lines)
 }
 
 /// Whether the script makes these choices in this step.
@@ -145,15 +117,15 @@ fn takes_bad(script: &Script, nodes: &[Node], bad: &Bad) -> bool
     takes(script, step, bad.choices.as_slice())
 }
 
-/// The text of a script that makes the choices that lead to the bad step, and its own: what was written is read, and looked at.
-pub(crate) fn script_to(
+/// The text, if it is a script that makes the choices that lead to the bad step, and its own.
+fn read_back(
     alloc: Global,
+    text: String,
     nodes: &[Node],
     bad: &Bad,
 ) -> Result<Option<String>, AllocError>
     ensures { IfOk result (λ found. IfSome found (λ text. (script : Lines) × IsScript (string_bytes text) script × ((n : Node) → slice_get nodes.now bad.now.from ≡ Some n → TakesBad nodes.now script n bad.now))) }
 {
-    let text = lines(alloc, nodes, bad)?;
     match read_script(alloc, text.as_bytes()) {
         Ok(script) => {
             if takes_bad(&script, nodes, bad) {
@@ -162,6 +134,37 @@ pub(crate) fn script_to(
                 Ok(None)
             }
         }
+        Err(Refused::Memory) => Err(AllocError),
+        Err(Refused::Named(_)) => Ok(None),
+    }
+}
+
+/// The text of the lines for the choices of the steps that lead to a bad step, and for its own, but
+/// for those of first candidates.
+fn text_to(alloc: Global, nodes: &[Node], bad: &Bad) -> Result<String, Refused<WritingError>>
+    requires { bad.now.from < length nodes.now }
+    ensures script { (n : Node) → slice_get nodes.now bad.now.from ≡ Some n → IsUnrepeated (exactly (lines_with nodes.now n bad.now)) →
+        IfOk result (λ text. IsScript (string_bytes text) (exactly (needed (lines_with nodes.now n bad.now)))) }
+    ensures refused { (n : Node) → slice_get nodes.now bad.now.from ≡ Some n → let lines = needed (lines_with nodes.now n bad.now) in
+        IfErr result (IsTextRefusal (numbers_in lines) (lines_text lines)) }
+{
+    let lines = lines_with(alloc, nodes, bad)?;
+    script_text(alloc, lines.as_slice(), Zeros::LeftOut)
+}
+
+/// The text of a script that makes the choices that lead to the bad step, and its own: what was written is read, and looked at.
+pub(crate) fn script_to(
+    alloc: Global,
+    nodes: &[Node],
+    bad: &Bad,
+) -> Result<Option<String>, AllocError>
+    ensures { IfOk result (λ found. IfSome found (λ text. (script : Lines) × IsScript (string_bytes text) script × ((n : Node) → slice_get nodes.now bad.now.from ≡ Some n → TakesBad nodes.now script n bad.now))) }
+{
+    if bad.from >= nodes.len() {
+        return Ok(None);
+    }
+    match text_to(alloc, nodes, bad) {
+        Ok(text) => read_back(alloc, text, nodes, bad),
         Err(Refused::Memory) => Err(AllocError),
         Err(Refused::Named(_)) => Ok(None),
     }

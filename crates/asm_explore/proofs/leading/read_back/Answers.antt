@@ -1,6 +1,6 @@
 use Rattle.std.proofs.Common.{subst}
 use Rattle.asm_reader.specs.ScriptText.{IsScript}
-use Rattle.asm_explore.proofs.leading.script_to.Goals as goal
+use Rattle.asm_explore.proofs.leading.read_back.Goals as goal
 
 pub returns-then-takes_bad : goal.returns-then-takes_bad
 returns-then-takes_bad c =
