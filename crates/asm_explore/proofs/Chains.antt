@@ -1,0 +1,133 @@
+-- Runs along the nodes that lead to one.
+--     comes_on        a run that comes to a state goes on from there
+--     bad_runs        each script that makes the choices of the steps that lead to a bad step has a run that goes wrong there
+use Rattle.std.proofs.Common.{◌≡◌, ℕ, zero, suc, ◌+◌, Bool, true, false, cond, List, [], ◌∷◌, inl, inr, refl, sym, ap, subst, ◌∙◌, arith}
+use Rattle.std.specs.Prelude.{slice_get, Some}
+use Rattle.asm_state.specs.Location.{State}
+use Rattle.asm_state.specs.Signature.{Shape}
+use Rattle.asm_state.specs.Updates.{UpdateSet, IsConsistent, is_consistent, fire}
+use Rattle.asm_state.proofs.Updates.{test_laws}
+use Rattle.asm_reader.specs.ScriptLines.{Script}
+use Rattle.asm_meaning.specs.Does.{Outcome, does}
+use Rattle.asm_meaning.specs.Program.{nothing_bound}
+use Rattle.asm_meaning.specs.Run.{Run, AtLimit, AtFault, AtExhausted, Specification, run, run_from, step_and, fired, ended}
+use Rattle.asm_meaning.specs.Yields.{Path, Result, Gives, Exhausted}
+use Rattle.asm_explore.specs.declared.explored.Bad.{Bad}
+use Rattle.asm_explore.specs.declared.fault.Fault.{Fault}
+use Rattle.asm_explore.specs.declared.fault.Fault.TheVariants as fault
+use Rattle.asm_explore.specs.declared.node.Node.{Node}
+use Rattle.asm_explore.specs.Lists.{Situation, Each}
+use Rattle.asm_explore.specs.Reached.{steps_from, state_at, GoesWrong, TakesTo, GoesWrongSo, IsLinked, IsBad}
+use Rattle.asm_explore.specs.Search.{LeadsOn, EndsSo}
+
+record Same (r q : Run) : Type 0 where
+  end : r.end ≡ q.end
+  last : r.last ≡ q.last
+
+ends_same : (right : State → Bool) (f : Fault) (step : ℕ) (r q : Run) → Same r q → EndsSo right f step q → EndsSo right f step r
+ends_same right fault.Exhausted step r q same h = (h.0, same.end ∙ h.1)
+ends_same right fault.Inconsistent step r q same h = (h.0, same.end ∙ h.1, h.2)
+ends_same right fault.Wrong step r q same h = (same.end ∙ h.0, ap right same.last ∙ h.1)
+
+inconsistent : (U : UpdateSet) → ¬ (IsConsistent U) → (b : Bool) → is_consistent U ≡ b → is_consistent U ≡ false
+inconsistent U faulty true is = absurd (faulty ((test_laws.consistency U).0 is))
+inconsistent U faulty false is = is
+
+each_there : {X : Type 0} (P : X → Type 0) (xs : List X) (i : ℕ) (x : X) → Each P xs → slice_get xs i ≡ Some x → P x
+each_there P [] i x h there = cc
+each_there P (y ∷ ys) zero x h there = subst P (cc) h.0
+each_there P (y ∷ ys) (suc i) x h there = each_there P ys i x h.1 there
+
+module _ (specification : Specification) (turns : ℕ) (right : State → Bool) (script : Script) where
+  abbrev runs : ℕ → ℕ → State → Run
+  runs n i A = run_from specification.program turns specification.main script n i A
+
+  abbrev step_at : ℕ → Situation
+  step_at i = record { script = script; step = i }
+
+  -- so many steps from the first state lead to a state
+  abbrev ComesTo : ℕ → State → Type 0
+  ComesTo zero B = B ≡ specification.initial
+  ComesTo (suc d) B = (C : State) × ComesTo d C × LeadsOn (steps_from specification turns C (step_at (suc d))) C (λ D. D ≡ B)
+
+  -- a step with a consistent set, and a run after it
+  step_same : (r : Result) (m i : ℕ) (A : State) (U : UpdateSet) (rest : UpdateSet → Run) (q : Run) → r ≡ Gives U → IsConsistent U → Same (rest U) q
+      → Same (step_and specification.program turns specification.main r m i A rest) q
+  step_same r m i A U rest q is consistent same =
+      subst (λ x. Same (step_and specification.program turns specification.main x m i A rest) q) (sym is)
+      (subst (λ b. Same (cond b (fired U m (rest U)) (ended (AtFault i U) A)) q) (sym ((test_laws.consistency U).1 consistent))
+      (record { end = same.end; last = same.last }))
+
+  step_on : (k i : ℕ) (A B : State) → LeadsOn (steps_from specification turns A (step_at i)) A (λ D. D ≡ B) → Same (runs (suc k) i A) (runs k (suc i) B)
+  step_on k i A B leads =
+      let o : Outcome = does specification.program turns script i A nothing_bound [] specification.main in
+      step_same o.result o.instances i A leads.set (λ U. runs k (suc i) (fire A U)) (runs k (suc i) B) leads.gives leads.consistent
+      (record { end = ap (λ D. (runs k (suc i) D).end) leads.leads; last = ap (λ D. (runs k (suc i) D).last) leads.leads })
+
+  comes_on : (d k : ℕ) (B : State) → ComesTo d B → Same (runs (d + k) 1 specification.initial) (runs k (suc d) B)
+  comes_on zero k B is =
+      let count : 0 + k ≡ k = omega arith in
+      record {
+        end = ap (λ n. (runs n 1 specification.initial).end) count ∙ ap (λ D. (runs k 1 D).end) (sym is);
+        last = ap (λ n. (runs n 1 specification.initial).last) count ∙ ap (λ D. (runs k 1 D).last) (sym is);
+      }
+  comes_on (suc d) k B comes =
+      let before = comes_on d (suc k) comes.0 comes.1 in
+      let step = step_on k (suc d) comes.0 B comes.2 in
+      let count : suc d + k ≡ d + suc k = omega arith in
+      record {
+        end = ap (λ n. (runs n 1 specification.initial).end) count ∙ before.end ∙ step.end;
+        last = ap (λ n. (runs n 1 specification.initial).last) count ∙ before.last ∙ step.last;
+      }
+
+  -- ---- a step that goes wrong
+
+  exhausted_ends : (r : Result) (q : Path) (m i : ℕ) (A : State) (rest : UpdateSet → Run) → r ≡ Exhausted q
+      → (step_and specification.program turns specification.main r m i A rest).end ≡ AtExhausted i q
+  exhausted_ends r q m i A rest is = ap (λ x. (step_and specification.program turns specification.main x m i A rest).end) is
+
+  fault_ends : (r : Result) (U : UpdateSet) (m i : ℕ) (A : State) (rest : UpdateSet → Run) → r ≡ Gives U → ¬ (IsConsistent U)
+      → (step_and specification.program turns specification.main r m i A rest).end ≡ AtFault i U
+  fault_ends r U m i A rest is faulty =
+      ap (λ x. (step_and specification.program turns specification.main x m i A rest).end) is
+      ∙ ap (λ b. (cond b (fired U m (rest U)) (ended (AtFault i U) A)).end) (inconsistent U faulty (is_consistent U) refl)
+
+  goes_wrong : (f : Fault) (i : ℕ) (A : State) → GoesWrong right f (steps_from specification turns A (step_at i)) A → EndsSo right f i (runs 1 i A)
+  goes_wrong fault.Exhausted i A h =
+      let o : Outcome = does specification.program turns script i A nothing_bound [] specification.main in
+      (h.0, exhausted_ends o.result h.0 o.instances i A (λ U. runs 0 (suc i) (fire A U)) h.1)
+  goes_wrong fault.Inconsistent i A h =
+      let o : Outcome = does specification.program turns script i A nothing_bound [] specification.main in
+      (h.0, fault_ends o.result h.0 o.instances i A (λ U. runs 0 (suc i) (fire A U)) h.1 h.2, h.2)
+  goes_wrong fault.Wrong i A leads =
+      let o : Outcome = does specification.program turns script i A nothing_bound [] specification.main in
+      let same : Same (runs 1 i A) (ended AtLimit (fire A leads.set)) =
+      step_same o.result o.instances i A leads.set (λ U. runs 0 (suc i) (fire A U)) (ended AtLimit (fire A leads.set)) leads.gives leads.consistent (record { end = refl; last = refl }) in
+      (same.end, ap right same.last ∙ leads.leads)
+
+  module _ (shape : Shape) (nodes : List Node) (linked : Each (IsLinked shape specification turns nodes) nodes) where
+    chain_comes : (d : ℕ) (n : Node) → IsLinked shape specification turns nodes n → n.depth ≡ d → TakesTo nodes script d n → ComesTo d (state_at shape n)
+    chain_comes zero n (inl first) deep takes = first.1
+    chain_comes zero n (inr comes) deep takes = absurd (omega (arith, deep, comes.deeper))
+    chain_comes (suc d) n (inl first) deep takes = absurd (omega (arith, deep, first.0))
+    chain_comes (suc d) n (inr comes) deep takes = (
+      state_at shape comes.earlier,
+      chain_comes d comes.earlier (each_there (IsLinked shape specification turns nodes) nodes n.from comes.earlier linked comes.there) (omega (arith, deep, comes.deeper))
+          (takes.1 comes.earlier comes.there),
+      comes.leads (step_at (suc d)) takes.0,
+    )
+
+pub bad_runs : (specification : Specification) (turns : ℕ) (right : State → Bool) (shape : Shape) (nodes : List Node) (bad : Bad)
+    → Each (IsLinked shape specification turns nodes) nodes → IsBad shape specification turns right nodes bad → GoesWrongSo specification turns right nodes bad
+bad_runs specification turns right shape nodes bad linked is = record {
+  from = is.from;
+  there = is.there;
+  wrong = λ script takes.
+      let n = is.from in
+      let comes = chain_comes specification turns right script shape nodes linked n.depth n (each_there (IsLinked shape specification turns nodes) nodes bad.from n linked is.there) refl takes.0 in
+      let same = comes_on specification turns right script n.depth 1 (state_at shape n) comes in
+      let count : suc n.depth ≡ n.depth + 1 = omega arith in
+      let here = goes_wrong specification turns right script bad.fault (suc n.depth) (state_at shape n) (is.wrong (record { script = script; step = suc n.depth }) takes.1) in
+      subst (λ k. EndsSo right bad.fault (suc n.depth) (run specification turns script k)) (sym count)
+      (ends_same right bad.fault (suc n.depth) (run specification turns script (n.depth + 1)) (run_from specification.program turns specification.main script 1 (suc n.depth) (state_at shape n)) same here);
+}

@@ -1,0 +1,66 @@
+-- How searches end.
+--     refused_*       one that was refused isn't done, nor closed, and nothing is said of a bad step
+--     done_bad        where all nodes are expanded, nothing is said of a bad step
+use Rattle.std.proofs.Common.{◌≡◌, ◌≢◌, sym, subst}
+use Rattle.asm_explore.specs.declared.explored.Bad.{Bad}
+use Rattle.asm_explore.specs.declared.explored.Ended.{Ended}
+use Rattle.asm_explore.specs.declared.explored.Ended.TheVariants as ended
+use Rattle.std.specs.Prelude.{Result as Returned, Ok, Err, IfErr, IsErrAnd}
+use Rattle.asm_explore.specs.declared.halt.Halt.{Halt}
+use Rattle.asm_explore.specs.declared.halt.Halt.TheVariants as halt
+use Rattle.asm_explore.specs.Ends.{IfBad, IsDone, IsRefused}
+
+pub refused_done : (e : Ended) → IsRefused e → IsDone e → ⊥
+refused_done ended.Closed r d = r
+refused_done ended.AtLimit r d = r
+refused_done (ended.Bad bad) r d = d
+refused_done ended.TooManyStates r d = d
+refused_done (ended.TooManyOutcomes crowd) r d = d
+refused_done ended.Memory r d = d
+
+pub refused_closed : (e : Ended) → IsRefused e → e ≡ ended.Closed → ⊥
+refused_closed e r is = subst IsRefused is r
+
+pub refused_bad : (P : Bad → Type 0) (e : Ended) → IsRefused e → IfBad e P
+refused_bad P ended.Closed r = tt
+refused_bad P ended.AtLimit r = tt
+refused_bad P (ended.Bad bad) r = absurd r
+refused_bad P ended.TooManyStates r = tt
+refused_bad P (ended.TooManyOutcomes crowd) r = tt
+refused_bad P ended.Memory r = tt
+
+pub done_bad : (P : Bad → Type 0) (e : Ended) → IsDone e → IfBad e P
+done_bad P ended.Closed d = tt
+done_bad P ended.AtLimit d = tt
+done_bad P (ended.Bad bad) d = absurd d
+done_bad P ended.TooManyStates d = tt
+done_bad P (ended.TooManyOutcomes crowd) d = tt
+done_bad P ended.Memory d = tt
+
+-- what is said of a bad step, said otherwise
+pub if_bad_weaker : (P Q : Bad → Type 0) (e : Ended) → ((bad : Bad) → P bad → Q bad) → IfBad e P → IfBad e Q
+if_bad_weaker P Q ended.Closed f h = tt
+if_bad_weaker P Q ended.AtLimit f h = tt
+if_bad_weaker P Q (ended.Bad bad) f h = f bad h
+if_bad_weaker P Q ended.TooManyStates f h = tt
+if_bad_weaker P Q (ended.TooManyOutcomes crowd) f h = tt
+if_bad_weaker P Q ended.Memory f h = tt
+
+pub closed_done : (e : Ended) → e ≡ ended.Closed → IsDone e
+closed_done e is = subst IsDone (sym is) tt
+
+pub at_limit_done : (e : Ended) → e ≡ ended.AtLimit → IsDone e
+at_limit_done e is = subst IsDone (sym is) tt
+
+pub done_full : (e : Ended) → IsDone e → e ≡ ended.TooManyStates → ⊥
+done_full e done is = subst IsDone is done
+
+-- what is said of an error stays so where it is handed on
+pub full_on : {S T : Type 0} (P : Halt → Type 0) (given : Returned S Halt) (returned : Returned T Halt) (h : Halt) → given ≡ Err h → IsErrAnd returned (λ again. again ≡ h)
+    → IfErr given P → IfErr returned P
+full_on P given (Ok x) h is same said = tt
+full_on P given (Err e) h is same said = subst P (sym same) (subst (λ r. IfErr r P) is said)
+
+pub never_full : {T : Type 0} (Q : Type 0) (r : Returned T Halt) → IfErr r (λ h. h ≢ halt.States) → IfErr r (λ h. h ≡ halt.States → Q)
+never_full Q (Ok x) said = tt
+never_full Q (Err e) said = λ is. absurd (said is)

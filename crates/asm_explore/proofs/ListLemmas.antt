@@ -1,0 +1,268 @@
+-- Lists of outcomes, and how they come of other lists.
+--     each_*, any_*           what holds of each, or of some, of a list's elements
+--     grows_*                 of a list with one more outcome
+--     joined_none, joined_more, joined_all      one outcome beside the first elements of a list
+--     both_none, both_more, both_all            the first elements of a list beside another list
+use Rattle.std.proofs.Common.{◌≡◌, ℕ, zero, suc, ◌+◌, ◌<◌, ◌≤◌, List, [], ◌∷◌, ◌++◌, length, take, get_or, ◌⊎◌, inl, inr, refl, sym, subst, arith}
+use Rattle.std.proofs.lemmas.List.{take_more, take_all}
+use Rattle.asm_state.specs.Signature.{Shape, count_of}
+use Rattle.asm_state.specs.Updates.{UpdateSet, together}
+use Rattle.asm_updates.specs.Stands.{Stands}
+use Rattle.asm_meaning.specs.Yields.{Result, Gives, Exhausted, beside}
+use Rattle.asm_explore.specs.declared.found.Answer.{Answer}
+use Rattle.asm_explore.specs.declared.found.Answer.TheVariants as answer
+use Rattle.asm_explore.specs.declared.found.Choice.{Choice}
+use Rattle.asm_explore.specs.declared.found.Found.{Found}
+use Rattle.asm_explore.specs.declared.updates.Updates.{Updates}
+use Rattle.asm_explore.specs.Lists.{Situation, Each, AnyOf, IsTaken, AreTaken, Shows, IsShownBy, Shown, IsCounted, AreCounted, IsSound, Lists, Grows, IsJoined, IsPicked}
+
+-- ---- elements
+
+module _ {X : Type 0} (P : X → Type 0) where
+  pub each_append : (xs ys : List X) → Each P xs → Each P ys → Each P (xs ++ ys)
+  each_append [] ys h g = g
+  each_append (x ∷ xs) ys h g = (h.0, each_append xs ys h.1 g)
+
+  pub each_first : (xs ys : List X) → Each P (xs ++ ys) → Each P xs
+  each_first [] ys h = tt
+  each_first (x ∷ xs) ys h = (h.0, each_first xs ys h.1)
+
+  pub each_last : (xs ys : List X) → Each P (xs ++ ys) → Each P ys
+  each_last [] ys h = h
+  each_last (x ∷ xs) ys h = each_last xs ys h.1
+
+  pub each_at : (xs : List X) (i : ℕ) (x : X) → i < length xs → x ≡ get_or xs i x → Each P xs → P x
+  each_at [] i x low is h = absurd (omega (arith, low))
+  each_at (y ∷ ys) zero x low is h = subst P (sym is) h.0
+  each_at (y ∷ ys) (suc i) x low is h = each_at ys i x (omega (arith, low)) is h.1
+
+  pub each_take_more : (xs : List X) (i : ℕ) (x : X) → i < length xs → x ≡ get_or xs i x → Each P (take (i + 1) xs) → Each P (take i xs) × P x
+  each_take_more xs i x low is h =
+      let split : Each P (take i xs ++ get_or xs i x ∷ []) = subst (Each P) (take_more xs i x low) h in
+      (each_first (take i xs) (get_or xs i x ∷ []) split, subst P (sym is) (each_last (take i xs) (get_or xs i x ∷ []) split).0)
+
+  pub each_weaker : (Q : X → Type 0) → ((x : X) → P x → Q x) → (xs : List X) → Each P xs → Each Q xs
+  each_weaker Q f [] h = tt
+  each_weaker Q f (x ∷ xs) h = (f x h.0, each_weaker Q f xs h.1)
+
+  pub any_first : (xs ys : List X) → AnyOf P xs → AnyOf P (xs ++ ys)
+  any_first [] ys h = absurd h
+  any_first (x ∷ xs) ys (inl h) = inl h
+  any_first (x ∷ xs) ys (inr h) = inr (any_first xs ys h)
+
+  pub any_last : (xs ys : List X) → AnyOf P ys → AnyOf P (xs ++ ys)
+  any_last [] ys h = h
+  any_last (x ∷ xs) ys h = inr (any_last xs ys h)
+
+  pub any_weaker : (Q : X → Type 0) → ((x : X) → P x → Q x) → (xs : List X) → AnyOf P xs → AnyOf Q xs
+  any_weaker Q f [] h = absurd h
+  any_weaker Q f (x ∷ xs) (inl h) = inl (f x h)
+  any_weaker Q f (x ∷ xs) (inr h) = inr (any_weaker Q f xs h)
+
+  pub any_at : (xs : List X) (i : ℕ) (x : X) → i < length xs → x ≡ get_or xs i x → P x → AnyOf P xs
+  any_at [] i x low is h = absurd (omega (arith, low))
+  any_at (y ∷ ys) zero x low is h = inl (subst P is h)
+  any_at (y ∷ ys) (suc i) x low is h = inr (any_at ys i x (omega (arith, low)) is h)
+
+  later : (x : X) (xs ys : List X) → AnyOf P xs ⊎ AnyOf P ys → AnyOf P (x ∷ xs) ⊎ AnyOf P ys
+  later x xs ys (inl h) = inl (inr h)
+  later x xs ys (inr h) = inr h
+
+  pub any_split : (xs ys : List X) → AnyOf P (xs ++ ys) → AnyOf P xs ⊎ AnyOf P ys
+  any_split [] ys h = inr h
+  any_split (x ∷ xs) ys (inl h) = inl (inl h)
+  any_split (x ∷ xs) ys (inr h) = later x xs ys (any_split xs ys h)
+
+  the_one : (xs : List X) (x y : X) → x ≡ y → AnyOf P xs ⊎ AnyOf P (y ∷ []) → AnyOf P xs ⊎ P x
+  the_one xs x y is (inl h) = inl h
+  the_one xs x y is (inr (inl h)) = inr (subst P (sym is) h)
+  the_one xs x y is (inr (inr h)) = absurd h
+
+  pub any_take_more : (xs : List X) (i : ℕ) (x : X) → i < length xs → x ≡ get_or xs i x → AnyOf P (take (i + 1) xs) → AnyOf P (take i xs) ⊎ P x
+  any_take_more xs i x low is h =
+      the_one (take i xs) x (get_or xs i x) is (any_split (take i xs) (get_or xs i x ∷ []) (subst (AnyOf P) (take_more xs i x low) h))
+
+-- ---- one more
+
+pub grows_each : (P : Found → Type 0) (old new : List Found) (one : Found) → Grows old one new → Each P old → P one → Each P new
+grows_each P old new one grows h here = by_kept grows.kept
+  where
+    by_kept : (new ≡ old) ⊎ (new ≡ old ++ one ∷ []) → Each P new
+    by_kept (inl same) = subst (Each P) (sym same) h
+    by_kept (inr more) = subst (Each P) (sym more) (each_append P old (one ∷ []) h (here, tt))
+
+pub grows_any : (P : Found → Type 0) (old new : List Found) (one : Found) → Grows old one new → AnyOf P old → AnyOf P new
+grows_any P old new one grows h = by_kept grows.kept
+  where
+    by_kept : (new ≡ old) ⊎ (new ≡ old ++ one ∷ []) → AnyOf P new
+    by_kept (inl same) = subst (AnyOf P) (sym same) h
+    by_kept (inr more) = subst (AnyOf P) (sym more) (any_first P old (one ∷ []) h)
+
+-- a list that one outcome is added to
+pub pushed : (old new : List Found) (one : Found) → new ≡ old ++ one ∷ [] → Grows old one new
+pushed old new one is = record {
+  kept = inr is;
+  shown = λ shape r h. subst (λ fs. Shown shape fs r) (sym is) (any_last (λ f. Shows shape f.answer r) old (one ∷ []) (inl h));
+}
+
+-- a list that has the answer already
+pub known : (old : List Found) (one : Found) → AnyOf (λ f. IsShownBy one.answer f.answer) old → Grows old one old
+known old one there = record {
+  kept = inl refl;
+  shown = λ shape r h. any_weaker (λ f. IsShownBy one.answer f.answer) (λ f. Shows shape f.answer r) (λ f by. by shape r h) old there;
+}
+
+-- ---- answers beside each other
+
+module _ (shape : Shape) (a b whole : Updates) (unites : (U V : UpdateSet) → Stands shape a.set U → Stands shape b.set V → Stands shape whole.set (together U V)) where
+  pub union_shows : (x y : Result) → Shows shape (answer.Set a) x → Shows shape (answer.Set b) y → Shows shape (answer.Set whole) (beside x y)
+  union_shows (Gives U) (Gives V) h g = unites U V h g
+  union_shows (Gives U) (Exhausted q) h g = absurd g
+  union_shows (Exhausted p) y h g = absurd h
+
+-- ---- choices
+
+pub taken_both : (s : Situation) (cs ds es : List Choice) → cs ≡ ds ++ es → AreTaken s cs → AreTaken s ds × AreTaken s es
+taken_both s cs ds es is h =
+    let both : AreTaken s (ds ++ es) = subst (AreTaken s) is h in
+    (each_first (IsTaken s) ds es both, each_last (IsTaken s) ds es both)
+
+-- ---- one outcome beside each of a list
+
+module _ (shape : Shape) (left : Found) (right : List Found) where
+  pub joined_none : (old : List Found) → IsJoined shape left (take 0 right) old old
+  joined_none old = record {
+    counted = λ h. h;
+    older = λ r h. h;
+    shown = λ x y here h. absurd h;
+    sound = λ o q here each h. h;
+  }
+
+  pub joined_all : (i : ℕ) (old new : List Found) → length right ≤ i → IsJoined shape left (take i right) old new → IsJoined shape left right old new
+  joined_all i old new past = subst (λ fs. IsJoined shape left fs old new) (take_all i right past)
+
+  pub joined_more : (i : ℕ) (r : Found) (old mid new : List Found) (one : Found) → i < length right → r ≡ get_or right i r
+      → one.choices.items ≡ left.choices.items ++ r.choices.items
+      → IsCounted (count_of shape) one.answer
+      → ((x y : Result) → Shows shape left.answer x → Shows shape r.answer y → Shows shape one.answer (beside x y))
+      → Grows mid one new → IsJoined shape left (take i right) old mid → IsJoined shape left (take (i + 1) right) old new
+  joined_more i r old mid new one low is chosen counts answers grows so_far = record {
+    counted = λ h. grows_each (λ f. IsCounted (count_of shape) f.answer) mid new one grows (so_far.counted h) counts;
+    older = λ x h. grows_any (λ f. Shows shape f.answer x) mid new one grows (so_far.older x h);
+    shown = λ x y here h. next x y here (any_take_more (λ f. Shows shape f.answer y) right i r low is h);
+    sound = λ o q here each h.
+        let parts = each_take_more (IsSound shape q) right i r low is each in
+        grows_each (IsSound shape (λ s. beside (o s) (q s))) mid new one grows (so_far.sound o q here parts.0 h)
+        (λ s taken. let halves = taken_both s one.choices.items left.choices.items r.choices.items chosen taken in
+        answers (o s) (q s) (here s halves.0) (parts.1 s halves.1));
+  }
+    where
+      next : (x y : Result) → Shows shape left.answer x → Shown shape (take i right) y ⊎ Shows shape r.answer y → Shown shape new (beside x y)
+      next x y here (inl h) = grows_any (λ f. Shows shape f.answer (beside x y)) mid new one grows (so_far.shown x y here h)
+      next x y here (inr h) = grows.shown shape (beside x y) (answers x y here h)
+
+-- ---- the first of a list beside another
+
+pub record AreJoined (shape : Shape) (left right found : List Found) : Type 0 where
+  pub counted : AreCounted (count_of shape) found
+  pub shown : (x y : Result) → Shown shape left x → Shown shape right y → Shown shape found (beside x y)
+  pub sound : (o q : Situation → Result) → Each (IsSound shape o) left → Each (IsSound shape q) right → Each (IsSound shape (λ s. beside (o s) (q s))) found
+
+module _ (shape : Shape) (left right : List Found) where
+  pub both_none : AreJoined shape (take 0 left) right []
+  both_none = record { counted = tt; shown = λ x y h g. absurd h; sound = λ o q h g. tt }
+
+  pub both_more : (i : ℕ) (f : Found) (old new : List Found) → i < length left → f ≡ get_or left i f
+      → IsJoined shape f right old new → AreJoined shape (take i left) right old → AreJoined shape (take (i + 1) left) right new
+  both_more i f old new low is joined so_far = record {
+    counted = joined.counted so_far.counted;
+    shown = λ x y h g. next x y g (any_take_more (λ f. Shows shape f.answer x) left i f low is h);
+    sound = λ o q h g.
+        let parts = each_take_more (IsSound shape o) left i f low is h in
+        joined.sound o q parts.1 g (so_far.sound o q parts.0 g);
+  }
+    where
+      next : (x y : Result) → Shown shape right y → Shown shape (take i left) x ⊎ Shows shape f.answer x → Shown shape new (beside x y)
+      next x y g (inl h) = joined.older (beside x y) (so_far.shown x y h g)
+      next x y g (inr h) = joined.shown x y h g
+
+  pub both_all : (i : ℕ) (found : List Found) → length left ≤ i → AreJoined shape (take i left) right found
+      → (o q : Situation → Result) → Lists shape o left → Lists shape q right → Lists shape (λ s. beside (o s) (q s)) found
+  both_all i found past joined o q h g =
+      let whole : AreJoined shape left right found = subst (λ fs. AreJoined shape fs right found) (take_all i left past) joined in
+      record {
+        counted = whole.counted;
+        complete = λ s. whole.shown (o s) (q s) (h.complete s) (g.complete s);
+        sound = whole.sound o q h.sound g.sound;
+      }
+
+-- ---- the outcomes of a candidate
+
+module _ (p : List ℕ) (k : ℕ) (part : List Found) where
+  pub picked_none : (old : List Found) → IsPicked p k (take 0 part) old old
+  picked_none old = record { counted = λ n g h. h; older = λ shape r h. h; shown = λ shape r h. absurd h; sound = λ shape o q each same h. h }
+
+  pub picked_all : (i : ℕ) (old new : List Found) → length part ≤ i → IsPicked p k (take i part) old new → IsPicked p k part old new
+  picked_all i old new past = subst (λ fs. IsPicked p k fs old new) (take_all i part past)
+
+  pub picked_more : (i : ℕ) (f : Found) (old mid new : List Found) (one : Found) → i < length part → f ≡ get_or part i f
+      → one.choices.items ≡ f.choices.items ++ record { path = p; number = k } ∷ []
+      → ((n : ℕ) → IsCounted n f.answer → IsCounted n one.answer) → ((shape : Shape) (r : Result) → Shows shape f.answer r → Shows shape one.answer r)
+      → Grows mid one new → IsPicked p k (take i part) old mid → IsPicked p k (take (i + 1) part) old new
+  picked_more i f old mid new one low is chosen counts shows grows so_far = record {
+    counted = λ n g h.
+        let parts = each_take_more (λ f. IsCounted n f.answer) part i f low is g in
+        grows_each (λ f. IsCounted n f.answer) mid new one grows (so_far.counted n parts.0 h) (counts n parts.1);
+    older = λ shape r h. grows_any (λ f. Shows shape f.answer r) mid new one grows (so_far.older shape r h);
+    shown = λ shape r h. next shape r (any_take_more (λ f. Shows shape f.answer r) part i f low is h);
+    sound = λ shape o q each alike h.
+        let parts = each_take_more (IsSound shape o) part i f low is each in
+        grows_each (IsSound shape q) mid new one grows (so_far.sound shape o q parts.0 alike h)
+        (λ s taken. let halves = taken_both s one.choices.items f.choices.items (record { path = p; number = k } ∷ []) chosen taken in
+        subst (Shows shape one.answer) (alike s halves.1.0) (shows shape (o s) (parts.1 s halves.0)));
+  }
+    where
+      next : (shape : Shape) (r : Result) → Shown shape (take i part) r ⊎ Shows shape f.answer r → Shown shape new r
+      next shape r (inl h) = grows_any (λ f. Shows shape f.answer r) mid new one grows (so_far.shown shape r h)
+      next shape r (inr h) = grows.shown shape r (shows shape r h)
+
+-- a set with its entries in another order
+pub shows_ordered : (shape : Shape) (a : Answer) (set new : Updates) (r : Result) → a ≡ answer.Set set → ((U : UpdateSet) → Stands shape set.set U → Stands shape new.set U)
+    → Shows shape a r → Shows shape (answer.Set new) r
+shows_ordered shape a set new r is stands h = by_result r (subst (λ x. Shows shape x r) is h)
+  where
+    by_result : (r : Result) → Shows shape (answer.Set set) r → Shows shape (answer.Set new) r
+    by_result (Gives U) h = stands U h
+    by_result (Exhausted q) h = absurd h
+
+-- the one outcome of a candidate
+pub picked_one : (p : List ℕ) (k : ℕ) (f : Found) (old new : List Found) (one : Found)
+    → one.choices.items ≡ f.choices.items ++ record { path = p; number = k } ∷ []
+    → ((n : ℕ) → IsCounted n f.answer → IsCounted n one.answer) → ((shape : Shape) (r : Result) → Shows shape f.answer r → Shows shape one.answer r)
+    → Grows old one new → IsPicked p k (f ∷ []) old new
+picked_one p k f old new one chosen counts shows grows =
+    picked_more p k (f ∷ []) 0 f old old new one (omega arith) refl chosen counts shows grows (picked_none p k (f ∷ []) old)
+
+-- one outcome beside one other
+module _ (shape : Shape) (left right one : Found) where
+  pub both_one : one.choices.items ≡ left.choices.items ++ right.choices.items → IsCounted (count_of shape) one.answer
+      → ((x y : Result) → Shows shape left.answer x → Shows shape right.answer y → Shows shape one.answer (beside x y))
+      → (o q : Situation → Result) → Lists shape o (left ∷ []) → Lists shape q (right ∷ []) → Lists shape (λ s. beside (o s) (q s)) (one ∷ [])
+  both_one chosen counts answers o q h g = record {
+    counted = (counts, tt);
+    complete = λ s. inl (answers (o s) (q s) (only (o s) left (h.complete s)) (only (q s) right (g.complete s)));
+    sound = (
+      (λ s taken. let halves = taken_both s one.choices.items left.choices.items right.choices.items chosen taken in
+          answers (o s) (q s) (h.sound.0 s halves.0) (g.sound.0 s halves.1)),
+      tt,
+    );
+  }
+    where
+      only : (r : Result) (f : Found) → Shown shape (f ∷ []) r → Shows shape f.answer r
+      only r f (inl h) = h
+      only r f (inr h) = absurd h
+
+-- ---- lists of what is the same
+
+pub lists_same : (shape : Shape) (o q : Situation → Result) (fs : List Found) → ((s : Situation) → o s ≡ q s) → Lists shape o fs → Lists shape q fs
+lists_same shape o q fs alike = subst (λ it. Lists shape it fs) (λ i s. alike s i)

@@ -1,0 +1,26 @@
+use Rattle.std.proofs.Common.{◌≡◌, IfErr, IfOk, ap, subst, ◌∙◌}
+use Rattle.std.specs.String.{string_bytes}
+use Rattle.std.proofs.lemmas.Result.{IfOk-weaker}
+use Rattle.asm_reader.specs.ExactLines.{exactly}
+use Rattle.asm_reader.specs.ScriptText.{IsScript}
+use Rattle.asm_meaning.specs.Scripts.{IsUnrepeated}
+use Rattle.asm_explore.specs.ScriptTo.{lines_with, needed}
+use Rattle.asm_explore.specs.Written.{AreSteps, IsTextRefusal, lines_said, lines_text, numbers_in}
+use Rattle.asm_explore.proofs.Backwards.{steps_with}
+use Rattle.asm_explore.proofs.leading.text_to.Goals as goal
+
+pub returns : goal.returns
+returns c = record {
+  script = λ n there apart.
+      let is : lines_said c.as_slice.result.now ≡ lines_with c.args.nodes.now n c.args.bad.now = ap lines_said c.as_slice.ensures.value ∙ c.in_ok-lines.ensures n there in
+      IfOk-weaker c.script_text.result
+      (λ text. AreSteps (lines_with c.args.nodes.now n c.args.bad.now) → IsUnrepeated (exactly (lines_with c.args.nodes.now n c.args.bad.now))
+      → IsScript (string_bytes text) (exactly (needed (lines_with c.args.nodes.now n c.args.bad.now))))
+      (λ text. IsScript (string_bytes text) (exactly (needed (lines_with c.args.nodes.now n c.args.bad.now))))
+      (λ text so. so (steps_with c.args.nodes.now n c.args.bad.now) apart)
+      (subst (λ ls. IfOk c.script_text.result (λ text. AreSteps ls → IsUnrepeated (exactly ls) → IsScript (string_bytes text) (exactly (needed ls)))) is
+      c.script_text.ensures.script);
+  refused = λ n there.
+      let is : lines_said c.as_slice.result.now ≡ lines_with c.args.nodes.now n c.args.bad.now = ap lines_said c.as_slice.ensures.value ∙ c.in_ok-lines.ensures n there in
+      subst (λ ls. IfErr c.script_text.result (IsTextRefusal (numbers_in (needed ls)) (lines_text (needed ls)))) is c.script_text.ensures.refused;
+}

@@ -1,0 +1,402 @@
+use Rattle.std.proofs.Common.{◌≡◌, ◌<◌, ◌-◌, ◌+◌, suc, true, false, cond, Some, rules, sym, ap, subst, ◌∙◌, arith, length, map, refl}
+use Rattle.std.specs.Prelude.{option_map}
+use Rattle.asm_state.specs.Signature.{count_of}
+use Rattle.asm_state.specs.Words.{value_of_code}
+use Rattle.asm_meaning.specs.Does.{nothing}
+use Rattle.asm_meaning.specs.Valued.{shown}
+use Rattle.asm_meaning.specs.Yields.{at, beside}
+use Rattle.asm_eval.specs.CodeViews.{code_of}
+use Rattle.asm_eval.specs.Frames.{readings_of}
+use Rattle.asm_eval.specs.Readings.{universe_at}
+use Rattle.asm_eval.specs.RuleMeaning.{meaning}
+use Rattle.asm_eval.specs.RuleTree as tree
+use Rattle.asm_eval.specs.RuleViews.{place_of, rule_of, rules_of}
+use Rattle.asm_eval.specs.Running.{places_of}
+use Rattle.asm_explore.specs.Explored.{shape_on, state_on, yields_on, here_on, in_order_on}
+use Rattle.asm_explore.specs.Lists.{picked, Lists, AreCounted, IsCounted}
+use Rattle.asm_explore.specs.Sequences.{Underway, Next, StepsTo}
+use Rattle.asm_explore.proofs.CodeLists.{sound_part, size_of_part, universe_here}
+use Rattle.asm_explore.proofs.ListLemmas.{lists_same, each_at}
+use Rattle.asm_explore.proofs.Sequenced.{begun, ended, underway_next, next_none, next_more, next_all, next_one}
+use Rattle.asm_explore.proofs.Yielded.{ok_same, no_elements, parts_left, each_left, order_left, turns_left, part_next, part_last, element_next, element_last, is_passing, value_yields, forall_yields, choosing_none, choosing_more, choosing_all, none_yields, skip_yields, assign_is, par_yields, seq_yields, if_is, let_is, forall_is, choose_is, iterate_is, call_is, if_yes, if_no, let_with, call_with, iterate_yields, order_steps, order_ends, turn_steps}
+use Rattle.asm_explore.proofs.outcomes.+list.Goals as goal
+
+-- ---- each kind of rule
+
+pub outcomes-returns-in_ok-found-in-Skip : goal.outcomes-returns-in_ok-found-in-Skip
+outcomes-returns-in_ok-found-in-Skip t c =
+    let a = c.args in
+    lists_same (shape_on a.on.now) (λ s. nothing.result) (yields_on a.on.now a.frame.now a.path.now (rule_of a.rule.now)) c.in_ok-found-in-Skip.found.items
+    (skip_yields a.on.now a.frame.now a.path.now a.rule.now c.in-Skip.is) c.in_ok-found-in-Skip.ensures
+
+pub outcomes-returns-in_ok-found-in-Assign : goal.outcomes-returns-in_ok-found-in-Assign
+outcomes-returns-in_ok-found-in-Assign t c =
+    let a = c.args in
+    lists_same (shape_on a.on.now) (yields_on a.on.now a.frame.now a.path.now (tree.Assign (place_of c.in-Assign.place) (code_of c.in-Assign.value))) (yields_on a.on.now a.frame.now a.path.now (rule_of a.rule.now)) c.in_ok-found-in-Assign.found.items
+    (assign_is a.on.now a.frame.now a.path.now a.rule.now c.in-Assign.place c.in-Assign.value c.in-Assign.is) c.in_ok-found-in-Assign.ensures
+
+pub outcomes-returns-in-Par : goal.outcomes-returns-in-Par
+outcomes-returns-in-Par t c =
+    let a = c.args in
+    ok_same (shape_on a.on.now) _ _ c.list_all.result
+    (par_yields a.on.now a.frame.now a.path.now a.rule.now c.in-Par.parts c.in-Par.is c.as_slice.result.now c.as_slice.ensures.value)
+    c.list_all.ensures
+
+pub outcomes-returns-in-Seq : goal.outcomes-returns-in-Seq
+outcomes-returns-in-Seq t c =
+    let a = c.args in
+    ok_same (shape_on a.on.now) _ _ c.list_in_order.result
+    (seq_yields a.on.now a.frame.now a.path.now a.rule.now c.in-Seq.parts c.in-Seq.is c.as_slice-in-Seq.result.now c.as_slice-in-Seq.ensures.value)
+    c.list_in_order.ensures
+
+pub outcomes-returns-in-If : goal.outcomes-returns-in-If
+outcomes-returns-in-If t c =
+    let a = c.args in
+    ok_same (shape_on a.on.now) _ _ c.list_if.result
+    (if_is a.on.now a.frame.now a.path.now a.rule.now c.in-If.test c.in-If.yes c.in-If.no c.in-If.is c.deref.result.now c.deref-in-If.result.now c.deref.ensures c.deref-in-If.ensures)
+    c.list_if.ensures
+
+pub outcomes-returns-in-Let : goal.outcomes-returns-in-Let
+outcomes-returns-in-Let t c =
+    let a = c.args in
+    ok_same (shape_on a.on.now) _ _ c.list_let.result
+    (let_is a.on.now a.frame.now a.path.now a.rule.now c.in-Let.value c.in-Let.body c.in-Let.is c.deref-in-Let.result.now c.deref-in-Let.ensures)
+    c.list_let.ensures
+
+pub outcomes-returns-in-Forall : goal.outcomes-returns-in-Forall
+outcomes-returns-in-Forall t c =
+    let a = c.args in
+    ok_same (shape_on a.on.now) _ _ c.list_each.result
+    (forall_is a.on.now a.frame.now a.path.now a.rule.now c.in-Forall.over c.in-Forall.test c.in-Forall.body c.in-Forall.is c.deref-in-Forall.result.now c.deref-in-Forall.ensures)
+    c.list_each.ensures
+
+pub outcomes-returns-in-Choose : goal.outcomes-returns-in-Choose
+outcomes-returns-in-Choose t c =
+    let a = c.args in
+    ok_same (shape_on a.on.now) _ _ c.list_choose.result
+    (choose_is a.on.now a.frame.now a.path.now a.rule.now c.in-Choose.over c.in-Choose.test c.in-Choose.body c.in-Choose.none c.in-Choose.is c.deref-in-Choose.result.now c.deref-in-Choose-2.result.now c.deref-in-Choose.ensures c.deref-in-Choose-2.ensures)
+    c.list_choose.ensures
+
+pub outcomes-returns-in-Iterate : goal.outcomes-returns-in-Iterate
+outcomes-returns-in-Iterate t c =
+    let a = c.args in
+    ok_same (shape_on a.on.now) _ _ c.list_turns.result
+    (iterate_is a.on.now a.frame.now a.path.now a.rule.now c.in-Iterate.body c.in-Iterate.is c.deref-in-Iterate.result.now c.deref-in-Iterate.ensures)
+    c.list_turns.ensures
+
+pub outcomes-returns-in-Call : goal.outcomes-returns-in-Call
+outcomes-returns-in-Call t c =
+    let a = c.args in
+    ok_same (shape_on a.on.now) _ _ c.list_call.result
+    (call_is a.on.now a.frame.now a.path.now a.rule.now c.in-Call.body c.in-Call.answer c.in-Call.arguments c.in-Call.is c.deref-in-Call.result.now c.as_slice-in-Call.result.now c.deref-in-Call.ensures c.as_slice-in-Call.ensures.value)
+    c.list_call.ensures
+
+pub list_if-returns-then-holds : goal.list_if-returns-then-holds
+list_if-returns-then-holds t c =
+    let a = c.args in
+    ok_same (shape_on a.on.now) _ _ c.list_part.result
+    (if_yes a.on.now a.frame.now a.path.now a.test.now a.yes.now a.no.now (sym c.holds.ensures ∙ c.if-holds.true))
+    c.list_part.ensures
+
+pub list_if-returns-else-holds : goal.list_if-returns-else-holds
+list_if-returns-else-holds t c =
+    let a = c.args in
+    ok_same (shape_on a.on.now) _ _ c.list_part-else-holds.result
+    (if_no a.on.now a.frame.now a.path.now a.test.now a.yes.now a.no.now (sym c.holds.ensures ∙ c.if-holds.false))
+    c.list_part-else-holds.ensures
+
+pub list_let-returns : goal.list_let-returns
+list_let-returns t c =
+    let a = c.args in
+    ok_same (shape_on a.on.now) _ _ c.list_part.result
+    (let_with a.on.now a.frame.now a.path.now a.term.now a.body.now (value_of_code c.kept.result.value) (c.kept.ensures ∙ c.value-value.ensures))
+    c.list_part.ensures
+
+-- ---- parts
+
+pub list_all-loop-i-init : goal.list_all-loop-i-init
+list_all-loop-i-init t c =
+    let a = c.args in
+    record {
+      within = omega arith;
+      lists = lists_same (shape_on a.on.now) (λ s. nothing.result) (parts_left a.on.now a.frame.now a.path.now a.parts.now (length a.parts.now)) c.in_ok-found.found.items
+          (part_last a.on.now a.frame.now a.path.now a.parts.now (length a.parts.now) (omega arith)) c.in_ok-found.ensures;
+    }
+
+pub list_all-list_part-requires : goal.list_all-list_part-requires
+list_all-list_part-requires t c =
+    let a = c.args in
+    let l = c.loop-i in
+    let low : l.i - 1 < length a.parts.now = omega (arith, l.invariant.within, c.loop-i-test.true) in
+    let less = size_of_part a.parts.now (l.i - 1) c.index-parts-i.result low c.index-parts-i.is in
+    (omega (arith, c.decreases, less), (sound_part (shape_on a.on.now) a.parts.now (l.i - 1) c.index-parts-i.result low c.index-parts-i.is c.requires.sound, c.requires.framed))
+
+pub list_all-loop-i-preserved : goal.list_all-loop-i-preserved
+list_all-loop-i-preserved t c =
+    let a = c.args in
+    let l = c.loop-i in
+    let low : l.i - 1 < length a.parts.now = omega (arith, l.invariant.within, c.loop-i-test.true) in
+    let back : l.i ≡ l.i - 1 + 1 = omega (arith, c.loop-i-test.true) in
+    let here = yields_on a.on.now a.frame.now (at a.path.now (l.i - 1)) (rule_of c.index-parts-i.result) in
+    record {
+      within = omega (arith, l.invariant.within);
+      lists = lists_same (shape_on a.on.now) (λ s. beside (here s) (parts_left a.on.now a.frame.now a.path.now a.parts.now l.i s))
+          (parts_left a.on.now a.frame.now a.path.now a.parts.now (l.i - 1)) c.in_ok-more.more.items
+          (λ s. ap (λ k. beside (here s) (parts_left a.on.now a.frame.now a.path.now a.parts.now k s)) back
+          ∙ part_next a.on.now a.frame.now a.path.now a.parts.now (l.i - 1) c.index-parts-i.result low c.index-parts-i.is s)
+          (c.in_ok-more.ensures.lists here (parts_left a.on.now a.frame.now a.path.now a.parts.now l.i) c.in_ok-part.ensures l.invariant.lists);
+    }
+
+pub list_all-returns : goal.list_all-returns
+list_all-returns t c =
+    let a = c.args in
+    let l = c.loop-i in
+    let ends : l.i ≡ 0 = omega (arith, c.loop-i-test.false) in
+    subst (λ i. Lists (shape_on a.on.now) (parts_left a.on.now a.frame.now a.path.now a.parts.now i) l.found.items) ends l.invariant.lists
+
+-- ---- values of a universe
+
+pub list_each-loop-i-init : goal.list_each-loop-i-init
+list_each-loop-i-init t c =
+    let a = c.args in
+    let us = c.universe-universe.result.now in
+    record {
+      within = omega (arith, c.size-i.ensures.size);
+      lists = lists_same (shape_on a.on.now) (λ s. nothing.result) (each_left a.on.now a.frame.now a.path.now a.over a.test.now a.body.now (length us) us c.size-i.result) c.in_ok-found.found.items
+          (element_last a.on.now a.frame.now a.path.now a.over a.test.now a.body.now (length us) us c.size-i.result (omega (arith, c.size-i.ensures.size))) c.in_ok-found.ensures;
+    }
+
+pub list_each-list_element-requires : goal.list_each-list_element-requires
+list_each-list_element-requires t c =
+    (omega (arith, c.decreases), (c.requires.sound_test, (c.requires.sound, (c.requires.framed, c.loop-i.invariant.lists.counted))))
+
+pub list_each-loop-i-preserved : goal.list_each-loop-i-preserved
+list_each-loop-i-preserved t c =
+    let a = c.args in
+    let l = c.loop-i in
+    let us = c.universe-universe.result.now in
+    let v = value_of_code c.kept.result.value in
+    let low : l.i - 1 < length us = omega (arith, l.invariant.within, c.loop-i-test.true) in
+    let back : l.i ≡ l.i - 1 + 1 = omega (arith, c.loop-i-test.true) in
+    let so = is_passing a.on.now a.frame.now a.path.now a.over a.test.now a.body.now v in
+    let here = value_yields a.on.now a.frame.now a.path.now a.body.now v (l.i - 1) in
+    let left = each_left a.on.now a.frame.now a.path.now a.over a.test.now a.body.now (length us) us in
+    record {
+      within = omega (arith, l.invariant.within);
+      lists = lists_same (shape_on a.on.now) (λ s. cond so (beside (here s) (left l.i s)) (left l.i s)) (left (l.i - 1)) c.in_ok-more.more.items
+          (λ s. ap (λ k. cond so (beside (here s) (left k s)) (left k s)) back
+          ∙ element_next a.on.now a.frame.now a.path.now a.over a.test.now a.body.now (length us) us (l.i - 1) v low (c.element.ensures ∙ ap Some (sym c.kept.ensures)) s so refl)
+          (c.in_ok-more.ensures (left l.i) l.invariant.lists);
+    }
+
+pub list_each-returns : goal.list_each-returns
+list_each-returns t c =
+    let a = c.args in
+    let l = c.loop-i in
+    let us = c.universe-universe.result.now in
+    let ends : l.i ≡ 0 = omega (arith, c.loop-i-test.false) in
+    let same : universe_at (shape_on a.on.now) a.over ≡ us = universe_here (shape_on a.on.now).universes a.over us c.universe-universe.ensures in
+    let left = each_left a.on.now a.frame.now a.path.now a.over a.test.now a.body.now (length us) in
+    lists_same (shape_on a.on.now) (left us 0) (yields_on a.on.now a.frame.now a.path.now (tree.Forall a.over (option_map code_of a.test.now) (rule_of a.body.now))) l.found.items
+    (λ s. ap (λ ws. left ws 0 s) (sym same) ∙ forall_yields a.on.now a.frame.now a.path.now a.over a.test.now a.body.now (length us) (ap length (sym same)) s)
+    (subst (λ i. Lists (shape_on a.on.now) (left us i) l.found.items) ends l.invariant.lists)
+
+pub list_element-returns-in_ok-found : goal.list_element-returns-in_ok-found
+list_element-returns-in_ok-found t c = λ o lists.
+    let a = c.args in
+    let here = yields_on a.on.now a.frame.now (at a.path.now a.number) (rule_of a.body.now) in
+    lists_same (shape_on a.on.now) (λ s. beside (here s) (o s)) _ c.in_ok-found.found.items
+    (λ s. ap (λ b. cond b (beside (here s) (o s)) (o s)) (sym c.if-passes.true ∙ c.passes.ensures))
+    (c.in_ok-found.ensures.lists here o c.in_ok-part.ensures lists)
+
+pub list_element-returns-else-passes : goal.list_element-returns-else-passes
+list_element-returns-else-passes t c = λ o lists.
+    let a = c.args in
+    let here = yields_on a.on.now a.frame.now (at a.path.now a.number) (rule_of a.body.now) in
+    lists_same (shape_on a.on.now) o _ a.after.items
+    (λ s. ap (λ b. cond b (beside (here s) (o s)) (o s)) (sym c.if-passes.false ∙ c.passes.ensures))
+    lists
+
+-- ---- candidates
+
+pub list_choose-returns-then-all-eq0 : goal.list_choose-returns-then-all-eq0
+list_choose-returns-then-all-eq0 t c =
+    let a = c.args in
+    ok_same (shape_on a.on.now) _ _ c.list_part.result
+    (none_yields a.on.now a.frame.now a.path.now a.over a.test.now a.body.now a.none.now c.as_slice-all.result.now (c.as_slice-all.ensures.value ∙ c.in_ok-values.ensures)
+    (no_elements c.as_slice-all.result.now c.if-all-eq0.true))
+    c.list_part.ensures
+
+pub list_choose-loop-k-init : goal.list_choose-loop-k-init
+list_choose-loop-k-init t c =
+    let a = c.args in
+    choosing_none a.on.now a.frame.now a.path.now a.over a.test.now a.body.now a.none.now c.as_slice-all.result.now c.new-found.result.items c.new-found.ensures.items
+
+pub list_choose-loop-k-preserved : goal.list_choose-loop-k-preserved
+list_choose-loop-k-preserved t c =
+    let a = c.args in
+    let l = c.loop-k in
+    choosing_more a.on.now a.frame.now a.path.now a.over a.test.now a.body.now a.none.now c.as_slice-all.result.now (c.as_slice-all.ensures.value ∙ c.in_ok-values.ensures)
+    l.k (value_of_code c.kept.result.value) (c.candidate_at-value.ensures ∙ ap Some (sym c.kept.ensures)) c.in_ok-part.part.items l.found.items c.add_part.new.found.items
+    c.in_ok-part.ensures c.in_ok-add_part.ensures.picks l.invariant
+
+pub list_choose-returns : goal.list_choose-returns
+list_choose-returns t c =
+    let a = c.args in
+    let l = c.loop-k in
+    let some : 0 < length c.as_slice-all.result.now = omega (arith, c.if-all-eq0.false) in
+    choosing_all a.on.now a.frame.now a.path.now a.over a.test.now a.body.now a.none.now c.as_slice-all.result.now (c.as_slice-all.ensures.value ∙ c.in_ok-values.ensures)
+    some l.k l.found.items (omega arith) l.invariant
+
+-- ---- calls
+
+pub list_call-returns : goal.list_call-returns
+list_call-returns t c =
+    let a = c.args in
+    ok_same (shape_on a.on.now) _ _ c.list_part.result
+    (call_with a.on.now a.frame.now a.path.now a.body.now a.answer.now a.arguments.now c.in_ok-answer.answer c.in_ok-answer.ensures.location)
+    c.list_part.ensures
+
+-- ---- one after the other
+
+pub list_in_order-loop-i-init : goal.list_in_order-loop-i-init
+list_in_order-loop-i-init t c =
+    let a = c.args in
+    let total = in_order_on a.on.now a.frame.now a.path.now (rules_of (map rule_of a.parts.now)) in
+    let left = order_left a.on.now a.frame.now a.path.now a.parts.now 0 in
+    subst (λ d. Underway (shape_on a.on.now) (state_on a.on.now) total left d c.in_ok-begin.begin.items) (sym c.new.ensures.items)
+    (begun (shape_on a.on.now) (state_on a.on.now) total left (λ s. refl) c.in_ok-begin.begin.items c.in_ok-begin.ensures)
+
+pub list_in_order-list_next-requires : goal.list_in_order-list_next-requires
+list_in_order-list_next-requires t c =
+    let a = c.args in
+    let l = c.loop-i in
+    let less = size_of_part a.parts.now l.i c.index-parts-i.result c.loop-i-test.true c.index-parts-i.is in (
+      omega (arith, c.decreases, less),
+      (
+        sound_part (shape_on a.on.now) a.parts.now l.i c.index-parts-i.result c.loop-i-test.true c.index-parts-i.is c.requires.sound,
+        (c.requires.framed, subst (AreCounted (count_of (shape_on a.on.now))) (sym c.as_slice-front.ensures.value) l.invariant.front_counted),
+      ),
+    )
+
+pub list_in_order-loop-i-preserved : goal.list_in_order-loop-i-preserved
+list_in_order-loop-i-preserved t c =
+    let a = c.args in
+    let l = c.loop-i in
+    let here = here_on a.on.now a.frame.now (at a.path.now l.i) (rule_of c.index-parts-i.result) in
+    underway_next (shape_on a.on.now) false (state_on a.on.now) here (in_order_on a.on.now a.frame.now a.path.now (rules_of (map rule_of a.parts.now)))
+    (order_left a.on.now a.frame.now a.path.now a.parts.now l.i) (order_left a.on.now a.frame.now a.path.now a.parts.now (l.i + 1))
+    (order_steps a.on.now a.frame.now a.path.now a.parts.now l.i c.index-parts-i.result c.loop-i-test.true c.index-parts-i.is)
+    l.sorted c.in_ok-next.next
+    (subst (λ fs. Next (shape_on a.on.now) false (state_on a.on.now) here fs l.sorted.done.items c.in_ok-next.next) c.as_slice-front.ensures.value c.in_ok-next.ensures)
+    l.invariant
+
+pub list_in_order-returns : goal.list_in_order-returns
+list_in_order-returns t c =
+    let a = c.args in
+    let l = c.loop-i in
+    c.in_ok-found.ensures.lists (shape_on a.on.now) (state_on a.on.now) (in_order_on a.on.now a.frame.now a.path.now (rules_of (map rule_of a.parts.now))) (order_left a.on.now a.frame.now a.path.now a.parts.now l.i)
+    (order_ends a.on.now a.frame.now a.path.now a.parts.now l.i (omega arith)) l.invariant
+
+pub list_turns-loop-turn-init : goal.list_turns-loop-turn-init
+list_turns-loop-turn-init t c =
+    let a = c.args in
+    let R = rule_of a.body.now in
+    let total = yields_on a.on.now a.frame.now a.path.now (tree.Iterate R) in
+    let left = turns_left a.on.now a.frame.now a.path.now R (a.on.now.turns - 0) 0 in
+    let all : a.on.now.turns ≡ a.on.now.turns - 0 = omega arith in
+    subst (λ d. Underway (shape_on a.on.now) (state_on a.on.now) total left d c.in_ok-begin.begin.items) (sym c.new.ensures.items)
+    (begun (shape_on a.on.now) (state_on a.on.now) total left
+    (λ s. sym (iterate_yields a.on.now a.frame.now a.path.now R s) ∙ ap (λ n. turns_left a.on.now a.frame.now a.path.now R n 0 s (state_on a.on.now)) all)
+    c.in_ok-begin.begin.items c.in_ok-begin.ensures)
+
+pub list_turns-returns-then-waiting-eq0 : goal.list_turns-returns-then-waiting-eq0
+list_turns-returns-then-waiting-eq0 t c =
+    let a = c.args in
+    let l = c.loop-turn in
+    ended (shape_on a.on.now) (state_on a.on.now) (yields_on a.on.now a.frame.now a.path.now (tree.Iterate (rule_of a.body.now)))
+    (turns_left a.on.now a.frame.now a.path.now (rule_of a.body.now) (a.on.now.turns - l.turn) l.turn) l.sorted.done.items l.sorted.more.items
+    (sym c.as_slice-waiting.ensures.value ∙ no_elements c.as_slice-waiting.result.now c.if-waiting-eq0.true) l.invariant
+
+pub list_turns-list_next-requires : goal.list_turns-list_next-requires
+list_turns-list_next-requires t c =
+    let a = c.args in
+    (omega (arith, c.decreases), (c.requires.sound, (c.requires.framed, subst (AreCounted (count_of (shape_on a.on.now))) (sym c.as_slice-front.ensures.value) c.loop-turn.invariant.front_counted)))
+
+pub list_turns-loop-turn-preserved : goal.list_turns-loop-turn-preserved
+list_turns-loop-turn-preserved t c =
+    let a = c.args in
+    let l = c.loop-turn in
+    let R = rule_of a.body.now in
+    let here = here_on a.on.now a.frame.now (at a.path.now l.turn) R in
+    let then = turns_left a.on.now a.frame.now a.path.now R (a.on.now.turns - (l.turn + 1)) (l.turn + 1) in
+    let one : suc (a.on.now.turns - (l.turn + 1)) ≡ a.on.now.turns - l.turn = omega (arith, c.loop-turn-test.true) in
+    underway_next (shape_on a.on.now) true (state_on a.on.now) here (yields_on a.on.now a.frame.now a.path.now (tree.Iterate R))
+    (turns_left a.on.now a.frame.now a.path.now R (a.on.now.turns - l.turn) l.turn) then
+    (subst (λ n. StepsTo true (turns_left a.on.now a.frame.now a.path.now R n l.turn) here then) one (turn_steps a.on.now a.frame.now a.path.now R (a.on.now.turns - (l.turn + 1)) l.turn))
+    l.sorted c.in_ok-next.next
+    (subst (λ n. Next (shape_on a.on.now) true (state_on a.on.now) (here_on a.on.now a.frame.now (at a.path.now n) R) l.sorted.more.items l.sorted.done.items c.in_ok-next.next) c.from-number.ensures
+    (subst (λ fs. Next (shape_on a.on.now) true (state_on a.on.now) (here_on a.on.now a.frame.now (at a.path.now c.from-number.result) R) fs l.sorted.done.items c.in_ok-next.next) c.as_slice-front.ensures.value c.in_ok-next.ensures))
+    l.invariant
+
+pub list_turns-returns : goal.list_turns-returns
+list_turns-returns t c =
+    let a = c.args in
+    let l = c.loop-turn in
+    let R = rule_of a.body.now in
+    let past : a.on.now.turns - l.turn ≡ 0 = omega (arith, c.loop-turn-test.false) in
+    c.in_ok-found.ensures.lists (shape_on a.on.now) (state_on a.on.now) (yields_on a.on.now a.frame.now a.path.now (tree.Iterate R))
+    (turns_left a.on.now a.frame.now a.path.now R (a.on.now.turns - l.turn) l.turn)
+    (λ s B. ap (λ n. turns_left a.on.now a.frame.now a.path.now R n l.turn s B) past) l.invariant
+
+pub list_next-loop-i-init : goal.list_next-loop-i-init
+list_next-loop-i-init t c =
+    let a = c.args in
+    next_none (shape_on a.on.now) a.turns (state_on a.on.now) (here_on a.on.now a.frame.now (at a.path.now a.number) (rule_of a.rule.now)) a.front.now a.done.items
+    (record { done = a.done; more = c.new.result }) refl c.new.ensures.items
+
+pub list_next-list_one-requires : goal.list_next-list_one-requires
+list_next-list_one-requires t c =
+    let a = c.args in
+    let l = c.loop-i in
+    (omega (arith, c.decreases), (c.requires.sound, (c.requires.framed, each_at (λ f. IsCounted (count_of (shape_on a.on.now)) f.answer) a.front.now l.i c.index-front-i.result c.loop-i-test.true c.index-front-i.is c.requires.counted)))
+
+pub list_next-loop-i-preserved : goal.list_next-loop-i-preserved
+list_next-loop-i-preserved t c =
+    let a = c.args in
+    let l = c.loop-i in
+    next_more (shape_on a.on.now) a.turns (state_on a.on.now) (here_on a.on.now a.frame.now (at a.path.now a.number) (rule_of a.rule.now)) a.front.now l.i c.index-front-i.result a.done.items
+    l.sorted c.list_one.new.sorted c.loop-i-test.true c.index-front-i.is c.in_ok-list_one.ensures l.invariant
+
+pub list_next-returns : goal.list_next-returns
+list_next-returns t c =
+    let a = c.args in
+    let l = c.loop-i in
+    next_all (shape_on a.on.now) a.turns (state_on a.on.now) (here_on a.on.now a.frame.now (at a.path.now a.number) (rule_of a.rule.now)) a.front.now l.i a.done.items l.sorted (omega arith) l.invariant
+
+pub list_one-list_upon-requires : goal.list_one-list_upon-requires
+list_one-list_upon-requires t c =
+    let a = c.args in
+    (omega (arith, c.decreases), (c.requires.sound, (c.requires.framed, subst (IsCounted (count_of (shape_on a.on.now))) c.in-Set.is c.requires.counted)))
+
+pub list_one-returns-in_ok-sort_part-in-Set : goal.list_one-returns-in_ok-sort_part-in-Set
+list_one-returns-in_ok-sort_part-in-Set t c =
+    let a = c.args in
+    let upon = c.in_ok-part-in-Set.ensures in
+    next_one (shape_on a.on.now) a.turns (state_on a.on.now) (here_on a.on.now a.frame.now (at a.path.now a.number) (rule_of a.rule.now)) a.one.now c.in-Set.so_far c.in_ok-part-in-Set.part.items
+    a.sorted.now c.sort_part.new.sorted c.in-Set.is upon.state upon.fired upon.lists c.in_ok-sort_part-in-Set.ensures.sorts
+
+pub list_upon-returns-in_err-found : goal.list_upon-returns-in_err-found
+list_upon-returns-in_err-found t c =
+    record { state = shown c.upon-view.result; fired = λ U stands consistent. c.upon-view.ensures.fired U stands consistent; lists = search rules }
+
+pub list_upon-returns : goal.list_upon-returns
+list_upon-returns t c =
+    let a = c.args in
+    let v = c.upon-view.result in
+    record {
+      state = shown v;
+      fired = λ U stands consistent. c.upon-view.ensures.fired U stands consistent;
+      lists = subst (λ sh. Lists sh (λ s. (meaning sh a.on.now.turns (picked s) (rule_of a.rule.now) (readings_of sh a.frame.now) (places_of sh a.frame.now) (shown v) (at a.path.now a.number)).result) c.in_ok-found.found.items)
+          c.upon-view.ensures.signature c.in_ok-found.ensures;
+    }

@@ -1,0 +1,95 @@
+use Rattle.std.proofs.Common.{◌+◌, ◌*◌, ◌-◌, ◌≤◌, length, map, take}
+use Rattle.asm_meaning.specs.Yields.{at}
+use Rattle.asm_eval.specs.RuleMeaning.{rule_size, rule_sizes}
+use Rattle.asm_eval.specs.RuleTree as tree
+use Rattle.asm_eval.specs.RuleViews.{rule_of, rules_of}
+use Rattle.asm_explore.specs.Explored.{shape_on, state_on, yields_on, in_order_on, here_on}
+use Rattle.asm_explore.specs.Lists.{Lists}
+use Rattle.asm_explore.specs.Sequences.{Underway, Next}
+use Rattle.asm_explore.proofs.Yielded.{parts_left, each_left, IsChoosing, order_left, turns_left}
+use Rattle.asm_explore.proofs.outcomes.+list.Given as goal
+
+-- ---- that it ends: each goes by the rule that it lists
+
+abbrev pub decreases-outcomes : goal.decreases-outcomes
+decreases-outcomes l = 8 * rule_size (rule_of l.rule.now) + 1
+
+abbrev pub decreases-list_part : goal.decreases-list_part
+decreases-list_part l = 8 * rule_size (rule_of l.rule.now) + 2
+
+abbrev pub decreases-list_if : goal.decreases-list_if
+decreases-list_if l = 8 * (rule_size (rule_of l.yes.now) + rule_size (rule_of l.no.now)) + 7
+
+abbrev pub decreases-list_let : goal.decreases-list_let
+decreases-list_let l = 8 * rule_size (rule_of l.body.now) + 7
+
+abbrev pub decreases-list_all : goal.decreases-list_all
+decreases-list_all l = 8 * rule_sizes (rules_of (map rule_of l.parts.now)) + 7
+
+abbrev pub decreases-list_each : goal.decreases-list_each
+decreases-list_each l = 8 * rule_size (rule_of l.body.now) + 7
+
+abbrev pub decreases-list_element : goal.decreases-list_element
+decreases-list_element l = 8 * rule_size (rule_of l.body.now) + 3
+
+abbrev pub decreases-list_choose : goal.decreases-list_choose
+decreases-list_choose l = 8 * (rule_size (rule_of l.body.now) + rule_size (rule_of l.none.now)) + 7
+
+abbrev pub decreases-list_call : goal.decreases-list_call
+decreases-list_call l = 8 * rule_size (rule_of l.body.now) + 7
+
+abbrev pub decreases-list_in_order : goal.decreases-list_in_order
+decreases-list_in_order l = 8 * rule_sizes (rules_of (map rule_of l.parts.now)) + 7
+
+abbrev pub decreases-list_turns : goal.decreases-list_turns
+decreases-list_turns l = 8 * rule_size (rule_of l.body.now) + 7
+
+abbrev pub decreases-list_next : goal.decreases-list_next
+decreases-list_next l = 8 * rule_size (rule_of l.rule.now) + 6
+
+abbrev pub decreases-list_one : goal.decreases-list_one
+decreases-list_one l = 8 * rule_size (rule_of l.rule.now) + 5
+
+abbrev pub decreases-list_upon : goal.decreases-list_upon
+decreases-list_upon l = 8 * rule_size (rule_of l.rule.now) + 4
+
+-- ---- the loops
+
+-- what the last parts yield
+abbrev pub invariant-list_all-loop-i : goal.invariant-list_all-loop-i
+invariant-list_all-loop-i l = record {
+  within : l.i ≤ length l.parts;
+  lists : Lists (shape_on l.on) (parts_left l.on l.frame l.path l.parts l.i) l.found.items;
+}
+
+abbrev pub decreases-list_all-loop-i : goal.decreases-list_all-loop-i
+decreases-list_all-loop-i l = l.i
+
+-- what the body yields for the last values
+abbrev pub invariant-list_each-loop-i : goal.invariant-list_each-loop-i
+invariant-list_each-loop-i l = record {
+  within : l.i ≤ length l.universe;
+  lists : Lists (shape_on l.on) (each_left l.on l.frame l.path l.over l.test l.body (length l.universe) l.universe l.i) l.found.items;
+}
+
+abbrev pub decreases-list_each-loop-i : goal.decreases-list_each-loop-i
+decreases-list_each-loop-i l = l.i
+
+-- what the body yields for the first candidates
+abbrev pub invariant-list_choose-loop-k : goal.invariant-list_choose-loop-k
+invariant-list_choose-loop-k l = IsChoosing l.on l.frame l.path l.over l.test l.body l.none l.all l.k l.found.items
+
+-- the outcomes so far of the parts, and of the turns
+abbrev pub invariant-list_in_order-loop-i : goal.invariant-list_in_order-loop-i
+invariant-list_in_order-loop-i l =
+    Underway (shape_on l.on) (state_on l.on) (in_order_on l.on l.frame l.path (rules_of (map rule_of l.parts))) (order_left l.on l.frame l.path l.parts l.i) l.sorted.done.items l.sorted.more.items
+
+abbrev pub invariant-list_turns-loop-turn : goal.invariant-list_turns-loop-turn
+invariant-list_turns-loop-turn l =
+    Underway (shape_on l.on) (state_on l.on) (yields_on l.on l.frame l.path (tree.Iterate (rule_of l.body)))
+    (turns_left l.on l.frame l.path (rule_of l.body) (l.on.turns - l.turn) l.turn) l.sorted.done.items l.sorted.more.items
+
+-- the first of those that go on have gone on
+abbrev pub invariant-list_next-loop-i : goal.invariant-list_next-loop-i
+invariant-list_next-loop-i l =
+    Next (shape_on l.on) l.turns (state_on l.on) (here_on l.on l.frame (at l.path l.number) (rule_of l.rule)) (take l.i l.front) l.initial.sorted.done.items l.sorted

@@ -1,0 +1,98 @@
+use Rattle.std.proofs.Common.{◌≡◌, ◌≤◌, ◌∙◌, length, ap, sym, subst, arith}
+use Rattle.std.specs.Prelude.{Some, IfNone, IfSome, slice_get}
+use Rattle.std.proofs.lemmas.Option.{slice_get-get_or}
+use Rattle.asm_meaning.specs.Yields.{Result}
+use Rattle.asm_explore.specs.declared.node.Node.{Node}
+use Rattle.asm_explore.specs.Lists.{Shows}
+use Rattle.asm_explore.specs.Reached.{IsOutcome, IsBadStep, Known, state_at}
+use Rattle.asm_explore.specs.Search.{LeadsOn}
+use Rattle.asm_explore.proofs.ListLemmas.{each_at}
+use Rattle.asm_explore.proofs.Reaching.{extends_none, extends_both, outcome_more, bad_step_less, follows_none, follows_more, follows_all, shallow_more}
+use Rattle.asm_explore.specs.declared.halt.Halt.TheVariants as halt
+use Rattle.asm_explore.proofs.Endings.{full_on}
+use Rattle.asm_explore.proofs.search.follow_all.Goals as goal
+
+pub loop-k-init : goal.loop-k-init
+loop-k-init g c =
+    let a = c.args in
+    let shape = g.M.Machine.shape a.machine.now in
+    let specification = g.M.Machine.specification a.machine.now in
+    let turns = g.M.Machine.turns a.machine.now in
+    let right = g.M.Machine.right a.machine.now in
+    record {
+      extends = extends_none shape specification turns right a.below a.nodes.now.items;
+      follows = follows_none shape specification turns right a.nodes.now.items a.from a.below a.outcomes.now a.nodes.now.items;
+    }
+
+pub follow-requires-clause-outcome : goal.follow-requires-clause-outcome
+follow-requires-clause-outcome g c =
+    let a = c.args in
+    let l = c.loop-k in
+    let shape = g.M.Machine.shape a.machine.now in
+    let specification = g.M.Machine.specification a.machine.now in
+    let turns = g.M.Machine.turns a.machine.now in
+    let right = g.M.Machine.right a.machine.now in
+    let f = c.index-outcomes-k.result in
+    outcome_more shape specification turns right a.below a.nodes.now.items l.nodes.items l.invariant.extends a.from f c.requires.from
+    (each_at (IsOutcome shape specification turns a.nodes.now.items a.from a.below) a.outcomes.now l.k f c.loop-k-test.true c.index-outcomes-k.is c.requires.sound)
+
+pub loop-k-preserved : goal.loop-k-preserved
+loop-k-preserved g c =
+    let a = c.args in
+    let l = c.loop-k in
+    let shape = g.M.Machine.shape a.machine.now in
+    let specification = g.M.Machine.specification a.machine.now in
+    let turns = g.M.Machine.turns a.machine.now in
+    let right = g.M.Machine.right a.machine.now in
+    let f = c.index-outcomes-k.result in
+    record {
+      extends = extends_both shape specification turns right a.below a.nodes.now.items l.nodes.items c.follow.new.nodes.items l.invariant.extends c.in_ok-fault.ensures.extends;
+      follows = follows_more shape specification turns right a.nodes.now.items a.from a.below a.outcomes.now l.k f l.nodes.items c.follow.new.nodes.items
+          c.loop-k-test.true c.index-outcomes-k.is l.invariant.extends c.in_ok-fault.ensures.extends
+          (subst (λ o. IfNone o ((n : Node) (r : Result) → slice_get l.nodes.items a.from ≡ Some n → Shows shape f.answer r → LeadsOn r (state_at shape n) (Known shape c.follow.new.nodes.items a.below))) c.in_default.is
+          c.in_ok-fault.ensures.leads) l.invariant.follows;
+    }
+
+pub returns-in-Some-clause-extends : goal.returns-in-Some-clause-extends
+returns-in-Some-clause-extends g c =
+    let a = c.args in
+    let l = c.loop-k in
+    extends_both (g.M.Machine.shape a.machine.now) (g.M.Machine.specification a.machine.now) (g.M.Machine.turns a.machine.now) (g.M.Machine.right a.machine.now) a.below
+    a.nodes.now.items l.nodes.items c.follow.new.nodes.items l.invariant.extends c.in_ok-fault.ensures.extends
+
+pub returns-in_err-fault-clause-extends : goal.returns-in_err-fault-clause-extends
+returns-in_err-fault-clause-extends g c =
+    let a = c.args in
+    let l = c.loop-k in
+    extends_both (g.M.Machine.shape a.machine.now) (g.M.Machine.specification a.machine.now) (g.M.Machine.turns a.machine.now) (g.M.Machine.right a.machine.now) a.below
+    a.nodes.now.items l.nodes.items c.follow.new.nodes.items l.invariant.extends c.follow.ensures.extends
+
+pub returns-in-Some-clause-wrong : goal.returns-in-Some-clause-wrong
+returns-in-Some-clause-wrong g c =
+    let a = c.args in
+    let l = c.loop-k in
+    let f = c.index-outcomes-k.result in (
+      f,
+      slice_get-get_or a.outcomes.now l.k f c.loop-k-test.true ∙ ap Some (sym c.index-outcomes-k.is),
+      bad_step_less (g.M.Machine.shape a.machine.now) (g.M.Machine.specification a.machine.now) (g.M.Machine.turns a.machine.now) (g.M.Machine.right a.machine.now) a.below
+          a.nodes.now.items l.nodes.items l.invariant.extends a.from f.choices.items c.in-Some.fault c.requires.from
+          (subst (λ o. IfSome o (IsBadStep (g.M.Machine.shape a.machine.now) (g.M.Machine.specification a.machine.now) (g.M.Machine.turns a.machine.now) (g.M.Machine.right a.machine.now) l.nodes.items a.from f.choices.items)) c.in-Some.is c.in_ok-fault.ensures.wrong),
+    )
+
+pub returns-clause-leads : goal.returns-clause-leads
+returns-clause-leads g c =
+    let a = c.args in
+    let l = c.loop-k in
+    follows_all (g.M.Machine.shape a.machine.now) (g.M.Machine.specification a.machine.now) (g.M.Machine.turns a.machine.now) (g.M.Machine.right a.machine.now)
+    a.nodes.now.items a.from a.below a.outcomes.now l.k l.nodes.items (omega arith) l.invariant.follows
+
+pub follow-requires-clause-near : goal.follow-requires-clause-near
+follow-requires-clause-near g c =
+    let a = c.args in
+    let l = c.loop-k in
+    shallow_more (g.M.Machine.shape a.machine.now) (g.M.Machine.specification a.machine.now) (g.M.Machine.turns a.machine.now) (g.M.Machine.right a.machine.now) a.below
+    a.nodes.now.items l.nodes.items l.invariant.extends c.requires.near
+
+pub returns-in_err-fault-clause-full : goal.returns-in_err-fault-clause-full
+returns-in_err-fault-clause-full g c =
+    full_on (λ h. h ≡ halt.States → c.args.limit ≤ length c.follow.new.nodes.items) c.follow.result c.from_residual.result c.in_err-fault.field-0.0 c.in_err-fault.was c.from_residual.ensures.1 c.follow.ensures.full

@@ -1,0 +1,53 @@
+use Rattle.std.proofs.Common.{◌∙◌, ◌++◌, ap, subst, refl, inl, inr}
+use Rattle.asm_explore.specs.declared.found.Answer.TheVariants as answer
+use Rattle.asm_explore.specs.declared.found.Found.{Found}
+use Rattle.asm_explore.specs.Sequences.{IsTold}
+use Rattle.asm_explore.proofs.Sequenced.{ends_exhausted, ends_set, goes_set}
+use Rattle.asm_explore.proofs.sorting.sort_one.Goals as goal
+
+pub returns-in_ok-add-in-Exhausted : goal.returns-in_ok-add-in-Exhausted
+returns-in_ok-add-in-Exhausted c =
+    let a = c.args in
+    let joined : Found = record { choices = c.in_ok-choices.choices; answer = answer.Exhausted c.in_ok-path-in-Exhausted.path } in
+    record {
+      joined = joined;
+      chosen = c.in_ok-choices.ensures ∙ ap (λ cs. a.choices.now ++ cs) c.as_slice.ensures.value;
+      counted = tt;
+      went = inl (
+        ends_exhausted a.signature.now a.turns a.so_far.now.set a.one.now joined c.in-Exhausted.path c.in_ok-path-in-Exhausted.path c.in-Exhausted.is refl c.in_ok-path-in-Exhausted.ensures,
+        c.in_ok-add-in-Exhausted.ensures,
+        refl,
+      );
+    }
+
+pub returns-in_ok-add-in-Set : goal.returns-in_ok-add-in-Set
+returns-in_ok-add-in-Set c =
+    let a = c.args in
+    let joined : Found = record { choices = c.in_ok-choices.choices; answer = answer.Set c.in_ok-joined-in-Set.joined } in
+    record {
+      joined = joined;
+      chosen = c.in_ok-choices.ensures ∙ ap (λ cs. a.choices.now ++ cs) c.as_slice.ensures.value;
+      counted = c.in_ok-joined-in-Set.ensures.count ∙ c.requires.so_far;
+      went = inl (
+        ends_set a.signature.now a.turns a.so_far.now.set a.one.now joined c.in-Set.set c.in_ok-joined-in-Set.joined c.in-Set.is refl c.in_ok-joined-in-Set.ensures.merges
+            (subst (IsTold a.signature.now a.turns c.in-Set.set.set) c.if-last.true c.is_last-last.ensures),
+        c.in_ok-add-in-Set.ensures,
+        refl,
+      );
+    }
+
+pub returns-in_ok-add-in-Set-2 : goal.returns-in_ok-add-in-Set-2
+returns-in_ok-add-in-Set-2 c =
+    let a = c.args in
+    let joined : Found = record { choices = c.in_ok-choices.choices; answer = answer.Set c.in_ok-joined-in-Set.joined } in
+    record {
+      joined = joined;
+      chosen = c.in_ok-choices.ensures ∙ ap (λ cs. a.choices.now ++ cs) c.as_slice.ensures.value;
+      counted = c.in_ok-joined-in-Set.ensures.count ∙ c.requires.so_far;
+      went = inr (
+        goes_set a.signature.now a.turns a.so_far.now.set a.one.now joined c.in-Set.set c.in_ok-joined-in-Set.joined c.in-Set.is refl c.in_ok-joined-in-Set.ensures.merges
+            (subst (IsTold a.signature.now a.turns c.in-Set.set.set) c.if-last.false c.is_last-last.ensures),
+        c.in_ok-add-in-Set-2.ensures,
+        refl,
+      );
+    }

@@ -1,0 +1,52 @@
+-- What resolved rules yield in the state of an exploration.
+--     shape_on, state_on           the shape of the state, and the state
+--     outcome_on on f p R s A      what R yields under a frame, at a path, in a situation and a state
+--     here_on, yields_on           its result, and that in the state of the exploration
+--     parts_on, in_order_on        the results of rules beside and after each other
+use Rattle.std.specs.Prelude.{ℕ}
+use Rattle.asm_state.specs.Location.{State}
+use Rattle.asm_state.specs.Signature.{Shape}
+use Rattle.asm_meaning.specs.Does.{Outcome, parts, in_order, turns_of}
+use Rattle.asm_meaning.specs.Program.{nothing_bound}
+use Rattle.asm_meaning.specs.Valued.{shown}
+use Rattle.asm_meaning.specs.Yields.{Path, Result}
+use Rattle.asm_eval.specs.Frames.{readings_of}
+use Rattle.asm_eval.specs.RuleMeaning.{meaning, meanings}
+use Rattle.asm_eval.specs.RuleTree.{RuleCode, RuleCodes}
+use Rattle.asm_eval.specs.Running.{places_of}
+use Rattle.asm_eval.specs.declared.frame.Frame.{Frame}
+use Rattle.asm_explore.specs.declared.exploration.Exploration.{Exploration}
+use Rattle.asm_explore.specs.Lists.{Situation, picked}
+
+module _ (on : Exploration) where
+  abbrev pub shape_on : Shape
+  shape_on = on.view.now.signature.now
+
+  abbrev pub state_on : State
+  state_on = shown on.view.now
+
+  abbrev pub outcome_on : Frame → Path → RuleCode → Situation → State → Outcome
+  outcome_on f p R s A = meaning shape_on on.turns (picked s) R (readings_of shape_on f) (places_of shape_on f) A p
+
+  abbrev pub here_on : Frame → Path → RuleCode → Situation → State → Result
+  here_on f p R s A = (outcome_on f p R s A).result
+
+  abbrev pub yields_on : Frame → Path → RuleCode → Situation → Result
+  yields_on f p R s = here_on f p R s state_on
+
+  -- rules beside each other, and after each other, from number k on
+  abbrev pub parts_from : Frame → Path → ℕ → RuleCodes → Situation → Outcome
+  parts_from f p k Rs s = parts (meanings shape_on on.turns (picked s) Rs (readings_of shape_on f) (places_of shape_on f)) k state_on nothing_bound p
+
+  abbrev pub in_order_from : Frame → Path → ℕ → RuleCodes → Situation → State → Outcome
+  in_order_from f p k Rs s A = in_order (meanings shape_on on.turns (picked s) Rs (readings_of shape_on f) (places_of shape_on f)) k A nothing_bound p
+
+  -- turns from number t on, of which so many are left
+  abbrev pub turns_from : Frame → Path → (left t : ℕ) → RuleCode → Situation → State → Outcome
+  turns_from f p left t R s A = turns_of (λ A e p. outcome_on f p R s A) left t A nothing_bound p
+
+  abbrev pub parts_on : Frame → Path → RuleCodes → Situation → Result
+  parts_on f p Rs s = (parts_from f p 0 Rs s).result
+
+  abbrev pub in_order_on : Frame → Path → RuleCodes → Situation → Result
+  in_order_on f p Rs s = (in_order_from f p 0 Rs s state_on).result

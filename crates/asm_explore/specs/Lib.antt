@@ -1,0 +1,13 @@
+pub mod Marks
+pub mod Lists
+pub mod Written
+pub mod Explored
+pub mod Crowds
+pub mod Sequences
+pub mod Search
+pub mod Reached
+pub mod ScriptTo
+pub mod Ends
+pub mod Answers
+pub mod Conditions
+pub mod ChoiceLaws

@@ -1,0 +1,92 @@
+-- The outcomes of a rule through all scripts.
+--     Situation            who says what is taken: a script, in a step
+--     AreTaken s cs        the script takes these choices in this step
+--     Shows shape a r      an answer of the code is this result
+--     IsShownBy a b        whatever the answer a shows, b shows too
+--     Shown shape fs r     some answer of a list is
+--     Grows, IsJoined      how lists grow by one outcome, and by one beside each of a list
+--     IsPicked             and by those of a candidate that is taken
+--     Lists shape o fs     a list has what a rule yields in each situation, and nothing else: each of its answers comes in every
+--                          situation whose script takes the answer's choices
+use Rattle.std.specs.Prelude.{◌≡◌, ℕ, List, [], ◌∷◌, ◌++◌, ◌⊎◌}
+use Rattle.asm_state.specs.Signature.{Shape, count_of}
+use Rattle.asm_updates.specs.Stands.{Stands}
+use Rattle.asm_reader.specs.ScriptLines.{Script, pick}
+use Rattle.asm_meaning.specs.Yields.{Result, Gives, Exhausted, beside}
+use Rattle.asm_explore.specs.declared.found.Choice.{Choice}
+use Rattle.asm_explore.specs.declared.found.Answer.{Answer}
+use Rattle.asm_explore.specs.declared.found.Answer.TheVariants as answer
+use Rattle.asm_explore.specs.declared.found.Found.{Found}
+
+pub record Situation : Type 0 where
+  pub script : Script
+  pub step : ℕ
+
+abbrev pub picked : Situation → List ℕ → ℕ
+picked s = pick s.script s.step
+
+-- it holds of each, of some
+abbrev pub Each : {X : Type 0} → (X → Type 0) → List X → Type 0
+Each P [] = Unit {0}
+Each P (x ∷ xs) = P x × Each P xs
+
+abbrev pub AnyOf : {X : Type 0} → (X → Type 0) → List X → Type 0
+AnyOf P [] = ⊥
+AnyOf P (x ∷ xs) = P x ⊎ AnyOf P xs
+
+abbrev pub IsTaken : Situation → Choice → Type 0
+IsTaken s c = picked s c.path ≡ c.number
+
+abbrev pub AreTaken : Situation → List Choice → Type 0
+AreTaken s cs = Each (IsTaken s) cs
+
+abbrev pub Shows : Shape → Answer → Result → Type 0
+Shows shape (answer.Set updates) (Gives U) = Stands shape updates.set U
+Shows shape (answer.Set updates) (Exhausted q) = ⊥
+Shows shape (answer.Exhausted p) (Gives U) = ⊥
+Shows shape (answer.Exhausted p) (Exhausted q) = p ≡ q
+
+-- whatever the one shows the other shows too
+abbrev pub IsShownBy : Answer → Answer → Type 0
+IsShownBy a b = (shape : Shape) (r : Result) → Shows shape a r → Shows shape b r
+
+abbrev pub Shown : Shape → List Found → Result → Type 0
+Shown shape fs r = AnyOf (λ f. Shows shape f.answer r) fs
+
+-- the sets of a list have this count of locations
+abbrev pub IsCounted : ℕ → Answer → Type 0
+IsCounted count (answer.Set updates) = updates.set.count ≡ count
+IsCounted count (answer.Exhausted p) = Unit {0}
+
+abbrev pub AreCounted : ℕ → List Found → Type 0
+AreCounted count fs = Each (λ f. IsCounted count f.answer) fs
+
+-- what is found in each situation that makes the choices
+abbrev pub IsSound : Shape → (Situation → Result) → Found → Type 0
+IsSound shape o f = (s : Situation) → AreTaken s f.choices.items → Shows shape f.answer (o s)
+
+pub record Lists (shape : Shape) (o : Situation → Result) (fs : List Found) : Type 0 where
+  pub counted : AreCounted (count_of shape) fs
+  pub complete : (s : Situation) → Shown shape fs (o s)
+  pub sound : Each (IsSound shape o) fs
+
+-- a list with one more outcome, or with none more where its answer stands in it
+pub record Grows (old : List Found) (one : Found) (new : List Found) : Type 0 where
+  pub kept : (new ≡ old) ⊎ (new ≡ old ++ one ∷ [])
+  pub shown : (shape : Shape) (r : Result) → Shows shape one.answer r → Shown shape new r
+
+-- a list with one outcome beside each of another list
+pub record IsJoined (shape : Shape) (left : Found) (right old new : List Found) : Type 0 where
+  pub counted : AreCounted (count_of shape) old → AreCounted (count_of shape) new
+  pub older : (r : Result) → Shown shape old r → Shown shape new r
+  pub shown : (x y : Result) → Shows shape left.answer x → Shown shape right y → Shown shape new (beside x y)
+  pub sound : (o q : Situation → Result) → IsSound shape o left → Each (IsSound shape q) right
+      → Each (IsSound shape (λ s. beside (o s) (q s))) old → Each (IsSound shape (λ s. beside (o s) (q s))) new
+
+-- a list with the outcomes of a part, each with one more choice
+pub record IsPicked (p : List ℕ) (k : ℕ) (part old new : List Found) : Type 0 where
+  pub counted : (n : ℕ) → AreCounted n part → AreCounted n old → AreCounted n new
+  pub older : (shape : Shape) (r : Result) → Shown shape old r → Shown shape new r
+  pub shown : (shape : Shape) (r : Result) → Shown shape part r → Shown shape new r
+  pub sound : (shape : Shape) (o q : Situation → Result) → Each (IsSound shape o) part → ((s : Situation) → picked s p ≡ k → o s ≡ q s)
+      → Each (IsSound shape q) old → Each (IsSound shape q) new

@@ -1,0 +1,140 @@
+-- States that a search has reached.
+--     steps_from        what a step from a state yields in each situation
+--     Known nodes d A   some node of depth d or less has the state A
+--     Expanded          whatever a step yields from a node's state leads on to a state that is known one step deeper
+--     Follows           outcomes of a step lead on to states that are known
+--     GoesWrong         how a step goes wrong
+--     ComesFrom         a node that a step leads to from an earlier one
+--     IsLinked          each node is the first one, or comes from an earlier one
+--     Rises, IsNear     nodes stand in the order of their depths; none is much deeper than one of them
+--     Extends           nodes with more behind them, which have right states, are linked, and have one depth
+--     IsBadStep         a step that goes wrong
+--     IsLooked          what stays true while nodes are expanded
+--     TakesTo, TakesBad a script makes the choices that lead to a node, and those of a bad step from it
+--     GoesWrongSo       each such script has a run that goes wrong
+use Rattle.std.specs.Prelude.{◌≡◌, ℕ, zero, suc, ◌+◌, ◌≤◌, ◌<◌, Bool, true, false, List, [], ◌++◌, ◌⊎◌, length, take, Some, slice_get}
+use Rattle.asm_state.specs.Location.{State}
+use Rattle.asm_state.specs.Signature.{Shape, count_of, state_of}
+use Rattle.asm_state.specs.Updates.{UpdateSet, IsConsistent}
+use Rattle.asm_reader.specs.ScriptLines.{Script}
+use Rattle.asm_meaning.specs.Does.{does}
+use Rattle.asm_meaning.specs.Program.{nothing_bound}
+use Rattle.asm_meaning.specs.Run.{Specification, run}
+use Rattle.asm_meaning.specs.Yields.{Path, Result, Gives, Exhausted}
+use Rattle.asm_explore.specs.declared.explored.Bad.{Bad}
+use Rattle.asm_explore.specs.declared.fault.Fault.{Fault}
+use Rattle.asm_explore.specs.declared.fault.Fault.TheVariants as fault
+use Rattle.asm_explore.specs.declared.found.Choice.{Choice}
+use Rattle.asm_explore.specs.declared.found.Found.{Found}
+use Rattle.asm_explore.specs.declared.node.Node.{Node}
+use Rattle.asm_explore.specs.Lists.{Situation, Each, AnyOf, AreTaken, Shown, IsSound}
+use Rattle.asm_explore.specs.Search.{LeadsOn, EndsSo}
+
+abbrev pub steps_from : Specification → (turns : ℕ) → State → Situation → Result
+steps_from specification turns A s = (does specification.program turns s.script s.step A nothing_bound [] specification.main).result
+
+-- nodes stand in the order of their depths
+abbrev pub Rises : List Node → Type 0
+Rises nodes = (i j : ℕ) (m n : Node) → i ≤ j → slice_get nodes i ≡ Some m → slice_get nodes j ≡ Some n → m.depth ≤ n.depth
+
+-- none is more than one step deeper than the one with this number
+abbrev pub IsNear : List Node → ℕ → Type 0
+IsNear nodes i = (n : Node) → slice_get nodes i ≡ Some n → Each (λ m. m.depth ≤ n.depth + 1) nodes
+
+-- how a step goes wrong
+abbrev pub GoesWrong : (right : State → Bool) → Fault → Result → State → Type 0
+GoesWrong right fault.Exhausted r A = (q : Path) × (r ≡ Exhausted q)
+GoesWrong right fault.Inconsistent r A = (U : UpdateSet) × (r ≡ Gives U) × ¬ (IsConsistent U)
+GoesWrong right fault.Wrong r A = LeadsOn r A (λ B. right B ≡ false)
+
+-- the script makes the choices of the steps that lead to a node, so many
+abbrev pub TakesTo : List Node → Script → ℕ → Node → Type 0
+TakesTo nodes script zero n = Unit {0}
+TakesTo nodes script (suc d) n =
+    AreTaken (record { script = script; step = suc d }) n.choices.items × ((m : Node) → slice_get nodes n.from ≡ Some m → TakesTo nodes script d m)
+
+-- and those of a bad step from it
+abbrev pub TakesBad : List Node → Script → Node → Bad → Type 0
+TakesBad nodes script n bad = TakesTo nodes script n.depth n × AreTaken (record { script = script; step = suc n.depth }) bad.choices.items
+
+-- each script that makes the choices has a run that goes wrong in this step
+pub record GoesWrongSo (specification : Specification) (turns : ℕ) (right : State → Bool) (nodes : List Node) (bad : Bad) : Type 0 where
+  pub from : Node
+  pub there : slice_get nodes bad.from ≡ Some from
+  pub wrong : (script : Script) → TakesBad nodes script from bad → EndsSo right bad.fault (suc from.depth) (run specification turns script (suc from.depth))
+
+module _ (shape : Shape) where
+  abbrev pub state_at : Node → State
+  state_at n = state_of shape n.state
+
+  abbrev pub Known : List Node → ℕ → State → Type 0
+  Known nodes d A = AnyOf (λ n. (n.depth ≤ d) × (state_at n ≡ A)) nodes
+
+  pub record IsGood (right : State → Bool) (n : Node) : Type 0 where
+    pub whole : length n.state ≡ count_of shape
+    pub is_right : right (state_at n) ≡ true
+
+  -- what outcomes of a step from a node's state lead on to is known
+  abbrev pub Follows : (old new : List Node) → (from below : ℕ) → List Found → Type 0
+  Follows old new from below outcomes = (n : Node) (r : Result) → slice_get old from ≡ Some n → Shown shape outcomes r → LeadsOn r (state_at n) (Known new below)
+
+  module _ (specification : Specification) (turns : ℕ) where
+    -- a node that a step leads to from an earlier one, in each situation that makes its choices
+    pub record ComesFrom (nodes : List Node) (n : Node) : Type 0 where
+      pub earlier : Node
+      pub there : slice_get nodes n.from ≡ Some earlier
+      pub deeper : n.depth ≡ earlier.depth + 1
+      pub leads : (s : Situation) → AreTaken s n.choices.items
+          → LeadsOn (steps_from specification turns (state_at earlier) s) (state_at earlier) (λ A. A ≡ state_at n)
+
+    abbrev pub IsFirst : Node → Type 0
+    IsFirst n = (n.depth ≡ 0) × (state_at n ≡ specification.initial)
+
+    abbrev pub IsLinked : List Node → Node → Type 0
+    IsLinked nodes n = IsFirst n ⊎ ComesFrom nodes n
+
+    -- all of one depth
+    pub record Extends (right : State → Bool) (below : ℕ) (old new : List Node) : Type 0 where
+      pub more : List Node
+      pub is : new ≡ old ++ more
+      pub good : Each (IsGood right) more
+      pub linked : Each (IsLinked new) more
+      pub deep : Each (λ n. n.depth ≡ below) more
+
+    -- an outcome of the step from a node, which goes one step deeper
+    abbrev pub IsOutcome : List Node → (from below : ℕ) → Found → Type 0
+    IsOutcome nodes from below f = (n : Node) → slice_get nodes from ≡ Some n → (below ≡ n.depth + 1) × IsSound shape (steps_from specification turns (state_at n)) f
+
+    -- the step from a node leads to a state one step deeper, in each situation that makes these choices
+    abbrev pub LeadsTo : List Node → (from below : ℕ) → List Choice → State → Type 0
+    LeadsTo nodes from below choices B =
+        (n : Node) → slice_get nodes from ≡ Some n
+        → (below ≡ n.depth + 1) × ((s : Situation) → AreTaken s choices → LeadsOn (steps_from specification turns (state_at n) s) (state_at n) (λ A. A ≡ B))
+
+    -- a step from a node that goes wrong, in each situation that makes these choices
+    abbrev pub IsBadStep : (right : State → Bool) → List Node → (from : ℕ) → List Choice → Fault → Type 0
+    IsBadStep right nodes from choices fault =
+        (n : Node) → slice_get nodes from ≡ Some n → (s : Situation) → AreTaken s choices
+        → GoesWrong right fault (steps_from specification turns (state_at n) s) (state_at n)
+
+    abbrev pub Expanded : List Node → Node → Type 0
+    Expanded nodes n = (s : Situation) → LeadsOn (steps_from specification turns (state_at n) s) (state_at n) (Known nodes (n.depth + 1))
+
+    -- the first nodes are expanded, so many, unless they are as deep as the search goes or aren't within
+    pub record IsLooked (right within : State → Bool) (depth : ℕ) (i : ℕ) (nodes : List Node) : Type 0 where
+      pub begins : Known nodes 0 specification.initial
+      pub good : Each (IsGood right) nodes
+      pub linked : Each (IsLinked nodes) nodes
+      pub expanded : Each (λ n. n.depth < depth → within (state_at n) ≡ true → Expanded nodes n) (take i nodes)
+      pub rises : Rises nodes
+
+    pub record IsBad (right : State → Bool) (nodes : List Node) (bad : Bad) : Type 0 where
+      pub from : Node
+      pub there : slice_get nodes bad.from ≡ Some from
+      pub wrong : (s : Situation) → AreTaken s bad.choices.items → GoesWrong right bad.fault (steps_from specification turns (state_at from) s) (state_at from)
+
+    -- all nodes up to a depth are expanded, if they are within
+    pub record IsSearched (right within : State → Bool) (depth : ℕ) (nodes : List Node) : Type 0 where
+      pub begins : Known nodes 0 specification.initial
+      pub good : Each (IsGood right) nodes
+      pub expanded : Each (λ n. n.depth < depth → within (state_at n) ≡ true → Expanded nodes n) nodes

@@ -1,0 +1,51 @@
+-- What is claimed of all runs of a specification.
+--     IsFine r ok             a run ends at its limit, in a state that is right
+--     StaysWithin             a run of so many steps is gone on with from states alone that are within
+--     IsSafeUpTo              under every script, each run of at most so many steps that stays within is fine
+--     IsSafe                  of however many steps
+--     EndsSo                  a run ends in this step by this fault, or in a state that isn't right
+--     Covers                  states by the depth up to which they are known: they are right, and no step from one of them that is within
+--                             has a fault, nor leads to a state that isn't known one step deeper
+use Rattle.std.specs.Prelude.{◌≡◌, ℕ, suc, ◌≤◌, ◌<◌, Bool, true, false, []}
+use Rattle.asm_state.specs.Location.{State}
+use Rattle.asm_state.specs.Updates.{UpdateSet, IsConsistent, fire}
+use Rattle.asm_reader.specs.ScriptLines.{Script}
+use Rattle.asm_meaning.specs.Does.{does}
+use Rattle.asm_meaning.specs.Program.{nothing_bound}
+use Rattle.asm_meaning.specs.Run.{Run, AtLimit, AtExhausted, AtFault, Specification, run}
+use Rattle.asm_meaning.specs.Yields.{Path, Result, Gives}
+use Rattle.asm_explore.specs.declared.fault.Fault.{Fault}
+use Rattle.asm_explore.specs.declared.fault.Fault.TheVariants as fault
+
+abbrev pub IsFine : (ok : State → Type 0) → Run → Type 0
+IsFine ok r = (r.end ≡ AtLimit) × ok r.last
+
+-- the states that fewer steps lead to are within
+abbrev pub StaysWithin : Specification → (turns : ℕ) → (within : State → Bool) → Script → (limit : ℕ) → Type 0
+StaysWithin specification turns within script limit = (k : ℕ) → k < limit → within (run specification turns script k).last ≡ true
+
+abbrev pub IsSafeUpTo : Specification → (turns : ℕ) → (within : State → Bool) → (ok : State → Type 0) → (depth : ℕ) → Type 0
+IsSafeUpTo specification turns within ok depth =
+    (script : Script) (limit : ℕ) → limit ≤ depth → StaysWithin specification turns within script limit → IsFine ok (run specification turns script limit)
+
+abbrev pub IsSafe : Specification → (turns : ℕ) → (within : State → Bool) → (ok : State → Type 0) → Type 0
+IsSafe specification turns within ok =
+    (script : Script) (limit : ℕ) → StaysWithin specification turns within script limit → IsFine ok (run specification turns script limit)
+
+abbrev pub EndsSo : (right : State → Bool) → Fault → (step : ℕ) → Run → Type 0
+EndsSo right fault.Exhausted step r = (q : Path) × (r.end ≡ AtExhausted step q)
+EndsSo right fault.Inconsistent step r = (U : UpdateSet) × (r.end ≡ AtFault step U) × ¬ (IsConsistent U)
+EndsSo right fault.Wrong step r = (r.end ≡ AtLimit) × (right r.last ≡ false)
+
+-- what a step yields in a state leads on to a state that is known
+pub record LeadsOn (r : Result) (A : State) (known : State → Type 0) : Type 0 where
+  pub set : UpdateSet
+  pub gives : r ≡ Gives set
+  pub consistent : IsConsistent set
+  pub leads : known (fire A set)
+
+pub record Covers (specification : Specification) (turns : ℕ) (within : State → Bool) (ok : State → Type 0) (depth : ℕ) (known : ℕ → State → Type 0) : Type 0 where
+  pub begins : known 0 specification.initial
+  pub right : (d : ℕ) (A : State) → d ≤ depth → known d A → ok A
+  pub goes_on : (d : ℕ) (A : State) → d < depth → known d A → within A ≡ true → (script : Script) (step : ℕ)
+      → LeadsOn (does specification.program turns script step A nothing_bound [] specification.main).result A (known (suc d))

@@ -1,0 +1,139 @@
+-- Sequences through all scripts: the outcomes of the parts so far.
+--     ends turns V            a part with the set V is the last: it is inconsistent, or empty where these are turns
+--     step_of turns r rest    what a part yields, and what comes after it
+--     Sorts, SortsAll         how outcomes of the next part are added to those that are done and to those that go on
+--     Underway                what stays true from part to part: each situation has its whole outcome among those that are done, or
+--                             the set so far among those that go on
+use Rattle.std.specs.Prelude.{◌≡◌, ℕ, Bool, false, cond, not, ◌&&◌, ◌||◌, List, ◌⊎◌, ◌++◌, Result as Returned, IfOk}
+use Rattle.std.proofs.Common.{Vec, Global}
+use Rattle.asm_state.specs.Location.{State}
+use Rattle.asm_state.specs.Signature.{Shape, count_of}
+use Rattle.asm_state.specs.Updates.{UpdateSet, IsConsistent, is_consistent, is_none, merge, fire}
+use Rattle.asm_updates.specs.Entries.{Entries}
+use Rattle.asm_updates.specs.Stands.{Stands}
+use Rattle.asm_meaning.specs.Yields.{Path, Result, Gives, Exhausted, after}
+use Rattle.asm_explore.specs.declared.found.Choice.{Choice}
+use Rattle.asm_explore.specs.declared.found.Found.{Found}
+use Rattle.asm_explore.specs.declared.refusal.Refusal.{Refusal}
+use Rattle.asm_explore.specs.declared.sorting.Sorted.{Sorted}
+use Rattle.asm_explore.specs.Lists.{Situation, Each, AreTaken, Shows, Shown, IsCounted, AreCounted, IsSound, Lists, Grows}
+
+abbrev pub ends : (turns : Bool) → UpdateSet → Bool
+ends turns V = (turns && is_none V) || not (is_consistent V)
+
+abbrev pub step_of : (turns : Bool) → Result → (UpdateSet → Result) → Result
+step_of turns (Exhausted q) rest = Exhausted q
+step_of turns (Gives V) rest = cond (ends turns V) (Gives V) (after V (rest V))
+
+-- a summary's test says whether its set is the last
+abbrev pub IsTold : Shape → (turns : Bool) → Entries → Bool → Type 0
+IsTold shape turns set last = (V : UpdateSet) → Stands shape set V → last ≡ ends turns V
+
+abbrev pub Merges : (so_far later joined : Entries) → Type 0
+Merges so_far later joined = (shape : Shape) (U V : UpdateSet) → Stands shape so_far U → Stands shape later V → Stands shape joined (merge U V)
+
+-- what a whole sequence yields in a situation is what comes after the set U, in the state in which it has been fired
+abbrev pub ComesAfter : State → (total : Situation → Result) → (left : Situation → State → Result) → Situation → UpdateSet → Type 0
+ComesAfter A total left s U = IsConsistent U × (total s ≡ after U (left s (fire A U)))
+
+abbrev pub IsOn : Shape → State → (total : Situation → Result) → (left : Situation → State → Result) → Found → Type 0
+IsOn shape A total left f = (s : Situation) → AreTaken s f.choices.items → (U : UpdateSet) × Shows shape f.answer (Gives U) × ComesAfter A total left s U
+
+pub record Underway (shape : Shape) (A : State) (total : Situation → Result) (left : Situation → State → Result) (done front : List Found) : Type 0 where
+  pub done_counted : AreCounted (count_of shape) done
+  pub front_counted : AreCounted (count_of shape) front
+  pub complete : (s : Situation) → Shown shape done (total s) ⊎ ((U : UpdateSet) × Shown shape front (Gives U) × ComesAfter A total left s U)
+  pub done_sound : Each (IsSound shape total) done
+  pub front_sound : Each (IsOn shape A total left) front
+
+-- ---- how one outcome of the next part is added
+
+-- a set so far, and an outcome of the next part with which the sequence ends
+pub record Ends (shape : Shape) (turns : Bool) (so_far : Entries) (q joined : Found) : Type 0 where
+  pub shows : (U : UpdateSet) (x : Result) (rest : UpdateSet → Result) → Stands shape so_far U → Shows shape q.answer x → Shows shape joined.answer (after U (step_of turns x rest))
+
+-- one with which it goes on
+pub record GoesOn (shape : Shape) (turns : Bool) (so_far : Entries) (q joined : Found) : Type 0 where
+  pub shows : (U : UpdateSet) (x : Result) → Stands shape so_far U → Shows shape q.answer x
+      → (V : UpdateSet) × (x ≡ Gives V) × (ends turns V ≡ false) × Shows shape joined.answer (Gives (merge U V))
+
+pub record Sorts (shape : Shape) (turns : Bool) (so_far : Entries) (choices : List Choice) (q : Found) (old new : Sorted) : Type 0 where
+  pub joined : Found
+  pub chosen : joined.choices.items ≡ choices ++ q.choices.items
+  pub counted : IsCounted (count_of shape) joined.answer
+  pub went : (Ends shape turns so_far q joined × Grows old.done.items joined new.done.items × (new.more.items ≡ old.more.items))
+      ⊎ (GoesOn shape turns so_far q joined × Grows old.more.items joined new.more.items × (new.done.items ≡ old.done.items))
+
+-- ---- how all of them are
+
+pub record SortsAll (shape : Shape) (turns : Bool) (so_far : Entries) (choices : List Choice) (part : List Found) (old new : Sorted) : Type 0 where
+  pub done_counted : AreCounted (count_of shape) old.done.items → AreCounted (count_of shape) new.done.items
+  pub more_counted : AreCounted (count_of shape) old.more.items → AreCounted (count_of shape) new.more.items
+  pub done_older : (r : Result) → Shown shape old.done.items r → Shown shape new.done.items r
+  pub more_older : (r : Result) → Shown shape old.more.items r → Shown shape new.more.items r
+  pub shown : (U : UpdateSet) (x : Result) (rest : UpdateSet → Result) → Stands shape so_far U → Shown shape part x
+      → Shown shape new.done.items (after U (step_of turns x rest))
+      ⊎ ((V : UpdateSet) × (x ≡ Gives V) × (ends turns V ≡ false) × Shown shape new.more.items (Gives (merge U V)))
+  pub done_sound : (total o : Situation → Result)
+      → ((s : Situation) → AreTaken s choices → (U : UpdateSet) × (rest : UpdateSet → Result) × Stands shape so_far U × (total s ≡ after U (step_of turns (o s) rest)))
+      → Each (IsSound shape o) part → Each (IsSound shape total) old.done.items → Each (IsSound shape total) new.done.items
+  pub more_sound : (A : State) (total : Situation → Result) (left : Situation → State → Result) (o : Situation → Result)
+      → ((s : Situation) → AreTaken s choices → (U : UpdateSet) × Stands shape so_far U
+      × ((V : UpdateSet) → o s ≡ Gives V → ends turns V ≡ false → ComesAfter A total left s (merge U V)))
+      → Each (IsSound shape o) part → Each (IsOn shape A total left) old.more.items → Each (IsOn shape A total left) new.more.items
+
+-- ---- what a part yields upon a set so far
+
+-- what a rule yields in each situation, in the state in which a set so far has been fired
+pub record Upon (shape : Shape) (A : State) (so_far : Entries) (here : Situation → State → Result) (part : Returned (Vec Found Global) Refusal) : Type 0 where
+  pub state : State
+  pub fired : (U : UpdateSet) → Stands shape so_far U → IsConsistent U → state ≡ fire A U
+  pub lists : IfOk part (λ fs. Lists shape (λ s. here s state) fs.items)
+
+-- what is left is what the next part yields, and what is left after it
+abbrev pub StepsTo : (turns : Bool) → (left here left_then : Situation → State → Result) → Type 0
+StepsTo turns left here left_then = (s : Situation) (B : State) → left s B ≡ step_of turns (here s B) (λ V. left_then s (fire B V))
+
+-- how the first of those that go on have gone on
+pub record Next (shape : Shape) (turns : Bool) (A : State) (here : Situation → State → Result) (front old : List Found) (new : Sorted) : Type 0 where
+  pub done_counted : AreCounted (count_of shape) old → AreCounted (count_of shape) new.done.items
+  pub more_counted : AreCounted (count_of shape) new.more.items
+  pub older : (r : Result) → Shown shape old r → Shown shape new.done.items r
+  pub shown : (total : Situation → Result) (left left_then : Situation → State → Result) → StepsTo turns left here left_then
+      → (s : Situation) (U : UpdateSet) → Shown shape front (Gives U) → ComesAfter A total left s U
+      → Shown shape new.done.items (total s) ⊎ ((W : UpdateSet) × Shown shape new.more.items (Gives W) × ComesAfter A total left_then s W)
+  pub done_sound : (total : Situation → Result) (left left_then : Situation → State → Result) → StepsTo turns left here left_then
+      → Each (IsOn shape A total left) front → Each (IsSound shape total) old → Each (IsSound shape total) new.done.items
+  pub more_sound : (total : Situation → Result) (left left_then : Situation → State → Result) → StepsTo turns left here left_then
+      → Each (IsOn shape A total left) front → Each (IsOn shape A total left_then) new.more.items
+
+-- how one of them has gone on, after others
+pub record NextOne (shape : Shape) (turns : Bool) (A : State) (here : Situation → State → Result) (f : Found) (old new : Sorted) : Type 0 where
+  pub done_counted : AreCounted (count_of shape) old.done.items → AreCounted (count_of shape) new.done.items
+  pub more_counted : AreCounted (count_of shape) old.more.items → AreCounted (count_of shape) new.more.items
+  pub done_older : (r : Result) → Shown shape old.done.items r → Shown shape new.done.items r
+  pub more_older : (r : Result) → Shown shape old.more.items r → Shown shape new.more.items r
+  pub shown : (total : Situation → Result) (left left_then : Situation → State → Result) → StepsTo turns left here left_then
+      → (s : Situation) (U : UpdateSet) → Shows shape f.answer (Gives U) → ComesAfter A total left s U
+      → Shown shape new.done.items (total s) ⊎ ((W : UpdateSet) × Shown shape new.more.items (Gives W) × ComesAfter A total left_then s W)
+  pub done_sound : (total : Situation → Result) (left left_then : Situation → State → Result) → StepsTo turns left here left_then
+      → IsOn shape A total left f → Each (IsSound shape total) old.done.items → Each (IsSound shape total) new.done.items
+  pub more_sound : (total : Situation → Result) (left left_then : Situation → State → Result) → StepsTo turns left here left_then
+      → IsOn shape A total left f → Each (IsOn shape A total left_then) old.more.items → Each (IsOn shape A total left_then) new.more.items
+
+-- ---- the end
+
+-- a list with the outcomes of another
+pub record Adds (old more new : List Found) : Type 0 where
+  pub counted : (n : ℕ) → AreCounted n old → AreCounted n more → AreCounted n new
+  pub older : (shape : Shape) (r : Result) → Shown shape old r → Shown shape new r
+  pub shown : (shape : Shape) (r : Result) → Shown shape more r → Shown shape new r
+  pub sound : (shape : Shape) (o : Situation → Result) → Each (IsSound shape o) old → Each (IsSound shape o) more → Each (IsSound shape o) new
+
+-- a list with the choices of others, after which the whole is exhausted
+pub record Exhausts (p : Path) (old more new : List Found) : Type 0 where
+  pub counted : (n : ℕ) → AreCounted n old → AreCounted n new
+  pub older : (shape : Shape) (r : Result) → Shown shape old r → Shown shape new r
+  pub shown : (shape : Shape) (r : Result) → Shown shape more r → Shown shape new (Exhausted p)
+  pub sound : (shape : Shape) (o : Situation → Result) → Each (λ f. (s : Situation) → AreTaken s f.choices.items → o s ≡ Exhausted p) more
+      → Each (IsSound shape o) old → Each (IsSound shape o) new

@@ -1,0 +1,52 @@
+//! What is answered of a specification.
+use crate::fault::Fault;
+use crate::refusal::Crowd;
+
+/// A run that goes wrong.
+#[derive(Drop)]
+pub struct BadRun {
+    /// The text of a script.
+    pub script: String,
+    /// The run under this script goes wrong in this step, and no run goes wrong before.
+    pub step: u64,
+    pub fault: Fault,
+}
+
+/// What is found of the runs of a specification.
+#[derive(Drop)]
+pub enum Finding {
+    /// No run goes wrong, of however many steps.
+    Closed,
+    /// No run of at most so many steps goes wrong.
+    SafeTo(u32),
+    /// A run goes wrong.
+    Bad(BadRun),
+    /// The first state isn't right.
+    WrongFirst,
+    /// There are more states than the limit says; no run of at most so many steps goes wrong.
+    TooManyStates(u32),
+    /// There are more outcomes of a step than the limit says, of the rule at a path; no run of at
+    /// most so many steps goes wrong.
+    TooManyOutcomes { depth: u32, crowd: Crowd },
+    /// Memory ran out; no run of at most so many steps goes wrong.
+    NoMemory(u32),
+    /// A step goes wrong, but what was written isn't a script that makes the choices that lead to it, as where it is longer than a script may
+    /// be; no run of at most so many steps goes wrong.
+    Unwritten(u32),
+}
+
+/// What is answered of a specification.
+#[derive(Drop)]
+pub struct Answered {
+    pub finding: Finding,
+    /// So many states were reached.
+    pub states: usize,
+    /// The greatest number of steps that lead to one.
+    pub depth: u32,
+    /// So many outcomes of steps were followed.
+    pub outcomes: usize,
+    /// The most outcomes of a step.
+    pub widest: usize,
+    /// So many states have a step whose outcomes all change nothing: a run that comes to one stays there.
+    pub quiet: usize,
+}

@@ -1,0 +1,241 @@
+//! Lists of outcomes of parts that stand beside each other.
+ghost use Rattle.std.specs.Prelude.{◌≡◌, [], ◌∷◌, ◌++◌, IfOk, OnOk};
+ghost use Rattle.asm_state.specs.Signature.{Shape, count_of};
+ghost use Rattle.asm_meaning.specs.Yields as yields;
+ghost use Rattle.asm_meaning.specs.Yields.{Result as Yielded};
+ghost use Rattle.asm_explore.specs.Lists.{Situation, Shows, IsCounted, AreCounted, IsJoined, Lists};
+
+use crate::found::{Answer, Choice, Found, add_choices, copy_path};
+use crate::listing::add;
+use crate::overflow::Overflow;
+use crate::sets::{union, union_into};
+use asm_meaning::Path;
+use asm_state::signature::Signature;
+use std::alloc::{AllocError, Global};
+
+/// The first of two paths.
+fn first_path(alloc: Global, left: &Path, right: &Path) -> Result<Path, AllocError>
+    ensures { IfOk result (λ p. p ≡ yields.first_path left.now right.now) }
+{
+    if right.as_slice().cmp(left.as_slice()).is_lt() {
+        copy_path(alloc, right)
+    } else {
+        copy_path(alloc, left)
+    }
+}
+
+/// Two answers beside each other.
+fn beside(
+    alloc: Global,
+    signature: &Signature,
+    left: &Answer,
+    right: &Answer,
+) -> Result<Answer, AllocError>
+    requires left { IsCounted (count_of signature.now) left.now }
+    requires right { IsCounted (count_of signature.now) right.now }
+    ensures counted { IfOk result (IsCounted (count_of signature.now)) }
+    ensures answer { (shape : Shape) (x y : Yielded) → IfOk result (λ a. Shows shape left.now x → Shows shape right.now y → Shows shape a (yields.beside x y)) }
+{
+    match left {
+        Answer::Set(set) => match right {
+            Answer::Set(other) => {
+                let set = union(alloc, set, other)?;
+                Ok(Answer::Set(set))
+            }
+            Answer::Exhausted(path) => {
+                let path = copy_path(alloc, path)?;
+                Ok(Answer::Exhausted(path))
+            }
+        },
+        Answer::Exhausted(path) => match right {
+            Answer::Set(_) => {
+                let path = copy_path(alloc, path)?;
+                Ok(Answer::Exhausted(path))
+            }
+            Answer::Exhausted(other) => {
+                let path = first_path(alloc, path, other)?;
+                Ok(Answer::Exhausted(path))
+            }
+        },
+    }
+}
+
+/// Two outcomes beside each other, with the choices of both.
+fn join(
+    alloc: Global,
+    signature: &Signature,
+    left: &Found,
+    right: &Found,
+) -> Result<Found, AllocError>
+    requires left { IsCounted (count_of signature.now) left.now.answer }
+    requires right { IsCounted (count_of signature.now) right.now.answer }
+    ensures choices { IfOk result (λ f. f.choices.items ≡ left.now.choices.items ++ right.now.choices.items) }
+    ensures counted { IfOk result (λ f. IsCounted (count_of signature.now) f.answer) }
+    ensures answer { (shape : Shape) (x y : Yielded) → IfOk result (λ f. Shows shape left.now.answer x → Shows shape right.now.answer y → Shows shape f.answer (yields.beside x y)) }
+{
+    let mut choices = Vec::new(alloc);
+    add_choices(alloc, left.choices.as_slice(), &mut choices)?;
+    add_choices(alloc, right.choices.as_slice(), &mut choices)?;
+    let answer = beside(alloc, signature, &left.answer, &right.answer)?;
+    Ok(Found { choices, answer })
+}
+
+/// Adds one outcome beside each of a list.
+fn beside_each(
+    alloc: Global,
+    signature: &Signature,
+    left: &Found,
+    right: &[Found],
+    limit: usize,
+    found: &mut Vec<Found>,
+) -> Result<(), Overflow>
+    requires left { IsCounted (count_of signature.now) left.now.answer }
+    requires right { AreCounted (count_of signature.now) right.now }
+    ensures { OnOk result (IsJoined signature.now left.now right.now found.old.items found.new.items) }
+{
+    for i in 0..right.len() {
+        let joined = join(alloc, signature, left, &right[i])?;
+        add(found, joined, limit)?;
+    }
+    Ok(())
+}
+
+/// What two parts yield that stand beside each other: each outcome of the one beside each of the other.
+pub(crate) fn beside_all(
+    alloc: Global,
+    signature: &Signature,
+    left: &[Found],
+    right: &[Found],
+    limit: usize,
+) -> Result<Vec<Found>, Overflow>
+    requires left { AreCounted (count_of signature.now) left.now }
+    requires right { AreCounted (count_of signature.now) right.now }
+    ensures { (o q : Situation → Yielded) → Lists signature.now o left.now → Lists signature.now q right.now →
+        IfOk result (λ fs. Lists signature.now (λ s. yields.beside (o s) (q s)) fs.items) }
+{
+    let mut found = Vec::new(alloc);
+    for i in 0..left.len() {
+        beside_each(alloc, signature, &left[i], right, limit, &mut found)?;
+    }
+    Ok(found)
+}
+
+/// Two answers beside each other, in the room of the second.
+fn beside_into(signature: &Signature, left: Answer, right: Answer) -> Result<Answer, AllocError>
+    requires left { IsCounted (count_of signature.now) left }
+    requires right { IsCounted (count_of signature.now) right }
+    ensures counted { IfOk result (IsCounted (count_of signature.now)) }
+    ensures answer { (shape : Shape) (x y : Yielded) → IfOk result (λ a. Shows shape left x → Shows shape right y → Shows shape a (yields.beside x y)) }
+{
+    match left {
+        Answer::Set(set) => match right {
+            Answer::Set(other) => {
+                let set = union_into(set, other)?;
+                Ok(Answer::Set(set))
+            }
+            Answer::Exhausted(path) => Ok(Answer::Exhausted(path)),
+        },
+        Answer::Exhausted(path) => match right {
+            Answer::Set(_) => Ok(Answer::Exhausted(path)),
+            Answer::Exhausted(other) => Ok(Answer::Exhausted(lesser_path(path, other))),
+        },
+    }
+}
+
+/// The first of two paths.
+fn lesser_path(left: Path, right: Path) -> Path
+    ensures { result ≡ yields.first_path left right }
+{
+    if right.as_slice().cmp(left.as_slice()).is_lt() {
+        right
+    } else {
+        left
+    }
+}
+
+/// Choices, and others behind them.
+fn choices_into(
+    alloc: Global,
+    left: Vec<Choice>,
+    right: Vec<Choice>,
+) -> Result<Vec<Choice>, AllocError>
+    ensures { IfOk result (λ cs. cs.items ≡ left.items ++ right.items) }
+{
+    if left.len() == 0 {
+        return Ok(right);
+    }
+    let mut choices = left;
+    add_choices(alloc, right.as_slice(), &mut choices)?;
+    Ok(choices)
+}
+
+/// Two outcomes beside each other, with the choices of both, in the room of the second.
+fn join_into(
+    alloc: Global,
+    signature: &Signature,
+    left: Found,
+    right: Found,
+) -> Result<Found, AllocError>
+    requires left { IsCounted (count_of signature.now) left.answer }
+    requires right { IsCounted (count_of signature.now) right.answer }
+    ensures choices { IfOk result (λ f. f.choices.items ≡ left.choices.items ++ right.choices.items) }
+    ensures counted { IfOk result (λ f. IsCounted (count_of signature.now) f.answer) }
+    ensures answer { (shape : Shape) (x y : Yielded) → IfOk result (λ f. Shows shape left.answer x → Shows shape right.answer y → Shows shape f.answer (yields.beside x y)) }
+{
+    let Found {
+        choices: first,
+        answer: left,
+    } = left;
+    let Found {
+        choices: then,
+        answer: right,
+    } = right;
+    let choices = choices_into(alloc, first, then)?;
+    let answer = beside_into(signature, left, right)?;
+    Ok(Found { choices, answer })
+}
+
+/// One outcome beside one other, in the room of the second's list, which has nothing in it.
+fn one_beside_one(
+    alloc: Global,
+    signature: &Signature,
+    left: Found,
+    right: Found,
+    room: Vec<Found>,
+) -> Result<Vec<Found>, AllocError>
+    requires left { IsCounted (count_of signature.now) left.answer }
+    requires right { IsCounted (count_of signature.now) right.answer }
+    requires room { room.items ≡ [] }
+    ensures { (o q : Situation → Yielded) → Lists signature.now o (left ∷ []) → Lists signature.now q (right ∷ []) →
+        IfOk result (λ fs. Lists signature.now (λ s. yields.beside (o s) (q s)) fs.items) }
+{
+    let one = join_into(alloc, signature, left, right)?;
+    let mut found = room;
+    found.push(one)?;
+    Ok(found)
+}
+
+/// The same of lists that aren't wanted afterwards.
+pub(crate) fn beside_lists(
+    alloc: Global,
+    signature: &Signature,
+    left: Vec<Found>,
+    right: Vec<Found>,
+    limit: usize,
+) -> Result<Vec<Found>, Overflow>
+    requires left { AreCounted (count_of signature.now) left.items }
+    requires right { AreCounted (count_of signature.now) right.items }
+    ensures { (o q : Situation → Yielded) → Lists signature.now o left.items → Lists signature.now q right.items →
+        IfOk result (λ fs. Lists signature.now (λ s. yields.beside (o s) (q s)) fs.items) }
+{
+    if left.len() == 1 && right.len() == 1 {
+        let (mut part, mut room) = (left, right);
+        let (Some(one), Some(other)) = (part.pop(), room.pop()) else {
+            unreachable!();
+        };
+        let found = one_beside_one(alloc, signature, one, other, room)?;
+        return Ok(found);
+    }
+    let found = beside_all(alloc, signature, left.as_slice(), right.as_slice(), limit)?;
+    Ok(found)
+}

@@ -1,0 +1,62 @@
+//! The candidates of a `choose`.
+ghost use Rattle.std.specs.Prelude.{◌≡◌, ◌<◌, Some, IfOk, length, option_map, slice_get};
+ghost use Rattle.asm_eval.specs.CodeViews.{code_of};
+ghost use Rattle.asm_eval.specs.Frames.{IsSoundFrame};
+ghost use Rattle.asm_eval.specs.RuleMeaning.{IsSoundTest};
+ghost use Rattle.asm_eval.specs.Running.{passes_in, passing_in};
+ghost use Rattle.asm_eval.specs.Sound.{IsUniverseNumber};
+
+use asm_eval::code::Code;
+use asm_eval::frame::Frame;
+use asm_eval::value::holds;
+use asm_meaning::View;
+use asm_state::word::Word;
+use std::alloc::{AllocError, Global};
+
+/// Whether the condition holds, or there is none.
+pub(crate) fn passes<'e>(view: &View, frame: &'e Frame<'e>, test: &'e Option<Code>) -> bool
+    requires sound { IsSoundTest view.now.signature.now (option_map code_of test.now) }
+    requires framed { IsSoundFrame view.now.signature.now frame.now }
+    ensures { result ≡ passes_in view.now frame.now test.now }
+{
+    match test {
+        None => true,
+        Some(test) => holds(view, frame, test),
+    }
+}
+
+/// The values of a universe for which the condition holds.
+pub(crate) fn candidates<'e>(
+    alloc: Global,
+    view: &View,
+    frame: &'e Frame<'e>,
+    over: usize,
+    test: &'e Option<Code>,
+) -> Result<Vec<Word>, AllocError>
+    requires universe { IsUniverseNumber view.now.signature.now over }
+    requires sound { IsSoundTest view.now.signature.now (option_map code_of test.now) }
+    requires framed { IsSoundFrame view.now.signature.now frame.now }
+    ensures { IfOk result (λ vs. vs.items ≡ passing_in view.now frame.now over test.now) }
+{
+    let universe = view.signature.universe(over);
+    let mut found = Vec::new(alloc);
+    for i in 0..universe.size() {
+        let value = universe.element(i);
+        let bound = Frame::One {
+            value: value.kept(),
+            outer: frame,
+        };
+        if passes(view, &bound, test) {
+            found.push(value)?;
+        }
+    }
+    Ok(found)
+}
+
+/// The candidate at a place.
+pub(crate) fn candidate_at(values: &[Word], k: usize) -> Word
+    requires { k < length values.now }
+    ensures { slice_get values.now k ≡ Some result }
+{
+    values[k]
+}

@@ -1,0 +1,27 @@
+//! The codes of conditions.
+ghost use Rattle.std.specs.Prelude.{IfOk};
+ghost use Rattle.asm_explore.specs.Conditions.{IsCondition};
+
+use asm_check::Checked;
+use asm_eval::bodies::Bodies;
+use asm_eval::code::Code;
+use asm_eval::resolve::resolve;
+use asm_eval::scope::Scope;
+use asm_syntax::term::Term;
+use std::alloc::{AllocError, Global};
+
+/// The code of a condition in which no name is bound.
+pub fn condition_code(
+    alloc: Global,
+    checked: &Checked,
+    term: &Option<Term>,
+) -> Result<Option<Code>, AllocError>
+    ensures { IfOk result (IsCondition checked.now term.now) }
+{
+    let Some(term) = term else {
+        return Ok(None);
+    };
+    let mut known = Bodies::new(alloc, checked)?;
+    let code = resolve(alloc, checked, &mut known.terms, &Scope::Empty, term)?;
+    Ok(Some(code))
+}

@@ -1,0 +1,139 @@
+//! Lists of outcomes of the rule at a path: where one has more than the limit says, the refusal
+//! names the path, and how many outcomes the rule's parts have.
+ghost use Rattle.std.specs.Prelude.{◌≡◌, ◌∷◌, [], length, IfOk, IfErr, OnOk, OnErr};
+ghost use Rattle.asm_state.specs.Location.{State};
+ghost use Rattle.asm_state.specs.Signature.{Shape, count_of};
+ghost use Rattle.asm_meaning.specs.Yields as yields;
+ghost use Rattle.asm_meaning.specs.Yields.{Result as Yielded, Gives, Exhausted};
+ghost use Rattle.asm_state.specs.Updates.{none};
+ghost use Rattle.asm_explore.specs.Crowds.{Names};
+ghost use Rattle.asm_explore.specs.Lists.{Situation, AreCounted, IsPicked, Lists};
+ghost use Rattle.asm_explore.specs.Sequences.{SortsAll, Underway};
+
+use crate::found::Found;
+use crate::overflow::Overflow;
+use crate::refusal::{Crowd, Refusal};
+use crate::sorting::Sorted;
+use crate::updates::Updates;
+use crate::{beside, picking, sorting};
+use asm_meaning::Path;
+use asm_state::signature::Signature;
+use std::alloc::Global;
+
+/// The refusal of a list of the rule at this path.
+fn refused(alloc: Global, overflow: Overflow, path: &[u64], first: usize, others: usize) -> Refusal
+    ensures { Names path.now first others result }
+{
+    match overflow {
+        Overflow::Memory => Refusal::Memory,
+        Overflow::TooMany => match path.to_vec(alloc) {
+            Ok(numbers) => Refusal::TooMany(Crowd {
+                path: Path::new(numbers),
+                first,
+                others,
+            }),
+            Err(_) => Refusal::Memory,
+        },
+    }
+}
+
+/// What two parts yield that stand beside each other.
+pub(crate) fn beside_lists(
+    alloc: Global,
+    signature: &Signature,
+    left: Vec<Found>,
+    right: Vec<Found>,
+    limit: usize,
+    path: &[u64],
+) -> Result<Vec<Found>, Refusal>
+    requires left { AreCounted (count_of signature.now) left.items }
+    requires right { AreCounted (count_of signature.now) right.items }
+    ensures lists { (o q : Situation → Yielded) → Lists signature.now o left.items → Lists signature.now q right.items →
+        IfOk result (λ fs. Lists signature.now (λ s. yields.beside (o s) (q s)) fs.items) }
+    ensures names { IfErr result (Names path.now (length left.items) (length right.items)) }
+{
+    let (first, others) = (left.len(), right.len());
+    match beside::beside_lists(alloc, signature, left, right, limit) {
+        Ok(found) => Ok(found),
+        Err(overflow) => Err(refused(alloc, overflow, path, first, others)),
+    }
+}
+
+/// Adds the outcomes of a candidate.
+pub(crate) fn add_part(
+    alloc: Global,
+    part: Vec<Found>,
+    path: &[u64],
+    number: u64,
+    limit: usize,
+    found: &mut Vec<Found>,
+) -> Result<(), Refusal>
+    ensures picks { OnOk result (IsPicked path.now number part.items found.old.items found.new.items) }
+    ensures names { IfErr result (Names path.now (length part.items) (length found.old.items)) }
+{
+    let (first, others) = (part.len(), found.len());
+    match picking::add_part(alloc, part, path, number, limit, found) {
+        Ok(()) => Ok(()),
+        Err(overflow) => Err(refused(alloc, overflow, path, first, others)),
+    }
+}
+
+/// Adds what comes of the outcomes of the next part, upon a set so far with its choices.
+pub(crate) fn sort_part(
+    alloc: Global,
+    signature: &Signature,
+    so_far: &Updates,
+    one: &Found,
+    part: Vec<Found>,
+    turns: bool,
+    limit: usize,
+    path: &[u64],
+    sorted: &mut Sorted,
+) -> Result<(), Refusal>
+    requires so_far { so_far.now.set.count ≡ count_of signature.now }
+    requires part { AreCounted (count_of signature.now) part.items }
+    ensures sorts { OnOk result (SortsAll signature.now turns so_far.now.set one.now.choices.items part.items sorted.old sorted.new) }
+    ensures names { IfErr result (Names path.now (length part.items) (length sorted.old.more.items)) }
+{
+    let (first, others) = (part.len(), sorted.more.len());
+    match sorting::sort_part(alloc, signature, so_far, one, part, turns, limit, sorted) {
+        Ok(()) => Ok(()),
+        Err(overflow) => Err(refused(alloc, overflow, path, first, others)),
+    }
+}
+
+/// All outcomes, where the sets so far are those of the whole.
+pub(crate) fn close(
+    alloc: Global,
+    sorted: Sorted,
+    limit: usize,
+    path: &[u64],
+) -> Result<Vec<Found>, Refusal>
+    ensures lists { (shape : Shape) (A : State) (total : Situation → Yielded) (left : Situation → State → Yielded) → ((s : Situation) (B : State) → left s B ≡ Gives none) →
+        Underway shape A total left sorted.done.items sorted.more.items → IfOk result (λ fs. Lists shape total fs.items) }
+    ensures names { IfErr result (Names path.now (length sorted.done.items) (length sorted.more.items)) }
+{
+    let (first, others) = (sorted.done.len(), sorted.more.len());
+    match sorting::close(alloc, sorted, limit) {
+        Ok(found) => Ok(found),
+        Err(overflow) => Err(refused(alloc, overflow, path, first, others)),
+    }
+}
+
+/// All outcomes, where the whole is exhausted at the path after each of the sets so far.
+pub(crate) fn exhaust(
+    alloc: Global,
+    sorted: Sorted,
+    path: &[u64],
+    limit: usize,
+) -> Result<Vec<Found>, Refusal>
+    ensures lists { (shape : Shape) (A : State) (total : Situation → Yielded) (left : Situation → State → Yielded) → ((s : Situation) (B : State) → left s B ≡ Exhausted path.now) →
+        Underway shape A total left sorted.done.items sorted.more.items → IfOk result (λ fs. Lists shape total fs.items) }
+    ensures names { IfErr result (Names path.now (length sorted.done.items) (length sorted.more.items)) }
+{
+    let (first, others) = (sorted.done.len(), sorted.more.len());
+    match sorting::exhaust(alloc, sorted, path, limit) {
+        Ok(found) => Ok(found),
+        Err(overflow) => Err(refused(alloc, overflow, path, first, others)),
+    }
+}

@@ -1,0 +1,85 @@
+//! Where states stand, by their hashes.
+ghost use Rattle.std.specs.Prelude.{◌≡◌, ◌<◌, length};
+
+use crate::node::Node;
+use asm_state::state::State;
+use std::alloc::{AllocError, Global};
+
+/// Numbers of nodes, from 1, each at or behind the place of its state's hash; 0 is a free place. No proof rests on what stands here: what
+/// is found is compared. And counts of outcomes.
+#[derive(Drop)]
+pub(crate) struct Index {
+    pub slots: Vec<usize>,
+    /// So many outcomes of steps were followed.
+    pub outcomes: usize,
+    /// The most outcomes of a step.
+    pub widest: usize,
+    /// So many outcomes of the step that is followed change nothing.
+    pub idle: usize,
+    /// So many nodes have a step whose outcomes all change nothing.
+    pub quiet: usize,
+}
+
+impl Index {
+    /// The index without nodes.
+    pub(crate) fn new(alloc: Global) -> Index {
+        Index {
+            slots: Vec::new(alloc),
+            outcomes: 0,
+            widest: 0,
+            idle: 0,
+            quiet: 0,
+        }
+    }
+
+    /// Counts the outcomes of a step.
+    pub(crate) fn count(&mut self, outcomes: usize) {
+        self.outcomes = self.outcomes.saturating_add(outcomes);
+        if outcomes > self.widest {
+            self.widest = outcomes;
+        }
+        self.idle = 0;
+    }
+
+    /// Counts an outcome that changes nothing.
+    pub(crate) fn count_idle(&mut self, same: bool) {
+        if same {
+            self.idle = self.idle.saturating_add(1);
+        }
+    }
+
+    /// Counts a node of whose so many outcomes none changes anything.
+    pub(crate) fn count_quiet(&mut self, outcomes: usize) {
+        if self.idle == outcomes {
+            self.quiet = self.quiet.saturating_add(1);
+        }
+    }
+}
+
+/// A hash of a state's contents.
+fn hash(state: &State, count: usize) -> u64
+    requires { length state.now ≡ count }
+{
+    let mut hash: u64 = 0x9E37_79B9_7F4A_7C15;
+    for n in 0..count {
+        hash = (hash.rotate_left(5) ^ state.content(n).code()).wrapping_mul(0x517C_C1B7_2722_0A95);
+    }
+    hash ^ (hash >> 29)
+}
+
+/// The place where the search for a state begins.
+pub(crate) fn first_place(state: &State, count: usize, places: usize) -> usize
+    requires state { length state.now ≡ count }
+    requires some { 0 < places }
+    ensures { result < places }
+{
+    (hash(state, count) % places as u64) as usize
+}
+
+/// The place behind another, round the end.
+pub(crate) fn next_place(at: usize, places: usize) -> usize
+    requires { at < places }
+    ensures { result < places }
+{
+    if at + 1 < places { at + 1 } else { 0 }
+}

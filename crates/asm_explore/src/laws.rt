@@ -1,0 +1,29 @@
+//! Laws of what is listed, and of what is claimed.
+ghost use Rattle.std.specs.Prelude.{◌≡◌, ℕ, Bool, true, List};
+ghost use Rattle.asm_state.specs.Location.{State};
+ghost use Rattle.asm_reader.specs.ExactLines.{exactly};
+ghost use Rattle.asm_reader.specs.ScriptLines.{Line, Script, pick};
+ghost use Rattle.asm_meaning.specs.Run.{Specification};
+ghost use Rattle.asm_meaning.specs.Scripts.{IsUnrepeated};
+ghost use Rattle.asm_explore.specs.ChoiceLaws.{ChoiceLaws};
+ghost use Rattle.asm_explore.specs.declared.script_line.Zeros.{Zeros};
+ghost use Rattle.asm_explore.specs.Search.{StaysWithin};
+ghost use Rattle.asm_explore.specs.Written.{written};
+
+/// A complete and sound list of a step's outcomes has just what the step may yield, for whatever
+/// choices.
+pub fn choice_laws()
+    ensures { ChoiceLaws }
+{}
+
+/// Where every state is within, each run stays within.
+pub fn within_law()
+    ensures { (specification : Specification) (turns : ℕ) (within : State → Bool) (script : Script) (limit : ℕ) → ((A : State) → within A ≡ true) →
+        StaysWithin specification turns within script limit }
+{}
+
+/// Lines that have each a step and a path of their own pick the same where those with number 0 are
+/// left out.
+pub fn zeros_law()
+    ensures { (zeros : Zeros) (lines : List Line) → IsUnrepeated (exactly lines) → (step : ℕ) (path : List ℕ) → pick (exactly (written zeros lines)) step path ≡ pick (exactly lines) step path }
+{}

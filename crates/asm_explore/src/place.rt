@@ -1,0 +1,212 @@
+//! The numbers of locations that are updated, as `asm_eval` finds them.
+ghost use Rattle.std.specs.Prelude.{◌≡◌, ◌<◌, ◌+◌, ◌*◌, ◌≤◌, None, Some, map, option_map, slice_index_or, IfOk, IfSome};
+ghost use Rattle.asm_state.specs.declared.function.FunctionKind.TheVariants.{Controlled};
+ghost use Rattle.asm_state.specs.Signature.{Shape, HasKind, count_of, domain_of, location_at};
+ghost use Rattle.asm_state.specs.Tables.{location_in};
+ghost use Rattle.asm_eval.specs.CodeViews.{code_of};
+ghost use Rattle.asm_eval.specs.Frames.{AllSound, IsSoundFrame, code_value};
+ghost use Rattle.asm_eval.specs.RuleMeaning.{IsSoundAnswer, IsSoundPlace};
+ghost use Rattle.asm_eval.specs.RuleTree as tree;
+ghost use Rattle.asm_eval.specs.RuleViews.{place_of};
+ghost use Rattle.asm_eval.specs.Running.{answer_in, location_numbered, place_in, places_of};
+ghost use Rattle.asm_eval.specs.Sound.{IsLocationNumber, IsSound};
+ghost use Rattle.asm_state.specs.declared.limits.TheConstants.{LOCATIONS};
+ghost use Rattle.asm_state.specs.FirstLocations.{position_in_grid};
+ghost use Rattle.asm_eval.specs.Readings as readings;
+ghost use Rattle.asm_eval.specs.RuleMeaning.{number_from};
+
+use asm_eval::code::{Code, Grid, Span};
+use asm_eval::frame::Frame;
+use asm_eval::rule_code::Place;
+use asm_eval::value::value;
+use asm_meaning::View;
+use asm_state::word::Word;
+use std::alloc::{AllocError, Global};
+
+/// So many arguments are valued without memory of their own.
+const FEW: usize = 4;
+
+/// The number of the location that a call's answer goes to.
+pub(crate) fn answer_number<'e>(
+    alloc: Global,
+    view: &View,
+    frame: &'e Frame<'e>,
+    answer: &'e Option<Place>,
+) -> Result<Option<usize>, AllocError>
+    requires sound { IsSoundAnswer view.now.signature.now (option_map place_of answer.now) }
+    requires framed { IsSoundFrame view.now.signature.now frame.now }
+    ensures in_range { IfOk result (λ o. IfSome o (λ n. n < count_of view.now.signature.now)) }
+    ensures location { IfOk result (λ o. location_numbered view.now.signature.now o ≡ answer_in view.now frame.now (option_map place_of answer.now)) }
+{
+    match answer {
+        None => Ok(None),
+        Some(place) => place_number(alloc, view, frame, place),
+    }
+}
+
+/// The number of the location that is updated, if there is one.
+pub(crate) fn place_number<'e>(
+    alloc: Global,
+    view: &View,
+    frame: &'e Frame<'e>,
+    place: &'e Place,
+) -> Result<Option<usize>, AllocError>
+    requires sound { IsSoundPlace view.now.signature.now (place_of place.now) }
+    requires framed { IsSoundFrame view.now.signature.now frame.now }
+    ensures in_range { IfOk result (λ o. IfSome o (λ n. n < count_of view.now.signature.now)) }
+    ensures location { IfOk result (λ o. location_numbered view.now.signature.now o ≡ place_in view.now frame.now (place_of place.now)) }
+{
+    match place {
+        Place::Answer(position) => Ok(answer_at(frame, *position)),
+        Place::Cell(n) => Ok(Some(*n)),
+        Place::Row {
+            first,
+            over,
+            argument,
+        } => Ok(Some(row_number(view, frame, *first, *over, argument))),
+        Place::Grid { place, row, column } => {
+            Ok(Some(grid_number(view, frame, place, row, column)))
+        }
+        Place::Held {
+            function,
+            arguments,
+        } => {
+            let n = location_number(alloc, view, frame, *function, arguments.as_slice())?;
+            Ok(Some(n))
+        }
+    }
+}
+
+/// The number of the location that a position stands for, if it stands for one.
+fn answer_at<'e>(frame: &'e Frame<'e>, position: usize) -> Option<usize>
+    ensures in_range { (shape : Shape) → IsSoundFrame shape frame.now → IfSome result (λ n. n < count_of shape) }
+    ensures location { (shape : Shape) → location_numbered shape result ≡ slice_index_or (places_of shape frame.now) position None }
+{
+    match frame {
+        Frame::Empty => None,
+        Frame::One { outer, .. } => {
+            if position == 0 {
+                return None;
+            }
+            answer_at(outer, position - 1)
+        }
+        Frame::Values { values, outer } => {
+            if position < values.len() {
+                return None;
+            }
+            answer_at(outer, position - values.len())
+        }
+        Frame::Terms { answer, .. } => {
+            if position == 0 {
+                return *answer;
+            }
+            None
+        }
+    }
+}
+
+/// The number of a location by one argument.
+fn row_number<'e>(
+    view: &View,
+    frame: &'e Frame<'e>,
+    first: usize,
+    over: Span,
+    argument: &'e Code,
+) -> usize
+    requires last { IsLocationNumber view.now.signature.now (first + over.count) }
+    requires sound { IsSound view.now.signature.now (code_of argument.now) }
+    requires framed { IsSoundFrame view.now.signature.now frame.now }
+    ensures in_range { result < count_of view.now.signature.now }
+    ensures location { Some (location_at view.now.signature.now result) ≡ place_in view.now frame.now (tree.Row first over.low over.count (code_of argument.now)) }
+{
+    let argument = value(view, frame, argument);
+    number_in_row(first, over, argument)
+}
+
+/// The number of a location by two arguments.
+fn grid_number<'e>(
+    view: &View,
+    frame: &'e Frame<'e>,
+    place: &'e Grid,
+    row: &'e Code,
+    column: &'e Code,
+) -> usize
+    requires last { IsLocationNumber view.now.signature.now (place.now.first + place.now.rows.count * place.now.columns.count) }
+    requires row { IsSound view.now.signature.now (code_of row.now) }
+    requires column { IsSound view.now.signature.now (code_of column.now) }
+    requires framed { IsSoundFrame view.now.signature.now frame.now }
+    ensures in_range { result < count_of view.now.signature.now }
+    ensures location { Some (location_at view.now.signature.now result) ≡ place_in view.now frame.now (tree.Grid place.now.first place.now.rows.low place.now.rows.count place.now.columns.low place.now.columns.count (code_of row.now) (code_of column.now)) }
+{
+    let a = value(view, frame, row);
+    let b = value(view, frame, column);
+    number_in_grid(place, a, b)
+}
+
+/// The number of the location of a controlled function with these arguments: the stray one where
+/// they are outside its domain.
+fn location_number<'e>(
+    alloc: Global,
+    view: &View,
+    frame: &'e Frame<'e>,
+    function: usize,
+    arguments: &'e [Code],
+) -> Result<usize, AllocError>
+    requires kind { HasKind Controlled view.now.signature.now function }
+    requires sound { AllSound view.now.signature.now arguments.now }
+    requires framed { IsSoundFrame view.now.signature.now frame.now }
+    ensures in_range { IfOk result (λ n. n < count_of view.now.signature.now) }
+    ensures location { let vs = map (code_value view.now frame.now) arguments.now in
+        IfOk result (λ n. location_at view.now.signature.now n ≡ location_in function (domain_of view.now.signature.now function) vs) }
+{
+    if arguments.len() <= FEW {
+        let mut values = [Word::undef(); FEW];
+        for i in 0..arguments.len() {
+            values[i] = value(view, frame, &arguments[i]);
+        }
+        return Ok(
+            view.signature
+                .number_of(function, &values[..arguments.len()]),
+        );
+    }
+    let mut values = Vec::with_capacity(alloc, arguments.len())?;
+    for argument in arguments {
+        values.push(value(view, frame, argument))?;
+    }
+    Ok(view.signature.number_of(function, values.as_slice()))
+}
+
+/// The position of a value among those of a span, if it is one of them.
+fn position(over: Span, value: Word) -> Option<usize>
+    ensures { result ≡ readings.place_in over.low over.count value }
+{
+    let code = value.code();
+    if over.low <= code && code - over.low < over.count as u64 {
+        Some((code - over.low) as usize)
+    } else {
+        None
+    }
+}
+
+/// The number of the location at the position of an argument, from the first one of a function on:
+/// that of the stray one where the argument has no position.
+fn number_in_row(first: usize, over: Span, argument: Word) -> usize
+    requires { first + over.count ≤ LOCATIONS }
+    ensures { result ≡ number_from first over.count (readings.place_in over.low over.count argument) }
+{
+    match position(over, argument) {
+        None => first + over.count,
+        Some(i) => first + i,
+    }
+}
+
+/// The same at the positions of two arguments.
+fn number_in_grid(place: &Grid, row: Word, column: Word) -> usize
+    requires { place.now.first + place.now.rows.count * place.now.columns.count ≤ LOCATIONS }
+    ensures { result ≡ number_from place.now.first (place.now.rows.count * place.now.columns.count) (position_in_grid (readings.place_in place.now.rows.low place.now.rows.count row) place.now.columns.count (readings.place_in place.now.columns.low place.now.columns.count column)) }
+{
+    match (position(place.rows, row), position(place.columns, column)) {
+        (Some(i), Some(j)) => place.first + (i * place.columns.count + j),
+        _ => place.first + place.rows.count * place.columns.count,
+    }
+}

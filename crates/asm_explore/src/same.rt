@@ -1,0 +1,82 @@
+//! Which answers are the same.
+ghost use Rattle.std.specs.Prelude.{◌≡◌, ◌<◌, IsTrue, length, slice_get};
+ghost use Rattle.asm_state.specs.Signature.{Shape};
+ghost use Rattle.asm_state.specs.Updates.{UpdateSet};
+ghost use Rattle.asm_updates.specs.Stands.{Stands};
+ghost use Rattle.asm_explore.specs.Lists.{AnyOf, IsShownBy};
+
+use crate::found::{Answer, Found};
+use crate::updates::Updates;
+use asm_state::laws::codes_apart;
+use asm_state::word::Word;
+use asm_updates::summary::Summary;
+
+/// Whether two values are the same.
+pub(crate) fn is_same_value(left: Word, right: Word) -> bool
+    ensures { IsTrue result → left ≡ right }
+{
+    codes_apart();
+    left.code() == right.code()
+}
+
+/// Whether two ranges have the same bounds.
+fn is_same_range(low: Word, high: Word, least: Word, greatest: Word) -> bool
+    ensures { IsTrue result → (low ≡ least) × (high ≡ greatest) }
+{
+    is_same_value(low, least) && is_same_value(high, greatest)
+}
+
+/// Whether the sets have the same entry at a position.
+fn is_same_at(left: &Summary, right: &Summary, i: usize) -> bool
+    requires left { i < length left.now.ranges }
+    requires right { i < length right.now.ranges }
+    ensures { IsTrue result → slice_get left.now.ranges i ≡ slice_get right.now.ranges i }
+{
+    let (n, low, high) = left.entry_at(i);
+    let (m, least, greatest) = right.entry_at(i);
+    n == m && is_same_range(low, high, least, greatest)
+}
+
+/// Whether two sets have the same entries in the same order.
+fn is_same_set(left: &Updates, right: &Updates) -> bool
+    ensures { IsTrue result → (shape : Shape) (U : UpdateSet) → Stands shape right.now.set U → Stands shape left.now.set U }
+{
+    let (left, right) = (&left.set, &right.set);
+    if left.count() != right.count() || left.len() != right.len() {
+        return false;
+    }
+    for i in 0..left.len() {
+        if !is_same_at(left, right, i) {
+            return false;
+        }
+    }
+    true
+}
+
+/// Whether two answers are found to be the same.
+fn is_same(left: &Answer, right: &Answer) -> bool
+    ensures { IsTrue result → IsShownBy right.now left.now }
+{
+    match left {
+        Answer::Set(set) => match right {
+            Answer::Set(other) => is_same_set(set, other),
+            Answer::Exhausted(_) => false,
+        },
+        Answer::Exhausted(path) => match right {
+            Answer::Set(_) => false,
+            Answer::Exhausted(other) => path.as_slice() == other.as_slice(),
+        },
+    }
+}
+
+/// Whether some outcome of the list is found to have the answer.
+pub(crate) fn is_known(found: &[Found], answer: &Answer) -> bool
+    ensures { IsTrue result → AnyOf (λ f. IsShownBy answer.now f.answer) found.now }
+{
+    for i in 0..found.len() {
+        if is_same(&found[i].answer, answer) {
+            return true;
+        }
+    }
+    false
+}

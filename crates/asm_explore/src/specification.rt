@@ -1,0 +1,78 @@
+//! Specifications are machines.
+ghost use Rattle.std.specs.Prelude.{◌≡◌, ◌<◌, length, IfOk, option_map};
+ghost use Rattle.asm_state.specs.Signature.{count_of, state_of};
+ghost use Rattle.asm_syntax.specs.Views.{spec_of};
+ghost use Rattle.asm_check.specs.Shapes.{shape_of};
+ghost use Rattle.asm_meaning.specs.Declarations.{specification_of};
+ghost use Rattle.asm_eval.specs.CodeViews.{code_of};
+ghost use Rattle.asm_eval.specs.RuleMeaning.{IsSoundTest};
+ghost use Rattle.asm_explore.specs.Conditions.{holds_in, IsSpecified};
+ghost use Rattle.asm_explore.specs.Lists.{Lists};
+ghost use Rattle.asm_explore.specs.Reached.{steps_from};
+
+use crate::candidates::passes;
+use crate::exploration::Exploration;
+use crate::found::Found;
+use crate::machine::Machine;
+use crate::outcomes::outcomes;
+use crate::refusal::Refusal;
+use crate::specified::Specified;
+use asm_eval::code::Code;
+use asm_eval::frame::Frame;
+use asm_eval::laws::resolving_laws;
+use asm_meaning::View;
+use asm_state::signature::Signature;
+use asm_state::state::State;
+use asm_updates::summary::Summary;
+use std::alloc::Global;
+
+/// Whether the condition holds in the state, where no name is bound.
+fn holds_at(alloc: Global, signature: &Signature, state: &State, test: &Option<Code>) -> bool
+    requires sound { IsSoundTest signature.now (option_map code_of test.now) }
+    requires whole { length state.now ≡ count_of signature.now }
+    ensures { result ≡ holds_in signature.now test.now (state_of signature.now state.now) }
+{
+    let nothing = Summary::new(alloc, signature.count());
+    let view = View::new(signature, state, &nothing);
+    passes(&view, &Frame::Empty, test)
+}
+
+impl<'a> Machine for Specified<'a> {
+    ghost specification = { λ m. specification_of (spec_of m.checked.now.spec) };
+
+    ghost turns = { λ m. m.turns };
+
+    ghost shape = { λ m. shape_of (spec_of m.checked.now.spec) };
+
+    ghost right = { λ m A. holds_in (shape_of (spec_of m.checked.now.spec)) m.always.now A };
+
+    ghost within = { λ m A. holds_in (shape_of (spec_of m.checked.now.spec)) m.within.now A };
+
+    ghost is_sound = { IsSpecified };
+
+    fn signature(&self) -> &Signature {
+        self.checked.signature()
+    }
+
+    fn outcomes(&self, alloc: Global, state: &State) -> Result<Vec<Found>, Refusal> {
+        resolving_laws();
+        let signature = self.checked.signature();
+        let nothing = Summary::new(alloc, signature.count());
+        let view = View::new(signature, state, &nothing);
+        let on = Exploration {
+            view: &view,
+            turns: self.turns,
+            limit: self.limit,
+        };
+        let found = outcomes(alloc, &on, &Frame::Empty, self.code, &[])?;
+        Ok(found)
+    }
+
+    fn is_right(&self, alloc: Global, state: &State) -> bool {
+        holds_at(alloc, self.checked.signature(), state, self.always)
+    }
+
+    fn is_within(&self, alloc: Global, state: &State) -> bool {
+        holds_at(alloc, self.checked.signature(), state, self.within)
+    }
+}

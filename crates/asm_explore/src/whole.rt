@@ -1,0 +1,73 @@
+//! The exploration of a checked specification.
+ghost use Rattle.std.specs.Prelude.{◌≡◌, ◌<◌, ◌^◌, IfOk};
+ghost use Rattle.asm_syntax.specs.Views.{spec_of};
+ghost use Rattle.asm_meaning.specs.Declarations.{specification_of};
+ghost use Rattle.asm_explore.specs.Answers.{Claims};
+ghost use Rattle.asm_explore.specs.Conditions.{holds_in, term_holds, IsSpecified};
+ghost use Rattle.asm_check.specs.Shapes.{shape_of};
+
+use crate::answer::Answered;
+use crate::answering::explore_machine;
+use crate::condition::condition_code;
+use crate::specified::Specified;
+use asm_check::Checked;
+use asm_eval::whole::resolve_main;
+use asm_state::state::State;
+use asm_syntax::term::Term;
+use std::alloc::{AllocError, Global};
+
+/// What is looked for, and how far.
+#[derive(Drop)]
+pub struct Question {
+    /// What is to hold in each state.
+    pub always: Option<Term>,
+    /// From which states runs are followed.
+    pub within: Option<Term>,
+    pub turns: u32,
+    /// Runs are looked at of at most so many steps.
+    pub steps: u32,
+    /// So many states may be reached.
+    pub states: usize,
+    /// So many outcomes may be listed at once.
+    pub outcomes: usize,
+}
+
+/// Looks through the runs of a resolved specification.
+fn explore_specified(
+    alloc: Global,
+    specified: &Specified<'_>,
+    steps: u32,
+    states: usize,
+) -> Result<Answered, AllocError>
+    requires { IsSpecified specified.now }
+    ensures { let s = spec_of specified.now.checked.now.spec in
+        IfOk result (λ answer. Claims (specification_of s) specified.now.turns steps states (holds_in (shape_of s) specified.now.always.now) (holds_in (shape_of s) specified.now.within.now) answer.states answer.finding) }
+{
+    let initial = State::initial(alloc, specified.checked.signature())?;
+    explore_machine(alloc, specified, initial, steps, states)
+}
+
+/// Looks through all runs of a specification for a step that goes wrong, or leads to a state in
+/// which the condition isn't true.
+pub fn explore_all(
+    alloc: Global,
+    checked: &Checked,
+    question: &Question,
+) -> Result<Answered, AllocError>
+    ensures { let q = question.now in
+        IfOk result (λ answer. Claims (specification_of (spec_of checked.now.spec)) q.turns q.steps q.states (term_holds checked.now q.always) (term_holds checked.now q.within) answer.states answer.finding) }
+{
+    let code = resolve_main(alloc, checked)?;
+    let always = condition_code(alloc, checked, &question.always)?;
+    let within = condition_code(alloc, checked, &question.within)?;
+    let specified = Specified {
+        checked,
+        code: &code,
+        turns: question.turns,
+        limit: question.outcomes,
+        always: &always,
+        within: &within,
+    };
+    let answered = explore_specified(alloc, &specified, question.steps, question.states)?;
+    Ok(answered)
+}
