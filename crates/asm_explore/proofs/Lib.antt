@@ -1,3 +1,5 @@
+pub mod Elements
+pub mod Placing
 pub mod ListLemmas
 pub mod Sequenced
 pub mod Layers
