@@ -7,6 +7,7 @@ pub mod SameSets
 pub mod Reaching
 pub mod Chains
 pub mod Taken
+pub mod LinesTo
 pub mod Endings
 pub mod MarkedSets
 pub mod CodeLists

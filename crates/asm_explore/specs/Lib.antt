@@ -7,6 +7,7 @@ pub mod Crowds
 pub mod Sequences
 pub mod Search
 pub mod Reached
+pub mod ScriptTo
 pub mod Ends
 pub mod Answers
 pub mod Conditions

@@ -1,9 +1,16 @@
 //! Laws of what is listed, and of what is claimed.
-ghost use Rattle.std.specs.Prelude.{◌≡◌, ℕ, Bool, true};
+ghost use Rattle.std.specs.Prelude.{◌≡◌, ℕ, Bool, true, List};
 ghost use Rattle.asm_state.specs.Location.{State};
-ghost use Rattle.asm_reader.specs.ScriptLines.{Script};
+ghost use Rattle.asm_reader.specs.ExactLines.{exactly};
+ghost use Rattle.asm_reader.specs.ScriptLines.{Line, Script, pick};
 ghost use Rattle.asm_meaning.specs.Run.{Specification};
+ghost use Rattle.asm_meaning.specs.Scripts.{IsUnrepeated};
+ghost use Rattle.asm_meaning.specs.Yields.{Path};
+ghost use Rattle.asm_explore.specs.declared.explored.Bad.{Bad};
+ghost use Rattle.asm_explore.specs.declared.node.Node.{Node};
 ghost use Rattle.asm_explore.specs.ChoiceLaws.{ChoiceLaws};
+ghost use Rattle.asm_explore.specs.Reached.{TakesBad, AreApartWith};
+ghost use Rattle.asm_explore.specs.ScriptTo.{lines_with, needed};
 ghost use Rattle.asm_explore.specs.Search.{StaysWithin};
 
 /// A complete and sound list of a step's outcomes has just what the step may yield, for whatever
@@ -16,4 +23,16 @@ pub fn choice_laws()
 pub fn within_law()
     ensures { (specification : Specification) (turns : ℕ) (within : State → Bool) (script : Script) (limit : ℕ) → ((A : State) → within A ≡ true) →
         StaysWithin specification turns within script limit }
+{}
+
+/// Where no step makes two choices at one path, the script with a line for each choice makes them all,
+/// and no two of its lines have one step and one path.
+pub fn script_law()
+    ensures apart { (nodes : List Node) (n : Node) (bad : Bad) → AreApartWith nodes n bad → IsUnrepeated (exactly (lines_with nodes n bad)) }
+    ensures takes { (nodes : List Node) (n : Node) (bad : Bad) → AreApartWith nodes n bad → TakesBad nodes (exactly (lines_with nodes n bad)) n bad }
+{}
+
+/// Of lines with steps or paths of their own, those that say the first candidate may be left out.
+pub fn needed_law()
+    ensures { (lines : List Line) → IsUnrepeated (exactly lines) → (step : ℕ) (p : Path) → pick (exactly (needed lines)) step p ≡ pick (exactly lines) step p }
 {}
