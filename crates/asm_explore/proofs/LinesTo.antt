@@ -1,12 +1,12 @@
 -- The script with a line for each choice of some steps.
 --     with_apart         no two of its lines have one step and one path
---     takes_with         it makes all choices
 --     needed_alike       what is picked by it is picked where the lines of first candidates are left out
+--     takes_with, takes_needed      all choices are made by it, and where they are left out
 use Rattle.std.proofs.Common.{◌≡◌, ◌≢◌, ◌≤◌, ℕ, zero, suc, Bool, true, false, not, cond, ◌&&◌, List, [], ◌∷◌, ◌++◌, Option, Some, None, refl, sym, ap, subst, ◌∙◌, arith}
 use Rattle.std.specs.Prelude.{slice_get}
 use Rattle.std.specs.Bool.{Decides, nat_eq}
 use Rattle.std.specs.Cmp.Lexicographic.{pointwise}
-use Rattle.std.specs.List.{filter, AllByRecursion, IsDistinct}
+use Rattle.std.specs.List.{AllByRecursion, IsDistinct}
 use Rattle.std.specs.Option.{option_or, unwrap_or}
 use Rattle.std.proofs.lemmas.Bool.Decides.{Decides-eqb}
 use Rattle.std.proofs.lemmas.Bool.{false_from_ne_true}
@@ -171,16 +171,6 @@ module _ (nodes : List Node) (n : Node) (bad : Bad) where
   unfolding IsDistinct
   with_apart apart = (distinct (lines_with nodes n bad) (all_unlike apart), tt)
 
-  pub takes_with : AreApartWith nodes n bad → TakesBad nodes (exactly (lines_with nodes n bad)) n bad
-  takes_with apart =
-      let before = lines_to nodes n.depth (Some n) in
-      let own = lines_for (suc n.depth) bad.choices.items in
-      let script = exactly (lines_with nodes n bad) in
-      let picked : Each (IsPicked script) (before ++ own) = all_picked (lines_with nodes n bad) (all_unlike apart) in (
-        to_taken nodes script n.depth (Some n) (each_first (IsPicked script) before own picked) n refl,
-        for_taken script (suc n.depth) bad.choices.items (each_last (IsPicked script) before own picked),
-      )
-
 -- ---- the lines of first candidates left out
 
 -- no line has the key of one that stands before it
@@ -216,3 +206,24 @@ needed_alike (l ∷ ls) h step p =
       | true ↦ λ first. rest ∙ pick_without l ls step p (IsDistinct-head have_one_key l ls h) ((Decides-eqb l.choice 0).0 first) (is_line_of step p l) refl
       | false ↦ λ other. pick_with l.choice (needed ls) ls step p rest (is_line_of step p l)
     ] refl
+
+-- ---- all choices are made
+
+module _ (nodes : List Node) (n : Node) (bad : Bad) where
+  taken_by : (script : Script) → Each (IsPicked script) (lines_with nodes n bad) → TakesBad nodes script n bad
+  taken_by script picked =
+      let before = lines_to nodes n.depth (Some n) in
+      let own = lines_for (suc n.depth) bad.choices.items in (
+        to_taken nodes script n.depth (Some n) (each_first (IsPicked script) before own picked) n refl,
+        for_taken script (suc n.depth) bad.choices.items (each_last (IsPicked script) before own picked),
+      )
+
+  pub takes_with : AreApartWith nodes n bad → TakesBad nodes (exactly (lines_with nodes n bad)) n bad
+  takes_with apart = taken_by (exactly (lines_with nodes n bad)) (all_picked (lines_with nodes n bad) (all_unlike nodes n bad apart))
+
+  pub takes_needed : AreApartWith nodes n bad → TakesBad nodes (exactly (needed (lines_with nodes n bad))) n bad
+  takes_needed apart =
+      let lines = lines_with nodes n bad in
+      let unlike = all_unlike nodes n bad apart in
+      taken_by (exactly (needed lines))
+      (each_weaker (IsPicked (exactly lines)) (IsPicked (exactly (needed lines))) (λ l picked. needed_alike lines (distinct lines unlike) l.step l.path ∙ picked) lines (all_picked lines unlike))

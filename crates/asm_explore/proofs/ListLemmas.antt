@@ -2,7 +2,7 @@
 --     grows_*                 of a list with one more outcome
 --     joined_none, joined_more, joined_all      one outcome beside the first elements of a list
 --     both_none, both_more, both_all            the first elements of a list beside another list
-use Rattle.std.proofs.Common.{◌≡◌, ℕ, zero, suc, ◌+◌, ◌<◌, ◌≤◌, List, [], ◌∷◌, ◌++◌, length, take, get_or, ◌⊎◌, inl, inr, refl, sym, subst, arith}
+use Rattle.std.proofs.Common.{◌≡◌, ℕ, ◌+◌, ◌<◌, ◌≤◌, List, [], ◌∷◌, ◌++◌, length, take, get_or, ◌⊎◌, inl, inr, refl, sym, subst, arith}
 use Rattle.std.proofs.lemmas.List.{take_all}
 use Rattle.asm_state.specs.Signature.{Shape, count_of}
 use Rattle.asm_state.specs.Updates.{UpdateSet, together}

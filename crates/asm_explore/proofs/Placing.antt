@@ -4,7 +4,7 @@
 --     placed_*                choices that lie at a path
 --     from_*, before_*        choices that lie at parts from a number on, or before one
 --     have_*                  the choices of each outcome of a list
-use Rattle.std.proofs.Common.{◌≡◌, ◌≢◌, ◌≤◌, ◌<◌, ◌+◌, ℕ, List, [], ◌∷◌, ◌++◌, Vec, Global, sym, subst, ap, ◌∙◌, arith, append_assoc, append-nil}
+use Rattle.std.proofs.Common.{◌≡◌, ◌≢◌, ◌≤◌, ◌<◌, ◌+◌, ℕ, List, [], ◌∷◌, ◌++◌, Vec, Global, sym, subst, ◌∙◌, arith, append_assoc, append-nil}
 use Rattle.std.specs.Prelude.{Result as Returned, Ok, Err, IfOk}
 use Rattle.asm_meaning.specs.Yields.{Path, at}
 use Rattle.asm_explore.specs.declared.found.Choice.{Choice}

@@ -25,14 +25,15 @@ pub fn within_law()
         StaysWithin specification turns within script limit }
 {}
 
-/// Where no step makes two choices at one path, the script with a line for each choice makes them all,
-/// and no two of its lines have one step and one path.
+/// Where no step makes two choices at one path, no two lines of the script with a line for each choice
+/// have one step and one path. It makes all choices, and so do the lines that are needed.
 pub fn script_law()
     ensures apart { (nodes : List Node) (n : Node) (bad : Bad) → AreApartWith nodes n bad → IsUnrepeated (exactly (lines_with nodes n bad)) }
     ensures takes { (nodes : List Node) (n : Node) (bad : Bad) → AreApartWith nodes n bad → TakesBad nodes (exactly (lines_with nodes n bad)) n bad }
+    ensures needed { (nodes : List Node) (n : Node) (bad : Bad) → AreApartWith nodes n bad → TakesBad nodes (exactly (needed (lines_with nodes n bad))) n bad }
 {}
 
-/// Of lines with steps or paths of their own, those that say the first candidate may be left out.
+/// Where no two lines have one step and one path, those that take a first candidate may be left out.
 pub fn needed_law()
     ensures { (lines : List Line) → IsUnrepeated (exactly lines) → (step : ℕ) (p : Path) → pick (exactly (needed lines)) step p ≡ pick (exactly lines) step p }
 {}

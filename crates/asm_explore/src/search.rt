@@ -465,9 +465,11 @@ fn are_above(nodes: &[Node], depth: u32) -> bool
     true
 }
 
-/// Looks through all runs of so many steps. Each run of at most `whole` steps under each script ends at its limit, in a state that is right; where
-/// nothing is left to be looked at, so does each run of however many steps; where a bad step was found, each script that makes its choices and those
-/// that lead to it has a run that goes wrong in this step. The first state is to be right.
+/// Looks through all runs of so many steps. Each run of at most `whole` steps under each script ends
+/// at its limit, in a state that is right; where nothing is left to be looked at, so does each run of
+/// however many steps; where a bad step was found, each script that makes its choices and those that
+/// lead to it has a run that goes wrong in this step, and none of these steps makes two choices at one
+/// path. The first state is to be right.
 pub fn explore<M: Machine>(
     alloc: Global,
     machine: &M,
