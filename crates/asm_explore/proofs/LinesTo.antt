@@ -1,7 +1,8 @@
 -- The script with a line for each choice of some steps.
 --     with_apart         no two of its lines have one step and one path
---     needed_alike       what is picked by it is picked where the lines of first candidates are left out
---     takes_with, takes_needed      all choices are made by it, and where they are left out
+--     needed_alike       the lines that are needed pick what all of them do
+--     takes_with         the script makes all choices
+--     takes_needed       so do the lines that are needed
 use Rattle.std.proofs.Common.{◌≡◌, ◌≢◌, ◌≤◌, ℕ, zero, suc, Bool, true, false, not, cond, ◌&&◌, List, [], ◌∷◌, ◌++◌, Option, Some, None, refl, sym, ap, subst, ◌∙◌, arith}
 use Rattle.std.specs.Prelude.{slice_get}
 use Rattle.std.specs.Bool.{Decides, nat_eq}

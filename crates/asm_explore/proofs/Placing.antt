@@ -1,6 +1,6 @@
 -- Where choices stand.
 --     parts_differ            paths in parts with different numbers differ
---     both_apart              choices and others behind them have paths of their own, if those of the one kind differ from those of the other
+--     both_apart              choices and others behind them, whose paths differ from theirs
 --     placed_*                choices that lie at a path
 --     from_*, before_*        choices that lie at parts from a number on, or before one
 --     have_*                  the choices of each outcome of a list

@@ -1,8 +1,9 @@
--- Where the choices of an outcome stand: each `choose` that is reached has a path of its own, below that of the rule.
+-- Where the choices of an outcome stand: each `choose` that is reached has a path of its own, at or
+-- below that of the rule.
 --     LiesAt p q               the path q is p, or leads on from it
 --     AreApart cs              no two choices have one path
 --     IsPlaced p cs            besides, each of them lies at the path p
---     IsPlacedIn p N cs        besides, each of them lies at a part of the rule at p, of a number of this kind
+--     IsPlacedIn p N cs        besides, each of them lies at a part of p, of a number of this kind
 --     IsPlacedFrom p k cs      of number k or a greater one
 --     IsPlacedBefore p k cs    of a number below k
 use Rattle.std.specs.Prelude.{◌≡◌, ◌≢◌, ◌≤◌, ◌<◌, ℕ, List, [], ◌∷◌, ◌++◌}

@@ -11,7 +11,7 @@
 --     IsBadStep         a step that goes wrong
 --     IsLooked          what stays true while nodes are expanded
 --     TakesTo, TakesBad a script makes the choices that lead to a node, and those of a bad step from it
---     AreApartTo, AreApartWith      the choices of each of these steps have paths of their own, and those of a bad step too
+--     AreApartTo, AreApartWith      no such step makes two choices at one path, nor does a bad step
 --     GoesWrongSo       each such script has a run that goes wrong
 use Rattle.std.specs.Prelude.{◌≡◌, ℕ, zero, suc, ◌+◌, ◌≤◌, ◌<◌, Bool, true, false, List, [], ◌++◌, ◌⊎◌, length, take, Some, slice_get}
 use Rattle.asm_state.specs.Location.{State}
