@@ -13,6 +13,7 @@ use crate::node::Node;
 use crate::refusal::copy_crowd;
 use crate::search::explore;
 use asm_state::state::State;
+use asm_syntax::Refused;
 use std::alloc::{AllocError, Global};
 
 /// The greatest depth.
@@ -48,13 +49,14 @@ fn bad_run<M: Machine>(
     if depth != whole {
         return Ok(Finding::Unwritten(whole));
     }
-    match script_to(alloc, nodes, bad)? {
-        None => Ok(Finding::Unwritten(whole)),
-        Some(script) => Ok(Finding::Bad(BadRun {
+    match script_to(alloc, nodes, bad) {
+        Ok(script) => Ok(Finding::Bad(BadRun {
             script,
             step: u64::from(whole) + 1,
             fault: bad.fault,
         })),
+        Err(Refused::Memory) => Err(AllocError),
+        Err(Refused::Named(_)) => Ok(Finding::Unwritten(whole)),
     }
 }
 
