@@ -41,9 +41,6 @@ fn bad_run<M: Machine>(
     requires safe { IsSafeUpTo (M.specification machine.now) (M.turns machine.now) (M.within machine.now) (λ A. M.right machine.now A ≡ true) whole }
     ensures { (limit states : ℕ) → IfOk result (Claims (M.specification machine.now) (M.turns machine.now) steps limit (M.right machine.now) (M.within machine.now) states) }
 {
-    if bad.from >= nodes.len() {
-        return Ok(Finding::Unwritten(whole));
-    }
     let node = &nodes[bad.from];
     let depth = node.depth;
     if depth != whole {

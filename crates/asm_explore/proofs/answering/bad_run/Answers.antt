@@ -1,6 +1,6 @@
 use Rattle.std.proofs.Common.{◌≡◌, suc, ◌+◌, sym, ap, subst, ◌∙◌, arith}
 use Rattle.std.specs.Prelude.{Some, slice_get}
-use Rattle.std.proofs.lemmas.Option.{slice_get-get_or}
+use Rattle.std.proofs.lemmas.Option.{slice_get-get_or, slice_get_within}
 use Rattle.asm_meaning.specs.Run.{run}
 use Rattle.asm_explore.specs.Search.{EndsSo}
 use Rattle.asm_explore.proofs.Taken.{some_same}
@@ -12,7 +12,7 @@ returns-in-Ok g c = λ limit states.
     let wrong = c.requires.wrong in
     let found = c.in-Ok.ensures.script wrong.from wrong.there in
     let m = c.index-nodes-bad.result in
-    let here : slice_get a.nodes.now a.bad.now.from ≡ Some m = slice_get-get_or a.nodes.now a.bad.now.from m c.if-bad-nodes.false ∙ ap Some (sym c.index-nodes-bad.is) in
+    let here : slice_get a.nodes.now a.bad.now.from ≡ Some m = slice_get-get_or a.nodes.now a.bad.now.from m (slice_get_within a.nodes.now a.bad.now.from wrong.from wrong.there) ∙ ap Some (sym c.index-nodes-bad.is) in
     let depth : m.depth ≡ wrong.from.depth = ap (λ n. n.depth) (some_same m wrong.from (sym here ∙ wrong.there)) in
     let step : suc wrong.from.depth ≡ c.from.result + 1 = omega (arith, depth, c.if-depth-whole.false, c.from.ensures) in
     record {
