@@ -2,7 +2,7 @@
 --     comes_on        a run that comes to a state goes on from there
 --     bad_runs        each script that makes the choices of the steps that lead to a bad step has a run that goes wrong there
 use Rattle.std.proofs.Common.{◌≡◌, ℕ, zero, suc, ◌+◌, Bool, true, false, cond, List, [], ◌∷◌, inl, inr, refl, sym, ap, subst, ◌∙◌, arith}
-use Rattle.std.specs.Prelude.{slice_get, Some}
+use Rattle.std.specs.Prelude.{slice_get, Option, Some}
 use Rattle.asm_state.specs.Location.{State}
 use Rattle.asm_state.specs.Signature.{Shape}
 use Rattle.asm_state.specs.Updates.{UpdateSet, IsConsistent, is_consistent, fire}
@@ -17,7 +17,7 @@ use Rattle.asm_explore.specs.declared.fault.Fault.{Fault}
 use Rattle.asm_explore.specs.declared.fault.Fault.TheVariants as fault
 use Rattle.asm_explore.specs.declared.node.Node.{Node}
 use Rattle.asm_explore.specs.Lists.{Situation, Each}
-use Rattle.asm_explore.specs.Reached.{steps_from, state_at, GoesWrong, TakesTo, GoesWrongSo, IsLinked, IsBad}
+use Rattle.asm_explore.specs.Reached.{steps_from, state_at, GoesWrong, TakesTo, AreApartTo, GoesWrongSo, IsLinked, IsBad}
 use Rattle.asm_explore.specs.Search.{LeadsOn, EndsSo}
 
 record Same (r q : Run) : Type 0 where
@@ -117,11 +117,31 @@ module _ (specification : Specification) (turns : ℕ) (right : State → Bool) 
       comes.leads (step_at (suc d)) takes.0,
     )
 
+-- the choices of each step along the way have paths of their own
+chain_apart : (shape : Shape) (specification : Specification) (turns : ℕ) (nodes : List Node) → Each (IsLinked shape specification turns nodes) nodes
+    → (d : ℕ) (n : Node) → IsLinked shape specification turns nodes n → n.depth ≡ d → AreApartTo nodes d n
+chain_apart shape specification turns nodes linked zero n link deep = tt
+chain_apart shape specification turns nodes linked (suc d) n (inl first) deep = absurd (omega (arith, deep, first.0))
+chain_apart shape specification turns nodes linked (suc d) n (inr comes) deep = (
+  comes.apart,
+  λ m there.
+      let deeper : comes.earlier.depth ≡ d = omega (arith, deep, comes.deeper) in
+      chain_apart shape specification turns nodes linked d m (each_there (IsLinked shape specification turns nodes) nodes n.from m linked there)
+      (ap (λ (k : Node). k.depth) (same_node m comes.earlier (slice_get nodes n.from) there comes.there) ∙ deeper),
+)
+  where
+    same_node : (m k : Node) (o : Option Node) → o ≡ Some m → o ≡ Some k → m ≡ k
+    same_node m k o is there = cc
+
 pub bad_runs : (specification : Specification) (turns : ℕ) (right : State → Bool) (shape : Shape) (nodes : List Node) (bad : Bad)
     → Each (IsLinked shape specification turns nodes) nodes → IsBad shape specification turns right nodes bad → GoesWrongSo specification turns right nodes bad
 bad_runs specification turns right shape nodes bad linked is = record {
   from = is.from;
   there = is.there;
+  apart = (
+    chain_apart shape specification turns nodes linked is.from.depth is.from (each_there (IsLinked shape specification turns nodes) nodes bad.from is.from linked is.there) refl,
+    is.apart,
+  );
   wrong = λ script takes.
       let n = is.from in
       let comes = chain_comes specification turns right script shape nodes linked n.depth n (each_there (IsLinked shape specification turns nodes) nodes bad.from n linked is.there) refl takes.0 in

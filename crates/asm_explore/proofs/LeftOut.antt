@@ -2,7 +2,6 @@
 --     AreApart, apart_of             no two lines have one step and path
 --     steps_written, apart_written   what holds of lines holds of those of them that are written
 --     same_picks                     a script picks the same without the lines that are left out
---     each_picked                    the script of lines picks what each of them says
 use Rattle.std.proofs.Common.{◌≡◌, ℕ, ◌≤◌, Bool, true, false, cond, ◌&&◌, nat_eq, List, [], ◌∷◌, Option, Some, None, refl, sym, ap, ◌∙◌, arith, eq-eqb}
 use Rattle.std.specs.Cmp.Derive.{both_true}
 use Rattle.std.specs.Cmp.Lexicographic.{pointwise}
@@ -123,25 +122,3 @@ module _ (zeros : Zeros) (step : ℕ) (p : List ℕ) where
           none_picked (written zeros lines) step p (each_written (IsOfOther step p) zeros lines (others line lines step p h.0 is))
           ∙ (sym (left_out zeros line.choice e) ∙ ap (λ t. cond t line.choice (picked_of lines step p)) (sym is))
       by_tests rest false e false is = rest ∙ ap (λ t. cond t line.choice (picked_of lines step p)) (sym is)
-
-itself : (line : Line) → is_line_of line.step line.path line ≡ true
-itself line = both_true (eq-eqb line.step line.step refl) ((bytes_eq-Decides line.path line.path).1 refl)
-
--- a line that is apart from one isn't for its step and path
-not_it : (line other : Line) → IsApart line other → is_line_of other.step other.path line ≡ false
-not_it line other apart = other_of other.step other.path line apart
-
-pub each_picked : (lines : List Line) → AreApart lines → Each (λ line. picked_of lines line.step line.path ≡ line.choice) lines
-each_picked [] h = tt
-each_picked (line ∷ lines) h = (
-  picked_more line lines line.step line.path ∙ ap (λ t. cond t line.choice (picked_of lines line.step line.path)) (itself line),
-  each_both lines h.0 (each_picked lines h.1),
-)
-  where
-    each_both : (ls : List Line) → Each (IsApart line) ls → Each (λ it. picked_of lines it.step it.path ≡ it.choice) ls
-        → Each (λ it. picked_of (line ∷ lines) it.step it.path ≡ it.choice) ls
-    each_both [] a g = tt
-    each_both (it ∷ ls) a g = (
-      picked_more line lines it.step it.path ∙ (ap (λ t. cond t line.choice (picked_of lines it.step it.path)) (not_it line it a.0) ∙ g.0),
-      each_both ls a.1 g.1,
-    )

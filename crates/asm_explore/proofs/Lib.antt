@@ -1,3 +1,5 @@
+pub mod Elements
+pub mod Placing
 pub mod ListLemmas
 pub mod Growing
 pub mod ReadBack
@@ -9,6 +11,7 @@ pub mod SameSets
 pub mod Reaching
 pub mod Chains
 pub mod Taken
+pub mod LinesTo
 pub mod Endings
 pub mod MarkedSets
 pub mod CodeLists

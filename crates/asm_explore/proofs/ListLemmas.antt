@@ -1,86 +1,22 @@
 -- Lists of outcomes, and how they come of other lists.
---     each_*, any_*           what holds of each, or of some, of a list's elements
 --     grows_*                 of a list with one more outcome
 --     joined_none, joined_more, joined_all      one outcome beside the first elements of a list
 --     both_none, both_more, both_all            the first elements of a list beside another list
-use Rattle.std.proofs.Common.{◌≡◌, ℕ, zero, suc, ◌+◌, ◌<◌, ◌≤◌, List, [], ◌∷◌, ◌++◌, length, take, get_or, ◌⊎◌, inl, inr, refl, sym, subst, arith}
-use Rattle.std.proofs.lemmas.List.{take_more, take_all}
+use Rattle.std.proofs.Common.{◌≡◌, ℕ, ◌+◌, ◌<◌, ◌≤◌, List, [], ◌∷◌, ◌++◌, length, take, get_or, ◌⊎◌, inl, inr, refl, sym, subst, arith}
+use Rattle.std.proofs.lemmas.List.{take_all}
 use Rattle.asm_state.specs.Signature.{Shape, count_of}
 use Rattle.asm_state.specs.Updates.{UpdateSet, together}
 use Rattle.asm_updates.specs.Stands.{Stands}
-use Rattle.asm_meaning.specs.Yields.{Result, Gives, Exhausted, beside}
+use Rattle.asm_meaning.specs.Yields.{Path, Result, Gives, Exhausted, at, beside}
 use Rattle.asm_explore.specs.declared.found.Answer.{Answer}
 use Rattle.asm_explore.specs.declared.found.Answer.TheVariants as answer
 use Rattle.asm_explore.specs.declared.found.Choice.{Choice}
 use Rattle.asm_explore.specs.declared.found.Found.{Found}
 use Rattle.asm_explore.specs.declared.updates.Updates.{Updates}
-use Rattle.asm_explore.specs.Lists.{Situation, Each, AnyOf, IsTaken, AreTaken, Shows, IsShownBy, Shown, IsCounted, AreCounted, IsSound, Lists, Grows, IsJoined, IsPicked}
-
--- ---- elements
-
-module _ {X : Type 0} (P : X → Type 0) where
-  pub each_append : (xs ys : List X) → Each P xs → Each P ys → Each P (xs ++ ys)
-  each_append [] ys h g = g
-  each_append (x ∷ xs) ys h g = (h.0, each_append xs ys h.1 g)
-
-  pub each_first : (xs ys : List X) → Each P (xs ++ ys) → Each P xs
-  each_first [] ys h = tt
-  each_first (x ∷ xs) ys h = (h.0, each_first xs ys h.1)
-
-  pub each_last : (xs ys : List X) → Each P (xs ++ ys) → Each P ys
-  each_last [] ys h = h
-  each_last (x ∷ xs) ys h = each_last xs ys h.1
-
-  pub each_at : (xs : List X) (i : ℕ) (x : X) → i < length xs → x ≡ get_or xs i x → Each P xs → P x
-  each_at [] i x low is h = absurd (omega (arith, low))
-  each_at (y ∷ ys) zero x low is h = subst P (sym is) h.0
-  each_at (y ∷ ys) (suc i) x low is h = each_at ys i x (omega (arith, low)) is h.1
-
-  pub each_take_more : (xs : List X) (i : ℕ) (x : X) → i < length xs → x ≡ get_or xs i x → Each P (take (i + 1) xs) → Each P (take i xs) × P x
-  each_take_more xs i x low is h =
-      let split : Each P (take i xs ++ get_or xs i x ∷ []) = subst (Each P) (take_more xs i x low) h in
-      (each_first (take i xs) (get_or xs i x ∷ []) split, subst P (sym is) (each_last (take i xs) (get_or xs i x ∷ []) split).0)
-
-  pub each_weaker : (Q : X → Type 0) → ((x : X) → P x → Q x) → (xs : List X) → Each P xs → Each Q xs
-  each_weaker Q f [] h = tt
-  each_weaker Q f (x ∷ xs) h = (f x h.0, each_weaker Q f xs h.1)
-
-  pub any_first : (xs ys : List X) → AnyOf P xs → AnyOf P (xs ++ ys)
-  any_first [] ys h = absurd h
-  any_first (x ∷ xs) ys (inl h) = inl h
-  any_first (x ∷ xs) ys (inr h) = inr (any_first xs ys h)
-
-  pub any_last : (xs ys : List X) → AnyOf P ys → AnyOf P (xs ++ ys)
-  any_last [] ys h = h
-  any_last (x ∷ xs) ys h = inr (any_last xs ys h)
-
-  pub any_weaker : (Q : X → Type 0) → ((x : X) → P x → Q x) → (xs : List X) → AnyOf P xs → AnyOf Q xs
-  any_weaker Q f [] h = absurd h
-  any_weaker Q f (x ∷ xs) (inl h) = inl (f x h)
-  any_weaker Q f (x ∷ xs) (inr h) = inr (any_weaker Q f xs h)
-
-  pub any_at : (xs : List X) (i : ℕ) (x : X) → i < length xs → x ≡ get_or xs i x → P x → AnyOf P xs
-  any_at [] i x low is h = absurd (omega (arith, low))
-  any_at (y ∷ ys) zero x low is h = inl (subst P is h)
-  any_at (y ∷ ys) (suc i) x low is h = inr (any_at ys i x (omega (arith, low)) is h)
-
-  later : (x : X) (xs ys : List X) → AnyOf P xs ⊎ AnyOf P ys → AnyOf P (x ∷ xs) ⊎ AnyOf P ys
-  later x xs ys (inl h) = inl (inr h)
-  later x xs ys (inr h) = inr h
-
-  pub any_split : (xs ys : List X) → AnyOf P (xs ++ ys) → AnyOf P xs ⊎ AnyOf P ys
-  any_split [] ys h = inr h
-  any_split (x ∷ xs) ys (inl h) = inl (inl h)
-  any_split (x ∷ xs) ys (inr h) = later x xs ys (any_split xs ys h)
-
-  the_one : (xs : List X) (x y : X) → x ≡ y → AnyOf P xs ⊎ AnyOf P (y ∷ []) → AnyOf P xs ⊎ P x
-  the_one xs x y is (inl h) = inl h
-  the_one xs x y is (inr (inl h)) = inr (subst P (sym is) h)
-  the_one xs x y is (inr (inr h)) = absurd h
-
-  pub any_take_more : (xs : List X) (i : ℕ) (x : X) → i < length xs → x ≡ get_or xs i x → AnyOf P (take (i + 1) xs) → AnyOf P (take i xs) ⊎ P x
-  any_take_more xs i x low is h =
-      the_one (take i xs) x (get_or xs i x) is (any_split (take i xs) (get_or xs i x ∷ []) (subst (AnyOf P) (take_more xs i x low) h))
+use Rattle.asm_explore.specs.Lists.{Situation, Each, AnyOf, IsTaken, AreTaken, Shows, IsShownBy, Shown, HaveChoices, IsCounted, AreCounted, IsSound, Lists, Grows, IsJoined, IsPicked}
+use Rattle.asm_explore.specs.Placed.{IsPlaced, IsPlacedFrom}
+use Rattle.asm_explore.proofs.Placing.{placed_chosen, from_part}
+pub use Rattle.asm_explore.proofs.Elements.{each_append, each_first, each_last, each_at, each_take_more, each_weaker, any_first, any_last, any_weaker, any_at, any_split, any_take_more}
 
 -- ---- one more
 
@@ -136,6 +72,7 @@ module _ (shape : Shape) (left : Found) (right : List Found) where
     older = λ r h. h;
     shown = λ x y here h. absurd h;
     sound = λ o q here each h. h;
+    placed = λ p k here each h. h;
   }
 
   pub joined_all : (i : ℕ) (old new : List Found) → length right ≤ i → IsJoined shape left (take i right) old new → IsJoined shape left right old new
@@ -155,6 +92,10 @@ module _ (shape : Shape) (left : Found) (right : List Found) where
         grows_each (IsSound shape (λ s. beside (o s) (q s))) mid new one grows (so_far.sound o q here parts.0 h)
         (λ s taken. let halves = taken_both s one.choices.items left.choices.items r.choices.items chosen taken in
         answers (o s) (q s) (here s halves.0) (parts.1 s halves.1));
+    placed = λ p k here each h.
+        let parts = each_take_more (λ f. IsPlacedFrom p (k + 1) f.choices.items) right i r low is each in
+        grows_each (λ f. IsPlacedFrom p k f.choices.items) mid new one grows (so_far.placed p k here parts.0 h)
+        (subst (IsPlacedFrom p k) (sym chosen) (from_part p k left.choices.items r.choices.items here parts.1));
   }
     where
       next : (x y : Result) → Shows shape left.answer x → Shown shape (take i right) y ⊎ Shows shape r.answer y → Shown shape new (beside x y)
@@ -167,10 +108,11 @@ pub record AreJoined (shape : Shape) (left right found : List Found) : Type 0 wh
   pub counted : AreCounted (count_of shape) found
   pub shown : (x y : Result) → Shown shape left x → Shown shape right y → Shown shape found (beside x y)
   pub sound : (o q : Situation → Result) → Each (IsSound shape o) left → Each (IsSound shape q) right → Each (IsSound shape (λ s. beside (o s) (q s))) found
+  pub placed : (p : Path) (k : ℕ) → HaveChoices (IsPlaced (at p k)) left → HaveChoices (IsPlacedFrom p (k + 1)) right → HaveChoices (IsPlacedFrom p k) found
 
 module _ (shape : Shape) (left right : List Found) where
   pub both_none : AreJoined shape (take 0 left) right []
-  both_none = record { counted = tt; shown = λ x y h g. absurd h; sound = λ o q h g. tt }
+  both_none = record { counted = tt; shown = λ x y h g. absurd h; sound = λ o q h g. tt; placed = λ p k h g. tt }
 
   pub both_more : (i : ℕ) (f : Found) (old new : List Found) → i < length left → f ≡ get_or left i f
       → IsJoined shape f right old new → AreJoined shape (take i left) right old → AreJoined shape (take (i + 1) left) right new
@@ -180,6 +122,9 @@ module _ (shape : Shape) (left right : List Found) where
     sound = λ o q h g.
         let parts = each_take_more (IsSound shape o) left i f low is h in
         joined.sound o q parts.1 g (so_far.sound o q parts.0 g);
+    placed = λ p k h g.
+        let parts = each_take_more (λ f. IsPlaced (at p k) f.choices.items) left i f low is h in
+        joined.placed p k parts.1 g (so_far.placed p k parts.0 g);
   }
     where
       next : (x y : Result) → Shown shape right y → Shown shape (take i left) x ⊎ Shows shape f.answer x → Shown shape new (beside x y)
@@ -196,11 +141,17 @@ module _ (shape : Shape) (left right : List Found) where
         sound = whole.sound o q h.sound g.sound;
       }
 
+  pub both_placed : (i : ℕ) (found : List Found) → length left ≤ i → AreJoined shape (take i left) right found
+      → (p : Path) (k : ℕ) → HaveChoices (IsPlaced (at p k)) left → HaveChoices (IsPlacedFrom p (k + 1)) right → HaveChoices (IsPlacedFrom p k) found
+  both_placed i found past joined =
+      let whole : AreJoined shape left right found = subst (λ fs. AreJoined shape fs right found) (take_all i left past) joined in
+      whole.placed
+
 -- ---- the outcomes of a candidate
 
 module _ (p : List ℕ) (k : ℕ) (part : List Found) where
   pub picked_none : (old : List Found) → IsPicked p k (take 0 part) old old
-  picked_none old = record { counted = λ n g h. h; older = λ shape r h. h; shown = λ shape r h. absurd h; sound = λ shape o q each same h. h }
+  picked_none old = record { counted = λ n g h. h; older = λ shape r h. h; shown = λ shape r h. absurd h; sound = λ shape o q each same h. h; placed = λ each h. h }
 
   pub picked_all : (i : ℕ) (old new : List Found) → length part ≤ i → IsPicked p k (take i part) old new → IsPicked p k part old new
   picked_all i old new past = subst (λ fs. IsPicked p k fs old new) (take_all i part past)
@@ -220,6 +171,10 @@ module _ (p : List ℕ) (k : ℕ) (part : List Found) where
         grows_each (IsSound shape q) mid new one grows (so_far.sound shape o q parts.0 alike h)
         (λ s taken. let halves = taken_both s one.choices.items f.choices.items (record { path = p; number = k } ∷ []) chosen taken in
         subst (Shows shape one.answer) (alike s halves.1.0) (shows shape (o s) (parts.1 s halves.0)));
+    placed = λ each h.
+        let parts = each_take_more (λ f. IsPlaced (at p 0) f.choices.items) part i f low is each in
+        grows_each (λ f. IsPlaced p f.choices.items) mid new one grows (so_far.placed parts.0 h)
+        (subst (IsPlaced p) (sym chosen) (placed_chosen p k f.choices.items parts.1));
   }
     where
       next : (shape : Shape) (r : Result) → Shown shape (take i part) r ⊎ Shows shape f.answer r → Shown shape new r

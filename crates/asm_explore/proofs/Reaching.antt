@@ -23,6 +23,7 @@ use Rattle.asm_explore.specs.declared.node.Node.{Node}
 use Rattle.asm_explore.specs.declared.updates.Updates.{Updates}
 use Rattle.asm_explore.specs.declared.fault.Fault.{Fault}
 use Rattle.asm_explore.specs.Lists.{Situation, Each, AnyOf, AreTaken, Shows, Shown}
+use Rattle.asm_explore.specs.Placed.{AreApart}
 use Rattle.asm_explore.specs.Reached.{steps_from, state_at, Known, Rises, IsNear, IsGood, Extends, Follows, Expanded, IsLinked, IsLooked, IsOutcome, IsBadStep, LeadsTo, IsSearched}
 use Rattle.asm_explore.specs.Search.{LeadsOn, IsSafeUpTo, IsSafe}
 use Rattle.asm_explore.proofs.ListLemmas.{each_append, each_at, each_weaker, any_first, any_last, any_weaker, any_take_more}
@@ -60,6 +61,7 @@ linked_more shape specification turns old new more n is (inr comes) = inr (recor
   earlier = comes.earlier;
   there = subst (λ ns. slice_get ns n.from ≡ Some comes.earlier) (sym is) (slice_first old more n.from comes.earlier comes.there);
   deeper = comes.deeper;
+  apart = comes.apart;
   leads = comes.leads;
 })
 
@@ -151,15 +153,16 @@ module _ (shape : Shape) (specification : Specification) (turns : ℕ) (right : 
             omega (arith, one, other)
 
   -- a step's state, as a node
-  pub comes_from : (old : List Node) (from : ℕ) (choices : List Choice) (n : Node) → from < length old → n.from ≡ from → n.depth ≡ below → n.choices.items ≡ choices
+  pub comes_from : (old : List Node) (from : ℕ) (choices : List Choice) (n : Node) → from < length old → n.from ≡ from → n.depth ≡ below → n.choices.items ≡ choices → AreApart choices
       → LeadsTo shape specification turns old from below choices (state_at shape n) → IsLinked shape specification turns old n
-  comes_from old from choices n low at deep chosen leads =
+  comes_from old from choices n low at deep chosen apart leads =
       let one = some_at old from low in
       let steps = leads one.0 one.1 in
       inr (record {
         earlier = one.0;
         there = ap (slice_get old) at ∙ one.1;
         deeper = deep ∙ steps.0;
+        apart = subst AreApart (sym chosen) apart;
         leads = λ s taken. steps.1 s (subst (AreTaken s) chosen taken);
       })
 

@@ -1,6 +1,7 @@
 -- Sequences through all scripts.
 --     told_*                  whether a part is the last
 --     ends_*, goes_set        how one outcome of the next part is added
+--     both_*                  where the choices of outcomes so far stand
 --     sorted_none, sorted_more, sorted_all      how the first of them are
 --     next_none, next_more, next_all            how the first outcomes so far go on
 --     begun, underway_next, ended               a sequence from part to part
@@ -22,15 +23,17 @@ use Rattle.asm_updates.specs.Entries.{Entries}
 use Rattle.asm_updates.specs.Faults.{fault_of}
 use Rattle.asm_updates.specs.Stands.{Stands}
 use Rattle.asm_updates.specs.declared.fault.Fault.{Fault as NumberedFault}
-use Rattle.asm_meaning.specs.Yields.{Path, Result, Gives, Exhausted, after}
+use Rattle.asm_meaning.specs.Yields.{Path, Result, Gives, Exhausted, at, after}
 use Rattle.asm_explore.specs.declared.found.Answer.TheVariants as answer
 use Rattle.asm_explore.specs.declared.found.Choice.{Choice}
 use Rattle.asm_explore.specs.declared.found.Found.{Found}
 use Rattle.asm_explore.specs.declared.sorting.Sorted.{Sorted}
 use Rattle.asm_explore.specs.declared.updates.Updates.{Updates}
-use Rattle.asm_explore.specs.Lists.{Situation, Each, AreTaken, Shows, IsShownBy, Shown, IsCounted, AreCounted, IsSound, Lists, Grows}
-use Rattle.asm_explore.specs.Sequences.{ends, step_of, IsTold, Merges, ComesAfter, IsOn, Underway, Ends, GoesOn, Sorts, SortsAll, StepsTo, Next, NextOne, Adds, Exhausts}
+use Rattle.asm_explore.specs.Lists.{Situation, Each, AreTaken, Shows, IsShownBy, Shown, HaveChoices, IsCounted, AreCounted, IsSound, Lists, Grows}
+use Rattle.asm_explore.specs.Placed.{IsPlaced, IsPlacedBefore}
+use Rattle.asm_explore.specs.Sequences.{ends, step_of, BothHave, IsTold, Merges, ComesAfter, IsOn, Underway, Ends, GoesOn, Sorts, SortsAll, StepsTo, Next, NextOne, Adds, Exhausts}
 use Rattle.asm_explore.proofs.ListLemmas.{each_weaker, each_take_more, any_take_more, grows_each, grows_any, taken_both}
+use Rattle.asm_explore.proofs.Placing.{before_none, before_part, have_weaker, placed_in}
 
 -- ---- results and states
 
@@ -115,6 +118,21 @@ module _ (shape : Shape) (turns : Bool) (so_far : Entries) (q joined : Found) wh
         here U (Gives V) stands h = (V, refl, sym (told V h), subst (λ a. Shows shape a (Gives (merge U V))) (sym there) (merges shape U V stands h))
         here U (Exhausted s) stands h = absurd h
 
+-- ---- where the choices of outcomes so far stand
+
+-- none is done, and those that go on have chosen nothing
+pub both_begin : (p : Path) (done more : List Found) → done ≡ [] → HaveChoices (λ cs. cs ≡ []) more → HaveChoices (IsPlacedBefore p 0) done × HaveChoices (IsPlacedBefore p 0) more
+both_begin p done more none empty = (
+  subst (HaveChoices (IsPlacedBefore p 0)) (sym none) tt,
+  have_weaker (λ cs. cs ≡ []) (IsPlacedBefore p 0) (before_none p 0) more empty,
+)
+
+pub both_placed : (p : Path) (k : ℕ) (sorted : Sorted) → BothHave (IsPlacedBefore p k) sorted → BothHave (IsPlaced p) sorted
+both_placed p k sorted both = (
+  have_weaker (IsPlacedBefore p k) (IsPlaced p) (placed_in p (λ i. i < k)) sorted.done.items both.0,
+  have_weaker (IsPlacedBefore p k) (IsPlaced p) (placed_in p (λ i. i < k)) sorted.more.items both.1,
+)
+
 -- ---- the first outcomes of the next part
 
 module _ (shape : Shape) (turns : Bool) (so_far : Entries) (choices : List Choice) (part : List Found) where
@@ -127,6 +145,7 @@ module _ (shape : Shape) (turns : Bool) (so_far : Entries) (choices : List Choic
     shown = λ U x rest stands h. absurd h;
     done_sound = λ total o hyp each h. h;
     more_sound = λ A total left o hyp each h. h;
+    placed = λ p k here each h. h;
   }
 
   pub sorted_all : (i : ℕ) (old new : Sorted) → length part ≤ i → SortsAll shape turns so_far choices (take i part) old new → SortsAll shape turns so_far choices part old new
@@ -152,6 +171,13 @@ module _ (shape : Shape) (turns : Bool) (so_far : Entries) (choices : List Choic
       more_sound = λ A total left o hyp each h.
           let parts = each_take_more (IsSound shape o) part i q low is each in
           subst (Each (IsOn shape A total left)) (sym same) (so_on.more_sound A total left o hyp parts.0 h);
+      placed = λ p k here each h.
+          let parts = each_take_more (λ f. IsPlaced (at p k) f.choices.items) part i q low is each in
+          let both = so_on.placed p k here parts.0 h in (
+            grows_each (λ f. IsPlacedBefore p (k + 1) f.choices.items) mid.done.items new.done.items joined grows both.0
+                (subst (IsPlacedBefore p (k + 1)) (sym chosen) (before_part p k choices q.choices.items here parts.1)),
+            subst (HaveChoices (IsPlacedBefore p (k + 1))) (sym same) both.1,
+          );
     }
       where
         older : (U : UpdateSet) (x : Result) (rest : UpdateSet → Result)
@@ -183,6 +209,13 @@ module _ (shape : Shape) (turns : Bool) (so_far : Entries) (choices : List Choic
           let here = hyp s halves.0 in
           let goes = on.shows here.0 (o s) here.1 (parts.1 s halves.1) in
           (merge here.0 goes.0, goes.3, here.2 goes.0 goes.1 goes.2));
+      placed = λ p k here each h.
+          let parts = each_take_more (λ f. IsPlaced (at p k) f.choices.items) part i q low is each in
+          let both = so_on.placed p k here parts.0 h in (
+            subst (HaveChoices (IsPlacedBefore p (k + 1))) (sym same) both.0,
+            grows_each (λ f. IsPlacedBefore p (k + 1) f.choices.items) mid.more.items new.more.items joined grows both.1
+                (subst (IsPlacedBefore p (k + 1)) (sym chosen) (before_part p k choices q.choices.items here parts.1)),
+          );
     }
       where
         older : (U : UpdateSet) (x : Result) (rest : UpdateSet → Result)
@@ -343,7 +376,7 @@ module _ (shape : Shape) (turns : Bool) (A : State) (here : Situation → State 
 
 module _ (more : List Found) where
   pub adds_none : (old : List Found) → Adds old (take 0 more) old
-  adds_none old = record { counted = λ n h g. h; older = λ shape r h. h; shown = λ shape r h. absurd h; sound = λ shape o h g. h }
+  adds_none old = record { counted = λ n h g. h; older = λ shape r h. h; shown = λ shape r h. absurd h; sound = λ shape o h g. h; placed = λ q h g. h }
 
   pub adds_more : (i : ℕ) (f one : Found) (old mid new : List Found) → i < length more → f ≡ get_or more i f
       → one.choices.items ≡ f.choices.items → ((n : ℕ) → IsCounted n f.answer → IsCounted n one.answer) → IsShownBy f.answer one.answer → Grows mid one new → Adds old (take i more) mid → Adds old (take (i + 1) more) new
@@ -357,6 +390,9 @@ module _ (more : List Found) where
         let parts = each_take_more (IsSound shape o) more i f low is g in
         grows_each (IsSound shape o) mid new one grows (so_on.sound shape o h parts.0)
         (λ s taken. shows shape (o s) (parts.1 s (subst (AreTaken s) chosen taken)));
+    placed = λ q h g.
+        let parts = each_take_more (λ f. IsPlaced q f.choices.items) more i f low is g in
+        grows_each (λ f. IsPlaced q f.choices.items) mid new one grows (so_on.placed q h parts.0) (subst (IsPlaced q) (sym chosen) parts.1);
   }
     where
       next : (shape : Shape) (r : Result) → Shown shape (take i more) r ⊎ Shows shape f.answer r → Shown shape new r
@@ -388,7 +424,7 @@ closed shape A total left empty old more new under adds = record {
 
 module _ (p : Path) (more : List Found) where
   pub exhausts_none : (old : List Found) → Exhausts p old (take 0 more) old
-  exhausts_none old = record { counted = λ n h. h; older = λ shape r h. h; shown = λ shape r h. absurd h; sound = λ shape o h g. g }
+  exhausts_none old = record { counted = λ n h. h; older = λ shape r h. h; shown = λ shape r h. absurd h; sound = λ shape o h g. g; placed = λ q h g. h }
 
   pub exhausts_more : (i : ℕ) (f one : Found) (old mid new : List Found) → i < length more → f ≡ get_or more i f
       → one.choices.items ≡ f.choices.items → one.answer ≡ answer.Exhausted p → Grows mid one new → Exhausts p old (take i more) mid → Exhausts p old (take (i + 1) more) new
@@ -400,6 +436,9 @@ module _ (p : Path) (more : List Found) where
         let parts = each_take_more (λ f. (s : Situation) → AreTaken s f.choices.items → o s ≡ Exhausted p) more i f low is h in
         grows_each (IsSound shape o) mid new one grows (so_on.sound shape o parts.0 g)
         (λ s taken. subst (λ r. Shows shape one.answer r) (sym (parts.1 s (subst (AreTaken s) chosen taken))) (at_end shape));
+    placed = λ q h g.
+        let parts = each_take_more (λ f. IsPlaced q f.choices.items) more i f low is g in
+        grows_each (λ f. IsPlaced q f.choices.items) mid new one grows (so_on.placed q h parts.0) (subst (IsPlaced q) (sym chosen) parts.1);
   }
     where
       at_end : (shape : Shape) → Shows shape one.answer (Exhausted p)

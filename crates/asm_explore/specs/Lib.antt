@@ -1,4 +1,6 @@
 pub mod Marks
+pub mod Elements
+pub mod Placed
 pub mod Lists
 pub mod Written
 pub mod Explored

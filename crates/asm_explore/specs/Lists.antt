@@ -4,19 +4,22 @@
 --     Shows shape a r      an answer of the code is this result
 --     IsShownBy a b        whatever the answer a shows, b shows too
 --     Shown shape fs r     some answer of a list is
+--     HaveChoices P fs     the choices of each outcome of a list are so
 --     Grows, IsJoined      how lists grow by one outcome, and by one beside each of a list
 --     IsPicked             and by those of a candidate that is taken
 --     Lists shape o fs     a list has what a rule yields in each situation, and nothing else: each of its answers comes in every
 --                          situation whose script takes the answer's choices
-use Rattle.std.specs.Prelude.{◌≡◌, ℕ, List, [], ◌∷◌, ◌++◌, ◌⊎◌}
+use Rattle.std.specs.Prelude.{◌≡◌, ℕ, ◌+◌, List, [], ◌∷◌, ◌++◌, ◌⊎◌}
 use Rattle.asm_state.specs.Signature.{Shape, count_of}
 use Rattle.asm_updates.specs.Stands.{Stands}
 use Rattle.asm_reader.specs.ScriptLines.{Script, pick}
-use Rattle.asm_meaning.specs.Yields.{Result, Gives, Exhausted, beside}
+use Rattle.asm_meaning.specs.Yields.{Path, Result, Gives, Exhausted, at, beside}
 use Rattle.asm_explore.specs.declared.found.Choice.{Choice}
 use Rattle.asm_explore.specs.declared.found.Answer.{Answer}
 use Rattle.asm_explore.specs.declared.found.Answer.TheVariants as answer
 use Rattle.asm_explore.specs.declared.found.Found.{Found}
+pub use Rattle.asm_explore.specs.Elements.{Each, AnyOf}
+use Rattle.asm_explore.specs.Placed.{IsPlaced, IsPlacedFrom}
 
 pub record Situation : Type 0 where
   pub script : Script
@@ -24,15 +27,6 @@ pub record Situation : Type 0 where
 
 abbrev pub picked : Situation → List ℕ → ℕ
 picked s = pick s.script s.step
-
--- it holds of each, of some
-abbrev pub Each : {X : Type 0} → (X → Type 0) → List X → Type 0
-Each P [] = Unit {0}
-Each P (x ∷ xs) = P x × Each P xs
-
-abbrev pub AnyOf : {X : Type 0} → (X → Type 0) → List X → Type 0
-AnyOf P [] = ⊥
-AnyOf P (x ∷ xs) = P x ⊎ AnyOf P xs
 
 abbrev pub IsTaken : Situation → Choice → Type 0
 IsTaken s c = picked s c.path ≡ c.number
@@ -61,6 +55,9 @@ IsCounted count (answer.Exhausted p) = Unit {0}
 abbrev pub AreCounted : ℕ → List Found → Type 0
 AreCounted count fs = Each (λ f. IsCounted count f.answer) fs
 
+abbrev pub HaveChoices : (List Choice → Type 0) → List Found → Type 0
+HaveChoices P fs = Each (λ f. P f.choices.items) fs
+
 -- what is found in each situation that makes the choices
 abbrev pub IsSound : Shape → (Situation → Result) → Found → Type 0
 IsSound shape o f = (s : Situation) → AreTaken s f.choices.items → Shows shape f.answer (o s)
@@ -82,11 +79,14 @@ pub record IsJoined (shape : Shape) (left : Found) (right old new : List Found) 
   pub shown : (x y : Result) → Shows shape left.answer x → Shown shape right y → Shown shape new (beside x y)
   pub sound : (o q : Situation → Result) → IsSound shape o left → Each (IsSound shape q) right
       → Each (IsSound shape (λ s. beside (o s) (q s))) old → Each (IsSound shape (λ s. beside (o s) (q s))) new
+  pub placed : (p : Path) (k : ℕ) → IsPlaced (at p k) left.choices.items → HaveChoices (IsPlacedFrom p (k + 1)) right
+      → HaveChoices (IsPlacedFrom p k) old → HaveChoices (IsPlacedFrom p k) new
 
 -- a list with the outcomes of a part, each with one more choice
-pub record IsPicked (p : List ℕ) (k : ℕ) (part old new : List Found) : Type 0 where
+pub record IsPicked (p : Path) (k : ℕ) (part old new : List Found) : Type 0 where
   pub counted : (n : ℕ) → AreCounted n part → AreCounted n old → AreCounted n new
   pub older : (shape : Shape) (r : Result) → Shown shape old r → Shown shape new r
   pub shown : (shape : Shape) (r : Result) → Shown shape part r → Shown shape new r
   pub sound : (shape : Shape) (o q : Situation → Result) → Each (IsSound shape o) part → ((s : Situation) → picked s p ≡ k → o s ≡ q s)
       → Each (IsSound shape q) old → Each (IsSound shape q) new
+  pub placed : HaveChoices (IsPlaced (at p 0)) part → HaveChoices (IsPlaced p) old → HaveChoices (IsPlaced p) new

@@ -11,6 +11,7 @@
 --     IsBadStep         a step that goes wrong
 --     IsLooked          what stays true while nodes are expanded
 --     TakesTo, TakesBad a script makes the choices that lead to a node, and those of a bad step from it
+--     AreApartTo, AreApartWith      no such step makes two choices at one path, nor does a bad step
 --     GoesWrongSo       each such script has a run that goes wrong
 use Rattle.std.specs.Prelude.{◌≡◌, ℕ, zero, suc, ◌+◌, ◌≤◌, ◌<◌, Bool, true, false, List, [], ◌++◌, ◌⊎◌, length, take, Some, slice_get}
 use Rattle.asm_state.specs.Location.{State}
@@ -28,6 +29,7 @@ use Rattle.asm_explore.specs.declared.found.Choice.{Choice}
 use Rattle.asm_explore.specs.declared.found.Found.{Found}
 use Rattle.asm_explore.specs.declared.node.Node.{Node}
 use Rattle.asm_explore.specs.Lists.{Situation, Each, AnyOf, AreTaken, Shown, IsSound}
+use Rattle.asm_explore.specs.Placed.{AreApart}
 use Rattle.asm_explore.specs.Search.{LeadsOn, EndsSo}
 
 abbrev pub steps_from : Specification → (turns : ℕ) → State → Situation → Result
@@ -57,10 +59,20 @@ TakesTo nodes script (suc d) n =
 abbrev pub TakesBad : List Node → Script → Node → Bad → Type 0
 TakesBad nodes script n bad = TakesTo nodes script n.depth n × AreTaken (record { script = script; step = suc n.depth }) bad.choices.items
 
+-- no step of those that lead to a node, so many, makes two choices at one path
+abbrev pub AreApartTo : List Node → ℕ → Node → Type 0
+AreApartTo nodes zero n = Unit {0}
+AreApartTo nodes (suc d) n = AreApart n.choices.items × ((m : Node) → slice_get nodes n.from ≡ Some m → AreApartTo nodes d m)
+
+-- nor does a bad step from it
+abbrev pub AreApartWith : List Node → Node → Bad → Type 0
+AreApartWith nodes n bad = AreApartTo nodes n.depth n × AreApart bad.choices.items
+
 -- each script that makes the choices has a run that goes wrong in this step
 pub record GoesWrongSo (specification : Specification) (turns : ℕ) (right : State → Bool) (nodes : List Node) (bad : Bad) : Type 0 where
   pub from : Node
   pub there : slice_get nodes bad.from ≡ Some from
+  pub apart : AreApartWith nodes from bad
   pub wrong : (script : Script) → TakesBad nodes script from bad → EndsSo right bad.fault (suc from.depth) (run specification turns script (suc from.depth))
 
 module _ (shape : Shape) where
@@ -84,6 +96,7 @@ module _ (shape : Shape) where
       pub earlier : Node
       pub there : slice_get nodes n.from ≡ Some earlier
       pub deeper : n.depth ≡ earlier.depth + 1
+      pub apart : AreApart n.choices.items
       pub leads : (s : Situation) → AreTaken s n.choices.items
           → LeadsOn (steps_from specification turns (state_at earlier) s) (state_at earlier) (λ A. A ≡ state_at n)
 
@@ -131,6 +144,7 @@ module _ (shape : Shape) where
     pub record IsBad (right : State → Bool) (nodes : List Node) (bad : Bad) : Type 0 where
       pub from : Node
       pub there : slice_get nodes bad.from ≡ Some from
+      pub apart : AreApart bad.choices.items
       pub wrong : (s : Situation) → AreTaken s bad.choices.items → GoesWrong right bad.fault (steps_from specification turns (state_at from) s) (state_at from)
 
     -- all nodes up to a depth are expanded, if they are within

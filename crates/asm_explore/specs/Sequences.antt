@@ -2,21 +2,23 @@
 --     ends turns V            a part with the set V is the last: it is inconsistent, or empty where these are turns
 --     step_of turns r rest    what a part yields, and what comes after it
 --     Sorts, SortsAll         how outcomes of the next part are added to those that are done and to those that go on
+--     BothHave P sorted       the choices of each outcome that is sorted are so
 --     Underway                what stays true from part to part: each situation has its whole outcome among those that are done, or
 --                             the set so far among those that go on
-use Rattle.std.specs.Prelude.{◌≡◌, ℕ, Bool, false, cond, not, ◌&&◌, ◌||◌, List, ◌⊎◌, ◌++◌, Result as Returned, IfOk}
+use Rattle.std.specs.Prelude.{◌≡◌, ℕ, ◌+◌, Bool, false, cond, not, ◌&&◌, ◌||◌, List, ◌⊎◌, ◌++◌, Result as Returned, IfOk}
 use Rattle.std.proofs.Common.{Vec, Global}
 use Rattle.asm_state.specs.Location.{State}
 use Rattle.asm_state.specs.Signature.{Shape, count_of}
 use Rattle.asm_state.specs.Updates.{UpdateSet, IsConsistent, is_consistent, is_none, merge, fire}
 use Rattle.asm_updates.specs.Entries.{Entries}
 use Rattle.asm_updates.specs.Stands.{Stands}
-use Rattle.asm_meaning.specs.Yields.{Path, Result, Gives, Exhausted, after}
+use Rattle.asm_meaning.specs.Yields.{Path, Result, Gives, Exhausted, at, after}
 use Rattle.asm_explore.specs.declared.found.Choice.{Choice}
 use Rattle.asm_explore.specs.declared.found.Found.{Found}
 use Rattle.asm_explore.specs.declared.refusal.Refusal.{Refusal}
 use Rattle.asm_explore.specs.declared.sorting.Sorted.{Sorted}
-use Rattle.asm_explore.specs.Lists.{Situation, Each, AreTaken, Shows, Shown, IsCounted, AreCounted, IsSound, Lists, Grows}
+use Rattle.asm_explore.specs.Lists.{Situation, Each, AreTaken, Shows, Shown, HaveChoices, IsCounted, AreCounted, IsSound, Lists, Grows}
+use Rattle.asm_explore.specs.Placed.{IsPlaced, IsPlacedBefore}
 
 abbrev pub ends : (turns : Bool) → UpdateSet → Bool
 ends turns V = (turns && is_none V) || not (is_consistent V)
@@ -45,6 +47,10 @@ pub record Underway (shape : Shape) (A : State) (total : Situation → Result) (
   pub complete : (s : Situation) → Shown shape done (total s) ⊎ ((U : UpdateSet) × Shown shape front (Gives U) × ComesAfter A total left s U)
   pub done_sound : Each (IsSound shape total) done
   pub front_sound : Each (IsOn shape A total left) front
+
+-- of those that are done, and of those that go on
+abbrev pub BothHave : (List Choice → Type 0) → Sorted → Type 0
+BothHave P sorted = HaveChoices P sorted.done.items × HaveChoices P sorted.more.items
 
 -- ---- how one outcome of the next part is added
 
@@ -81,6 +87,8 @@ pub record SortsAll (shape : Shape) (turns : Bool) (so_far : Entries) (choices :
       → ((s : Situation) → AreTaken s choices → (U : UpdateSet) × Stands shape so_far U
       × ((V : UpdateSet) → o s ≡ Gives V → ends turns V ≡ false → ComesAfter A total left s (merge U V)))
       → Each (IsSound shape o) part → Each (IsOn shape A total left) old.more.items → Each (IsOn shape A total left) new.more.items
+  pub placed : (p : Path) (k : ℕ) → IsPlacedBefore p k choices → HaveChoices (IsPlaced (at p k)) part
+      → BothHave (IsPlacedBefore p (k + 1)) old → BothHave (IsPlacedBefore p (k + 1)) new
 
 -- ---- what a part yields upon a set so far
 
@@ -129,6 +137,7 @@ pub record Adds (old more new : List Found) : Type 0 where
   pub older : (shape : Shape) (r : Result) → Shown shape old r → Shown shape new r
   pub shown : (shape : Shape) (r : Result) → Shown shape more r → Shown shape new r
   pub sound : (shape : Shape) (o : Situation → Result) → Each (IsSound shape o) old → Each (IsSound shape o) more → Each (IsSound shape o) new
+  pub placed : (q : Path) → HaveChoices (IsPlaced q) old → HaveChoices (IsPlaced q) more → HaveChoices (IsPlaced q) new
 
 -- a list with the choices of others, after which the whole is exhausted
 pub record Exhausts (p : Path) (old more new : List Found) : Type 0 where
@@ -137,3 +146,4 @@ pub record Exhausts (p : Path) (old more new : List Found) : Type 0 where
   pub shown : (shape : Shape) (r : Result) → Shown shape more r → Shown shape new (Exhausted p)
   pub sound : (shape : Shape) (o : Situation → Result) → Each (λ f. (s : Situation) → AreTaken s f.choices.items → o s ≡ Exhausted p) more
       → Each (IsSound shape o) old → Each (IsSound shape o) new
+  pub placed : (q : Path) → HaveChoices (IsPlaced q) old → HaveChoices (IsPlaced q) more → HaveChoices (IsPlaced q) new

@@ -30,8 +30,8 @@ pub enum Finding {
     TooManyOutcomes { depth: u32, crowd: Crowd },
     /// Memory ran out; no run of at most so many steps goes wrong.
     NoMemory(u32),
-    /// A step goes wrong, but what was written isn't a script that makes the choices that lead to it, as where it is longer than a script may
-    /// be; no run of at most so many steps goes wrong.
+    /// A step goes wrong, but the script that leads to it is longer than a script may be, or has a
+    /// number of more than nine digits; no run of at most so many steps goes wrong.
     Unwritten(u32),
 }
 

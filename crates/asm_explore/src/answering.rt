@@ -13,6 +13,7 @@ use crate::node::Node;
 use crate::refusal::copy_crowd;
 use crate::search::explore;
 use asm_state::state::State;
+use asm_syntax::Refused;
 use std::alloc::{AllocError, Global};
 
 /// The greatest depth.
@@ -40,21 +41,19 @@ fn bad_run<M: Machine>(
     requires safe { IsSafeUpTo (M.specification machine.now) (M.turns machine.now) (M.within machine.now) (λ A. M.right machine.now A ≡ true) whole }
     ensures { (limit states : ℕ) → IfOk result (Claims (M.specification machine.now) (M.turns machine.now) steps limit (M.right machine.now) (M.within machine.now) states) }
 {
-    if bad.from >= nodes.len() {
-        return Ok(Finding::Unwritten(whole));
-    }
     let node = &nodes[bad.from];
     let depth = node.depth;
     if depth != whole {
         return Ok(Finding::Unwritten(whole));
     }
-    match script_to(alloc, nodes, bad)? {
-        None => Ok(Finding::Unwritten(whole)),
-        Some(script) => Ok(Finding::Bad(BadRun {
+    match script_to(alloc, nodes, bad) {
+        Ok(script) => Ok(Finding::Bad(BadRun {
             script,
             step: u64::from(whole) + 1,
             fault: bad.fault,
         })),
+        Err(Refused::Memory) => Err(AllocError),
+        Err(Refused::Named(_)) => Ok(Finding::Unwritten(whole)),
     }
 }
 

@@ -1,9 +1,10 @@
 //! Lists of outcomes of parts that stand beside each other.
-ghost use Rattle.std.specs.Prelude.{◌≡◌, [], ◌∷◌, ◌++◌, IfOk, OnOk};
+ghost use Rattle.std.specs.Prelude.{◌≡◌, ℕ, ◌+◌, [], ◌∷◌, ◌++◌, IfOk, OnOk};
 ghost use Rattle.asm_state.specs.Signature.{Shape, count_of};
 ghost use Rattle.asm_meaning.specs.Yields as yields;
 ghost use Rattle.asm_meaning.specs.Yields.{Result as Yielded};
-ghost use Rattle.asm_explore.specs.Lists.{Situation, Shows, IsCounted, AreCounted, IsJoined, Lists};
+ghost use Rattle.asm_explore.specs.Lists.{Situation, Shows, HaveChoices, IsCounted, AreCounted, IsJoined, Lists};
+ghost use Rattle.asm_explore.specs.Placed.{IsPlaced, IsPlacedFrom};
 
 use crate::found::{Answer, Choice, Found, add_choices, copy_path};
 use crate::listing::add;
@@ -110,8 +111,10 @@ pub(crate) fn beside_all(
 ) -> Result<Vec<Found>, Overflow>
     requires left { AreCounted (count_of signature.now) left.now }
     requires right { AreCounted (count_of signature.now) right.now }
-    ensures { (o q : Situation → Yielded) → Lists signature.now o left.now → Lists signature.now q right.now →
+    ensures lists { (o q : Situation → Yielded) → Lists signature.now o left.now → Lists signature.now q right.now →
         IfOk result (λ fs. Lists signature.now (λ s. yields.beside (o s) (q s)) fs.items) }
+    ensures placed { (p : yields.Path) (k : ℕ) → HaveChoices (IsPlaced (yields.at p k)) left.now → HaveChoices (IsPlacedFrom p (k + 1)) right.now →
+        IfOk result (λ fs. HaveChoices (IsPlacedFrom p k) fs.items) }
 {
     let mut found = Vec::new(alloc);
     for i in 0..left.len() {
@@ -206,8 +209,10 @@ fn one_beside_one(
     requires left { IsCounted (count_of signature.now) left.answer }
     requires right { IsCounted (count_of signature.now) right.answer }
     requires room { room.items ≡ [] }
-    ensures { (o q : Situation → Yielded) → Lists signature.now o (left ∷ []) → Lists signature.now q (right ∷ []) →
+    ensures lists { (o q : Situation → Yielded) → Lists signature.now o (left ∷ []) → Lists signature.now q (right ∷ []) →
         IfOk result (λ fs. Lists signature.now (λ s. yields.beside (o s) (q s)) fs.items) }
+    ensures placed { (p : yields.Path) (k : ℕ) → HaveChoices (IsPlaced (yields.at p k)) (left ∷ []) → HaveChoices (IsPlacedFrom p (k + 1)) (right ∷ []) →
+        IfOk result (λ fs. HaveChoices (IsPlacedFrom p k) fs.items) }
 {
     let one = join_into(alloc, signature, left, right)?;
     let mut found = room;
@@ -225,8 +230,10 @@ pub(crate) fn beside_lists(
 ) -> Result<Vec<Found>, Overflow>
     requires left { AreCounted (count_of signature.now) left.items }
     requires right { AreCounted (count_of signature.now) right.items }
-    ensures { (o q : Situation → Yielded) → Lists signature.now o left.items → Lists signature.now q right.items →
+    ensures lists { (o q : Situation → Yielded) → Lists signature.now o left.items → Lists signature.now q right.items →
         IfOk result (λ fs. Lists signature.now (λ s. yields.beside (o s) (q s)) fs.items) }
+    ensures placed { (p : yields.Path) (k : ℕ) → HaveChoices (IsPlaced (yields.at p k)) left.items → HaveChoices (IsPlacedFrom p (k + 1)) right.items →
+        IfOk result (λ fs. HaveChoices (IsPlacedFrom p k) fs.items) }
 {
     if left.len() == 1 && right.len() == 1 {
         let (mut part, mut room) = (left, right);

@@ -1,14 +1,15 @@
 //! Lists of outcomes of the rule at a path: where one has more than the limit says, the refusal
 //! names the path, and how many outcomes the rule's parts have.
-ghost use Rattle.std.specs.Prelude.{◌≡◌, ◌∷◌, [], length, IfOk, IfErr, OnOk, OnErr};
+ghost use Rattle.std.specs.Prelude.{◌≡◌, ℕ, ◌+◌, ◌∷◌, [], length, IfOk, IfErr, OnOk, OnErr};
 ghost use Rattle.asm_state.specs.Location.{State};
 ghost use Rattle.asm_state.specs.Signature.{Shape, count_of};
 ghost use Rattle.asm_meaning.specs.Yields as yields;
 ghost use Rattle.asm_meaning.specs.Yields.{Result as Yielded, Gives, Exhausted};
 ghost use Rattle.asm_state.specs.Updates.{none};
 ghost use Rattle.asm_explore.specs.Crowds.{Names};
-ghost use Rattle.asm_explore.specs.Lists.{Situation, AreCounted, IsPicked, Lists};
-ghost use Rattle.asm_explore.specs.Sequences.{SortsAll, Underway};
+ghost use Rattle.asm_explore.specs.Lists.{Situation, HaveChoices, AreCounted, IsPicked, Lists};
+ghost use Rattle.asm_explore.specs.Placed.{IsPlaced, IsPlacedFrom};
+ghost use Rattle.asm_explore.specs.Sequences.{BothHave, SortsAll, Underway};
 
 use crate::found::Found;
 use crate::overflow::Overflow;
@@ -50,6 +51,8 @@ pub(crate) fn beside_lists(
     requires right { AreCounted (count_of signature.now) right.items }
     ensures lists { (o q : Situation → Yielded) → Lists signature.now o left.items → Lists signature.now q right.items →
         IfOk result (λ fs. Lists signature.now (λ s. yields.beside (o s) (q s)) fs.items) }
+    ensures placed { (k : ℕ) → HaveChoices (IsPlaced (yields.at path.now k)) left.items → HaveChoices (IsPlacedFrom path.now (k + 1)) right.items →
+        IfOk result (λ fs. HaveChoices (IsPlacedFrom path.now k) fs.items) }
     ensures names { IfErr result (Names path.now (length left.items) (length right.items)) }
 {
     let (first, others) = (left.len(), right.len());
@@ -111,6 +114,7 @@ pub(crate) fn close(
 ) -> Result<Vec<Found>, Refusal>
     ensures lists { (shape : Shape) (A : State) (total : Situation → Yielded) (left : Situation → State → Yielded) → ((s : Situation) (B : State) → left s B ≡ Gives none) →
         Underway shape A total left sorted.done.items sorted.more.items → IfOk result (λ fs. Lists shape total fs.items) }
+    ensures placed { BothHave (IsPlaced path.now) sorted → IfOk result (λ fs. HaveChoices (IsPlaced path.now) fs.items) }
     ensures names { IfErr result (Names path.now (length sorted.done.items) (length sorted.more.items)) }
 {
     let (first, others) = (sorted.done.len(), sorted.more.len());
@@ -129,6 +133,7 @@ pub(crate) fn exhaust(
 ) -> Result<Vec<Found>, Refusal>
     ensures lists { (shape : Shape) (A : State) (total : Situation → Yielded) (left : Situation → State → Yielded) → ((s : Situation) (B : State) → left s B ≡ Exhausted path.now) →
         Underway shape A total left sorted.done.items sorted.more.items → IfOk result (λ fs. Lists shape total fs.items) }
+    ensures placed { BothHave (IsPlaced path.now) sorted → IfOk result (λ fs. HaveChoices (IsPlaced path.now) fs.items) }
     ensures names { IfErr result (Names path.now (length sorted.done.items) (length sorted.more.items)) }
 {
     let (first, others) = (sorted.done.len(), sorted.more.len());

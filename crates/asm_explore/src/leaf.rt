@@ -1,5 +1,5 @@
 //! The outcomes of rules that choose nothing.
-ghost use Rattle.std.specs.Prelude.{◌≡◌, IfOk};
+ghost use Rattle.std.specs.Prelude.{◌≡◌, [], IfOk};
 ghost use Rattle.asm_state.specs.Signature.{Shape, count_of};
 ghost use Rattle.asm_meaning.specs.Does.{nothing};
 ghost use Rattle.asm_meaning.specs.Yields.{Result as Yielded};
@@ -10,7 +10,7 @@ ghost use Rattle.asm_eval.specs.RuleTree as tree;
 ghost use Rattle.asm_eval.specs.RuleViews.{place_of};
 ghost use Rattle.asm_eval.specs.Sound.{IsSound};
 ghost use Rattle.asm_explore.specs.Explored.{shape_on, yields_on};
-ghost use Rattle.asm_explore.specs.Lists.{Situation, Shows, IsCounted, Lists};
+ghost use Rattle.asm_explore.specs.Lists.{Situation, Shows, HaveChoices, IsCounted, Lists};
 
 use crate::exploration::Exploration;
 use crate::found::{Answer, Found};
@@ -24,7 +24,8 @@ use std::alloc::{AllocError, Global};
 
 /// One outcome, whatever is chosen.
 fn alone(alloc: Global, answer: Answer) -> Result<Vec<Found>, AllocError>
-    ensures { (shape : Shape) (o : Situation → Yielded) → IsCounted (count_of shape) answer → ((s : Situation) → Shows shape answer (o s)) → IfOk result (λ fs. Lists shape o fs.items) }
+    ensures lists { (shape : Shape) (o : Situation → Yielded) → IsCounted (count_of shape) answer → ((s : Situation) → Shows shape answer (o s)) → IfOk result (λ fs. Lists shape o fs.items) }
+    ensures choices { IfOk result (λ fs. HaveChoices (λ cs. cs ≡ []) fs.items) }
 {
     let mut found = Vec::new(alloc);
     found.push(Found {
@@ -36,7 +37,8 @@ fn alone(alloc: Global, answer: Answer) -> Result<Vec<Found>, AllocError>
 
 /// The empty set.
 pub(crate) fn empty(alloc: Global, on: &Exploration<'_, '_>) -> Result<Vec<Found>, AllocError>
-    ensures { IfOk result (λ fs. Lists (shape_on on.now) (λ s. nothing.result) fs.items) }
+    ensures lists { IfOk result (λ fs. Lists (shape_on on.now) (λ s. nothing.result) fs.items) }
+    ensures choices { IfOk result (λ fs. HaveChoices (λ cs. cs ≡ []) fs.items) }
 {
     let updates = no_updates(alloc, on.view.signature);
     alone(alloc, Answer::Set(updates))
@@ -54,8 +56,9 @@ pub(crate) fn assigned<'e>(
     requires sound { IsSoundPlace (shape_on on.now) (place_of place.now) }
     requires sound_new { IsSound (shape_on on.now) (code_of new.now) }
     requires framed { IsSoundFrame (shape_on on.now) frame.now }
-    ensures { let R = tree.Assign (place_of place.now) (code_of new.now) in
+    ensures lists { let R = tree.Assign (place_of place.now) (code_of new.now) in
         IfOk result (λ fs. Lists (shape_on on.now) (yields_on on.now frame.now path.now R) fs.items) }
+    ensures choices { IfOk result (λ fs. HaveChoices (λ cs. cs ≡ []) fs.items) }
 {
     let Some(n) = place_number(alloc, on.view, frame, place)? else {
         let updates = no_updates(alloc, on.view.signature);

@@ -3,7 +3,8 @@ ghost use Rattle.std.specs.Prelude.{◌≡◌, ℕ, Bool, length, IfOk};
 ghost use Rattle.asm_state.specs.Location.{State as Contents};
 ghost use Rattle.asm_state.specs.Signature.{Shape, count_of, state_of};
 ghost use Rattle.asm_meaning.specs.Run.{Specification};
-ghost use Rattle.asm_explore.specs.Lists.{Lists};
+ghost use Rattle.asm_explore.specs.Lists.{HaveChoices, Lists};
+ghost use Rattle.asm_explore.specs.Placed.{AreApart};
 ghost use Rattle.asm_explore.specs.Reached.{steps_from};
 
 use crate::found::Found;
@@ -37,7 +38,8 @@ pub trait Machine {
     fn outcomes(&self, alloc: Global, state: &State) -> Result<Vec<Found>, Refusal>
         requires sound { is_sound self.now }
         requires whole { length state.now ≡ count_of (shape self.now) }
-        ensures { IfOk result (λ fs. Lists (shape self.now) (steps_from (specification self.now) (turns self.now) (state_of (shape self.now) state.now)) fs.items) };
+        ensures lists { IfOk result (λ fs. Lists (shape self.now) (steps_from (specification self.now) (turns self.now) (state_of (shape self.now) state.now)) fs.items) }
+        ensures apart { IfOk result (λ fs. HaveChoices AreApart fs.items) };
 
     /// Whether the state is right.
     fn is_right(&self, alloc: Global, state: &State) -> bool

@@ -1,5 +1,5 @@
 //! The outcomes of a resolved rule through all scripts.
-ghost use Rattle.std.specs.Prelude.{◌≡◌, cond, IfOk, OnOk, map, option_map};
+ghost use Rattle.std.specs.Prelude.{◌≡◌, ◌+◌, cond, IfOk, OnOk, map, option_map};
 ghost use Rattle.asm_state.specs.Signature.{count_of};
 ghost use Rattle.asm_meaning.specs.Yields as yields;
 ghost use Rattle.asm_eval.specs.CodeViews.{code_of, codes_of};
@@ -10,8 +10,9 @@ ghost use Rattle.asm_eval.specs.RuleViews.{place_of, rule_of, rules_of};
 ghost use Rattle.asm_eval.specs.Running.{passes_in};
 ghost use Rattle.asm_eval.specs.Sound.{AreSound, IsSound, IsUniverseNumber};
 ghost use Rattle.asm_explore.specs.Explored.{shape_on, state_on, yields_on, parts_on, in_order_on, here_on};
-ghost use Rattle.asm_explore.specs.Lists.{Situation, AreCounted, IsCounted, Lists};
-ghost use Rattle.asm_explore.specs.Sequences.{Next, NextOne, Upon};
+ghost use Rattle.asm_explore.specs.Lists.{Situation, HaveChoices, AreCounted, IsCounted, Lists};
+ghost use Rattle.asm_explore.specs.Placed.{IsPlaced, IsPlacedFrom, IsPlacedBefore};
+ghost use Rattle.asm_explore.specs.Sequences.{BothHave, Next, NextOne, Upon};
 
 use crate::candidates::{candidate_at, candidates, passes};
 use crate::crowding::{add_part, beside_lists, close, exhaust, sort_part};
@@ -50,7 +51,8 @@ pub fn outcomes<'e>(
 ) -> Result<Vec<Found>, Refusal>
     requires sound { IsSoundRule (shape_on on.now) (rule_of rule.now) }
     requires framed { IsSoundFrame (shape_on on.now) frame.now }
-    ensures { IfOk result (λ fs. Lists (shape_on on.now) (yields_on on.now frame.now path.now (rule_of rule.now)) fs.items) }
+    ensures lists { IfOk result (λ fs. Lists (shape_on on.now) (yields_on on.now frame.now path.now (rule_of rule.now)) fs.items) }
+    ensures placed { IfOk result (λ fs. HaveChoices (IsPlaced path.now) fs.items) }
 {
     match rule {
         RuleCode::Skip => {
@@ -95,7 +97,8 @@ fn list_part<'e>(
 ) -> Result<Vec<Found>, Refusal>
     requires sound { IsSoundRule (shape_on on.now) (rule_of rule.now) }
     requires framed { IsSoundFrame (shape_on on.now) frame.now }
-    ensures { IfOk result (λ fs. Lists (shape_on on.now) (yields_on on.now frame.now (yields.at path.now number) (rule_of rule.now)) fs.items) }
+    ensures lists { IfOk result (λ fs. Lists (shape_on on.now) (yields_on on.now frame.now (yields.at path.now number) (rule_of rule.now)) fs.items) }
+    ensures placed { IfOk result (λ fs. HaveChoices (IsPlaced (yields.at path.now number)) fs.items) }
 {
     let below = path_at(alloc, path, number)?;
     let found = outcomes(alloc, on, frame, rule, below.as_slice())?;
@@ -117,8 +120,9 @@ fn list_if<'e>(
     requires sound { IsSoundRule (shape_on on.now) (rule_of yes.now) }
     requires sound_no { IsSoundRule (shape_on on.now) (rule_of no.now) }
     requires framed { IsSoundFrame (shape_on on.now) frame.now }
-    ensures { let R = tree.If (code_of test.now) (rule_of yes.now) (rule_of no.now) in
+    ensures lists { let R = tree.If (code_of test.now) (rule_of yes.now) (rule_of no.now) in
         IfOk result (λ fs. Lists (shape_on on.now) (yields_on on.now frame.now path.now R) fs.items) }
+    ensures placed { IfOk result (λ fs. HaveChoices (IsPlaced path.now) fs.items) }
 {
     if holds(on.view, frame, test) {
         list_part(alloc, on, frame, yes, 0, path)
@@ -140,8 +144,9 @@ fn list_let<'e>(
     requires sound_term { IsSound (shape_on on.now) (code_of term.now) }
     requires sound { IsSoundRule (shape_on on.now) (rule_of body.now) }
     requires framed { IsSoundFrame (shape_on on.now) frame.now }
-    ensures { let R = tree.Let (code_of term.now) (rule_of body.now) in
+    ensures lists { let R = tree.Let (code_of term.now) (rule_of body.now) in
         IfOk result (λ fs. Lists (shape_on on.now) (yields_on on.now frame.now path.now R) fs.items) }
+    ensures placed { IfOk result (λ fs. HaveChoices (IsPlaced path.now) fs.items) }
 {
     let value = value(on.view, frame, term);
     let bound = Frame::One {
@@ -162,7 +167,8 @@ fn list_all<'e>(
 ) -> Result<Vec<Found>, Refusal>
     requires sound { AreSoundRules (shape_on on.now) (rules_of (map rule_of parts.now)) }
     requires framed { IsSoundFrame (shape_on on.now) frame.now }
-    ensures { IfOk result (λ fs. Lists (shape_on on.now) (parts_on on.now frame.now path.now (rules_of (map rule_of parts.now))) fs.items) }
+    ensures lists { IfOk result (λ fs. Lists (shape_on on.now) (parts_on on.now frame.now path.now (rules_of (map rule_of parts.now))) fs.items) }
+    ensures placed { IfOk result (λ fs. HaveChoices (IsPlaced path.now) fs.items) }
 {
     let mut found = empty(alloc, on)?;
     let mut i = parts.len();
@@ -191,8 +197,9 @@ fn list_each<'e>(
     requires sound_test { IsSoundTest (shape_on on.now) (option_map code_of test.now) }
     requires sound { IsSoundRule (shape_on on.now) (rule_of body.now) }
     requires framed { IsSoundFrame (shape_on on.now) frame.now }
-    ensures { let R = tree.Forall over (option_map code_of test.now) (rule_of body.now) in
+    ensures lists { let R = tree.Forall over (option_map code_of test.now) (rule_of body.now) in
         IfOk result (λ fs. Lists (shape_on on.now) (yields_on on.now frame.now path.now R) fs.items) }
+    ensures placed { IfOk result (λ fs. HaveChoices (IsPlaced path.now) fs.items) }
 {
     let mut found = empty(alloc, on)?;
     let universe = on.view.signature.universe(over);
@@ -225,10 +232,12 @@ fn list_element<'e>(
     requires sound { IsSoundRule (shape_on on.now) (rule_of body.now) }
     requires framed { IsSoundFrame (shape_on on.now) frame.now }
     requires counted { AreCounted (count_of (shape_on on.now)) after.items }
-    ensures { (o : Situation → yields.Result) → Lists (shape_on on.now) o after.items →
+    ensures lists { (o : Situation → yields.Result) → Lists (shape_on on.now) o after.items →
         let here = yields_on on.now frame.now (yields.at path.now number) (rule_of body.now) in
         let so = passes_in on.now.view.now frame.now test.now in
         IfOk result (λ fs. Lists (shape_on on.now) (λ s. cond so (yields.beside (here s) (o s)) (o s)) fs.items) }
+    ensures placed { HaveChoices (IsPlacedFrom path.now (number + 1)) after.items →
+        IfOk result (λ fs. HaveChoices (IsPlacedFrom path.now number) fs.items) }
 {
     if passes(on.view, frame, test) {
         let part = list_part(alloc, on, frame, body, number, path)?;
@@ -257,8 +266,9 @@ fn list_choose<'e>(
     requires sound { IsSoundRule (shape_on on.now) (rule_of body.now) }
     requires sound_none { IsSoundRule (shape_on on.now) (rule_of none.now) }
     requires framed { IsSoundFrame (shape_on on.now) frame.now }
-    ensures { let R = tree.Choose over (option_map code_of test.now) (rule_of body.now) (rule_of none.now) in
+    ensures lists { let R = tree.Choose over (option_map code_of test.now) (rule_of body.now) (rule_of none.now) in
         IfOk result (λ fs. Lists (shape_on on.now) (yields_on on.now frame.now path.now R) fs.items) }
+    ensures placed { IfOk result (λ fs. HaveChoices (IsPlaced path.now) fs.items) }
 {
     let values = candidates(alloc, on.view, frame, over, test)?;
     let all = values.as_slice();
@@ -293,8 +303,9 @@ fn list_call<'e>(
     requires sound_answer { IsSoundAnswer (shape_on on.now) (option_map place_of answer.now) }
     requires sound_arguments { AreSound (shape_on on.now) (codes_of (map code_of arguments.now)) }
     requires framed { IsSoundFrame (shape_on on.now) frame.now }
-    ensures { let R = tree.Call (rule_of body.now) (option_map place_of answer.now) (codes_of (map code_of arguments.now)) in
+    ensures lists { let R = tree.Call (rule_of body.now) (option_map place_of answer.now) (codes_of (map code_of arguments.now)) in
         IfOk result (λ fs. Lists (shape_on on.now) (yields_on on.now frame.now path.now R) fs.items) }
+    ensures placed { IfOk result (λ fs. HaveChoices (IsPlaced path.now) fs.items) }
 {
     let answer = answer_number(alloc, on.view, frame, answer)?;
     let bound = Frame::Terms {
@@ -317,7 +328,8 @@ fn list_in_order<'e>(
 ) -> Result<Vec<Found>, Refusal>
     requires sound { AreSoundRules (shape_on on.now) (rules_of (map rule_of parts.now)) }
     requires framed { IsSoundFrame (shape_on on.now) frame.now }
-    ensures { IfOk result (λ fs. Lists (shape_on on.now) (in_order_on on.now frame.now path.now (rules_of (map rule_of parts.now))) fs.items) }
+    ensures lists { IfOk result (λ fs. Lists (shape_on on.now) (in_order_on on.now frame.now path.now (rules_of (map rule_of parts.now))) fs.items) }
+    ensures placed { IfOk result (λ fs. HaveChoices (IsPlaced path.now) fs.items) }
 {
     let begin = empty(alloc, on)?;
     let mut sorted = Sorted {
@@ -347,8 +359,9 @@ fn list_turns<'e>(
 ) -> Result<Vec<Found>, Refusal>
     requires sound { IsSoundRule (shape_on on.now) (rule_of body.now) }
     requires framed { IsSoundFrame (shape_on on.now) frame.now }
-    ensures { let R = tree.Iterate (rule_of body.now) in
+    ensures lists { let R = tree.Iterate (rule_of body.now) in
         IfOk result (λ fs. Lists (shape_on on.now) (yields_on on.now frame.now path.now R) fs.items) }
+    ensures placed { IfOk result (λ fs. HaveChoices (IsPlaced path.now) fs.items) }
 {
     let begin = empty(alloc, on)?;
     let mut sorted = Sorted {
@@ -386,8 +399,10 @@ fn list_next<'e>(
     requires sound { IsSoundRule (shape_on on.now) (rule_of rule.now) }
     requires framed { IsSoundFrame (shape_on on.now) frame.now }
     requires counted { AreCounted (count_of (shape_on on.now)) front.now }
-    ensures { let here = here_on on.now frame.now (yields.at path.now number) (rule_of rule.now) in
+    ensures next { let here = here_on on.now frame.now (yields.at path.now number) (rule_of rule.now) in
         IfOk result (Next (shape_on on.now) turns (state_on on.now) here front.now done.items) }
+    ensures placed { HaveChoices (IsPlacedBefore path.now number) front.now → HaveChoices (IsPlacedBefore path.now number) done.items →
+        IfOk result (BothHave (IsPlacedBefore path.now (number + 1))) }
 {
     let mut sorted = Sorted {
         done,
@@ -425,8 +440,10 @@ fn list_one<'e>(
     requires sound { IsSoundRule (shape_on on.now) (rule_of rule.now) }
     requires framed { IsSoundFrame (shape_on on.now) frame.now }
     requires counted { IsCounted (count_of (shape_on on.now)) one.now.answer }
-    ensures { let here = here_on on.now frame.now (yields.at path.now number) (rule_of rule.now) in
+    ensures next { let here = here_on on.now frame.now (yields.at path.now number) (rule_of rule.now) in
         OnOk result (NextOne (shape_on on.now) turns (state_on on.now) here one.now sorted.old sorted.new) }
+    ensures placed { IsPlacedBefore path.now number one.now.choices.items → BothHave (IsPlacedBefore path.now (number + 1)) sorted.old →
+        OnOk result (BothHave (IsPlacedBefore path.now (number + 1)) sorted.new) }
 {
     match &one.answer {
         Answer::Set(so_far) => {
@@ -455,8 +472,9 @@ fn list_upon<'e>(
     requires sound { IsSoundRule (shape_on on.now) (rule_of rule.now) }
     requires framed { IsSoundFrame (shape_on on.now) frame.now }
     requires counted { so_far.now.set.count ≡ count_of (shape_on on.now) }
-    ensures { let here = here_on on.now frame.now (yields.at path.now number) (rule_of rule.now) in
+    ensures upon { let here = here_on on.now frame.now (yields.at path.now number) (rule_of rule.now) in
         Upon (shape_on on.now) (state_on on.now) so_far.now.set here result }
+    ensures placed { IfOk result (λ fs. HaveChoices (IsPlaced (yields.at path.now number)) fs.items) }
 {
     let view = View::upon(on.view, &so_far.set);
     let inner = Exploration {

@@ -8,7 +8,8 @@ ghost use Rattle.asm_explore.specs.declared.halt.Halt.TheVariants as halt;
 ghost use Rattle.asm_explore.specs.declared.found.Found.{Found};
 ghost use Rattle.asm_explore.specs.declared.node.Node.{Node};
 ghost use Rattle.asm_explore.specs.Ends.{IfBad, IsDone};
-ghost use Rattle.asm_explore.specs.Lists.{Situation, Each, AnyOf, Shows, AreCounted, IsCounted, Lists};
+ghost use Rattle.asm_explore.specs.Lists.{Situation, Each, AnyOf, Shows, HaveChoices, AreCounted, IsCounted, Lists};
+ghost use Rattle.asm_explore.specs.Placed.{AreApart};
 ghost use Rattle.asm_explore.specs.Reached.{Known, IsNear, IsGood, Extends, Follows, Expanded, IsLinked, IsLooked, IsOutcome, IsBadStep, IsBad, LeadsTo, GoesWrongSo, steps_from, state_at};
 ghost use Rattle.asm_explore.specs.Search.{LeadsOn, IsSafeUpTo, IsSafe};
 
@@ -134,6 +135,7 @@ fn reach<M: Machine>(
     requires nodes { Each (IsGood (M.shape machine.now) (M.right machine.now)) nodes.old.items }
     requires near { Each (λ n. n.depth ≤ below) nodes.old.items }
     requires leads { LeadsTo (M.shape machine.now) (M.specification machine.now) (M.turns machine.now) nodes.old.items from below choices.now (state_of (M.shape machine.now) state) }
+    requires apart { AreApart choices.now }
     ensures extends { Extends (M.shape machine.now) (M.specification machine.now) (M.turns machine.now) (M.right machine.now) below nodes.old.items nodes.new.items }
     ensures known { IfOk result (λ fine. IsTrue fine → Known (M.shape machine.now) nodes.new.items below (state_of (M.shape machine.now) state)) }
     ensures wrong { IfOk result (λ fine. fine ≡ false → M.right machine.now (state_of (M.shape machine.now) state) ≡ false) }
@@ -178,6 +180,7 @@ fn follow<M: Machine>(
     requires nodes { Each (IsGood (M.shape machine.now) (M.right machine.now)) nodes.old.items }
     requires near { Each (λ n. n.depth ≤ below) nodes.old.items }
     requires outcome { IsOutcome (M.shape machine.now) (M.specification machine.now) (M.turns machine.now) nodes.old.items from below one.now }
+    requires apart { AreApart one.now.choices.items }
     ensures extends { Extends (M.shape machine.now) (M.specification machine.now) (M.turns machine.now) (M.right machine.now) below nodes.old.items nodes.new.items }
     ensures leads { IfOk result (λ fault. IfNone fault ((n : Node) (r : Yielded) → slice_get nodes.old.items from ≡ Some n → Shows (M.shape machine.now) one.now.answer r →
         LeadsOn r (state_at (M.shape machine.now) n) (Known (M.shape machine.now) nodes.new.items below))) }
@@ -238,6 +241,7 @@ fn follow_all<M: Machine>(
     requires nodes { Each (IsGood (M.shape machine.now) (M.right machine.now)) nodes.old.items }
     requires near { Each (λ n. n.depth ≤ below) nodes.old.items }
     requires sound { Each (IsOutcome (M.shape machine.now) (M.specification machine.now) (M.turns machine.now) nodes.old.items from below) outcomes.now }
+    requires apart { HaveChoices AreApart outcomes.now }
     ensures extends { Extends (M.shape machine.now) (M.specification machine.now) (M.turns machine.now) (M.right machine.now) below nodes.old.items nodes.new.items }
     ensures leads { IfOk result (λ bad. IfNone bad (Follows (M.shape machine.now) nodes.old.items nodes.new.items from below outcomes.now)) }
     ensures wrong { IfOk result (λ bad. IfSome bad (λ b. (f : Found) × (slice_get outcomes.now b.number ≡ Some f) ×
@@ -279,6 +283,7 @@ fn outcomes_from<M: Machine>(alloc: Global, machine: &M, state: &State) -> Resul
     requires whole { length state.now ≡ count_of (M.shape machine.now) }
     ensures lists { IfOk result (λ fs. Lists (M.shape machine.now) (steps_from (M.specification machine.now) (M.turns machine.now) (state_of (M.shape machine.now) state.now)) fs.items) }
     ensures full { IfErr result (λ h. h ≢ halt.States) }
+    ensures apart { IfOk result (λ fs. HaveChoices AreApart fs.items) }
 {
     match machine.outcomes(alloc, state) {
         Ok(outcomes) => Ok(outcomes),
@@ -307,6 +312,7 @@ fn expand<M: Machine>(
     ensures wrong { IfOk result (λ bad. IfSome bad (λ b. (b.from ≡ from) ×
         IsBadStep (M.shape machine.now) (M.specification machine.now) (M.turns machine.now) (M.right machine.now) nodes.old.items from b.choices.items b.fault)) }
     ensures full { IfErr result (λ h. h ≡ halt.States → limit ≤ length nodes.new.items) }
+    ensures apart { IfOk result (λ bad. IfSome bad (λ b. AreApart b.choices.items)) }
 {
     let known = nodes.as_slice();
     let outcomes = outcomes_from(alloc, machine, &known[from].state)?;
@@ -356,6 +362,7 @@ fn expand_above<M: Machine>(
     ensures wrong { IfOk result (λ bad. IfSome bad (λ b. (b.from ≡ from) ×
         IsBadStep (M.shape machine.now) (M.specification machine.now) (M.turns machine.now) (M.right machine.now) nodes.old.items from b.choices.items b.fault)) }
     ensures full { IfErr result (λ h. h ≡ halt.States → limit ≤ length nodes.new.items) }
+    ensures apart { IfOk result (λ bad. IfSome bad (λ b. AreApart b.choices.items)) }
 {
     let known = nodes.as_slice();
     let depth = known[from].depth;
@@ -458,9 +465,11 @@ fn are_above(nodes: &[Node], depth: u32) -> bool
     true
 }
 
-/// Looks through all runs of so many steps. Each run of at most `whole` steps under each script ends at its limit, in a state that is right; where
-/// nothing is left to be looked at, so does each run of however many steps; where a bad step was found, each script that makes its choices and those
-/// that lead to it has a run that goes wrong in this step. The first state is to be right.
+/// Looks through all runs of so many steps. Each run of at most `whole` steps under each script ends
+/// at its limit, in a state that is right; where nothing is left to be looked at, so does each run of
+/// however many steps; where a bad step was found, each script that makes its choices and those that
+/// lead to it has a run that goes wrong in this step, and none of these steps makes two choices at one
+/// path. The first state is to be right.
 pub fn explore<M: Machine>(
     alloc: Global,
     machine: &M,

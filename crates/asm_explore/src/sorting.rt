@@ -3,10 +3,12 @@ ghost use Rattle.std.specs.Prelude.{◌≡◌, ◌++◌, IfOk, OnOk};
 ghost use Rattle.asm_state.specs.Location.{State};
 ghost use Rattle.asm_state.specs.Signature.{Shape, count_of};
 ghost use Rattle.asm_state.specs.Updates.{none};
+ghost use Rattle.asm_meaning.specs.Yields as yields;
 ghost use Rattle.asm_meaning.specs.Yields.{Result as Yielded, Gives, Exhausted};
 ghost use Rattle.asm_explore.specs.declared.found.Answer.TheVariants as answer;
-ghost use Rattle.asm_explore.specs.Lists.{Situation, AreCounted, IsCounted, Lists};
-ghost use Rattle.asm_explore.specs.Sequences.{Sorts, SortsAll, Underway, Adds, Exhausts};
+ghost use Rattle.asm_explore.specs.Lists.{Situation, HaveChoices, AreCounted, IsCounted, Lists};
+ghost use Rattle.asm_explore.specs.Placed.{IsPlaced};
+ghost use Rattle.asm_explore.specs.Sequences.{BothHave, Sorts, SortsAll, Underway, Adds, Exhausts};
 
 use crate::found::{Answer, Choice, Found, add_choices, copy_found, copy_path};
 use crate::listing::add;
@@ -167,8 +169,9 @@ fn exhaust_each(
 
 /// All outcomes, where the sets so far are those of the whole.
 pub(crate) fn close(alloc: Global, sorted: Sorted, limit: usize) -> Result<Vec<Found>, Overflow>
-    ensures { (shape : Shape) (A : State) (total : Situation → Yielded) (left : Situation → State → Yielded) → ((s : Situation) (B : State) → left s B ≡ Gives none) →
+    ensures lists { (shape : Shape) (A : State) (total : Situation → Yielded) (left : Situation → State → Yielded) → ((s : Situation) (B : State) → left s B ≡ Gives none) →
         Underway shape A total left sorted.done.items sorted.more.items → IfOk result (λ fs. Lists shape total fs.items) }
+    ensures placed { (p : yields.Path) → BothHave (IsPlaced p) sorted → IfOk result (λ fs. HaveChoices (IsPlaced p) fs.items) }
 {
     let Sorted { mut done, more } = sorted;
     add_each(alloc, more.as_slice(), limit, &mut done)?;
@@ -182,8 +185,9 @@ pub(crate) fn exhaust(
     path: &[u64],
     limit: usize,
 ) -> Result<Vec<Found>, Overflow>
-    ensures { (shape : Shape) (A : State) (total : Situation → Yielded) (left : Situation → State → Yielded) → ((s : Situation) (B : State) → left s B ≡ Exhausted path.now) →
+    ensures lists { (shape : Shape) (A : State) (total : Situation → Yielded) (left : Situation → State → Yielded) → ((s : Situation) (B : State) → left s B ≡ Exhausted path.now) →
         Underway shape A total left sorted.done.items sorted.more.items → IfOk result (λ fs. Lists shape total fs.items) }
+    ensures placed { (p : yields.Path) → BothHave (IsPlaced p) sorted → IfOk result (λ fs. HaveChoices (IsPlaced p) fs.items) }
 {
     let Sorted { mut done, more } = sorted;
     exhaust_each(alloc, more.as_slice(), path, limit, &mut done)?;

@@ -10,22 +10,22 @@ use Rattle.asm_explore.specs.Lists.{Shows}
 use Rattle.asm_explore.proofs.Yielded.{assign, no_update_yields, update_yields}
 use Rattle.asm_explore.proofs.leaf.assigned.Goals as goal
 
-pub returns-in_default : goal.returns-in_default
-returns-in_default c =
+pub returns-in_default-clause-lists : goal.returns-in_default-clause-lists
+returns-in_default-clause-lists c =
     let a = c.args in
     let shape = shape_on a.on.now in
-    c.alone.ensures shape (yields_on a.on.now a.frame.now a.path.now (assign a.on.now a.frame.now a.path.now a.place.now a.new.now))
+    c.alone.ensures.lists shape (yields_on a.on.now a.frame.now a.path.now (assign a.on.now a.frame.now a.path.now a.place.now a.new.now))
     c.no_updates-updates.ensures.count
     (λ s. subst (Shows shape (answer.Set c.no_updates-updates.result))
     (no_update_yields a.on.now a.frame.now a.path.now a.place.now a.new.now (sym (ap (location_numbered shape) c.in_default.is) ∙ c.in_ok-n.ensures.location) s)
     c.no_updates-updates.ensures.none)
 
-pub returns : goal.returns
-returns c =
+pub returns-clause-lists : goal.returns-clause-lists
+returns-clause-lists c =
     let a = c.args in
     let shape = shape_on a.on.now in
     let at = location_at shape c.in-Some.n in
-    c.alone-2.ensures shape (yields_on a.on.now a.frame.now a.path.now (assign a.on.now a.frame.now a.path.now a.place.now a.new.now))
+    c.alone-2.ensures.lists shape (yields_on a.on.now a.frame.now a.path.now (assign a.on.now a.frame.now a.path.now a.place.now a.new.now))
     c.in_ok-updates.ensures.count
     (λ s. subst (Shows shape (answer.Set c.in_ok-updates.updates))
     (update_yields a.on.now a.frame.now a.path.now a.place.now a.new.now c.in-Some.n c.value-new.result

@@ -1,4 +1,4 @@
-use Rattle.std.proofs.Common.{◌≡◌, ◌<◌, ◌-◌, ◌+◌, suc, true, false, cond, Some, rules, sym, ap, subst, ◌∙◌, arith, length, map, refl}
+use Rattle.std.proofs.Common.{◌≡◌, ◌<◌, ◌≤◌, [], ◌-◌, ◌+◌, suc, true, false, cond, Some, rules, sym, ap, subst, ◌∙◌, arith, length, map, refl}
 use Rattle.std.specs.Prelude.{option_map}
 use Rattle.asm_state.specs.Signature.{count_of}
 use Rattle.asm_state.specs.Words.{value_of_code}
@@ -13,104 +13,121 @@ use Rattle.asm_eval.specs.RuleTree as tree
 use Rattle.asm_eval.specs.RuleViews.{place_of, rule_of, rules_of}
 use Rattle.asm_eval.specs.Running.{places_of}
 use Rattle.asm_explore.specs.Explored.{shape_on, state_on, yields_on, here_on, in_order_on}
-use Rattle.asm_explore.specs.Lists.{picked, Lists, AreCounted, IsCounted}
-use Rattle.asm_explore.specs.Sequences.{Underway, Next, StepsTo}
+use Rattle.asm_explore.specs.Lists.{picked, HaveChoices, Lists, AreCounted, IsCounted}
+use Rattle.asm_explore.specs.Placed.{IsPlaced, IsPlacedFrom, IsPlacedBefore}
+use Rattle.asm_explore.specs.Sequences.{BothHave, Underway, Next, StepsTo}
 use Rattle.asm_explore.proofs.CodeLists.{sound_part, size_of_part, universe_here}
 use Rattle.asm_explore.proofs.ListLemmas.{lists_same, each_at}
-use Rattle.asm_explore.proofs.Sequenced.{begun, ended, underway_next, next_none, next_more, next_all, next_one}
+use Rattle.asm_explore.proofs.Placing.{placed_none, placed_part, placed_in, from_none, from_later, before_later, have_weaker, ok_have}
+use Rattle.asm_explore.proofs.Sequenced.{both_begin, both_placed, begun, ended, underway_next, next_none, next_more, next_all, next_one}
 use Rattle.asm_explore.proofs.Yielded.{ok_same, no_elements, parts_left, each_left, order_left, turns_left, part_next, part_last, element_next, element_last, is_passing, value_yields, forall_yields, choosing_none, choosing_more, choosing_all, none_yields, skip_yields, assign_is, par_yields, seq_yields, if_is, let_is, forall_is, choose_is, iterate_is, call_is, if_yes, if_no, let_with, call_with, iterate_yields, order_steps, order_ends, turn_steps}
 use Rattle.asm_explore.proofs.outcomes.+list.Goals as goal
 
 -- ---- each kind of rule
 
-pub outcomes-returns-in_ok-found-in-Skip : goal.outcomes-returns-in_ok-found-in-Skip
-outcomes-returns-in_ok-found-in-Skip t c =
+pub outcomes-returns-in_ok-found-in-Skip-clause-lists : goal.outcomes-returns-in_ok-found-in-Skip-clause-lists
+outcomes-returns-in_ok-found-in-Skip-clause-lists t c =
     let a = c.args in
     lists_same (shape_on a.on.now) (λ s. nothing.result) (yields_on a.on.now a.frame.now a.path.now (rule_of a.rule.now)) c.in_ok-found-in-Skip.found.items
-    (skip_yields a.on.now a.frame.now a.path.now a.rule.now c.in-Skip.is) c.in_ok-found-in-Skip.ensures
+    (skip_yields a.on.now a.frame.now a.path.now a.rule.now c.in-Skip.is) c.in_ok-found-in-Skip.ensures.lists
 
-pub outcomes-returns-in_ok-found-in-Assign : goal.outcomes-returns-in_ok-found-in-Assign
-outcomes-returns-in_ok-found-in-Assign t c =
+pub outcomes-returns-in_ok-found-in-Skip-clause-placed : goal.outcomes-returns-in_ok-found-in-Skip-clause-placed
+outcomes-returns-in_ok-found-in-Skip-clause-placed t c = have_weaker (λ cs. cs ≡ []) (IsPlaced c.args.path.now) (placed_none c.args.path.now) c.in_ok-found-in-Skip.found.items c.in_ok-found-in-Skip.ensures.choices
+
+pub outcomes-returns-in_ok-found-in-Assign-clause-lists : goal.outcomes-returns-in_ok-found-in-Assign-clause-lists
+outcomes-returns-in_ok-found-in-Assign-clause-lists t c =
     let a = c.args in
     lists_same (shape_on a.on.now) (yields_on a.on.now a.frame.now a.path.now (tree.Assign (place_of c.in-Assign.place) (code_of c.in-Assign.value))) (yields_on a.on.now a.frame.now a.path.now (rule_of a.rule.now)) c.in_ok-found-in-Assign.found.items
-    (assign_is a.on.now a.frame.now a.path.now a.rule.now c.in-Assign.place c.in-Assign.value c.in-Assign.is) c.in_ok-found-in-Assign.ensures
+    (assign_is a.on.now a.frame.now a.path.now a.rule.now c.in-Assign.place c.in-Assign.value c.in-Assign.is) c.in_ok-found-in-Assign.ensures.lists
 
-pub outcomes-returns-in-Par : goal.outcomes-returns-in-Par
-outcomes-returns-in-Par t c =
+pub outcomes-returns-in_ok-found-in-Assign-clause-placed : goal.outcomes-returns-in_ok-found-in-Assign-clause-placed
+outcomes-returns-in_ok-found-in-Assign-clause-placed t c = have_weaker (λ cs. cs ≡ []) (IsPlaced c.args.path.now) (placed_none c.args.path.now) c.in_ok-found-in-Assign.found.items c.in_ok-found-in-Assign.ensures.choices
+
+pub outcomes-returns-in-Par-clause-lists : goal.outcomes-returns-in-Par-clause-lists
+outcomes-returns-in-Par-clause-lists t c =
     let a = c.args in
     ok_same (shape_on a.on.now) _ _ c.list_all.result
     (par_yields a.on.now a.frame.now a.path.now a.rule.now c.in-Par.parts c.in-Par.is c.as_slice.result.now c.as_slice.ensures.value)
-    c.list_all.ensures
+    c.list_all.ensures.lists
 
-pub outcomes-returns-in-Seq : goal.outcomes-returns-in-Seq
-outcomes-returns-in-Seq t c =
+pub outcomes-returns-in-Seq-clause-lists : goal.outcomes-returns-in-Seq-clause-lists
+outcomes-returns-in-Seq-clause-lists t c =
     let a = c.args in
     ok_same (shape_on a.on.now) _ _ c.list_in_order.result
     (seq_yields a.on.now a.frame.now a.path.now a.rule.now c.in-Seq.parts c.in-Seq.is c.as_slice-in-Seq.result.now c.as_slice-in-Seq.ensures.value)
-    c.list_in_order.ensures
+    c.list_in_order.ensures.lists
 
-pub outcomes-returns-in-If : goal.outcomes-returns-in-If
-outcomes-returns-in-If t c =
+pub outcomes-returns-in-If-clause-lists : goal.outcomes-returns-in-If-clause-lists
+outcomes-returns-in-If-clause-lists t c =
     let a = c.args in
     ok_same (shape_on a.on.now) _ _ c.list_if.result
     (if_is a.on.now a.frame.now a.path.now a.rule.now c.in-If.test c.in-If.yes c.in-If.no c.in-If.is c.deref.result.now c.deref-in-If.result.now c.deref.ensures c.deref-in-If.ensures)
-    c.list_if.ensures
+    c.list_if.ensures.lists
 
-pub outcomes-returns-in-Let : goal.outcomes-returns-in-Let
-outcomes-returns-in-Let t c =
+pub outcomes-returns-in-Let-clause-lists : goal.outcomes-returns-in-Let-clause-lists
+outcomes-returns-in-Let-clause-lists t c =
     let a = c.args in
     ok_same (shape_on a.on.now) _ _ c.list_let.result
     (let_is a.on.now a.frame.now a.path.now a.rule.now c.in-Let.value c.in-Let.body c.in-Let.is c.deref-in-Let.result.now c.deref-in-Let.ensures)
-    c.list_let.ensures
+    c.list_let.ensures.lists
 
-pub outcomes-returns-in-Forall : goal.outcomes-returns-in-Forall
-outcomes-returns-in-Forall t c =
+pub outcomes-returns-in-Forall-clause-lists : goal.outcomes-returns-in-Forall-clause-lists
+outcomes-returns-in-Forall-clause-lists t c =
     let a = c.args in
     ok_same (shape_on a.on.now) _ _ c.list_each.result
     (forall_is a.on.now a.frame.now a.path.now a.rule.now c.in-Forall.over c.in-Forall.test c.in-Forall.body c.in-Forall.is c.deref-in-Forall.result.now c.deref-in-Forall.ensures)
-    c.list_each.ensures
+    c.list_each.ensures.lists
 
-pub outcomes-returns-in-Choose : goal.outcomes-returns-in-Choose
-outcomes-returns-in-Choose t c =
+pub outcomes-returns-in-Choose-clause-lists : goal.outcomes-returns-in-Choose-clause-lists
+outcomes-returns-in-Choose-clause-lists t c =
     let a = c.args in
     ok_same (shape_on a.on.now) _ _ c.list_choose.result
     (choose_is a.on.now a.frame.now a.path.now a.rule.now c.in-Choose.over c.in-Choose.test c.in-Choose.body c.in-Choose.none c.in-Choose.is c.deref-in-Choose.result.now c.deref-in-Choose-2.result.now c.deref-in-Choose.ensures c.deref-in-Choose-2.ensures)
-    c.list_choose.ensures
+    c.list_choose.ensures.lists
 
-pub outcomes-returns-in-Iterate : goal.outcomes-returns-in-Iterate
-outcomes-returns-in-Iterate t c =
+pub outcomes-returns-in-Iterate-clause-lists : goal.outcomes-returns-in-Iterate-clause-lists
+outcomes-returns-in-Iterate-clause-lists t c =
     let a = c.args in
     ok_same (shape_on a.on.now) _ _ c.list_turns.result
     (iterate_is a.on.now a.frame.now a.path.now a.rule.now c.in-Iterate.body c.in-Iterate.is c.deref-in-Iterate.result.now c.deref-in-Iterate.ensures)
-    c.list_turns.ensures
+    c.list_turns.ensures.lists
 
-pub outcomes-returns-in-Call : goal.outcomes-returns-in-Call
-outcomes-returns-in-Call t c =
+pub outcomes-returns-in-Call-clause-lists : goal.outcomes-returns-in-Call-clause-lists
+outcomes-returns-in-Call-clause-lists t c =
     let a = c.args in
     ok_same (shape_on a.on.now) _ _ c.list_call.result
     (call_is a.on.now a.frame.now a.path.now a.rule.now c.in-Call.body c.in-Call.answer c.in-Call.arguments c.in-Call.is c.deref-in-Call.result.now c.as_slice-in-Call.result.now c.deref-in-Call.ensures c.as_slice-in-Call.ensures.value)
-    c.list_call.ensures
+    c.list_call.ensures.lists
 
-pub list_if-returns-then-holds : goal.list_if-returns-then-holds
-list_if-returns-then-holds t c =
+pub list_if-returns-then-holds-clause-lists : goal.list_if-returns-then-holds-clause-lists
+list_if-returns-then-holds-clause-lists t c =
     let a = c.args in
     ok_same (shape_on a.on.now) _ _ c.list_part.result
     (if_yes a.on.now a.frame.now a.path.now a.test.now a.yes.now a.no.now (sym c.holds.ensures ∙ c.if-holds.true))
-    c.list_part.ensures
+    c.list_part.ensures.lists
 
-pub list_if-returns-else-holds : goal.list_if-returns-else-holds
-list_if-returns-else-holds t c =
+pub list_if-returns-then-holds-clause-placed : goal.list_if-returns-then-holds-clause-placed
+list_if-returns-then-holds-clause-placed t c = ok_have (IsPlaced (at c.args.path.now 0)) (IsPlaced c.args.path.now) c.list_part.result (placed_part c.args.path.now 0) c.list_part.ensures.placed
+
+pub list_if-returns-else-holds-clause-lists : goal.list_if-returns-else-holds-clause-lists
+list_if-returns-else-holds-clause-lists t c =
     let a = c.args in
     ok_same (shape_on a.on.now) _ _ c.list_part-else-holds.result
     (if_no a.on.now a.frame.now a.path.now a.test.now a.yes.now a.no.now (sym c.holds.ensures ∙ c.if-holds.false))
-    c.list_part-else-holds.ensures
+    c.list_part-else-holds.ensures.lists
 
-pub list_let-returns : goal.list_let-returns
-list_let-returns t c =
+pub list_if-returns-else-holds-clause-placed : goal.list_if-returns-else-holds-clause-placed
+list_if-returns-else-holds-clause-placed t c = ok_have (IsPlaced (at c.args.path.now 1)) (IsPlaced c.args.path.now) c.list_part-else-holds.result (placed_part c.args.path.now 1) c.list_part-else-holds.ensures.placed
+
+pub list_let-returns-clause-lists : goal.list_let-returns-clause-lists
+list_let-returns-clause-lists t c =
     let a = c.args in
     ok_same (shape_on a.on.now) _ _ c.list_part.result
     (let_with a.on.now a.frame.now a.path.now a.term.now a.body.now (value_of_code c.kept.result.value) (c.kept.ensures ∙ c.value-value.ensures))
-    c.list_part.ensures
+    c.list_part.ensures.lists
+
+pub list_let-returns-clause-placed : goal.list_let-returns-clause-placed
+list_let-returns-clause-placed t c = ok_have (IsPlaced (at c.args.path.now 0)) (IsPlaced c.args.path.now) c.list_part.result (placed_part c.args.path.now 0) c.list_part.ensures.placed
 
 -- ---- parts
 
@@ -120,7 +137,8 @@ list_all-loop-i-init t c =
     record {
       within = omega arith;
       lists = lists_same (shape_on a.on.now) (λ s. nothing.result) (parts_left a.on.now a.frame.now a.path.now a.parts.now (length a.parts.now)) c.in_ok-found.found.items
-          (part_last a.on.now a.frame.now a.path.now a.parts.now (length a.parts.now) (omega arith)) c.in_ok-found.ensures;
+          (part_last a.on.now a.frame.now a.path.now a.parts.now (length a.parts.now) (omega arith)) c.in_ok-found.ensures.lists;
+      placed = have_weaker (λ cs. cs ≡ []) (IsPlacedFrom a.path.now (length a.parts.now)) (from_none a.path.now (length a.parts.now)) c.in_ok-found.found.items c.in_ok-found.ensures.choices;
     }
 
 pub list_all-list_part-requires : goal.list_all-list_part-requires
@@ -144,15 +162,22 @@ list_all-loop-i-preserved t c =
           (parts_left a.on.now a.frame.now a.path.now a.parts.now (l.i - 1)) c.in_ok-more.more.items
           (λ s. ap (λ k. beside (here s) (parts_left a.on.now a.frame.now a.path.now a.parts.now k s)) back
           ∙ part_next a.on.now a.frame.now a.path.now a.parts.now (l.i - 1) c.index-parts-i.result low c.index-parts-i.is s)
-          (c.in_ok-more.ensures.lists here (parts_left a.on.now a.frame.now a.path.now a.parts.now l.i) c.in_ok-part.ensures l.invariant.lists);
+          (c.in_ok-more.ensures.lists here (parts_left a.on.now a.frame.now a.path.now a.parts.now l.i) c.in_ok-part.ensures.lists l.invariant.lists);
+      placed = c.in_ok-more.ensures.placed (l.i - 1) c.in_ok-part.ensures.placed
+          (subst (λ k. HaveChoices (IsPlacedFrom a.path.now k) l.found.items) back l.invariant.placed);
     }
 
-pub list_all-returns : goal.list_all-returns
-list_all-returns t c =
+pub list_all-returns-clause-lists : goal.list_all-returns-clause-lists
+list_all-returns-clause-lists t c =
     let a = c.args in
     let l = c.loop-i in
     let ends : l.i ≡ 0 = omega (arith, c.loop-i-test.false) in
     subst (λ i. Lists (shape_on a.on.now) (parts_left a.on.now a.frame.now a.path.now a.parts.now i) l.found.items) ends l.invariant.lists
+
+pub list_all-returns-clause-placed : goal.list_all-returns-clause-placed
+list_all-returns-clause-placed t c =
+    let l = c.loop-i in
+    have_weaker (IsPlacedFrom c.args.path.now l.i) (IsPlaced c.args.path.now) (placed_in c.args.path.now (λ k. l.i ≤ k)) l.found.items l.invariant.placed
 
 -- ---- values of a universe
 
@@ -163,7 +188,8 @@ list_each-loop-i-init t c =
     record {
       within = omega (arith, c.size-i.ensures.size);
       lists = lists_same (shape_on a.on.now) (λ s. nothing.result) (each_left a.on.now a.frame.now a.path.now a.over a.test.now a.body.now (length us) us c.size-i.result) c.in_ok-found.found.items
-          (element_last a.on.now a.frame.now a.path.now a.over a.test.now a.body.now (length us) us c.size-i.result (omega (arith, c.size-i.ensures.size))) c.in_ok-found.ensures;
+          (element_last a.on.now a.frame.now a.path.now a.over a.test.now a.body.now (length us) us c.size-i.result (omega (arith, c.size-i.ensures.size))) c.in_ok-found.ensures.lists;
+      placed = have_weaker (λ cs. cs ≡ []) (IsPlacedFrom a.path.now c.size-i.result) (from_none a.path.now c.size-i.result) c.in_ok-found.found.items c.in_ok-found.ensures.choices;
     }
 
 pub list_each-list_element-requires : goal.list_each-list_element-requires
@@ -186,11 +212,12 @@ list_each-loop-i-preserved t c =
       lists = lists_same (shape_on a.on.now) (λ s. cond so (beside (here s) (left l.i s)) (left l.i s)) (left (l.i - 1)) c.in_ok-more.more.items
           (λ s. ap (λ k. cond so (beside (here s) (left k s)) (left k s)) back
           ∙ element_next a.on.now a.frame.now a.path.now a.over a.test.now a.body.now (length us) us (l.i - 1) v low (c.element.ensures ∙ ap Some (sym c.kept.ensures)) s so refl)
-          (c.in_ok-more.ensures (left l.i) l.invariant.lists);
+          (c.in_ok-more.ensures.lists (left l.i) l.invariant.lists);
+      placed = c.in_ok-more.ensures.placed (subst (λ k. HaveChoices (IsPlacedFrom a.path.now k) l.found.items) back l.invariant.placed);
     }
 
-pub list_each-returns : goal.list_each-returns
-list_each-returns t c =
+pub list_each-returns-clause-lists : goal.list_each-returns-clause-lists
+list_each-returns-clause-lists t c =
     let a = c.args in
     let l = c.loop-i in
     let us = c.universe-universe.result.now in
@@ -201,61 +228,86 @@ list_each-returns t c =
     (λ s. ap (λ ws. left ws 0 s) (sym same) ∙ forall_yields a.on.now a.frame.now a.path.now a.over a.test.now a.body.now (length us) (ap length (sym same)) s)
     (subst (λ i. Lists (shape_on a.on.now) (left us i) l.found.items) ends l.invariant.lists)
 
-pub list_element-returns-in_ok-found : goal.list_element-returns-in_ok-found
-list_element-returns-in_ok-found t c = λ o lists.
+pub list_each-returns-clause-placed : goal.list_each-returns-clause-placed
+list_each-returns-clause-placed t c =
+    let l = c.loop-i in
+    have_weaker (IsPlacedFrom c.args.path.now l.i) (IsPlaced c.args.path.now) (placed_in c.args.path.now (λ k. l.i ≤ k)) l.found.items l.invariant.placed
+
+pub list_element-returns-in_ok-found-clause-lists : goal.list_element-returns-in_ok-found-clause-lists
+list_element-returns-in_ok-found-clause-lists t c = λ o lists.
     let a = c.args in
     let here = yields_on a.on.now a.frame.now (at a.path.now a.number) (rule_of a.body.now) in
     lists_same (shape_on a.on.now) (λ s. beside (here s) (o s)) _ c.in_ok-found.found.items
     (λ s. ap (λ b. cond b (beside (here s) (o s)) (o s)) (sym c.if-passes.true ∙ c.passes.ensures))
-    (c.in_ok-found.ensures.lists here o c.in_ok-part.ensures lists)
+    (c.in_ok-found.ensures.lists here o c.in_ok-part.ensures.lists lists)
 
-pub list_element-returns-else-passes : goal.list_element-returns-else-passes
-list_element-returns-else-passes t c = λ o lists.
+pub list_element-returns-in_ok-found-clause-placed : goal.list_element-returns-in_ok-found-clause-placed
+list_element-returns-in_ok-found-clause-placed t c = λ later. c.in_ok-found.ensures.placed c.args.number c.in_ok-part.ensures.placed later
+
+pub list_element-returns-else-passes-clause-lists : goal.list_element-returns-else-passes-clause-lists
+list_element-returns-else-passes-clause-lists t c = λ o lists.
     let a = c.args in
     let here = yields_on a.on.now a.frame.now (at a.path.now a.number) (rule_of a.body.now) in
     lists_same (shape_on a.on.now) o _ a.after.items
     (λ s. ap (λ b. cond b (beside (here s) (o s)) (o s)) (sym c.if-passes.false ∙ c.passes.ensures))
     lists
 
+pub list_element-returns-else-passes-clause-placed : goal.list_element-returns-else-passes-clause-placed
+list_element-returns-else-passes-clause-placed t c =
+    let a = c.args in
+    have_weaker (IsPlacedFrom a.path.now (a.number + 1)) (IsPlacedFrom a.path.now a.number) (from_later a.path.now a.number) a.after.items
+
 -- ---- candidates
 
-pub list_choose-returns-then-all-eq0 : goal.list_choose-returns-then-all-eq0
-list_choose-returns-then-all-eq0 t c =
+pub list_choose-returns-then-all-eq0-clause-lists : goal.list_choose-returns-then-all-eq0-clause-lists
+list_choose-returns-then-all-eq0-clause-lists t c =
     let a = c.args in
     ok_same (shape_on a.on.now) _ _ c.list_part.result
     (none_yields a.on.now a.frame.now a.path.now a.over a.test.now a.body.now a.none.now c.as_slice-all.result.now (c.as_slice-all.ensures.value ∙ c.in_ok-values.ensures)
     (no_elements c.as_slice-all.result.now c.if-all-eq0.true))
-    c.list_part.ensures
+    c.list_part.ensures.lists
+
+pub list_choose-returns-then-all-eq0-clause-placed : goal.list_choose-returns-then-all-eq0-clause-placed
+list_choose-returns-then-all-eq0-clause-placed t c = ok_have (IsPlaced (at c.args.path.now 1)) (IsPlaced c.args.path.now) c.list_part.result (placed_part c.args.path.now 1) c.list_part.ensures.placed
 
 pub list_choose-loop-k-init : goal.list_choose-loop-k-init
 list_choose-loop-k-init t c =
     let a = c.args in
-    choosing_none a.on.now a.frame.now a.path.now a.over a.test.now a.body.now a.none.now c.as_slice-all.result.now c.new-found.result.items c.new-found.ensures.items
+    record {
+      choosing = choosing_none a.on.now a.frame.now a.path.now a.over a.test.now a.body.now a.none.now c.as_slice-all.result.now c.new-found.result.items c.new-found.ensures.items;
+      placed = subst (HaveChoices (IsPlaced a.path.now)) (sym c.new-found.ensures.items) tt;
+    }
 
 pub list_choose-loop-k-preserved : goal.list_choose-loop-k-preserved
 list_choose-loop-k-preserved t c =
     let a = c.args in
     let l = c.loop-k in
-    choosing_more a.on.now a.frame.now a.path.now a.over a.test.now a.body.now a.none.now c.as_slice-all.result.now (c.as_slice-all.ensures.value ∙ c.in_ok-values.ensures)
-    l.k (value_of_code c.kept.result.value) (c.candidate_at-value.ensures ∙ ap Some (sym c.kept.ensures)) c.in_ok-part.part.items l.found.items c.add_part.new.found.items
-    c.in_ok-part.ensures c.in_ok-add_part.ensures.picks l.invariant
+    record {
+      choosing = choosing_more a.on.now a.frame.now a.path.now a.over a.test.now a.body.now a.none.now c.as_slice-all.result.now (c.as_slice-all.ensures.value ∙ c.in_ok-values.ensures)
+          l.k (value_of_code c.kept.result.value) (c.candidate_at-value.ensures ∙ ap Some (sym c.kept.ensures)) c.in_ok-part.part.items l.found.items c.add_part.new.found.items
+          c.in_ok-part.ensures.lists c.in_ok-add_part.ensures.picks l.invariant.choosing;
+      placed = c.in_ok-add_part.ensures.picks.placed c.in_ok-part.ensures.placed l.invariant.placed;
+    }
 
-pub list_choose-returns : goal.list_choose-returns
-list_choose-returns t c =
+pub list_choose-returns-clause-lists : goal.list_choose-returns-clause-lists
+list_choose-returns-clause-lists t c =
     let a = c.args in
     let l = c.loop-k in
     let some : 0 < length c.as_slice-all.result.now = omega (arith, c.if-all-eq0.false) in
     choosing_all a.on.now a.frame.now a.path.now a.over a.test.now a.body.now a.none.now c.as_slice-all.result.now (c.as_slice-all.ensures.value ∙ c.in_ok-values.ensures)
-    some l.k l.found.items (omega arith) l.invariant
+    some l.k l.found.items (omega arith) l.invariant.choosing
 
 -- ---- calls
 
-pub list_call-returns : goal.list_call-returns
-list_call-returns t c =
+pub list_call-returns-clause-lists : goal.list_call-returns-clause-lists
+list_call-returns-clause-lists t c =
     let a = c.args in
     ok_same (shape_on a.on.now) _ _ c.list_part.result
     (call_with a.on.now a.frame.now a.path.now a.body.now a.answer.now a.arguments.now c.in_ok-answer.answer c.in_ok-answer.ensures.location)
-    c.list_part.ensures
+    c.list_part.ensures.lists
+
+pub list_call-returns-clause-placed : goal.list_call-returns-clause-placed
+list_call-returns-clause-placed t c = ok_have (IsPlaced (at c.args.path.now 0)) (IsPlaced c.args.path.now) c.list_part.result (placed_part c.args.path.now 0) c.list_part.ensures.placed
 
 -- ---- one after the other
 
@@ -264,8 +316,11 @@ list_in_order-loop-i-init t c =
     let a = c.args in
     let total = in_order_on a.on.now a.frame.now a.path.now (rules_of (map rule_of a.parts.now)) in
     let left = order_left a.on.now a.frame.now a.path.now a.parts.now 0 in
-    subst (λ d. Underway (shape_on a.on.now) (state_on a.on.now) total left d c.in_ok-begin.begin.items) (sym c.new.ensures.items)
-    (begun (shape_on a.on.now) (state_on a.on.now) total left (λ s. refl) c.in_ok-begin.begin.items c.in_ok-begin.ensures)
+    record {
+      underway = subst (λ d. Underway (shape_on a.on.now) (state_on a.on.now) total left d c.in_ok-begin.begin.items) (sym c.new.ensures.items)
+          (begun (shape_on a.on.now) (state_on a.on.now) total left (λ s. refl) c.in_ok-begin.begin.items c.in_ok-begin.ensures.lists);
+      placed = both_begin a.path.now c.new.result.items c.in_ok-begin.begin.items c.new.ensures.items c.in_ok-begin.ensures.choices;
+    }
 
 pub list_in_order-list_next-requires : goal.list_in_order-list_next-requires
 list_in_order-list_next-requires t c =
@@ -275,7 +330,7 @@ list_in_order-list_next-requires t c =
       omega (arith, c.decreases, less),
       (
         sound_part (shape_on a.on.now) a.parts.now l.i c.index-parts-i.result c.loop-i-test.true c.index-parts-i.is c.requires.sound,
-        (c.requires.framed, subst (AreCounted (count_of (shape_on a.on.now))) (sym c.as_slice-front.ensures.value) l.invariant.front_counted),
+        (c.requires.framed, subst (AreCounted (count_of (shape_on a.on.now))) (sym c.as_slice-front.ensures.value) l.invariant.underway.front_counted),
       ),
     )
 
@@ -284,19 +339,25 @@ list_in_order-loop-i-preserved t c =
     let a = c.args in
     let l = c.loop-i in
     let here = here_on a.on.now a.frame.now (at a.path.now l.i) (rule_of c.index-parts-i.result) in
-    underway_next (shape_on a.on.now) false (state_on a.on.now) here (in_order_on a.on.now a.frame.now a.path.now (rules_of (map rule_of a.parts.now)))
-    (order_left a.on.now a.frame.now a.path.now a.parts.now l.i) (order_left a.on.now a.frame.now a.path.now a.parts.now (l.i + 1))
-    (order_steps a.on.now a.frame.now a.path.now a.parts.now l.i c.index-parts-i.result c.loop-i-test.true c.index-parts-i.is)
-    l.sorted c.in_ok-next.next
-    (subst (λ fs. Next (shape_on a.on.now) false (state_on a.on.now) here fs l.sorted.done.items c.in_ok-next.next) c.as_slice-front.ensures.value c.in_ok-next.ensures)
-    l.invariant
+    record {
+      underway = underway_next (shape_on a.on.now) false (state_on a.on.now) here (in_order_on a.on.now a.frame.now a.path.now (rules_of (map rule_of a.parts.now)))
+          (order_left a.on.now a.frame.now a.path.now a.parts.now l.i) (order_left a.on.now a.frame.now a.path.now a.parts.now (l.i + 1))
+          (order_steps a.on.now a.frame.now a.path.now a.parts.now l.i c.index-parts-i.result c.loop-i-test.true c.index-parts-i.is)
+          l.sorted c.in_ok-next.next
+          (subst (λ fs. Next (shape_on a.on.now) false (state_on a.on.now) here fs l.sorted.done.items c.in_ok-next.next) c.as_slice-front.ensures.value c.in_ok-next.ensures.next)
+          l.invariant.underway;
+      placed = c.in_ok-next.ensures.placed (subst (HaveChoices (IsPlacedBefore a.path.now l.i)) (sym c.as_slice-front.ensures.value) l.invariant.placed.1) l.invariant.placed.0;
+    }
 
-pub list_in_order-returns : goal.list_in_order-returns
-list_in_order-returns t c =
+pub list_in_order-returns-clause-lists : goal.list_in_order-returns-clause-lists
+list_in_order-returns-clause-lists t c =
     let a = c.args in
     let l = c.loop-i in
     c.in_ok-found.ensures.lists (shape_on a.on.now) (state_on a.on.now) (in_order_on a.on.now a.frame.now a.path.now (rules_of (map rule_of a.parts.now))) (order_left a.on.now a.frame.now a.path.now a.parts.now l.i)
-    (order_ends a.on.now a.frame.now a.path.now a.parts.now l.i (omega arith)) l.invariant
+    (order_ends a.on.now a.frame.now a.path.now a.parts.now l.i (omega arith)) l.invariant.underway
+
+pub list_in_order-returns-clause-placed : goal.list_in_order-returns-clause-placed
+list_in_order-returns-clause-placed t c = c.in_ok-found.ensures.placed (both_placed c.args.path.now c.loop-i.i c.loop-i.sorted c.loop-i.invariant.placed)
 
 pub list_turns-loop-turn-init : goal.list_turns-loop-turn-init
 list_turns-loop-turn-init t c =
@@ -305,23 +366,29 @@ list_turns-loop-turn-init t c =
     let total = yields_on a.on.now a.frame.now a.path.now (tree.Iterate R) in
     let left = turns_left a.on.now a.frame.now a.path.now R (a.on.now.turns - 0) 0 in
     let all : a.on.now.turns ≡ a.on.now.turns - 0 = omega arith in
-    subst (λ d. Underway (shape_on a.on.now) (state_on a.on.now) total left d c.in_ok-begin.begin.items) (sym c.new.ensures.items)
-    (begun (shape_on a.on.now) (state_on a.on.now) total left
-    (λ s. sym (iterate_yields a.on.now a.frame.now a.path.now R s) ∙ ap (λ n. turns_left a.on.now a.frame.now a.path.now R n 0 s (state_on a.on.now)) all)
-    c.in_ok-begin.begin.items c.in_ok-begin.ensures)
+    record {
+      underway = subst (λ d. Underway (shape_on a.on.now) (state_on a.on.now) total left d c.in_ok-begin.begin.items) (sym c.new.ensures.items)
+          (begun (shape_on a.on.now) (state_on a.on.now) total left
+          (λ s. sym (iterate_yields a.on.now a.frame.now a.path.now R s) ∙ ap (λ n. turns_left a.on.now a.frame.now a.path.now R n 0 s (state_on a.on.now)) all)
+          c.in_ok-begin.begin.items c.in_ok-begin.ensures.lists);
+      placed = both_begin a.path.now c.new.result.items c.in_ok-begin.begin.items c.new.ensures.items c.in_ok-begin.ensures.choices;
+    }
 
-pub list_turns-returns-then-waiting-eq0 : goal.list_turns-returns-then-waiting-eq0
-list_turns-returns-then-waiting-eq0 t c =
+pub list_turns-returns-then-waiting-eq0-clause-lists : goal.list_turns-returns-then-waiting-eq0-clause-lists
+list_turns-returns-then-waiting-eq0-clause-lists t c =
     let a = c.args in
     let l = c.loop-turn in
     ended (shape_on a.on.now) (state_on a.on.now) (yields_on a.on.now a.frame.now a.path.now (tree.Iterate (rule_of a.body.now)))
     (turns_left a.on.now a.frame.now a.path.now (rule_of a.body.now) (a.on.now.turns - l.turn) l.turn) l.sorted.done.items l.sorted.more.items
-    (sym c.as_slice-waiting.ensures.value ∙ no_elements c.as_slice-waiting.result.now c.if-waiting-eq0.true) l.invariant
+    (sym c.as_slice-waiting.ensures.value ∙ no_elements c.as_slice-waiting.result.now c.if-waiting-eq0.true) l.invariant.underway
+
+pub list_turns-returns-then-waiting-eq0-clause-placed : goal.list_turns-returns-then-waiting-eq0-clause-placed
+list_turns-returns-then-waiting-eq0-clause-placed t c = (both_placed c.args.path.now c.loop-turn.turn c.loop-turn.sorted c.loop-turn.invariant.placed).0
 
 pub list_turns-list_next-requires : goal.list_turns-list_next-requires
 list_turns-list_next-requires t c =
     let a = c.args in
-    (omega (arith, c.decreases), (c.requires.sound, (c.requires.framed, subst (AreCounted (count_of (shape_on a.on.now))) (sym c.as_slice-front.ensures.value) c.loop-turn.invariant.front_counted)))
+    (omega (arith, c.decreases), (c.requires.sound, (c.requires.framed, subst (AreCounted (count_of (shape_on a.on.now))) (sym c.as_slice-front.ensures.value) c.loop-turn.invariant.underway.front_counted)))
 
 pub list_turns-loop-turn-preserved : goal.list_turns-loop-turn-preserved
 list_turns-loop-turn-preserved t c =
@@ -331,29 +398,45 @@ list_turns-loop-turn-preserved t c =
     let here = here_on a.on.now a.frame.now (at a.path.now l.turn) R in
     let then = turns_left a.on.now a.frame.now a.path.now R (a.on.now.turns - (l.turn + 1)) (l.turn + 1) in
     let one : suc (a.on.now.turns - (l.turn + 1)) ≡ a.on.now.turns - l.turn = omega (arith, c.loop-turn-test.true) in
-    underway_next (shape_on a.on.now) true (state_on a.on.now) here (yields_on a.on.now a.frame.now a.path.now (tree.Iterate R))
-    (turns_left a.on.now a.frame.now a.path.now R (a.on.now.turns - l.turn) l.turn) then
-    (subst (λ n. StepsTo true (turns_left a.on.now a.frame.now a.path.now R n l.turn) here then) one (turn_steps a.on.now a.frame.now a.path.now R (a.on.now.turns - (l.turn + 1)) l.turn))
-    l.sorted c.in_ok-next.next
-    (subst (λ n. Next (shape_on a.on.now) true (state_on a.on.now) (here_on a.on.now a.frame.now (at a.path.now n) R) l.sorted.more.items l.sorted.done.items c.in_ok-next.next) c.from-number.ensures
-    (subst (λ fs. Next (shape_on a.on.now) true (state_on a.on.now) (here_on a.on.now a.frame.now (at a.path.now c.from-number.result) R) fs l.sorted.done.items c.in_ok-next.next) c.as_slice-front.ensures.value c.in_ok-next.ensures))
-    l.invariant
+    record {
+      underway = underway_next (shape_on a.on.now) true (state_on a.on.now) here (yields_on a.on.now a.frame.now a.path.now (tree.Iterate R))
+          (turns_left a.on.now a.frame.now a.path.now R (a.on.now.turns - l.turn) l.turn) then
+          (subst (λ n. StepsTo true (turns_left a.on.now a.frame.now a.path.now R n l.turn) here then) one (turn_steps a.on.now a.frame.now a.path.now R (a.on.now.turns - (l.turn + 1)) l.turn))
+          l.sorted c.in_ok-next.next
+          (subst (λ n. Next (shape_on a.on.now) true (state_on a.on.now) (here_on a.on.now a.frame.now (at a.path.now n) R) l.sorted.more.items l.sorted.done.items c.in_ok-next.next) c.from-number.ensures
+          (subst (λ fs. Next (shape_on a.on.now) true (state_on a.on.now) (here_on a.on.now a.frame.now (at a.path.now c.from-number.result) R) fs l.sorted.done.items c.in_ok-next.next) c.as_slice-front.ensures.value c.in_ok-next.ensures.next))
+          l.invariant.underway;
+      placed = subst (λ n. BothHave (IsPlacedBefore a.path.now (n + 1)) c.in_ok-next.next) c.from-number.ensures
+          (c.in_ok-next.ensures.placed
+          (subst (λ n. HaveChoices (IsPlacedBefore a.path.now n) c.as_slice-front.result.now) (sym c.from-number.ensures)
+          (subst (HaveChoices (IsPlacedBefore a.path.now l.turn)) (sym c.as_slice-front.ensures.value) l.invariant.placed.1))
+          (subst (λ n. HaveChoices (IsPlacedBefore a.path.now n) l.sorted.done.items) (sym c.from-number.ensures) l.invariant.placed.0));
+    }
 
-pub list_turns-returns : goal.list_turns-returns
-list_turns-returns t c =
+pub list_turns-returns-clause-lists : goal.list_turns-returns-clause-lists
+list_turns-returns-clause-lists t c =
     let a = c.args in
     let l = c.loop-turn in
     let R = rule_of a.body.now in
     let past : a.on.now.turns - l.turn ≡ 0 = omega (arith, c.loop-turn-test.false) in
     c.in_ok-found.ensures.lists (shape_on a.on.now) (state_on a.on.now) (yields_on a.on.now a.frame.now a.path.now (tree.Iterate R))
     (turns_left a.on.now a.frame.now a.path.now R (a.on.now.turns - l.turn) l.turn)
-    (λ s B. ap (λ n. turns_left a.on.now a.frame.now a.path.now R n l.turn s B) past) l.invariant
+    (λ s B. ap (λ n. turns_left a.on.now a.frame.now a.path.now R n l.turn s B) past) l.invariant.underway
+
+pub list_turns-returns-clause-placed : goal.list_turns-returns-clause-placed
+list_turns-returns-clause-placed t c = c.in_ok-found.ensures.placed (both_placed c.args.path.now c.loop-turn.turn c.loop-turn.sorted c.loop-turn.invariant.placed)
 
 pub list_next-loop-i-init : goal.list_next-loop-i-init
 list_next-loop-i-init t c =
     let a = c.args in
-    next_none (shape_on a.on.now) a.turns (state_on a.on.now) (here_on a.on.now a.frame.now (at a.path.now a.number) (rule_of a.rule.now)) a.front.now a.done.items
-    (record { done = a.done; more = c.new.result }) refl c.new.ensures.items
+    record {
+      next = next_none (shape_on a.on.now) a.turns (state_on a.on.now) (here_on a.on.now a.frame.now (at a.path.now a.number) (rule_of a.rule.now)) a.front.now a.done.items
+          (record { done = a.done; more = c.new.result }) refl c.new.ensures.items;
+      placed = λ h g. (
+        have_weaker (IsPlacedBefore a.path.now a.number) (IsPlacedBefore a.path.now (a.number + 1)) (before_later a.path.now a.number) a.done.items g,
+        subst (HaveChoices (IsPlacedBefore a.path.now (a.number + 1))) (sym c.new.ensures.items) tt,
+      );
+    }
 
 pub list_next-list_one-requires : goal.list_next-list_one-requires
 list_next-list_one-requires t c =
@@ -365,38 +448,48 @@ pub list_next-loop-i-preserved : goal.list_next-loop-i-preserved
 list_next-loop-i-preserved t c =
     let a = c.args in
     let l = c.loop-i in
-    next_more (shape_on a.on.now) a.turns (state_on a.on.now) (here_on a.on.now a.frame.now (at a.path.now a.number) (rule_of a.rule.now)) a.front.now l.i c.index-front-i.result a.done.items
-    l.sorted c.list_one.new.sorted c.loop-i-test.true c.index-front-i.is c.in_ok-list_one.ensures l.invariant
+    record {
+      next = next_more (shape_on a.on.now) a.turns (state_on a.on.now) (here_on a.on.now a.frame.now (at a.path.now a.number) (rule_of a.rule.now)) a.front.now l.i c.index-front-i.result a.done.items
+          l.sorted c.list_one.new.sorted c.loop-i-test.true c.index-front-i.is c.in_ok-list_one.ensures.next l.invariant.next;
+      placed = λ h g.
+          c.in_ok-list_one.ensures.placed
+          (each_at (λ f. IsPlacedBefore a.path.now a.number f.choices.items) a.front.now l.i c.index-front-i.result c.loop-i-test.true c.index-front-i.is h)
+          (l.invariant.placed h g);
+    }
 
-pub list_next-returns : goal.list_next-returns
-list_next-returns t c =
+pub list_next-returns-clause-next : goal.list_next-returns-clause-next
+list_next-returns-clause-next t c =
     let a = c.args in
     let l = c.loop-i in
-    next_all (shape_on a.on.now) a.turns (state_on a.on.now) (here_on a.on.now a.frame.now (at a.path.now a.number) (rule_of a.rule.now)) a.front.now l.i a.done.items l.sorted (omega arith) l.invariant
+    next_all (shape_on a.on.now) a.turns (state_on a.on.now) (here_on a.on.now a.frame.now (at a.path.now a.number) (rule_of a.rule.now)) a.front.now l.i a.done.items l.sorted (omega arith) l.invariant.next
 
 pub list_one-list_upon-requires : goal.list_one-list_upon-requires
 list_one-list_upon-requires t c =
     let a = c.args in
     (omega (arith, c.decreases), (c.requires.sound, (c.requires.framed, subst (IsCounted (count_of (shape_on a.on.now))) c.in-Set.is c.requires.counted)))
 
-pub list_one-returns-in_ok-sort_part-in-Set : goal.list_one-returns-in_ok-sort_part-in-Set
-list_one-returns-in_ok-sort_part-in-Set t c =
+pub list_one-returns-in_ok-sort_part-in-Set-clause-next : goal.list_one-returns-in_ok-sort_part-in-Set-clause-next
+list_one-returns-in_ok-sort_part-in-Set-clause-next t c =
     let a = c.args in
-    let upon = c.in_ok-part-in-Set.ensures in
+    let upon = c.in_ok-part-in-Set.ensures.upon in
     next_one (shape_on a.on.now) a.turns (state_on a.on.now) (here_on a.on.now a.frame.now (at a.path.now a.number) (rule_of a.rule.now)) a.one.now c.in-Set.so_far c.in_ok-part-in-Set.part.items
     a.sorted.now c.sort_part.new.sorted c.in-Set.is upon.state upon.fired upon.lists c.in_ok-sort_part-in-Set.ensures.sorts
 
-pub list_upon-returns-in_err-found : goal.list_upon-returns-in_err-found
-list_upon-returns-in_err-found t c =
+pub list_one-returns-in_ok-sort_part-in-Set-clause-placed : goal.list_one-returns-in_ok-sort_part-in-Set-clause-placed
+list_one-returns-in_ok-sort_part-in-Set-clause-placed t c = λ here both.
+    c.in_ok-sort_part-in-Set.ensures.sorts.placed c.args.path.now c.args.number here c.in_ok-part-in-Set.ensures.placed both
+
+pub list_upon-returns-in_err-found-clause-upon : goal.list_upon-returns-in_err-found-clause-upon
+list_upon-returns-in_err-found-clause-upon t c =
     record { state = shown c.upon-view.result; fired = λ U stands consistent. c.upon-view.ensures.fired U stands consistent; lists = search rules }
 
-pub list_upon-returns : goal.list_upon-returns
-list_upon-returns t c =
+pub list_upon-returns-clause-upon : goal.list_upon-returns-clause-upon
+list_upon-returns-clause-upon t c =
     let a = c.args in
     let v = c.upon-view.result in
     record {
       state = shown v;
       fired = λ U stands consistent. c.upon-view.ensures.fired U stands consistent;
       lists = subst (λ sh. Lists sh (λ s. (meaning sh a.on.now.turns (picked s) (rule_of a.rule.now) (readings_of sh a.frame.now) (places_of sh a.frame.now) (shown v) (at a.path.now a.number)).result) c.in_ok-found.found.items)
-          c.upon-view.ensures.signature c.in_ok-found.ensures;
+          c.upon-view.ensures.signature c.in_ok-found.ensures.lists;
     }

@@ -4,8 +4,9 @@ use Rattle.asm_eval.specs.RuleMeaning.{rule_size, rule_sizes}
 use Rattle.asm_eval.specs.RuleTree as tree
 use Rattle.asm_eval.specs.RuleViews.{rule_of, rules_of}
 use Rattle.asm_explore.specs.Explored.{shape_on, state_on, yields_on, in_order_on, here_on}
-use Rattle.asm_explore.specs.Lists.{Lists}
-use Rattle.asm_explore.specs.Sequences.{Underway, Next}
+use Rattle.asm_explore.specs.Lists.{HaveChoices, Lists}
+use Rattle.asm_explore.specs.Placed.{IsPlaced, IsPlacedFrom, IsPlacedBefore}
+use Rattle.asm_explore.specs.Sequences.{BothHave, Underway, Next}
 use Rattle.asm_explore.proofs.Yielded.{parts_left, each_left, IsChoosing, order_left, turns_left}
 use Rattle.asm_explore.proofs.outcomes.+list.Given as goal
 
@@ -60,6 +61,7 @@ abbrev pub invariant-list_all-loop-i : goal.invariant-list_all-loop-i
 invariant-list_all-loop-i l = record {
   within : l.i ≤ length l.parts;
   lists : Lists (shape_on l.on) (parts_left l.on l.frame l.path l.parts l.i) l.found.items;
+  placed : HaveChoices (IsPlacedFrom l.path l.i) l.found.items;
 }
 
 abbrev pub decreases-list_all-loop-i : goal.decreases-list_all-loop-i
@@ -70,6 +72,7 @@ abbrev pub invariant-list_each-loop-i : goal.invariant-list_each-loop-i
 invariant-list_each-loop-i l = record {
   within : l.i ≤ length l.universe;
   lists : Lists (shape_on l.on) (each_left l.on l.frame l.path l.over l.test l.body (length l.universe) l.universe l.i) l.found.items;
+  placed : HaveChoices (IsPlacedFrom l.path l.i) l.found.items;
 }
 
 abbrev pub decreases-list_each-loop-i : goal.decreases-list_each-loop-i
@@ -77,19 +80,29 @@ decreases-list_each-loop-i l = l.i
 
 -- what the body yields for the first candidates
 abbrev pub invariant-list_choose-loop-k : goal.invariant-list_choose-loop-k
-invariant-list_choose-loop-k l = IsChoosing l.on l.frame l.path l.over l.test l.body l.none l.all l.k l.found.items
+invariant-list_choose-loop-k l = record {
+  choosing : IsChoosing l.on l.frame l.path l.over l.test l.body l.none l.all l.k l.found.items;
+  placed : HaveChoices (IsPlaced l.path) l.found.items;
+}
 
 -- the outcomes so far of the parts, and of the turns
 abbrev pub invariant-list_in_order-loop-i : goal.invariant-list_in_order-loop-i
-invariant-list_in_order-loop-i l =
-    Underway (shape_on l.on) (state_on l.on) (in_order_on l.on l.frame l.path (rules_of (map rule_of l.parts))) (order_left l.on l.frame l.path l.parts l.i) l.sorted.done.items l.sorted.more.items
+invariant-list_in_order-loop-i l = record {
+  underway : Underway (shape_on l.on) (state_on l.on) (in_order_on l.on l.frame l.path (rules_of (map rule_of l.parts))) (order_left l.on l.frame l.path l.parts l.i) l.sorted.done.items l.sorted.more.items;
+  placed : BothHave (IsPlacedBefore l.path l.i) l.sorted;
+}
 
 abbrev pub invariant-list_turns-loop-turn : goal.invariant-list_turns-loop-turn
-invariant-list_turns-loop-turn l =
-    Underway (shape_on l.on) (state_on l.on) (yields_on l.on l.frame l.path (tree.Iterate (rule_of l.body)))
-    (turns_left l.on l.frame l.path (rule_of l.body) (l.on.turns - l.turn) l.turn) l.sorted.done.items l.sorted.more.items
+invariant-list_turns-loop-turn l = record {
+  underway : Underway (shape_on l.on) (state_on l.on) (yields_on l.on l.frame l.path (tree.Iterate (rule_of l.body)))
+      (turns_left l.on l.frame l.path (rule_of l.body) (l.on.turns - l.turn) l.turn) l.sorted.done.items l.sorted.more.items;
+  placed : BothHave (IsPlacedBefore l.path l.turn) l.sorted;
+}
 
 -- the first of those that go on have gone on
 abbrev pub invariant-list_next-loop-i : goal.invariant-list_next-loop-i
-invariant-list_next-loop-i l =
-    Next (shape_on l.on) l.turns (state_on l.on) (here_on l.on l.frame (at l.path l.number) (rule_of l.rule)) (take l.i l.front) l.initial.sorted.done.items l.sorted
+invariant-list_next-loop-i l = record {
+  next : Next (shape_on l.on) l.turns (state_on l.on) (here_on l.on l.frame (at l.path l.number) (rule_of l.rule)) (take l.i l.front) l.initial.sorted.done.items l.sorted;
+  placed : HaveChoices (IsPlacedBefore l.path l.number) l.front → HaveChoices (IsPlacedBefore l.path l.number) l.initial.sorted.done.items
+      → BothHave (IsPlacedBefore l.path (l.number + 1)) l.sorted;
+}

@@ -7,9 +7,11 @@ use Rattle.asm_meaning.specs.Run.{Specification}
 use Rattle.asm_explore.specs.declared.found.Found.{Found}
 use Rattle.asm_explore.specs.declared.node.Node.{Node}
 use Rattle.asm_explore.specs.declared.search.BadOutcome.{BadOutcome}
-use Rattle.asm_explore.specs.Lists.{Each, Shown, IsSound}
+use Rattle.asm_explore.specs.Lists.{Each, Shown, HaveChoices, IsSound}
+use Rattle.asm_explore.specs.Placed.{AreApart}
 use Rattle.asm_explore.specs.Reached.{Follows, IsOutcome, IsBadStep, steps_from, state_at}
 use Rattle.asm_explore.proofs.ListLemmas.{each_weaker}
+use Rattle.asm_explore.proofs.Reaching.{each_got}
 use Rattle.asm_explore.specs.declared.halt.Halt.TheVariants as halt
 use Rattle.asm_explore.proofs.Endings.{full_on, never_full}
 use Rattle.asm_explore.proofs.search.expand.Goals as goal
@@ -63,3 +65,13 @@ returns-in_err-outcomes-clause-full g c =
 pub returns-in_err-follow_all-clause-full : goal.returns-in_err-follow_all-clause-full
 returns-in_err-follow_all-clause-full g c =
     full_on (λ h. h ≡ halt.States → c.args.limit ≤ length c.follow_all.new.nodes.items) c.follow_all.result c.from_residual-in_err-follow_all.result c.in_err-follow_all.field-0.0 c.in_err-follow_all.was c.from_residual-in_err-follow_all.ensures.1 c.follow_all.ensures.full
+
+pub returns-clause-apart : goal.returns-clause-apart
+returns-clause-apart g c =
+    let a = c.args in
+    let wrong : IsWrongAt g.M.Machine.shape g.M.Machine.specification g.M.Machine.turns g.M.Machine.right a.machine.now a.nodes.now.items a.from c.as_slice.result.now c.in-Some.bad =
+    subst (λ o. IfSome o (IsWrongAt g.M.Machine.shape g.M.Machine.specification g.M.Machine.turns g.M.Machine.right a.machine.now a.nodes.now.items a.from c.as_slice.result.now)) c.in-Some.is c.in_ok-follow_all.ensures.wrong in
+    let there = ap (λ fs. slice_get fs c.in-Some.bad.number) (c.as_slice-in-Some.ensures.value ∙ sym c.as_slice.ensures.value) ∙ wrong.1 in
+    subst AreApart (sym (c.in_ok-choices-in-Some.ensures wrong.0 there))
+    (each_got (λ f. AreApart f.choices.items) c.as_slice.result.now c.in-Some.bad.number wrong.0
+    (subst (HaveChoices AreApart) (sym c.as_slice.ensures.value) c.in_ok-outcomes.ensures.apart) wrong.1)

@@ -5,6 +5,7 @@ use Rattle.asm_state.specs.Signature.{Shape}
 use Rattle.asm_meaning.specs.Run.{Specification}
 use Rattle.asm_explore.specs.declared.explored.Bad.{Bad}
 use Rattle.asm_explore.specs.declared.node.Node.{Node}
+use Rattle.asm_explore.specs.Placed.{AreApart}
 use Rattle.asm_explore.specs.Reached.{Expanded, IsBad, IsBadStep, state_at}
 use Rattle.asm_explore.proofs.Endings.{refused_done, refused_closed, refused_bad, done_full}
 use Rattle.asm_explore.proofs.Reaching.{looked_more, looked_same, long_more, at_more, some_at}
@@ -66,6 +67,7 @@ returns-in-Ok-Some-clause-wrong g c =
       from = n.0;
       there = ap (slice_get c.expand_above.new.nodes.items) wrong.0
           ∙ at_more shape specification turns right (n.0.depth + 1) l.nodes.items c.expand_above.new.nodes.items (c.in-Ok-Some.ensures.extends n.0 n.1) l.i n.0 n.1;
+      apart = subst (λ o. IfSome o (λ (b : Bad). AreApart b.choices.items)) c.in-Ok-Some.field-0-is c.in-Ok-Some.ensures.apart;
       wrong = wrong.1 n.0 n.1;
     }
 

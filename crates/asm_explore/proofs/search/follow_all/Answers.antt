@@ -4,6 +4,7 @@ use Rattle.std.proofs.lemmas.Option.{slice_get-get_or}
 use Rattle.asm_meaning.specs.Yields.{Result}
 use Rattle.asm_explore.specs.declared.node.Node.{Node}
 use Rattle.asm_explore.specs.Lists.{Shows}
+use Rattle.asm_explore.specs.Placed.{AreApart}
 use Rattle.asm_explore.specs.Reached.{IsOutcome, IsBadStep, Known, state_at}
 use Rattle.asm_explore.specs.Search.{LeadsOn}
 use Rattle.asm_explore.proofs.ListLemmas.{each_at}
@@ -96,3 +97,7 @@ follow-requires-clause-near g c =
 pub returns-in_err-fault-clause-full : goal.returns-in_err-fault-clause-full
 returns-in_err-fault-clause-full g c =
     full_on (λ h. h ≡ halt.States → c.args.limit ≤ length c.follow.new.nodes.items) c.follow.result c.from_residual.result c.in_err-fault.field-0.0 c.in_err-fault.was c.from_residual.ensures.1 c.follow.ensures.full
+
+pub follow-requires-clause-apart : goal.follow-requires-clause-apart
+follow-requires-clause-apart g c =
+    each_at (λ f. AreApart f.choices.items) c.args.outcomes.now c.loop-k.k c.index-outcomes-k.result c.loop-k-test.true c.index-outcomes-k.is c.requires.apart

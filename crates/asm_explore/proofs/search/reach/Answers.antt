@@ -21,7 +21,7 @@ returns-in_err-note_last-clause-extends g c =
     extends_one shape specification turns right a.below a.nodes.now.items c.push.new.self.items node c.in_ok-push.ensures.items
     (record { whole = c.requires.state; is_right = sym c.is_right.ensures ∙ c.if-not-is_right.false })
     (comes_from shape specification turns right a.below a.nodes.now.items a.from a.choices.now node c.requires.from refl refl
-    (c.in_ok-add_choices.ensures ∙ ap (λ l. l ++ a.choices.now) c.new-all.ensures.items) c.requires.leads) refl
+    (c.in_ok-add_choices.ensures ∙ ap (λ l. l ++ a.choices.now) c.new-all.ensures.items) c.requires.apart c.requires.leads) refl
 
 pub returns-clause-extends : goal.returns-clause-extends
 returns-clause-extends g c =
@@ -34,7 +34,7 @@ returns-clause-extends g c =
     extends_one shape specification turns right a.below a.nodes.now.items c.push.new.self.items node c.in_ok-push.ensures.items
     (record { whole = c.requires.state; is_right = sym c.is_right.ensures ∙ c.if-not-is_right.false })
     (comes_from shape specification turns right a.below a.nodes.now.items a.from a.choices.now node c.requires.from refl refl
-    (c.in_ok-add_choices.ensures ∙ ap (λ l. l ++ a.choices.now) c.new-all.ensures.items) c.requires.leads) refl
+    (c.in_ok-add_choices.ensures ∙ ap (λ l. l ++ a.choices.now) c.new-all.ensures.items) c.requires.apart c.requires.leads) refl
 
 pub returns-clause-known : goal.returns-clause-known
 returns-clause-known g c = λ yes.

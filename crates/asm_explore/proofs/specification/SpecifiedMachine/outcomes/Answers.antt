@@ -10,8 +10,10 @@ use Rattle.asm_meaning.specs.Valued.{shown}
 use Rattle.asm_eval.specs.RuleMeaning.{IsSoundRule, meaning}
 use Rattle.asm_eval.specs.RuleViews.{rule_of}
 use Rattle.asm_explore.specs.Lists.{picked, Lists}
+use Rattle.asm_explore.specs.Placed.{AreApart, IsPlaced}
 use Rattle.asm_explore.specs.Reached.{steps_from}
 use Rattle.asm_explore.proofs.ListLemmas.{lists_same}
+use Rattle.asm_explore.proofs.Placing.{have_weaker}
 use Rattle.asm_explore.proofs.Specifications.{nothing_over}
 use Rattle.asm_explore.proofs.specification.SpecifiedMachine.outcomes.Goals as goal
 
@@ -19,8 +21,8 @@ pub outcomes-requires-clause-sound : goal.outcomes-requires-clause-sound
 outcomes-requires-clause-sound c =
     subst (λ sh. IsSoundRule sh (rule_of c.args.self.now.code.now)) (sym (c.new-view.ensures.parts.0 ∙ c.signature-signature.ensures)) c.requires.sound.main.sound
 
-pub returns : goal.returns
-returns c =
+pub returns-clause-lists : goal.returns-clause-lists
+returns-clause-lists c =
     let a = c.args in
     let m = a.self.now in
     let s = spec_of m.checked.now.spec in
@@ -42,4 +44,7 @@ returns c =
     (subst (λ (sh : Shape). meaning sh m.turns (picked q) (rule_of m.code.now) [] [] A [] ≡ o) (sym viewed)
     (c.resolving_laws.ensures.means s R (rule_of m.code.now) m.turns q.script q.step A [] c.requires.sound.main))
     ∙ ap (λ B. steps_from (specification_of s) m.turns B q) shows)
-    c.in_ok-found.ensures)
+    c.in_ok-found.ensures.lists)
+
+pub returns-clause-apart : goal.returns-clause-apart
+returns-clause-apart c = have_weaker (IsPlaced []) AreApart (λ cs placed. placed.apart) c.in_ok-found.found.items c.in_ok-found.ensures.placed

@@ -1,0 +1,230 @@
+-- The script with a line for each choice of some steps.
+--     with_apart         no two of its lines have one step and one path
+--     needed_alike       the lines that are needed pick what all of them do
+--     takes_with         the script makes all choices
+--     takes_needed       so do the lines that are needed
+use Rattle.std.proofs.Common.{◌≡◌, ◌≢◌, ◌≤◌, ℕ, zero, suc, Bool, true, false, not, cond, ◌&&◌, List, [], ◌∷◌, ◌++◌, Option, Some, None, refl, sym, ap, subst, ◌∙◌, arith}
+use Rattle.std.specs.Prelude.{slice_get}
+use Rattle.std.specs.Bool.{Decides, nat_eq}
+use Rattle.std.specs.Cmp.Lexicographic.{pointwise}
+use Rattle.std.specs.List.{AllByRecursion, IsDistinct}
+use Rattle.std.specs.Option.{option_or, unwrap_or}
+use Rattle.std.proofs.lemmas.Bool.Decides.{Decides-eqb}
+use Rattle.std.proofs.lemmas.Bool.{false_from_ne_true}
+use Rattle.std.proofs.lemmas.Map.Keys.{IsDistinct-cons, IsDistinct-head, IsDistinct-tail}
+use Rattle.std.proofs.lemmas.Slice.Eq.{slice_eq-Decides}
+use Rattle.asm_reader.specs.ExactLines.{exactly}
+use Rattle.asm_reader.specs.ScriptLines.{Line, Script, exact_choice, is_line_of, pick}
+use Rattle.asm_meaning.specs.Scripts.{have_one_key, IsUnrepeated}
+use Rattle.asm_meaning.specs.Yields.{Path}
+use Rattle.asm_explore.specs.declared.explored.Bad.{Bad}
+use Rattle.asm_explore.specs.declared.found.Choice.{Choice}
+use Rattle.asm_explore.specs.declared.node.Node.{Node}
+use Rattle.asm_explore.specs.Elements.{Each}
+use Rattle.asm_explore.specs.Lists.{AreTaken}
+use Rattle.asm_explore.specs.Placed.{AreApart}
+use Rattle.asm_explore.specs.Reached.{TakesTo, TakesBad, AreApartTo, AreApartWith}
+use Rattle.asm_explore.specs.ScriptTo.{lines_for, lines_to, lines_with, needed}
+use Rattle.asm_explore.proofs.Elements.{each_append, each_first, each_last, each_weaker}
+use Rattle.asm_explore.proofs.Taken.{some_same}
+
+-- ---- keys
+
+one_path : (p q : Path) → Decides (pointwise nat_eq p q) (p ≡ q)
+one_path p q = slice_eq-Decides Decides-eqb p q (pointwise nat_eq p q) refl
+
+both_true : (a b : Bool) → (a && b) ≡ true → (a ≡ true) × (b ≡ true)
+both_true true b e = (refl, e)
+both_true false b e = cc
+
+key_is : (step : ℕ) (p : Path) (l : Line) → is_line_of step p l ≡ true → (l.step ≡ step) × (l.path ≡ p)
+key_is step p l e =
+    let both = both_true _ _ e in
+    ((Decides-eqb l.step step).0 both.0, (one_path l.path p).0 both.1)
+
+own_key : (l : Line) → is_line_of l.step l.path l ≡ true
+own_key l = ap (λ b. b && pointwise nat_eq l.path l.path) ((Decides-eqb l.step l.step).1 refl) ∙ (one_path l.path l.path).1 refl
+
+-- two lines have different steps or different paths
+abbrev AreUnlike : Line → Line → Type 0
+AreUnlike l m = ¬ ((l.step ≡ m.step) × (l.path ≡ m.path))
+
+other_key : (l m : Line) → AreUnlike l m → is_line_of m.step m.path l ≡ false
+other_key l m apart = false_from_ne_true (is_line_of m.step m.path l) (λ one. apart (key_is m.step m.path l one))
+
+other_key_behind : (l m : Line) → AreUnlike l m → have_one_key l m ≡ false
+other_key_behind l m apart =
+    false_from_ne_true (have_one_key l m) (λ one. let same = key_is l.step l.path m one in apart (sym same.0, sym same.1))
+
+abbrev AllUnlike : List Line → Type 0
+AllUnlike [] = Unit {0}
+AllUnlike (l ∷ ls) = Each (AreUnlike l) ls × AllUnlike ls
+
+by_recursion : (P : Line → Type 0) (ls : List Line) → Each P ls → AllByRecursion P ls
+by_recursion P [] h = tt
+by_recursion P (l ∷ ls) h = (h.0, by_recursion P ls h.1)
+
+distinct : (ls : List Line) → AllUnlike ls → IsDistinct have_one_key ls
+unfolding IsDistinct
+distinct [] h = tt
+distinct (l ∷ ls) h =
+    IsDistinct-cons have_one_key l ls
+    (by_recursion (λ m. have_one_key l m ≡ false) ls (each_weaker (AreUnlike l) (λ m. have_one_key l m ≡ false) (other_key_behind l) ls h.0))
+    (distinct ls h.1)
+
+unlike_both : (ls ms : List Line) → AllUnlike ls → AllUnlike ms → Each (λ l. Each (AreUnlike l) ms) ls → AllUnlike (ls ++ ms)
+unlike_both [] ms h g apart = g
+unlike_both (l ∷ ls) ms h g apart = (each_append (AreUnlike l) ls ms h.0 apart.0, unlike_both ls ms h.1 g apart.1)
+
+-- ---- each line is picked
+
+abbrev IsSaid : List Line → Line → Type 0
+IsSaid lines l = exact_choice lines l.step l.path ≡ Some l.choice
+
+abbrev IsPicked : Script → Line → Type 0
+IsPicked script l = pick script l.step l.path ≡ l.choice
+
+said_later : (l : Line) (ls ms : List Line) → Each (AreUnlike l) ms → Each (IsSaid ls) ms → Each (IsSaid (l ∷ ls)) ms
+said_later l ls [] apart h = tt
+said_later l ls (m ∷ ms) apart h = (
+  ap (λ b. cond b (Some l.choice) (exact_choice ls m.step m.path)) (other_key l m apart.0) ∙ h.0,
+  said_later l ls ms apart.1 h.1,
+)
+
+all_said : (ls : List Line) → AllUnlike ls → Each (IsSaid ls) ls
+all_said [] h = tt
+all_said (l ∷ ls) h = (
+  ap (λ b. cond b (Some l.choice) (exact_choice ls l.step l.path)) (own_key l),
+  said_later l ls ls h.0 (all_said ls h.1),
+)
+
+all_picked : (ls : List Line) → AllUnlike ls → Each (IsPicked (exactly ls)) ls
+all_picked ls h = each_weaker (IsSaid ls) (IsPicked (exactly ls)) (λ l said. ap (λ o. unwrap_or (option_or o None) 0) said) ls (all_said ls h)
+
+-- ---- the lines of steps
+
+for_step : (step : ℕ) (cs : List Choice) → Each (λ l. l.step ≡ step) (lines_for step cs)
+for_step step [] = tt
+for_step step (c ∷ cs) = (refl, for_step step cs)
+
+for_others : (step : ℕ) (c : Choice) (cs : List Choice) → Each (λ d. c.path ≢ d.path) cs
+    → Each (AreUnlike (record { step = step; path = c.path; choice = c.number })) (lines_for step cs)
+for_others step c [] h = tt
+for_others step c (d ∷ cs) h = (λ same. h.0 same.1, for_others step c cs h.1)
+
+for_apart : (step : ℕ) (cs : List Choice) → AreApart cs → AllUnlike (lines_for step cs)
+for_apart step [] h = tt
+for_apart step (c ∷ cs) h = (for_others step c cs h.0, for_apart step cs h.1)
+
+for_taken : (script : Script) (step : ℕ) (cs : List Choice) → Each (IsPicked script) (lines_for step cs) → AreTaken (record { script = script; step = step }) cs
+for_taken script step [] h = tt
+for_taken script step (c ∷ cs) h = (h.0, for_taken script step cs h.1)
+
+-- those of a step behind those of earlier ones
+steps_apart : (d : ℕ) (ls ms : List Line) → Each (λ l. l.step ≤ d) ls → Each (λ m. m.step ≡ suc d) ms → Each (λ l. Each (AreUnlike l) ms) ls
+steps_apart d ls ms h g =
+    each_weaker (λ l. l.step ≤ d) (λ l. Each (AreUnlike l) ms)
+    (λ l low. each_weaker (λ m. m.step ≡ suc d) (AreUnlike l) (λ m is same. let one = same.0 in omega (arith, low, is, one)) ms g) ls h
+
+to_low : (nodes : List Node) (d : ℕ) (o : Option Node) → Each (λ l. l.step ≤ d) (lines_to nodes d o)
+to_low nodes zero o = tt
+to_low nodes (suc d) None = tt
+to_low nodes (suc d) (Some n) =
+    let before = lines_to nodes d (slice_get nodes n.from) in
+    let own = lines_for (suc d) n.choices.items in
+    each_append (λ l. l.step ≤ suc d) before own
+    (each_weaker (λ l. l.step ≤ d) (λ l. l.step ≤ suc d) (λ l low. omega (arith, low)) before (to_low nodes d (slice_get nodes n.from)))
+    (each_weaker (λ l. l.step ≡ suc d) (λ l. l.step ≤ suc d) (λ l is. omega (arith, is)) own (for_step (suc d) n.choices.items))
+
+to_apart : (nodes : List Node) (d : ℕ) (o : Option Node) → ((n : Node) → o ≡ Some n → AreApartTo nodes d n) → AllUnlike (lines_to nodes d o)
+to_apart nodes zero o h = tt
+to_apart nodes (suc d) None h = tt
+to_apart nodes (suc d) (Some n) h =
+    let before = lines_to nodes d (slice_get nodes n.from) in
+    let own = lines_for (suc d) n.choices.items in
+    let apart = h n refl in
+    unlike_both before own (to_apart nodes d (slice_get nodes n.from) apart.1) (for_apart (suc d) n.choices.items apart.0)
+    (steps_apart d before own (to_low nodes d (slice_get nodes n.from)) (for_step (suc d) n.choices.items))
+
+to_taken : (nodes : List Node) (script : Script) (d : ℕ) (o : Option Node) → Each (IsPicked script) (lines_to nodes d o) → (n : Node) → o ≡ Some n → TakesTo nodes script d n
+to_taken nodes script zero o h n is = tt
+to_taken nodes script (suc d) None h n is = cc
+to_taken nodes script (suc d) (Some m) h n is =
+    let before = lines_to nodes d (slice_get nodes m.from) in
+    let own = lines_for (suc d) m.choices.items in
+    subst (TakesTo nodes script (suc d)) (some_same m n is) (
+      for_taken script (suc d) m.choices.items (each_last (IsPicked script) before own h),
+      to_taken nodes script d (slice_get nodes m.from) (each_first (IsPicked script) before own h),
+    )
+
+-- ---- the whole script
+
+module _ (nodes : List Node) (n : Node) (bad : Bad) where
+  all_unlike : AreApartWith nodes n bad → AllUnlike (lines_with nodes n bad)
+  all_unlike apart =
+      let before = lines_to nodes n.depth (Some n) in
+      let own = lines_for (suc n.depth) bad.choices.items in
+      unlike_both before own
+      (to_apart nodes n.depth (Some n) (λ m is. subst (AreApartTo nodes n.depth) (some_same n m is) apart.0)) (for_apart (suc n.depth) bad.choices.items apart.1)
+      (steps_apart n.depth before own (to_low nodes n.depth (Some n)) (for_step (suc n.depth) bad.choices.items))
+
+  pub with_apart : AreApartWith nodes n bad → IsUnrepeated (exactly (lines_with nodes n bad))
+  unfolding IsDistinct
+  with_apart apart = (distinct (lines_with nodes n bad) (all_unlike apart), tt)
+
+-- ---- the lines of first candidates left out
+
+-- no line has the key of one that stands before it
+not_said : (l : Line) (ls : List Line) → AllByRecursion (λ m. have_one_key l m ≡ false) ls → exact_choice ls l.step l.path ≡ None
+not_said l [] h = refl
+not_said l (m ∷ ls) h = ap (λ b. cond b (Some m.choice) (exact_choice ls l.step l.path)) h.0 ∙ not_said l ls h.1
+
+pick_first : (l : Line) (ls : List Line) (step : ℕ) (p : Path) (b : Bool) → is_line_of step p l ≡ b
+    → pick (exactly (l ∷ ls)) step p ≡ unwrap_or (option_or (cond b (Some l.choice) (exact_choice ls step p)) None) 0
+pick_first l ls step p b is = ap (λ b. unwrap_or (option_or (cond b (Some l.choice) (exact_choice ls step p)) None) 0) is
+
+pick_none : (l : Line) (ls : List Line) (step : ℕ) (p : Path) → AllByRecursion (λ m. have_one_key l m ≡ false) ls → is_line_of step p l ≡ true → pick (exactly ls) step p ≡ 0
+pick_none l ls step p h one =
+    let same = key_is step p l one in
+    ap (λ o. unwrap_or (option_or o None) 0) ((λ i. exact_choice ls (sym same.0 i) (sym same.1 i)) ∙ not_said l ls h)
+
+pick_without : (l : Line) (ls : List Line) (step : ℕ) (p : Path) → AllByRecursion (λ m. have_one_key l m ≡ false) ls → l.choice ≡ 0
+    → (b : Bool) → is_line_of step p l ≡ b → pick (exactly ls) step p ≡ pick (exactly (l ∷ ls)) step p
+pick_without l ls step p h none true is = pick_none l ls step p h is ∙ sym none ∙ sym (pick_first l ls step p true is)
+pick_without l ls step p h none false is = sym (pick_first l ls step p false is)
+
+pick_with : (k : ℕ) (ls ms : List Line) (step : ℕ) (p : Path) → pick (exactly ls) step p ≡ pick (exactly ms) step p → (b : Bool)
+    → unwrap_or (option_or (cond b (Some k) (exact_choice ls step p)) None) 0 ≡ unwrap_or (option_or (cond b (Some k) (exact_choice ms step p)) None) 0
+pick_with k ls ms step p same true = refl
+pick_with k ls ms step p same false = same
+
+pub needed_alike : (ls : List Line) → IsDistinct have_one_key ls → (step : ℕ) (p : Path) → pick (exactly (needed ls)) step p ≡ pick (exactly ls) step p
+needed_alike [] h step p = refl
+needed_alike (l ∷ ls) h step p =
+    let rest = needed_alike ls (IsDistinct-tail have_one_key l ls h) step p in
+    elim (nat_eq l.choice 0) as (λ b. nat_eq l.choice 0 ≡ b
+    → pick (exactly (cond (not b) (l ∷ needed ls) (needed ls))) step p ≡ pick (exactly (l ∷ ls)) step p) [
+      | true ↦ λ first. rest ∙ pick_without l ls step p (IsDistinct-head have_one_key l ls h) ((Decides-eqb l.choice 0).0 first) (is_line_of step p l) refl
+      | false ↦ λ other. pick_with l.choice (needed ls) ls step p rest (is_line_of step p l)
+    ] refl
+
+-- ---- all choices are made
+
+module _ (nodes : List Node) (n : Node) (bad : Bad) where
+  taken_by : (script : Script) → Each (IsPicked script) (lines_with nodes n bad) → TakesBad nodes script n bad
+  taken_by script picked =
+      let before = lines_to nodes n.depth (Some n) in
+      let own = lines_for (suc n.depth) bad.choices.items in (
+        to_taken nodes script n.depth (Some n) (each_first (IsPicked script) before own picked) n refl,
+        for_taken script (suc n.depth) bad.choices.items (each_last (IsPicked script) before own picked),
+      )
+
+  pub takes_with : AreApartWith nodes n bad → TakesBad nodes (exactly (lines_with nodes n bad)) n bad
+  takes_with apart = taken_by (exactly (lines_with nodes n bad)) (all_picked (lines_with nodes n bad) (all_unlike nodes n bad apart))
+
+  pub takes_needed : AreApartWith nodes n bad → TakesBad nodes (exactly (needed (lines_with nodes n bad))) n bad
+  takes_needed apart =
+      let lines = lines_with nodes n bad in
+      let unlike = all_unlike nodes n bad apart in
+      taken_by (exactly (needed lines))
+      (each_weaker (IsPicked (exactly lines)) (IsPicked (exactly (needed lines))) (λ l picked. needed_alike lines (distinct lines unlike) l.step l.path ∙ picked) lines (all_picked lines unlike))
