@@ -1,77 +1,46 @@
--- Lines that are collected from the last to the first.
---     collected_none, collected_more      those for the last choices of a step
---     back_more, none_to                  those of the last steps that lead to a node, turned round
---     said_reversed                       what lines say that are turned round
---     steps_with                          they are for steps that count from 1
-use Rattle.std.proofs.Common.{◌≡◌, ℕ, zero, suc, ◌+◌, ◌-◌, ◌<◌, ◌≤◌, List, [], ◌∷◌, ◌++◌, length, drop, get_or, reverse, Option, Some, None, refl, sym, ap, ◌∙◌, arith}
-use Rattle.std.specs.Prelude.{slice_get}
-use Rattle.std.proofs.lemmas.List.{append_assoc, drop_all, drop_more, map-append, reverse-append, reverse-reverse}
+-- Lines for the choices of steps, of which the last stands first.
+--     for_none, for_more      those for the first choices of a step
+--     of_none, of_more        those for the first steps
+use Rattle.std.proofs.Common.{◌≡◌, ℕ, zero, suc, ◌+◌, ◌-◌, ◌<◌, ◌≤◌, List, [], ◌∷◌, ◌++◌, length, take, drop, map, get_or, refl, sym, ap, ◌∙◌, arith, Vec, Global}
+use Rattle.std.proofs.lemmas.List.{drop_all, drop_more, length-drop, length-map, take_more}
 use Rattle.asm_reader.specs.ScriptLines.{Line}
 use Rattle.asm_explore.specs.declared.found.Choice.{Choice}
-use Rattle.asm_explore.specs.declared.node.Node.{Node}
-use Rattle.asm_explore.specs.declared.script_line.ScriptLine.{ScriptLine}
-use Rattle.asm_explore.specs.declared.explored.Bad.{Bad}
-use Rattle.asm_explore.specs.ScriptTo.{lines_for, lines_to, lines_with}
-use Rattle.asm_explore.specs.Written.{AreSteps, line_said, lines_said}
-use Rattle.asm_explore.proofs.ListLemmas.{each_append}
+use Rattle.asm_explore.specs.ScriptTo.{lines_for, lines_of}
 
-module _ (step : ℕ) (choices : List Choice) where
-  abbrev pub collected : ℕ → List Line
-  collected k = reverse (lines_for step (drop (length choices - k) choices))
+lines_both : (step : ℕ) (cs ds : List Choice) → lines_for step (cs ++ ds) ≡ lines_for step cs ++ lines_for step ds
+lines_both step [] ds = refl
+lines_both step (c ∷ cs) ds = ap (λ ls. record { step = step; path = c.path; choice = c.number } ∷ ls) (lines_both step cs ds)
 
-  pub collected_none : collected 0 ≡ []
-  collected_none = ap (λ cs. reverse (lines_for step cs)) (drop_all (length choices - 0) choices (omega arith))
+pub for_more : (step : ℕ) (choices : List Choice) (k : ℕ) (c : Choice) → k < length choices → c ≡ get_or choices k c
+    → lines_for step (take k choices) ++ record { step = step; path = c.path; choice = c.number } ∷ [] ≡ lines_for step (take (k + 1) choices)
+for_more step choices k c low is =
+    sym (ap (lines_for step) (take_more choices k c low ∙ ap (λ d. take k choices ++ d ∷ []) (sym is)) ∙ lines_both step (take k choices) (c ∷ []))
 
-  pub collected_all : (k : ℕ) → length choices ≤ k → collected k ≡ reverse (lines_for step choices)
-  collected_all k past =
-      let none : length choices - k ≡ 0 = omega arith in
-      ap (λ n. reverse (lines_for step (drop n choices))) none
+abbrev choices_in : List (Vec Choice Global) → List (List Choice)
+choices_in xs = map (λ (cs : Vec Choice Global). cs.items) xs
 
-  pub collected_more : (k : ℕ) (c : Choice) → k < length choices → c ≡ get_or choices (length choices - 1 - k) c
-      → collected k ++ record { step = step; path = c.path; choice = c.number } ∷ [] ≡ collected (k + 1)
-  collected_more k c low is =
-      let line : Line = record { step = step; path = c.path; choice = c.number } in
-      let m = length choices - (k + 1) in
-      let place : length choices - 1 - k ≡ length choices - (k + 1) = omega arith in
-      let after : length choices - (k + 1) + 1 ≡ length choices - k = omega arith in
-      let within : length choices - (k + 1) < length choices = omega arith in
-      let split : drop m choices ≡ c ∷ drop (length choices - k) choices =
-      drop_more choices m c within ∙ (ap (λ it. it ∷ drop (m + 1) choices) (sym (is ∙ ap (λ n. get_or choices n c) place)) ∙ ap (λ n. c ∷ drop n choices) after) in
-      sym (ap (λ cs. reverse (lines_for step cs)) split ∙ reverse-append (line ∷ []) (lines_for step (drop (length choices - k) choices)))
+-- of the first steps, so many
+abbrev pub collected : List (Vec Choice Global) → ℕ → List Line
+collected back k = lines_of (choices_in (drop (length back - k) back))
 
-module _ (nodes : List Node) where
-  -- the steps that lead to a node, with lines that are collected already
-  pub back_more : (d : ℕ) (n : Node) (old new : List Line) → new ≡ old ++ reverse (lines_for (suc d) n.choices.items)
-      → lines_to nodes d (slice_get nodes n.from) ++ reverse new ≡ lines_to nodes (suc d) (Some n) ++ reverse old
-  back_more d n old new is =
-      let here = lines_for (suc d) n.choices.items in
-      let before = lines_to nodes d (slice_get nodes n.from) in
-      let turned : reverse new ≡ here ++ reverse old =
-      ap reverse is ∙ (reverse-append old (reverse here) ∙ ap (λ it. it ++ reverse old) (reverse-reverse here)) in
-      ap (λ it. before ++ it) turned ∙ sym (append_assoc before here (reverse old))
+pub of_none : (back : List (Vec Choice Global)) → collected back 0 ≡ []
+of_none back = ap (λ xs. lines_of (choices_in xs)) (drop_all (length back - 0) back (omega arith))
 
-  pub none_to : (d : ℕ) → lines_to nodes d None ≡ []
-  none_to zero = refl
-  none_to (suc d) = refl
+pub of_all : (back : List (Vec Choice Global)) (k : ℕ) → length back ≤ k → collected back k ≡ lines_of (choices_in back)
+of_all back k past =
+    let none : length back - k ≡ 0 = omega arith in
+    ap (λ n. lines_of (choices_in (drop n back))) none
 
-  steps_for : (step : ℕ) (choices : List Choice) → 1 ≤ step → AreSteps (lines_for step choices)
-  steps_for step [] h = tt
-  steps_for step (c ∷ cs) h = (h, steps_for step cs h)
-
-  steps_to : (d : ℕ) (o : Option Node) → AreSteps (lines_to nodes d o)
-  steps_to zero o = tt
-  steps_to (suc d) None = tt
-  steps_to (suc d) (Some n) =
-      each_append (λ line. 1 ≤ line.step) (lines_to nodes d (slice_get nodes n.from)) (lines_for (suc d) n.choices.items) (steps_to d (slice_get nodes n.from))
-      (steps_for (suc d) n.choices.items (omega arith))
-
-  pub steps_with : (n : Node) (bad : Bad) → AreSteps (lines_with nodes n bad)
-  steps_with n bad =
-      each_append (λ line. 1 ≤ line.step) (lines_to nodes n.depth (Some n)) (lines_for (suc n.depth) bad.choices.items) (steps_to n.depth (Some n))
-      (steps_for (suc n.depth) bad.choices.items (omega arith))
-
-pub said_reversed : (lines : List ScriptLine) → lines_said (reverse lines) ≡ reverse (lines_said lines)
-said_reversed [] = refl
-said_reversed (line ∷ lines) =
-    ap lines_said (reverse-append (line ∷ []) lines) ∙ (map-append line_said (reverse lines) (line ∷ [])
-    ∙ (ap (λ it. it ++ line_said line ∷ []) (said_reversed lines) ∙ sym (reverse-append (line_said line ∷ []) (lines_said lines))))
+pub of_more : (back : List (Vec Choice Global)) (k : ℕ) (cs : Vec Choice Global) → k < length back → cs ≡ get_or back (length back - 1 - k) cs
+    → collected back k ++ lines_for (k + 1) cs.items ≡ collected back (k + 1)
+of_more back k cs low is =
+    let m = length back - (k + 1) in
+    let place : length back - 1 - k ≡ length back - (k + 1) = omega arith in
+    let after : length back - (k + 1) + 1 ≡ length back - k = omega arith in
+    let within : length back - (k + 1) < length back = omega arith in
+    let split : drop m back ≡ cs ∷ drop (length back - k) back =
+    drop_more back m cs within ∙ (ap (λ it. it ∷ drop (m + 1) back) (sym (is ∙ ap (λ n. get_or back n cs) place)) ∙ ap (λ n. cs ∷ drop n back) after) in
+    let rest = drop (length back - k) back in
+    let count : k + 1 ≡ suc (length (choices_in rest)) =
+    omega (arith, length-map rest (λ (cs : Vec Choice Global). cs.items), length-drop (length back - k) back, low) in
+    ap (λ n. lines_of (choices_in rest) ++ lines_for n cs.items) count ∙ sym (ap (λ xs. lines_of (choices_in xs)) split)

@@ -1,8 +1,7 @@
--- Runs along the nodes that lead to one.
+-- Runs along choices that lead to a state.
 --     comes_on        a run that comes to a state goes on from there
 --     bad_runs        each script that makes the choices of the steps that lead to a bad step has a run that goes wrong there
-use Rattle.std.proofs.Common.{◌≡◌, ℕ, zero, suc, ◌+◌, Bool, true, false, cond, List, [], ◌∷◌, inl, inr, refl, sym, ap, subst, ◌∙◌, arith}
-use Rattle.std.specs.Prelude.{slice_get, Option, Some}
+use Rattle.std.proofs.Common.{◌≡◌, ℕ, zero, suc, ◌+◌, Bool, true, false, cond, List, [], ◌∷◌, length, refl, sym, ap, subst, ◌∙◌, arith}
 use Rattle.asm_state.specs.Location.{State}
 use Rattle.asm_state.specs.Signature.{Shape}
 use Rattle.asm_state.specs.Updates.{UpdateSet, IsConsistent, is_consistent, fire}
@@ -15,9 +14,10 @@ use Rattle.asm_meaning.specs.Yields.{Path, Result, Gives, Exhausted}
 use Rattle.asm_explore.specs.declared.explored.Bad.{Bad}
 use Rattle.asm_explore.specs.declared.fault.Fault.{Fault}
 use Rattle.asm_explore.specs.declared.fault.Fault.TheVariants as fault
-use Rattle.asm_explore.specs.declared.node.Node.{Node}
-use Rattle.asm_explore.specs.Lists.{Situation, Each}
-use Rattle.asm_explore.specs.Reached.{steps_from, state_at, GoesWrong, TakesTo, AreApartTo, GoesWrongSo, IsLinked, IsBad}
+use Rattle.asm_explore.specs.declared.found.Choice.{Choice}
+use Rattle.asm_explore.specs.Kept.{Node}
+use Rattle.asm_explore.specs.Lists.{Situation}
+use Rattle.asm_explore.specs.Reached.{steps_from, state_at, GoesWrong, LeadTo, MakesAll, GoesWrongSo, IsBad}
 use Rattle.asm_explore.specs.Search.{LeadsOn, EndsSo}
 
 record Same (r q : Run) : Type 0 where
@@ -32,11 +32,6 @@ ends_same right fault.Wrong step r q same h = (same.end ∙ h.0, ap right same.l
 inconsistent : (U : UpdateSet) → ¬ (IsConsistent U) → (b : Bool) → is_consistent U ≡ b → is_consistent U ≡ false
 inconsistent U faulty true is = absurd (faulty ((test_laws.consistency U).0 is))
 inconsistent U faulty false is = is
-
-each_there : {X : Type 0} (P : X → Type 0) (xs : List X) (i : ℕ) (x : X) → Each P xs → slice_get xs i ≡ Some x → P x
-each_there P [] i x h there = cc
-each_there P (y ∷ ys) zero x h there = subst P (cc) h.0
-each_there P (y ∷ ys) (suc i) x h there = each_there P ys i x h.1 there
 
 module _ (specification : Specification) (turns : ℕ) (right : State → Bool) (script : Script) where
   abbrev runs : ℕ → ℕ → State → Run
@@ -105,49 +100,24 @@ module _ (specification : Specification) (turns : ℕ) (right : State → Bool) 
       step_same o.result o.instances i A leads.set (λ U. runs 0 (suc i) (fire A U)) (ended AtLimit (fire A leads.set)) leads.gives leads.consistent (record { end = refl; last = refl }) in
       (same.end, ap right same.last ∙ leads.leads)
 
-  module _ (shape : Shape) (nodes : List Node) (linked : Each (IsLinked shape specification turns nodes) nodes) where
-    chain_comes : (d : ℕ) (n : Node) → IsLinked shape specification turns nodes n → n.depth ≡ d → TakesTo nodes script d n → ComesTo d (state_at shape n)
-    chain_comes zero n (inl first) deep takes = first.1
-    chain_comes zero n (inr comes) deep takes = absurd (omega (arith, deep, comes.deeper))
-    chain_comes (suc d) n (inl first) deep takes = absurd (omega (arith, deep, first.0))
-    chain_comes (suc d) n (inr comes) deep takes = (
-      state_at shape comes.earlier,
-      chain_comes d comes.earlier (each_there (IsLinked shape specification turns nodes) nodes n.from comes.earlier linked comes.there) (omega (arith, deep, comes.deeper))
-          (takes.1 comes.earlier comes.there),
-      comes.leads (step_at (suc d)) takes.0,
-    )
-
--- the choices of each step along the way have paths of their own
-chain_apart : (shape : Shape) (specification : Specification) (turns : ℕ) (nodes : List Node) → Each (IsLinked shape specification turns nodes) nodes
-    → (d : ℕ) (n : Node) → IsLinked shape specification turns nodes n → n.depth ≡ d → AreApartTo nodes d n
-chain_apart shape specification turns nodes linked zero n link deep = tt
-chain_apart shape specification turns nodes linked (suc d) n (inl first) deep = absurd (omega (arith, deep, first.0))
-chain_apart shape specification turns nodes linked (suc d) n (inr comes) deep = (
-  comes.apart,
-  λ m there.
-      let deeper : comes.earlier.depth ≡ d = omega (arith, deep, comes.deeper) in
-      chain_apart shape specification turns nodes linked d m (each_there (IsLinked shape specification turns nodes) nodes n.from m linked there)
-      (ap (λ (k : Node). k.depth) (same_node m comes.earlier (slice_get nodes n.from) there comes.there) ∙ deeper),
-)
-  where
-    same_node : (m k : Node) (o : Option Node) → o ≡ Some m → o ≡ Some k → m ≡ k
-    same_node m k o is there = cc
+  -- along the choices that lead to a state
+  trail_comes : (back : List (List Choice)) (B : State) → LeadTo specification turns B back → MakesAll script back → ComesTo (length back) B
+  trail_comes [] B is makes = is
+  trail_comes (cs ∷ back) B leads makes = (leads.0, trail_comes back leads.0 leads.1 makes.1, leads.2.leads (step_at (suc (length back))) makes.0)
 
 pub bad_runs : (specification : Specification) (turns : ℕ) (right : State → Bool) (shape : Shape) (nodes : List Node) (bad : Bad)
-    → Each (IsLinked shape specification turns nodes) nodes → IsBad shape specification turns right nodes bad → GoesWrongSo specification turns right nodes bad
-bad_runs specification turns right shape nodes bad linked is = record {
+    → IsBad shape specification turns right nodes bad → GoesWrongSo specification turns right shape nodes bad
+bad_runs specification turns right shape nodes bad is = record {
   from = is.from;
   there = is.there;
-  apart = (
-    chain_apart shape specification turns nodes linked is.from.depth is.from (each_there (IsLinked shape specification turns nodes) nodes bad.from is.from linked is.there) refl,
-    is.apart,
-  );
-  wrong = λ script takes.
-      let n = is.from in
-      let comes = chain_comes specification turns right script shape nodes linked n.depth n (each_there (IsLinked shape specification turns nodes) nodes bad.from n linked is.there) refl takes.0 in
-      let same = comes_on specification turns right script n.depth 1 (state_at shape n) comes in
-      let count : suc n.depth ≡ n.depth + 1 = omega arith in
-      let here = goes_wrong specification turns right script bad.fault (suc n.depth) (state_at shape n) (is.wrong (record { script = script; step = suc n.depth }) takes.1) in
-      subst (λ k. EndsSo right bad.fault (suc n.depth) (run specification turns script k)) (sym count)
-      (ends_same right bad.fault (suc n.depth) (run specification turns script (n.depth + 1)) (run_from specification.program turns specification.main script 1 (suc n.depth) (state_at shape n)) same here);
+  apart = is.apart;
+  wrong = λ back leads script makes.
+      let d = length back in
+      let A = state_at shape is.from in
+      let comes = trail_comes specification turns right script back A leads makes.1 in
+      let same = comes_on specification turns right script d 1 A comes in
+      let count : suc d ≡ d + 1 = omega arith in
+      let here = goes_wrong specification turns right script bad.fault (suc d) A (is.wrong (record { script = script; step = suc d }) makes.0) in
+      subst (λ k. EndsSo right bad.fault (suc d) (run specification turns script k)) (sym count)
+      (ends_same right bad.fault (suc d) (run specification turns script (d + 1)) (run_from specification.program turns specification.main script 1 (suc d) A) same here);
 }

@@ -1,13 +1,14 @@
 -- The script with a line for each choice of some steps.
---     with_apart         no two of its lines have one step and one path
---     needed_alike       the lines that are needed pick what all of them do
---     takes_with         the script makes all choices
---     takes_needed       so do the lines that are needed
-use Rattle.std.proofs.Common.{◌≡◌, ◌≢◌, ◌≤◌, ℕ, zero, suc, Bool, true, false, not, cond, ◌&&◌, List, [], ◌∷◌, ◌++◌, Option, Some, None, refl, sym, ap, subst, ◌∙◌, arith}
-use Rattle.std.specs.Prelude.{slice_get}
+--     lines_apart        no two of its lines have one step and one path
+--     lines_make         it makes all choices
+--     some_script        some script makes the choices of a step
+--     needed_alike       what is picked by it is picked where the lines of first candidates are left out
+--     needed_make        so that those make all choices too
+--     lines_counted      steps count from 1
+use Rattle.std.proofs.Common.{◌≡◌, ◌≢◌, ◌≤◌, ℕ, zero, suc, Bool, true, false, not, cond, ◌&&◌, List, [], ◌∷◌, ◌++◌, length, Some, None, refl, sym, ap, subst, ◌∙◌, arith}
 use Rattle.std.specs.Bool.{Decides, nat_eq}
 use Rattle.std.specs.Cmp.Lexicographic.{pointwise}
-use Rattle.std.specs.List.{AllByRecursion, IsDistinct}
+use Rattle.std.specs.List.{filter, AllByRecursion, IsDistinct}
 use Rattle.std.specs.Option.{option_or, unwrap_or}
 use Rattle.std.proofs.lemmas.Bool.Decides.{Decides-eqb}
 use Rattle.std.proofs.lemmas.Bool.{false_from_ne_true}
@@ -17,16 +18,13 @@ use Rattle.asm_reader.specs.ExactLines.{exactly}
 use Rattle.asm_reader.specs.ScriptLines.{Line, Script, exact_choice, is_line_of, pick}
 use Rattle.asm_meaning.specs.Scripts.{have_one_key, IsUnrepeated}
 use Rattle.asm_meaning.specs.Yields.{Path}
-use Rattle.asm_explore.specs.declared.explored.Bad.{Bad}
 use Rattle.asm_explore.specs.declared.found.Choice.{Choice}
-use Rattle.asm_explore.specs.declared.node.Node.{Node}
 use Rattle.asm_explore.specs.Elements.{Each}
 use Rattle.asm_explore.specs.Lists.{AreTaken}
 use Rattle.asm_explore.specs.Placed.{AreApart}
-use Rattle.asm_explore.specs.Reached.{TakesTo, TakesBad, AreApartTo, AreApartWith}
-use Rattle.asm_explore.specs.ScriptTo.{lines_for, lines_to, lines_with, needed}
+use Rattle.asm_explore.specs.Reached.{MakesAll}
+use Rattle.asm_explore.specs.ScriptTo.{lines_for, lines_of, needed}
 use Rattle.asm_explore.proofs.Elements.{each_append, each_first, each_last, each_weaker}
-use Rattle.asm_explore.proofs.Taken.{some_same}
 
 -- ---- keys
 
@@ -126,51 +124,43 @@ steps_apart d ls ms h g =
     each_weaker (λ l. l.step ≤ d) (λ l. Each (AreUnlike l) ms)
     (λ l low. each_weaker (λ m. m.step ≡ suc d) (AreUnlike l) (λ m is same. let one = same.0 in omega (arith, low, is, one)) ms g) ls h
 
-to_low : (nodes : List Node) (d : ℕ) (o : Option Node) → Each (λ l. l.step ≤ d) (lines_to nodes d o)
-to_low nodes zero o = tt
-to_low nodes (suc d) None = tt
-to_low nodes (suc d) (Some n) =
-    let before = lines_to nodes d (slice_get nodes n.from) in
-    let own = lines_for (suc d) n.choices.items in
-    each_append (λ l. l.step ≤ suc d) before own
-    (each_weaker (λ l. l.step ≤ d) (λ l. l.step ≤ suc d) (λ l low. omega (arith, low)) before (to_low nodes d (slice_get nodes n.from)))
-    (each_weaker (λ l. l.step ≡ suc d) (λ l. l.step ≤ suc d) (λ l is. omega (arith, is)) own (for_step (suc d) n.choices.items))
+lines_low : (back : List (List Choice)) → Each (λ l. l.step ≤ length back) (lines_of back)
+lines_low [] = tt
+lines_low (cs ∷ back) =
+    let own = lines_for (suc (length back)) cs in
+    each_append (λ l. l.step ≤ suc (length back)) (lines_of back) own
+    (each_weaker (λ l. l.step ≤ length back) (λ l. l.step ≤ suc (length back)) (λ l low. omega (arith, low)) (lines_of back) (lines_low back))
+    (each_weaker (λ l. l.step ≡ suc (length back)) (λ l. l.step ≤ suc (length back)) (λ l is. omega (arith, is)) own (for_step (suc (length back)) cs))
 
-to_apart : (nodes : List Node) (d : ℕ) (o : Option Node) → ((n : Node) → o ≡ Some n → AreApartTo nodes d n) → AllUnlike (lines_to nodes d o)
-to_apart nodes zero o h = tt
-to_apart nodes (suc d) None h = tt
-to_apart nodes (suc d) (Some n) h =
-    let before = lines_to nodes d (slice_get nodes n.from) in
-    let own = lines_for (suc d) n.choices.items in
-    let apart = h n refl in
-    unlike_both before own (to_apart nodes d (slice_get nodes n.from) apart.1) (for_apart (suc d) n.choices.items apart.0)
-    (steps_apart d before own (to_low nodes d (slice_get nodes n.from)) (for_step (suc d) n.choices.items))
+all_unlike : (back : List (List Choice)) → Each AreApart back → AllUnlike (lines_of back)
+all_unlike [] apart = tt
+all_unlike (cs ∷ back) apart =
+    let own = lines_for (suc (length back)) cs in
+    unlike_both (lines_of back) own (all_unlike back apart.1) (for_apart (suc (length back)) cs apart.0)
+    (steps_apart (length back) (lines_of back) own (lines_low back) (for_step (suc (length back)) cs))
 
-to_taken : (nodes : List Node) (script : Script) (d : ℕ) (o : Option Node) → Each (IsPicked script) (lines_to nodes d o) → (n : Node) → o ≡ Some n → TakesTo nodes script d n
-to_taken nodes script zero o h n is = tt
-to_taken nodes script (suc d) None h n is = cc
-to_taken nodes script (suc d) (Some m) h n is =
-    let before = lines_to nodes d (slice_get nodes m.from) in
-    let own = lines_for (suc d) m.choices.items in
-    subst (TakesTo nodes script (suc d)) (some_same m n is) (
-      for_taken script (suc d) m.choices.items (each_last (IsPicked script) before own h),
-      to_taken nodes script d (slice_get nodes m.from) (each_first (IsPicked script) before own h),
+all_made : (script : Script) (back : List (List Choice)) → Each (IsPicked script) (lines_of back) → MakesAll script back
+all_made script [] h = tt
+all_made script (cs ∷ back) h =
+    let own = lines_for (suc (length back)) cs in (
+      for_taken script (suc (length back)) cs (each_last (IsPicked script) (lines_of back) own h),
+      all_made script back (each_first (IsPicked script) (lines_of back) own h),
     )
 
 -- ---- the whole script
 
-module _ (nodes : List Node) (n : Node) (bad : Bad) where
-  all_unlike : AreApartWith nodes n bad → AllUnlike (lines_with nodes n bad)
-  all_unlike apart =
-      let before = lines_to nodes n.depth (Some n) in
-      let own = lines_for (suc n.depth) bad.choices.items in
-      unlike_both before own
-      (to_apart nodes n.depth (Some n) (λ m is. subst (AreApartTo nodes n.depth) (some_same n m is) apart.0)) (for_apart (suc n.depth) bad.choices.items apart.1)
-      (steps_apart n.depth before own (to_low nodes n.depth (Some n)) (for_step (suc n.depth) bad.choices.items))
+pub lines_apart : (back : List (List Choice)) → Each AreApart back → IsUnrepeated (exactly (lines_of back))
+unfolding IsDistinct
+lines_apart back apart = (distinct (lines_of back) (all_unlike back apart), tt)
 
-  pub with_apart : AreApartWith nodes n bad → IsUnrepeated (exactly (lines_with nodes n bad))
-  unfolding IsDistinct
-  with_apart apart = (distinct (lines_with nodes n bad) (all_unlike apart), tt)
+pub lines_make : (back : List (List Choice)) → Each AreApart back → MakesAll (exactly (lines_of back)) back
+lines_make back apart = all_made (exactly (lines_of back)) back (all_picked (lines_of back) (all_unlike back apart))
+
+-- so that a script makes the choices of a step, in whatever step
+pub some_script : (step : ℕ) (cs : List Choice) → AreApart cs → (script : Script) × AreTaken (record { script = script; step = step }) cs
+some_script step cs apart =
+    let lines = lines_for step cs in
+    (exactly lines, for_taken (exactly lines) step cs (all_picked lines (for_apart step cs apart)))
 
 -- ---- the lines of first candidates left out
 
@@ -208,23 +198,20 @@ needed_alike (l ∷ ls) h step p =
       | false ↦ λ other. pick_with l.choice (needed ls) ls step p rest (is_line_of step p l)
     ] refl
 
--- ---- all choices are made
+-- ---- the lines that are needed make all choices too
 
-module _ (nodes : List Node) (n : Node) (bad : Bad) where
-  taken_by : (script : Script) → Each (IsPicked script) (lines_with nodes n bad) → TakesBad nodes script n bad
-  taken_by script picked =
-      let before = lines_to nodes n.depth (Some n) in
-      let own = lines_for (suc n.depth) bad.choices.items in (
-        to_taken nodes script n.depth (Some n) (each_first (IsPicked script) before own picked) n refl,
-        for_taken script (suc n.depth) bad.choices.items (each_last (IsPicked script) before own picked),
-      )
+pub needed_make : (back : List (List Choice)) → Each AreApart back → MakesAll (exactly (needed (lines_of back))) back
+needed_make back apart =
+    let lines = lines_of back in
+    let unlike = all_unlike back apart in
+    all_made (exactly (needed lines)) back
+    (each_weaker (IsPicked (exactly lines)) (IsPicked (exactly (needed lines))) (λ l picked. needed_alike lines (distinct lines unlike) l.step l.path ∙ picked) lines (all_picked lines unlike))
 
-  pub takes_with : AreApartWith nodes n bad → TakesBad nodes (exactly (lines_with nodes n bad)) n bad
-  takes_with apart = taken_by (exactly (lines_with nodes n bad)) (all_picked (lines_with nodes n bad) (all_unlike nodes n bad apart))
+pub for_counted : (step : ℕ) (cs : List Choice) → 1 ≤ step → Each (λ l. 1 ≤ l.step) (lines_for step cs)
+for_counted step cs some = each_weaker (λ l. l.step ≡ step) (λ l. 1 ≤ l.step) (λ l is. omega (arith, is, some)) (lines_for step cs) (for_step step cs)
 
-  pub takes_needed : AreApartWith nodes n bad → TakesBad nodes (exactly (needed (lines_with nodes n bad))) n bad
-  takes_needed apart =
-      let lines = lines_with nodes n bad in
-      let unlike = all_unlike nodes n bad apart in
-      taken_by (exactly (needed lines))
-      (each_weaker (IsPicked (exactly lines)) (IsPicked (exactly (needed lines))) (λ l picked. needed_alike lines (distinct lines unlike) l.step l.path ∙ picked) lines (all_picked lines unlike))
+-- steps count from 1
+pub lines_counted : (back : List (List Choice)) → Each (λ l. 1 ≤ l.step) (lines_of back)
+lines_counted [] = tt
+lines_counted (cs ∷ back) =
+    each_append (λ l. 1 ≤ l.step) (lines_of back) (lines_for (suc (length back)) cs) (lines_counted back) (for_counted (suc (length back)) cs (omega arith))

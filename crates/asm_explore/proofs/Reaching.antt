@@ -19,7 +19,7 @@ use Rattle.asm_meaning.specs.Yields.{Path, Result, Gives, Exhausted}
 use Rattle.asm_explore.specs.declared.found.Answer.TheVariants as answer
 use Rattle.asm_explore.specs.declared.found.Choice.{Choice}
 use Rattle.asm_explore.specs.declared.found.Found.{Found}
-use Rattle.asm_explore.specs.declared.node.Node.{Node}
+use Rattle.asm_explore.specs.Kept.{Node}
 use Rattle.asm_explore.specs.declared.updates.Updates.{Updates}
 use Rattle.asm_explore.specs.declared.fault.Fault.{Fault}
 use Rattle.asm_explore.specs.Lists.{Situation, Each, AnyOf, AreTaken, Shows, Shown}
@@ -61,7 +61,6 @@ linked_more shape specification turns old new more n is (inr comes) = inr (recor
   earlier = comes.earlier;
   there = subst (λ ns. slice_get ns n.from ≡ Some comes.earlier) (sym is) (slice_first old more n.from comes.earlier comes.there);
   deeper = comes.deeper;
-  apart = comes.apart;
   leads = comes.leads;
 })
 
@@ -153,17 +152,16 @@ module _ (shape : Shape) (specification : Specification) (turns : ℕ) (right : 
             omega (arith, one, other)
 
   -- a step's state, as a node
-  pub comes_from : (old : List Node) (from : ℕ) (choices : List Choice) (n : Node) → from < length old → n.from ≡ from → n.depth ≡ below → n.choices.items ≡ choices → AreApart choices
-      → LeadsTo shape specification turns old from below choices (state_at shape n) → IsLinked shape specification turns old n
-  comes_from old from choices n low at deep chosen apart leads =
+  pub comes_from : (old : List Node) (from : ℕ) (n : Node) → from < length old → n.from ≡ from → n.depth ≡ below
+      → LeadsTo shape specification turns old from below (state_at shape n) → IsLinked shape specification turns old n
+  comes_from old from n low at deep leads =
       let one = some_at old from low in
       let steps = leads one.0 one.1 in
       inr (record {
         earlier = one.0;
         there = ap (slice_get old) at ∙ one.1;
         deeper = deep ∙ steps.0;
-        apart = subst AreApart (sym chosen) apart;
-        leads = λ s taken. steps.1 s (subst (AreTaken s) chosen taken);
+        leads = steps.1;
       })
 
 -- a state that stands in a node, where none is too deep
@@ -179,7 +177,7 @@ pushed_known shape old new n below is low =
     subst (λ ns. Known shape ns below (state_at shape n)) (sym is) (any_last (λ m. (m.depth ≤ below) × (state_at shape m ≡ state_at shape n)) old (n ∷ []) (inl (low, refl)))
 
 pub whole_nodes : (shape : Shape) (right : State → Bool) (nodes : List Node) → Each (IsGood shape right) nodes → Each (λ n. length n.state ≡ count_of shape) nodes
-whole_nodes shape right = each_weaker (IsGood shape right) (λ n. length n.state ≡ count_of shape) (λ n good. good.whole)
+whole_nodes shape right = each_weaker (IsGood shape right) (λ n. length n.state ≡ count_of shape) (λ n good. good.kept.whole)
 
 -- ---- the outcomes of a step
 
@@ -197,6 +195,14 @@ set_leads shape set one A next r known is shows consistent fired here = by_resul
       consistent = consistent U stands;
       leads = subst known (fired U stands (consistent U stands)) here;
     }
+    by_result (Exhausted q) stands = absurd stands
+
+-- an answer that is a set stands for one
+pub set_stands : (shape : Shape) (set : Updates) (one : Found) (r : Result) → one.answer ≡ answer.Set set → Shows shape one.answer r → (U : UpdateSet) × Stands shape set.set U
+set_stands shape set one r is shows = by_result r (subst (λ a. Shows shape a r) is shows)
+  where
+    by_result : (r : Result) → Shows shape (answer.Set set) r → (U : UpdateSet) × Stands shape set.set U
+    by_result (Gives U) stands = (U, stands)
     by_result (Exhausted q) stands = absurd stands
 
 -- one that has a fault

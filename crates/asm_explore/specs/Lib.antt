@@ -1,3 +1,5 @@
+pub mod Bytes
+pub mod Kept
 pub mod Marks
 pub mod Elements
 pub mod Placed
@@ -7,9 +9,10 @@ pub mod Explored
 pub mod Crowds
 pub mod Sequences
 pub mod Search
-pub mod Reached
-pub mod ScriptTo
 pub mod Ends
+pub mod Reached
+pub mod Steps
+pub mod ScriptTo
 pub mod Answers
 pub mod Conditions
 pub mod ChoiceLaws

@@ -10,10 +10,12 @@
 --     Extends           nodes with more behind them, which have right states, are linked, and have one depth
 --     IsBadStep         a step that goes wrong
 --     IsLooked          what stays true while nodes are expanded
---     TakesTo, TakesBad a script makes the choices that lead to a node, and those of a bad step from it
---     AreApartTo, AreApartWith      no such step makes two choices at one path, nor does a bad step
---     GoesWrongSo       each such script has a run that goes wrong
-use Rattle.std.specs.Prelude.{◌≡◌, ℕ, zero, suc, ◌+◌, ◌≤◌, ◌<◌, Bool, true, false, List, [], ◌++◌, ◌⊎◌, length, take, Some, slice_get}
+--     IsStopped         what a search that has ended has looked at, and why it has
+--     LeadTo            the choices of the steps that lead from the first state to another, those of the last step first
+--     MakesAll          a script makes them, each in its step
+--     GoesWrongSo       each script that makes those that lead to a bad step, and its own, has a run that goes wrong
+use Rattle.std.specs.Prelude.{◌≡◌, ℕ, zero, suc, ◌+◌, ◌≤◌, ◌<◌, Bool, true, false, List, [], ◌∷◌, ◌++◌, ◌⊎◌, length, take, Some, slice_get}
+use Rattle.asm_state.specs.Contents.{IsStateOf}
 use Rattle.asm_state.specs.Location.{State}
 use Rattle.asm_state.specs.Signature.{Shape, count_of, state_of}
 use Rattle.asm_state.specs.Updates.{UpdateSet, IsConsistent}
@@ -23,11 +25,14 @@ use Rattle.asm_meaning.specs.Program.{nothing_bound}
 use Rattle.asm_meaning.specs.Run.{Specification, run}
 use Rattle.asm_meaning.specs.Yields.{Path, Result, Gives, Exhausted}
 use Rattle.asm_explore.specs.declared.explored.Bad.{Bad}
+use Rattle.asm_explore.specs.declared.explored.Ended.TheVariants as ended
+use Rattle.asm_explore.specs.declared.explored.Looked.{Looked}
+use Rattle.asm_explore.specs.Ends.{IfBad, IsDone}
 use Rattle.asm_explore.specs.declared.fault.Fault.{Fault}
 use Rattle.asm_explore.specs.declared.fault.Fault.TheVariants as fault
 use Rattle.asm_explore.specs.declared.found.Choice.{Choice}
 use Rattle.asm_explore.specs.declared.found.Found.{Found}
-use Rattle.asm_explore.specs.declared.node.Node.{Node}
+use Rattle.asm_explore.specs.Kept.{Node}
 use Rattle.asm_explore.specs.Lists.{Situation, Each, AnyOf, AreTaken, Shown, IsSound}
 use Rattle.asm_explore.specs.Placed.{AreApart}
 use Rattle.asm_explore.specs.Search.{LeadsOn, EndsSo}
@@ -49,31 +54,26 @@ GoesWrong right fault.Exhausted r A = (q : Path) × (r ≡ Exhausted q)
 GoesWrong right fault.Inconsistent r A = (U : UpdateSet) × (r ≡ Gives U) × ¬ (IsConsistent U)
 GoesWrong right fault.Wrong r A = LeadsOn r A (λ B. right B ≡ false)
 
--- the script makes the choices of the steps that lead to a node, so many
-abbrev pub TakesTo : List Node → Script → ℕ → Node → Type 0
-TakesTo nodes script zero n = Unit {0}
-TakesTo nodes script (suc d) n =
-    AreTaken (record { script = script; step = suc d }) n.choices.items × ((m : Node) → slice_get nodes n.from ≡ Some m → TakesTo nodes script d m)
+-- choices with which the step from a state leads to another, each at a path of its own
+pub record LeadBetween (specification : Specification) (turns : ℕ) (A B : State) (cs : List Choice) : Type 0 where
+  pub apart : AreApart cs
+  pub leads : (s : Situation) → AreTaken s cs → LeadsOn (steps_from specification turns A s) A (λ C. C ≡ B)
 
--- and those of a bad step from it
-abbrev pub TakesBad : List Node → Script → Node → Bad → Type 0
-TakesBad nodes script n bad = TakesTo nodes script n.depth n × AreTaken (record { script = script; step = suc n.depth }) bad.choices.items
+abbrev pub LeadTo : Specification → (turns : ℕ) → State → List (List Choice) → Type 0
+LeadTo specification turns B [] = B ≡ specification.initial
+LeadTo specification turns B (cs ∷ back) = (A : State) × LeadTo specification turns A back × LeadBetween specification turns A B cs
 
--- no step of those that lead to a node, so many, makes two choices at one path
-abbrev pub AreApartTo : List Node → ℕ → Node → Type 0
-AreApartTo nodes zero n = Unit {0}
-AreApartTo nodes (suc d) n = AreApart n.choices.items × ((m : Node) → slice_get nodes n.from ≡ Some m → AreApartTo nodes d m)
+abbrev pub MakesAll : Script → List (List Choice) → Type 0
+MakesAll script [] = Unit {0}
+MakesAll script (cs ∷ back) = AreTaken (record { script = script; step = suc (length back) }) cs × MakesAll script back
 
--- nor does a bad step from it
-abbrev pub AreApartWith : List Node → Node → Bad → Type 0
-AreApartWith nodes n bad = AreApartTo nodes n.depth n × AreApart bad.choices.items
-
--- each script that makes the choices has a run that goes wrong in this step
-pub record GoesWrongSo (specification : Specification) (turns : ℕ) (right : State → Bool) (nodes : List Node) (bad : Bad) : Type 0 where
+-- the step from the state of a node, as deep as so many steps lead to, goes wrong
+pub record GoesWrongSo (specification : Specification) (turns : ℕ) (right : State → Bool) (shape : Shape) (nodes : List Node) (bad : Bad) : Type 0 where
   pub from : Node
   pub there : slice_get nodes bad.from ≡ Some from
-  pub apart : AreApartWith nodes from bad
-  pub wrong : (script : Script) → TakesBad nodes script from bad → EndsSo right bad.fault (suc from.depth) (run specification turns script (suc from.depth))
+  pub apart : AreApart bad.choices.items
+  pub wrong : (back : List (List Choice)) → LeadTo specification turns (state_of shape from.state) back → (script : Script) → MakesAll script (bad.choices.items ∷ back)
+      → EndsSo right bad.fault (suc (length back)) (run specification turns script (suc (length back)))
 
 module _ (shape : Shape) where
   abbrev pub state_at : Node → State
@@ -83,7 +83,7 @@ module _ (shape : Shape) where
   Known nodes d A = AnyOf (λ n. (n.depth ≤ d) × (state_at n ≡ A)) nodes
 
   pub record IsGood (right : State → Bool) (n : Node) : Type 0 where
-    pub whole : length n.state ≡ count_of shape
+    pub kept : IsStateOf shape n.state
     pub is_right : right (state_at n) ≡ true
 
   -- what outcomes of a step from a node's state lead on to is known
@@ -91,14 +91,16 @@ module _ (shape : Shape) where
   Follows old new from below outcomes = (n : Node) (r : Result) → slice_get old from ≡ Some n → Shown shape outcomes r → LeadsOn r (state_at n) (Known new below)
 
   module _ (specification : Specification) (turns : ℕ) where
-    -- a node that a step leads to from an earlier one, in each situation that makes its choices
+    -- in some situation the step from a state leads to another
+    abbrev pub MayLead : (A B : State) → Type 0
+    MayLead A B = (s : Situation) × LeadsOn (steps_from specification turns A s) A (λ C. C ≡ B)
+
+    -- a node that a step leads to from an earlier one
     pub record ComesFrom (nodes : List Node) (n : Node) : Type 0 where
       pub earlier : Node
       pub there : slice_get nodes n.from ≡ Some earlier
       pub deeper : n.depth ≡ earlier.depth + 1
-      pub apart : AreApart n.choices.items
-      pub leads : (s : Situation) → AreTaken s n.choices.items
-          → LeadsOn (steps_from specification turns (state_at earlier) s) (state_at earlier) (λ A. A ≡ state_at n)
+      pub leads : MayLead (state_at earlier) (state_at n)
 
     abbrev pub IsFirst : Node → Type 0
     IsFirst n = (n.depth ≡ 0) × (state_at n ≡ specification.initial)
@@ -118,11 +120,9 @@ module _ (shape : Shape) where
     abbrev pub IsOutcome : List Node → (from below : ℕ) → Found → Type 0
     IsOutcome nodes from below f = (n : Node) → slice_get nodes from ≡ Some n → (below ≡ n.depth + 1) × IsSound shape (steps_from specification turns (state_at n)) f
 
-    -- the step from a node leads to a state one step deeper, in each situation that makes these choices
-    abbrev pub LeadsTo : List Node → (from below : ℕ) → List Choice → State → Type 0
-    LeadsTo nodes from below choices B =
-        (n : Node) → slice_get nodes from ≡ Some n
-        → (below ≡ n.depth + 1) × ((s : Situation) → AreTaken s choices → LeadsOn (steps_from specification turns (state_at n) s) (state_at n) (λ A. A ≡ B))
+    -- in some situation the step from a node leads to a state one step deeper
+    abbrev pub LeadsTo : List Node → (from below : ℕ) → State → Type 0
+    LeadsTo nodes from below B = (n : Node) → slice_get nodes from ≡ Some n → (below ≡ n.depth + 1) × MayLead (state_at n) B
 
     -- a step from a node that goes wrong, in each situation that makes these choices
     abbrev pub IsBadStep : (right : State → Bool) → List Node → (from : ℕ) → List Choice → Fault → Type 0
@@ -152,3 +152,12 @@ module _ (shape : Shape) where
       pub begins : Known nodes 0 specification.initial
       pub good : Each (IsGood right) nodes
       pub expanded : Each (λ n. n.depth < depth → within (state_at n) ≡ true → Expanded nodes n) nodes
+
+    -- nodes have been expanded, so many, of at most so many states
+    pub record IsStopped (right within : State → Bool) (depth limit : ℕ) (nodes : List Node) (looked : Looked) : Type 0 where
+      pub some : looked.expanded ≤ length nodes
+      pub so_far : IsLooked right within depth looked.expanded nodes
+      pub all : IsDone looked.ended → looked.expanded ≡ length nodes
+      pub closed : looked.ended ≡ ended.Closed → Each (λ n. n.depth < depth) nodes
+      pub wrong : IfBad looked.ended (λ bad. IsBad right nodes bad × (bad.from ≡ looked.expanded) × ((n : Node) → slice_get nodes bad.from ≡ Some n → n.depth < depth))
+      pub full : looked.ended ≡ ended.TooManyStates → limit ≤ length nodes

@@ -12,6 +12,15 @@ pub struct BadRun {
     pub fault: Fault,
 }
 
+/// A run that goes wrong, under a script that is longer than a script may be, or has a number of more
+/// than nine digits.
+#[derive(Clone, Copy, Debug, PartialEq, Eq)]
+pub struct Unwritten {
+    /// The run goes wrong in this step, and no run goes wrong before.
+    pub step: u64,
+    pub fault: Fault,
+}
+
 /// What is found of the runs of a specification.
 #[derive(Drop)]
 pub enum Finding {
@@ -30,9 +39,8 @@ pub enum Finding {
     TooManyOutcomes { depth: u32, crowd: Crowd },
     /// Memory ran out; no run of at most so many steps goes wrong.
     NoMemory(u32),
-    /// A step goes wrong, but the script that leads to it is longer than a script may be, or has a
-    /// number of more than nine digits; no run of at most so many steps goes wrong.
-    Unwritten(u32),
+    /// A run goes wrong, but its script can't be written.
+    Unwritten(Unwritten),
 }
 
 /// What is answered of a specification.

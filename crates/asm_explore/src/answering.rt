@@ -1,76 +1,98 @@
 //! The answer of an exploration.
-ghost use Rattle.std.specs.Prelude.{◌≡◌, ℕ, true, false, IfOk, length};
+ghost use Rattle.std.specs.Prelude.{◌≡◌, ◌∷◌, ℕ, Some, true, false, IfOk, length, slice_get};
+ghost use Rattle.asm_state.specs.Contents.{IsStateOf};
 ghost use Rattle.asm_state.specs.Signature.{count_of, state_of};
 ghost use Rattle.asm_explore.specs.Answers.{Claims};
-ghost use Rattle.asm_explore.specs.Reached.{GoesWrongSo};
+ghost use Rattle.asm_explore.specs.Kept.{Node};
+ghost use Rattle.asm_explore.specs.Lists.{Each};
+ghost use Rattle.asm_explore.specs.Reached.{GoesWrongSo, IsGood, IsLinked};
 ghost use Rattle.asm_explore.specs.Search.{IsSafeUpTo};
 
-use crate::answer::{Answered, BadRun, Finding};
-use crate::explored::{Bad, Ended};
+use crate::answer::{Answered, BadRun, Finding, Unwritten};
+use crate::explored::{Bad, Ended, Explored};
+use crate::found::Choice;
+use crate::halt::Halt;
 use crate::leading::script_to;
 use crate::machine::Machine;
-use crate::node::Node;
-use crate::refusal::copy_crowd;
+use crate::nodes::Nodes;
 use crate::search::explore;
+use crate::trail::trail_to;
 use asm_state::state::State;
 use asm_syntax::Refused;
 use std::alloc::{AllocError, Global};
 
-/// The greatest depth.
-fn greatest_depth(nodes: &[Node]) -> u32 {
-    let mut greatest = 0;
-    for i in 0..nodes.len() {
-        let node = &nodes[i];
-        if node.depth > greatest {
-            greatest = node.depth;
-        }
-    }
-    greatest
+/// The depth of the last node, which no other is above.
+fn greatest_depth(nodes: &Nodes) -> u32 {
+    let count = nodes.len();
+    if count > 0 { nodes.depth(count - 1) } else { 0 }
 }
 
-/// What is found where a step goes wrong.
+/// What is found where the step of a node goes wrong, up to whose depth no run does.
 fn bad_run<M: Machine>(
     alloc: Global,
     machine: &M,
-    nodes: &[Node],
-    bad: &Bad,
+    initial: &State,
+    nodes: &Nodes,
+    bad: Bad,
     steps: u32,
     whole: u32,
 ) -> Result<Finding, AllocError>
-    requires wrong { GoesWrongSo (M.specification machine.now) (M.turns machine.now) (M.right machine.now) nodes.now bad.now }
-    requires safe { IsSafeUpTo (M.specification machine.now) (M.turns machine.now) (M.within machine.now) (λ A. M.right machine.now A ≡ true) whole }
+    requires machine { M.is_sound machine.now }
+    requires initial { length initial.now ≡ count_of (M.shape machine.now) }
+    requires nodes { Each (IsGood (M.shape machine.now) (M.right machine.now)) nodes.now }
+    requires linked { Each (IsLinked (M.shape machine.now) (M.specification machine.now) (M.turns machine.now) nodes.now) nodes.now }
+    requires wrong { GoesWrongSo (M.specification machine.now) (M.turns machine.now) (M.right machine.now) (M.shape machine.now) nodes.now bad }
+    requires deep { (n : Node) → slice_get nodes.now bad.from ≡ Some n → n.depth ≡ whole }
+    requires safe { IsSafeUpTo (M.specification machine.now) (M.turns machine.now) (M.within machine.now) (λ A. (M.right machine.now) A ≡ true) whole }
     ensures { (limit states : ℕ) → IfOk result (Claims (M.specification machine.now) (M.turns machine.now) steps limit (M.right machine.now) (M.within machine.now) states) }
 {
-    let node = &nodes[bad.from];
-    let depth = node.depth;
-    if depth != whole {
-        return Ok(Finding::Unwritten(whole));
-    }
-    match script_to(alloc, nodes, bad) {
+    let trail = match trail_to(alloc, machine, nodes, bad.from, initial) {
+        Ok(trail) => trail,
+        Err(Halt::Outcomes(crowd)) => {
+            return Ok(Finding::TooManyOutcomes {
+                depth: whole,
+                crowd,
+            });
+        }
+        Err(Halt::Memory) => return Err(AllocError),
+        Err(Halt::States) => unreachable!(),
+    };
+    let (step, fault) = (u64::from(whole) + 1, bad.fault);
+    let back = with_first(bad.choices, trail)?;
+    match script_to(alloc, back.as_slice()) {
         Ok(script) => Ok(Finding::Bad(BadRun {
             script,
-            step: u64::from(whole) + 1,
-            fault: bad.fault,
+            step,
+            fault,
         })),
         Err(Refused::Memory) => Err(AllocError),
-        Err(Refused::Named(_)) => Ok(Finding::Unwritten(whole)),
+        Err(Refused::Named(_)) => Ok(Finding::Unwritten(Unwritten { step, fault })),
     }
+}
+
+/// Some choices, and others behind them.
+fn with_first(first: Vec<Choice>, others: Vec<Vec<Choice>>) -> Result<Vec<Vec<Choice>>, AllocError>
+    ensures { IfOk result (λ all. all.items ≡ first ∷ others.items) }
+{
+    let mut all = others;
+    all.insert(0, first)?;
+    Ok(all)
 }
 
 /// Looks through all runs of so many steps, of at most so many states.
 pub fn explore_machine<M: Machine>(
     alloc: Global,
     machine: &M,
-    initial: State,
+    initial: &State,
     steps: u32,
-    limit: usize,
+    limit: u32,
 ) -> Result<Answered, AllocError>
     requires machine { M.is_sound machine.now }
-    requires whole { length initial ≡ count_of (M.shape machine.now) }
-    requires initial { state_of (M.shape machine.now) initial ≡ (M.specification machine.now).initial }
+    requires kept { IsStateOf (M.shape machine.now) initial.now }
+    requires initial { state_of (M.shape machine.now) initial.now ≡ (M.specification machine.now).initial }
     ensures { IfOk result (λ answer. Claims (M.specification machine.now) (M.turns machine.now) steps limit (M.right machine.now) (M.within machine.now) answer.states answer.finding) }
 {
-    if !machine.is_right(alloc, &initial) {
+    if !machine.is_right(alloc, initial) {
         return Ok(Answered {
             finding: Finding::WrongFirst,
             states: 0,
@@ -80,26 +102,31 @@ pub fn explore_machine<M: Machine>(
             quiet: 0,
         });
     }
-    let explored = explore(alloc, machine, initial, steps, limit)?;
-    let nodes = explored.nodes.as_slice();
-    let whole = explored.whole;
-    let finding = match &explored.ended {
+    let Explored {
+        nodes,
+        whole,
+        ended,
+        outcomes,
+        widest,
+        quiet,
+    } = explore(alloc, machine, initial, steps, limit)?;
+    let finding = match ended {
         Ended::Closed => Finding::Closed,
         Ended::AtLimit => Finding::SafeTo(whole),
-        Ended::Bad(bad) => bad_run(alloc, machine, nodes, bad, steps, whole)?,
+        Ended::Bad(bad) => bad_run(alloc, machine, initial, &nodes, bad, steps, whole)?,
         Ended::TooManyStates => Finding::TooManyStates(whole),
         Ended::TooManyOutcomes(crowd) => Finding::TooManyOutcomes {
             depth: whole,
-            crowd: copy_crowd(alloc, crowd)?,
+            crowd,
         },
         Ended::Memory => Finding::NoMemory(whole),
     };
     Ok(Answered {
         finding,
         states: nodes.len(),
-        depth: greatest_depth(nodes),
-        outcomes: explored.outcomes,
-        widest: explored.widest,
-        quiet: explored.quiet,
+        depth: greatest_depth(&nodes),
+        outcomes,
+        widest,
+        quiet,
     })
 }

@@ -1,6 +1,6 @@
 //! Lists of outcomes of the rule at a path: where one has more than the limit says, the refusal
 //! names the path, and how many outcomes the rule's parts have.
-ghost use Rattle.std.specs.Prelude.{◌≡◌, ℕ, ◌+◌, ◌∷◌, [], length, IfOk, IfErr, OnOk, OnErr};
+ghost use Rattle.std.specs.Prelude.{◌≡◌, ℕ, ◌+◌, ◌∷◌, [], length, IfOk, IfErr, IsErr, OnOk, OnErr};
 ghost use Rattle.asm_state.specs.Location.{State};
 ghost use Rattle.asm_state.specs.Signature.{Shape, count_of};
 ghost use Rattle.asm_meaning.specs.Yields as yields;
@@ -19,7 +19,28 @@ use crate::updates::Updates;
 use crate::{beside, picking, sorting};
 use asm_meaning::Path;
 use asm_state::signature::Signature;
-use std::alloc::Global;
+use std::alloc::{AllocError, Global};
+
+/// What a refusal names.
+fn crowd(alloc: Global, path: &[u64], first: usize, others: usize) -> Result<Crowd, AllocError>
+    ensures { IfOk result (λ crowd. (crowd.path ≡ path.now) × (crowd.first ≡ first) × (crowd.others ≡ others)) }
+{
+    let path = Path::new(path.to_vec(alloc)?);
+    Ok(Crowd {
+        path,
+        first,
+        others,
+    })
+}
+
+/// That the list of the rule at this path has more outcomes than the limit says.
+fn too_many(alloc: Global, path: &[u64], first: usize, others: usize) -> Result<(), Refusal>
+    ensures named { IfErr result (Names path.now first others) }
+    ensures refused { IsErr result }
+{
+    let crowd = crowd(alloc, path, first, others)?;
+    Err(Refusal::TooMany(crowd))
+}
 
 /// The refusal of a list of the rule at this path.
 fn refused(alloc: Global, overflow: Overflow, path: &[u64], first: usize, others: usize) -> Refusal
@@ -27,13 +48,9 @@ fn refused(alloc: Global, overflow: Overflow, path: &[u64], first: usize, others
 {
     match overflow {
         Overflow::Memory => Refusal::Memory,
-        Overflow::TooMany => match path.to_vec(alloc) {
-            Ok(numbers) => Refusal::TooMany(Crowd {
-                path: Path::new(numbers),
-                first,
-                others,
-            }),
-            Err(_) => Refusal::Memory,
+        Overflow::TooMany => match too_many(alloc, path, first, others) {
+            Ok(()) => unreachable!(),
+            Err(refusal) => refusal,
         },
     }
 }

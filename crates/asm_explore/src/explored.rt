@@ -7,7 +7,7 @@ ghost use Rattle.asm_explore.specs.declared.halt.Halt.TheVariants as halts;
 use crate::fault::Fault;
 use crate::found::Choice;
 use crate::halt::Halt;
-use crate::node::Node;
+use crate::nodes::Nodes;
 use crate::refusal::Crowd;
 
 /// A step that goes wrong.
@@ -41,7 +41,7 @@ pub enum Ended {
 #[derive(Drop)]
 pub struct Explored {
     /// The states that were reached.
-    pub nodes: Vec<Node>,
+    pub nodes: Nodes,
     /// No run of at most so many steps goes wrong.
     pub whole: u32,
     pub ended: Ended,

@@ -1,9 +1,9 @@
 //! Why a search was cut off.
-ghost use Rattle.std.specs.Prelude.{◌≡◌, ◌≢◌};
+ghost use Rattle.std.specs.Prelude.{◌≡◌, ◌≢◌, IfErr, IsErr};
 ghost use Rattle.asm_explore.specs.declared.halt.Halt.TheVariants as halt;
 
-use crate::refusal::{Crowd, Refusal};
-use std::alloc::{AllocError, AllocFailed};
+use crate::refusal::{Crowd, Refusal, copy_crowd};
+use std::alloc::{AllocError, AllocFailed, Global};
 
 /// Why a search was cut off.
 #[derive(Drop)]
@@ -32,12 +32,26 @@ impl<T: Drop> From<AllocFailed<T>> for Halt {
     }
 }
 
-/// The end of a search that has no outcomes to follow.
-pub(crate) fn halted(refusal: Refusal) -> Halt
-    ensures { result ≢ halt.States }
+/// Why a step has no outcomes to follow, as an error.
+fn halts(alloc: Global, refusal: &Refusal) -> Result<(), Halt>
+    ensures never { IfErr result (λ h. h ≢ halt.States) }
+    ensures refused { IsErr result }
 {
     match refusal {
-        Refusal::Memory => Halt::Memory,
-        Refusal::TooMany(crowd) => Halt::Outcomes(crowd),
+        Refusal::Memory => Err(Halt::Memory),
+        Refusal::TooMany(crowd) => {
+            let crowd = copy_crowd(alloc, crowd)?;
+            Err(Halt::Outcomes(crowd))
+        }
+    }
+}
+
+/// The end of a search that has no outcomes to follow.
+pub(crate) fn halted(alloc: Global, refusal: &Refusal) -> Halt
+    ensures { result ≢ halt.States }
+{
+    match halts(alloc, refusal) {
+        Ok(()) => unreachable!(),
+        Err(halt) => halt,
     }
 }

@@ -1,15 +1,14 @@
 //! Where states stand, by their hashes.
 ghost use Rattle.std.specs.Prelude.{◌≡◌, ◌<◌, length};
 
-use crate::node::Node;
 use asm_state::state::State;
-use std::alloc::{AllocError, Global};
+use std::alloc::Global;
 
-/// Numbers of nodes, from 1, each at or behind the place of its state's hash; 0 is a free place. No proof rests on what stands here: what
-/// is found is compared. And counts of outcomes.
+/// Numbers of nodes, from 1, each at or behind the place of its state's hash; 0 is a free place. No
+/// proof rests on what stands here: what is found is compared. And counts of outcomes.
 #[derive(Drop)]
 pub(crate) struct Index {
-    pub slots: Vec<usize>,
+    pub slots: Vec<u32>,
     /// So many outcomes of steps were followed.
     pub outcomes: usize,
     /// The most outcomes of a step.
@@ -56,24 +55,32 @@ impl Index {
     }
 }
 
-/// A hash of a state's contents.
-fn hash(state: &State, count: usize) -> u64
-    requires { length state.now ≡ count }
-{
-    let mut hash: u64 = 0x9E37_79B9_7F4A_7C15;
-    for n in 0..count {
-        hash = (hash.rotate_left(5) ^ state.content(n).code()).wrapping_mul(0x517C_C1B7_2722_0A95);
-    }
-    hash ^ (hash >> 29)
+/// The hash of no contents.
+pub(crate) const NO_CONTENTS: u64 = 0x9E37_79B9_7F4A_7C15;
+
+/// The hash of contents and one more behind them, by its code.
+#[inline(always)]
+pub(crate) fn with_content(hash: u64, code: u64) -> u64 {
+    (hash.rotate_left(5) ^ code).wrapping_mul(0x517C_C1B7_2722_0A95)
 }
 
-/// The place where the search for a state begins.
-pub(crate) fn first_place(state: &State, count: usize, places: usize) -> usize
-    requires state { length state.now ≡ count }
+/// The hash of a state's contents.
+pub(crate) fn hash_of(state: &State, count: usize) -> u64
+    requires { length state.now ≡ count }
+{
+    let mut hash = NO_CONTENTS;
+    for n in 0..count {
+        hash = with_content(hash, state.content(n).code());
+    }
+    hash
+}
+
+/// The place where the search for a hash begins.
+pub(crate) fn first_place(hash: u64, places: usize) -> usize
     requires some { 0 < places }
     ensures { result < places }
 {
-    (hash(state, count) % places as u64) as usize
+    ((hash ^ (hash >> 29)) % places as u64) as usize
 }
 
 /// The place behind another, round the end.

@@ -5,12 +5,12 @@ ghost use Rattle.asm_reader.specs.ExactLines.{exactly};
 ghost use Rattle.asm_reader.specs.ScriptLines.{Line, Script, pick};
 ghost use Rattle.asm_meaning.specs.Run.{Specification};
 ghost use Rattle.asm_meaning.specs.Scripts.{IsUnrepeated};
-ghost use Rattle.asm_meaning.specs.Yields.{Path};
-ghost use Rattle.asm_explore.specs.declared.explored.Bad.{Bad};
-ghost use Rattle.asm_explore.specs.declared.node.Node.{Node};
+ghost use Rattle.asm_explore.specs.declared.found.Choice.{Choice};
+ghost use Rattle.asm_explore.specs.Elements.{Each};
+ghost use Rattle.asm_explore.specs.Placed.{AreApart};
 ghost use Rattle.asm_explore.specs.ChoiceLaws.{ChoiceLaws};
-ghost use Rattle.asm_explore.specs.Reached.{TakesBad, AreApartWith};
-ghost use Rattle.asm_explore.specs.ScriptTo.{lines_with, needed};
+ghost use Rattle.asm_explore.specs.Reached.{MakesAll};
+ghost use Rattle.asm_explore.specs.ScriptTo.{lines_of, needed};
 ghost use Rattle.asm_explore.specs.declared.script_line.Zeros.{Zeros};
 ghost use Rattle.asm_explore.specs.Search.{StaysWithin};
 ghost use Rattle.asm_explore.specs.Written.{written};
@@ -30,14 +30,9 @@ pub fn within_law()
 /// Where no step makes two choices at one path, no two lines of the script with a line for each choice
 /// have one step and one path. It makes all choices, and so do the lines that are needed.
 pub fn script_law()
-    ensures apart { (nodes : List Node) (n : Node) (bad : Bad) → AreApartWith nodes n bad → IsUnrepeated (exactly (lines_with nodes n bad)) }
-    ensures takes { (nodes : List Node) (n : Node) (bad : Bad) → AreApartWith nodes n bad → TakesBad nodes (exactly (lines_with nodes n bad)) n bad }
-    ensures needed { (nodes : List Node) (n : Node) (bad : Bad) → AreApartWith nodes n bad → TakesBad nodes (exactly (needed (lines_with nodes n bad))) n bad }
-{}
-
-/// Where no two lines have one step and one path, those that take a first candidate may be left out.
-pub fn needed_law()
-    ensures { (lines : List Line) → IsUnrepeated (exactly lines) → (step : ℕ) (p : Path) → pick (exactly (needed lines)) step p ≡ pick (exactly lines) step p }
+    ensures apart { (back : List (List Choice)) → Each AreApart back → IsUnrepeated (exactly (lines_of back)) }
+    ensures makes { (back : List (List Choice)) → Each AreApart back → MakesAll (exactly (lines_of back)) back }
+    ensures needed { (back : List (List Choice)) → Each AreApart back → MakesAll (exactly (needed (lines_of back))) back }
 {}
 
 /// Lines that have each a step and a path of their own pick the same where those with number 0 are

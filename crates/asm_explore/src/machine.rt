@@ -3,15 +3,17 @@ ghost use Rattle.std.specs.Prelude.{◌≡◌, ℕ, Bool, length, IfOk};
 ghost use Rattle.asm_state.specs.Location.{State as Contents};
 ghost use Rattle.asm_state.specs.Signature.{Shape, count_of, state_of};
 ghost use Rattle.asm_meaning.specs.Run.{Specification};
-ghost use Rattle.asm_explore.specs.Lists.{HaveChoices, Lists};
-ghost use Rattle.asm_explore.specs.Placed.{AreApart};
-ghost use Rattle.asm_explore.specs.Reached.{steps_from};
+ghost use Rattle.asm_explore.specs.Lists.{Each};
+ghost use Rattle.asm_explore.specs.Steps.{AreListed};
 
 use crate::found::Found;
 use crate::refusal::Refusal;
 use asm_state::signature::Signature;
 use asm_state::state::State;
-use std::alloc::Global;
+use std::alloc::{AllocError, Global};
+
+/// The outcomes of a step, or why there is no list of them.
+pub type Listed = Result<Vec<Found>, Refusal>;
 
 /// A specification, by its steps.
 pub trait Machine {
@@ -34,12 +36,12 @@ pub trait Machine {
     fn signature(&self) -> &Signature
         ensures { result.now ≡ shape self.now };
 
-    /// What a step from this state yields, through all scripts.
-    fn outcomes(&self, alloc: Global, state: &State) -> Result<Vec<Found>, Refusal>
+    /// What a step from each of these states yields, through all scripts. A choice is made at most once
+    /// in a step, at a path of its own.
+    fn outcomes(&self, alloc: Global, states: &[State]) -> Result<Vec<Listed>, AllocError>
         requires sound { is_sound self.now }
-        requires whole { length state.now ≡ count_of (shape self.now) }
-        ensures lists { IfOk result (λ fs. Lists (shape self.now) (steps_from (specification self.now) (turns self.now) (state_of (shape self.now) state.now)) fs.items) }
-        ensures apart { IfOk result (λ fs. HaveChoices AreApart fs.items) };
+        requires whole { Each (λ s. length s ≡ count_of (shape self.now)) states.now }
+        ensures { IfOk result (λ all. AreListed (shape self.now) (specification self.now) (turns self.now) states.now all.items) };
 
     /// Whether the state is right.
     fn is_right(&self, alloc: Global, state: &State) -> bool

@@ -1,5 +1,5 @@
 //! Which answers are the same.
-ghost use Rattle.std.specs.Prelude.{◌≡◌, ◌<◌, IsTrue, length, slice_get};
+ghost use Rattle.std.specs.Prelude.{◌≡◌, ◌↔◌, ◌<◌, IsTrue, length, slice_get};
 ghost use Rattle.asm_state.specs.Signature.{Shape};
 ghost use Rattle.asm_state.specs.Updates.{UpdateSet};
 ghost use Rattle.asm_updates.specs.Stands.{Stands};
@@ -13,7 +13,7 @@ use asm_updates::summary::Summary;
 
 /// Whether two values are the same.
 pub(crate) fn is_same_value(left: Word, right: Word) -> bool
-    ensures { IsTrue result → left ≡ right }
+    ensures { IsTrue result ↔ left ≡ right }
 {
     codes_apart();
     left.code() == right.code()

@@ -1,34 +1,40 @@
 //! The search through all states.
-ghost use Rattle.std.specs.Prelude.{◌≡◌, ◌≢◌, ◌+◌, ◌<◌, ◌≤◌, [], true, false, IsTrue, IfSome, IfNone, IfErr, IfOk, Some, length, slice_get};
+ghost use Rattle.std.specs.Prelude.{◌≡◌, ◌≢◌, ◌+◌, ◌<◌, ◌≤◌, [], true, false, IsTrue, IfSome, IfNone, IfErr, IfOk, Some, length, slice_get, map, take, drop};
+ghost use Rattle.asm_state.specs.Contents.{IsStateOf};
 ghost use Rattle.asm_state.specs.Location.{State as Contents};
-ghost use Rattle.asm_state.specs.Signature.{count_of, state_of};
+ghost use Rattle.asm_state.specs.Signature.{Shape, count_of, state_of};
 ghost use Rattle.asm_meaning.specs.Yields.{Result as Yielded};
 ghost use Rattle.asm_explore.specs.declared.explored.Ended.TheVariants.{Closed, AtLimit, TooManyStates};
 ghost use Rattle.asm_explore.specs.declared.halt.Halt.TheVariants as halt;
 ghost use Rattle.asm_explore.specs.declared.found.Found.{Found};
-ghost use Rattle.asm_explore.specs.declared.node.Node.{Node};
+ghost use Rattle.asm_explore.specs.Kept.{Node};
 ghost use Rattle.asm_explore.specs.Ends.{IfBad, IsDone};
 ghost use Rattle.asm_explore.specs.Lists.{Situation, Each, AnyOf, Shows, HaveChoices, AreCounted, IsCounted, Lists};
 ghost use Rattle.asm_explore.specs.Placed.{AreApart};
-ghost use Rattle.asm_explore.specs.Reached.{Known, IsNear, IsGood, Extends, Follows, Expanded, IsLinked, IsLooked, IsOutcome, IsBadStep, IsBad, LeadsTo, GoesWrongSo, steps_from, state_at};
+ghost use Rattle.asm_explore.specs.Reached.{Known, IsNear, IsGood, Extends, Follows, Expanded, IsLinked, IsLooked, IsOutcome, IsBadStep, IsBad, IsStopped, LeadsTo, Rises, GoesWrongSo, steps_from, state_at};
 ghost use Rattle.asm_explore.specs.Search.{LeadsOn, IsSafeUpTo, IsSafe};
+ghost use Rattle.asm_explore.specs.Steps.{AreListed, IsStep};
 
 use crate::explored::{Bad, Ended, Explored, Looked, cut_off};
 use crate::fault::Fault;
 use crate::found::{Answer, Choice, Found, add_choices};
 use crate::halt::{Halt, halted};
-use crate::index::{Index, first_place, next_place};
-use crate::machine::Machine;
-use crate::node::Node;
+use crate::index::{Index, first_place, hash_of, next_place};
+use crate::machine::{Listed, Machine};
+use crate::nodes::Nodes;
 use crate::same::is_same_value;
 use asm_state::state::State;
 use std::alloc::{AllocError, Global};
 
+/// So many states are stepped from at once.
+const BATCH: usize = 16;
+
 /// Whether two states have the same contents.
-fn is_same_state(left: &State, right: &State, count: usize) -> bool
+pub(crate) fn is_same_state(left: &State, right: &State, count: usize) -> bool
     requires left { length left.now ≡ count }
     requires right { length right.now ≡ count }
-    ensures { IsTrue result → left.now ≡ right.now }
+    ensures same { IsTrue result → left.now ≡ right.now }
+    ensures states { (shape : Shape) → IsStateOf shape left.now → IsStateOf shape right.now → state_of shape left.now ≡ state_of shape right.now → IsTrue result }
 {
     for n in 0..count {
         if !is_same_value(left.content(n), right.content(n)) {
@@ -39,18 +45,17 @@ fn is_same_state(left: &State, right: &State, count: usize) -> bool
 }
 
 /// Whether a node has this state.
-fn has_state(nodes: &[Node], number: usize, state: &State, count: usize) -> bool
+fn has_state(nodes: &Nodes, number: usize, state: &State, count: usize) -> bool
     requires number { number < length nodes.now }
     requires nodes { Each (λ n. length n.state ≡ count) nodes.now }
     requires state { length state.now ≡ count }
     ensures { IsTrue result → AnyOf (λ n. n.state ≡ state.now) nodes.now }
 {
-    let node = &nodes[number];
-    is_same_state(&node.state, state, count)
+    nodes.has_state(number, state)
 }
 
 /// Whether the index leads to a node that has this state.
-fn is_reached(nodes: &[Node], index: &Index, state: &State, count: usize) -> bool
+fn is_reached(nodes: &Nodes, index: &Index, state: &State, count: usize) -> bool
     requires nodes { Each (λ n. length n.state ≡ count) nodes.now }
     requires state { length state.now ≡ count }
     ensures { IsTrue result → AnyOf (λ n. n.state ≡ state.now) nodes.now }
@@ -59,9 +64,9 @@ fn is_reached(nodes: &[Node], index: &Index, state: &State, count: usize) -> boo
     if slots.len() == 0 {
         return false;
     }
-    let mut at = first_place(state, count, slots.len());
+    let mut at = first_place(hash_of(state, count), slots.len());
     for _ in 0..slots.len() {
-        let slot = slots[at];
+        let slot = slots[at] as usize;
         if slot == 0 || slot > nodes.len() {
             return false;
         }
@@ -74,118 +79,111 @@ fn is_reached(nodes: &[Node], index: &Index, state: &State, count: usize) -> boo
 }
 
 /// Notes where a node stands.
-fn note(nodes: &[Node], number: usize, count: usize, index: &mut Index)
-    requires nodes { Each (λ n. length n.state ≡ count) nodes.now }
+fn note(nodes: &Nodes, number: usize, index: &mut Index)
     requires number { number < length nodes.now }
+    requires few { number < 4_294_967_295 }
 {
     let places = index.slots.len();
     if places == 0 {
         return;
     }
-    let mut at = first_place(&nodes[number].state, count, places);
+    let mut at = first_place(nodes.hash(number), places);
     for _ in 0..places {
         if index.slots[at] == 0 {
-            index.slots[at] = number + 1;
+            index.slots[at] = number as u32 + 1;
             return;
         }
         at = next_place(at, places);
     }
 }
 
-/// Notes where the last node stands, in more room where half of it is used.
-fn note_last(
-    alloc: Global,
-    nodes: &[Node],
-    count: usize,
-    index: &mut Index,
-) -> Result<(), AllocError>
-    requires nodes { Each (λ n. length n.state ≡ count) nodes.now }
+/// Notes where the last node stands, in more room where three quarters of it are used.
+fn note_last(alloc: Global, nodes: &Nodes, index: &mut Index) -> Result<(), AllocError>
+    requires few { length nodes.now < 4_294_967_296 }
 {
-    let wanted = nodes.len().saturating_mul(2);
-    if wanted <= index.slots.len() {
+    let wanted = nodes.len().saturating_add(nodes.len() / 3);
+    if wanted < index.slots.len() {
         if nodes.len() > 0 {
-            note(nodes, nodes.len() - 1, count, index);
+            note(nodes, nodes.len() - 1, index);
         }
         return Ok(());
     }
     let mut slots = Vec::new(alloc);
-    slots.resize(wanted.saturating_mul(2), 0usize)?;
+    slots.resize(wanted.saturating_mul(2).saturating_add(8), 0u32)?;
     index.slots = slots;
-    for i in 0..nodes.len() {
-        note(nodes, i, count, index);
+    for number in 0..nodes.len() {
+        note(nodes, number, index);
     }
     Ok(())
 }
 
-/// Makes a state known, as one that a step with these choices leads to. Answers whether it is right.
+/// Makes a state known that a step from a node leads to. Answers whether it is right.
 fn reach<M: Machine>(
     alloc: Global,
     machine: &M,
-    state: State,
+    state: &State,
     from: usize,
-    choices: &[Choice],
     below: u32,
-    limit: usize,
+    limit: u32,
     index: &mut Index,
-    nodes: &mut Vec<Node>,
+    nodes: &mut Nodes,
 ) -> Result<bool, Halt>
     requires machine { M.is_sound machine.now }
-    requires state { length state ≡ count_of (M.shape machine.now) }
-    requires from { from < length nodes.old.items }
-    requires nodes { Each (IsGood (M.shape machine.now) (M.right machine.now)) nodes.old.items }
-    requires near { Each (λ n. n.depth ≤ below) nodes.old.items }
-    requires leads { LeadsTo (M.shape machine.now) (M.specification machine.now) (M.turns machine.now) nodes.old.items from below choices.now (state_of (M.shape machine.now) state) }
-    requires apart { AreApart choices.now }
-    ensures extends { Extends (M.shape machine.now) (M.specification machine.now) (M.turns machine.now) (M.right machine.now) below nodes.old.items nodes.new.items }
-    ensures known { IfOk result (λ fine. IsTrue fine → Known (M.shape machine.now) nodes.new.items below (state_of (M.shape machine.now) state)) }
-    ensures wrong { IfOk result (λ fine. fine ≡ false → M.right machine.now (state_of (M.shape machine.now) state) ≡ false) }
-    ensures full { IfErr result (λ h. h ≡ halt.States → limit ≤ length nodes.new.items) }
+    requires state { IsStateOf (M.shape machine.now) state.now }
+    requires from { from < length nodes.old }
+    requires room { length nodes.old ≤ limit }
+    requires nodes { Each (IsGood (M.shape machine.now) (M.right machine.now)) nodes.old }
+    requires near { Each (λ n. n.depth ≤ below) nodes.old }
+    requires leads { LeadsTo (M.shape machine.now) (M.specification machine.now) (M.turns machine.now) nodes.old from below (state_of (M.shape machine.now) state.now) }
+    ensures extends { Extends (M.shape machine.now) (M.specification machine.now) (M.turns machine.now) (M.right machine.now) below nodes.old nodes.new }
+    ensures room { length nodes.new ≤ limit }
+    ensures known { IfOk result (λ fine. IsTrue fine → Known (M.shape machine.now) nodes.new below (state_of (M.shape machine.now) state.now)) }
+    ensures wrong { IfOk result (λ fine. fine ≡ false → (M.right machine.now) (state_of (M.shape machine.now) state.now) ≡ false) }
+    ensures full { IfErr result (λ h. h ≡ halt.States → limit ≤ length nodes.new) }
 {
     let count = machine.signature().count();
-    if is_reached(nodes.as_slice(), index, &state, count) {
+    if is_reached(nodes, index, state, count) {
         return Ok(true);
     }
-    if !machine.is_right(alloc, &state) {
+    if !machine.is_right(alloc, state) {
         return Ok(false);
     }
-    if nodes.len() >= limit {
+    if nodes.len() >= limit as usize {
         return Err(Halt::States);
     }
-    let mut all = Vec::new(alloc);
-    add_choices(alloc, choices, &mut all)?;
-    nodes.push(Node {
-        state,
-        from,
-        choices: all,
-        depth: below,
-    })?;
-    note_last(alloc, nodes.as_slice(), count, index)?;
+    nodes.push(state, count, from as u32, below)?;
+    note_last(alloc, nodes, index)?;
     Ok(true)
 }
 
-/// Follows one outcome of a step from a node's state. Answers what is wrong with it, if anything is.
+/// Follows one outcome of the step from a node's state. Answers what is wrong with it, if anything is.
 fn follow<M: Machine>(
     alloc: Global,
     machine: &M,
     from: usize,
+    state: &State,
     one: &Found,
     below: u32,
-    limit: usize,
+    limit: u32,
     index: &mut Index,
-    nodes: &mut Vec<Node>,
+    nodes: &mut Nodes,
 ) -> Result<Option<Fault>, Halt>
     requires machine { M.is_sound machine.now }
-    requires from { from < length nodes.old.items }
+    requires from { from < length nodes.old }
+    requires state { IsStateOf (M.shape machine.now) state.now }
+    requires here { (n : Node) → slice_get nodes.old from ≡ Some n → n.state ≡ state.now }
+    requires room { length nodes.old ≤ limit }
     requires one { IsCounted (count_of (M.shape machine.now)) one.now.answer }
-    requires nodes { Each (IsGood (M.shape machine.now) (M.right machine.now)) nodes.old.items }
-    requires near { Each (λ n. n.depth ≤ below) nodes.old.items }
-    requires outcome { IsOutcome (M.shape machine.now) (M.specification machine.now) (M.turns machine.now) nodes.old.items from below one.now }
+    requires nodes { Each (IsGood (M.shape machine.now) (M.right machine.now)) nodes.old }
+    requires near { Each (λ n. n.depth ≤ below) nodes.old }
+    requires outcome { IsOutcome (M.shape machine.now) (M.specification machine.now) (M.turns machine.now) nodes.old from below one.now }
     requires apart { AreApart one.now.choices.items }
-    ensures extends { Extends (M.shape machine.now) (M.specification machine.now) (M.turns machine.now) (M.right machine.now) below nodes.old.items nodes.new.items }
-    ensures leads { IfOk result (λ fault. IfNone fault ((n : Node) (r : Yielded) → slice_get nodes.old.items from ≡ Some n → Shows (M.shape machine.now) one.now.answer r →
-        LeadsOn r (state_at (M.shape machine.now) n) (Known (M.shape machine.now) nodes.new.items below))) }
-    ensures wrong { IfOk result (λ fault. IfSome fault (IsBadStep (M.shape machine.now) (M.specification machine.now) (M.turns machine.now) (M.right machine.now) nodes.old.items from one.now.choices.items)) }
-    ensures full { IfErr result (λ h. h ≡ halt.States → limit ≤ length nodes.new.items) }
+    ensures extends { Extends (M.shape machine.now) (M.specification machine.now) (M.turns machine.now) (M.right machine.now) below nodes.old nodes.new }
+    ensures room { length nodes.new ≤ limit }
+    ensures leads { IfOk result (λ fault. IfNone fault ((n : Node) (r : Yielded) → slice_get nodes.old from ≡ Some n → Shows (M.shape machine.now) one.now.answer r →
+        LeadsOn r (state_at (M.shape machine.now) n) (Known (M.shape machine.now) nodes.new below))) }
+    ensures wrong { IfOk result (λ fault. IfSome fault (IsBadStep (M.shape machine.now) (M.specification machine.now) (M.turns machine.now) (M.right machine.now) nodes.old from one.now.choices.items)) }
+    ensures full { IfErr result (λ h. h ≡ halt.States → limit ≤ length nodes.new) }
 {
     let updates = match &one.answer {
         Answer::Set(updates) => updates,
@@ -195,21 +193,9 @@ fn follow<M: Machine>(
     if updates.set.first_fault(signature).is_some() {
         return Ok(Some(Fault::Inconsistent));
     }
-    let known = nodes.as_slice();
-    let next = updates.set.fire(alloc, signature, &known[from].state)?;
-    let same = is_same_state(&next, &known[from].state, signature.count());
-    index.count_idle(same);
-    let fine = reach(
-        alloc,
-        machine,
-        next,
-        from,
-        one.choices.as_slice(),
-        below,
-        limit,
-        index,
-        nodes,
-    )?;
+    let next = updates.set.fire(alloc, signature, state)?;
+    index.count_idle(is_same_state(&next, state, signature.count()));
+    let fine = reach(alloc, machine, &next, from, below, limit, index, nodes)?;
     if fine {
         Ok(None)
     } else {
@@ -224,41 +210,38 @@ struct BadOutcome {
     fault: Fault,
 }
 
-/// Follows outcomes of a step from a node's state. Answers the number of the first one with a fault, if there is one.
+/// Follows outcomes of the step from a node's state. Answers the first one with a fault, if there is one.
 fn follow_all<M: Machine>(
     alloc: Global,
     machine: &M,
     from: usize,
+    state: &State,
     outcomes: &[Found],
     below: u32,
-    limit: usize,
+    limit: u32,
     index: &mut Index,
-    nodes: &mut Vec<Node>,
+    nodes: &mut Nodes,
 ) -> Result<Option<BadOutcome>, Halt>
     requires machine { M.is_sound machine.now }
-    requires from { from < length nodes.old.items }
+    requires from { from < length nodes.old }
+    requires state { IsStateOf (M.shape machine.now) state.now }
+    requires here { (n : Node) → slice_get nodes.old from ≡ Some n → n.state ≡ state.now }
+    requires room { length nodes.old ≤ limit }
     requires outcomes { AreCounted (count_of (M.shape machine.now)) outcomes.now }
-    requires nodes { Each (IsGood (M.shape machine.now) (M.right machine.now)) nodes.old.items }
-    requires near { Each (λ n. n.depth ≤ below) nodes.old.items }
-    requires sound { Each (IsOutcome (M.shape machine.now) (M.specification machine.now) (M.turns machine.now) nodes.old.items from below) outcomes.now }
+    requires nodes { Each (IsGood (M.shape machine.now) (M.right machine.now)) nodes.old }
+    requires near { Each (λ n. n.depth ≤ below) nodes.old }
+    requires sound { Each (IsOutcome (M.shape machine.now) (M.specification machine.now) (M.turns machine.now) nodes.old from below) outcomes.now }
     requires apart { HaveChoices AreApart outcomes.now }
-    ensures extends { Extends (M.shape machine.now) (M.specification machine.now) (M.turns machine.now) (M.right machine.now) below nodes.old.items nodes.new.items }
-    ensures leads { IfOk result (λ bad. IfNone bad (Follows (M.shape machine.now) nodes.old.items nodes.new.items from below outcomes.now)) }
+    ensures extends { Extends (M.shape machine.now) (M.specification machine.now) (M.turns machine.now) (M.right machine.now) below nodes.old nodes.new }
+    ensures room { length nodes.new ≤ limit }
+    ensures leads { IfOk result (λ bad. IfNone bad (Follows (M.shape machine.now) nodes.old nodes.new from below outcomes.now)) }
     ensures wrong { IfOk result (λ bad. IfSome bad (λ b. (f : Found) × (slice_get outcomes.now b.number ≡ Some f) ×
-        IsBadStep (M.shape machine.now) (M.specification machine.now) (M.turns machine.now) (M.right machine.now) nodes.old.items from f.choices.items b.fault)) }
-    ensures full { IfErr result (λ h. h ≡ halt.States → limit ≤ length nodes.new.items) }
+        IsBadStep (M.shape machine.now) (M.specification machine.now) (M.turns machine.now) (M.right machine.now) nodes.old from f.choices.items b.fault)) }
+    ensures full { IfErr result (λ h. h ≡ halt.States → limit ≤ length nodes.new) }
 {
     for k in 0..outcomes.len() {
-        let fault = follow(
-            alloc,
-            machine,
-            from,
-            &outcomes[k],
-            below,
-            limit,
-            index,
-            nodes,
-        )?;
+        let one = &outcomes[k];
+        let fault = follow(alloc, machine, from, state, one, below, limit, index, nodes)?;
         if let Some(fault) = fault {
             return Ok(Some(BadOutcome { number: k, fault }));
         }
@@ -277,62 +260,44 @@ fn choices_of(alloc: Global, outcomes: &[Found], number: usize) -> Result<Vec<Ch
     Ok(choices)
 }
 
-/// The outcomes of the step from a state.
-fn outcomes_from<M: Machine>(alloc: Global, machine: &M, state: &State) -> Result<Vec<Found>, Halt>
-    requires machine { M.is_sound machine.now }
-    requires whole { length state.now ≡ count_of (M.shape machine.now) }
-    ensures lists { IfOk result (λ fs. Lists (M.shape machine.now) (steps_from (M.specification machine.now) (M.turns machine.now) (state_of (M.shape machine.now) state.now)) fs.items) }
-    ensures full { IfErr result (λ h. h ≢ halt.States) }
-    ensures apart { IfOk result (λ fs. HaveChoices AreApart fs.items) }
-{
-    match machine.outcomes(alloc, state) {
-        Ok(outcomes) => Ok(outcomes),
-        Err(refusal) => Err(halted(refusal)),
-    }
-}
-
-/// Follows all outcomes of a step from a node's state. Answers the first one with a fault, if there is one.
+/// Follows all outcomes of the step from a node's state. Answers the first one with a fault, if there is one.
 fn expand<M: Machine>(
     alloc: Global,
     machine: &M,
     from: usize,
-    below: u32,
-    limit: usize,
+    state: &State,
+    outcomes: &[Found],
+    limit: u32,
     index: &mut Index,
-    nodes: &mut Vec<Node>,
+    nodes: &mut Nodes,
 ) -> Result<Option<Bad>, Halt>
     requires machine { M.is_sound machine.now }
-    requires from { from < length nodes.old.items }
-    requires nodes { Each (IsGood (M.shape machine.now) (M.right machine.now)) nodes.old.items }
-    requires near { Each (λ n. n.depth ≤ below) nodes.old.items }
-    requires below { (n : Node) → slice_get nodes.old.items from ≡ Some n → below ≡ n.depth + 1 }
-    ensures extends { Extends (M.shape machine.now) (M.specification machine.now) (M.turns machine.now) (M.right machine.now) below nodes.old.items nodes.new.items }
-    ensures expanded { IfOk result (λ bad. IfNone bad ((n : Node) (s : Situation) → slice_get nodes.old.items from ≡ Some n →
-        LeadsOn (steps_from (M.specification machine.now) (M.turns machine.now) (state_at (M.shape machine.now) n) s) (state_at (M.shape machine.now) n) (Known (M.shape machine.now) nodes.new.items below))) }
+    requires from { from < length nodes.old }
+    requires shallow { (n : Node) → slice_get nodes.old from ≡ Some n → n.depth < 4_294_967_295 }
+    requires here { (n : Node) → slice_get nodes.old from ≡ Some n → n.state ≡ state.now }
+    requires room { length nodes.old ≤ limit }
+    requires nodes { Each (IsGood (M.shape machine.now) (M.right machine.now)) nodes.old }
+    requires near { IsNear nodes.old from }
+    requires step { IsStep (M.shape machine.now) (M.specification machine.now) (M.turns machine.now) (state_of (M.shape machine.now) state.now) outcomes.now }
+    ensures extends { (n : Node) → slice_get nodes.old from ≡ Some n → Extends (M.shape machine.now) (M.specification machine.now) (M.turns machine.now) (M.right machine.now) (n.depth + 1) nodes.old nodes.new }
+    ensures room { length nodes.new ≤ limit }
+    ensures expanded { IfOk result (λ bad. IfNone bad ((n : Node) → slice_get nodes.old from ≡ Some n → Expanded (M.shape machine.now) (M.specification machine.now) (M.turns machine.now) nodes.new n)) }
     ensures wrong { IfOk result (λ bad. IfSome bad (λ b. (b.from ≡ from) ×
-        IsBadStep (M.shape machine.now) (M.specification machine.now) (M.turns machine.now) (M.right machine.now) nodes.old.items from b.choices.items b.fault)) }
-    ensures full { IfErr result (λ h. h ≡ halt.States → limit ≤ length nodes.new.items) }
+        IsBadStep (M.shape machine.now) (M.specification machine.now) (M.turns machine.now) (M.right machine.now) nodes.old from b.choices.items b.fault)) }
     ensures apart { IfOk result (λ bad. IfSome bad (λ b. AreApart b.choices.items)) }
+    ensures full { IfErr result (λ h. h ≡ halt.States → limit ≤ length nodes.new) }
 {
-    let known = nodes.as_slice();
-    let outcomes = outcomes_from(alloc, machine, &known[from].state)?;
+    let below = nodes.depth(from) + 1;
     index.count(outcomes.len());
     match follow_all(
-        alloc,
-        machine,
-        from,
-        outcomes.as_slice(),
-        below,
-        limit,
-        index,
-        nodes,
+        alloc, machine, from, state, outcomes, below, limit, index, nodes,
     )? {
         None => {
             index.count_quiet(outcomes.len());
             Ok(None)
         }
         Some(bad) => {
-            let choices = choices_of(alloc, outcomes.as_slice(), bad.number)?;
+            let choices = choices_of(alloc, outcomes, bad.number)?;
             Ok(Some(Bad {
                 from,
                 choices,
@@ -342,164 +307,273 @@ fn expand<M: Machine>(
     }
 }
 
-/// Expands a node, unless it is as deep as the search goes, or isn't within.
-fn expand_above<M: Machine>(
+/// Expands a node, whose step has these outcomes. Answers what is wrong with the step, if anything is.
+fn expand_listed<M: Machine>(
     alloc: Global,
     machine: &M,
     from: usize,
-    steps: u32,
-    limit: usize,
+    state: &State,
+    listed: &Listed,
+    limit: u32,
     index: &mut Index,
-    nodes: &mut Vec<Node>,
+    nodes: &mut Nodes,
 ) -> Result<Option<Bad>, Halt>
     requires machine { M.is_sound machine.now }
-    requires from { from < length nodes.old.items }
-    requires near { IsNear nodes.old.items from }
-    requires nodes { Each (IsGood (M.shape machine.now) (M.right machine.now)) nodes.old.items }
-    ensures extends { (n : Node) → slice_get nodes.old.items from ≡ Some n → Extends (M.shape machine.now) (M.specification machine.now) (M.turns machine.now) (M.right machine.now) (n.depth + 1) nodes.old.items nodes.new.items }
-    ensures expanded { IfOk result (λ bad. IfNone bad ((n : Node) → slice_get nodes.old.items from ≡ Some n →
-        n.depth < steps → M.within machine.now (state_at (M.shape machine.now) n) ≡ true → Expanded (M.shape machine.now) (M.specification machine.now) (M.turns machine.now) nodes.new.items n)) }
+    requires from { from < length nodes.old }
+    requires shallow { (n : Node) → slice_get nodes.old from ≡ Some n → n.depth < 4_294_967_295 }
+    requires here { (n : Node) → slice_get nodes.old from ≡ Some n → n.state ≡ state.now }
+    requires room { length nodes.old ≤ limit }
+    requires nodes { Each (IsGood (M.shape machine.now) (M.right machine.now)) nodes.old }
+    requires near { IsNear nodes.old from }
+    requires step { IfOk listed.now (λ fs. IsStep (M.shape machine.now) (M.specification machine.now) (M.turns machine.now) (state_of (M.shape machine.now) state.now) fs.items) }
+    ensures extends { (n : Node) → slice_get nodes.old from ≡ Some n → Extends (M.shape machine.now) (M.specification machine.now) (M.turns machine.now) (M.right machine.now) (n.depth + 1) nodes.old nodes.new }
+    ensures room { length nodes.new ≤ limit }
+    ensures expanded { IfOk result (λ bad. IfNone bad ((n : Node) → slice_get nodes.old from ≡ Some n → Expanded (M.shape machine.now) (M.specification machine.now) (M.turns machine.now) nodes.new n)) }
     ensures wrong { IfOk result (λ bad. IfSome bad (λ b. (b.from ≡ from) ×
-        IsBadStep (M.shape machine.now) (M.specification machine.now) (M.turns machine.now) (M.right machine.now) nodes.old.items from b.choices.items b.fault)) }
-    ensures full { IfErr result (λ h. h ≡ halt.States → limit ≤ length nodes.new.items) }
+        IsBadStep (M.shape machine.now) (M.specification machine.now) (M.turns machine.now) (M.right machine.now) nodes.old from b.choices.items b.fault)) }
     ensures apart { IfOk result (λ bad. IfSome bad (λ b. AreApart b.choices.items)) }
+    ensures full { IfErr result (λ h. h ≡ halt.States → limit ≤ length nodes.new) }
 {
-    let known = nodes.as_slice();
-    let depth = known[from].depth;
-    if depth >= steps {
-        return Ok(None);
+    match listed {
+        Ok(outcomes) => {
+            let outcomes = outcomes.as_slice();
+            expand(alloc, machine, from, state, outcomes, limit, index, nodes)
+        }
+        Err(refusal) => Err(halted(alloc, refusal)),
     }
-    if !machine.is_within(alloc, &known[from].state) {
-        return Ok(None);
+}
+
+/// The states of a node and of those behind it, as long as they are to be expanded, and so many at
+/// most.
+fn next_states<M: Machine>(
+    alloc: Global,
+    machine: &M,
+    nodes: &Nodes,
+    first: usize,
+    steps: u32,
+    like: &State,
+) -> Result<Vec<State>, Halt>
+    requires machine { M.is_sound machine.now }
+    requires first { first < length nodes.now }
+    requires like { length like.now ≡ count_of (M.shape machine.now) }
+    requires nodes { Each (λ n. length n.state ≡ count_of (M.shape machine.now)) nodes.now }
+    ensures within { IfOk result (λ states. first + length states.items ≤ length nodes.now) }
+    ensures states { IfOk result (λ states. states.items ≡ map (λ n. n.state) (take (length states.items) (drop first nodes.now))) }
+    ensures shallow { IfOk result (λ states. Each (λ n. n.depth < steps) (take (length states.items) (drop first nodes.now))) }
+    ensures none { IfOk result (λ states. states.items ≡ [] → (n : Node) → slice_get nodes.now first ≡ Some n → n.depth < steps → (M.within machine.now) (state_at (M.shape machine.now) n) ≡ false) }
+    ensures never { IfErr result (λ h. h ≢ halt.States) }
+{
+    let mut states = Vec::new(alloc);
+    for number in first..nodes.len() {
+        if states.len() >= BATCH || nodes.depth(number) >= steps {
+            return Ok(states);
+        }
+        let state = nodes.state(alloc, number, like)?;
+        if !machine.is_within(alloc, &state) {
+            return Ok(states);
+        }
+        states.push(state)?;
     }
-    let bad = expand(alloc, machine, from, depth + 1, limit, index, nodes)?;
-    Ok(bad)
+    Ok(states)
+}
+
+/// The outcomes of the steps from some states.
+fn listed<M: Machine>(alloc: Global, machine: &M, states: &[State]) -> Result<Vec<Listed>, Halt>
+    requires machine { M.is_sound machine.now }
+    requires whole { Each (λ s. length s ≡ count_of (M.shape machine.now)) states.now }
+    ensures listed { IfOk result (λ all. AreListed (M.shape machine.now) (M.specification machine.now) (M.turns machine.now) states.now all.items) }
+    ensures never { IfErr result (λ h. h ≢ halt.States) }
+{
+    let lists = machine.outcomes(alloc, states)?;
+    Ok(lists)
+}
+
+/// Expands the nodes from one on, which have these states.
+fn expand_batch<M: Machine>(
+    alloc: Global,
+    machine: &M,
+    first: usize,
+    states: &[State],
+    steps: u32,
+    limit: u32,
+    index: &mut Index,
+    nodes: &mut Nodes,
+) -> Result<(), Looked>
+    requires machine { M.is_sound machine.now }
+    requires first { first + length states.now ≤ length nodes.old }
+    requires states { states.now ≡ map (λ n. n.state) (take (length states.now) (drop first nodes.old)) }
+    requires shallow { Each (λ n. n.depth < steps) (take (length states.now) (drop first nodes.old)) }
+    requires room { length nodes.old ≤ limit }
+    requires looked { IsLooked (M.shape machine.now) (M.specification machine.now) (M.turns machine.now) (M.right machine.now) (M.within machine.now) steps first nodes.old }
+    requires near { IsNear nodes.old first }
+    ensures room { length nodes.new ≤ limit }
+    ensures looked { IfOk result (λ _. IsLooked (M.shape machine.now) (M.specification machine.now) (M.turns machine.now) (M.right machine.now) (M.within machine.now) steps (first + length states.now) nodes.new) }
+    ensures near { IfOk result (λ _. IsNear nodes.new (first + length states.now)) }
+    ensures more { length nodes.old ≤ length nodes.new }
+    ensures stopped { IfErr result (λ stopped. IsStopped (M.shape machine.now) (M.specification machine.now) (M.turns machine.now) (M.right machine.now) (M.within machine.now) steps limit nodes.new stopped) }
+{
+    let lists = match listed(alloc, machine, states) {
+        Ok(lists) => lists,
+        Err(halt) => {
+            return Err(Looked {
+                expanded: first,
+                ended: cut_off(halt),
+            });
+        }
+    };
+    for k in 0..states.len() {
+        let from = first + k;
+        let (state, listed) = (&states[k], &lists[k]);
+        match expand_listed(alloc, machine, from, state, listed, limit, index, nodes) {
+            Ok(None) => {}
+            Ok(Some(bad)) => {
+                return Err(Looked {
+                    expanded: from,
+                    ended: Ended::Bad(bad),
+                });
+            }
+            Err(halt) => {
+                return Err(Looked {
+                    expanded: from,
+                    ended: cut_off(halt),
+                });
+            }
+        }
+    }
+    Ok(())
 }
 
 /// The end of a search whose nodes are all expanded.
-fn ended_all(nodes: &[Node], steps: u32) -> Ended
+fn ended_all(nodes: &Nodes, steps: u32) -> Ended
+    requires { Rises nodes.now }
     ensures closed { result ≡ Closed → Each (λ n. n.depth < steps) nodes.now }
     ensures done { IsDone result }
 {
-    if are_above(nodes, steps) {
+    let count = nodes.len();
+    if count > 0 && nodes.depth(count - 1) < steps {
         Ended::Closed
     } else {
         Ended::AtLimit
     }
 }
 
+/// Expands the next nodes, or passes over the next one if it isn't to be expanded. Answers how many are
+/// done with.
+fn expand_next<M: Machine>(
+    alloc: Global,
+    machine: &M,
+    expanded: usize,
+    like: &State,
+    steps: u32,
+    limit: u32,
+    index: &mut Index,
+    nodes: &mut Nodes,
+) -> Result<usize, Looked>
+    requires machine { M.is_sound machine.now }
+    requires expanded { expanded < length nodes.old }
+    requires like { length like.now ≡ count_of (M.shape machine.now) }
+    requires room { length nodes.old ≤ limit }
+    requires looked { IsLooked (M.shape machine.now) (M.specification machine.now) (M.turns machine.now) (M.right machine.now) (M.within machine.now) steps expanded nodes.old }
+    requires near { IsNear nodes.old expanded }
+    ensures room { length nodes.new ≤ limit }
+    ensures some { IfOk result (λ done. (expanded < done) × (done ≤ length nodes.new)) }
+    ensures looked { IfOk result (λ done. IsLooked (M.shape machine.now) (M.specification machine.now) (M.turns machine.now) (M.right machine.now) (M.within machine.now) steps done nodes.new) }
+    ensures near { IfOk result (λ done. IsNear nodes.new done) }
+    ensures stopped { IfErr result (λ stopped. IsStopped (M.shape machine.now) (M.specification machine.now) (M.turns machine.now) (M.right machine.now) (M.within machine.now) steps limit nodes.new stopped) }
+{
+    let states = match next_states(alloc, machine, nodes, expanded, steps, like) {
+        Ok(states) => states,
+        Err(halt) => {
+            return Err(Looked {
+                expanded,
+                ended: cut_off(halt),
+            });
+        }
+    };
+    let states = states.as_slice();
+    if states.len() == 0 {
+        return Ok(expanded + 1);
+    }
+    expand_batch(alloc, machine, expanded, states, steps, limit, index, nodes)?;
+    Ok(expanded + states.len())
+}
+
 /// Expands all nodes, and those that come of them.
 fn expand_all<M: Machine>(
     alloc: Global,
     machine: &M,
+    like: &State,
     steps: u32,
-    limit: usize,
+    limit: u32,
     index: &mut Index,
-    nodes: &mut Vec<Node>,
+    nodes: &mut Nodes,
 ) -> Looked
     requires machine { M.is_sound machine.now }
-    requires looked { IsLooked (M.shape machine.now) (M.specification machine.now) (M.turns machine.now) (M.right machine.now) (M.within machine.now) steps 0 nodes.old.items }
-    requires near { IsNear nodes.old.items 0 }
-    ensures within { result.expanded ≤ length nodes.new.items }
-    ensures looked { IsLooked (M.shape machine.now) (M.specification machine.now) (M.turns machine.now) (M.right machine.now) (M.within machine.now) steps result.expanded nodes.new.items }
-    ensures all { IsDone result.ended → result.expanded ≡ length nodes.new.items }
-    ensures closed { result.ended ≡ Closed → Each (λ n. n.depth < steps) nodes.new.items }
-    ensures wrong { IfBad result.ended (IsBad (M.shape machine.now) (M.specification machine.now) (M.turns machine.now) (M.right machine.now) nodes.new.items) }
-    ensures full { result.ended ≡ TooManyStates → limit ≤ length nodes.new.items }
+    requires like { length like.now ≡ count_of (M.shape machine.now) }
+    requires room { length nodes.old ≤ limit }
+    requires looked { IsLooked (M.shape machine.now) (M.specification machine.now) (M.turns machine.now) (M.right machine.now) (M.within machine.now) steps 0 nodes.old }
+    requires near { IsNear nodes.old 0 }
+    ensures { IsStopped (M.shape machine.now) (M.specification machine.now) (M.turns machine.now) (M.right machine.now) (M.within machine.now) steps limit nodes.new result }
 {
-    for i in 0..usize::MAX {
-        if i >= nodes.len() {
-            return Looked {
-                expanded: nodes.len(),
-                ended: ended_all(nodes.as_slice(), steps),
-            };
-        }
-        match expand_above(alloc, machine, i, steps, limit, index, nodes) {
-            Ok(None) => {}
-            Ok(Some(bad)) => {
-                return Looked {
-                    expanded: i,
-                    ended: Ended::Bad(bad),
-                };
-            }
-            Err(halt) => {
-                return Looked {
-                    expanded: i,
-                    ended: cut_off(halt),
-                };
-            }
+    let mut expanded = 0;
+    while expanded < nodes.len() {
+        match expand_next(alloc, machine, expanded, like, steps, limit, index, nodes) {
+            Ok(done) => expanded = done,
+            Err(stopped) => return stopped,
         }
     }
     Looked {
-        expanded: 0,
-        ended: Ended::Memory,
+        expanded,
+        ended: ended_all(nodes, steps),
     }
 }
 
-/// The least depth of these nodes, or this depth where it is less.
-fn least_depth(nodes: &[Node], depth: u32) -> u32
-    ensures low { result ≤ depth }
-    ensures least { Each (λ n. result ≤ n.depth) nodes.now }
-    ensures none { nodes.now ≡ [] → result ≡ depth }
+/// The depth up to which all nodes are expanded, where the first ones are, so many.
+fn whole_depth(nodes: &Nodes, expanded: usize, steps: u32) -> u32
+    requires { Rises nodes.now }
+    ensures low { result ≤ steps }
+    ensures least { Each (λ n. result ≤ n.depth) (drop expanded nodes.now) }
+    ensures none { length nodes.now ≤ expanded → result ≡ steps }
+    ensures next { (n : Node) → slice_get nodes.now expanded ≡ Some n → n.depth < steps → result ≡ n.depth }
 {
-    let mut least = depth;
-    for i in 0..nodes.len() {
-        let node = &nodes[i];
-        if node.depth < least {
-            least = node.depth;
-        }
+    if expanded < nodes.len() {
+        steps.min(nodes.depth(expanded))
+    } else {
+        steps
     }
-    least
-}
-
-/// Whether all nodes are above a depth.
-fn are_above(nodes: &[Node], depth: u32) -> bool
-    ensures { IsTrue result → Each (λ n. n.depth < depth) nodes.now }
-{
-    for i in 0..nodes.len() {
-        let node = &nodes[i];
-        if node.depth >= depth {
-            return false;
-        }
-    }
-    true
 }
 
 /// Looks through all runs of so many steps. Each run of at most `whole` steps under each script ends
 /// at its limit, in a state that is right; where nothing is left to be looked at, so does each run of
 /// however many steps; where a bad step was found, each script that makes its choices and those that
-/// lead to it has a run that goes wrong in this step, and none of these steps makes two choices at one
-/// path. The first state is to be right.
+/// lead to it has a run that goes wrong in this step. The first state is to be right.
 pub fn explore<M: Machine>(
     alloc: Global,
     machine: &M,
-    initial: State,
+    initial: &State,
     steps: u32,
-    limit: usize,
+    limit: u32,
 ) -> Result<Explored, AllocError>
     requires machine { M.is_sound machine.now }
-    requires whole { length initial ≡ count_of (M.shape machine.now) }
-    requires initial { state_of (M.shape machine.now) initial ≡ (M.specification machine.now).initial }
-    requires right { M.right machine.now (M.specification machine.now).initial ≡ true }
-    ensures safe { IfOk result (λ explored. IsSafeUpTo (M.specification machine.now) (M.turns machine.now) (M.within machine.now) (λ A. M.right machine.now A ≡ true) explored.whole) }
-    ensures closed { IfOk result (λ explored. explored.ended ≡ Closed → IsSafe (M.specification machine.now) (M.turns machine.now) (M.within machine.now) (λ A. M.right machine.now A ≡ true)) }
+    requires kept { IsStateOf (M.shape machine.now) initial.now }
+    requires initial { state_of (M.shape machine.now) initial.now ≡ (M.specification machine.now).initial }
+    requires right { (M.right machine.now) (M.specification machine.now).initial ≡ true }
+    ensures safe { IfOk result (λ explored. IsSafeUpTo (M.specification machine.now) (M.turns machine.now) (M.within machine.now) (λ A. (M.right machine.now) A ≡ true) explored.whole) }
+    ensures closed { IfOk result (λ explored. explored.ended ≡ Closed → IsSafe (M.specification machine.now) (M.turns machine.now) (M.within machine.now) (λ A. (M.right machine.now) A ≡ true)) }
     ensures at_limit { IfOk result (λ explored. explored.ended ≡ AtLimit → explored.whole ≡ steps) }
-    ensures wrong { IfOk result (λ explored. IfBad explored.ended (GoesWrongSo (M.specification machine.now) (M.turns machine.now) (M.right machine.now) explored.nodes.items)) }
-    ensures full { IfOk result (λ explored. explored.ended ≡ TooManyStates → limit ≤ length explored.nodes.items) }
+    ensures wrong { IfOk result (λ explored. IfBad explored.ended (GoesWrongSo (M.specification machine.now) (M.turns machine.now) (M.right machine.now) (M.shape machine.now) explored.nodes)) }
+    ensures deep { IfOk result (λ explored. IfBad explored.ended (λ bad. (n : Node) → slice_get explored.nodes bad.from ≡ Some n → n.depth ≡ explored.whole)) }
+    ensures nodes { IfOk result (λ explored. Each (IsGood (M.shape machine.now) (M.right machine.now)) explored.nodes × Each (IsLinked (M.shape machine.now) (M.specification machine.now) (M.turns machine.now) explored.nodes) explored.nodes) }
+    ensures full { IfOk result (λ explored. explored.ended ≡ TooManyStates → limit ≤ length explored.nodes) }
 {
-    let mut nodes = Vec::new(alloc);
-    nodes.push(Node {
-        state: initial,
-        from: 0,
-        choices: Vec::new(alloc),
-        depth: 0,
-    })?;
-    let mut index = Index::new(alloc);
     let count = machine.signature().count();
-    note_last(alloc, nodes.as_slice(), count, &mut index)?;
-    let looked = expand_all(alloc, machine, steps, limit, &mut index, &mut nodes);
-    let all = nodes.as_slice();
-    let whole = least_depth(&all[looked.expanded..], steps);
+    let mut nodes = Nodes::new(alloc);
+    nodes.push(initial, count, 0, 0)?;
+    let mut index = Index::new(alloc);
+    note_last(alloc, &nodes, &mut index)?;
+    let room = limit.max(1);
+    let looked = expand_all(alloc, machine, initial, steps, room, &mut index, &mut nodes);
+    let whole = whole_depth(&nodes, looked.expanded, steps);
     Ok(Explored {
         nodes,
         whole,

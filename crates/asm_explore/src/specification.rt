@@ -7,13 +7,12 @@ ghost use Rattle.asm_meaning.specs.Declarations.{specification_of};
 ghost use Rattle.asm_eval.specs.CodeViews.{code_of};
 ghost use Rattle.asm_eval.specs.RuleMeaning.{IsSoundTest};
 ghost use Rattle.asm_explore.specs.Conditions.{holds_in, IsSpecified};
-ghost use Rattle.asm_explore.specs.Lists.{Lists};
-ghost use Rattle.asm_explore.specs.Reached.{steps_from};
+ghost use Rattle.asm_explore.specs.Steps.{IsStep};
 
 use crate::candidates::passes;
 use crate::exploration::Exploration;
 use crate::found::Found;
-use crate::machine::Machine;
+use crate::machine::{Listed, Machine};
 use crate::outcomes::outcomes;
 use crate::refusal::Refusal;
 use crate::specified::Specified;
@@ -24,7 +23,7 @@ use asm_meaning::View;
 use asm_state::signature::Signature;
 use asm_state::state::State;
 use asm_updates::summary::Summary;
-use std::alloc::Global;
+use std::alloc::{AllocError, Global};
 
 /// Whether the condition holds in the state, where no name is bound.
 fn holds_at(alloc: Global, signature: &Signature, state: &State, test: &Option<Code>) -> bool
@@ -35,6 +34,30 @@ fn holds_at(alloc: Global, signature: &Signature, state: &State, test: &Option<C
     let nothing = Summary::new(alloc, signature.count());
     let view = View::new(signature, state, &nothing);
     passes(&view, &Frame::Empty, test)
+}
+
+/// What the step from a state yields, through all scripts.
+fn step_outcomes(
+    alloc: Global,
+    specified: &Specified<'_>,
+    state: &State,
+) -> Result<Vec<Found>, Refusal>
+    requires sound { IsSpecified specified.now }
+    requires whole { length state.now ≡ count_of (shape_of (spec_of specified.now.checked.now.spec)) }
+    ensures { let s = spec_of specified.now.checked.now.spec in
+        IfOk result (λ fs. IsStep (shape_of s) (specification_of s) specified.now.turns (state_of (shape_of s) state.now) fs.items) }
+{
+    resolving_laws();
+    let signature = specified.checked.signature();
+    let nothing = Summary::new(alloc, signature.count());
+    let view = View::new(signature, state, &nothing);
+    let on = Exploration {
+        view: &view,
+        turns: specified.turns,
+        limit: specified.limit,
+    };
+    let found = outcomes(alloc, &on, &Frame::Empty, specified.code, &[])?;
+    Ok(found)
 }
 
 impl<'a> Machine for Specified<'a> {
@@ -54,18 +77,13 @@ impl<'a> Machine for Specified<'a> {
         self.checked.signature()
     }
 
-    fn outcomes(&self, alloc: Global, state: &State) -> Result<Vec<Found>, Refusal> {
-        resolving_laws();
-        let signature = self.checked.signature();
-        let nothing = Summary::new(alloc, signature.count());
-        let view = View::new(signature, state, &nothing);
-        let on = Exploration {
-            view: &view,
-            turns: self.turns,
-            limit: self.limit,
-        };
-        let found = outcomes(alloc, &on, &Frame::Empty, self.code, &[])?;
-        Ok(found)
+    fn outcomes(&self, alloc: Global, states: &[State]) -> Result<Vec<Listed>, AllocError> {
+        let mut all = Vec::new(alloc);
+        for k in 0..states.len() {
+            let listed = step_outcomes(alloc, self, &states[k]);
+            all.push(listed)?;
+        }
+        Ok(all)
     }
 
     fn is_right(&self, alloc: Global, state: &State) -> bool {

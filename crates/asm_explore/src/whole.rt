@@ -27,7 +27,7 @@ pub struct Question {
     /// Runs are looked at of at most so many steps.
     pub steps: u32,
     /// So many states may be reached.
-    pub states: usize,
+    pub states: u32,
     /// So many outcomes may be listed at once.
     pub outcomes: usize,
 }
@@ -37,14 +37,14 @@ fn explore_specified(
     alloc: Global,
     specified: &Specified<'_>,
     steps: u32,
-    states: usize,
+    states: u32,
 ) -> Result<Answered, AllocError>
     requires { IsSpecified specified.now }
     ensures { let s = spec_of specified.now.checked.now.spec in
         IfOk result (λ answer. Claims (specification_of s) specified.now.turns steps states (holds_in (shape_of s) specified.now.always.now) (holds_in (shape_of s) specified.now.within.now) answer.states answer.finding) }
 {
     let initial = State::initial(alloc, specified.checked.signature())?;
-    explore_machine(alloc, specified, initial, steps, states)
+    explore_machine(alloc, specified, &initial, steps, states)
 }
 
 /// Looks through all runs of a specification for a step that goes wrong, or leads to a state in

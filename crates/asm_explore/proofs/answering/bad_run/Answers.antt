@@ -1,25 +1,86 @@
-use Rattle.std.proofs.Common.{◌≡◌, suc, ◌+◌, sym, ap, subst, ◌∙◌, arith}
-use Rattle.std.specs.Prelude.{Some, slice_get}
-use Rattle.std.proofs.lemmas.Option.{slice_get-get_or, slice_get_within}
+use Rattle.std.proofs.Common.{◌≡◌, suc, ◌+◌, ◌∷◌, map, length, sym, ap, subst, ◌∙◌, arith, Vec, Global}
+use Rattle.std.specs.Prelude.{IfErr}
+use Rattle.std.specs.String.{string_bytes}
+use Rattle.std.proofs.lemmas.List.{length-map}
+use Rattle.asm_syntax.specs.declared.refused.Refused.TheVariants.{Named}
+use Rattle.asm_reader.specs.ExactLines.{exactly}
+use Rattle.asm_reader.specs.ScriptText.{IsScript}
 use Rattle.asm_meaning.specs.Run.{run}
+use Rattle.asm_explore.specs.declared.found.Choice.{Choice}
+use Rattle.asm_explore.specs.Lists.{Each}
+use Rattle.asm_explore.specs.Placed.{AreApart}
+use Rattle.asm_explore.specs.Reached.{state_at}
+use Rattle.asm_explore.specs.ScriptTo.{lines_of, needed}
 use Rattle.asm_explore.specs.Search.{EndsSo}
-use Rattle.asm_explore.proofs.Taken.{some_same}
+use Rattle.asm_explore.specs.Written.{IsTextRefusal, lines_text, numbers_in}
+use Rattle.asm_explore.proofs.LinesTo.{needed_make}
+use Rattle.asm_explore.proofs.Trails.{leads_apart, long_text}
 use Rattle.asm_explore.proofs.answering.bad_run.Goals as goal
 
-pub returns-in-Ok : goal.returns-in-Ok
-returns-in-Ok g c = λ limit states.
+pub script_to-requires : goal.script_to-requires
+script_to-requires g c =
     let a = c.args in
+    let specification = g.M.Machine.specification a.machine.now in
+    let turns = g.M.Machine.turns a.machine.now in
     let wrong = c.requires.wrong in
-    let found = c.in-Ok.ensures.script wrong.from wrong.there in
-    let m = c.index-nodes-bad.result in
-    let here : slice_get a.nodes.now a.bad.now.from ≡ Some m = slice_get-get_or a.nodes.now a.bad.now.from m (slice_get_within a.nodes.now a.bad.now.from wrong.from wrong.there) ∙ ap Some (sym c.index-nodes-bad.is) in
-    let depth : m.depth ≡ wrong.from.depth = ap (λ n. n.depth) (some_same m wrong.from (sym here ∙ wrong.there)) in
-    let step : suc wrong.from.depth ≡ c.from.result + 1 = omega (arith, depth, c.if-depth-whole.false, c.from.ensures) in
+    let n = wrong.from in
+    let trail = map (λ (cs : Vec Choice Global). cs.items) c.in-Ok.trail.items in
+    let leads = c.in-Ok.ensures.leads n wrong.there in
+    let apart : Each AreApart (a.bad.choices.items ∷ trail) = (wrong.apart, leads_apart specification turns trail (state_at (g.M.Machine.shape a.machine.now) n) leads) in
+    let back : map (λ (cs : Vec Choice Global). cs.items) c.as_slice.result.now ≡ a.bad.choices.items ∷ trail =
+    ap (map (λ (cs : Vec Choice Global). cs.items)) (c.as_slice.ensures.value ∙ c.in_ok-back.ensures) in
+    subst (Each AreApart) (sym back) apart
+
+pub returns-in-Ok-script_to : goal.returns-in-Ok-script_to
+returns-in-Ok-script_to g c = λ limit states.
+    let a = c.args in
+    let specification = g.M.Machine.specification a.machine.now in
+    let turns = g.M.Machine.turns a.machine.now in
+    let wrong = c.requires.wrong in
+    let n = wrong.from in
+    let trail = map (λ (cs : Vec Choice Global). cs.items) c.in-Ok.trail.items in
+    let leads = c.in-Ok.ensures.leads n wrong.there in
+    let apart : Each AreApart (a.bad.choices.items ∷ trail) = (wrong.apart, leads_apart specification turns trail (state_at (g.M.Machine.shape a.machine.now) n) leads) in
+    let back : map (λ (cs : Vec Choice Global). cs.items) c.as_slice.result.now ≡ a.bad.choices.items ∷ trail =
+    ap (map (λ (cs : Vec Choice Global). cs.items)) (c.as_slice.ensures.value ∙ c.in_ok-back.ensures) in
+    let lines = needed (lines_of (a.bad.choices.items ∷ trail)) in
+    let step : suc (length trail) ≡ c.from.result + 1 =
+    omega (arith, length-map c.in-Ok.trail.items (λ (cs : Vec Choice Global). cs.items), c.in-Ok.ensures.deep n wrong.there, c.requires.deep n wrong.there, c.from.ensures) in
+    let ends = subst (λ k. EndsSo (g.M.Machine.right a.machine.now) a.bad.fault k (run specification turns (exactly lines) k)) step
+    (wrong.wrong trail leads (exactly lines) (needed_make (a.bad.choices.items ∷ trail) apart)) in
     record {
-      script = found.0;
-      spelled = found.1;
-      wrong = subst (λ k. EndsSo (g.M.Machine.right a.machine.now) a.bad.now.fault k (run (g.M.Machine.specification a.machine.now) (g.M.Machine.turns a.machine.now) found.0 k)) step
-          (wrong.wrong found.0 found.2);
+      script = exactly lines;
+      spelled = subst (λ b. IsScript (string_bytes c.in-Ok-script_to.script) (exactly (needed (lines_of b)))) back c.in-Ok-script_to.ensures.script;
+      wrong = ends;
+      before = a.whole;
+      next = omega (arith, c.from.ensures);
+      shortest = c.requires.safe;
+    }
+
+pub returns : goal.returns
+returns g c = λ limit states.
+    let a = c.args in
+    let specification = g.M.Machine.specification a.machine.now in
+    let turns = g.M.Machine.turns a.machine.now in
+    let wrong = c.requires.wrong in
+    let n = wrong.from in
+    let trail = map (λ (cs : Vec Choice Global). cs.items) c.in-Ok.trail.items in
+    let leads = c.in-Ok.ensures.leads n wrong.there in
+    let apart : Each AreApart (a.bad.choices.items ∷ trail) = (wrong.apart, leads_apart specification turns trail (state_at (g.M.Machine.shape a.machine.now) n) leads) in
+    let back : map (λ (cs : Vec Choice Global). cs.items) c.as_slice.result.now ≡ a.bad.choices.items ∷ trail =
+    ap (map (λ (cs : Vec Choice Global). cs.items)) (c.as_slice.ensures.value ∙ c.in_ok-back.ensures) in
+    let lines = needed (lines_of (a.bad.choices.items ∷ trail)) in
+    let step : suc (length trail) ≡ c.from.result + 1 =
+    omega (arith, length-map c.in-Ok.trail.items (λ (cs : Vec Choice Global). cs.items), c.in-Ok.ensures.deep n wrong.there, c.requires.deep n wrong.there, c.from.ensures) in
+    let ends = subst (λ k. EndsSo (g.M.Machine.right a.machine.now) a.bad.fault k (run specification turns (exactly lines) k)) step
+    (wrong.wrong trail leads (exactly lines) (needed_make (a.bad.choices.items ∷ trail) apart)) in
+    record {
+      lines = lines;
+      wrong = ends;
+      long = long_text (numbers_in lines) (lines_text lines) c.in-Err-Named.field-0-0
+          (subst (IsTextRefusal (numbers_in lines) (lines_text lines)) c.in-Err-Named.field-0-is
+          (subst (λ r. IfErr r (IsTextRefusal (numbers_in lines) (lines_text lines))) c.in-Err-Named.is
+          (subst (λ b. IfErr c.script_to.result (IsTextRefusal (numbers_in (needed (lines_of b))) (lines_text (needed (lines_of b))))) back c.script_to.ensures.refused)));
       before = a.whole;
       next = omega (arith, c.from.ensures);
       shortest = c.requires.safe;

@@ -1,20 +1,20 @@
-use Rattle.std.proofs.Common.{◌≤◌, length, sym, subst}
+use Rattle.std.proofs.Common.{◌≤◌, length, ◌≡◌, sym, ap, subst}
 use Rattle.asm_explore.specs.Answers.{Claims}
 use Rattle.asm_explore.proofs.answering.explore_machine.Goals as goal
-use Rattle.asm_explore.proofs.answering.explore_machine.Goals.{in-Closed, in-AtLimit, in-Bad+in_ok-finding-in-Bad, in-TooManyStates, in-TooManyOutcomes+in_ok-copy_crowd-in-TooManyOutcomes, in-Memory}
+use Rattle.asm_explore.proofs.answering.explore_machine.Goals.{in-Closed, in-AtLimit, in-Bad+in_ok-finding-in-Bad, in-TooManyStates, in-TooManyOutcomes, in-Memory}
 
 pub returns : goal.returns
 returns g c =
     let a = c.args in
-    let explored = c.in_ok-explored.ensures in
-    let states = length c.as_slice-nodes.result.now in
+    let explored = c.in_ok-nodes.ensures in
+    let states = c.len.result in
     let claims = Claims (g.M.Machine.specification a.machine.now) (g.M.Machine.turns a.machine.now) a.steps a.limit (g.M.Machine.right a.machine.now) (g.M.Machine.within a.machine.now) states in
-    elim c.match-explored.branch [
+    elim c.match-ended.branch [
       | in-Closed w ↦ subst claims (sym w.finding-is) (explored.closed w.in-Closed.is)
       | in-AtLimit w ↦ subst claims (sym w.finding-is) (explored.at_limit w.in-AtLimit.is, explored.safe)
       | in-Bad+in_ok-finding-in-Bad w ↦ subst claims (sym w.finding-is) (w.in_ok-finding-in-Bad.ensures a.limit states)
       | in-TooManyStates w ↦ subst claims (sym w.finding-is)
-          (subst (λ ns. a.limit ≤ length ns) (sym c.as_slice-nodes.ensures.value) (explored.full w.in-TooManyStates.is), explored.safe)
-      | in-TooManyOutcomes+in_ok-copy_crowd-in-TooManyOutcomes w ↦ subst claims (sym w.finding-is) explored.safe
+          (subst (λ n. a.limit ≤ n) (sym c.len.ensures) (explored.full w.in-TooManyStates.is), explored.safe)
+      | in-TooManyOutcomes w ↦ subst claims (sym w.finding-is) explored.safe
       | in-Memory w ↦ subst claims (sym w.finding-is) explored.safe
     ]

@@ -1,11 +1,11 @@
-use Rattle.asm_explore.proofs.LinesTo.{with_apart, takes_with, takes_needed}
+use Rattle.asm_explore.proofs.LinesTo.{lines_apart, lines_make, needed_make}
 use Rattle.asm_explore.proofs.laws.script_law.Goals as goal
 
 pub returns-clause-apart : goal.returns-clause-apart
-returns-clause-apart c = with_apart
+returns-clause-apart c = lines_apart
 
-pub returns-clause-takes : goal.returns-clause-takes
-returns-clause-takes c = takes_with
+pub returns-clause-makes : goal.returns-clause-makes
+returns-clause-makes c = lines_make
 
 pub returns-clause-needed : goal.returns-clause-needed
-returns-clause-needed c = takes_needed
+returns-clause-needed c = needed_make

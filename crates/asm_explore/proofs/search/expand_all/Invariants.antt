@@ -1,9 +1,15 @@
+use Rattle.std.proofs.Common.{◌≤◌, ◌-◌, length}
 use Rattle.asm_explore.specs.Reached.{IsLooked, IsNear}
 use Rattle.asm_explore.proofs.search.expand_all.Given as goal
 
 -- the first nodes are expanded
-abbrev pub invariant-loop-i : goal.invariant-loop-i
-invariant-loop-i g l = record {
-  looked : IsLooked (g.M.Machine.shape l.machine) (g.M.Machine.specification l.machine) (g.M.Machine.turns l.machine) (g.M.Machine.right l.machine) (g.M.Machine.within l.machine) l.steps l.i l.nodes.items;
-  near : IsNear l.nodes.items l.i;
+abbrev pub invariant-loop-expanded : goal.invariant-loop-expanded
+invariant-loop-expanded g l = record {
+  some : l.expanded ≤ length l.nodes;
+  room : length l.nodes ≤ l.limit;
+  looked : IsLooked (g.M.Machine.shape l.machine) (g.M.Machine.specification l.machine) (g.M.Machine.turns l.machine) (g.M.Machine.right l.machine) (g.M.Machine.within l.machine) l.steps l.expanded l.nodes;
+  near : IsNear l.nodes l.expanded;
 }
+
+abbrev pub decreases-loop-expanded : goal.decreases-loop-expanded
+decreases-loop-expanded g l = l.limit - l.expanded

@@ -1,20 +1,12 @@
-use Rattle.std.proofs.Common.{◌≡◌, ℕ, ◌≤◌, ◌-◌, ◌∙◌, [], List, take, drop, length, refl, ap, subst, arith}
-use Rattle.std.proofs.lemmas.List.{drop_all, take_rest}
-use Rattle.asm_explore.specs.declared.node.Node.{Node}
-use Rattle.asm_explore.specs.Lists.{Each}
+use Rattle.std.proofs.Common.{◌≡◌, ◌≤◌, ◌∙◌, refl, ap, sym, subst, arith}
+use Rattle.std.specs.Prelude.{slice_get, Some}
+use Rattle.asm_explore.specs.declared.explored.Bad.{Bad}
+use Rattle.asm_explore.specs.Kept.{Node}
 use Rattle.asm_explore.specs.Reached.{IsBad, GoesWrongSo}
 use Rattle.asm_explore.proofs.Chains.{bad_runs}
 use Rattle.asm_explore.proofs.Endings.{if_bad_weaker, closed_done, at_limit_done}
 use Rattle.asm_explore.proofs.Reaching.{looked_none, near_none, only_node, looked_whole, looked_done, search_covers, closure_covers}
 use Rattle.asm_explore.proofs.search.explore.Goals as goal
-
-rest_of : (P : List Node → Type 0) (xs nodes : List Node) (i : ℕ) → xs ≡ nodes → P (take (length xs - i) (drop i xs)) → P (drop i nodes)
-rest_of P xs nodes i same h = subst (λ ns. P (drop i ns)) same (subst P (take_rest xs i) h)
-
-none_left : (xs nodes : List Node) (i : ℕ) → xs ≡ nodes → i ≡ length nodes → take (length xs - i) (drop i xs) ≡ []
-none_left xs nodes i same all =
-    let long : length xs ≡ length nodes = ap length same in
-    take_rest xs i ∙ drop_all i xs (omega (arith, long, all))
 
 pub returns-clause-safe : goal.returns-clause-safe
 returns-clause-safe g c =
@@ -24,13 +16,11 @@ returns-clause-safe g c =
     let turns = g.M.Machine.turns a.machine.now in
     let right = g.M.Machine.right a.machine.now in
     let within = g.M.Machine.within a.machine.now in
-    let looked = c.expand_all-looked.ensures in
-    let nodes = c.expand_all-looked.new.nodes.items in
+    let nodes = c.expand_all-looked.new.nodes in
     let i = c.expand_all-looked.result.expanded in
-    let whole = c.least_depth-whole.result in
+    let whole = c.whole_depth-whole.result in
     search_covers shape specification turns right within whole nodes
-    (looked_whole shape specification turns right within a.steps i whole nodes c.least_depth-whole.ensures.low
-    (rest_of (Each (λ n. whole ≤ n.depth)) c.as_slice-all.result.now nodes i c.as_slice-all.ensures.value c.least_depth-whole.ensures.least) looked.looked)
+    (looked_whole shape specification turns right within a.steps i whole nodes c.whole_depth-whole.ensures.low c.whole_depth-whole.ensures.least c.expand_all-looked.ensures.so_far)
 
 pub returns-clause-closed : goal.returns-clause-closed
 returns-clause-closed g c = λ closed.
@@ -41,19 +31,11 @@ returns-clause-closed g c = λ closed.
     let right = g.M.Machine.right a.machine.now in
     let within = g.M.Machine.within a.machine.now in
     let looked = c.expand_all-looked.ensures in
-    let nodes = c.expand_all-looked.new.nodes.items in
+    let nodes = c.expand_all-looked.new.nodes in
     let i = c.expand_all-looked.result.expanded in
-    let all : i ≡ length nodes = looked.all (closed_done c.expand_all-looked.result.ended closed) in
+    let all = looked.all (closed_done c.expand_all-looked.result.ended closed) in
     closure_covers shape specification turns right within a.steps nodes
-    (looked_done shape specification turns right within a.steps i nodes (omega (arith, all)) looked.looked) (looked.closed closed)
-
-pub returns-clause-at_limit : goal.returns-clause-at_limit
-returns-clause-at_limit g c = λ at_limit.
-    let looked = c.expand_all-looked.ensures in
-    let nodes = c.expand_all-looked.new.nodes.items in
-    let i = c.expand_all-looked.result.expanded in
-    let all : i ≡ length nodes = looked.all (at_limit_done c.expand_all-looked.result.ended at_limit) in
-    c.least_depth-whole.ensures.none (none_left c.as_slice-all.result.now nodes i c.as_slice-all.ensures.value all)
+    (looked_done shape specification turns right within a.steps i nodes (omega (arith, all)) looked.so_far) (looked.closed closed)
 
 pub returns-clause-wrong : goal.returns-clause-wrong
 returns-clause-wrong g c =
@@ -62,27 +44,13 @@ returns-clause-wrong g c =
     let specification = g.M.Machine.specification a.machine.now in
     let turns = g.M.Machine.turns a.machine.now in
     let right = g.M.Machine.right a.machine.now in
-    let within = g.M.Machine.within a.machine.now in
-    let looked = c.expand_all-looked.ensures in
-    let nodes = c.expand_all-looked.new.nodes.items in
-    if_bad_weaker (IsBad shape specification turns right nodes) (GoesWrongSo specification turns right nodes) c.expand_all-looked.result.ended
-    (λ bad. bad_runs specification turns right shape nodes bad looked.looked.linked) looked.wrong
+    let nodes = c.expand_all-looked.new.nodes in
+    if_bad_weaker _ (GoesWrongSo specification turns right shape nodes) c.expand_all-looked.result.ended
+    (λ bad is. bad_runs specification turns right shape nodes bad is.0) c.expand_all-looked.ensures.wrong
 
-pub expand_all-looked-requires-clause-looked : goal.expand_all-looked-requires-clause-looked
-expand_all-looked-requires-clause-looked g c =
+pub returns-clause-deep : goal.returns-clause-deep
+returns-clause-deep g c =
     let a = c.args in
-    let shape = g.M.Machine.shape a.machine.now in
-    let specification = g.M.Machine.specification a.machine.now in
-    let turns = g.M.Machine.turns a.machine.now in
-    let right = g.M.Machine.right a.machine.now in
-    let within = g.M.Machine.within a.machine.now in
-    let nodes = c.push.new.self.items in
-    looked_none shape specification turns right within a.steps nodes _ (only_node c.new-nodes.result.items nodes _ c.in_ok-push.ensures.items c.new-nodes.ensures.items)
-    (record { whole = c.requires.whole; is_right = ap right c.requires.initial ∙ c.requires.right }) refl c.requires.initial
-
-pub expand_all-looked-requires-clause-near : goal.expand_all-looked-requires-clause-near
-expand_all-looked-requires-clause-near g c =
-    let a = c.args in
-    let nodes = c.push.new.self.items in
-    near_none (g.M.Machine.shape a.machine.now) (g.M.Machine.specification a.machine.now) (g.M.Machine.turns a.machine.now) (g.M.Machine.right a.machine.now) (g.M.Machine.within a.machine.now) a.steps
-    nodes _ (only_node c.new-nodes.result.items nodes _ c.in_ok-push.ensures.items c.new-nodes.ensures.items) refl
+    let nodes = c.expand_all-looked.new.nodes in
+    if_bad_weaker _ (λ (bad : Bad). (n : Node) → slice_get nodes bad.from ≡ Some n → n.depth ≡ c.whole_depth-whole.result) c.expand_all-looked.result.ended
+    (λ bad is n there. sym (c.whole_depth-whole.ensures.next n (subst (λ i. slice_get nodes i ≡ Some n) is.1 there) (is.2 n there))) c.expand_all-looked.ensures.wrong

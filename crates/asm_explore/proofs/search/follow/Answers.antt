@@ -1,38 +1,53 @@
-use Rattle.std.proofs.Common.{◌≡◌, ◌≤◌, ◌∙◌, length, refl, false, ap, sym, subst, get_or}
-use Rattle.std.proofs.lemmas.Option.{get_or_from_slice_get}
+use Rattle.std.proofs.Common.{◌≡◌, ◌≤◌, ◌∙◌, length, refl, false, ap, sym, subst}
+use Rattle.asm_state.specs.Contents.{IsStateOf}
 use Rattle.asm_state.specs.Signature.{state_of}
 use Rattle.asm_state.specs.Updates.{fire}
 use Rattle.asm_updates.specs.Stands.{Stands}
-use Rattle.asm_explore.specs.Lists.{AreTaken}
-use Rattle.asm_explore.specs.Reached.{Known, steps_from, state_at}
-use Rattle.asm_explore.proofs.Reaching.{set_leads, set_wrong, path_wrong}
-use Rattle.asm_explore.proofs.Sequenced.{no_fault_found, fault_found}
 use Rattle.asm_explore.specs.declared.halt.Halt.TheVariants as halt
+use Rattle.asm_explore.specs.Lists.{Situation}
+use Rattle.asm_explore.specs.Reached.{Known, steps_from, state_at}
 use Rattle.asm_explore.proofs.Endings.{full_on}
+use Rattle.asm_explore.proofs.LinesTo.{some_script}
+use Rattle.asm_explore.proofs.Reaching.{set_leads, set_stands, set_wrong, path_wrong, some_at}
+use Rattle.asm_explore.proofs.Sequenced.{no_fault_found, fault_found}
 use Rattle.asm_explore.proofs.search.follow.Goals as goal
+
+pub reach-requires-clause-state : goal.reach-requires-clause-state
+reach-requires-clause-state g c =
+    let a = c.args in
+    let shape = g.M.Machine.shape a.machine.now in
+    let signature = c.signature-signature.result.now in
+    let set = c.in-Set.updates in
+    let n = some_at a.nodes.now a.from c.requires.from in
+    let taken = some_script 1 a.one.now.choices.items c.requires.apart in
+    let s : Situation = record { script = taken.0; step = 1 } in
+    let r = steps_from (g.M.Machine.specification a.machine.now) (g.M.Machine.turns a.machine.now) (state_at shape n.0) s in
+    let stands = set_stands shape set a.one.now r c.in-Set.is ((c.requires.outcome n.0 n.1).1 s taken.1) in
+    let here : Stands signature set.set stands.0 = subst (λ s. Stands s set.set stands.0) (sym c.signature-signature.ensures) stands.1 in
+    subst (λ s. IsStateOf s c.in_ok-next.next) c.signature-signature.ensures
+    (c.in_ok-next.ensures.state stands.0 here (no_fault_found signature set.set stands.0 c.first_fault.result (sym c.if-is_some.ensures) c.first_fault.ensures.consistent here)
+    (subst (λ s. IsStateOf s a.state.now) (sym c.signature-signature.ensures) c.requires.state))
 
 pub reach-requires-clause-leads : goal.reach-requires-clause-leads
 reach-requires-clause-leads g c = λ n there.
     let a = c.args in
     let shape = g.M.Machine.shape a.machine.now in
     let signature = c.signature-signature.result.now in
-    let x = c.index-known-from.result in
-    let y = get_or c.as_slice-known.result.now a.from x in
-    let same : y ≡ n = ap (λ ns. get_or ns a.from x) c.as_slice-known.ensures.value ∙ get_or_from_slice_get a.nodes.now.items a.from n x there in
-    let outcome = c.requires.outcome n there in (
-      outcome.0,
-      λ s taken.
-          let r = steps_from (g.M.Machine.specification a.machine.now) (g.M.Machine.turns a.machine.now) (state_at shape n) s in
-          set_leads shape c.in-Set.updates a.one.now (state_at shape n) c.in_ok-next.next r (λ A. A ≡ state_of shape c.in_ok-next.next) c.in-Set.is
-          (outcome.1 s (subst (AreTaken s) c.as_slice.ensures.value taken))
-          (λ U stands. no_fault_found signature c.in-Set.updates.set U c.first_fault.result (sym c.if-is_some.ensures) c.first_fault.ensures.consistent
-          (subst (λ s. Stands s c.in-Set.updates.set U) (sym c.signature-signature.ensures) stands))
-          (λ U stands consistent.
-          subst (λ s. state_of s c.in_ok-next.next ≡ fire (state_of s y.state) U) c.signature-signature.ensures
-          (c.in_ok-next.ensures.fired U (subst (λ s. Stands s c.in-Set.updates.set U) (sym c.signature-signature.ensures) stands) consistent)
-          ∙ ap (λ m. fire (state_at shape m) U) same)
-          refl,
-    )
+    let set = c.in-Set.updates in
+    let outcome = c.requires.outcome n there in
+    let taken = some_script 1 a.one.now.choices.items c.requires.apart in
+    let s : Situation = record { script = taken.0; step = 1 } in
+    let r = steps_from (g.M.Machine.specification a.machine.now) (g.M.Machine.turns a.machine.now) (state_at shape n) s in
+    let leads = set_leads shape set a.one.now (state_at shape n) c.in_ok-next.next r (λ A. A ≡ state_of shape c.in_ok-next.next) c.in-Set.is
+    (outcome.1 s taken.1)
+    (λ U stands. no_fault_found signature set.set U c.first_fault.result (sym c.if-is_some.ensures) c.first_fault.ensures.consistent
+    (subst (λ s. Stands s set.set U) (sym c.signature-signature.ensures) stands))
+    (λ U stands consistent.
+    subst (λ s. state_of s c.in_ok-next.next ≡ fire (state_of s a.state.now) U) c.signature-signature.ensures
+    (c.in_ok-next.ensures.fired U (subst (λ s. Stands s set.set U) (sym c.signature-signature.ensures) stands) consistent)
+    ∙ ap (λ xs. fire (state_of shape xs) U) (sym (c.requires.here n there)))
+    refl in
+    (outcome.0, (s, leads))
 
 pub returns-in-Exhausted-clause-wrong : goal.returns-in-Exhausted-clause-wrong
 returns-in-Exhausted-clause-wrong g c = λ n there s taken.
@@ -46,47 +61,44 @@ returns-then-is_some-clause-wrong g c = λ n there s taken.
     let a = c.args in
     let shape = g.M.Machine.shape a.machine.now in
     let signature = c.signature-signature.result.now in
+    let set = c.in-Set.updates in
     let r = steps_from (g.M.Machine.specification a.machine.now) (g.M.Machine.turns a.machine.now) (state_at shape n) s in
-    set_wrong shape c.in-Set.updates a.one.now r c.in-Set.is ((c.requires.outcome n there).1 s taken)
-    (λ U stands. fault_found signature c.in-Set.updates.set U c.first_fault.result (sym c.if-is_some.ensures) c.first_fault.ensures.first
-    (subst (λ s. Stands s c.in-Set.updates.set U) (sym c.signature-signature.ensures) stands))
+    set_wrong shape set a.one.now r c.in-Set.is ((c.requires.outcome n there).1 s taken)
+    (λ U stands. fault_found signature set.set U c.first_fault.result (sym c.if-is_some.ensures) c.first_fault.ensures.first
+    (subst (λ s. Stands s set.set U) (sym c.signature-signature.ensures) stands))
 
 pub returns-then-fine-clause-leads : goal.returns-then-fine-clause-leads
 returns-then-fine-clause-leads g c = λ n r there shows.
     let a = c.args in
     let shape = g.M.Machine.shape a.machine.now in
     let signature = c.signature-signature.result.now in
-    let x = c.index-known-from.result in
-    let y = get_or c.as_slice-known.result.now a.from x in
-    let same : y ≡ n = ap (λ ns. get_or ns a.from x) c.as_slice-known.ensures.value ∙ get_or_from_slice_get a.nodes.now.items a.from n x there in
-    set_leads shape c.in-Set.updates a.one.now (state_at shape n) c.in_ok-next.next r (Known shape c.reach.new.nodes.items a.below) c.in-Set.is shows
-    (λ U stands. no_fault_found signature c.in-Set.updates.set U c.first_fault.result (sym c.if-is_some.ensures) c.first_fault.ensures.consistent
-    (subst (λ s. Stands s c.in-Set.updates.set U) (sym c.signature-signature.ensures) stands))
+    let set = c.in-Set.updates in
+    set_leads shape set a.one.now (state_at shape n) c.in_ok-next.next r (Known shape c.reach.new.nodes a.below) c.in-Set.is shows
+    (λ U stands. no_fault_found signature set.set U c.first_fault.result (sym c.if-is_some.ensures) c.first_fault.ensures.consistent
+    (subst (λ s. Stands s set.set U) (sym c.signature-signature.ensures) stands))
     (λ U stands consistent.
-    subst (λ s. state_of s c.in_ok-next.next ≡ fire (state_of s y.state) U) c.signature-signature.ensures
-    (c.in_ok-next.ensures.fired U (subst (λ s. Stands s c.in-Set.updates.set U) (sym c.signature-signature.ensures) stands) consistent)
-    ∙ ap (λ m. fire (state_at shape m) U) same)
+    subst (λ s. state_of s c.in_ok-next.next ≡ fire (state_of s a.state.now) U) c.signature-signature.ensures
+    (c.in_ok-next.ensures.fired U (subst (λ s. Stands s set.set U) (sym c.signature-signature.ensures) stands) consistent)
+    ∙ ap (λ xs. fire (state_of shape xs) U) (sym (c.requires.here n there)))
     (c.in_ok-fine.ensures.known c.if-fine.true)
 
-pub returns-else-fine-clause-wrong : goal.returns-else-fine-clause-wrong
-returns-else-fine-clause-wrong g c = λ n there s taken.
+pub returns-clause-wrong : goal.returns-clause-wrong
+returns-clause-wrong g c = λ n there s taken.
     let a = c.args in
     let shape = g.M.Machine.shape a.machine.now in
     let signature = c.signature-signature.result.now in
-    let x = c.index-known-from.result in
-    let y = get_or c.as_slice-known.result.now a.from x in
-    let same : y ≡ n = ap (λ ns. get_or ns a.from x) c.as_slice-known.ensures.value ∙ get_or_from_slice_get a.nodes.now.items a.from n x there in
+    let set = c.in-Set.updates in
     let r = steps_from (g.M.Machine.specification a.machine.now) (g.M.Machine.turns a.machine.now) (state_at shape n) s in
-    set_leads shape c.in-Set.updates a.one.now (state_at shape n) c.in_ok-next.next r (λ A. g.M.Machine.right a.machine.now A ≡ false) c.in-Set.is
+    set_leads shape set a.one.now (state_at shape n) c.in_ok-next.next r (λ A. g.M.Machine.right a.machine.now A ≡ false) c.in-Set.is
     ((c.requires.outcome n there).1 s taken)
-    (λ U stands. no_fault_found signature c.in-Set.updates.set U c.first_fault.result (sym c.if-is_some.ensures) c.first_fault.ensures.consistent
-    (subst (λ s. Stands s c.in-Set.updates.set U) (sym c.signature-signature.ensures) stands))
+    (λ U stands. no_fault_found signature set.set U c.first_fault.result (sym c.if-is_some.ensures) c.first_fault.ensures.consistent
+    (subst (λ s. Stands s set.set U) (sym c.signature-signature.ensures) stands))
     (λ U stands consistent.
-    subst (λ s. state_of s c.in_ok-next.next ≡ fire (state_of s y.state) U) c.signature-signature.ensures
-    (c.in_ok-next.ensures.fired U (subst (λ s. Stands s c.in-Set.updates.set U) (sym c.signature-signature.ensures) stands) consistent)
-    ∙ ap (λ m. fire (state_at shape m) U) same)
+    subst (λ s. state_of s c.in_ok-next.next ≡ fire (state_of s a.state.now) U) c.signature-signature.ensures
+    (c.in_ok-next.ensures.fired U (subst (λ s. Stands s set.set U) (sym c.signature-signature.ensures) stands) consistent)
+    ∙ ap (λ xs. fire (state_of shape xs) U) (sym (c.requires.here n there)))
     (c.in_ok-fine.ensures.wrong c.if-fine.false)
 
 pub returns-in_err-fine-clause-full : goal.returns-in_err-fine-clause-full
 returns-in_err-fine-clause-full g c =
-    full_on (λ h. h ≡ halt.States → c.args.limit ≤ length c.reach.new.nodes.items) c.reach.result c.from_residual-in_err-fine.result c.in_err-fine.field-0.0 c.in_err-fine.was c.from_residual-in_err-fine.ensures.1 c.reach.ensures.full
+    full_on (λ h. h ≡ halt.States → c.args.limit ≤ length c.reach.new.nodes) c.reach.result c.from_residual-in_err-fine.result c.in_err-fine.field-0.0 c.in_err-fine.was c.from_residual-in_err-fine.ensures.1 c.reach.ensures.full

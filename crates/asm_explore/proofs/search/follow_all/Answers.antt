@@ -2,7 +2,7 @@ use Rattle.std.proofs.Common.{◌≡◌, ◌≤◌, ◌∙◌, length, ap, sym, 
 use Rattle.std.specs.Prelude.{Some, IfNone, IfSome, slice_get}
 use Rattle.std.proofs.lemmas.Option.{slice_get-get_or}
 use Rattle.asm_meaning.specs.Yields.{Result}
-use Rattle.asm_explore.specs.declared.node.Node.{Node}
+use Rattle.asm_explore.specs.Kept.{Node}
 use Rattle.asm_explore.specs.Lists.{Shows}
 use Rattle.asm_explore.specs.Placed.{AreApart}
 use Rattle.asm_explore.specs.Reached.{IsOutcome, IsBadStep, Known, state_at}
@@ -21,8 +21,9 @@ loop-k-init g c =
     let turns = g.M.Machine.turns a.machine.now in
     let right = g.M.Machine.right a.machine.now in
     record {
-      extends = extends_none shape specification turns right a.below a.nodes.now.items;
-      follows = follows_none shape specification turns right a.nodes.now.items a.from a.below a.outcomes.now a.nodes.now.items;
+      room = c.requires.room;
+      extends = extends_none shape specification turns right a.below a.nodes.now;
+      follows = follows_none shape specification turns right a.nodes.now a.from a.below a.outcomes.now a.nodes.now;
     }
 
 pub follow-requires-clause-outcome : goal.follow-requires-clause-outcome
@@ -34,8 +35,8 @@ follow-requires-clause-outcome g c =
     let turns = g.M.Machine.turns a.machine.now in
     let right = g.M.Machine.right a.machine.now in
     let f = c.index-outcomes-k.result in
-    outcome_more shape specification turns right a.below a.nodes.now.items l.nodes.items l.invariant.extends a.from f c.requires.from
-    (each_at (IsOutcome shape specification turns a.nodes.now.items a.from a.below) a.outcomes.now l.k f c.loop-k-test.true c.index-outcomes-k.is c.requires.sound)
+    outcome_more shape specification turns right a.below a.nodes.now l.nodes l.invariant.extends a.from f c.requires.from
+    (each_at (IsOutcome shape specification turns a.nodes.now a.from a.below) a.outcomes.now l.k f c.loop-k-test.true c.index-outcomes-k.is c.requires.sound)
 
 pub loop-k-preserved : goal.loop-k-preserved
 loop-k-preserved g c =
@@ -47,10 +48,11 @@ loop-k-preserved g c =
     let right = g.M.Machine.right a.machine.now in
     let f = c.index-outcomes-k.result in
     record {
-      extends = extends_both shape specification turns right a.below a.nodes.now.items l.nodes.items c.follow.new.nodes.items l.invariant.extends c.in_ok-fault.ensures.extends;
-      follows = follows_more shape specification turns right a.nodes.now.items a.from a.below a.outcomes.now l.k f l.nodes.items c.follow.new.nodes.items
+      room = c.in_ok-fault.ensures.room;
+      extends = extends_both shape specification turns right a.below a.nodes.now l.nodes c.follow.new.nodes l.invariant.extends c.in_ok-fault.ensures.extends;
+      follows = follows_more shape specification turns right a.nodes.now a.from a.below a.outcomes.now l.k f l.nodes c.follow.new.nodes
           c.loop-k-test.true c.index-outcomes-k.is l.invariant.extends c.in_ok-fault.ensures.extends
-          (subst (λ o. IfNone o ((n : Node) (r : Result) → slice_get l.nodes.items a.from ≡ Some n → Shows shape f.answer r → LeadsOn r (state_at shape n) (Known shape c.follow.new.nodes.items a.below))) c.in_default.is
+          (subst (λ o. IfNone o ((n : Node) (r : Result) → slice_get l.nodes a.from ≡ Some n → Shows shape f.answer r → LeadsOn r (state_at shape n) (Known shape c.follow.new.nodes a.below))) c.in_default.is
           c.in_ok-fault.ensures.leads) l.invariant.follows;
     }
 
@@ -59,14 +61,14 @@ returns-in-Some-clause-extends g c =
     let a = c.args in
     let l = c.loop-k in
     extends_both (g.M.Machine.shape a.machine.now) (g.M.Machine.specification a.machine.now) (g.M.Machine.turns a.machine.now) (g.M.Machine.right a.machine.now) a.below
-    a.nodes.now.items l.nodes.items c.follow.new.nodes.items l.invariant.extends c.in_ok-fault.ensures.extends
+    a.nodes.now l.nodes c.follow.new.nodes l.invariant.extends c.in_ok-fault.ensures.extends
 
 pub returns-in_err-fault-clause-extends : goal.returns-in_err-fault-clause-extends
 returns-in_err-fault-clause-extends g c =
     let a = c.args in
     let l = c.loop-k in
     extends_both (g.M.Machine.shape a.machine.now) (g.M.Machine.specification a.machine.now) (g.M.Machine.turns a.machine.now) (g.M.Machine.right a.machine.now) a.below
-    a.nodes.now.items l.nodes.items c.follow.new.nodes.items l.invariant.extends c.follow.ensures.extends
+    a.nodes.now l.nodes c.follow.new.nodes l.invariant.extends c.follow.ensures.extends
 
 pub returns-in-Some-clause-wrong : goal.returns-in-Some-clause-wrong
 returns-in-Some-clause-wrong g c =
@@ -76,8 +78,8 @@ returns-in-Some-clause-wrong g c =
       f,
       slice_get-get_or a.outcomes.now l.k f c.loop-k-test.true ∙ ap Some (sym c.index-outcomes-k.is),
       bad_step_less (g.M.Machine.shape a.machine.now) (g.M.Machine.specification a.machine.now) (g.M.Machine.turns a.machine.now) (g.M.Machine.right a.machine.now) a.below
-          a.nodes.now.items l.nodes.items l.invariant.extends a.from f.choices.items c.in-Some.fault c.requires.from
-          (subst (λ o. IfSome o (IsBadStep (g.M.Machine.shape a.machine.now) (g.M.Machine.specification a.machine.now) (g.M.Machine.turns a.machine.now) (g.M.Machine.right a.machine.now) l.nodes.items a.from f.choices.items)) c.in-Some.is c.in_ok-fault.ensures.wrong),
+          a.nodes.now l.nodes l.invariant.extends a.from f.choices.items c.in-Some.fault c.requires.from
+          (subst (λ o. IfSome o (IsBadStep (g.M.Machine.shape a.machine.now) (g.M.Machine.specification a.machine.now) (g.M.Machine.turns a.machine.now) (g.M.Machine.right a.machine.now) l.nodes a.from f.choices.items)) c.in-Some.is c.in_ok-fault.ensures.wrong),
     )
 
 pub returns-clause-leads : goal.returns-clause-leads
@@ -85,18 +87,18 @@ returns-clause-leads g c =
     let a = c.args in
     let l = c.loop-k in
     follows_all (g.M.Machine.shape a.machine.now) (g.M.Machine.specification a.machine.now) (g.M.Machine.turns a.machine.now) (g.M.Machine.right a.machine.now)
-    a.nodes.now.items a.from a.below a.outcomes.now l.k l.nodes.items (omega arith) l.invariant.follows
+    a.nodes.now a.from a.below a.outcomes.now l.k l.nodes (omega arith) l.invariant.follows
 
 pub follow-requires-clause-near : goal.follow-requires-clause-near
 follow-requires-clause-near g c =
     let a = c.args in
     let l = c.loop-k in
     shallow_more (g.M.Machine.shape a.machine.now) (g.M.Machine.specification a.machine.now) (g.M.Machine.turns a.machine.now) (g.M.Machine.right a.machine.now) a.below
-    a.nodes.now.items l.nodes.items l.invariant.extends c.requires.near
+    a.nodes.now l.nodes l.invariant.extends c.requires.near
 
 pub returns-in_err-fault-clause-full : goal.returns-in_err-fault-clause-full
 returns-in_err-fault-clause-full g c =
-    full_on (λ h. h ≡ halt.States → c.args.limit ≤ length c.follow.new.nodes.items) c.follow.result c.from_residual.result c.in_err-fault.field-0.0 c.in_err-fault.was c.from_residual.ensures.1 c.follow.ensures.full
+    full_on (λ h. h ≡ halt.States → c.args.limit ≤ length c.follow.new.nodes) c.follow.result c.from_residual.result c.in_err-fault.field-0.0 c.in_err-fault.was c.from_residual.ensures.1 c.follow.ensures.full
 
 pub follow-requires-clause-apart : goal.follow-requires-clause-apart
 follow-requires-clause-apart g c =

@@ -1,0 +1,177 @@
+use Rattle.std.proofs.Common.{◌≡◌, ◌+◌, ◌<◌, ◌≤◌, ◌∙◌, length, refl, ap, sym, subst, arith}
+use Rattle.std.specs.Prelude.{Some, IfNone, IfSome, slice_get}
+use Rattle.asm_state.specs.Location.{State}
+use Rattle.asm_state.specs.Signature.{count_of, state_of}
+use Rattle.asm_explore.specs.declared.explored.Bad.{Bad}
+use Rattle.asm_explore.specs.Kept.{Node}
+use Rattle.asm_explore.specs.Lists.{Each}
+use Rattle.asm_explore.specs.Placed.{AreApart}
+use Rattle.asm_explore.specs.Reached.{Expanded, Extends, IsBad, IsBadStep, IsLooked, IsNear, state_at}
+use Rattle.asm_explore.proofs.Batches.{each_mapped, each_between, batch_at, shallow_at, listed_count, listed_at, same_node}
+use Rattle.asm_explore.proofs.Endings.{refused_done, refused_closed, refused_bad}
+use Rattle.asm_explore.proofs.Reaching.{whole_nodes, looked_more, looked_same, long_more, at_more, some_at}
+use Rattle.asm_explore.proofs.search.expand_batch.Goals as goal
+
+pub outcomes-requires-clause-whole : goal.outcomes-requires-clause-whole
+outcomes-requires-clause-whole g c =
+    let a = c.args in
+    let shape = g.M.Machine.shape a.machine.now in
+    subst (Each (λ s. length s ≡ count_of shape)) (sym c.requires.states)
+    (each_mapped (λ s. length s ≡ count_of shape) _
+    (each_between (λ (n : Node). length n.state ≡ count_of shape) a.nodes.now a.first (length a.states.now) (whole_nodes shape (g.M.Machine.right a.machine.now) a.nodes.now c.requires.looked.good)))
+
+pub index-requires : goal.index-requires
+index-requires g c =
+    let a = c.args in
+    let count = listed_count (g.M.Machine.shape a.machine.now) (g.M.Machine.specification a.machine.now) (g.M.Machine.turns a.machine.now) a.states.now c.in-Ok.lists.items c.in-Ok.ensures in
+    omega (arith, count, c.loop-k-test.true, c.in-Ok.lists.ok.0)
+
+pub expand_listed-requires-clause-shallow : goal.expand_listed-requires-clause-shallow
+expand_listed-requires-clause-shallow g c = λ m here.
+    let a = c.args in
+    let l = c.loop-k in
+    let shape = g.M.Machine.shape a.machine.now in
+    let specification = g.M.Machine.specification a.machine.now in
+    let turns = g.M.Machine.turns a.machine.now in
+    let right = g.M.Machine.right a.machine.now in
+    let within = g.M.Machine.within a.machine.now in
+    let i = a.first + l.k in
+    let n = some_at a.nodes.now i (omega (arith, c.requires.first, c.loop-k-test.true)) in
+    let there = l.invariant.same i n.0 n.1 in
+    let deep = shallow_at (λ (n : Node). n.depth < a.steps) a.nodes.now a.first (length a.states.now) l.k n.0 c.requires.shallow c.loop-k-test.true n.1 in
+    omega (arith, deep, c.ranges.steps.fits, ap (λ (n : Node). n.depth) (same_node l.nodes i n.0 m there here))
+
+pub expand_listed-requires-clause-here : goal.expand_listed-requires-clause-here
+expand_listed-requires-clause-here g c = λ m here.
+    let a = c.args in
+    let l = c.loop-k in
+    let shape = g.M.Machine.shape a.machine.now in
+    let specification = g.M.Machine.specification a.machine.now in
+    let turns = g.M.Machine.turns a.machine.now in
+    let right = g.M.Machine.right a.machine.now in
+    let within = g.M.Machine.within a.machine.now in
+    let i = a.first + l.k in
+    let n = some_at a.nodes.now i (omega (arith, c.requires.first, c.loop-k-test.true)) in
+    let there = l.invariant.same i n.0 n.1 in
+    ap (λ (n : Node). n.state) (sym (same_node l.nodes i n.0 m there here))
+    ∙ sym (batch_at a.nodes.now a.first l.k a.states.now n.0 c.index-states-k.result c.requires.states c.loop-k-test.true n.1) ∙ sym c.index-states-k.is
+
+pub expand_listed-requires-clause-step : goal.expand_listed-requires-clause-step
+expand_listed-requires-clause-step g c =
+    let a = c.args in
+    listed_at (g.M.Machine.shape a.machine.now) (g.M.Machine.specification a.machine.now) (g.M.Machine.turns a.machine.now) a.states.now c.in-Ok.lists.items c.loop-k.k c.index-states-k.result c.index.result.now
+    c.in-Ok.ensures c.loop-k-test.true c.index-states-k.is c.index.ensures
+
+pub returns-in-Ok-Some-clause-more : goal.returns-in-Ok-Some-clause-more
+returns-in-Ok-Some-clause-more g c =
+    let a = c.args in
+    let l = c.loop-k in
+    let shape = g.M.Machine.shape a.machine.now in
+    let specification = g.M.Machine.specification a.machine.now in
+    let turns = g.M.Machine.turns a.machine.now in
+    let right = g.M.Machine.right a.machine.now in
+    let within = g.M.Machine.within a.machine.now in
+    let i = a.first + l.k in
+    let n = some_at a.nodes.now i (omega (arith, c.requires.first, c.loop-k-test.true)) in
+    let there = l.invariant.same i n.0 n.1 in
+    let longer = long_more shape specification turns right (n.0.depth + 1) l.nodes c.expand_listed.new.nodes (c.in-Ok-Some.ensures.extends n.0 there) in
+    omega (arith, longer, l.invariant.more)
+
+pub returns-in-Err-expand_listed-clause-more : goal.returns-in-Err-expand_listed-clause-more
+returns-in-Err-expand_listed-clause-more g c =
+    let a = c.args in
+    let l = c.loop-k in
+    let shape = g.M.Machine.shape a.machine.now in
+    let specification = g.M.Machine.specification a.machine.now in
+    let turns = g.M.Machine.turns a.machine.now in
+    let right = g.M.Machine.right a.machine.now in
+    let within = g.M.Machine.within a.machine.now in
+    let i = a.first + l.k in
+    let n = some_at a.nodes.now i (omega (arith, c.requires.first, c.loop-k-test.true)) in
+    let there = l.invariant.same i n.0 n.1 in
+    let longer = long_more shape specification turns right (n.0.depth + 1) l.nodes c.expand_listed.new.nodes (c.in-Err-expand_listed.ensures.extends n.0 there) in
+    omega (arith, longer, l.invariant.more)
+
+pub returns-in-Ok-Some-clause-stopped : goal.returns-in-Ok-Some-clause-stopped
+returns-in-Ok-Some-clause-stopped g c =
+    let a = c.args in
+    let l = c.loop-k in
+    let shape = g.M.Machine.shape a.machine.now in
+    let specification = g.M.Machine.specification a.machine.now in
+    let turns = g.M.Machine.turns a.machine.now in
+    let right = g.M.Machine.right a.machine.now in
+    let within = g.M.Machine.within a.machine.now in
+    let i = a.first + l.k in
+    let n = some_at a.nodes.now i (omega (arith, c.requires.first, c.loop-k-test.true)) in
+    let there = l.invariant.same i n.0 n.1 in
+    let extends = c.in-Ok-Some.ensures.extends n.0 there in
+    let longer = long_more shape specification turns right (n.0.depth + 1) l.nodes c.expand_listed.new.nodes extends in
+    let wrong : (c.in-Ok-Some.bad.from ≡ i) × IsBadStep shape specification turns right l.nodes i c.in-Ok-Some.bad.choices.items c.in-Ok-Some.bad.fault =
+    subst (λ o. IfSome o (λ (b : Bad). (b.from ≡ i) × IsBadStep shape specification turns right l.nodes i b.choices.items b.fault)) c.in-Ok-Some.field-0-is c.in-Ok-Some.ensures.wrong in
+    let at : slice_get c.expand_listed.new.nodes c.in-Ok-Some.bad.from ≡ Some n.0 =
+    ap (slice_get c.expand_listed.new.nodes) wrong.0 ∙ at_more shape specification turns right (n.0.depth + 1) l.nodes c.expand_listed.new.nodes extends i n.0 there in
+    let deep = shallow_at (λ (n : Node). n.depth < a.steps) a.nodes.now a.first (length a.states.now) l.k n.0 c.requires.shallow c.loop-k-test.true n.1 in
+    let bad : IsBad shape specification turns right c.expand_listed.new.nodes c.in-Ok-Some.bad = record {
+      from = n.0;
+      there = at;
+      apart = subst (λ o. IfSome o (λ (b : Bad). AreApart b.choices.items)) c.in-Ok-Some.field-0-is c.in-Ok-Some.ensures.apart;
+      wrong = wrong.1 n.0 there;
+    } in
+    record {
+      some = omega (arith, longer, l.invariant.more, c.requires.first, c.loop-k-test.true);
+      so_far = looked_same shape specification turns right within a.steps i n.0 (n.0.depth + 1) l.nodes c.expand_listed.new.nodes there refl extends l.invariant.near l.invariant.looked;
+      all = λ done. absurd done;
+      closed = λ closed. cc;
+      wrong = (bad, wrong.0, λ m here. omega (arith, deep, ap (λ (n : Node). n.depth) (same_node c.expand_listed.new.nodes c.in-Ok-Some.bad.from n.0 m at here)));
+      full = λ full. cc;
+    }
+
+pub returns-in-Err-expand_listed-clause-stopped : goal.returns-in-Err-expand_listed-clause-stopped
+returns-in-Err-expand_listed-clause-stopped g c =
+    let a = c.args in
+    let l = c.loop-k in
+    let shape = g.M.Machine.shape a.machine.now in
+    let specification = g.M.Machine.specification a.machine.now in
+    let turns = g.M.Machine.turns a.machine.now in
+    let right = g.M.Machine.right a.machine.now in
+    let within = g.M.Machine.within a.machine.now in
+    let i = a.first + l.k in
+    let n = some_at a.nodes.now i (omega (arith, c.requires.first, c.loop-k-test.true)) in
+    let there = l.invariant.same i n.0 n.1 in
+    let extends = c.in-Err-expand_listed.ensures.extends n.0 there in
+    let longer = long_more shape specification turns right (n.0.depth + 1) l.nodes c.expand_listed.new.nodes extends in
+    let refused = c.cut_off.ensures.refused in
+    record {
+      some = omega (arith, longer, l.invariant.more, c.requires.first, c.loop-k-test.true);
+      so_far = looked_same shape specification turns right within a.steps i n.0 (n.0.depth + 1) l.nodes c.expand_listed.new.nodes there refl extends l.invariant.near l.invariant.looked;
+      all = λ done. absurd (refused_done c.cut_off.result refused done);
+      closed = λ closed. absurd (refused_closed c.cut_off.result refused closed);
+      wrong = refused_bad _ c.cut_off.result refused;
+      full = λ full. c.in-Err-expand_listed.ensures.full (c.cut_off.ensures.states full);
+    }
+
+pub loop-k-preserved : goal.loop-k-preserved
+loop-k-preserved g c =
+    let a = c.args in
+    let l = c.loop-k in
+    let shape = g.M.Machine.shape a.machine.now in
+    let specification = g.M.Machine.specification a.machine.now in
+    let turns = g.M.Machine.turns a.machine.now in
+    let right = g.M.Machine.right a.machine.now in
+    let within = g.M.Machine.within a.machine.now in
+    let i = a.first + l.k in
+    let n = some_at a.nodes.now i (omega (arith, c.requires.first, c.loop-k-test.true)) in
+    let there = l.invariant.same i n.0 n.1 in
+    let extends = c.in-Ok-None.ensures.extends n.0 there in
+    let longer = long_more shape specification turns right (n.0.depth + 1) l.nodes c.expand_listed.new.nodes extends in
+    let expanded : Expanded shape specification turns c.expand_listed.new.nodes n.0 =
+    subst (λ o. IfNone o ((n : Node) → slice_get l.nodes i ≡ Some n → Expanded shape specification turns c.expand_listed.new.nodes n)) c.in-Ok-None.field-0-is c.in-Ok-None.ensures.expanded n.0 there in
+    let next : i + 1 ≡ a.first + (l.k + 1) = omega arith in
+    let both = looked_more shape specification turns right within a.steps i n.0 (n.0.depth + 1) l.nodes c.expand_listed.new.nodes there refl extends (λ low inside. expanded) l.invariant.near l.invariant.looked in
+    record {
+      room = c.in-Ok-None.ensures.room;
+      more = omega (arith, longer, l.invariant.more);
+      same = λ j m here. at_more shape specification turns right (n.0.depth + 1) l.nodes c.expand_listed.new.nodes extends j m (l.invariant.same j m here);
+      looked = subst (λ j. IsLooked shape specification turns right within a.steps j c.expand_listed.new.nodes) next both.0;
+      near = subst (λ j. IsNear c.expand_listed.new.nodes j) next both.1;
+    }

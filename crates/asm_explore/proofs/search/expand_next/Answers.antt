@@ -1,0 +1,35 @@
+use Rattle.std.proofs.Common.{◌≡◌, ◌+◌, ◌∙◌, refl, sym}
+use Rattle.std.proofs.lemmas.Bool.{false≢true}
+use Rattle.asm_explore.proofs.Batches.{no_items}
+use Rattle.asm_explore.proofs.Reaching.{looked_more, extends_none, some_at}
+use Rattle.asm_explore.proofs.search.expand_next.Goals as goal
+
+pub returns-then-states-eq0-clause-looked : goal.returns-then-states-eq0-clause-looked
+returns-then-states-eq0-clause-looked g c =
+    let a = c.args in
+    let shape = g.M.Machine.shape a.machine.now in
+    let specification = g.M.Machine.specification a.machine.now in
+    let turns = g.M.Machine.turns a.machine.now in
+    let right = g.M.Machine.right a.machine.now in
+    let within = g.M.Machine.within a.machine.now in
+    let n = some_at a.nodes.now a.expanded c.requires.expanded in
+    let empty = no_items c.as_slice-states.result.now c.in-Ok.states.items c.as_slice-states.ensures.value c.if-states-eq0.true in
+    let both = looked_more shape specification turns right within a.steps a.expanded n.0 (n.0.depth + 1) a.nodes.now a.nodes.now n.1 refl
+    (extends_none shape specification turns right (n.0.depth + 1) a.nodes.now)
+    (λ low inside. absurd (false≢true (sym (c.in-Ok.ensures.none empty n.0 n.1 low) ∙ inside))) c.requires.near c.requires.looked in
+    both.0
+
+pub returns-then-states-eq0-clause-near : goal.returns-then-states-eq0-clause-near
+returns-then-states-eq0-clause-near g c =
+    let a = c.args in
+    let shape = g.M.Machine.shape a.machine.now in
+    let specification = g.M.Machine.specification a.machine.now in
+    let turns = g.M.Machine.turns a.machine.now in
+    let right = g.M.Machine.right a.machine.now in
+    let within = g.M.Machine.within a.machine.now in
+    let n = some_at a.nodes.now a.expanded c.requires.expanded in
+    let empty = no_items c.as_slice-states.result.now c.in-Ok.states.items c.as_slice-states.ensures.value c.if-states-eq0.true in
+    let both = looked_more shape specification turns right within a.steps a.expanded n.0 (n.0.depth + 1) a.nodes.now a.nodes.now n.1 refl
+    (extends_none shape specification turns right (n.0.depth + 1) a.nodes.now)
+    (λ low inside. absurd (false≢true (sym (c.in-Ok.ensures.none empty n.0 n.1 low) ∙ inside))) c.requires.near c.requires.looked in
+    both.1

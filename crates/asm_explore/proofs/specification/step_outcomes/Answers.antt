@@ -1,0 +1,50 @@
+use Rattle.std.proofs.Common.{◌≡◌, ◌∙◌, [], sym, ap, subst}
+use Rattle.asm_state.specs.Signature.{Shape, state_of}
+use Rattle.asm_syntax.specs.Views.{spec_of}
+use Rattle.asm_check.specs.Faults.{inits}
+use Rattle.asm_check.specs.Shapes.{shape_of}
+use Rattle.asm_meaning.specs.Declarations.{main_rule, program_of, specification_of}
+use Rattle.asm_meaning.specs.Does.{Outcome, does}
+use Rattle.asm_meaning.specs.Program.{nothing_bound}
+use Rattle.asm_meaning.specs.Valued.{shown}
+use Rattle.asm_eval.specs.RuleMeaning.{IsSoundRule, meaning}
+use Rattle.asm_eval.specs.RuleViews.{rule_of}
+use Rattle.asm_explore.specs.Lists.{picked, Lists}
+use Rattle.asm_explore.specs.Placed.{AreApart, IsPlaced}
+use Rattle.asm_explore.specs.Reached.{steps_from}
+use Rattle.asm_explore.proofs.ListLemmas.{lists_same}
+use Rattle.asm_explore.proofs.Placing.{have_weaker}
+use Rattle.asm_explore.proofs.Specifications.{nothing_over}
+use Rattle.asm_explore.proofs.specification.step_outcomes.Goals as goal
+
+pub outcomes-requires-clause-sound : goal.outcomes-requires-clause-sound
+outcomes-requires-clause-sound c =
+    subst (λ sh. IsSoundRule sh (rule_of c.args.specified.now.code.now)) (sym (c.new-view.ensures.parts.0 ∙ c.signature-signature.ensures)) c.requires.sound.main.sound
+
+pub returns : goal.returns
+returns c =
+    let a = c.args in
+    let m = a.specified.now in
+    let s = spec_of m.checked.now.spec in
+    let shape = shape_of s in
+    let signature = c.signature-signature.result.now in
+    let same : signature ≡ shape = c.signature-signature.ensures in
+    let viewed : c.new-view.result.signature.now ≡ shape = c.new-view.ensures.parts.0 ∙ same in
+    let A = shown c.new-view.result in
+    let R = main_rule s (inits s) in
+    let shows : A ≡ state_of shape a.state.now =
+    nothing_over signature shape c.new-nothing.result a.state.now A same (c.new-nothing.ensures.empty signature c.count.ensures.sound c.count.ensures.count)
+    (λ U stands consistent. c.new-view.ensures.fired U stands consistent) in
+    let steps = steps_from (specification_of s) m.turns (state_of shape a.state.now) in
+    record {
+      lists = subst (λ sh. Lists sh steps c.in_ok-found.found.items) viewed
+          (lists_same _ _ steps c.in_ok-found.found.items
+          (λ q.
+          let o : Outcome = does (program_of s) m.turns q.script q.step A nothing_bound [] R in
+          ap (λ (o : Outcome). o.result)
+          (subst (λ (sh : Shape). meaning sh m.turns (picked q) (rule_of m.code.now) [] [] A [] ≡ o) (sym viewed)
+          (c.resolving_laws.ensures.means s R (rule_of m.code.now) m.turns q.script q.step A [] c.requires.sound.main))
+          ∙ ap (λ B. steps_from (specification_of s) m.turns B q) shows)
+          c.in_ok-found.ensures.lists);
+      apart = have_weaker (IsPlaced []) AreApart (λ cs placed. placed.apart) c.in_ok-found.found.items c.in_ok-found.ensures.placed;
+    }

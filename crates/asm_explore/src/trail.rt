@@ -1,0 +1,122 @@
+//! The choices of the steps that lead to a state.
+ghost use Rattle.std.specs.Prelude.{◌≡◌, ◌≢◌, ◌<◌, ◌↔◌, Some, length, map, slice_get, IsTrue, IfOk, IfErr, IfSome, IfNone};
+ghost use Rattle.asm_state.specs.Contents.{IsStateOf};
+ghost use Rattle.asm_state.specs.Signature.{count_of, state_of};
+ghost use Rattle.asm_meaning.specs.Yields.{Result as Yielded};
+ghost use Rattle.asm_explore.specs.declared.halt.Halt.TheVariants as halt;
+ghost use Rattle.asm_explore.specs.Kept.{Node};
+ghost use Rattle.asm_explore.specs.Lists.{Situation, Each, IsCounted, Shows};
+ghost use Rattle.asm_explore.specs.Reached.{IsGood, IsLinked, LeadBetween, LeadTo, MayLead, state_at, steps_from};
+ghost use Rattle.asm_explore.specs.Search.{LeadsOn};
+ghost use Rattle.asm_explore.specs.Steps.{IsStep};
+
+use crate::found::{Answer, Choice, Found, add_choices};
+use crate::halt::{Halt, halted};
+use crate::machine::Machine;
+use crate::nodes::Nodes;
+use crate::search::is_same_state;
+use asm_state::signature::Signature;
+use asm_state::state::State;
+use std::alloc::{AllocError, Global};
+
+/// Whether an outcome of the step from a state leads to another.
+fn leads(
+    alloc: Global,
+    signature: &Signature,
+    one: &Found,
+    from: &State,
+    to: &State,
+) -> Result<bool, AllocError>
+    requires one { IsCounted (count_of signature.now) one.now.answer }
+    requires from { IsStateOf signature.now from.now }
+    requires to { IsStateOf signature.now to.now }
+    ensures { IfOk result (λ so. (r : Yielded) → Shows signature.now one.now.answer r →
+        IsTrue so ↔ LeadsOn r (state_of signature.now from.now) (λ A. A ≡ state_of signature.now to.now)) }
+{
+    let updates = match &one.answer {
+        Answer::Set(updates) => updates,
+        Answer::Exhausted(_) => return Ok(false),
+    };
+    if updates.set.first_fault(signature).is_some() {
+        return Ok(false);
+    }
+    let next = updates.set.fire(alloc, signature, from)?;
+    Ok(is_same_state(&next, to, signature.count()))
+}
+
+/// The outcomes of the step from a state.
+fn outcomes_from<M: Machine>(alloc: Global, machine: &M, from: &State) -> Result<Vec<Found>, Halt>
+    requires machine { M.is_sound machine.now }
+    requires whole { length from.now ≡ count_of (M.shape machine.now) }
+    ensures step { IfOk result (λ fs. IsStep (M.shape machine.now) (M.specification machine.now) (M.turns machine.now) (state_of (M.shape machine.now) from.now) fs.items) }
+    ensures never { IfErr result (λ h. h ≢ halt.States) }
+{
+    let state = from.copy(alloc)?;
+    let mut states = Vec::new(alloc);
+    states.push(state)?;
+    let mut all = machine.outcomes(alloc, states.as_slice())?;
+    match all.pop() {
+        Some(Ok(outcomes)) => Ok(outcomes),
+        Some(Err(refusal)) => Err(halted(alloc, &refusal)),
+        None => unreachable!(),
+    }
+}
+
+/// Choices with which the step from a state leads to another, if there are some.
+fn choices_between<M: Machine>(
+    alloc: Global,
+    machine: &M,
+    from: &State,
+    to: &State,
+) -> Result<Option<Vec<Choice>>, Halt>
+    requires machine { M.is_sound machine.now }
+    requires from { IsStateOf (M.shape machine.now) from.now }
+    requires to { IsStateOf (M.shape machine.now) to.now }
+    ensures some { IfOk result (λ found. IfSome found (λ cs. LeadBetween (M.specification machine.now) (M.turns machine.now) (state_of (M.shape machine.now) from.now) (state_of (M.shape machine.now) to.now) cs.items)) }
+    ensures none { IfOk result (λ found. IfNone found (MayLead (M.shape machine.now) (M.specification machine.now) (M.turns machine.now) (state_of (M.shape machine.now) from.now) (state_of (M.shape machine.now) to.now) → ⊥)) }
+    ensures never { IfErr result (λ h. h ≢ halt.States) }
+{
+    let outcomes = outcomes_from(alloc, machine, from)?;
+    for k in 0..outcomes.len() {
+        let one = &outcomes[k];
+        if leads(alloc, machine.signature(), one, from, to)? {
+            let mut choices = Vec::new(alloc);
+            add_choices(alloc, one.choices.as_slice(), &mut choices)?;
+            return Ok(Some(choices));
+        }
+    }
+    Ok(None)
+}
+
+/// The choices of the steps that lead to a node, those of the last step first. They aren't kept while
+/// states are reached: the steps are looked at again.
+pub(crate) fn trail_to<M: Machine>(
+    alloc: Global,
+    machine: &M,
+    nodes: &Nodes,
+    last: usize,
+    like: &State,
+) -> Result<Vec<Vec<Choice>>, Halt>
+    requires machine { M.is_sound machine.now }
+    requires last { last < length nodes.now }
+    requires like { length like.now ≡ count_of (M.shape machine.now) }
+    requires nodes { Each (IsGood (M.shape machine.now) (M.right machine.now)) nodes.now }
+    requires linked { Each (IsLinked (M.shape machine.now) (M.specification machine.now) (M.turns machine.now) nodes.now) nodes.now }
+    ensures leads { IfOk result (λ trail. (n : Node) → slice_get nodes.now last ≡ Some n → LeadTo (M.specification machine.now) (M.turns machine.now) (state_at (M.shape machine.now) n) (map (λ cs. cs.items) trail.items)) }
+    ensures deep { IfOk result (λ trail. (n : Node) → slice_get nodes.now last ≡ Some n → length trail.items ≡ n.depth) }
+    ensures never { IfErr result (λ h. h ≢ halt.States) }
+{
+    let mut trail = Vec::new(alloc);
+    let mut at = last;
+    for _step in 0..nodes.depth(last) {
+        let from = nodes.from(at);
+        let to = nodes.state(alloc, at, like)?;
+        let earlier = nodes.state(alloc, from, like)?;
+        let Some(choices) = choices_between(alloc, machine, &earlier, &to)? else {
+            unreachable!();
+        };
+        trail.push(choices)?;
+        at = from;
+    }
+    Ok(trail)
+}
