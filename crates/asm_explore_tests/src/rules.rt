@@ -56,7 +56,8 @@ static CHOICES: [Row; 13] = [
         "x <= 2 and y = 0",
     ),
     (
-        "choose i in Few with i > 2 do skip ifnone choose j in Bit do x := 7 + j endchoose endchoose",
+        "choose i in Few with i > 2 do skip ifnone \
+choose j in Bit do x := 7 + j endchoose endchoose",
         2,
         3,
         "isFirst or (x = 7 or x = 8) and y = 0",
@@ -159,7 +160,8 @@ choose j in Bit do if j = 1 then x := 1 endif endchoose skip endpar",
         "x <= 1 and y = 0",
     ),
     (
-        "par choose i in Bit do x := i endchoose y := 1 choose j in Bit do c(0) := j endchoose endpar",
+        "par choose i in Bit do x := i endchoose y := 1 \
+choose j in Bit do c(0) := j endchoose endpar",
         4,
         5,
         "isFirst and c(0) = 0 or x <= 1 and y = 1 and c(0) <= 1",
@@ -205,7 +207,8 @@ static SEQUENCES: [Row; 8] = [
         "x <= 3 and y = 2 * x",
     ),
     (
-        "seq choose i in Few do x := i endchoose choose j in Few with j > x do y := j endchoose endseq",
+        "seq choose i in Few do x := i endchoose \
+choose j in Few with j > x do y := j endchoose endseq",
         4,
         5,
         "isFirst or x = 0 and y = 1 or x = 0 and y = 2 or x = 1 and y = 2 or x = 2 and y = 0",
@@ -218,7 +221,8 @@ static SEQUENCES: [Row; 8] = [
         "isFirst or x = 7 and y = 0",
     ),
     (
-        "seq choose i in Bit do x := i endchoose choose i in Bit do y := i endchoose x := x + y endseq",
+        "seq choose i in Bit do x := i endchoose choose i in Bit do y := i endchoose \
+x := x + y endseq",
         4,
         4,
         "isFirst or x = 1 and y <= 1 or x = 2 and y = 1",
@@ -357,7 +361,8 @@ static BAD: [BadRow; 8] = [
         1,
     ),
     (
-        "seq choose i in Few do par x := 1 x := i endpar endchoose choose j in Bit do y := j endchoose endseq",
+        "seq choose i in Few do par x := 1 x := i endpar endchoose \
+choose j in Bit do y := j endchoose endseq",
         Fault::Inconsistent,
         4,
     ),
@@ -372,7 +377,8 @@ static BAD: [BadRow; 8] = [
         2,
     ),
     (
-        "par par x := 1 x := 2 endpar choose i in Few do iterate y := i enditerate endchoose endpar",
+        "par par x := 1 x := 2 endpar \
+choose i in Few do iterate y := i enditerate endchoose endpar",
         Fault::Exhausted,
         1,
     ),

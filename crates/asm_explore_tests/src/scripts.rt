@@ -34,7 +34,7 @@ const BOTH: Asked = Asked {
     ..ANY
 };
 
-static FOUND: [Case; 7] = [
+static SCRIPTS: [Case; 7] = [
     (MUTEX_WRONG, ANY, End::Clash),
     (ALTERNATING_WRONG, ANY, End::Clash),
     (TERMINATION_WRONG, ANY, End::Clash),
@@ -45,7 +45,7 @@ static FOUND: [Case; 7] = [
 ];
 
 /// The run that is found.
-fn found(alloc: Global, text: &str, asked: &Asked) -> Result<BadRun, Fail> {
+fn found_run(alloc: Global, text: &str, asked: &Asked) -> Result<BadRun, Fail> {
     let answered = answer_to(alloc, text, asked)?;
     match answered.finding {
         Finding::Bad(bad) => Ok(bad),
@@ -79,7 +79,7 @@ fn ends<R: Threads + Sync + AllocGlobal>(
     text: &str,
     asked: &Asked,
 ) -> Result<(End, End), Fail> {
-    let bad = found(rt.alloc(), text, asked)?;
+    let bad = found_run(rt.alloc(), text, asked)?;
     let Ok(steps) = u32::try_from(bad.step) else {
         return Err(Fail::new("it has too many steps"));
     };
@@ -90,7 +90,7 @@ fn ends<R: Threads + Sync + AllocGlobal>(
 
 #[test]
 fn found_scripts_lead_to_faults(rt: HostRuntime) -> Result<(), Fail> {
-    for (text, asked, end) in &FOUND {
+    for (text, asked, end) in &SCRIPTS {
         assert_eq!(rt; ends(&rt, text, asked)?, (*end, End::Limit), "{text}");
     }
     Ok(())
@@ -103,7 +103,7 @@ flag(0) = true\nflag(1) = true\n";
 /// Whether the run of so many steps under the script that is found ends in the state in which both
 /// are critical.
 fn ends_critical<R: Threads + Sync + AllocGlobal>(rt: &R, steps: u32) -> Result<bool, Fail> {
-    let bad = found(rt.alloc(), MUTEX_WRONG, &BOTH)?;
+    let bad = found_run(rt.alloc(), MUTEX_WRONG, &BOTH)?;
     let (_, trace) = run_under(rt, MUTEX_WRONG, bad.script.as_str(), steps)?;
     Ok(trace.as_slice().ends_with(BOTH_CRITICAL))
 }

@@ -172,16 +172,16 @@ fn faults_are_found_in_the_least_step(rt: HostRuntime) -> Result<(), Fail> {
 }
 
 #[test]
-fn philosophers_who_count_are_safe_for_twelve_steps(rt: HostRuntime) -> Result<(), Fail> {
-    let twelve = Asked { steps: 12, ..ANY };
+fn philosophers_who_count_are_safe_for_twenty_steps(rt: HostRuntime) -> Result<(), Fail> {
+    let twenty = Asked { steps: 20, ..ANY };
     let expected = Told {
-        verdict: Verdict::SafeTo(12),
-        states: 4972,
-        depth: 12,
-        outcomes: 15_645,
+        verdict: Verdict::SafeTo(20),
+        states: 39_564,
+        depth: 20,
+        outcomes: 136_710,
         widest: 5,
         quiet: 0,
     };
-    assert_eq!(rt; told_of(rt.alloc(), COUNTING, &twelve)?, expected);
+    assert_eq!(rt; told_of(rt.alloc(), COUNTING, &twenty)?, expected);
     Ok(())
 }
