@@ -1,4 +1,9 @@
 //! Tests of the exploration of specifications, through the public call of `asm_explore`.
+//!
+//! Expected counts are worked out by hand, or those of an explorer that was written apart from this
+//! one, in another language; of the philosophers without meals and of mutual exclusion they are
+//! also those of a model checker. Four tests take a second or two each, and more than a minute
+//! where nothing is proved: there give `rt try --test` a limit, as `--seconds 600`.
 #![tactic(auto)]
 
 #[cfg(test)]

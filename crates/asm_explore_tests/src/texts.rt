@@ -6,4 +6,5 @@ pub mod lift;
 pub mod philosophers;
 pub mod stack;
 pub mod termination;
+pub mod voting;
 pub mod window;

@@ -8,6 +8,7 @@ use crate::texts::lift::LIFT;
 use crate::texts::philosophers::{COUNTING, PHILOSOPHERS};
 use crate::texts::stack::STACK_WRONG;
 use crate::texts::termination::{TERMINATION, TERMINATION_WRONG};
+use crate::texts::voting::VOTING;
 use crate::texts::window::WINDOW;
 use crate::told::{Told, Verdict};
 use asm_explore::Fault;
@@ -183,5 +184,19 @@ fn philosophers_who_count_are_safe_for_twenty_steps(rt: HostRuntime) -> Result<(
         quiet: 0,
     };
     assert_eq!(rt; told_of(rt.alloc(), COUNTING, &twenty)?, expected);
+    Ok(())
+}
+
+#[test]
+fn nodes_who_vote_are_closed(rt: HostRuntime) -> Result<(), Fail> {
+    let expected = Told {
+        verdict: Verdict::Closed,
+        states: 40_029,
+        depth: 16,
+        outcomes: 235_383,
+        widest: 10,
+        quiet: 958,
+    };
+    assert_eq!(rt; told_of(rt.alloc(), VOTING, &ANY)?, expected);
     Ok(())
 }
