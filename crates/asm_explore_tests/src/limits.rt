@@ -2,7 +2,7 @@
 use crate::question::{ANY, Asked, answer_to, joined, told_of};
 use crate::texts::exclusion::{MUTEX, MUTEX_WRONG};
 use crate::told::{Told, Verdict, told_by};
-use asm_explore::{Fault, Finding};
+use asm_explore::{Crowd, Fault, Finding};
 use std::alloc::{AllocError, Global};
 use std::test::Fail;
 
@@ -247,6 +247,18 @@ fn told_of_body(alloc: Global, body: &str, asked: &Asked) -> Result<Told, Fail> 
     told_of(alloc, text.as_str(), asked)
 }
 
+/// Whether both have the same numbers.
+fn are_same(left: &[u64], right: &[u64]) -> bool {
+    left == right
+}
+
+/// Whether a rule has too many outcomes as the row says.
+fn is_crowd(crowd: &Crowd, row: &Crowded) -> bool {
+    are_same(crowd.path.as_slice(), row.path)
+        && crowd.first == row.first
+        && crowd.others == row.others
+}
+
 /// Whether there are too many outcomes as the row says.
 fn is_crowded(alloc: Global, row: &Crowded) -> Result<bool, Fail> {
     let text = joined(alloc, BEFORE, row.body)?;
@@ -255,13 +267,8 @@ fn is_crowded(alloc: Global, row: &Crowded) -> Result<bool, Fail> {
         ..ANY
     };
     let answered = answer_to(alloc, text.as_str(), &asked)?;
-    Ok(match answered.finding {
-        Finding::TooManyOutcomes { depth, crowd } => {
-            crowd.path.as_slice() == row.path
-                && depth == row.depth
-                && crowd.first == row.first
-                && crowd.others == row.others
-        }
+    Ok(match &answered.finding {
+        Finding::TooManyOutcomes { depth, crowd } => *depth == row.depth && is_crowd(crowd, row),
         _ => false,
     })
 }

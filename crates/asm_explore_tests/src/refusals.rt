@@ -135,7 +135,7 @@ fn finds_its_script(alloc: Global) -> Result<bool, AllocError> {
         return Ok(true);
     };
     let told = told_by(&answered);
-    Ok(match answered.finding {
+    Ok(match &answered.finding {
         Finding::Bad(bad) => told == WRONG && bad.script.as_str() == BOTH_ONE,
         _ => is_front(told, WRONG, 1),
     })
