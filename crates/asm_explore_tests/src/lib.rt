@@ -2,8 +2,8 @@
 //!
 //! Expected counts are worked out by hand, or those of an explorer that was written apart from this
 //! one, in another language; of the philosophers without meals and of mutual exclusion they are
-//! also those of a model checker. Four tests take a second or two each, and more than a minute
-//! where nothing is proved: there give `rt try --test` a limit, as `--seconds 600`.
+//! also those of a model checker. Four tests take up to a second or two each, and minutes where
+//! nothing is proved: there give `rt try --test` a limit, as `--seconds 600`.
 #![tactic(auto)]
 
 #[cfg(test)]
