@@ -1,0 +1,55 @@
+//! What is told of a specification.
+use asm_explore::{Answered, Fault, Finding};
+
+/// What is found, without its texts.
+#[derive(Clone, Copy, Debug, PartialEq, Eq)]
+pub enum Verdict {
+    Closed,
+    SafeTo(u32),
+    /// The step that goes wrong.
+    Bad(u64, Fault),
+    WrongFirst,
+    TooManyStates(u32),
+    /// A depth, and the outcomes of a part and of what stands beside it.
+    TooManyOutcomes(u32, usize, usize),
+    NoMemory(u32),
+    Unwritten(u32),
+}
+
+/// What is found, and what was counted.
+#[derive(Clone, Copy, Debug, PartialEq, Eq)]
+pub struct Told {
+    pub verdict: Verdict,
+    pub states: usize,
+    pub depth: u32,
+    pub outcomes: usize,
+    pub widest: usize,
+    pub quiet: usize,
+}
+
+fn verdict_of(finding: &Finding) -> Verdict {
+    match finding {
+        Finding::Closed => Verdict::Closed,
+        Finding::SafeTo(depth) => Verdict::SafeTo(*depth),
+        Finding::Bad(bad) => Verdict::Bad(bad.step, bad.fault),
+        Finding::WrongFirst => Verdict::WrongFirst,
+        Finding::TooManyStates(depth) => Verdict::TooManyStates(*depth),
+        Finding::TooManyOutcomes { depth, crowd } => {
+            Verdict::TooManyOutcomes(*depth, crowd.first, crowd.others)
+        }
+        Finding::NoMemory(depth) => Verdict::NoMemory(*depth),
+        Finding::Unwritten(depth) => Verdict::Unwritten(*depth),
+    }
+}
+
+/// What an answer tells.
+pub fn told_by(answered: &Answered) -> Told {
+    Told {
+        verdict: verdict_of(&answered.finding),
+        states: answered.states,
+        depth: answered.depth,
+        outcomes: answered.outcomes,
+        widest: answered.widest,
+        quiet: answered.quiet,
+    }
+}
