@@ -12,8 +12,8 @@ use Rattle.asm_explore.proofs.Endings.{refused_done, refused_closed, refused_bad
 use Rattle.asm_explore.proofs.Reaching.{whole_nodes, looked_more, looked_same, long_more, at_more, some_at}
 use Rattle.asm_explore.proofs.search.expand_batch.Goals as goal
 
-pub outcomes-requires-clause-whole : goal.outcomes-requires-clause-whole
-outcomes-requires-clause-whole g c =
+pub listed-requires-clause-whole : goal.listed-requires-clause-whole
+listed-requires-clause-whole g c =
     let a = c.args in
     let shape = g.M.Machine.shape a.machine.now in
     subst (Each (λ s. length s ≡ count_of shape)) (sym c.requires.states)
@@ -23,7 +23,7 @@ outcomes-requires-clause-whole g c =
 pub index-requires : goal.index-requires
 index-requires g c =
     let a = c.args in
-    let count = listed_count (g.M.Machine.shape a.machine.now) (g.M.Machine.specification a.machine.now) (g.M.Machine.turns a.machine.now) a.states.now c.in-Ok.lists.items c.in-Ok.ensures in
+    let count = listed_count (g.M.Machine.shape a.machine.now) (g.M.Machine.specification a.machine.now) (g.M.Machine.turns a.machine.now) a.states.now c.in-Ok.lists.items c.in-Ok.ensures.listed in
     omega (arith, count, c.loop-k-test.true, c.in-Ok.lists.ok.0)
 
 pub expand_listed-requires-clause-shallow : goal.expand_listed-requires-clause-shallow
@@ -60,7 +60,7 @@ pub expand_listed-requires-clause-step : goal.expand_listed-requires-clause-step
 expand_listed-requires-clause-step g c =
     let a = c.args in
     listed_at (g.M.Machine.shape a.machine.now) (g.M.Machine.specification a.machine.now) (g.M.Machine.turns a.machine.now) a.states.now c.in-Ok.lists.items c.loop-k.k c.index-states-k.result c.index.result.now
-    c.in-Ok.ensures c.loop-k-test.true c.index-states-k.is c.index.ensures
+    c.in-Ok.ensures.listed c.loop-k-test.true c.index-states-k.is c.index.ensures
 
 pub returns-in-Ok-Some-clause-more : goal.returns-in-Ok-Some-clause-more
 returns-in-Ok-Some-clause-more g c =
@@ -140,14 +140,14 @@ returns-in-Err-expand_listed-clause-stopped g c =
     let there = l.invariant.same i n.0 n.1 in
     let extends = c.in-Err-expand_listed.ensures.extends n.0 there in
     let longer = long_more shape specification turns right (n.0.depth + 1) l.nodes c.expand_listed.new.nodes extends in
-    let refused = c.cut_off.ensures.refused in
+    let refused = c.cut_off-in-Err-expand_listed.ensures.refused in
     record {
       some = omega (arith, longer, l.invariant.more, c.requires.first, c.loop-k-test.true);
       so_far = looked_same shape specification turns right within a.steps i n.0 (n.0.depth + 1) l.nodes c.expand_listed.new.nodes there refl extends l.invariant.near l.invariant.looked;
-      all = λ done. absurd (refused_done c.cut_off.result refused done);
-      closed = λ closed. absurd (refused_closed c.cut_off.result refused closed);
-      wrong = refused_bad _ c.cut_off.result refused;
-      full = λ full. c.in-Err-expand_listed.ensures.full (c.cut_off.ensures.states full);
+      all = λ done. absurd (refused_done c.cut_off-in-Err-expand_listed.result refused done);
+      closed = λ closed. absurd (refused_closed c.cut_off-in-Err-expand_listed.result refused closed);
+      wrong = refused_bad _ c.cut_off-in-Err-expand_listed.result refused;
+      full = λ full. c.in-Err-expand_listed.ensures.full (c.cut_off-in-Err-expand_listed.ensures.states full);
     }
 
 pub loop-k-preserved : goal.loop-k-preserved
