@@ -337,7 +337,7 @@ fn told_of_deep(alloc: Global, always: &'static str) -> Result<Told, Fail> {
 #[test]
 fn a_script_that_is_too_long_is_not_written(rt: HostRuntime) -> Result<(), Fail> {
     let told = told_of_deep(rt.alloc(), "x < 9900")?;
-    assert_eq!(rt; told.verdict, Verdict::Unwritten(9899));
+    assert_eq!(rt; told.verdict, Verdict::Unwritten(9900, Fault::Wrong));
     let told = told_of_deep(rt.alloc(), "x < 9000")?;
     assert_eq!(rt; told.verdict, Verdict::Bad(9000, Fault::Wrong));
     Ok(())

@@ -16,7 +16,7 @@ pub struct Asked {
     pub within: &'static str,
     pub turns: u32,
     pub steps: u32,
-    pub states: usize,
+    pub states: u32,
     pub outcomes: usize,
 }
 

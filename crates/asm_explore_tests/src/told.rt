@@ -13,7 +13,8 @@ pub enum Verdict {
     /// A depth, and the outcomes of a part and of what stands beside it.
     TooManyOutcomes(u32, usize, usize),
     NoMemory(u32),
-    Unwritten(u32),
+    /// The step that goes wrong.
+    Unwritten(u64, Fault),
 }
 
 /// What is found, and what was counted.
@@ -38,7 +39,7 @@ fn verdict_of(finding: &Finding) -> Verdict {
             Verdict::TooManyOutcomes(*depth, crowd.first, crowd.others)
         }
         Finding::NoMemory(depth) => Verdict::NoMemory(*depth),
-        Finding::Unwritten(depth) => Verdict::Unwritten(*depth),
+        Finding::Unwritten(unwritten) => Verdict::Unwritten(unwritten.step, unwritten.fault),
     }
 }
 
