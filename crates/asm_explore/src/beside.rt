@@ -101,7 +101,8 @@ fn beside_each(
     Ok(())
 }
 
-/// What two parts yield that stand beside each other: each outcome of the one beside each of the other.
+/// What two parts yield that stand beside each other: each outcome of the one beside each of the
+/// other.
 pub(crate) fn beside_all(
     alloc: Global,
     signature: &Signature,
