@@ -1,7 +1,7 @@
 -- Lines for the choices of steps, of which the last stands first.
 --     for_none, for_more      those for the first choices of a step
 --     of_none, of_more        those for the first steps
-use Rattle.std.proofs.Common.{◌≡◌, ℕ, zero, suc, ◌+◌, ◌-◌, ◌<◌, ◌≤◌, List, [], ◌∷◌, ◌++◌, length, take, drop, map, get_or, refl, sym, ap, ◌∙◌, arith, Vec, Global}
+use Rattle.std.proofs.Common.{◌≡◌, ℕ, suc, ◌+◌, ◌-◌, ◌<◌, ◌≤◌, List, [], ◌∷◌, ◌++◌, length, take, drop, map, get_or, refl, sym, ap, ◌∙◌, arith, Vec, Global}
 use Rattle.std.proofs.lemmas.List.{drop_all, drop_more, length-drop, length-map, take_more}
 use Rattle.asm_reader.specs.ScriptLines.{Line}
 use Rattle.asm_explore.specs.declared.found.Choice.{Choice}

@@ -4,9 +4,9 @@
 --     listed_count, listed_at        the outcomes of each
 --     each_mapped, each_between      what holds of all nodes holds of these
 --     same_node                      one node stands at a place
-use Rattle.std.proofs.Common.{◌≡◌, ℕ, zero, suc, ◌+◌, ◌-◌, ◌<◌, ◌≤◌, List, [], ◌∷◌, ◌++◌, map, take, drop, length, get_or, refl, sym, ap, subst, ◌∙◌, arith, Vec, Global}
+use Rattle.std.proofs.Common.{◌≡◌, ℕ, zero, suc, ◌+◌, ◌-◌, ◌<◌, List, [], ◌∷◌, ◌++◌, map, take, drop, length, get_or, refl, sym, ap, subst, ◌∙◌, arith, Vec, Global}
 use Rattle.std.specs.Prelude.{slice_get, Some, Result as Returned, IfOk}
-use Rattle.std.proofs.lemmas.List.{take_more, length-drop, length-take-le}
+use Rattle.std.proofs.lemmas.List.{take_more, length-drop}
 use Rattle.std.proofs.lemmas.Option.{get_or_from_slice_get, slice_get_within}
 use Rattle.asm_state.specs.Signature.{Shape, state_of}
 use Rattle.asm_state.specs.declared.value.Value.{Value}

@@ -1,10 +1,9 @@
 -- Bytes that stand for no value stand for undef.
-use Rattle.std.proofs.Common.{◌≡◌, ◌≢◌, ℕ, ◌+◌, ◌-◌, ◌<◌, ◌≤◌, ◌⊎◌, inl, inr, refl, sym, ap, ◌∙◌, arith}
+use Rattle.std.proofs.Common.{◌≡◌, ◌≢◌, ℕ, ◌<◌, ◌≤◌, inl, inr, sym, arith}
 use Rattle.std.proofs.lemmas.Bool.{cases_lt, lt-ltb, le-ltb}
-use Rattle.asm_state.specs.Bounds.{code_of_zero, code_of_first_element}
 use Rattle.asm_state.specs.Codes.{code_of}
 use Rattle.asm_state.specs.WordCodes.{same_code, at_plain}
-use Rattle.asm_state.specs.Words.{value_of_code, IsCode}
+use Rattle.asm_state.specs.Words.{IsCode}
 use Rattle.asm_state.specs.declared.value.Value.{Value}
 use Rattle.asm_state.specs.declared.value.Value.TheVariants.{Undef}
 use Rattle.asm_explore.specs.Bytes.{code_of_byte, content_of_byte}

@@ -6,7 +6,7 @@
 --     contents_byte, contents_word          one of the contents
 --     junk_kept, junk_same                  a room whose end was cut off and grew again has the same nodes
 --     pushed_kept, pushed                   and one more where the growth is that of its contents
-use Rattle.std.proofs.Common.{◌≡◌, ℕ, zero, suc, ◌+◌, ◌-◌, ◌<◌, ◌≤◌, List, [], ◌∷◌, ◌++◌, map, take, drop, length, get_or, refl, sym, ap, subst, ◌∙◌, arith}
+use Rattle.std.proofs.Common.{◌≡◌, ℕ, zero, suc, ◌+◌, ◌-◌, ◌<◌, ◌≤◌, List, [], ◌∷◌, ◌++◌, take, drop, length, get_or, refl, sym, ap, subst, ◌∙◌, arith}
 use Rattle.std.specs.Prelude.{slice_get, Some, Result, Ok, Err, OnErr}
 use Rattle.std.proofs.lemmas.List.{drop-take, take-append-le, drop-append-le, drop_at, length-take-le, take_all, length-drop, take-append-drop, length-append}
 use Rattle.std.proofs.lemmas.Option.{slice_get-get_or}

@@ -22,8 +22,7 @@ use Rattle.asm_explore.specs.declared.found.Found.{Found}
 use Rattle.asm_explore.specs.Kept.{Node}
 use Rattle.asm_explore.specs.declared.updates.Updates.{Updates}
 use Rattle.asm_explore.specs.declared.fault.Fault.{Fault}
-use Rattle.asm_explore.specs.Lists.{Situation, Each, AnyOf, AreTaken, Shows, Shown}
-use Rattle.asm_explore.specs.Placed.{AreApart}
+use Rattle.asm_explore.specs.Lists.{Situation, Each, AnyOf, Shows, Shown}
 use Rattle.asm_explore.specs.Reached.{steps_from, state_at, Known, Rises, IsNear, IsGood, Extends, Follows, Expanded, IsLinked, IsLooked, IsOutcome, IsBadStep, LeadsTo, IsSearched}
 use Rattle.asm_explore.specs.Search.{LeadsOn, IsSafeUpTo, IsSafe}
 use Rattle.asm_explore.proofs.ListLemmas.{each_append, each_at, each_weaker, any_first, any_last, any_weaker, any_take_more}

@@ -6,7 +6,7 @@
 --     leads_back          the choices of one more step behind those of others
 --     leads_apart         those of each step stand at paths of their own
 --     long_text           why a script has no text
-use Rattle.std.proofs.Common.{◌≡◌, ℕ, ◌<◌, Bool, List, [], ◌∷◌, ◌++◌, ◌⊎◌, inl, inr, length, map, ap, sym, subst, ◌∙◌, arith, append_assoc, Vec, Global}
+use Rattle.std.proofs.Common.{◌≡◌, ℕ, ◌<◌, List, [], ◌∷◌, ◌++◌, ◌⊎◌, inl, inr, length, map, ap, sym, subst, ◌∙◌, arith, append_assoc, Vec, Global}
 use Rattle.std.specs.Prelude.{slice_get, Some}
 use Rattle.std.proofs.lemmas.List.{map-append}
 use Rattle.asm_state.specs.Location.{State}
@@ -21,7 +21,7 @@ use Rattle.asm_explore.specs.declared.found.Found.{Found}
 use Rattle.asm_explore.specs.declared.writing_error.WritingError.{WritingError}
 use Rattle.asm_explore.specs.declared.writing_error.WritingError.TheVariants.{TooLong, LongNumber}
 use Rattle.asm_explore.specs.Kept.{Node}
-use Rattle.asm_explore.specs.Lists.{Situation, Each, Shows, Shown}
+use Rattle.asm_explore.specs.Lists.{Each, Shows, Shown}
 use Rattle.asm_explore.specs.Placed.{AreApart}
 use Rattle.asm_explore.specs.Reached.{ComesFrom, IsLinked, LeadTo, state_at}
 use Rattle.asm_explore.specs.Search.{LeadsOn}

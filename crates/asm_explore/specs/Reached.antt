@@ -14,10 +14,10 @@
 --     LeadTo            the choices of the steps that lead from the first state to another, those of the last step first
 --     MakesAll          a script makes them, each in its step
 --     GoesWrongSo       each script that makes those that lead to a bad step, and its own, has a run that goes wrong
-use Rattle.std.specs.Prelude.{◌≡◌, ℕ, zero, suc, ◌+◌, ◌≤◌, ◌<◌, Bool, true, false, List, [], ◌∷◌, ◌++◌, ◌⊎◌, length, take, Some, slice_get}
+use Rattle.std.specs.Prelude.{◌≡◌, ℕ, suc, ◌+◌, ◌≤◌, ◌<◌, Bool, true, false, List, [], ◌∷◌, ◌++◌, ◌⊎◌, length, take, Some, slice_get}
 use Rattle.asm_state.specs.Contents.{IsStateOf}
 use Rattle.asm_state.specs.Location.{State}
-use Rattle.asm_state.specs.Signature.{Shape, count_of, state_of}
+use Rattle.asm_state.specs.Signature.{Shape, state_of}
 use Rattle.asm_state.specs.Updates.{UpdateSet, IsConsistent}
 use Rattle.asm_reader.specs.ScriptLines.{Script}
 use Rattle.asm_meaning.specs.Does.{does}

@@ -12,8 +12,8 @@ pub struct BadRun {
     pub fault: Fault,
 }
 
-/// A run that goes wrong, under a script that is longer than a script may be, or has a number of more
-/// than nine digits.
+/// A run that goes wrong, under a script that is longer than a script may be, or has a number of
+/// more than nine digits.
 #[derive(Clone, Copy, Debug, PartialEq, Eq)]
 pub struct Unwritten {
     /// The run goes wrong in this step, and no run goes wrong before.
@@ -55,6 +55,7 @@ pub struct Answered {
     pub outcomes: usize,
     /// The most outcomes of a step.
     pub widest: usize,
-    /// So many states have a step whose outcomes all change nothing: a run that comes to one stays there.
+    /// So many states have a step whose outcomes all change nothing: a run that comes to one stays
+    /// there.
     pub quiet: usize,
 }

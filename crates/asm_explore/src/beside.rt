@@ -9,6 +9,7 @@ ghost use Rattle.asm_explore.specs.Placed.{IsPlaced, IsPlacedFrom};
 use crate::found::{Answer, Choice, Found, add_choices, copy_path};
 use crate::listing::add;
 use crate::overflow::Overflow;
+use crate::same::hash_of;
 use crate::sets::{union, union_into};
 use asm_meaning::Path;
 use asm_state::signature::Signature;
@@ -78,7 +79,12 @@ fn join(
     add_choices(alloc, left.choices.as_slice(), &mut choices)?;
     add_choices(alloc, right.choices.as_slice(), &mut choices)?;
     let answer = beside(alloc, signature, &left.answer, &right.answer)?;
-    Ok(Found { choices, answer })
+    let hash = hash_of(&answer);
+    Ok(Found {
+        choices,
+        answer,
+        hash,
+    })
 }
 
 /// Adds one outcome beside each of a list.
@@ -101,7 +107,8 @@ fn beside_each(
     Ok(())
 }
 
-/// What two parts yield that stand beside each other: each outcome of the one beside each of the other.
+/// What two parts yield that stand beside each other: each outcome of the one beside each of the
+/// other.
 pub(crate) fn beside_all(
     alloc: Global,
     signature: &Signature,
@@ -188,14 +195,21 @@ fn join_into(
     let Found {
         choices: first,
         answer: left,
+        ..
     } = left;
     let Found {
         choices: then,
         answer: right,
+        ..
     } = right;
     let choices = choices_into(alloc, first, then)?;
     let answer = beside_into(signature, left, right)?;
-    Ok(Found { choices, answer })
+    let hash = hash_of(&answer);
+    Ok(Found {
+        choices,
+        answer,
+        hash,
+    })
 }
 
 /// One outcome beside one other, in the room of the second's list, which has nothing in it.

@@ -28,6 +28,8 @@ pub enum Answer {
 pub struct Found {
     pub choices: Vec<Choice>,
     pub answer: Answer,
+    /// By which equal answers are found. No proof rests on it: they are compared.
+    pub hash: u64,
 }
 
 /// The same path again.
@@ -90,5 +92,9 @@ pub(crate) fn copy_found(alloc: Global, found: &Found) -> Result<Found, AllocErr
     let mut choices = Vec::new(alloc);
     add_choices(alloc, found.choices.as_slice(), &mut choices)?;
     let answer = copy_answer(alloc, &found.answer)?;
-    Ok(Found { choices, answer })
+    Ok(Found {
+        choices,
+        answer,
+        hash: found.hash,
+    })
 }

@@ -27,8 +27,8 @@ pub fn within_law()
         StaysWithin specification turns within script limit }
 {}
 
-/// Where no step makes two choices at one path, no two lines of the script with a line for each choice
-/// have one step and one path. It makes all choices, and so do the lines that are needed.
+/// Where no step makes two choices at one path, no two lines of the script with a line for each
+/// choice have one step and one path. It makes all choices, and so do the lines that are needed.
 pub fn script_law()
     ensures apart { (back : List (List Choice)) → Each AreApart back → IsUnrepeated (exactly (lines_of back)) }
     ensures makes { (back : List (List Choice)) → Each AreApart back → MakesAll (exactly (lines_of back)) back }

@@ -47,8 +47,8 @@ fn lines_of<'a>(alloc: Global, back: &'a [Vec<Choice>]) -> Result<Vec<ScriptLine
     Ok(lines)
 }
 
-/// The text of a script that makes the choices of some steps, of which the last stands first. Choices
-/// of the first candidate need no line.
+/// The text of a script that makes the choices of some steps, of which the last stands first.
+/// Choices of the first candidate need no line.
 pub(crate) fn script_to(
     alloc: Global,
     back: &[Vec<Choice>],

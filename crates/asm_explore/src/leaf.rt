@@ -15,6 +15,7 @@ ghost use Rattle.asm_explore.specs.Lists.{Situation, Shows, HaveChoices, IsCount
 use crate::exploration::Exploration;
 use crate::found::{Answer, Found};
 use crate::place::place_number;
+use crate::same::hash_of;
 use crate::sets::{no_updates, one_update};
 use asm_eval::code::Code;
 use asm_eval::frame::Frame;
@@ -28,9 +29,11 @@ fn alone(alloc: Global, answer: Answer) -> Result<Vec<Found>, AllocError>
     ensures choices { IfOk result (λ fs. HaveChoices (λ cs. cs ≡ []) fs.items) }
 {
     let mut found = Vec::new(alloc);
+    let hash = hash_of(&answer);
     found.push(Found {
         choices: Vec::new(alloc),
         answer,
+        hash,
     })?;
     Ok(found)
 }

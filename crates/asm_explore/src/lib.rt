@@ -1,4 +1,5 @@
-//! All choices of a specification: the outcomes of one step through all scripts, and the states that come of them.
+//! All choices of a specification: the outcomes of one step through all scripts, and the states
+//! that come of them.
 #![tactic(auto)]
 
 pub mod answer;

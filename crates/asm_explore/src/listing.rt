@@ -10,7 +10,7 @@ use crate::same::is_known;
 pub(crate) fn add(found: &mut Vec<Found>, one: Found, limit: usize) -> Result<(), Overflow>
     ensures { OnOk result (Grows found.old.items one found.new.items) }
 {
-    if is_known(found.as_slice(), &one.answer) {
+    if is_known(found.as_slice(), &one) {
         return Ok(());
     }
     if found.len() >= limit {

@@ -36,8 +36,8 @@ pub trait Machine {
     fn signature(&self) -> &Signature
         ensures { result.now ≡ shape self.now };
 
-    /// What a step from each of these states yields, through all scripts. A choice is made at most once
-    /// in a step, at a path of its own.
+    /// What a step from each of these states yields, through all scripts. A choice is made at most
+    /// once in a step, at a path of its own.
     fn outcomes(&self, alloc: Global, states: &[State]) -> Result<Vec<Listed>, AllocError>
         requires sound { is_sound self.now }
         requires whole { Each (λ s. length s ≡ count_of (shape self.now)) states.now }

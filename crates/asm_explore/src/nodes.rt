@@ -23,7 +23,8 @@ pub(crate) struct Link {
     depth: u32,
 }
 
-/// States that were reached. The contents of each are bytes, up to the first one for which no byte stands, and words from there on.
+/// States that were reached. The contents of each are bytes, up to the first one for which no byte
+/// stands, and words from there on.
 #[derive(Drop)]
 pub struct Nodes {
     bytes: Vec<u8>,

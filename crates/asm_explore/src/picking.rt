@@ -7,6 +7,7 @@ ghost use Rattle.asm_explore.specs.Lists.{Shows, IsCounted, IsPicked};
 use crate::found::{Answer, Choice, Found, add_choices, copy_answer};
 use crate::listing::add;
 use crate::overflow::Overflow;
+use crate::same::hash_of;
 use crate::sets::in_order;
 use asm_meaning::Path;
 use asm_state::word::Word;
@@ -26,7 +27,12 @@ fn with_choice(alloc: Global, one: &Found, path: &[u64], number: u64) -> Result<
         number,
     })?;
     let answer = copy_answer(alloc, &one.answer)?;
-    Ok(Found { choices, answer })
+    let hash = hash_of(&answer);
+    Ok(Found {
+        choices,
+        answer,
+        hash,
+    })
 }
 
 /// Adds the outcomes of a candidate.
@@ -70,6 +76,7 @@ fn choose_into(alloc: Global, one: Found, path: &[u64], number: u64) -> Result<F
     let Found {
         mut choices,
         answer,
+        ..
     } = one;
     let path = path.to_vec(alloc)?;
     choices.push(Choice {
@@ -77,7 +84,12 @@ fn choose_into(alloc: Global, one: Found, path: &[u64], number: u64) -> Result<F
         number,
     })?;
     let answer = ordered(answer)?;
-    Ok(Found { choices, answer })
+    let hash = hash_of(&answer);
+    Ok(Found {
+        choices,
+        answer,
+        hash,
+    })
 }
 
 /// Adds the outcome of a candidate that has one.

@@ -6,6 +6,7 @@ ghost use Rattle.asm_updates.specs.Stands.{Stands};
 ghost use Rattle.asm_explore.specs.Lists.{AnyOf, IsShownBy};
 
 use crate::found::{Answer, Found};
+use crate::index::{NO_CONTENTS, with_content};
 use crate::updates::Updates;
 use asm_state::laws::codes_apart;
 use asm_state::word::Word;
@@ -69,12 +70,35 @@ fn is_same(left: &Answer, right: &Answer) -> bool
     }
 }
 
-/// Whether some outcome of the list is found to have the answer.
-pub(crate) fn is_known(found: &[Found], answer: &Answer) -> bool
-    ensures { IsTrue result → AnyOf (λ f. IsShownBy answer.now f.answer) found.now }
+/// The hash of an answer. Equal sets whose entries stand in other orders have other ones.
+pub(crate) fn hash_of(answer: &Answer) -> u64 {
+    let mut hash = NO_CONTENTS;
+    match answer {
+        Answer::Set(updates) => {
+            let set = &updates.set;
+            for i in 0..set.len() {
+                let (n, low, high) = set.entry_at(i);
+                hash = with_content(hash, n as u64);
+                hash = with_content(hash, low.code());
+                hash = with_content(hash, high.code());
+            }
+        }
+        Answer::Exhausted(path) => {
+            for number in path.as_slice() {
+                hash = with_content(hash, *number);
+            }
+        }
+    }
+    hash
+}
+
+/// Whether some outcome of the list is found to have the answer of this one.
+pub(crate) fn is_known(found: &[Found], one: &Found) -> bool
+    ensures { IsTrue result → AnyOf (λ f. IsShownBy one.now.answer f.answer) found.now }
 {
     for i in 0..found.len() {
-        if is_same(&found[i].answer, answer) {
+        let other = &found[i];
+        if other.hash == one.hash && is_same(&other.answer, &one.answer) {
             return true;
         }
     }

@@ -156,7 +156,8 @@ fn reach<M: Machine>(
     Ok(true)
 }
 
-/// Follows one outcome of the step from a node's state. Answers what is wrong with it, if anything is.
+/// Follows one outcome of the step from a node's state. Answers what is wrong with it, if anything
+/// is.
 fn follow<M: Machine>(
     alloc: Global,
     machine: &M,
@@ -210,7 +211,8 @@ struct BadOutcome {
     fault: Fault,
 }
 
-/// Follows outcomes of the step from a node's state. Answers the first one with a fault, if there is one.
+/// Follows outcomes of the step from a node's state. Answers the first one with a fault, if there
+/// is one.
 fn follow_all<M: Machine>(
     alloc: Global,
     machine: &M,
@@ -260,7 +262,8 @@ fn choices_of(alloc: Global, outcomes: &[Found], number: usize) -> Result<Vec<Ch
     Ok(choices)
 }
 
-/// Follows all outcomes of the step from a node's state. Answers the first one with a fault, if there is one.
+/// Follows all outcomes of the step from a node's state. Answers the first one with a fault, if
+/// there is one.
 fn expand<M: Machine>(
     alloc: Global,
     machine: &M,
@@ -307,7 +310,8 @@ fn expand<M: Machine>(
     }
 }
 
-/// Expands a node, whose step has these outcomes. Answers what is wrong with the step, if anything is.
+/// Expands a node, whose step has these outcomes. Answers what is wrong with the step, if anything
+/// is.
 fn expand_listed<M: Machine>(
     alloc: Global,
     machine: &M,
@@ -457,8 +461,8 @@ fn ended_all(nodes: &Nodes, steps: u32) -> Ended
     }
 }
 
-/// Expands the next nodes, or passes over the next one if it isn't to be expanded. Answers how many are
-/// done with.
+/// Expands the next nodes, or passes over the next one if it isn't to be expanded. Answers how many
+/// are done with.
 fn expand_next<M: Machine>(
     alloc: Global,
     machine: &M,
@@ -543,10 +547,10 @@ fn whole_depth(nodes: &Nodes, expanded: usize, steps: u32) -> u32
     }
 }
 
-/// Looks through all runs of so many steps. Each run of at most `whole` steps under each script ends
-/// at its limit, in a state that is right; where nothing is left to be looked at, so does each run of
-/// however many steps; where a bad step was found, each script that makes its choices and those that
-/// lead to it has a run that goes wrong in this step. The first state is to be right.
+/// Looks through all runs of so many steps. Each run of at most `whole` steps under each script
+/// ends at its limit, in a state that is right; where nothing is left to be looked at, so does each
+/// run of however many steps; where a bad step was found, each script that makes its choices and
+/// those that lead to it has a run that goes wrong in this step. The first state is to be right.
 pub fn explore<M: Machine>(
     alloc: Global,
     machine: &M,

@@ -13,6 +13,7 @@ ghost use Rattle.asm_explore.specs.Sequences.{BothHave, Sorts, SortsAll, Underwa
 use crate::found::{Answer, Choice, Found, add_choices, copy_found, copy_path};
 use crate::listing::add;
 use crate::overflow::Overflow;
+use crate::same::hash_of;
 use crate::sets::{is_last, merged};
 use crate::updates::Updates;
 use asm_meaning::Path;
@@ -56,18 +57,30 @@ fn sort_one(
         Answer::Exhausted(path) => {
             let path = copy_path(alloc, path)?;
             let answer = Answer::Exhausted(path);
-            add(&mut sorted.done, Found { choices, answer }, limit)?;
+            let hash = hash_of(&answer);
+            let one = Found {
+                choices,
+                answer,
+                hash,
+            };
+            add(&mut sorted.done, one, limit)?;
             Ok(())
         }
         Answer::Set(set) => {
             let joined = merged(alloc, so_far, set)?;
             let answer = Answer::Set(joined);
+            let hash = hash_of(&answer);
+            let one = Found {
+                choices,
+                answer,
+                hash,
+            };
             let last = is_last(signature, set, turns);
             if last {
-                add(&mut sorted.done, Found { choices, answer }, limit)?;
+                add(&mut sorted.done, one, limit)?;
                 Ok(())
             } else {
-                add(&mut sorted.more, Found { choices, answer }, limit)?;
+                add(&mut sorted.more, one, limit)?;
                 Ok(())
             }
         }
@@ -144,9 +157,12 @@ fn exhausted(alloc: Global, one: &Found, path: &[u64]) -> Result<Found, AllocErr
     let mut choices = Vec::new(alloc);
     add_choices(alloc, one.choices.as_slice(), &mut choices)?;
     let path = path.to_vec(alloc)?;
+    let answer = Answer::Exhausted(Path::new(path));
+    let hash = hash_of(&answer);
     Ok(Found {
         choices,
-        answer: Answer::Exhausted(Path::new(path)),
+        answer,
+        hash,
     })
 }
 

@@ -88,8 +88,8 @@ fn choices_between<M: Machine>(
     Ok(None)
 }
 
-/// The choices of the steps that lead to a node, those of the last step first. They aren't kept while
-/// states are reached: the steps are looked at again.
+/// The choices of the steps that lead to a node, those of the last step first. They aren't kept
+/// while states are reached: the steps are looked at again.
 pub(crate) fn trail_to<M: Machine>(
     alloc: Global,
     machine: &M,

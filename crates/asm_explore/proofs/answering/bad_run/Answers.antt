@@ -2,7 +2,6 @@ use Rattle.std.proofs.Common.{◌≡◌, suc, ◌+◌, ◌∷◌, map, length, s
 use Rattle.std.specs.Prelude.{IfErr}
 use Rattle.std.specs.String.{string_bytes}
 use Rattle.std.proofs.lemmas.List.{length-map}
-use Rattle.asm_syntax.specs.declared.refused.Refused.TheVariants.{Named}
 use Rattle.asm_reader.specs.ExactLines.{exactly}
 use Rattle.asm_reader.specs.ScriptText.{IsScript}
 use Rattle.asm_meaning.specs.Run.{run}

@@ -1,4 +1,4 @@
-use Rattle.std.proofs.Common.{◌≤◌, length, ◌≡◌, sym, ap, subst}
+use Rattle.std.proofs.Common.{◌≤◌, sym, subst}
 use Rattle.asm_explore.specs.Answers.{Claims}
 use Rattle.asm_explore.proofs.answering.explore_machine.Goals as goal
 use Rattle.asm_explore.proofs.answering.explore_machine.Goals.{in-Closed, in-AtLimit, in-Bad+in_ok-finding-in-Bad, in-TooManyStates, in-TooManyOutcomes, in-Memory}

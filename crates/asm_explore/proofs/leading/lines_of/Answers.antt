@@ -1,4 +1,4 @@
-use Rattle.std.proofs.Common.{◌≡◌, ◌+◌, ◌++◌, sym, ap, ◌∙◌, arith}
+use Rattle.std.proofs.Common.{◌+◌, ◌++◌, sym, ap, ◌∙◌, arith}
 use Rattle.asm_explore.specs.ScriptTo.{lines_for}
 use Rattle.asm_explore.specs.Written.{lines_said}
 use Rattle.asm_explore.proofs.Backwards.{collected, of_none, of_more, of_all}

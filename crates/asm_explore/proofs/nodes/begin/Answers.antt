@@ -1,4 +1,4 @@
-use Rattle.std.proofs.Common.{◌≡◌, ℕ, suc, ◌-◌, ◌+◌, arith, sym, ap, ◌∙◌}
+use Rattle.std.proofs.Common.{◌≡◌, suc, ◌-◌, arith, sym, ap, ◌∙◌}
 use Rattle.asm_explore.specs.Kept.{begin_of}
 use Rattle.asm_explore.proofs.Kept.{begin_next}
 use Rattle.asm_explore.proofs.nodes.begin.Goals as goal

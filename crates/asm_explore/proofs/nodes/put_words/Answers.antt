@@ -1,4 +1,4 @@
-use Rattle.std.proofs.Common.{◌≡◌, ℕ, ◌+◌, ◌-◌, ◌<◌, ◌++◌, ◌∷◌, [], arith, get_or, length, sym, ap, ◌∙◌, take, drop, append_assoc}
+use Rattle.std.proofs.Common.{◌≡◌, ◌+◌, ◌-◌, ◌<◌, ◌++◌, ◌∷◌, [], arith, length, sym, ap, ◌∙◌, take, drop, append_assoc}
 use Rattle.std.proofs.lemmas.List.{take_more, length-drop}
 use Rattle.asm_state.specs.declared.value.Value.TheVariants.{Undef}
 use Rattle.asm_explore.proofs.Kept.{get_or_drop}

@@ -1,4 +1,4 @@
-use Rattle.std.proofs.Common.{◌≡◌, ℕ, ◌+◌, ◌<◌, ◌++◌, ◌∷◌, [], arith, get_or, length, sym, ap, ◌∙◌, take}
+use Rattle.std.proofs.Common.{◌≡◌, ℕ, ◌+◌, ◌<◌, ◌++◌, ◌∷◌, [], arith, length, sym, ap, ◌∙◌, take}
 use Rattle.std.proofs.lemmas.List.{take_more, take_more_set, get_or_default}
 use Rattle.asm_state.specs.declared.value.Value.TheVariants.{Undef}
 use Rattle.asm_explore.specs.Kept.{contents_of}

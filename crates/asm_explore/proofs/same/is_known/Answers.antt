@@ -1,10 +1,8 @@
-use Rattle.std.proofs.Common.{sym, subst}
 use Rattle.asm_explore.specs.Lists.{IsShownBy}
-use Rattle.asm_explore.specs.declared.found.Found.{Found}
 use Rattle.asm_explore.proofs.ListLemmas.{any_at}
 use Rattle.asm_explore.proofs.same.is_known.Goals as goal
 
 pub returns-then-is_same : goal.returns-then-is_same
 returns-then-is_same c = λ yes.
-    any_at (λ f. IsShownBy c.args.answer.now f.answer) c.args.found.now c.loop-i.i c.index-found-i.result c.loop-i-test.true c.index-found-i.is
-    (subst (λ (f : Found). IsShownBy c.args.answer.now f.answer) (sym c.index-found-i.is) (c.is_same.ensures c.if-is_same.true))
+    any_at (λ f. IsShownBy c.args.one.now.answer f.answer) c.args.found.now c.loop-i.i c.index-found-i.result c.loop-i-test.true c.index-found-i.is
+    (c.is_same.ensures c.if-is_same.true)

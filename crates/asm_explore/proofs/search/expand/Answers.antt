@@ -1,4 +1,4 @@
-use Rattle.std.proofs.Common.{◌≡◌, ℕ, ◌+◌, ◌≢◌, ◌<◌, ◌≤◌, ◌∙◌, Bool, List, length, ap, sym, subst, get_or, arith}
+use Rattle.std.proofs.Common.{◌≡◌, ℕ, ◌+◌, ◌≤◌, Bool, List, ap, sym, subst, arith}
 use Rattle.std.specs.Prelude.{Some, IfNone, IfSome, slice_get}
 use Rattle.std.proofs.lemmas.Option.{slice_get_within}
 use Rattle.asm_state.specs.Contents.{IsStateOf}
@@ -6,15 +6,13 @@ use Rattle.asm_state.specs.Location.{State}
 use Rattle.asm_state.specs.Signature.{Shape, state_of}
 use Rattle.asm_meaning.specs.Run.{Specification}
 use Rattle.asm_explore.specs.declared.found.Found.{Found}
-use Rattle.asm_explore.specs.declared.halt.Halt.TheVariants as halt
 use Rattle.asm_explore.specs.declared.search.BadOutcome.{BadOutcome}
 use Rattle.asm_explore.specs.Kept.{Node}
-use Rattle.asm_explore.specs.Lists.{Each, Shown, HaveChoices, IsSound}
+use Rattle.asm_explore.specs.Lists.{Each, Shown, IsSound}
 use Rattle.asm_explore.specs.Placed.{AreApart}
-use Rattle.asm_explore.specs.Reached.{Extends, Follows, IsGood, IsOutcome, IsBadStep, steps_from, state_at}
+use Rattle.asm_explore.specs.Reached.{Follows, IsGood, IsOutcome, IsBadStep, steps_from, state_at}
 use Rattle.asm_explore.proofs.ListLemmas.{each_weaker}
 use Rattle.asm_explore.proofs.Reaching.{each_got, some_at}
-use Rattle.asm_explore.proofs.Endings.{full_on}
 use Rattle.asm_explore.proofs.search.expand.Goals as goal
 
 abbrev IsWrongAt : {M : Type 0} (shape : M → Shape) (specification : M → Specification) (turns : M → ℕ) (right : M → State → Bool) (m : M)

@@ -1,4 +1,4 @@
-use Rattle.std.proofs.Common.{◌≡◌, ◌+◌, ◌∙◌, refl, sym}
+use Rattle.std.proofs.Common.{◌+◌, ◌∙◌, refl, sym}
 use Rattle.std.proofs.lemmas.Bool.{false≢true}
 use Rattle.asm_explore.proofs.Batches.{no_items}
 use Rattle.asm_explore.proofs.Reaching.{looked_more, extends_none, some_at}

@@ -1,11 +1,11 @@
-use Rattle.std.proofs.Common.{◌≡◌, ◌≤◌, ◌∙◌, refl, ap, sym, subst, arith}
+use Rattle.std.proofs.Common.{◌≡◌, sym, subst, arith}
 use Rattle.std.specs.Prelude.{slice_get, Some}
 use Rattle.asm_explore.specs.declared.explored.Bad.{Bad}
 use Rattle.asm_explore.specs.Kept.{Node}
-use Rattle.asm_explore.specs.Reached.{IsBad, GoesWrongSo}
+use Rattle.asm_explore.specs.Reached.{GoesWrongSo}
 use Rattle.asm_explore.proofs.Chains.{bad_runs}
-use Rattle.asm_explore.proofs.Endings.{if_bad_weaker, closed_done, at_limit_done}
-use Rattle.asm_explore.proofs.Reaching.{looked_none, near_none, only_node, looked_whole, looked_done, search_covers, closure_covers}
+use Rattle.asm_explore.proofs.Endings.{if_bad_weaker, closed_done}
+use Rattle.asm_explore.proofs.Reaching.{looked_whole, looked_done, search_covers, closure_covers}
 use Rattle.asm_explore.proofs.search.explore.Goals as goal
 
 pub returns-clause-safe : goal.returns-clause-safe

@@ -1,4 +1,4 @@
-use Rattle.std.proofs.Common.{◌≡◌, ◌∙◌, ap, sym}
+use Rattle.std.proofs.Common.{◌∙◌, ap, sym}
 use Rattle.std.proofs.lemmas.Bool.{false≢true}
 use Rattle.asm_state.specs.Signature.{location_at}
 use Rattle.asm_explore.proofs.search.is_same_state.Goals as goal

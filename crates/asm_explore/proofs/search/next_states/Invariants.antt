@@ -1,4 +1,4 @@
-use Rattle.std.proofs.Common.{◌≡◌, ◌+◌, ◌-◌, ◌<◌, ◌≤◌, map, take, drop, length}
+use Rattle.std.proofs.Common.{◌≡◌, ◌+◌, ◌<◌, map, take, drop, length}
 use Rattle.asm_explore.specs.Lists.{Each}
 use Rattle.asm_explore.proofs.search.next_states.Given as goal
 

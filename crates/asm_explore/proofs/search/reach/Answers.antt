@@ -1,4 +1,4 @@
-use Rattle.std.proofs.Common.{◌≡◌, ◌∙◌, ◌≤◌, refl, sym, ap, arith}
+use Rattle.std.proofs.Common.{◌∙◌, refl, sym, arith}
 use Rattle.asm_explore.specs.Kept.{Node}
 use Rattle.asm_explore.proofs.Reaching.{found_known, pushed_known, extends_one, comes_from}
 use Rattle.asm_explore.proofs.search.reach.Goals as goal

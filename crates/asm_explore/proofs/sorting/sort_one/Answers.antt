@@ -8,7 +8,7 @@ use Rattle.asm_explore.proofs.sorting.sort_one.Goals as goal
 pub returns-in_ok-add-in-Exhausted : goal.returns-in_ok-add-in-Exhausted
 returns-in_ok-add-in-Exhausted c =
     let a = c.args in
-    let joined : Found = record { choices = c.in_ok-choices.choices; answer = answer.Exhausted c.in_ok-path-in-Exhausted.path } in
+    let joined : Found = record { choices = c.in_ok-choices.choices; answer = answer.Exhausted c.in_ok-path-in-Exhausted.path; hash = c.hash_of-hash.result } in
     record {
       joined = joined;
       chosen = c.in_ok-choices.ensures ∙ ap (λ cs. a.choices.now ++ cs) c.as_slice.ensures.value;
@@ -23,7 +23,7 @@ returns-in_ok-add-in-Exhausted c =
 pub returns-in_ok-add-in-Set : goal.returns-in_ok-add-in-Set
 returns-in_ok-add-in-Set c =
     let a = c.args in
-    let joined : Found = record { choices = c.in_ok-choices.choices; answer = answer.Set c.in_ok-joined-in-Set.joined } in
+    let joined : Found = record { choices = c.in_ok-choices.choices; answer = answer.Set c.in_ok-joined-in-Set.joined; hash = c.hash_of-hash-in-Set.result } in
     record {
       joined = joined;
       chosen = c.in_ok-choices.ensures ∙ ap (λ cs. a.choices.now ++ cs) c.as_slice.ensures.value;
@@ -39,7 +39,7 @@ returns-in_ok-add-in-Set c =
 pub returns-in_ok-add-in-Set-2 : goal.returns-in_ok-add-in-Set-2
 returns-in_ok-add-in-Set-2 c =
     let a = c.args in
-    let joined : Found = record { choices = c.in_ok-choices.choices; answer = answer.Set c.in_ok-joined-in-Set.joined } in
+    let joined : Found = record { choices = c.in_ok-choices.choices; answer = answer.Set c.in_ok-joined-in-Set.joined; hash = c.hash_of-hash-in-Set.result } in
     record {
       joined = joined;
       chosen = c.in_ok-choices.ensures ∙ ap (λ cs. a.choices.now ++ cs) c.as_slice.ensures.value;

@@ -2,7 +2,6 @@ use Rattle.std.proofs.Common.{◌≡◌, ◌∙◌, refl, ap, sym}
 use Rattle.std.proofs.lemmas.Bool.{false≢true}
 use Rattle.asm_state.specs.Signature.{state_of}
 use Rattle.asm_state.specs.Updates.{fire}
-use Rattle.asm_updates.specs.Stands.{Stands}
 use Rattle.asm_explore.proofs.Reaching.{set_leads, set_stands, set_wrong}
 use Rattle.asm_explore.proofs.Sequenced.{no_fault_found, fault_found}
 use Rattle.asm_explore.proofs.Trails.{gives_same, wrong_leads}

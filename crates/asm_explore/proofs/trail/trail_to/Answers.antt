@@ -1,9 +1,9 @@
-use Rattle.std.proofs.Common.{◌≡◌, ◌+◌, ◌<◌, ◌++◌, ◌∷◌, [], ◌∙◌, List, map, length, ap, sym, subst, arith, append-nil}
+use Rattle.std.proofs.Common.{◌≡◌, ◌+◌, ◌∷◌, [], ◌∙◌, map, length, ap, sym, subst, arith, append-nil}
 use Rattle.std.specs.Prelude.{slice_get, Some, IfNone, IfSome}
 use Rattle.std.proofs.lemmas.List.{length-append}
 use Rattle.std.proofs.lemmas.Option.{slice_get_within}
 use Rattle.asm_state.specs.Contents.{IsStateOf}
-use Rattle.asm_state.specs.Signature.{count_of, state_of}
+use Rattle.asm_state.specs.Signature.{state_of}
 use Rattle.asm_explore.specs.Kept.{Node}
 use Rattle.asm_explore.specs.Reached.{IsGood, LeadBetween, LeadTo, MayLead, state_at}
 use Rattle.asm_explore.proofs.Batches.{same_node}

@@ -1,8 +1,7 @@
-use Rattle.std.proofs.Common.{◌≡◌, ◌+◌, ◌<◌, ◌≤◌, ℕ, arith, get_or, length, sym, ap, subst, ◌∙◌}
+use Rattle.std.proofs.Common.{◌≡◌, arith, get_or, length, sym, ap, subst, ◌∙◌}
 use Rattle.std.specs.Prelude.{slice_get, Some}
-use Rattle.asm_explore.specs.Kept.{contents_of, between, nodes_from, begin_of}
-use Rattle.asm_explore.specs.declared.nodes.Link.{Link}
-use Rattle.asm_explore.proofs.Kept.{nodes_count, node_at, kept_within, IsWithin}
+use Rattle.asm_explore.specs.Kept.{contents_of, between, begin_of}
+use Rattle.asm_explore.proofs.Kept.{nodes_count, node_at, kept_within}
 use Rattle.asm_explore.proofs.nodes.Nodes.contents.Goals as goal
 
 pub begin-b-requires : goal.begin-b-requires

@@ -1,4 +1,4 @@
-use Rattle.std.proofs.Common.{length, arith, sym, ap, subst, ◌∙◌, ◌≡◌, ℕ, ◌<◌}
+use Rattle.std.proofs.Common.{length, arith, sym, ap, subst, ◌∙◌, ◌≡◌}
 use Rattle.std.specs.Prelude.{slice_get, Some}
 use Rattle.asm_explore.proofs.Kept.{nodes_count, node_at}
 use Rattle.asm_explore.proofs.nodes.Nodes.from.Goals as goal

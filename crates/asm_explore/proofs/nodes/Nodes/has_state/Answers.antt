@@ -1,4 +1,4 @@
-use Rattle.std.proofs.Common.{◌≡◌, length, sym, ap, ◌∙◌}
+use Rattle.std.proofs.Common.{length, sym, ap, ◌∙◌}
 use Rattle.asm_explore.proofs.Kept.{contents_count, some_at}
 use Rattle.asm_explore.proofs.nodes.Nodes.has_state.Goals as goal
 

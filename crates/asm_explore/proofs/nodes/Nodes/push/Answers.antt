@@ -1,7 +1,5 @@
-use Rattle.std.proofs.Common.{◌≡◌, ◌+◌, ◌-◌, refl, ◌<◌, ◌≤◌, ◌++◌, ◌∷◌, List, [], ℕ, arith, length, take, drop, sym, ap, subst, ◌∙◌, append-nil}
-use Rattle.std.proofs.lemmas.List.{length-append, length-take-le}
-use Rattle.asm_state.specs.declared.value.Value.{Value}
-use Rattle.asm_explore.specs.Kept.{Node, begin_of, AreKept, nodes_from}
+use Rattle.std.proofs.Common.{◌≡◌, ◌+◌, ◌-◌, refl, ◌++◌, ◌∷◌, [], arith, length, take, drop, sym, ap, subst, ◌∙◌, append-nil}
+use Rattle.asm_explore.specs.Kept.{begin_of, AreKept, nodes_from}
 use Rattle.asm_explore.specs.declared.nodes.Link.{Link}
 use Rattle.asm_explore.proofs.Kept.{junk_kept, junk_same, pushed_kept, pushed, bytes_size, on_err}
 use Rattle.asm_explore.proofs.nodes.Nodes.push.Goals as goal

@@ -1,4 +1,4 @@
-use Rattle.std.proofs.Common.{◌≡◌, ◌+◌, ◌++◌, ◌∷◌, [], ◌∙◌, take, length, ap, sym, subst, arith}
+use Rattle.std.proofs.Common.{◌≡◌, ◌+◌, ◌++◌, ◌∷◌, [], ◌∙◌, take, ap, sym, subst}
 use Rattle.std.proofs.lemmas.List.{take_more}
 use Rattle.asm_syntax.specs.Views.{spec_of}
 use Rattle.asm_check.specs.Shapes.{shape_of}
