@@ -1,7 +1,9 @@
 -- Runs along choices that lead to a state.
 --     comes_on        a run that comes to a state goes on from there
 --     bad_runs        each script that makes the choices of the steps that lead to a bad step has a run that goes wrong there
-use Rattle.std.proofs.Common.{◌≡◌, ℕ, zero, suc, ◌+◌, Bool, true, false, cond, List, [], ◌∷◌, length, refl, sym, ap, subst, ◌∙◌, arith}
+use Rattle.std.proofs.Common.{◌≡◌, ℕ, zero, suc, ◌+◌, ◌<◌, ◌≤◌, Bool, true, false, cond, List, [], ◌∷◌, length, inl, inr, refl, sym, ap, subst, ◌∙◌, arith}
+use Rattle.std.specs.Prelude.{slice_get, Some}
+use Rattle.std.proofs.lemmas.Bool.{cases_lt}
 use Rattle.asm_state.specs.Location.{State}
 use Rattle.asm_state.specs.Signature.{Shape}
 use Rattle.asm_state.specs.Updates.{UpdateSet, IsConsistent, is_consistent, fire}
@@ -101,23 +103,54 @@ module _ (specification : Specification) (turns : ℕ) (right : State → Bool) 
       (same.end, ap right same.last ∙ leads.leads)
 
   -- along the choices that lead to a state
-  trail_comes : (back : List (List Choice)) (B : State) → LeadTo specification turns B back → MakesAll script back → ComesTo (length back) B
-  trail_comes [] B is makes = is
-  trail_comes (cs ∷ back) B leads makes = (leads.0, trail_comes back leads.0 leads.1 makes.1, leads.2.leads (step_at (suc (length back))) makes.0)
+  module _ (within : State → Bool) where
+    trail_comes : (back : List (List Choice)) (B : State) → LeadTo specification turns within B back → MakesAll script back → ComesTo (length back) B
+    trail_comes [] B is makes = is
+    trail_comes (cs ∷ back) B leads makes = (leads.0, trail_comes back leads.0 leads.1 makes.1, leads.3.leads (step_at (suc (length back))) makes.0)
 
-pub bad_runs : (specification : Specification) (turns : ℕ) (right : State → Bool) (shape : Shape) (nodes : List Node) (bad : Bad)
-    → IsBad shape specification turns right nodes bad → GoesWrongSo specification turns right shape nodes bad
-bad_runs specification turns right shape nodes bad is = record {
+    comes_last : (d : ℕ) (B : State) → ComesTo d B → (runs d 1 specification.initial).last ≡ B
+    comes_last d B comes =
+        let count : d + 0 ≡ d = omega arith in
+        ap (λ n. (runs n 1 specification.initial).last) (sym count) ∙ (comes_on d 0 B comes).last
+
+    -- runs that come that way stay within
+    trail_stays : (back : List (List Choice)) (B : State) → LeadTo specification turns within B back → MakesAll script back → within B ≡ true
+        → (k : ℕ) → k ≤ length back → within (runs k 1 specification.initial).last ≡ true
+    trail_stays back B leads makes inside k low =
+        elim (cases_lt k (length back)) [
+          | inl less ↦ before back B leads makes k less
+          | inr past ↦
+              let same : k ≡ length back = omega (arith, low, past) in
+              ap (λ n. within (runs n 1 specification.initial).last) same ∙ ap within (comes_last (length back) B (trail_comes back B leads makes)) ∙ inside
+        ]
+      where
+        before : (back : List (List Choice)) (B : State) → LeadTo specification turns within B back → MakesAll script back → (k : ℕ) → k < length back
+            → within (runs k 1 specification.initial).last ≡ true
+        before [] B leads makes k less = absurd (omega (arith, less))
+        before (cs ∷ back) B leads makes k less =
+            elim (cases_lt k (length back)) [
+              | inl below ↦ before back leads.0 leads.1 makes.1 k below
+              | inr past ↦
+                  let same : k ≡ length back = omega (arith, less, past) in
+                  ap (λ n. within (runs n 1 specification.initial).last) same ∙ ap within (comes_last (length back) leads.0 (trail_comes back leads.0 leads.1 makes.1)) ∙ leads.2
+            ]
+
+pub bad_runs : (specification : Specification) (turns : ℕ) (right within : State → Bool) (shape : Shape) (nodes : List Node) (bad : Bad)
+    → IsBad shape specification turns right nodes bad → ((n : Node) → slice_get nodes bad.from ≡ Some n → within (state_at shape n) ≡ true)
+    → GoesWrongSo specification turns right within shape nodes bad
+bad_runs specification turns right within shape nodes bad is inside = record {
   from = is.from;
   there = is.there;
   apart = is.apart;
   wrong = λ back leads script makes.
       let d = length back in
       let A = state_at shape is.from in
-      let comes = trail_comes specification turns right script back A leads makes.1 in
+      let comes = trail_comes specification turns right script within back A leads makes.1 in
       let same = comes_on specification turns right script d 1 A comes in
       let count : suc d ≡ d + 1 = omega arith in
-      let here = goes_wrong specification turns right script bad.fault (suc d) A (is.wrong (record { script = script; step = suc d }) makes.0) in
-      subst (λ k. EndsSo right bad.fault (suc d) (run specification turns script k)) (sym count)
-      (ends_same right bad.fault (suc d) (run specification turns script (d + 1)) (run_from specification.program turns specification.main script 1 (suc d) A) same here);
+      let here = goes_wrong specification turns right script bad.fault (suc d) A (is.wrong (record { script = script; step = suc d }) makes.0) in (
+        subst (λ k. EndsSo right bad.fault (suc d) (run specification turns script k)) (sym count)
+            (ends_same right bad.fault (suc d) (run specification turns script (d + 1)) (run_from specification.program turns specification.main script 1 (suc d) A) same here),
+        λ k less. trail_stays specification turns right script within back A leads makes.1 (inside is.from is.there) k (omega (arith, less)),
+      );
 }

@@ -7,6 +7,7 @@
 --     search_covers                               a whole search covers what runs come to
 use Rattle.std.proofs.Common.{◌≡◌, ℕ, zero, suc, ◌+◌, ◌<◌, ◌≤◌, Bool, true, List, [], ◌∷◌, ◌++◌, length, take, drop, get_or, ◌⊎◌, inl, inr, refl, sym, ap, subst, ◌∙◌, arith, append_assoc, append-nil}
 use Rattle.std.specs.Prelude.{slice_get, Option, Some, None, IfNone}
+use Rattle.std.proofs.lemmas.Bool.{cases_lt}
 use Rattle.std.proofs.lemmas.List.{take_all, take_more, take-append-le, take-append-drop}
 use Rattle.std.proofs.lemmas.Option.{get_or_from_slice_get, slice_get_within, slice_get-get_or}
 use Rattle.asm_state.specs.declared.value.Value.{Value as Contents}
@@ -23,7 +24,7 @@ use Rattle.asm_explore.specs.Kept.{Node}
 use Rattle.asm_explore.specs.declared.updates.Updates.{Updates}
 use Rattle.asm_explore.specs.declared.fault.Fault.{Fault}
 use Rattle.asm_explore.specs.Lists.{Situation, Each, AnyOf, Shows, Shown}
-use Rattle.asm_explore.specs.Reached.{steps_from, state_at, Known, Rises, IsNear, IsGood, Extends, Follows, Expanded, IsLinked, IsLooked, IsOutcome, IsBadStep, LeadsTo, IsSearched}
+use Rattle.asm_explore.specs.Reached.{AreBegun, AreInside, steps_from, state_at, Known, Rises, IsNear, IsGood, Extends, Follows, Expanded, IsLinked, IsLooked, IsOutcome, IsBadStep, LeadsTo, IsSearched}
 use Rattle.asm_explore.specs.Search.{LeadsOn, IsSafeUpTo, IsSafe}
 use Rattle.asm_explore.proofs.ListLemmas.{each_append, each_at, each_weaker, any_first, any_last, any_weaker, any_take_more}
 use Rattle.asm_explore.proofs.Layers.{layers_are_safe, closure_is_safe}
@@ -163,6 +164,27 @@ module _ (shape : Shape) (specification : Specification) (turns : ℕ) (right : 
         leads = steps.1;
       })
 
+-- ---- nodes that come from one
+
+pub begun_none : (from : ℕ) (nodes : List Node) → AreBegun from nodes nodes
+begun_none from nodes j k past there = absurd (omega (arith, past, slice_get_within nodes j k there))
+
+pub begun_one : (from : ℕ) (old new : List Node) (n : Node) → new ≡ old ++ n ∷ [] → n.from ≡ from → AreBegun from old new
+begun_one from old new n is at j k past there = by_place (slice_split old (n ∷ []) j k (subst (λ ns. slice_get ns j ≡ Some k) is there))
+  where
+    by_place : (slice_get old j ≡ Some k) ⊎ ((i : ℕ) × (j ≡ length old + i) × (slice_get (n ∷ []) i ≡ Some k)) → k.from ≡ from
+    by_place (inl there) = absurd (omega (arith, past, slice_get_within old j k there))
+    by_place (inr (zero, same, there)) = let one : n ≡ k = cc in ap (λ (m : Node). m.from) (sym one) ∙ at
+    by_place (inr (suc i, same, there)) = cc
+
+module _ (shape : Shape) (specification : Specification) (turns : ℕ) (right : State → Bool) (below : ℕ) where
+  pub begun_both : (from : ℕ) (old mid new : List Node) → Extends shape specification turns right below mid new → AreBegun from old mid → AreBegun from mid new → AreBegun from old new
+  begun_both from old mid new extends first then j k past there =
+      elim (cases_lt j (length mid)) [
+        | inl low ↦ first j k past (at_less shape specification turns right below mid new extends j k low there)
+        | inr beyond ↦ then j k beyond there
+      ]
+
 -- a state that stands in a node, where none is too deep
 pub found_known : (shape : Shape) (nodes : List Node) (contents : List Contents) (below : ℕ) → Each (λ n. n.depth ≤ below) nodes
     → AnyOf (λ n. n.state ≡ contents) nodes → Known shape nodes below (state_of shape contents)
@@ -265,8 +287,13 @@ module _ (shape : Shape) (specification : Specification) (turns : ℕ) (right wi
     linked = (inl (deep, first), tt);
     expanded = tt;
     rises = λ i j m o upto there then. alone i j m o upto there then;
+    inside = λ j k m there deeper before. absurd (lowest j k there deeper);
   })
     where
+      lowest : (j : ℕ) (k : Node) → slice_get (n ∷ []) j ≡ Some k → 0 < k.depth → ⊥
+      lowest zero k there deeper = let is : n ≡ k = cc in let same = ap (λ (m : Node). m.depth) is in omega (arith, deep, deeper, same)
+      lowest (suc j) k there deeper = cc
+
       alone : (i j : ℕ) (m o : Node) → i ≤ j → slice_get (n ∷ []) i ≡ Some m → slice_get (n ∷ []) j ≡ Some o → m.depth ≤ o.depth
       alone i zero m o upto there then = same i m o upto there then
         where
@@ -284,11 +311,37 @@ module _ (shape : Shape) (specification : Specification) (turns : ℕ) (right wi
       let up = rises i (i + 1) n m (omega arith) there then in
       each_weaker (λ x. x.depth ≤ n.depth + 1) (λ x. x.depth ≤ m.depth + 1) (λ x low. omega (arith, low, up)) nodes near
 
+  -- those that come from a node that is within
+  abbrev AreAdded : (i : ℕ) → Node → (old new : List Node) → Type 0
+  AreAdded i n old new = (j : ℕ) (k : Node) → length old ≤ j → slice_get new j ≡ Some k → (k.from ≡ i) × (within (state_at shape n) ≡ true)
+
+  inside_more : (i : ℕ) (n : Node) (below : ℕ) (old new : List Node) → slice_get old i ≡ Some n → Extends shape specification turns right below old new → AreAdded i n old new
+      → Each (IsLinked shape specification turns old) old → AreInside shape specification turns within old → AreInside shape specification turns within new
+  inside_more i n below old new there extends added linked inside j k m here deeper before =
+      elim (cases_lt j (length old)) [
+        | inl low ↦
+            let was = at_less shape specification turns right below old new extends j k low here in
+            by_link was (each_got (IsLinked shape specification turns old) old j k linked was)
+        | inr beyond ↦
+            let from = added j k beyond here in
+            let at : slice_get new k.from ≡ Some n = ap (slice_get new) from.0 ∙ at_more shape specification turns right below old new extends i n there in
+            subst (λ (x : Node). within (state_at shape x) ≡ true) (one_node n m (slice_get new k.from) at before) from.1
+      ]
+    where
+      one_node : (n m : Node) (o : Option Node) → o ≡ Some n → o ≡ Some m → n ≡ m
+      one_node n m o there here = cc
+
+      by_link : slice_get old j ≡ Some k → IsLinked shape specification turns old k → within (state_at shape m) ≡ true
+      by_link was (inl first) = absurd (omega (arith, deeper, first.0))
+      by_link was (inr comes) =
+          let at = at_more shape specification turns right below old new extends k.from comes.earlier comes.there in
+          subst (λ (x : Node). within (state_at shape x) ≡ true) (one_node comes.earlier m (slice_get new k.from) at before) (inside j k comes.earlier was deeper comes.there)
+
   -- one more is
   pub looked_more : (i : ℕ) (n : Node) (below : ℕ) (old new : List Node) → slice_get old i ≡ Some n → below ≡ n.depth + 1 → Extends shape specification turns right below old new
-      → (n.depth < depth → within (state_at shape n) ≡ true → Expanded shape specification turns new n) → IsNear old i
+      → (n.depth < depth → within (state_at shape n) ≡ true → Expanded shape specification turns new n) → AreAdded i n old new → IsNear old i
       → IsLooked shape specification turns right within depth i old → IsLooked shape specification turns right within depth (i + 1) new × IsNear new (i + 1)
-  looked_more i n below old new there deeper extends here near_there so_far =
+  looked_more i n below old new there deeper extends here added near_there so_far =
       let low : i < length old = slice_get_within old i n there in
       let first : take (i + 1) new ≡ take i old ++ n ∷ [] =
       ap (take (i + 1)) extends.is ∙ take-append-le (i + 1) old extends.more (omega (arith, low)) ∙ take_more old i n low
@@ -302,6 +355,7 @@ module _ (shape : Shape) (specification : Specification) (turns : ℕ) (right wi
           expanded = subst (Each (IsDone new)) (sym first)
               (each_append (IsDone new) (take i old) (n ∷ []) (each_weaker (IsDone old) (IsDone new) (done_more below old new extends) (take i old) so_far.expanded) (here, tt));
           rises = rises;
+          inside = inside_more i n below old new there extends added so_far.linked so_far.inside;
         },
         near_next i n new (at_more shape specification turns right below old new extends i n there) rises
             (subst (λ b. Each (λ m. m.depth ≤ b) new) deeper (shallow_more shape specification turns right below old new extends near)),
@@ -309,8 +363,8 @@ module _ (shape : Shape) (specification : Specification) (turns : ℕ) (right wi
 
   -- there are more nodes
   pub looked_same : (i : ℕ) (n : Node) (below : ℕ) (old new : List Node) → slice_get old i ≡ Some n → below ≡ n.depth + 1 → Extends shape specification turns right below old new
-      → IsNear old i → IsLooked shape specification turns right within depth i old → IsLooked shape specification turns right within depth i new
-  looked_same i n below old new there deeper extends near_there so_far =
+      → AreAdded i n old new → IsNear old i → IsLooked shape specification turns right within depth i old → IsLooked shape specification turns right within depth i new
+  looked_same i n below old new there deeper extends added near_there so_far =
       let low : i < length old = slice_get_within old i n there in
       let first : take i new ≡ take i old = ap (take i) extends.is ∙ take-append-le i old extends.more (omega (arith, low)) in
       let near : Each (λ m. m.depth ≤ below) old = subst (λ b. Each (λ m. m.depth ≤ b) old) (sym deeper) (near_there n there) in
@@ -320,6 +374,7 @@ module _ (shape : Shape) (specification : Specification) (turns : ℕ) (right wi
         linked = linked_both shape specification turns right below old new extends so_far.linked;
         expanded = subst (Each (IsDone new)) (sym first) (each_weaker (IsDone old) (IsDone new) (done_more below old new extends) (take i old) so_far.expanded);
         rises = rises_more shape specification turns right below old new extends so_far.rises near;
+        inside = inside_more i n below old new there extends added so_far.linked so_far.inside;
       }
 
   -- all are, and none is missing

@@ -6,7 +6,7 @@
 --     leads_back          the choices of one more step behind those of others
 --     leads_apart         those of each step stand at paths of their own
 --     long_text           why a script has no text
-use Rattle.std.proofs.Common.{◌≡◌, ℕ, ◌<◌, List, [], ◌∷◌, ◌++◌, ◌⊎◌, inl, inr, length, map, ap, sym, subst, ◌∙◌, arith, append_assoc, Vec, Global}
+use Rattle.std.proofs.Common.{◌≡◌, ℕ, ◌<◌, Bool, List, [], ◌∷◌, ◌++◌, ◌⊎◌, inl, inr, length, map, ap, sym, subst, ◌∙◌, arith, append_assoc, Vec, Global}
 use Rattle.std.specs.Prelude.{slice_get, Some}
 use Rattle.std.proofs.lemmas.List.{map-append}
 use Rattle.asm_state.specs.Location.{State}
@@ -64,9 +64,9 @@ pub leads_back : (xs ys : List (Vec Choice Global)) (cs : Vec Choice Global) (ba
 leads_back xs ys cs back is =
     sym (ap (λ zs. choices_in zs ++ back) is ∙ ap (λ zs. zs ++ back) (map-append (λ (cs : Vec Choice Global). cs.items) xs (cs ∷ [])) ∙ append_assoc (choices_in xs) (cs.items ∷ []) back)
 
-pub leads_apart : (specification : Specification) (turns : ℕ) (back : List (List Choice)) (B : State) → LeadTo specification turns B back → Each AreApart back
-leads_apart specification turns [] B leads = tt
-leads_apart specification turns (cs ∷ back) B leads = (leads.2.apart, leads_apart specification turns back leads.0 leads.1)
+pub leads_apart : (specification : Specification) (turns : ℕ) (within : State → Bool) (back : List (List Choice)) (B : State) → LeadTo specification turns within B back → Each AreApart back
+leads_apart specification turns within [] B leads = tt
+leads_apart specification turns within (cs ∷ back) B leads = (leads.3.apart, leads_apart specification turns within back leads.0 leads.1)
 
 pub long_text : (numbers text : List ℕ) (e : WritingError) → IsTextRefusal numbers text (Named e) → AnyIsLong numbers ⊎ (max_script < length text)
 long_text numbers text TooLong h = inr h

@@ -13,7 +13,7 @@ use Rattle.asm_explore.specs.declared.answer.BadRun.{BadRun}
 use Rattle.asm_explore.specs.declared.answer.Finding.{Finding}
 use Rattle.asm_explore.specs.declared.answer.Unwritten.{Unwritten}
 use Rattle.asm_explore.specs.declared.answer.Finding.TheVariants as finding
-use Rattle.asm_explore.specs.Search.{IsSafeUpTo, IsSafe, EndsSo}
+use Rattle.asm_explore.specs.Search.{IsSafeUpTo, IsSafe, EndsSo, StaysWithin}
 use Rattle.asm_explore.specs.Written.{AnyIsLong, lines_text, numbers_in}
 
 module _ (specification : Specification) (turns steps limit : ℕ) (right within : State → Bool) where
@@ -25,6 +25,8 @@ module _ (specification : Specification) (turns steps limit : ℕ) (right within
     pub script : Script
     pub spelled : IsScript (string_bytes bad.script) script
     pub wrong : EndsSo right bad.fault bad.step (run specification turns script bad.step)
+    pub stays : StaysWithin specification turns within script bad.step
+    pub limited : bad.step ≤ steps
     -- no run of fewer steps goes wrong
     pub before : ℕ
     pub next : bad.step ≡ suc before
@@ -34,6 +36,8 @@ module _ (specification : Specification) (turns steps limit : ℕ) (right within
   pub record IsUnwritten (unwritten : Unwritten) : Type 0 where
     pub lines : List Line
     pub wrong : EndsSo right unwritten.fault unwritten.step (run specification turns (exactly lines) unwritten.step)
+    pub stays : StaysWithin specification turns within (exactly lines) unwritten.step
+    pub limited : unwritten.step ≤ steps
     pub long : AnyIsLong (numbers_in lines) ⊎ (max_script < length (lines_text lines))
     -- no run of fewer steps goes wrong
     pub before : ℕ

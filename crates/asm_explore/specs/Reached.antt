@@ -7,6 +7,8 @@
 --     ComesFrom         a node that a step leads to from an earlier one
 --     IsLinked          each node is the first one, or comes from an earlier one
 --     Rises, IsNear     nodes stand in the order of their depths; none is much deeper than one of them
+--     AreBegun          nodes that were added come from one
+--     AreInside         a step to a node began in a state that is within
 --     Extends           nodes with more behind them, which have right states, are linked, and have one depth
 --     IsBadStep         a step that goes wrong
 --     IsLooked          what stays true while nodes are expanded
@@ -35,10 +37,14 @@ use Rattle.asm_explore.specs.declared.found.Found.{Found}
 use Rattle.asm_explore.specs.Kept.{Node}
 use Rattle.asm_explore.specs.Lists.{Situation, Each, AnyOf, AreTaken, Shown, IsSound}
 use Rattle.asm_explore.specs.Placed.{AreApart}
-use Rattle.asm_explore.specs.Search.{LeadsOn, EndsSo}
+use Rattle.asm_explore.specs.Search.{LeadsOn, EndsSo, StaysWithin}
 
 abbrev pub steps_from : Specification → (turns : ℕ) → State → Situation → Result
 steps_from specification turns A s = (does specification.program turns s.script s.step A nothing_bound [] specification.main).result
+
+-- nodes that were added come from one
+abbrev pub AreBegun : (from : ℕ) → (old new : List Node) → Type 0
+AreBegun from old new = (j : ℕ) (k : Node) → length old ≤ j → slice_get new j ≡ Some k → k.from ≡ from
 
 -- nodes stand in the order of their depths
 abbrev pub Rises : List Node → Type 0
@@ -59,21 +65,22 @@ pub record LeadBetween (specification : Specification) (turns : ℕ) (A B : Stat
   pub apart : AreApart cs
   pub leads : (s : Situation) → AreTaken s cs → LeadsOn (steps_from specification turns A s) A (λ C. C ≡ B)
 
-abbrev pub LeadTo : Specification → (turns : ℕ) → State → List (List Choice) → Type 0
-LeadTo specification turns B [] = B ≡ specification.initial
-LeadTo specification turns B (cs ∷ back) = (A : State) × LeadTo specification turns A back × LeadBetween specification turns A B cs
+-- by way of states that are within
+abbrev pub LeadTo : Specification → (turns : ℕ) → (within : State → Bool) → State → List (List Choice) → Type 0
+LeadTo specification turns within B [] = B ≡ specification.initial
+LeadTo specification turns within B (cs ∷ back) = (A : State) × LeadTo specification turns within A back × (within A ≡ true) × LeadBetween specification turns A B cs
 
 abbrev pub MakesAll : Script → List (List Choice) → Type 0
 MakesAll script [] = Unit {0}
 MakesAll script (cs ∷ back) = AreTaken (record { script = script; step = suc (length back) }) cs × MakesAll script back
 
 -- the step from the state of a node, as deep as so many steps lead to, goes wrong
-pub record GoesWrongSo (specification : Specification) (turns : ℕ) (right : State → Bool) (shape : Shape) (nodes : List Node) (bad : Bad) : Type 0 where
+pub record GoesWrongSo (specification : Specification) (turns : ℕ) (right within : State → Bool) (shape : Shape) (nodes : List Node) (bad : Bad) : Type 0 where
   pub from : Node
   pub there : slice_get nodes bad.from ≡ Some from
   pub apart : AreApart bad.choices.items
-  pub wrong : (back : List (List Choice)) → LeadTo specification turns (state_of shape from.state) back → (script : Script) → MakesAll script (bad.choices.items ∷ back)
-      → EndsSo right bad.fault (suc (length back)) (run specification turns script (suc (length back)))
+  pub wrong : (back : List (List Choice)) → LeadTo specification turns within (state_of shape from.state) back → (script : Script) → MakesAll script (bad.choices.items ∷ back)
+      → EndsSo right bad.fault (suc (length back)) (run specification turns script (suc (length back))) × StaysWithin specification turns within script (suc (length back))
 
 module _ (shape : Shape) where
   abbrev pub state_at : Node → State
@@ -133,6 +140,10 @@ module _ (shape : Shape) where
     abbrev pub Expanded : List Node → Node → Type 0
     Expanded nodes n = (s : Situation) → LeadsOn (steps_from specification turns (state_at n) s) (state_at n) (Known nodes (n.depth + 1))
 
+    -- the node that a step to another one began in is within
+    abbrev pub AreInside : (within : State → Bool) → List Node → Type 0
+    AreInside within nodes = (j : ℕ) (k m : Node) → slice_get nodes j ≡ Some k → 0 < k.depth → slice_get nodes k.from ≡ Some m → within (state_at m) ≡ true
+
     -- the first nodes are expanded, so many, unless they are as deep as the search goes or aren't within
     pub record IsLooked (right within : State → Bool) (depth : ℕ) (i : ℕ) (nodes : List Node) : Type 0 where
       pub begins : Known nodes 0 specification.initial
@@ -140,6 +151,7 @@ module _ (shape : Shape) where
       pub linked : Each (IsLinked nodes) nodes
       pub expanded : Each (λ n. n.depth < depth → within (state_at n) ≡ true → Expanded nodes n) (take i nodes)
       pub rises : Rises nodes
+      pub inside : AreInside within nodes
 
     pub record IsBad (right : State → Bool) (nodes : List Node) (bad : Bad) : Type 0 where
       pub from : Node
@@ -159,5 +171,5 @@ module _ (shape : Shape) where
       pub so_far : IsLooked right within depth looked.expanded nodes
       pub all : IsDone looked.ended → looked.expanded ≡ length nodes
       pub closed : looked.ended ≡ ended.Closed → Each (λ n. n.depth < depth) nodes
-      pub wrong : IfBad looked.ended (λ bad. IsBad right nodes bad × (bad.from ≡ looked.expanded) × ((n : Node) → slice_get nodes bad.from ≡ Some n → n.depth < depth))
+      pub wrong : IfBad looked.ended (λ bad. IsBad right nodes bad × (bad.from ≡ looked.expanded) × ((n : Node) → slice_get nodes bad.from ≡ Some n → (n.depth < depth) × (within (state_at n) ≡ true)))
       pub full : looked.ended ≡ ended.TooManyStates → limit ≤ length nodes

@@ -1,11 +1,11 @@
 //! The answer of an exploration.
-ghost use Rattle.std.specs.Prelude.{◌≡◌, ◌∷◌, ℕ, Some, true, false, IfOk, length, slice_get};
+ghost use Rattle.std.specs.Prelude.{◌≡◌, ◌∷◌, ◌<◌, ℕ, Some, true, false, IfOk, length, slice_get};
 ghost use Rattle.asm_state.specs.Contents.{IsStateOf};
 ghost use Rattle.asm_state.specs.Signature.{count_of, state_of};
 ghost use Rattle.asm_explore.specs.Answers.{Claims};
 ghost use Rattle.asm_explore.specs.Kept.{Node};
 ghost use Rattle.asm_explore.specs.Lists.{Each};
-ghost use Rattle.asm_explore.specs.Reached.{GoesWrongSo, IsGood, IsLinked};
+ghost use Rattle.asm_explore.specs.Reached.{AreInside, GoesWrongSo, IsGood, IsLinked};
 ghost use Rattle.asm_explore.specs.Search.{IsSafeUpTo};
 
 use crate::answer::{Answered, BadRun, Finding, Unwritten};
@@ -41,8 +41,9 @@ fn bad_run<M: Machine>(
     requires initial { length initial.now ≡ count_of (M.shape machine.now) }
     requires nodes { Each (IsGood (M.shape machine.now) (M.right machine.now)) nodes.now }
     requires linked { Each (IsLinked (M.shape machine.now) (M.specification machine.now) (M.turns machine.now) nodes.now) nodes.now }
-    requires wrong { GoesWrongSo (M.specification machine.now) (M.turns machine.now) (M.right machine.now) (M.shape machine.now) nodes.now bad }
-    requires deep { (n : Node) → slice_get nodes.now bad.from ≡ Some n → n.depth ≡ whole }
+    requires inside { AreInside (M.shape machine.now) (M.specification machine.now) (M.turns machine.now) (M.within machine.now) nodes.now }
+    requires wrong { GoesWrongSo (M.specification machine.now) (M.turns machine.now) (M.right machine.now) (M.within machine.now) (M.shape machine.now) nodes.now bad }
+    requires deep { (n : Node) → slice_get nodes.now bad.from ≡ Some n → (n.depth ≡ whole) × (n.depth < steps) }
     requires safe { IsSafeUpTo (M.specification machine.now) (M.turns machine.now) (M.within machine.now) (λ A. (M.right machine.now) A ≡ true) whole }
     ensures { (limit states : ℕ) → IfOk result (Claims (M.specification machine.now) (M.turns machine.now) steps limit (M.right machine.now) (M.within machine.now) states) }
 {

@@ -11,7 +11,7 @@ ghost use Rattle.asm_explore.specs.Kept.{Node};
 ghost use Rattle.asm_explore.specs.Ends.{IfBad, IsDone};
 ghost use Rattle.asm_explore.specs.Lists.{Situation, Each, AnyOf, Shows, HaveChoices, AreCounted, IsCounted, Lists};
 ghost use Rattle.asm_explore.specs.Placed.{AreApart};
-ghost use Rattle.asm_explore.specs.Reached.{Known, IsNear, IsGood, Extends, Follows, Expanded, IsLinked, IsLooked, IsOutcome, IsBadStep, IsBad, IsStopped, LeadsTo, Rises, GoesWrongSo, steps_from, state_at};
+ghost use Rattle.asm_explore.specs.Reached.{AreBegun, AreInside, Known, IsNear, IsGood, Extends, Follows, Expanded, IsLinked, IsLooked, IsOutcome, IsBadStep, IsBad, IsStopped, LeadsTo, Rises, GoesWrongSo, steps_from, state_at};
 ghost use Rattle.asm_explore.specs.Search.{LeadsOn, IsSafeUpTo, IsSafe};
 ghost use Rattle.asm_explore.specs.Steps.{AreListed, IsStep};
 
@@ -136,6 +136,7 @@ fn reach<M: Machine>(
     requires near { Each (λ n. n.depth ≤ below) nodes.old }
     requires leads { LeadsTo (M.shape machine.now) (M.specification machine.now) (M.turns machine.now) nodes.old from below (state_of (M.shape machine.now) state.now) }
     ensures extends { Extends (M.shape machine.now) (M.specification machine.now) (M.turns machine.now) (M.right machine.now) below nodes.old nodes.new }
+    ensures begun { AreBegun from nodes.old nodes.new }
     ensures room { length nodes.new ≤ limit }
     ensures known { IfOk result (λ fine. IsTrue fine → Known (M.shape machine.now) nodes.new below (state_of (M.shape machine.now) state.now)) }
     ensures wrong { IfOk result (λ fine. fine ≡ false → (M.right machine.now) (state_of (M.shape machine.now) state.now) ≡ false) }
@@ -180,6 +181,7 @@ fn follow<M: Machine>(
     requires outcome { IsOutcome (M.shape machine.now) (M.specification machine.now) (M.turns machine.now) nodes.old from below one.now }
     requires apart { AreApart one.now.choices.items }
     ensures extends { Extends (M.shape machine.now) (M.specification machine.now) (M.turns machine.now) (M.right machine.now) below nodes.old nodes.new }
+    ensures begun { AreBegun from nodes.old nodes.new }
     ensures room { length nodes.new ≤ limit }
     ensures leads { IfOk result (λ fault. IfNone fault ((n : Node) (r : Yielded) → slice_get nodes.old from ≡ Some n → Shows (M.shape machine.now) one.now.answer r →
         LeadsOn r (state_at (M.shape machine.now) n) (Known (M.shape machine.now) nodes.new below))) }
@@ -235,6 +237,7 @@ fn follow_all<M: Machine>(
     requires sound { Each (IsOutcome (M.shape machine.now) (M.specification machine.now) (M.turns machine.now) nodes.old from below) outcomes.now }
     requires apart { HaveChoices AreApart outcomes.now }
     ensures extends { Extends (M.shape machine.now) (M.specification machine.now) (M.turns machine.now) (M.right machine.now) below nodes.old nodes.new }
+    ensures begun { AreBegun from nodes.old nodes.new }
     ensures room { length nodes.new ≤ limit }
     ensures leads { IfOk result (λ bad. IfNone bad (Follows (M.shape machine.now) nodes.old nodes.new from below outcomes.now)) }
     ensures wrong { IfOk result (λ bad. IfSome bad (λ b. (f : Found) × (slice_get outcomes.now b.number ≡ Some f) ×
@@ -283,6 +286,7 @@ fn expand<M: Machine>(
     requires near { IsNear nodes.old from }
     requires step { IsStep (M.shape machine.now) (M.specification machine.now) (M.turns machine.now) (state_of (M.shape machine.now) state.now) outcomes.now }
     ensures extends { (n : Node) → slice_get nodes.old from ≡ Some n → Extends (M.shape machine.now) (M.specification machine.now) (M.turns machine.now) (M.right machine.now) (n.depth + 1) nodes.old nodes.new }
+    ensures begun { AreBegun from nodes.old nodes.new }
     ensures room { length nodes.new ≤ limit }
     ensures expanded { IfOk result (λ bad. IfNone bad ((n : Node) → slice_get nodes.old from ≡ Some n → Expanded (M.shape machine.now) (M.specification machine.now) (M.turns machine.now) nodes.new n)) }
     ensures wrong { IfOk result (λ bad. IfSome bad (λ b. (b.from ≡ from) ×
@@ -331,6 +335,7 @@ fn expand_listed<M: Machine>(
     requires near { IsNear nodes.old from }
     requires step { IfOk listed.now (λ fs. IsStep (M.shape machine.now) (M.specification machine.now) (M.turns machine.now) (state_of (M.shape machine.now) state.now) fs.items) }
     ensures extends { (n : Node) → slice_get nodes.old from ≡ Some n → Extends (M.shape machine.now) (M.specification machine.now) (M.turns machine.now) (M.right machine.now) (n.depth + 1) nodes.old nodes.new }
+    ensures begun { AreBegun from nodes.old nodes.new }
     ensures room { length nodes.new ≤ limit }
     ensures expanded { IfOk result (λ bad. IfNone bad ((n : Node) → slice_get nodes.old from ≡ Some n → Expanded (M.shape machine.now) (M.specification machine.now) (M.turns machine.now) nodes.new n)) }
     ensures wrong { IfOk result (λ bad. IfSome bad (λ b. (b.from ≡ from) ×
@@ -364,6 +369,7 @@ fn next_states<M: Machine>(
     ensures within { IfOk result (λ states. first + length states.items ≤ length nodes.now) }
     ensures states { IfOk result (λ states. states.items ≡ map (λ n. n.state) (take (length states.items) (drop first nodes.now))) }
     ensures shallow { IfOk result (λ states. Each (λ n. n.depth < steps) (take (length states.items) (drop first nodes.now))) }
+    ensures inside { IfOk result (λ states. Each (λ n. (M.within machine.now) (state_at (M.shape machine.now) n) ≡ true) (take (length states.items) (drop first nodes.now))) }
     ensures none { IfOk result (λ states. states.items ≡ [] → (n : Node) → slice_get nodes.now first ≡ Some n → n.depth < steps → (M.within machine.now) (state_at (M.shape machine.now) n) ≡ false) }
     ensures never { IfErr result (λ h. h ≢ halt.States) }
 {
@@ -407,6 +413,7 @@ fn expand_batch<M: Machine>(
     requires first { first + length states.now ≤ length nodes.old }
     requires states { states.now ≡ map (λ n. n.state) (take (length states.now) (drop first nodes.old)) }
     requires shallow { Each (λ n. n.depth < steps) (take (length states.now) (drop first nodes.old)) }
+    requires inside { Each (λ n. (M.within machine.now) (state_at (M.shape machine.now) n) ≡ true) (take (length states.now) (drop first nodes.old)) }
     requires room { length nodes.old ≤ limit }
     requires looked { IsLooked (M.shape machine.now) (M.specification machine.now) (M.turns machine.now) (M.right machine.now) (M.within machine.now) steps first nodes.old }
     requires near { IsNear nodes.old first }
@@ -565,8 +572,9 @@ pub fn explore<M: Machine>(
     ensures safe { IfOk result (λ explored. IsSafeUpTo (M.specification machine.now) (M.turns machine.now) (M.within machine.now) (λ A. (M.right machine.now) A ≡ true) explored.whole) }
     ensures closed { IfOk result (λ explored. explored.ended ≡ Closed → IsSafe (M.specification machine.now) (M.turns machine.now) (M.within machine.now) (λ A. (M.right machine.now) A ≡ true)) }
     ensures at_limit { IfOk result (λ explored. explored.ended ≡ AtLimit → explored.whole ≡ steps) }
-    ensures wrong { IfOk result (λ explored. IfBad explored.ended (GoesWrongSo (M.specification machine.now) (M.turns machine.now) (M.right machine.now) (M.shape machine.now) explored.nodes)) }
-    ensures deep { IfOk result (λ explored. IfBad explored.ended (λ bad. (n : Node) → slice_get explored.nodes bad.from ≡ Some n → n.depth ≡ explored.whole)) }
+    ensures wrong { IfOk result (λ explored. IfBad explored.ended (GoesWrongSo (M.specification machine.now) (M.turns machine.now) (M.right machine.now) (M.within machine.now) (M.shape machine.now) explored.nodes)) }
+    ensures inside { IfOk result (λ explored. AreInside (M.shape machine.now) (M.specification machine.now) (M.turns machine.now) (M.within machine.now) explored.nodes) }
+    ensures deep { IfOk result (λ explored. IfBad explored.ended (λ bad. (n : Node) → slice_get explored.nodes bad.from ≡ Some n → (n.depth ≡ explored.whole) × (n.depth < steps))) }
     ensures nodes { IfOk result (λ explored. Each (IsGood (M.shape machine.now) (M.right machine.now)) explored.nodes × Each (IsLinked (M.shape machine.now) (M.specification machine.now) (M.turns machine.now) explored.nodes) explored.nodes) }
     ensures full { IfOk result (λ explored. explored.ended ≡ TooManyStates → limit ≤ length explored.nodes) }
 {

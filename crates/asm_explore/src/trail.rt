@@ -6,7 +6,7 @@ ghost use Rattle.asm_meaning.specs.Yields.{Result as Yielded};
 ghost use Rattle.asm_explore.specs.declared.halt.Halt.TheVariants as halt;
 ghost use Rattle.asm_explore.specs.Kept.{Node};
 ghost use Rattle.asm_explore.specs.Lists.{Situation, Each, IsCounted, Shows};
-ghost use Rattle.asm_explore.specs.Reached.{IsGood, IsLinked, LeadBetween, LeadTo, MayLead, state_at, steps_from};
+ghost use Rattle.asm_explore.specs.Reached.{AreInside, IsGood, IsLinked, LeadBetween, LeadTo, MayLead, state_at, steps_from};
 ghost use Rattle.asm_explore.specs.Search.{LeadsOn};
 ghost use Rattle.asm_explore.specs.Steps.{IsStep};
 
@@ -102,7 +102,8 @@ pub(crate) fn trail_to<M: Machine>(
     requires like { length like.now ≡ count_of (M.shape machine.now) }
     requires nodes { Each (IsGood (M.shape machine.now) (M.right machine.now)) nodes.now }
     requires linked { Each (IsLinked (M.shape machine.now) (M.specification machine.now) (M.turns machine.now) nodes.now) nodes.now }
-    ensures leads { IfOk result (λ trail. (n : Node) → slice_get nodes.now last ≡ Some n → LeadTo (M.specification machine.now) (M.turns machine.now) (state_at (M.shape machine.now) n) (map (λ cs. cs.items) trail.items)) }
+    requires inside { AreInside (M.shape machine.now) (M.specification machine.now) (M.turns machine.now) (M.within machine.now) nodes.now }
+    ensures leads { IfOk result (λ trail. (n : Node) → slice_get nodes.now last ≡ Some n → LeadTo (M.specification machine.now) (M.turns machine.now) (M.within machine.now) (state_at (M.shape machine.now) n) (map (λ cs. cs.items) trail.items)) }
     ensures deep { IfOk result (λ trail. (n : Node) → slice_get nodes.now last ≡ Some n → length trail.items ≡ n.depth) }
     ensures never { IfErr result (λ h. h ≢ halt.States) }
 {

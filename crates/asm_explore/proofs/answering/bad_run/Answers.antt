@@ -1,4 +1,4 @@
-use Rattle.std.proofs.Common.{◌≡◌, suc, ◌+◌, ◌∷◌, map, length, sym, ap, subst, ◌∙◌, arith, Vec, Global}
+use Rattle.std.proofs.Common.{◌≡◌, ◌≤◌, suc, ◌+◌, ◌∷◌, map, length, sym, ap, subst, ◌∙◌, arith, Vec, Global}
 use Rattle.std.specs.Prelude.{IfErr}
 use Rattle.std.specs.String.{string_bytes}
 use Rattle.std.proofs.lemmas.List.{length-map}
@@ -10,7 +10,7 @@ use Rattle.asm_explore.specs.Lists.{Each}
 use Rattle.asm_explore.specs.Placed.{AreApart}
 use Rattle.asm_explore.specs.Reached.{state_at}
 use Rattle.asm_explore.specs.ScriptTo.{lines_of, needed}
-use Rattle.asm_explore.specs.Search.{EndsSo}
+use Rattle.asm_explore.specs.Search.{EndsSo, StaysWithin}
 use Rattle.asm_explore.specs.Written.{IsTextRefusal, lines_text, numbers_in}
 use Rattle.asm_explore.proofs.LinesTo.{needed_make}
 use Rattle.asm_explore.proofs.Trails.{leads_apart, long_text}
@@ -21,11 +21,12 @@ script_to-requires g c =
     let a = c.args in
     let specification = g.M.Machine.specification a.machine.now in
     let turns = g.M.Machine.turns a.machine.now in
+    let within = g.M.Machine.within a.machine.now in
     let wrong = c.requires.wrong in
     let n = wrong.from in
     let trail = map (λ (cs : Vec Choice Global). cs.items) c.in-Ok.trail.items in
     let leads = c.in-Ok.ensures.leads n wrong.there in
-    let apart : Each AreApart (a.bad.choices.items ∷ trail) = (wrong.apart, leads_apart specification turns trail (state_at (g.M.Machine.shape a.machine.now) n) leads) in
+    let apart : Each AreApart (a.bad.choices.items ∷ trail) = (wrong.apart, leads_apart specification turns within trail (state_at (g.M.Machine.shape a.machine.now) n) leads) in
     let back : map (λ (cs : Vec Choice Global). cs.items) c.as_slice.result.now ≡ a.bad.choices.items ∷ trail =
     ap (map (λ (cs : Vec Choice Global). cs.items)) (c.as_slice.ensures.value ∙ c.in_ok-back.ensures) in
     subst (Each AreApart) (sym back) apart
@@ -35,22 +36,27 @@ returns-in-Ok-script_to g c = λ limit states.
     let a = c.args in
     let specification = g.M.Machine.specification a.machine.now in
     let turns = g.M.Machine.turns a.machine.now in
+    let within = g.M.Machine.within a.machine.now in
     let wrong = c.requires.wrong in
     let n = wrong.from in
     let trail = map (λ (cs : Vec Choice Global). cs.items) c.in-Ok.trail.items in
     let leads = c.in-Ok.ensures.leads n wrong.there in
-    let apart : Each AreApart (a.bad.choices.items ∷ trail) = (wrong.apart, leads_apart specification turns trail (state_at (g.M.Machine.shape a.machine.now) n) leads) in
+    let apart : Each AreApart (a.bad.choices.items ∷ trail) = (wrong.apart, leads_apart specification turns within trail (state_at (g.M.Machine.shape a.machine.now) n) leads) in
     let back : map (λ (cs : Vec Choice Global). cs.items) c.as_slice.result.now ≡ a.bad.choices.items ∷ trail =
     ap (map (λ (cs : Vec Choice Global). cs.items)) (c.as_slice.ensures.value ∙ c.in_ok-back.ensures) in
     let lines = needed (lines_of (a.bad.choices.items ∷ trail)) in
     let step : suc (length trail) ≡ c.from.result + 1 =
-    omega (arith, length-map c.in-Ok.trail.items (λ (cs : Vec Choice Global). cs.items), c.in-Ok.ensures.deep n wrong.there, c.requires.deep n wrong.there, c.from.ensures) in
-    let ends = subst (λ k. EndsSo (g.M.Machine.right a.machine.now) a.bad.fault k (run specification turns (exactly lines) k)) step
-    (wrong.wrong trail leads (exactly lines) (needed_make (a.bad.choices.items ∷ trail) apart)) in
+    omega (arith, length-map c.in-Ok.trail.items (λ (cs : Vec Choice Global). cs.items), c.in-Ok.ensures.deep n wrong.there, (c.requires.deep n wrong.there).0, c.from.ensures) in
+    let limited : c.from.result + 1 ≤ a.steps = omega (arith, c.from.ensures, (c.requires.deep n wrong.there).0, (c.requires.deep n wrong.there).1) in
+    let both = wrong.wrong trail leads (exactly lines) (needed_make (a.bad.choices.items ∷ trail) apart) in
+    let stays = subst (StaysWithin specification turns within (exactly lines)) step both.1 in
+    let ends = subst (λ k. EndsSo (g.M.Machine.right a.machine.now) a.bad.fault k (run specification turns (exactly lines) k)) step both.0 in
     record {
       script = exactly lines;
       spelled = subst (λ b. IsScript (string_bytes c.in-Ok-script_to.script) (exactly (needed (lines_of b)))) back c.in-Ok-script_to.ensures.script;
       wrong = ends;
+      stays = stays;
+      limited = limited;
       before = a.whole;
       next = omega (arith, c.from.ensures);
       shortest = c.requires.safe;
@@ -61,21 +67,26 @@ returns g c = λ limit states.
     let a = c.args in
     let specification = g.M.Machine.specification a.machine.now in
     let turns = g.M.Machine.turns a.machine.now in
+    let within = g.M.Machine.within a.machine.now in
     let wrong = c.requires.wrong in
     let n = wrong.from in
     let trail = map (λ (cs : Vec Choice Global). cs.items) c.in-Ok.trail.items in
     let leads = c.in-Ok.ensures.leads n wrong.there in
-    let apart : Each AreApart (a.bad.choices.items ∷ trail) = (wrong.apart, leads_apart specification turns trail (state_at (g.M.Machine.shape a.machine.now) n) leads) in
+    let apart : Each AreApart (a.bad.choices.items ∷ trail) = (wrong.apart, leads_apart specification turns within trail (state_at (g.M.Machine.shape a.machine.now) n) leads) in
     let back : map (λ (cs : Vec Choice Global). cs.items) c.as_slice.result.now ≡ a.bad.choices.items ∷ trail =
     ap (map (λ (cs : Vec Choice Global). cs.items)) (c.as_slice.ensures.value ∙ c.in_ok-back.ensures) in
     let lines = needed (lines_of (a.bad.choices.items ∷ trail)) in
     let step : suc (length trail) ≡ c.from.result + 1 =
-    omega (arith, length-map c.in-Ok.trail.items (λ (cs : Vec Choice Global). cs.items), c.in-Ok.ensures.deep n wrong.there, c.requires.deep n wrong.there, c.from.ensures) in
-    let ends = subst (λ k. EndsSo (g.M.Machine.right a.machine.now) a.bad.fault k (run specification turns (exactly lines) k)) step
-    (wrong.wrong trail leads (exactly lines) (needed_make (a.bad.choices.items ∷ trail) apart)) in
+    omega (arith, length-map c.in-Ok.trail.items (λ (cs : Vec Choice Global). cs.items), c.in-Ok.ensures.deep n wrong.there, (c.requires.deep n wrong.there).0, c.from.ensures) in
+    let limited : c.from.result + 1 ≤ a.steps = omega (arith, c.from.ensures, (c.requires.deep n wrong.there).0, (c.requires.deep n wrong.there).1) in
+    let both = wrong.wrong trail leads (exactly lines) (needed_make (a.bad.choices.items ∷ trail) apart) in
+    let stays = subst (StaysWithin specification turns within (exactly lines)) step both.1 in
+    let ends = subst (λ k. EndsSo (g.M.Machine.right a.machine.now) a.bad.fault k (run specification turns (exactly lines) k)) step both.0 in
     record {
       lines = lines;
       wrong = ends;
+      stays = stays;
+      limited = limited;
       long = long_text (numbers_in lines) (lines_text lines) c.in-Err-Named.field-0-0
           (subst (IsTextRefusal (numbers_in lines) (lines_text lines)) c.in-Err-Named.field-0-is
           (subst (λ r. IfErr r (IsTextRefusal (numbers_in lines) (lines_text lines))) c.in-Err-Named.is

@@ -1,11 +1,11 @@
-use Rattle.std.proofs.Common.{◌≡◌, ◌+◌, ◌<◌, ◌∙◌, length, refl, ap, sym, subst, arith}
+use Rattle.std.proofs.Common.{◌≡◌, ◌+◌, ◌<◌, ◌∙◌, length, true, refl, ap, sym, subst, arith}
 use Rattle.std.specs.Prelude.{Some, IfNone, IfSome, slice_get}
 use Rattle.asm_state.specs.Signature.{count_of}
 use Rattle.asm_explore.specs.declared.explored.Bad.{Bad}
 use Rattle.asm_explore.specs.Kept.{Node}
 use Rattle.asm_explore.specs.Lists.{Each}
 use Rattle.asm_explore.specs.Placed.{AreApart}
-use Rattle.asm_explore.specs.Reached.{Expanded, IsBad, IsBadStep, IsLooked, IsNear}
+use Rattle.asm_explore.specs.Reached.{Expanded, IsBad, IsBadStep, IsLooked, IsNear, state_at}
 use Rattle.asm_explore.proofs.Batches.{each_mapped, each_between, batch_at, shallow_at, listed_count, listed_at, same_node}
 use Rattle.asm_explore.proofs.Endings.{refused_done, refused_closed, refused_bad}
 use Rattle.asm_explore.proofs.Reaching.{whole_nodes, looked_more, looked_same, long_more, at_more, some_at}
@@ -103,6 +103,7 @@ returns-in-Ok-Some-clause-stopped g c =
     let i = a.first + l.k in
     let n = some_at a.nodes.now i (omega (arith, c.requires.first, c.loop-k-test.true)) in
     let there = l.invariant.same i n.0 n.1 in
+    let inside = shallow_at (λ (n : Node). within (state_at shape n) ≡ true) a.nodes.now a.first (length a.states.now) l.k n.0 c.requires.inside c.loop-k-test.true n.1 in
     let extends = c.in-Ok-Some.ensures.extends n.0 there in
     let longer = long_more shape specification turns right (n.0.depth + 1) l.nodes c.expand_listed.new.nodes extends in
     let wrong : (c.in-Ok-Some.bad.from ≡ i) × IsBadStep shape specification turns right l.nodes i c.in-Ok-Some.bad.choices.items c.in-Ok-Some.bad.fault =
@@ -118,10 +119,16 @@ returns-in-Ok-Some-clause-stopped g c =
     } in
     record {
       some = omega (arith, longer, l.invariant.more, c.requires.first, c.loop-k-test.true);
-      so_far = looked_same shape specification turns right within a.steps i n.0 (n.0.depth + 1) l.nodes c.expand_listed.new.nodes there refl extends l.invariant.near l.invariant.looked;
+      so_far = looked_same shape specification turns right within a.steps i n.0 (n.0.depth + 1) l.nodes c.expand_listed.new.nodes there refl extends (λ j k past here. (c.in-Ok-Some.ensures.begun j k past here, inside)) l.invariant.near l.invariant.looked;
       all = λ done. absurd done;
       closed = λ closed. cc;
-      wrong = (bad, wrong.0, λ m here. omega (arith, deep, ap (λ (n : Node). n.depth) (same_node c.expand_listed.new.nodes c.in-Ok-Some.bad.from n.0 m at here)));
+      wrong = (
+        bad,
+        wrong.0,
+        λ m here.
+            let same = same_node c.expand_listed.new.nodes c.in-Ok-Some.bad.from n.0 m at here in
+            (omega (arith, deep, ap (λ (n : Node). n.depth) same), subst (λ (x : Node). within (state_at shape x) ≡ true) same inside),
+      );
       full = λ full. cc;
     }
 
@@ -137,12 +144,13 @@ returns-in-Err-expand_listed-clause-stopped g c =
     let i = a.first + l.k in
     let n = some_at a.nodes.now i (omega (arith, c.requires.first, c.loop-k-test.true)) in
     let there = l.invariant.same i n.0 n.1 in
+    let inside = shallow_at (λ (n : Node). within (state_at shape n) ≡ true) a.nodes.now a.first (length a.states.now) l.k n.0 c.requires.inside c.loop-k-test.true n.1 in
     let extends = c.in-Err-expand_listed.ensures.extends n.0 there in
     let longer = long_more shape specification turns right (n.0.depth + 1) l.nodes c.expand_listed.new.nodes extends in
     let refused = c.cut_off-in-Err-expand_listed.ensures.refused in
     record {
       some = omega (arith, longer, l.invariant.more, c.requires.first, c.loop-k-test.true);
-      so_far = looked_same shape specification turns right within a.steps i n.0 (n.0.depth + 1) l.nodes c.expand_listed.new.nodes there refl extends l.invariant.near l.invariant.looked;
+      so_far = looked_same shape specification turns right within a.steps i n.0 (n.0.depth + 1) l.nodes c.expand_listed.new.nodes there refl extends (λ j k past here. (c.in-Err-expand_listed.ensures.begun j k past here, inside)) l.invariant.near l.invariant.looked;
       all = λ done. absurd (refused_done c.cut_off-in-Err-expand_listed.result refused done);
       closed = λ closed. absurd (refused_closed c.cut_off-in-Err-expand_listed.result refused closed);
       wrong = refused_bad _ c.cut_off-in-Err-expand_listed.result refused;
@@ -161,12 +169,13 @@ loop-k-preserved g c =
     let i = a.first + l.k in
     let n = some_at a.nodes.now i (omega (arith, c.requires.first, c.loop-k-test.true)) in
     let there = l.invariant.same i n.0 n.1 in
+    let inside = shallow_at (λ (n : Node). within (state_at shape n) ≡ true) a.nodes.now a.first (length a.states.now) l.k n.0 c.requires.inside c.loop-k-test.true n.1 in
     let extends = c.in-Ok-None.ensures.extends n.0 there in
     let longer = long_more shape specification turns right (n.0.depth + 1) l.nodes c.expand_listed.new.nodes extends in
     let expanded : Expanded shape specification turns c.expand_listed.new.nodes n.0 =
     subst (λ o. IfNone o ((n : Node) → slice_get l.nodes i ≡ Some n → Expanded shape specification turns c.expand_listed.new.nodes n)) c.in-Ok-None.field-0-is c.in-Ok-None.ensures.expanded n.0 there in
     let next : i + 1 ≡ a.first + (l.k + 1) = omega arith in
-    let both = looked_more shape specification turns right within a.steps i n.0 (n.0.depth + 1) l.nodes c.expand_listed.new.nodes there refl extends (λ low inside. expanded) l.invariant.near l.invariant.looked in
+    let both = looked_more shape specification turns right within a.steps i n.0 (n.0.depth + 1) l.nodes c.expand_listed.new.nodes there refl extends (λ low there. expanded) (λ j k past here. (c.in-Ok-None.ensures.begun j k past here, inside)) l.invariant.near l.invariant.looked in
     record {
       room = c.in-Ok-None.ensures.room;
       more = omega (arith, longer, l.invariant.more);

@@ -1,5 +1,6 @@
-use Rattle.std.proofs.Common.{◌+◌, ◌∙◌, refl, sym}
+use Rattle.std.proofs.Common.{◌+◌, ◌∙◌, refl, sym, arith}
 use Rattle.std.proofs.lemmas.Bool.{false≢true}
+use Rattle.std.proofs.lemmas.Option.{slice_get_within}
 use Rattle.asm_explore.proofs.Batches.{no_items}
 use Rattle.asm_explore.proofs.Reaching.{looked_more, extends_none, some_at}
 use Rattle.asm_explore.proofs.search.expand_next.Goals as goal
@@ -16,7 +17,8 @@ returns-then-states-eq0-clause-looked g c =
     let empty = no_items c.as_slice-states.result.now c.in-Ok.states.items c.as_slice-states.ensures.value c.if-states-eq0.true in
     let both = looked_more shape specification turns right within a.steps a.expanded n.0 (n.0.depth + 1) a.nodes.now a.nodes.now n.1 refl
     (extends_none shape specification turns right (n.0.depth + 1) a.nodes.now)
-    (λ low inside. absurd (false≢true (sym (c.in-Ok.ensures.none empty n.0 n.1 low) ∙ inside))) c.requires.near c.requires.looked in
+    (λ low inside. absurd (false≢true (sym (c.in-Ok.ensures.none empty n.0 n.1 low) ∙ inside)))
+    (λ j k past here. absurd (omega (arith, past, slice_get_within a.nodes.now j k here))) c.requires.near c.requires.looked in
     both.0
 
 pub returns-then-states-eq0-clause-near : goal.returns-then-states-eq0-clause-near
@@ -31,5 +33,6 @@ returns-then-states-eq0-clause-near g c =
     let empty = no_items c.as_slice-states.result.now c.in-Ok.states.items c.as_slice-states.ensures.value c.if-states-eq0.true in
     let both = looked_more shape specification turns right within a.steps a.expanded n.0 (n.0.depth + 1) a.nodes.now a.nodes.now n.1 refl
     (extends_none shape specification turns right (n.0.depth + 1) a.nodes.now)
-    (λ low inside. absurd (false≢true (sym (c.in-Ok.ensures.none empty n.0 n.1 low) ∙ inside))) c.requires.near c.requires.looked in
+    (λ low inside. absurd (false≢true (sym (c.in-Ok.ensures.none empty n.0 n.1 low) ∙ inside)))
+    (λ j k past here. absurd (omega (arith, past, slice_get_within a.nodes.now j k here))) c.requires.near c.requires.looked in
     both.1

@@ -1,4 +1,4 @@
-use Rattle.std.proofs.Common.{◌≡◌, sym, subst, arith}
+use Rattle.std.proofs.Common.{◌<◌, ◌≡◌, sym, subst, arith}
 use Rattle.std.specs.Prelude.{slice_get, Some}
 use Rattle.asm_explore.specs.declared.explored.Bad.{Bad}
 use Rattle.asm_explore.specs.Kept.{Node}
@@ -45,12 +45,13 @@ returns-clause-wrong g c =
     let turns = g.M.Machine.turns a.machine.now in
     let right = g.M.Machine.right a.machine.now in
     let nodes = c.expand_all-looked.new.nodes in
-    if_bad_weaker _ (GoesWrongSo specification turns right shape nodes) c.expand_all-looked.result.ended
-    (λ bad is. bad_runs specification turns right shape nodes bad is.0) c.expand_all-looked.ensures.wrong
+    let within = g.M.Machine.within a.machine.now in
+    if_bad_weaker _ (GoesWrongSo specification turns right within shape nodes) c.expand_all-looked.result.ended
+    (λ bad is. bad_runs specification turns right within shape nodes bad is.0 (λ n there. (is.2 n there).1)) c.expand_all-looked.ensures.wrong
 
 pub returns-clause-deep : goal.returns-clause-deep
 returns-clause-deep g c =
     let a = c.args in
     let nodes = c.expand_all-looked.new.nodes in
-    if_bad_weaker _ (λ (bad : Bad). (n : Node) → slice_get nodes bad.from ≡ Some n → n.depth ≡ c.whole_depth-whole.result) c.expand_all-looked.result.ended
-    (λ bad is n there. sym (c.whole_depth-whole.ensures.next n (subst (λ i. slice_get nodes i ≡ Some n) is.1 there) (is.2 n there))) c.expand_all-looked.ensures.wrong
+    if_bad_weaker _ (λ (bad : Bad). (n : Node) → slice_get nodes bad.from ≡ Some n → (n.depth ≡ c.whole_depth-whole.result) × (n.depth < a.steps)) c.expand_all-looked.result.ended
+    (λ bad is n there. (sym (c.whole_depth-whole.ensures.next n (subst (λ i. slice_get nodes i ≡ Some n) is.1 there) (is.2 n there).0), (is.2 n there).0)) c.expand_all-looked.ensures.wrong

@@ -8,7 +8,7 @@ use Rattle.asm_explore.specs.Placed.{AreApart}
 use Rattle.asm_explore.specs.Reached.{IsOutcome, IsBadStep, Known, state_at}
 use Rattle.asm_explore.specs.Search.{LeadsOn}
 use Rattle.asm_explore.proofs.ListLemmas.{each_at}
-use Rattle.asm_explore.proofs.Reaching.{extends_none, extends_both, outcome_more, bad_step_less, follows_none, follows_more, follows_all, shallow_more}
+use Rattle.asm_explore.proofs.Reaching.{begun_none, begun_both, extends_none, extends_both, outcome_more, bad_step_less, follows_none, follows_more, follows_all, shallow_more}
 use Rattle.asm_explore.specs.declared.halt.Halt.TheVariants as halt
 use Rattle.asm_explore.proofs.Endings.{full_on}
 use Rattle.asm_explore.proofs.search.follow_all.Goals as goal
@@ -21,6 +21,7 @@ loop-k-init g c =
     let turns = g.M.Machine.turns a.machine.now in
     let right = g.M.Machine.right a.machine.now in
     record {
+      begun = begun_none a.from a.nodes.now;
       room = c.requires.room;
       extends = extends_none shape specification turns right a.below a.nodes.now;
       follows = follows_none shape specification turns right a.nodes.now a.from a.below a.outcomes.now a.nodes.now;
@@ -48,6 +49,7 @@ loop-k-preserved g c =
     let right = g.M.Machine.right a.machine.now in
     let f = c.index-outcomes-k.result in
     record {
+      begun = begun_both shape specification turns right a.below a.from a.nodes.now l.nodes c.follow.new.nodes c.in_ok-fault.ensures.extends l.invariant.begun c.in_ok-fault.ensures.begun;
       room = c.in_ok-fault.ensures.room;
       extends = extends_both shape specification turns right a.below a.nodes.now l.nodes c.follow.new.nodes l.invariant.extends c.in_ok-fault.ensures.extends;
       follows = follows_more shape specification turns right a.nodes.now a.from a.below a.outcomes.now l.k f l.nodes c.follow.new.nodes
@@ -103,3 +105,17 @@ returns-in_err-fault-clause-full g c =
 pub follow-requires-clause-apart : goal.follow-requires-clause-apart
 follow-requires-clause-apart g c =
     each_at (λ f. AreApart f.choices.items) c.args.outcomes.now c.loop-k.k c.index-outcomes-k.result c.loop-k-test.true c.index-outcomes-k.is c.requires.apart
+
+pub returns-in_err-fault-clause-begun : goal.returns-in_err-fault-clause-begun
+returns-in_err-fault-clause-begun g c =
+    let a = c.args in
+    let l = c.loop-k in
+    begun_both (g.M.Machine.shape a.machine.now) (g.M.Machine.specification a.machine.now) (g.M.Machine.turns a.machine.now) (g.M.Machine.right a.machine.now) a.below
+    a.from a.nodes.now l.nodes c.follow.new.nodes c.follow.ensures.extends l.invariant.begun c.follow.ensures.begun
+
+pub returns-in-Some-clause-begun : goal.returns-in-Some-clause-begun
+returns-in-Some-clause-begun g c =
+    let a = c.args in
+    let l = c.loop-k in
+    begun_both (g.M.Machine.shape a.machine.now) (g.M.Machine.specification a.machine.now) (g.M.Machine.turns a.machine.now) (g.M.Machine.right a.machine.now) a.below
+    a.from a.nodes.now l.nodes c.follow.new.nodes c.in_ok-fault.ensures.extends l.invariant.begun c.in_ok-fault.ensures.begun

@@ -1,8 +1,9 @@
-use Rattle.std.proofs.Common.{◌≡◌, ◌+◌, ◌<◌, ◌++◌, ◌∷◌, [], ◌∙◌, map, take, drop, length, ap, sym, subst, arith}
+use Rattle.std.proofs.Common.{◌≡◌, ◌+◌, ◌<◌, ◌++◌, ◌∷◌, [], ◌∙◌, map, take, drop, length, true, ap, sym, subst, arith}
 use Rattle.std.proofs.lemmas.List.{length-append}
-use Rattle.asm_state.specs.Signature.{count_of}
+use Rattle.asm_state.specs.Signature.{count_of, state_of}
 use Rattle.asm_explore.specs.Kept.{Node}
 use Rattle.asm_explore.specs.Lists.{Each}
+use Rattle.asm_explore.specs.Reached.{state_at}
 use Rattle.asm_explore.proofs.Batches.{next_in, map_last, each_there}
 use Rattle.asm_explore.proofs.ListLemmas.{each_append}
 use Rattle.asm_explore.proofs.Reaching.{some_at}
@@ -32,6 +33,10 @@ loop-number-preserved g c =
           ∙ sym (map_last (take i (drop a.first a.nodes.now)) n.0)
           ∙ ap (map (λ (m : Node). m.state)) (sym more)
           ∙ ap (λ k. map (λ (m : Node). m.state) (take k (drop a.first a.nodes.now))) (sym size);
+      inside = subst (λ k. Each (λ (m : Node). g.M.Machine.within a.machine.now (state_at (g.M.Machine.shape a.machine.now) m) ≡ true) (take k (drop a.first a.nodes.now))) (sym size)
+          (subst (Each (λ (m : Node). g.M.Machine.within a.machine.now (state_at (g.M.Machine.shape a.machine.now) m) ≡ true)) (sym more)
+          (each_append (λ (m : Node). g.M.Machine.within a.machine.now (state_at (g.M.Machine.shape a.machine.now) m) ≡ true) (take i (drop a.first a.nodes.now)) (n.0 ∷ []) l.invariant.inside
+          (ap (λ xs. g.M.Machine.within a.machine.now (state_of (g.M.Machine.shape a.machine.now) xs)) (sym (c.in_ok-state.ensures n.0 n.1)) ∙ sym c.is_within.ensures ∙ c.if-not-is_within.false, tt)));
       shallow = subst (λ k. Each (λ (m : Node). m.depth < a.steps) (take k (drop a.first a.nodes.now))) (sym size)
           (subst (Each (λ (m : Node). m.depth < a.steps)) (sym more)
           (each_append (λ (m : Node). m.depth < a.steps) (take i (drop a.first a.nodes.now)) (n.0 ∷ []) l.invariant.shallow

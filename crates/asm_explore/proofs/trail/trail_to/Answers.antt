@@ -17,6 +17,7 @@ state-requires-in-loop-step-clause-number g c =
     let shape = g.M.Machine.shape a.machine.now in
     let specification = g.M.Machine.specification a.machine.now in
     let turns = g.M.Machine.turns a.machine.now in
+    let within = g.M.Machine.within a.machine.now in
     let nodes = a.nodes.now in
     let l = c.loop-step in
     let m = some_at nodes l.at l.invariant.there in
@@ -40,6 +41,7 @@ choices_between-requires-clause-from g c =
     let shape = g.M.Machine.shape a.machine.now in
     let specification = g.M.Machine.specification a.machine.now in
     let turns = g.M.Machine.turns a.machine.now in
+    let within = g.M.Machine.within a.machine.now in
     let nodes = a.nodes.now in
     let l = c.loop-step in
     let m = some_at nodes l.at l.invariant.there in
@@ -58,6 +60,7 @@ choices_between-requires-clause-to g c =
     let shape = g.M.Machine.shape a.machine.now in
     let specification = g.M.Machine.specification a.machine.now in
     let turns = g.M.Machine.turns a.machine.now in
+    let within = g.M.Machine.within a.machine.now in
     let nodes = a.nodes.now in
     let l = c.loop-step in
     let m = some_at nodes l.at l.invariant.there in
@@ -73,6 +76,7 @@ unreachable-requires g c =
     let shape = g.M.Machine.shape a.machine.now in
     let specification = g.M.Machine.specification a.machine.now in
     let turns = g.M.Machine.turns a.machine.now in
+    let within = g.M.Machine.within a.machine.now in
     let nodes = a.nodes.now in
     let l = c.loop-step in
     let m = some_at nodes l.at l.invariant.there in
@@ -93,6 +97,7 @@ loop-step-preserved g c =
     let shape = g.M.Machine.shape a.machine.now in
     let specification = g.M.Machine.specification a.machine.now in
     let turns = g.M.Machine.turns a.machine.now in
+    let within = g.M.Machine.within a.machine.now in
     let nodes = a.nodes.now in
     let l = c.loop-step in
     let m = some_at nodes l.at l.invariant.there in
@@ -110,9 +115,9 @@ loop-step-preserved g c =
     record {
       there = slice_get_within nodes c.from-from.result e at;
       leads = λ back k p here last to.
-          subst (LeadTo specification turns (state_at shape p)) (leads_back l.trail.items c.push.new.self.items c.in-Some.choices back c.in_ok-push.ensures.items)
+          subst (LeadTo specification turns within (state_at shape p)) (leads_back l.trail.items c.push.new.self.items c.in-Some.choices back c.in_ok-push.ensures.items)
           (l.invariant.leads (c.in-Some.choices.items ∷ back) m.0 p m.1 last
-          (state_at shape e, subst (λ (x : Node). LeadTo specification turns (state_at shape x) back) (same_node nodes c.from-from.result k e here at) to, between));
+          (state_at shape e, subst (λ (x : Node). LeadTo specification turns within (state_at shape x) back) (same_node nodes c.from-from.result k e here at) to, c.requires.inside l.at m.0 e m.1 (omega (arith, from.deeper)) from.there, between));
       count = ap length c.in_ok-push.ensures.items ∙ length-append l.trail.items (c.in-Some.choices ∷ []) ∙ ap (λ i. i + 1) l.invariant.count;
       deep = λ k p here last.
           omega (arith, l.invariant.deep m.0 p m.1 last, from.deeper, ap (λ (x : Node). x.depth) (same_node nodes c.from-from.result k e here at));
@@ -124,6 +129,7 @@ returns-clause-leads g c = λ p last.
     let shape = g.M.Machine.shape a.machine.now in
     let specification = g.M.Machine.specification a.machine.now in
     let turns = g.M.Machine.turns a.machine.now in
+    let within = g.M.Machine.within a.machine.now in
     let nodes = a.nodes.now in
     let l = c.loop-step in
     let m = some_at nodes l.at l.invariant.there in
@@ -131,4 +137,4 @@ returns-clause-leads g c = λ p last.
     let end = c.depth-step-end.ensures n.0 n.1 in
     let deep = l.invariant.deep m.0 n.0 m.1 n.1 in
     let first = is_first shape specification turns nodes c.requires.linked l.at m.0 m.1 (omega (arith, end, deep, c.loop-step-test.false)) in
-    subst (LeadTo specification turns (state_at shape p)) (append-nil (map (λ cs. cs.items) l.trail.items)) (l.invariant.leads [] m.0 p m.1 last first)
+    subst (LeadTo specification turns within (state_at shape p)) (append-nil (map (λ cs. cs.items) l.trail.items)) (l.invariant.leads [] m.0 p m.1 last first)
