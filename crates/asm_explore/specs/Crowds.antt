@@ -1,10 +1,38 @@
--- What a refusal of too many outcomes names.
+-- What a refusal of too many outcomes says.
 --     Names p first others refusal      the path of the rule, and how many outcomes its parts have
-use Rattle.std.specs.Prelude.{◌≡◌, ℕ}
+--     Differ p cs ds                    of some choose at the path or below it they take different candidates
+--     AreDifferent p css                each two of them do
+--     AreMany limit p P                 there are more lists of choices than the limit says, each two differ, and this holds of each
+use Rattle.std.specs.Prelude.{◌≡◌, ◌≢◌, ◌<◌, ℕ, List, [], ◌∷◌, length}
 use Rattle.asm_meaning.specs.Yields.{Path}
+use Rattle.asm_explore.specs.declared.found.Choice.{Choice}
 use Rattle.asm_explore.specs.declared.refusal.Refusal.{Refusal}
 use Rattle.asm_explore.specs.declared.refusal.Refusal.TheVariants as refusal
+use Rattle.asm_explore.specs.Elements.{Each, AnyOf}
+use Rattle.asm_explore.specs.Placed.{LiesAt}
 
 abbrev pub Names : Path → (first others : ℕ) → Refusal → Type 0
 Names p first others refusal.Memory = Unit {0}
 Names p first others (refusal.TooMany crowd) = (crowd.path ≡ p) × (crowd.first ≡ first) × (crowd.others ≡ others)
+
+abbrev pub IsAmong : Choice → List Choice → Type 0
+IsAmong c cs = AnyOf (λ d. d ≡ c) cs
+
+pub record Differ (p : Path) (cs ds : List Choice) : Type 0 where
+  pub one : Choice
+  pub other : Choice
+  pub first : IsAmong one cs
+  pub second : IsAmong other ds
+  pub same : one.path ≡ other.path
+  pub below : LiesAt p one.path
+  pub differ : one.number ≢ other.number
+
+abbrev pub AreDifferent : Path → List (List Choice) → Type 0
+AreDifferent p [] = Unit {0}
+AreDifferent p (cs ∷ css) = Each (Differ p cs) css × AreDifferent p css
+
+pub record AreMany (limit : ℕ) (p : Path) (P : List Choice → Type 0) : Type 0 where
+  pub ways : List (List Choice)
+  pub more : limit < length ways
+  pub different : AreDifferent p ways
+  pub each : Each P ways

@@ -14,11 +14,11 @@ ghost use Rattle.asm_explore.specs.Lists.{Situation, Shows, HaveChoices, IsCount
 
 use crate::exploration::Exploration;
 use crate::found::{Answer, Found};
-use crate::place::place_number;
 use crate::same::hash_of;
 use crate::sets::{no_updates, one_update};
 use asm_eval::code::Code;
 use asm_eval::frame::Frame;
+use asm_eval::place::place_number;
 use asm_eval::rule_code::Place;
 use asm_eval::value::value;
 use std::alloc::{AllocError, Global};

@@ -24,7 +24,6 @@ pub mod nodes;
 pub mod outcomes;
 pub mod overflow;
 mod picking;
-mod place;
 pub mod refusal;
 mod same;
 pub mod script_line;

@@ -14,17 +14,18 @@ ghost use Rattle.asm_explore.specs.Lists.{Situation, HaveChoices, AreCounted, Is
 ghost use Rattle.asm_explore.specs.Placed.{IsPlaced, IsPlacedFrom, IsPlacedBefore};
 ghost use Rattle.asm_explore.specs.Sequences.{BothHave, Next, NextOne, Upon};
 
-use crate::candidates::{candidate_at, candidates, passes};
+use crate::candidates::{candidate_at, candidates};
 use crate::crowding::{add_part, beside_lists, close, exhaust, sort_part};
 use crate::exploration::Exploration;
 use crate::found::{Answer, Found};
 use crate::leaf::{assigned, empty};
-use crate::place::answer_number;
 use crate::refusal::Refusal;
 use crate::sorting::Sorted;
 use crate::updates::Updates;
+use asm_eval::choose::passes;
 use asm_eval::code::Code;
 use asm_eval::frame::Frame;
+use asm_eval::place::answer_number;
 use asm_eval::rule_code::{Place, RuleCode};
 use asm_eval::value::{holds, value};
 use asm_meaning::View;

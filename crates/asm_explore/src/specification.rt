@@ -9,13 +9,13 @@ ghost use Rattle.asm_eval.specs.RuleMeaning.{IsSoundTest};
 ghost use Rattle.asm_explore.specs.Conditions.{holds_in, IsSpecified};
 ghost use Rattle.asm_explore.specs.Steps.{IsStep};
 
-use crate::candidates::passes;
 use crate::exploration::Exploration;
 use crate::found::Found;
 use crate::machine::{Listed, Machine};
 use crate::outcomes::outcomes;
 use crate::refusal::Refusal;
 use crate::specified::Specified;
+use asm_eval::choose::passes;
 use asm_eval::code::Code;
 use asm_eval::frame::Frame;
 use asm_eval::laws::resolving_laws;
