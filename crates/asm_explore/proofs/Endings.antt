@@ -5,7 +5,7 @@ use Rattle.std.proofs.Common.{◌≡◌, ◌≢◌, sym, subst}
 use Rattle.asm_explore.specs.declared.explored.Bad.{Bad}
 use Rattle.asm_explore.specs.declared.explored.Ended.{Ended}
 use Rattle.asm_explore.specs.declared.explored.Ended.TheVariants as ended
-use Rattle.std.specs.Prelude.{Result as Returned, Ok, Err, IfErr, IsErrAnd}
+use Rattle.std.specs.Prelude.{Option, Some, None, IfSome, Result as Returned, Ok, Err, IfOk, IfErr, IsErrAnd}
 use Rattle.asm_explore.specs.declared.halt.Halt.{Halt}
 use Rattle.asm_explore.specs.declared.halt.Halt.TheVariants as halt
 use Rattle.asm_explore.specs.Ends.{IfBad, IsDone, IsRefused}
@@ -64,3 +64,9 @@ full_on P given (Err e) h is same said = subst P (sym same) (subst (λ r. IfErr 
 pub never_full : {T : Type 0} (Q : Type 0) (r : Returned T Halt) → IfErr r (λ h. h ≢ halt.States) → IfErr r (λ h. h ≡ halt.States → Q)
 never_full Q (Ok x) said = tt
 never_full Q (Err e) said = λ is. absurd (said is)
+
+-- what is said of something that was found, said otherwise
+pub found_weaker : {T E : Type 0} (P Q : T → Type 0) (r : Returned (Option T) E) → ((x : T) → P x → Q x) → IfOk r (λ o. IfSome o P) → IfOk r (λ o. IfSome o Q)
+found_weaker P Q (Ok None) f h = tt
+found_weaker P Q (Ok (Some x)) f h = f x h
+found_weaker P Q (Err e) f h = tt

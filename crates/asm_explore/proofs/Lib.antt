@@ -16,6 +16,8 @@ pub mod Backwards
 pub mod Endings
 pub mod Batches
 pub mod Trails
+pub mod Resting
+pub mod Arriving
 pub mod MarkedSets
 pub mod CodeLists
 pub mod CodeRules

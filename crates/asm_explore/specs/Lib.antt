@@ -12,6 +12,7 @@ pub mod Search
 pub mod Ends
 pub mod Reached
 pub mod Steps
+pub mod Quiet
 pub mod ScriptTo
 pub mod Answers
 pub mod Conditions

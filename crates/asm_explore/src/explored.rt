@@ -44,13 +44,16 @@ pub struct Explored {
     pub nodes: Nodes,
     /// No run of at most so many steps goes wrong.
     pub whole: u32,
+    /// So many of the states were looked at, in order.
+    pub expanded: usize,
     pub ended: Ended,
     /// So many outcomes of steps were followed.
     pub outcomes: usize,
     /// The most outcomes of a step.
     pub widest: usize,
-    /// So many states have a step whose outcomes all change nothing.
-    pub quiet: usize,
+    /// The numbers of the quiet states, of those that were looked at and that runs are followed
+    /// from, in order.
+    pub quiet: Vec<u32>,
 }
 
 /// How far a search has gone.

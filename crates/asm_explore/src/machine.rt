@@ -29,6 +29,9 @@ pub trait Machine {
     // from which states runs are followed
     ghost within: { Self → Contents → Bool };
 
+    // in which quiet states a run may rest
+    ghost rests: { Self → Contents → Bool };
+
     // what has to hold of it
     ghost is_sound: { Self → Type 0 };
 
@@ -54,4 +57,10 @@ pub trait Machine {
         requires sound { is_sound self.now }
         requires whole { length state.now ≡ count_of (shape self.now) }
         ensures { result ≡ within self.now (state_of (shape self.now) state.now) };
+
+    /// Whether a run may rest in the state, if it is quiet: it changes no more, whatever is chosen.
+    fn may_rest(&self, alloc: Global, state: &State) -> bool
+        requires sound { is_sound self.now }
+        requires whole { length state.now ≡ count_of (shape self.now) }
+        ensures { result ≡ rests self.now (state_of (shape self.now) state.now) };
 }

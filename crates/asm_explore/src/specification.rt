@@ -71,6 +71,8 @@ impl<'a> Machine for Specified<'a> {
 
     ghost within = { λ m A. holds_in (shape_of (spec_of m.checked.now.spec)) m.within.now A };
 
+    ghost rests = { λ m A. holds_in (shape_of (spec_of m.checked.now.spec)) m.when_quiet.now A };
+
     ghost is_sound = { IsSpecified };
 
     fn signature(&self) -> &Signature {
@@ -92,5 +94,9 @@ impl<'a> Machine for Specified<'a> {
 
     fn is_within(&self, alloc: Global, state: &State) -> bool {
         holds_at(alloc, self.checked.signature(), state, self.within)
+    }
+
+    fn may_rest(&self, alloc: Global, state: &State) -> bool {
+        holds_at(alloc, self.checked.signature(), state, self.when_quiet)
     }
 }

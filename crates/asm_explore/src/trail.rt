@@ -20,7 +20,7 @@ use asm_state::state::State;
 use std::alloc::{AllocError, Global};
 
 /// Whether an outcome of the step from a state leads to another.
-fn leads(
+pub(crate) fn leads(
     alloc: Global,
     signature: &Signature,
     one: &Found,

@@ -15,6 +15,8 @@ mod question;
 #[cfg(test)]
 mod refusals;
 #[cfg(test)]
+mod resting;
+#[cfg(test)]
 mod rules;
 #[cfg(test)]
 mod scripts;

@@ -80,8 +80,8 @@ returns-in-Some-clause-wrong g c =
       f,
       slice_get-get_or a.outcomes.now l.k f c.loop-k-test.true ∙ ap Some (sym c.index-outcomes-k.is),
       bad_step_less (g.M.Machine.shape a.machine.now) (g.M.Machine.specification a.machine.now) (g.M.Machine.turns a.machine.now) (g.M.Machine.right a.machine.now) a.below
-          a.nodes.now l.nodes l.invariant.extends a.from f.choices.items c.in-Some.fault c.requires.from
-          (subst (λ o. IfSome o (IsBadStep (g.M.Machine.shape a.machine.now) (g.M.Machine.specification a.machine.now) (g.M.Machine.turns a.machine.now) (g.M.Machine.right a.machine.now) l.nodes a.from f.choices.items)) c.in-Some.is c.in_ok-fault.ensures.wrong),
+          a.nodes.now l.nodes l.invariant.extends (g.M.Machine.rests a.machine.now) a.from f.choices.items c.in-Some.fault c.requires.from
+          (subst (λ o. IfSome o (IsBadStep (g.M.Machine.shape a.machine.now) (g.M.Machine.specification a.machine.now) (g.M.Machine.turns a.machine.now) (g.M.Machine.right a.machine.now) (g.M.Machine.rests a.machine.now) l.nodes a.from f.choices.items)) c.in-Some.is c.in_ok-fault.ensures.wrong),
     )
 
 pub returns-clause-leads : goal.returns-clause-leads
