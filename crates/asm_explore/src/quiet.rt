@@ -1,9 +1,9 @@
 //! Quiet states: the step from one changes nothing, whatever is chosen.
-ghost use Rattle.std.specs.Prelude.{◌≡◌, ◌≢◌, ◌<◌, ◌↔◌, [], IsTrue, IfOk, IfErr, IfSome, IfNone};
+ghost use Rattle.std.specs.Prelude.{◌≡◌, ◌<◌, ◌↔◌, [], IsTrue, IfOk, IfErr, IfSome, IfNone};
 ghost use Rattle.asm_state.specs.Contents.{IsStateOf};
 ghost use Rattle.asm_state.specs.Signature.{state_of};
 ghost use Rattle.asm_explore.specs.declared.fault.Fault.TheVariants as fault;
-ghost use Rattle.asm_explore.specs.declared.halt.Halt.TheVariants as halt;
+ghost use Rattle.asm_explore.specs.Ends.{HaltsSo};
 ghost use Rattle.asm_explore.specs.Quiet.{RestsSo};
 ghost use Rattle.asm_explore.specs.Search.{IsQuiet, IsDeadlock};
 ghost use Rattle.asm_explore.specs.Steps.{IsStep};
@@ -57,7 +57,7 @@ pub(crate) fn rest<M: Machine>(
         × IsDeadlock (M.specification machine.now) (M.turns machine.now) (M.rests machine.now) (state_of (M.shape machine.now) state.now))) }
     ensures listed { IfOk result (λ bad. IfSome bad (λ _. quiet.new.items ≡ quiet.old.items)) }
     ensures unlisted { IfErr result (λ _. quiet.new.items ≡ quiet.old.items) }
-    ensures never { IfErr result (λ h. h ≢ halt.States) }
+    ensures never { IfErr result (HaltsSo ⊥ (λ _. ⊥)) }
 {
     if !is_quiet(alloc, machine, state, outcomes)? {
         return Ok(None);

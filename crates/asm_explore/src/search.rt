@@ -8,7 +8,7 @@ ghost use Rattle.asm_explore.specs.declared.explored.Ended.TheVariants.{Closed, 
 ghost use Rattle.asm_explore.specs.declared.halt.Halt.TheVariants as halt;
 ghost use Rattle.asm_explore.specs.declared.found.Found.{Found};
 ghost use Rattle.asm_explore.specs.Kept.{Node};
-ghost use Rattle.asm_explore.specs.Ends.{IfBad, IsDone};
+ghost use Rattle.asm_explore.specs.Ends.{HaltsSo, IfBad, IsDone};
 ghost use Rattle.asm_explore.specs.Lists.{Situation, Each, AnyOf, Shows, HaveChoices, AreCounted, IsCounted, Lists};
 ghost use Rattle.asm_explore.specs.Placed.{AreApart};
 ghost use Rattle.asm_explore.specs.Reached.{AreBegun, AreInside, Known, IsNear, IsGood, Extends, Follows, Expanded, IsLinked, IsLooked, IsOutcome, IsBadStep, IsBad, IsStopped, LeadsTo, Rises, GoesWrongSo, steps_from, state_at};
@@ -142,7 +142,7 @@ fn reach<M: Machine>(
     ensures room { length nodes.new ≤ limit }
     ensures known { IfOk result (λ fine. IsTrue fine → Known (M.shape machine.now) nodes.new below (state_of (M.shape machine.now) state.now)) }
     ensures wrong { IfOk result (λ fine. fine ≡ false → (M.right machine.now) (state_of (M.shape machine.now) state.now) ≡ false) }
-    ensures full { IfErr result (λ h. h ≡ halt.States → limit ≤ length nodes.new) }
+    ensures full { IfErr result (HaltsSo (limit ≤ length nodes.new) (λ _. ⊥)) }
 {
     let count = machine.signature().count();
     if is_reached(nodes, index, state, count) {
@@ -188,7 +188,7 @@ fn follow<M: Machine>(
     ensures leads { IfOk result (λ fault. IfNone fault ((n : Node) (r : Yielded) → slice_get nodes.old from ≡ Some n → Shows (M.shape machine.now) one.now.answer r →
         LeadsOn r (state_at (M.shape machine.now) n) (Known (M.shape machine.now) nodes.new below))) }
     ensures wrong { IfOk result (λ fault. IfSome fault (IsBadStep (M.shape machine.now) (M.specification machine.now) (M.turns machine.now) (M.right machine.now) (M.rests machine.now) nodes.old from one.now.choices.items)) }
-    ensures full { IfErr result (λ h. h ≡ halt.States → limit ≤ length nodes.new) }
+    ensures full { IfErr result (HaltsSo (limit ≤ length nodes.new) (λ _. ⊥)) }
 {
     let updates = match &one.answer {
         Answer::Set(updates) => updates,
@@ -243,7 +243,7 @@ fn follow_all<M: Machine>(
     ensures leads { IfOk result (λ bad. IfNone bad (Follows (M.shape machine.now) nodes.old nodes.new from below outcomes.now)) }
     ensures wrong { IfOk result (λ bad. IfSome bad (λ b. (f : Found) × (slice_get outcomes.now b.number ≡ Some f) ×
         IsBadStep (M.shape machine.now) (M.specification machine.now) (M.turns machine.now) (M.right machine.now) (M.rests machine.now) nodes.old from f.choices.items b.fault)) }
-    ensures full { IfErr result (λ h. h ≡ halt.States → limit ≤ length nodes.new) }
+    ensures full { IfErr result (HaltsSo (limit ≤ length nodes.new) (λ _. ⊥)) }
 {
     for k in 0..outcomes.len() {
         let one = &outcomes[k];
@@ -293,7 +293,7 @@ fn expand<M: Machine>(
     ensures wrong { IfOk result (λ bad. IfSome bad (λ b. (b.from ≡ from) ×
         IsBadStep (M.shape machine.now) (M.specification machine.now) (M.turns machine.now) (M.right machine.now) (M.rests machine.now) nodes.old from b.choices.items b.fault)) }
     ensures apart { IfOk result (λ bad. IfSome bad (λ b. AreApart b.choices.items)) }
-    ensures full { IfErr result (λ h. h ≡ halt.States → limit ≤ length nodes.new) }
+    ensures full { IfErr result (HaltsSo (limit ≤ length nodes.new) (λ _. ⊥)) }
 {
     let below = nodes.depth(from) + 1;
     index.count(outcomes.len());
@@ -376,7 +376,7 @@ fn next_states<M: Machine>(
     ensures shallow { IfOk result (λ states. Each (λ n. n.depth < steps) (take (length states.items) (drop first nodes.now))) }
     ensures inside { IfOk result (λ states. Each (λ n. (M.within machine.now) (state_at (M.shape machine.now) n) ≡ true) (take (length states.items) (drop first nodes.now))) }
     ensures none { IfOk result (λ states. states.items ≡ [] → (n : Node) → slice_get nodes.now first ≡ Some n → n.depth < steps → (M.within machine.now) (state_at (M.shape machine.now) n) ≡ false) }
-    ensures never { IfErr result (λ h. h ≢ halt.States) }
+    ensures never { IfErr result (HaltsSo ⊥ (λ _. ⊥)) }
 {
     let mut states = Vec::new(alloc);
     for number in first..nodes.len() {
@@ -397,7 +397,7 @@ fn listed<M: Machine>(alloc: Global, machine: &M, states: &[State]) -> Result<Ve
     requires machine { M.is_sound machine.now }
     requires whole { Each (λ s. length s ≡ count_of (M.shape machine.now)) states.now }
     ensures listed { IfOk result (λ all. AreListed (M.shape machine.now) (M.specification machine.now) (M.turns machine.now) states.now all.items) }
-    ensures never { IfErr result (λ h. h ≢ halt.States) }
+    ensures never { IfErr result (HaltsSo ⊥ (λ _. ⊥)) }
 {
     let lists = machine.outcomes(alloc, states)?;
     Ok(lists)

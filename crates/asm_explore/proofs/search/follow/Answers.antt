@@ -3,7 +3,8 @@ use Rattle.asm_state.specs.Contents.{IsStateOf}
 use Rattle.asm_state.specs.Signature.{state_of}
 use Rattle.asm_state.specs.Updates.{fire}
 use Rattle.asm_updates.specs.Stands.{Stands}
-use Rattle.asm_explore.specs.declared.halt.Halt.TheVariants as halt
+use Rattle.asm_explore.specs.declared.refusal.Crowd.{Crowd}
+use Rattle.asm_explore.specs.Ends.{HaltsSo}
 use Rattle.asm_explore.specs.Lists.{Situation, AreTaken}
 use Rattle.asm_explore.specs.Reached.{Known, steps_from, state_at}
 use Rattle.asm_explore.specs.Search.{LeadsOn}
@@ -102,4 +103,4 @@ returns-clause-wrong g c = λ n there s taken.
 
 pub returns-in_err-fine-clause-full : goal.returns-in_err-fine-clause-full
 returns-in_err-fine-clause-full g c =
-    full_on (λ h. h ≡ halt.States → c.args.limit ≤ length c.reach.new.nodes) c.reach.result c.from_residual-in_err-fine.result c.in_err-fine.field-0.0 c.in_err-fine.was c.from_residual-in_err-fine.ensures.1 c.reach.ensures.full
+    full_on (HaltsSo (c.args.limit ≤ length c.reach.new.nodes) (λ (_ : Crowd). ⊥)) c.reach.result c.from_residual-in_err-fine.result c.in_err-fine.field-0.0 c.in_err-fine.was c.from_residual-in_err-fine.ensures.1 c.reach.ensures.full
