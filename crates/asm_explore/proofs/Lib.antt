@@ -2,11 +2,14 @@ pub mod Bytes
 pub mod Kept
 pub mod Elements
 pub mod Placing
+pub mod Ways
+pub mod Differing
 pub mod ListLemmas
 pub mod Growing
 pub mod ReadBack
 pub mod LeftOut
 pub mod Sequenced
+pub mod Overfull
 pub mod Layers
 pub mod SameSets
 pub mod Reaching

@@ -29,7 +29,7 @@ in_part p q k h = h.1 ∙ append_assoc p (k ∷ []) h.0
 pub parts_differ : (p q r : Path) (i j : ℕ) → LiesAt (at p i) q → LiesAt (at p j) r → i ≢ j → q ≢ r
 parts_differ p q r i j h g differ same = differ (next_same p i j h.0 g.0 (sym (in_part p q i h) ∙ same ∙ in_part p r j g))
 
-lies_above : (p q : Path) (k : ℕ) → LiesAt (at p k) q → LiesAt p q
+pub lies_above : (p q : Path) (k : ℕ) → LiesAt (at p k) q → LiesAt p q
 lies_above p q k h = (k ∷ h.0, in_part p q k h)
 
 -- ---- choices
