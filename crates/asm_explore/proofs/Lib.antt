@@ -10,6 +10,7 @@ pub mod ReadBack
 pub mod LeftOut
 pub mod Sequenced
 pub mod Overfull
+pub mod Carried
 pub mod Layers
 pub mod SameSets
 pub mod Reaching

@@ -17,7 +17,7 @@ use Rattle.asm_explore.specs.Lists.{Situation, Each, AnyOf, IsTaken, AreTaken, S
 use Rattle.asm_explore.specs.Placed.{IsPlaced, IsPlacedFrom}
 use Rattle.asm_explore.specs.Ways.{ways_of, AreSomeOf, behind, all_joined, with_choice}
 use Rattle.asm_explore.proofs.Placing.{placed_chosen, from_part}
-use Rattle.asm_explore.proofs.Ways.{some_self, mapped_take, step_last, joined_take}
+use Rattle.asm_explore.proofs.Ways.{some_nil, mapped_take, step_last, joined_take}
 pub use Rattle.asm_explore.proofs.Elements.{each_append, each_first, each_last, each_at, each_take_more, each_weaker, any_first, any_last, any_weaker, any_at, any_split, any_take_more}
 
 -- ---- one more
@@ -166,7 +166,7 @@ module _ (shape : Shape) (left right : List Found) where
 
 module _ (p : List ℕ) (k : ℕ) (part : List Found) where
   pub picked_none : (old : List Found) → IsPicked p k (take 0 part) old old
-  picked_none old = record { counted = λ n g h. h; older = λ shape r h. h; shown = λ shape r h. absurd h; sound = λ shape o q each same h. h; placed = λ each h. h; chosen = subst (AreSomeOf (ways_of old)) (sym (append-nil (ways_of old))) (some_self (ways_of old)) }
+  picked_none old = record { counted = λ n g h. h; older = λ shape r h. h; shown = λ shape r h. absurd h; sound = λ shape o q each same h. h; placed = λ each h. h; chosen = some_nil (ways_of old) }
 
   pub picked_all : (i : ℕ) (old new : List Found) → length part ≤ i → IsPicked p k (take i part) old new → IsPicked p k part old new
   picked_all i old new past = subst (λ fs. IsPicked p k fs old new) (take_all i part past)

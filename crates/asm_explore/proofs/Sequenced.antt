@@ -6,7 +6,7 @@
 --     next_none, next_more, next_all            how the first outcomes so far go on
 --     begun, underway_next, ended               a sequence from part to part
 --     closed, all_exhausted                     its end
-use Rattle.std.proofs.Common.{◌≡◌, ℕ, ◌+◌, ◌<◌, ◌≤◌, Bool, true, false, cond, not, ◌&&◌, ◌||◌, List, [], ◌++◌, length, take, get_or, ◌⊎◌, inl, inr, refl, sym, ap, subst, ◌∙◌, append-nil, arith}
+use Rattle.std.proofs.Common.{◌≡◌, ℕ, ◌+◌, ◌<◌, ◌≤◌, Bool, true, false, cond, not, ◌&&◌, ◌||◌, List, [], ◌++◌, length, take, get_or, ◌⊎◌, inl, inr, refl, sym, ap, subst, ◌∙◌, arith}
 use Rattle.std.specs.Prelude.{Option, Some, None, is_some, IfNone, IfSome}
 use Rattle.std.proofs.Math.Bool.{or-true}
 use Rattle.std.proofs.lemmas.Bool.{false_from_ne_true}
@@ -35,7 +35,7 @@ use Rattle.asm_explore.specs.Ways.{ways_of, AreSomeOf, behind}
 use Rattle.asm_explore.specs.Sequences.{ends, step_of, BothHave, both_ways, IsTold, Merges, ComesAfter, IsOn, Underway, Ends, GoesOn, Sorts, SortsAll, StepsTo, Next, NextOne, Adds, Exhausts}
 use Rattle.asm_explore.proofs.ListLemmas.{each_weaker, each_take_more, any_take_more, grows_each, grows_any, taken_both}
 use Rattle.asm_explore.proofs.Placing.{before_none, before_part, have_weaker, placed_in}
-use Rattle.asm_explore.proofs.Ways.{some_self, ways_take, mapped_take, step_first, step_last}
+use Rattle.asm_explore.proofs.Ways.{some_nil, ways_take, mapped_take, step_first, step_last, step_kept}
 
 -- ---- results and states
 
@@ -148,7 +148,9 @@ module _ (shape : Shape) (turns : Bool) (so_far : Entries) (choices : List Choic
     done_sound = λ total o hyp each h. h;
     more_sound = λ A total left o hyp each h. h;
     placed = λ p k here each h. h;
-    chosen = subst (AreSomeOf (both_ways old)) (sym (append-nil (both_ways old))) (some_self (both_ways old));
+    chosen = some_nil (both_ways old);
+    done_chosen = some_nil (ways_of old.done.items);
+    more_chosen = some_nil (ways_of old.more.items);
   }
 
   pub sorted_all : (i : ℕ) (old new : Sorted) → length part ≤ i → SortsAll shape turns so_far choices (take i part) old new → SortsAll shape turns so_far choices part old new
@@ -184,6 +186,10 @@ module _ (shape : Shape) (turns : Bool) (so_far : Entries) (choices : List Choic
       chosen = subst (λ fs. AreSomeOf (ways_of new.done.items ++ ways_of fs) (both_ways old ++ behind choices (ways_of (take (i + 1) part)))) (sym same)
           (step_first (ways_of mid.more.items) (both_ways old) (behind choices (ways_of (take i part))) (behind choices (ways_of (take (i + 1) part)))
           mid.done.items new.done.items joined grows (choices ++ q.choices.items) chosen (mapped_take (λ ds. choices ++ ds) part i q low is) so_on.chosen);
+      done_chosen = step_last [] (ways_of old.done.items) (behind choices (ways_of (take i part))) (behind choices (ways_of (take (i + 1) part)))
+          mid.done.items new.done.items joined grows (choices ++ q.choices.items) chosen (mapped_take (λ ds. choices ++ ds) part i q low is) so_on.done_chosen;
+      more_chosen = step_kept (ways_of old.more.items) (behind choices (ways_of (take i part))) (behind choices (ways_of (take (i + 1) part)))
+          mid.more.items new.more.items (choices ++ q.choices.items) same (mapped_take (λ ds. choices ++ ds) part i q low is) so_on.more_chosen;
     }
       where
         older : (U : UpdateSet) (x : Result) (rest : UpdateSet → Result)
@@ -225,6 +231,10 @@ module _ (shape : Shape) (turns : Bool) (so_far : Entries) (choices : List Choic
       chosen = subst (λ fs. AreSomeOf (ways_of fs ++ ways_of new.more.items) (both_ways old ++ behind choices (ways_of (take (i + 1) part)))) (sym same)
           (step_last (ways_of mid.done.items) (both_ways old) (behind choices (ways_of (take i part))) (behind choices (ways_of (take (i + 1) part)))
           mid.more.items new.more.items joined grows (choices ++ q.choices.items) chosen (mapped_take (λ ds. choices ++ ds) part i q low is) so_on.chosen);
+      done_chosen = step_kept (ways_of old.done.items) (behind choices (ways_of (take i part))) (behind choices (ways_of (take (i + 1) part)))
+          mid.done.items new.done.items (choices ++ q.choices.items) same (mapped_take (λ ds. choices ++ ds) part i q low is) so_on.done_chosen;
+      more_chosen = step_last [] (ways_of old.more.items) (behind choices (ways_of (take i part))) (behind choices (ways_of (take (i + 1) part)))
+          mid.more.items new.more.items joined grows (choices ++ q.choices.items) chosen (mapped_take (λ ds. choices ++ ds) part i q low is) so_on.more_chosen;
     }
       where
         older : (U : UpdateSet) (x : Result) (rest : UpdateSet → Result)
@@ -385,7 +395,7 @@ module _ (shape : Shape) (turns : Bool) (A : State) (here : Situation → State 
 
 module _ (more : List Found) where
   pub adds_none : (old : List Found) → Adds old (take 0 more) old
-  adds_none old = record { counted = λ n h g. h; older = λ shape r h. h; shown = λ shape r h. absurd h; sound = λ shape o h g. h; placed = λ q h g. h; chosen = subst (AreSomeOf (ways_of old)) (sym (append-nil (ways_of old))) (some_self (ways_of old)) }
+  adds_none old = record { counted = λ n h g. h; older = λ shape r h. h; shown = λ shape r h. absurd h; sound = λ shape o h g. h; placed = λ q h g. h; chosen = some_nil (ways_of old) }
 
   pub adds_more : (i : ℕ) (f one : Found) (old mid new : List Found) → i < length more → f ≡ get_or more i f
       → one.choices.items ≡ f.choices.items → ((n : ℕ) → IsCounted n f.answer → IsCounted n one.answer) → IsShownBy f.answer one.answer → Grows mid one new → Adds old (take i more) mid → Adds old (take (i + 1) more) new
@@ -434,7 +444,7 @@ closed shape A total left empty old more new under adds = record {
 
 module _ (p : Path) (more : List Found) where
   pub exhausts_none : (old : List Found) → Exhausts p old (take 0 more) old
-  exhausts_none old = record { counted = λ n h. h; older = λ shape r h. h; shown = λ shape r h. absurd h; sound = λ shape o h g. g; placed = λ q h g. h; chosen = subst (AreSomeOf (ways_of old)) (sym (append-nil (ways_of old))) (some_self (ways_of old)) }
+  exhausts_none old = record { counted = λ n h. h; older = λ shape r h. h; shown = λ shape r h. absurd h; sound = λ shape o h g. g; placed = λ q h g. h; chosen = some_nil (ways_of old) }
 
   pub exhausts_more : (i : ℕ) (f one : Found) (old mid new : List Found) → i < length more → f ≡ get_or more i f
       → one.choices.items ≡ f.choices.items → one.answer ≡ answer.Exhausted p → Grows mid one new → Exhausts p old (take i more) mid → Exhausts p old (take (i + 1) more) new

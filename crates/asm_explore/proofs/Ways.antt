@@ -3,7 +3,7 @@
 --     each_any, each_mapped      what holds of each, and of what comes of each
 --     have_ways, ways_have       what is said of the outcomes is said of their choices
 --     ways_take                  the choices of the first outcomes, with one more
---     step_first, step_last      some of a list, with one more on either side
+--     step_first, step_last, step_kept      some of a list, with one more on either side, or with none
 --     joined_*                   each with each of another list behind it
 use Rattle.std.proofs.Common.{◌≡◌, ℕ, ◌+◌, ◌<◌, ◌≤◌, List, [], ◌∷◌, ◌++◌, map, length, take, get_or, ◌⊎◌, inl, inr, refl, sym, ap, subst, ◌∙◌, arith, append_assoc, append-nil}
 use Rattle.std.proofs.lemmas.List.{length-append, length-map, map-append, take_more, take_all}
@@ -32,6 +32,9 @@ module _ {X : Type 0} where
     ap (λ ws. ws ++ zs) h.2 ∙ append_assoc h.0 (x ∷ h.1) zs,
     subst (AreSomeOf xs) (append_assoc h.0 h.1 zs) (some_kept xs (h.0 ++ h.1) zs h.3),
   )
+
+  pub some_nil : (xs : List X) → AreSomeOf xs (xs ++ [])
+  some_nil xs = some_kept xs xs [] (some_self xs)
 
   -- one more, in whatever place
   pub some_more : (xs ws ys : List X) (z : X) → AreSomeOf (xs ++ ws) ys → AreSomeOf (xs ++ z ∷ ws) (ys ++ z ∷ [])
@@ -114,6 +117,13 @@ module _ (ws all us then : List (List Choice)) (mid new : List Found) (one : Fou
           subst (λ vs. AreSomeOf vs ((all ++ us) ++ one.choices.items ∷ []))
           (sym (append_assoc (ways_of mid) (one.choices.items ∷ []) ws) ∙ ap (λ vs. vs ++ ws) (sym (new_ways more)))
           (some_more (ways_of mid) ws (all ++ us) one.choices.items h)
+
+-- nothing more, where one might be
+pub step_kept : (all us then : List (List Choice)) (mid new : List Found) (cs : List Choice) → new ≡ mid → then ≡ us ++ cs ∷ []
+    → AreSomeOf (ways_of mid) (all ++ us) → AreSomeOf (ways_of new) (all ++ then)
+step_kept all us then mid new cs same is h =
+    subst (λ fs. AreSomeOf (ways_of fs) (all ++ then)) (sym same)
+    (subst (AreSomeOf (ways_of mid)) (append_assoc all us (cs ∷ []) ∙ ap (λ vs. all ++ vs) (sym is)) (some_kept (ways_of mid) (all ++ us) (cs ∷ []) h))
 
 -- ---- each with each of another list
 

@@ -101,6 +101,8 @@ pub record SortsAll (shape : Shape) (turns : Bool) (so_far : Entries) (choices :
   pub placed : (p : Path) (k : ℕ) → IsPlacedBefore p k choices → HaveChoices (IsPlaced (at p k)) part
       → BothHave (IsPlacedBefore p (k + 1)) old → BothHave (IsPlacedBefore p (k + 1)) new
   pub chosen : AreSomeOf (both_ways new) (both_ways old ++ behind choices (ways_of part))
+  pub done_chosen : AreSomeOf (ways_of new.done.items) (ways_of old.done.items ++ behind choices (ways_of part))
+  pub more_chosen : AreSomeOf (ways_of new.more.items) (ways_of old.more.items ++ behind choices (ways_of part))
 
 -- ---- what a part yields upon a set so far
 
