@@ -2,12 +2,12 @@
 --     differ_*         two of them
 --     different_*      each two of a list
 --     joined_differ, replaced_differ, picked_differ      of what comes of lists whose elements differ
-use Rattle.std.proofs.Common.{◌≡◌, ◌≢◌, ◌<◌, ◌+◌, ℕ, List, [], ◌∷◌, ◌++◌, map, inl, inr, refl, sym, subst, arith, append-nil}
+use Rattle.std.proofs.Common.{◌≡◌, ◌+◌, ℕ, List, [], ◌∷◌, ◌++◌, map, inl, refl, sym, subst, arith, append-nil}
 use Rattle.asm_meaning.specs.Yields.{Path, at}
 use Rattle.asm_explore.specs.declared.found.Choice.{Choice}
-use Rattle.asm_explore.specs.Elements.{Each, AnyOf}
+use Rattle.asm_explore.specs.Elements.{Each}
 use Rattle.asm_explore.specs.Placed.{LiesAt}
-use Rattle.asm_explore.specs.Crowds.{IsAmong, Differ, AreDifferent, TakesBefore}
+use Rattle.asm_explore.specs.Crowds.{Differ, AreDifferent, TakesBefore}
 use Rattle.asm_explore.specs.Ways.{AreSomeOf, behind, all_joined, with_choice}
 use Rattle.asm_explore.proofs.Elements.{each_append, each_first, each_last, each_weaker, any_first, any_last}
 use Rattle.asm_explore.proofs.Placing.{lies_above}
@@ -93,6 +93,18 @@ module _ (p : Path) where
       (each_weaker (λ ds. Each (Differ p ds) (cs ∷ h.1)) (λ ds. Each (Differ p ds) h.1) (λ ds there. there.1) h.0 parts.2) in
       let others : AreDifferent p xs = different_some xs (h.0 ++ h.1) h.3 rest in
       (some_each (Differ p cs) xs (h.0 ++ h.1) h.3 here, others)
+
+  cross_swapped : (xs ys : List (List Choice)) → AllCross xs ys → AllCross ys xs
+  cross_swapped xs [] h = tt
+  cross_swapped xs (ds ∷ ys) h = (
+    each_weaker (λ cs. Each (Differ p cs) (ds ∷ ys)) (Differ p ds) (λ cs there. differ_other cs ds there.0) xs h,
+    cross_swapped xs ys (each_weaker (λ cs. Each (Differ p cs) (ds ∷ ys)) (λ cs. Each (Differ p cs) ys) (λ cs there. there.1) xs h),
+  )
+
+  pub different_swapped : (xs ys : List (List Choice)) → AreDifferent p (xs ++ ys) → AreDifferent p (ys ++ xs)
+  different_swapped xs ys h =
+      let parts = different_parts xs ys h in
+      different_append ys xs parts.1 parts.0 (cross_swapped xs ys parts.2)
 
   pub different_above : (k : ℕ) (ways : List (List Choice)) → AreDifferent (at p k) ways → AreDifferent p ways
   different_above k [] h = tt

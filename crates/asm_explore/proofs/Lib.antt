@@ -11,6 +11,7 @@ pub mod LeftOut
 pub mod Sequenced
 pub mod Overfull
 pub mod Carried
+pub mod Crowded
 pub mod Layers
 pub mod SameSets
 pub mod Reaching

@@ -66,7 +66,7 @@ all_of_first left right i =
       arith,
       ap (λ us. length (all_joined us right)) (take-append-drop i left),
       ap length (joined_append (take i left) (drop i left) right),
-      length-append (all_joined (take i left) right) (all_joined (drop i left) right)
+      length-append (all_joined (take i left) right) (all_joined (drop i left) right),
     )
 
 ways_of_first : (fs : List Found) (i : ℕ) → ways_of (take i fs) ≡ take i (ways_of fs)
@@ -85,7 +85,7 @@ crowd_joined limit left right found i f low is some more =
       ap length (joined_take left (ways_of right) i f low is),
       length-append (all_joined (ways_of (take i left)) (ways_of right)) (behind f.choices.items (ways_of right)),
       length-map (ways_of right) (λ ds. f.choices.items ++ ds),
-      ways_count right
+      ways_count right,
     ) in
     omega (
       arith,
@@ -94,7 +94,7 @@ crowd_joined limit left right found i f low is some more =
       some_fewer (ways_of found) (all_joined (ways_of (take i left)) (ways_of right)) some,
       ways_count found,
       ap (λ us. length (all_joined us (ways_of right))) (ways_of_first left (i + 1)),
-      all_of_first (ways_of left) (ways_of right) (i + 1)
+      all_of_first (ways_of left) (ways_of right) (i + 1),
     )
 
 -- ---- what all of them are
@@ -106,7 +106,7 @@ picked_count p k old part =
       length-append (ways_of old) (with_choice p k (ways_of part)),
       length-map (ways_of part) (λ cs. cs ++ record { path = p; number = k } ∷ []),
       ways_count old,
-      ways_count part
+      ways_count part,
     )
 
 pub sorted_count : (sorted : Sorted) (cs : List Choice) (part : List Found) → length (both_ways sorted ++ behind cs (ways_of part)) ≡ length (both_ways sorted) + length part
@@ -119,5 +119,5 @@ both_count sorted =
       arith,
       length-append (ways_of sorted.done.items) (ways_of sorted.more.items),
       ways_count sorted.done.items,
-      ways_count sorted.more.items
+      ways_count sorted.more.items,
     )

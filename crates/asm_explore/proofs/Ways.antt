@@ -6,10 +6,10 @@
 --     step_first, step_last, step_kept      some of a list, with one more on either side, or with none
 --     joined_*                   each with each of another list behind it
 use Rattle.std.proofs.Common.{◌≡◌, ℕ, ◌+◌, ◌<◌, ◌≤◌, List, [], ◌∷◌, ◌++◌, map, length, take, get_or, ◌⊎◌, inl, inr, refl, sym, ap, subst, ◌∙◌, arith, append_assoc, append-nil}
-use Rattle.std.proofs.lemmas.List.{length-append, length-map, map-append, take_more, take_all}
+use Rattle.std.proofs.lemmas.List.{length-append, map-append, take_more}
 use Rattle.asm_explore.specs.declared.found.Choice.{Choice}
 use Rattle.asm_explore.specs.declared.found.Found.{Found}
-use Rattle.asm_explore.specs.Lists.{Each, AnyOf, HaveChoices, Grows}
+use Rattle.asm_explore.specs.Lists.{Each, HaveChoices, Grows}
 use Rattle.asm_explore.specs.Ways.{ways_of, AreSomeOf, behind, all_joined}
 use Rattle.asm_explore.proofs.Elements.{each_append, each_first, each_last}
 

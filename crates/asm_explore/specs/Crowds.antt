@@ -2,6 +2,7 @@
 --     Names p first others refusal      the path of the rule, and how many outcomes its parts have
 --     IfTooMany X overflow              what is so where a list has too many
 --     IsCrowded limit ways refusal      where there are too many, these lists of choices are more than the limit says
+--     IsAmong c cs                      a choice is one of these
 --     Differ p cs ds                    of some choose at the path or below it they take different candidates
 --     AreDifferent p css                each two of them do
 --     TakesBefore p k cs                of the choose at the path they take a candidate before this one
