@@ -2,11 +2,16 @@ pub mod Bytes
 pub mod Kept
 pub mod Elements
 pub mod Placing
+pub mod Ways
+pub mod Differing
 pub mod ListLemmas
 pub mod Growing
 pub mod ReadBack
 pub mod LeftOut
 pub mod Sequenced
+pub mod Overfull
+pub mod Carried
+pub mod Crowded
 pub mod Layers
 pub mod SameSets
 pub mod Reaching

@@ -31,9 +31,11 @@ use Rattle.asm_explore.specs.declared.sorting.Sorted.{Sorted}
 use Rattle.asm_explore.specs.declared.updates.Updates.{Updates}
 use Rattle.asm_explore.specs.Lists.{Situation, Each, AreTaken, Shows, IsShownBy, Shown, HaveChoices, IsCounted, AreCounted, IsSound, Lists, Grows}
 use Rattle.asm_explore.specs.Placed.{IsPlaced, IsPlacedBefore}
-use Rattle.asm_explore.specs.Sequences.{ends, step_of, BothHave, IsTold, Merges, ComesAfter, IsOn, Underway, Ends, GoesOn, Sorts, SortsAll, StepsTo, Next, NextOne, Adds, Exhausts}
+use Rattle.asm_explore.specs.Ways.{ways_of, AreSomeOf, behind}
+use Rattle.asm_explore.specs.Sequences.{ends, step_of, BothHave, both_ways, IsTold, Merges, ComesAfter, IsOn, Underway, Ends, GoesOn, Sorts, SortsAll, StepsTo, Next, NextOne, Adds, Exhausts}
 use Rattle.asm_explore.proofs.ListLemmas.{each_weaker, each_take_more, any_take_more, grows_each, grows_any, taken_both}
 use Rattle.asm_explore.proofs.Placing.{before_none, before_part, have_weaker, placed_in}
+use Rattle.asm_explore.proofs.Ways.{some_nil, ways_take, mapped_take, step_first, step_last, step_kept}
 
 -- ---- results and states
 
@@ -146,6 +148,9 @@ module _ (shape : Shape) (turns : Bool) (so_far : Entries) (choices : List Choic
     done_sound = λ total o hyp each h. h;
     more_sound = λ A total left o hyp each h. h;
     placed = λ p k here each h. h;
+    chosen = some_nil (both_ways old);
+    done_chosen = some_nil (ways_of old.done.items);
+    more_chosen = some_nil (ways_of old.more.items);
   }
 
   pub sorted_all : (i : ℕ) (old new : Sorted) → length part ≤ i → SortsAll shape turns so_far choices (take i part) old new → SortsAll shape turns so_far choices part old new
@@ -178,6 +183,13 @@ module _ (shape : Shape) (turns : Bool) (so_far : Entries) (choices : List Choic
                 (subst (IsPlacedBefore p (k + 1)) (sym chosen) (before_part p k choices q.choices.items here parts.1)),
             subst (HaveChoices (IsPlacedBefore p (k + 1))) (sym same) both.1,
           );
+      chosen = subst (λ fs. AreSomeOf (ways_of new.done.items ++ ways_of fs) (both_ways old ++ behind choices (ways_of (take (i + 1) part)))) (sym same)
+          (step_first (ways_of mid.more.items) (both_ways old) (behind choices (ways_of (take i part))) (behind choices (ways_of (take (i + 1) part)))
+          mid.done.items new.done.items joined grows (choices ++ q.choices.items) chosen (mapped_take (λ ds. choices ++ ds) part i q low is) so_on.chosen);
+      done_chosen = step_last [] (ways_of old.done.items) (behind choices (ways_of (take i part))) (behind choices (ways_of (take (i + 1) part)))
+          mid.done.items new.done.items joined grows (choices ++ q.choices.items) chosen (mapped_take (λ ds. choices ++ ds) part i q low is) so_on.done_chosen;
+      more_chosen = step_kept (ways_of old.more.items) (behind choices (ways_of (take i part))) (behind choices (ways_of (take (i + 1) part)))
+          mid.more.items new.more.items (choices ++ q.choices.items) same (mapped_take (λ ds. choices ++ ds) part i q low is) so_on.more_chosen;
     }
       where
         older : (U : UpdateSet) (x : Result) (rest : UpdateSet → Result)
@@ -216,6 +228,13 @@ module _ (shape : Shape) (turns : Bool) (so_far : Entries) (choices : List Choic
             grows_each (λ f. IsPlacedBefore p (k + 1) f.choices.items) mid.more.items new.more.items joined grows both.1
                 (subst (IsPlacedBefore p (k + 1)) (sym chosen) (before_part p k choices q.choices.items here parts.1)),
           );
+      chosen = subst (λ fs. AreSomeOf (ways_of fs ++ ways_of new.more.items) (both_ways old ++ behind choices (ways_of (take (i + 1) part)))) (sym same)
+          (step_last (ways_of mid.done.items) (both_ways old) (behind choices (ways_of (take i part))) (behind choices (ways_of (take (i + 1) part)))
+          mid.more.items new.more.items joined grows (choices ++ q.choices.items) chosen (mapped_take (λ ds. choices ++ ds) part i q low is) so_on.chosen);
+      done_chosen = step_kept (ways_of old.done.items) (behind choices (ways_of (take i part))) (behind choices (ways_of (take (i + 1) part)))
+          mid.done.items new.done.items (choices ++ q.choices.items) same (mapped_take (λ ds. choices ++ ds) part i q low is) so_on.done_chosen;
+      more_chosen = step_last [] (ways_of old.more.items) (behind choices (ways_of (take i part))) (behind choices (ways_of (take (i + 1) part)))
+          mid.more.items new.more.items joined grows (choices ++ q.choices.items) chosen (mapped_take (λ ds. choices ++ ds) part i q low is) so_on.more_chosen;
     }
       where
         older : (U : UpdateSet) (x : Result) (rest : UpdateSet → Result)
@@ -376,7 +395,7 @@ module _ (shape : Shape) (turns : Bool) (A : State) (here : Situation → State 
 
 module _ (more : List Found) where
   pub adds_none : (old : List Found) → Adds old (take 0 more) old
-  adds_none old = record { counted = λ n h g. h; older = λ shape r h. h; shown = λ shape r h. absurd h; sound = λ shape o h g. h; placed = λ q h g. h }
+  adds_none old = record { counted = λ n h g. h; older = λ shape r h. h; shown = λ shape r h. absurd h; sound = λ shape o h g. h; placed = λ q h g. h; chosen = some_nil (ways_of old) }
 
   pub adds_more : (i : ℕ) (f one : Found) (old mid new : List Found) → i < length more → f ≡ get_or more i f
       → one.choices.items ≡ f.choices.items → ((n : ℕ) → IsCounted n f.answer → IsCounted n one.answer) → IsShownBy f.answer one.answer → Grows mid one new → Adds old (take i more) mid → Adds old (take (i + 1) more) new
@@ -393,6 +412,7 @@ module _ (more : List Found) where
     placed = λ q h g.
         let parts = each_take_more (λ f. IsPlaced q f.choices.items) more i f low is g in
         grows_each (λ f. IsPlaced q f.choices.items) mid new one grows (so_on.placed q h parts.0) (subst (IsPlaced q) (sym chosen) parts.1);
+    chosen = step_last [] (ways_of old) (ways_of (take i more)) (ways_of (take (i + 1) more)) mid new one grows f.choices.items chosen (ways_take more i f low is) so_on.chosen;
   }
     where
       next : (shape : Shape) (r : Result) → Shown shape (take i more) r ⊎ Shows shape f.answer r → Shown shape new r
@@ -424,7 +444,7 @@ closed shape A total left empty old more new under adds = record {
 
 module _ (p : Path) (more : List Found) where
   pub exhausts_none : (old : List Found) → Exhausts p old (take 0 more) old
-  exhausts_none old = record { counted = λ n h. h; older = λ shape r h. h; shown = λ shape r h. absurd h; sound = λ shape o h g. g; placed = λ q h g. h }
+  exhausts_none old = record { counted = λ n h. h; older = λ shape r h. h; shown = λ shape r h. absurd h; sound = λ shape o h g. g; placed = λ q h g. h; chosen = some_nil (ways_of old) }
 
   pub exhausts_more : (i : ℕ) (f one : Found) (old mid new : List Found) → i < length more → f ≡ get_or more i f
       → one.choices.items ≡ f.choices.items → one.answer ≡ answer.Exhausted p → Grows mid one new → Exhausts p old (take i more) mid → Exhausts p old (take (i + 1) more) new
@@ -439,6 +459,7 @@ module _ (p : Path) (more : List Found) where
     placed = λ q h g.
         let parts = each_take_more (λ f. IsPlaced q f.choices.items) more i f low is g in
         grows_each (λ f. IsPlaced q f.choices.items) mid new one grows (so_on.placed q h parts.0) (subst (IsPlaced q) (sym chosen) parts.1);
+    chosen = step_last [] (ways_of old) (ways_of (take i more)) (ways_of (take (i + 1) more)) mid new one grows f.choices.items chosen (ways_take more i f low is) so_on.chosen;
   }
     where
       at_end : (shape : Shape) → Shows shape one.answer (Exhausted p)

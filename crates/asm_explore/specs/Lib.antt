@@ -3,6 +3,7 @@ pub mod Kept
 pub mod Marks
 pub mod Elements
 pub mod Placed
+pub mod Ways
 pub mod Lists
 pub mod Written
 pub mod Explored

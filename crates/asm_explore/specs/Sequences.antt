@@ -3,6 +3,8 @@
 --     step_of turns r rest    what a part yields, and what comes after it
 --     Sorts, SortsAll         how outcomes of the next part are added to those that are done and to those that go on
 --     BothHave P sorted       the choices of each outcome that is sorted are so
+--     both_ways sorted        the choices of those that are done, and of those that go on
+--     AllDiffer p fs sorted   each two of these and those take different candidates
 --     Underway                what stays true from part to part: each situation has its whole outcome among those that are done, or
 --                             the set so far among those that go on
 use Rattle.std.specs.Prelude.{◌≡◌, ℕ, ◌+◌, Bool, false, cond, not, ◌&&◌, ◌||◌, List, ◌⊎◌, ◌++◌, Result as Returned, IfOk}
@@ -19,6 +21,8 @@ use Rattle.asm_explore.specs.declared.refusal.Refusal.{Refusal}
 use Rattle.asm_explore.specs.declared.sorting.Sorted.{Sorted}
 use Rattle.asm_explore.specs.Lists.{Situation, Each, AreTaken, Shows, Shown, HaveChoices, IsCounted, AreCounted, IsSound, Lists, Grows}
 use Rattle.asm_explore.specs.Placed.{IsPlaced, IsPlacedBefore}
+use Rattle.asm_explore.specs.Ways.{ways_of, AreSomeOf, behind}
+use Rattle.asm_explore.specs.Crowds.{AreDifferent}
 
 abbrev pub ends : (turns : Bool) → UpdateSet → Bool
 ends turns V = (turns && is_none V) || not (is_consistent V)
@@ -51,6 +55,13 @@ pub record Underway (shape : Shape) (A : State) (total : Situation → Result) (
 -- of those that are done, and of those that go on
 abbrev pub BothHave : (List Choice → Type 0) → Sorted → Type 0
 BothHave P sorted = HaveChoices P sorted.done.items × HaveChoices P sorted.more.items
+
+abbrev pub both_ways : Sorted → List (List Choice)
+both_ways sorted = ways_of sorted.done.items ++ ways_of sorted.more.items
+
+-- with others, which are still to go on
+abbrev pub AllDiffer : Path → List Found → Sorted → Type 0
+AllDiffer p front sorted = AreDifferent p (ways_of front ++ both_ways sorted)
 
 -- ---- how one outcome of the next part is added
 
@@ -89,6 +100,9 @@ pub record SortsAll (shape : Shape) (turns : Bool) (so_far : Entries) (choices :
       → Each (IsSound shape o) part → Each (IsOn shape A total left) old.more.items → Each (IsOn shape A total left) new.more.items
   pub placed : (p : Path) (k : ℕ) → IsPlacedBefore p k choices → HaveChoices (IsPlaced (at p k)) part
       → BothHave (IsPlacedBefore p (k + 1)) old → BothHave (IsPlacedBefore p (k + 1)) new
+  pub chosen : AreSomeOf (both_ways new) (both_ways old ++ behind choices (ways_of part))
+  pub done_chosen : AreSomeOf (ways_of new.done.items) (ways_of old.done.items ++ behind choices (ways_of part))
+  pub more_chosen : AreSomeOf (ways_of new.more.items) (ways_of old.more.items ++ behind choices (ways_of part))
 
 -- ---- what a part yields upon a set so far
 
@@ -138,6 +152,7 @@ pub record Adds (old more new : List Found) : Type 0 where
   pub shown : (shape : Shape) (r : Result) → Shown shape more r → Shown shape new r
   pub sound : (shape : Shape) (o : Situation → Result) → Each (IsSound shape o) old → Each (IsSound shape o) more → Each (IsSound shape o) new
   pub placed : (q : Path) → HaveChoices (IsPlaced q) old → HaveChoices (IsPlaced q) more → HaveChoices (IsPlaced q) new
+  pub chosen : AreSomeOf (ways_of new) (ways_of old ++ ways_of more)
 
 -- a list with the choices of others, after which the whole is exhausted
 pub record Exhausts (p : Path) (old more new : List Found) : Type 0 where
@@ -147,3 +162,4 @@ pub record Exhausts (p : Path) (old more new : List Found) : Type 0 where
   pub sound : (shape : Shape) (o : Situation → Result) → Each (λ f. (s : Situation) → AreTaken s f.choices.items → o s ≡ Exhausted p) more
       → Each (IsSound shape o) old → Each (IsSound shape o) new
   pub placed : (q : Path) → HaveChoices (IsPlaced q) old → HaveChoices (IsPlaced q) more → HaveChoices (IsPlaced q) new
+  pub chosen : AreSomeOf (ways_of new) (ways_of old ++ ways_of more)
