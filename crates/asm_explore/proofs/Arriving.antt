@@ -1,6 +1,6 @@
 -- Runs that come to the states of nodes.
 --     lead_to          choices lead to the state of each node, in as many steps as it is deep
---     nodes_reached    runs come to the states of all nodes
+--     node_reached, nodes_reached    a run comes to the state of a node, and to those of all nodes
 use Rattle.std.proofs.Common.{◌≡◌, ℕ, zero, suc, ◌+◌, ◌<◌, ◌≤◌, Bool, true, List, [], ◌∷◌, length, map, refl, sym, ap, subst, ◌∙◌, arith}
 use Rattle.std.specs.Prelude.{slice_get, Some}
 use Rattle.asm_state.specs.Location.{State}
@@ -31,10 +31,13 @@ module _ (shape : Shape) (specification : Specification) (turns : ℕ) (within :
       let before = lead_to d n.from e from.there (omega (arith, deep, from.deeper)) in
       (from.leads.0 ∷ before.0, ap suc before.1, (state_at shape e, before.2, inside i n e there (omega (arith, deep)) from.there, from.leads.1))
 
-  pub nodes_reached : (depth : ℕ) → ((i : ℕ) (n : Node) → slice_get nodes i ≡ Some n → n.depth ≤ depth) → Each (IsReachedBy specification turns within depth) (map (state_at shape) nodes)
-  nodes_reached depth shallow = each_mapped_of (IsReachedBy specification turns within depth) (state_at shape) nodes (λ i n there.
+  pub node_reached : (depth i : ℕ) (n : Node) → slice_get nodes i ≡ Some n → n.depth ≤ depth → IsReachedBy specification turns within depth (state_at shape n)
+  node_reached depth i n there shallow =
       let leads = lead_to n.depth i n there refl in
       let back = leads.0 in
       let script = exactly (lines_of back) in
       let runs = trail_run specification turns within script back (state_at shape n) leads.2 (lines_make back (leads_apart specification turns within back (state_at shape n) leads.2)) in
-      (script, length back, omega (arith, shallow i n there, leads.1), runs.2, runs.0, runs.1))
+      (script, length back, omega (arith, shallow, leads.1), runs.2, runs.0, runs.1)
+
+  pub nodes_reached : (depth : ℕ) → ((i : ℕ) (n : Node) → slice_get nodes i ≡ Some n → n.depth ≤ depth) → Each (IsReachedBy specification turns within depth) (map (state_at shape) nodes)
+  nodes_reached depth shallow = each_mapped_of (IsReachedBy specification turns within depth) (state_at shape) nodes (λ i n there. node_reached depth i n there (shallow i n there))

@@ -18,6 +18,7 @@ use Rattle.asm_explore.specs.declared.answer.BadRun.{BadRun}
 use Rattle.asm_explore.specs.declared.answer.Finding.{Finding}
 use Rattle.asm_explore.specs.declared.answer.QuietRun.{QuietRun}
 use Rattle.asm_explore.specs.declared.answer.Unwritten.{Unwritten}
+use Rattle.asm_explore.specs.declared.refusal.Crowd.{Crowd}
 use Rattle.asm_explore.specs.declared.answer.Finding.TheVariants as finding
 use Rattle.asm_explore.specs.Elements.{Each}
 use Rattle.asm_explore.specs.Search.{IsQuiet, IsDeadlock, IsSafeUpTo, IsSafe, HoldsBefore, HoldsAlways, EndsSo, StaysWithin}
@@ -39,7 +40,7 @@ module _ (specification : Specification) (turns : ℕ) (within : State → Bool)
     pub stays : StaysWithin specification turns within script (suc rest.steps)
     pub first : HoldsBefore specification turns within (λ A. ¬ (IsQuiet specification turns A)) rest.steps
 
-module _ (specification : Specification) (turns steps limit : ℕ) (right rests within : State → Bool) where
+module _ (specification : Specification) (turns : ℕ) (crowds : State → Crowd → Type 0) (steps limit : ℕ) (right rests within : State → Bool) where
   abbrev IsAlive : State → Type 0
   IsAlive A = ¬ (IsDeadlock specification turns rests A)
 
@@ -70,14 +71,14 @@ module _ (specification : Specification) (turns steps limit : ℕ) (right rests 
     pub next : unwritten.step ≡ suc before
     pub shortest : IsSafeTo before
 
-  -- so many states were reached
+  -- so many states were reached; of too many outcomes there is a state whose step has them
   abbrev pub Claims : (states : ℕ) → Finding → Type 0
   Claims states finding.Closed = IsSafe specification turns within (λ A. right A ≡ true) × HoldsAlways specification turns within IsAlive
   Claims states (finding.SafeTo depth) = (depth ≡ steps) × IsSafeTo depth
   Claims states (finding.Bad bad) = IsBadRun bad
   Claims states finding.WrongFirst = right specification.initial ≡ false
   Claims states (finding.TooManyStates depth) = (limit ≤ states) × IsSafeTo depth
-  Claims states (finding.TooManyOutcomes depth crowd) = IsSafeTo depth
+  Claims states (finding.TooManyOutcomes depth crowd) = IsSafeTo depth × ((A : State) × IsReachedBy specification turns within depth A × crowds A crowd)
   Claims states (finding.NoMemory depth) = IsSafeTo depth
   Claims states (finding.Unwritten unwritten) = IsUnwritten unwritten
 

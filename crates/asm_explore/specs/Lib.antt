@@ -8,6 +8,7 @@ pub mod Lists
 pub mod Written
 pub mod Explored
 pub mod Crowds
+pub mod Made
 pub mod Sequences
 pub mod Search
 pub mod Ends

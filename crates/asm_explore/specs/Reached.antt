@@ -1,5 +1,6 @@
 -- States that a search has reached.
 --     steps_from        what a step from a state yields in each situation
+--     AtNode            it holds of the state of a node, and of what a refusal names
 --     Known nodes d A   some node of depth d or less has the state A
 --     Expanded          whatever a step yields from a node's state leads on to a state that is known one step deeper
 --     Follows           outcomes of a step lead on to states that are known
@@ -29,11 +30,12 @@ use Rattle.asm_meaning.specs.Yields.{Path, Result, Gives, Exhausted}
 use Rattle.asm_explore.specs.declared.explored.Bad.{Bad}
 use Rattle.asm_explore.specs.declared.explored.Ended.TheVariants as ended
 use Rattle.asm_explore.specs.declared.explored.Looked.{Looked}
-use Rattle.asm_explore.specs.Ends.{IfBad, IsDone}
+use Rattle.asm_explore.specs.Ends.{IfBad, IfCrowd, IsDone}
 use Rattle.asm_explore.specs.declared.fault.Fault.{Fault}
 use Rattle.asm_explore.specs.declared.fault.Fault.TheVariants as fault
 use Rattle.asm_explore.specs.declared.found.Choice.{Choice}
 use Rattle.asm_explore.specs.declared.found.Found.{Found}
+use Rattle.asm_explore.specs.declared.refusal.Crowd.{Crowd}
 use Rattle.asm_explore.specs.Kept.{Node}
 use Rattle.asm_explore.specs.Lists.{Situation, Each, AnyOf, AreTaken, Shown, IsSound}
 use Rattle.asm_explore.specs.Placed.{AreApart}
@@ -89,6 +91,10 @@ module _ (shape : Shape) where
 
   abbrev pub Known : List Node → ℕ → State → Type 0
   Known nodes d A = AnyOf (λ n. (n.depth ≤ d) × (state_at n ≡ A)) nodes
+
+  -- it holds of the state of a node, which is so deep at most, and of what is named
+  abbrev pub AtNode : (State → Crowd → Type 0) → List Node → (number depth : ℕ) → Crowd → Type 0
+  AtNode crowds nodes number depth crowd = (n : Node) × (slice_get nodes number ≡ Some n) × (n.depth ≤ depth) × crowds (state_at n) crowd
 
   pub record IsGood (right : State → Bool) (n : Node) : Type 0 where
     pub kept : IsStateOf shape n.state
@@ -167,10 +173,11 @@ module _ (shape : Shape) where
       pub expanded : Each (λ n. n.depth < depth → within (state_at n) ≡ true → Expanded nodes n) nodes
 
     -- nodes have been expanded, so many, of at most so many states
-    pub record IsStopped (right rests within : State → Bool) (depth limit : ℕ) (nodes : List Node) (looked : Looked) : Type 0 where
+    pub record IsStopped (crowds : State → Crowd → Type 0) (right rests within : State → Bool) (depth limit : ℕ) (nodes : List Node) (looked : Looked) : Type 0 where
       pub some : looked.expanded ≤ length nodes
       pub so_far : IsLooked right within depth looked.expanded nodes
       pub all : IsDone looked.ended → looked.expanded ≡ length nodes
       pub closed : looked.ended ≡ ended.Closed → Each (λ n. n.depth < depth) nodes
       pub wrong : IfBad looked.ended (λ bad. IsBad right rests nodes bad × (bad.from ≡ looked.expanded) × ((n : Node) → slice_get nodes bad.from ≡ Some n → (n.depth < depth) × (within (state_at n) ≡ true)))
       pub full : looked.ended ≡ ended.TooManyStates → limit ≤ length nodes
+      pub crowded : IfCrowd looked.ended (λ crowd. (n : Node) × (slice_get nodes looked.expanded ≡ Some n) × (n.depth < depth) × crowds (state_at n) crowd)

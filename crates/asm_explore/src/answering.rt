@@ -8,6 +8,7 @@ ghost use Rattle.asm_explore.specs.Kept.{Node};
 ghost use Rattle.asm_explore.specs.Lists.{Each};
 ghost use Rattle.asm_explore.specs.Quiet.{IsFirstQuiet};
 ghost use Rattle.asm_explore.specs.Reached.{AreInside, GoesWrongSo, IsGood, IsLinked, Rises};
+ghost use Rattle.asm_explore.specs.Steps.{IsCrowdOf};
 ghost use Rattle.asm_explore.specs.Search.{HoldsBefore, IsDeadlock, IsSafeUpTo};
 
 use crate::answer::{Answered, BadRun, Finding, QuietRun, Unwritten};
@@ -52,7 +53,7 @@ fn bad_run<M: Machine>(
     requires safe { IsSafeUpTo (M.specification machine.now) (M.turns machine.now) (M.within machine.now) (λ A. (M.right machine.now) A ≡ true) whole }
     requires alive { HoldsBefore (M.specification machine.now) (M.turns machine.now) (M.within machine.now) (λ A. ¬ (IsDeadlock (M.specification machine.now) (M.turns machine.now) (M.rests machine.now) A)) whole }
     ensures never { IfOk result (λ found. found ≢ finding.Closed) }
-    ensures claims { (limit states : ℕ) → IfOk result (Claims (M.specification machine.now) (M.turns machine.now) steps limit (M.right machine.now) (M.rests machine.now) (M.within machine.now) states) }
+    ensures claims { (limit states : ℕ) → IfOk result (Claims (M.specification machine.now) (M.turns machine.now) (IsCrowdOf (M.made machine.now) (M.limit machine.now)) steps limit (M.right machine.now) (M.rests machine.now) (M.within machine.now) states) }
 {
     let trail = match trail_to(alloc, machine, nodes, bad.from, initial) {
         Ok(trail) => trail,
@@ -132,7 +133,7 @@ pub fn explore_machine<M: Machine>(
     requires machine { M.is_sound machine.now }
     requires kept { IsStateOf (M.shape machine.now) initial.now }
     requires initial { state_of (M.shape machine.now) initial.now ≡ (M.specification machine.now).initial }
-    ensures { IfOk result (IsAnswer (M.specification machine.now) (M.turns machine.now) steps limit (M.right machine.now) (M.rests machine.now) (M.within machine.now)) }
+    ensures { IfOk result (IsAnswer (M.specification machine.now) (M.turns machine.now) (IsCrowdOf (M.made machine.now) (M.limit machine.now)) steps limit (M.right machine.now) (M.rests machine.now) (M.within machine.now)) }
 {
     if !machine.is_right(alloc, initial) {
         return Ok(Answered {

@@ -1,6 +1,6 @@
 //! What a search has found.
 ghost use Rattle.std.specs.Prelude.{◌≡◌};
-ghost use Rattle.asm_explore.specs.Ends.{IsRefused};
+ghost use Rattle.asm_explore.specs.Ends.{IfCrowd, IsRefused};
 ghost use Rattle.asm_explore.specs.declared.explored.Ended.TheVariants as ended;
 ghost use Rattle.asm_explore.specs.declared.halt.Halt.TheVariants as halts;
 
@@ -68,6 +68,7 @@ pub(crate) struct Looked {
 pub(crate) fn cut_off(halt: Halt) -> Ended
     ensures refused { IsRefused result }
     ensures states { result ≡ ended.TooManyStates → halt ≡ halts.States }
+    ensures crowd { IfCrowd result (λ crowd. halt ≡ halts.Outcomes crowd) }
 {
     match halt {
         Halt::Memory => Ended::Memory,

@@ -8,13 +8,13 @@ ghost use Rattle.asm_explore.specs.declared.explored.Ended.TheVariants.{Closed, 
 ghost use Rattle.asm_explore.specs.declared.halt.Halt.TheVariants as halt;
 ghost use Rattle.asm_explore.specs.declared.found.Found.{Found};
 ghost use Rattle.asm_explore.specs.Kept.{Node};
-ghost use Rattle.asm_explore.specs.Ends.{HaltsSo, IfBad, IsDone};
+ghost use Rattle.asm_explore.specs.Ends.{HaltsSo, IfBad, IfCrowd, IsDone};
 ghost use Rattle.asm_explore.specs.Lists.{Situation, Each, AnyOf, Shows, HaveChoices, AreCounted, IsCounted, Lists};
 ghost use Rattle.asm_explore.specs.Placed.{AreApart};
-ghost use Rattle.asm_explore.specs.Reached.{AreBegun, AreInside, Known, IsNear, IsGood, Extends, Follows, Expanded, IsLinked, IsLooked, IsOutcome, IsBadStep, IsBad, IsStopped, LeadsTo, Rises, GoesWrongSo, steps_from, state_at};
+ghost use Rattle.asm_explore.specs.Reached.{AreBegun, AreInside, AtNode, Known, IsNear, IsGood, Extends, Follows, Expanded, IsLinked, IsLooked, IsOutcome, IsBadStep, IsBad, IsStopped, LeadsTo, Rises, GoesWrongSo, steps_from, state_at};
 ghost use Rattle.asm_explore.specs.Quiet.{IsFirstQuiet, IsRested, RestsSo};
 ghost use Rattle.asm_explore.specs.Search.{LeadsOn, IsQuiet, IsDeadlock, IsSafeUpTo, IsSafe, HoldsBefore, HoldsAlways};
-ghost use Rattle.asm_explore.specs.Steps.{AreListed, IsStep};
+ghost use Rattle.asm_explore.specs.Steps.{AreListed, IsCrowdOf, IsListed, IsStep};
 
 use crate::explored::{Bad, Ended, Explored, Looked, cut_off};
 use crate::fault::Fault;
@@ -332,7 +332,7 @@ fn expand_listed<M: Machine>(
     requires room { length nodes.old ≤ limit }
     requires nodes { Each (IsGood (M.shape machine.now) (M.right machine.now)) nodes.old }
     requires near { IsNear nodes.old from }
-    requires step { IfOk listed.now (λ fs. IsStep (M.shape machine.now) (M.specification machine.now) (M.turns machine.now) (state_of (M.shape machine.now) state.now) fs.items) }
+    requires step { IsListed (M.shape machine.now) (M.specification machine.now) (M.turns machine.now) (M.made machine.now) (M.limit machine.now) (state_of (M.shape machine.now) state.now) listed.now }
     ensures extends { (n : Node) → slice_get nodes.old from ≡ Some n → Extends (M.shape machine.now) (M.specification machine.now) (M.turns machine.now) (M.right machine.now) (n.depth + 1) nodes.old nodes.new }
     ensures begun { AreBegun from nodes.old nodes.new }
     ensures room { length nodes.new ≤ limit }
@@ -343,7 +343,7 @@ fn expand_listed<M: Machine>(
     ensures rests { IfOk result (λ bad. IfNone bad (RestsSo (M.specification machine.now) (M.turns machine.now) (M.rests machine.now) (state_of (M.shape machine.now) state.now) from quiet.old.items quiet.new.items)) }
     ensures listed { IfOk result (λ bad. IfSome bad (λ _. quiet.new.items ≡ quiet.old.items)) }
     ensures unlisted { IfErr result (λ _. quiet.new.items ≡ quiet.old.items) }
-    ensures full { IfErr result (λ h. h ≡ halt.States → limit ≤ length nodes.new) }
+    ensures full { IfErr result (HaltsSo (limit ≤ length nodes.new) (IsCrowdOf (M.made machine.now) (M.limit machine.now) (state_of (M.shape machine.now) state.now))) }
 {
     match listed {
         Ok(outcomes) => {
@@ -396,7 +396,7 @@ fn next_states<M: Machine>(
 fn listed<M: Machine>(alloc: Global, machine: &M, states: &[State]) -> Result<Vec<Listed>, Halt>
     requires machine { M.is_sound machine.now }
     requires whole { Each (λ s. length s ≡ count_of (M.shape machine.now)) states.now }
-    ensures listed { IfOk result (λ all. AreListed (M.shape machine.now) (M.specification machine.now) (M.turns machine.now) states.now all.items) }
+    ensures listed { IfOk result (λ all. AreListed (M.shape machine.now) (M.specification machine.now) (M.turns machine.now) (M.made machine.now) (M.limit machine.now) states.now all.items) }
     ensures never { IfErr result (HaltsSo ⊥ (λ _. ⊥)) }
 {
     let lists = machine.outcomes(alloc, states)?;
@@ -430,7 +430,7 @@ fn expand_batch<M: Machine>(
     ensures near { IfOk result (λ _. IsNear nodes.new (first + length states.now)) }
     ensures more { length nodes.old ≤ length nodes.new }
     ensures rests { IfErr result (λ stopped. IsRested (M.shape machine.now) (M.specification machine.now) (M.turns machine.now) (M.rests machine.now) (M.within machine.now) steps stopped.expanded nodes.new quiet.new.items) }
-    ensures stopped { IfErr result (λ stopped. IsStopped (M.shape machine.now) (M.specification machine.now) (M.turns machine.now) (M.right machine.now) (M.rests machine.now) (M.within machine.now) steps limit nodes.new stopped) }
+    ensures stopped { IfErr result (λ stopped. IsStopped (M.shape machine.now) (M.specification machine.now) (M.turns machine.now) (IsCrowdOf (M.made machine.now) (M.limit machine.now)) (M.right machine.now) (M.rests machine.now) (M.within machine.now) steps limit nodes.new stopped) }
 {
     let lists = match listed(alloc, machine, states) {
         Ok(lists) => lists,
@@ -505,7 +505,7 @@ fn expand_next<M: Machine>(
     ensures rested { IfOk result (λ done. IsRested (M.shape machine.now) (M.specification machine.now) (M.turns machine.now) (M.rests machine.now) (M.within machine.now) steps done nodes.new quiet.new.items) }
     ensures near { IfOk result (λ done. IsNear nodes.new done) }
     ensures rests { IfErr result (λ stopped. IsRested (M.shape machine.now) (M.specification machine.now) (M.turns machine.now) (M.rests machine.now) (M.within machine.now) steps stopped.expanded nodes.new quiet.new.items) }
-    ensures stopped { IfErr result (λ stopped. IsStopped (M.shape machine.now) (M.specification machine.now) (M.turns machine.now) (M.right machine.now) (M.rests machine.now) (M.within machine.now) steps limit nodes.new stopped) }
+    ensures stopped { IfErr result (λ stopped. IsStopped (M.shape machine.now) (M.specification machine.now) (M.turns machine.now) (IsCrowdOf (M.made machine.now) (M.limit machine.now)) (M.right machine.now) (M.rests machine.now) (M.within machine.now) steps limit nodes.new stopped) }
 {
     let states = match next_states(alloc, machine, nodes, expanded, steps, like) {
         Ok(states) => states,
@@ -544,7 +544,7 @@ fn expand_all<M: Machine>(
     requires rested { IsRested (M.shape machine.now) (M.specification machine.now) (M.turns machine.now) (M.rests machine.now) (M.within machine.now) steps 0 nodes.old quiet.old.items }
     requires near { IsNear nodes.old 0 }
     ensures rests { IsRested (M.shape machine.now) (M.specification machine.now) (M.turns machine.now) (M.rests machine.now) (M.within machine.now) steps result.expanded nodes.new quiet.new.items }
-    ensures stopped { IsStopped (M.shape machine.now) (M.specification machine.now) (M.turns machine.now) (M.right machine.now) (M.rests machine.now) (M.within machine.now) steps limit nodes.new result }
+    ensures stopped { IsStopped (M.shape machine.now) (M.specification machine.now) (M.turns machine.now) (IsCrowdOf (M.made machine.now) (M.limit machine.now)) (M.right machine.now) (M.rests machine.now) (M.within machine.now) steps limit nodes.new result }
 {
     let mut expanded = 0;
     while expanded < nodes.len() {
@@ -605,6 +605,7 @@ pub fn explore<M: Machine>(
     ensures inside { IfOk result (λ explored. AreInside (M.shape machine.now) (M.specification machine.now) (M.turns machine.now) (M.within machine.now) explored.nodes) }
     ensures deep { IfOk result (λ explored. IfBad explored.ended (λ bad. (n : Node) → slice_get explored.nodes bad.from ≡ Some n → (n.depth ≡ explored.whole) × (n.depth < steps))) }
     ensures nodes { IfOk result (λ explored. Each (IsGood (M.shape machine.now) (M.right machine.now)) explored.nodes × Each (IsLinked (M.shape machine.now) (M.specification machine.now) (M.turns machine.now) explored.nodes) explored.nodes) }
+    ensures crowded { IfOk result (λ explored. IfCrowd explored.ended (AtNode (M.shape machine.now) (IsCrowdOf (M.made machine.now) (M.limit machine.now)) explored.nodes explored.expanded explored.whole)) }
     ensures full { IfOk result (λ explored. explored.ended ≡ TooManyStates → limit ≤ length explored.nodes) }
 {
     let count = machine.signature().count();

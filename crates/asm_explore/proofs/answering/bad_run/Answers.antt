@@ -1,5 +1,5 @@
-use Rattle.std.proofs.Common.{◌≡◌, ◌≤◌, suc, ◌+◌, ◌∷◌, map, length, sym, ap, subst, ◌∙◌, arith, Vec, Global}
-use Rattle.std.specs.Prelude.{IfErr}
+use Rattle.std.proofs.Common.{◌≡◌, ◌≤◌, ℕ, suc, ◌+◌, ◌∷◌, map, length, sym, ap, subst, ◌∙◌, arith, Vec, Global}
+use Rattle.std.specs.Prelude.{slice_get, Some, IfErr}
 use Rattle.std.specs.String.{string_bytes}
 use Rattle.std.proofs.lemmas.List.{length-map}
 use Rattle.asm_reader.specs.ExactLines.{exactly}
@@ -8,10 +8,15 @@ use Rattle.asm_meaning.specs.Run.{run}
 use Rattle.asm_explore.specs.declared.found.Choice.{Choice}
 use Rattle.asm_explore.specs.Lists.{Each}
 use Rattle.asm_explore.specs.Placed.{AreApart}
-use Rattle.asm_explore.specs.Reached.{state_at}
+use Rattle.asm_explore.specs.declared.refusal.Crowd.{Crowd}
+use Rattle.asm_explore.specs.Ends.{HaltsSo}
+use Rattle.asm_explore.specs.Kept.{Node}
+use Rattle.asm_explore.specs.Reached.{AtNode, state_at}
+use Rattle.asm_explore.specs.Steps.{IsCrowdOf}
 use Rattle.asm_explore.specs.ScriptTo.{lines_of, needed}
 use Rattle.asm_explore.specs.Search.{EndsSo, IsDeadlock, StaysWithin}
 use Rattle.asm_explore.specs.Written.{IsTextRefusal, lines_text, numbers_in}
+use Rattle.asm_explore.proofs.Arriving.{node_reached}
 use Rattle.asm_explore.proofs.LinesTo.{needed_make}
 use Rattle.asm_explore.proofs.Trails.{leads_apart, long_text}
 use Rattle.asm_explore.proofs.answering.bad_run.Goals as goal
@@ -95,3 +100,22 @@ returns-clause-claims g c = λ limit states.
       next = omega (arith, c.from.ensures);
       shortest = (c.requires.safe, c.requires.alive);
     }
+
+pub returns-in-Err-Outcomes-clause-claims : goal.returns-in-Err-Outcomes-clause-claims
+returns-in-Err-Outcomes-clause-claims g c = λ limit states.
+    let a = c.args in
+    let shape = g.M.Machine.shape a.machine.now in
+    let specification = g.M.Machine.specification a.machine.now in
+    let turns = g.M.Machine.turns a.machine.now in
+    let within = g.M.Machine.within a.machine.now in
+    let wrong = c.requires.wrong in
+    let crowds = IsCrowdOf (g.M.Machine.made a.machine.now) (g.M.Machine.limit a.machine.now) in
+    let said = subst (HaltsSo ⊥ (λ (crowd : Crowd). (n : Node) → slice_get a.nodes.now a.bad.from ≡ Some n → (number : ℕ) × AtNode shape crowds a.nodes.now number n.depth crowd))
+    c.in-Err-Outcomes.field-0-is c.in-Err-Outcomes.ensures.crowded wrong.from wrong.there in
+    let n = said.1.0 in
+    let shallow : n.depth ≤ a.whole = omega (arith, said.1.2, (c.requires.deep wrong.from wrong.there).0) in
+    ((c.requires.safe, c.requires.alive), (
+      state_at shape n,
+      node_reached shape specification turns within a.nodes.now c.requires.linked c.requires.inside a.whole said.0 n said.1.1 shallow,
+      subst (crowds (state_at shape n)) (sym c.in-Err-Outcomes.crowd-is) said.1.3,
+    ))

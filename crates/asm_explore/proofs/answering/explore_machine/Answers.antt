@@ -2,8 +2,10 @@ use Rattle.std.proofs.Common.{◌≡◌, ◌≤◌, ◌∙◌, ℕ, map, length,
 use Rattle.std.proofs.lemmas.List.{length-map}
 use Rattle.asm_explore.specs.declared.explored.Ended.TheVariants as ended
 use Rattle.asm_explore.specs.Answers.{Claims}
-use Rattle.asm_explore.specs.Reached.{state_at}
-use Rattle.asm_explore.proofs.Arriving.{nodes_reached}
+use Rattle.asm_explore.specs.Ends.{IfCrowd}
+use Rattle.asm_explore.specs.Reached.{AtNode, state_at}
+use Rattle.asm_explore.specs.Steps.{IsCrowdOf}
+use Rattle.asm_explore.proofs.Arriving.{node_reached, nodes_reached}
 use Rattle.asm_explore.proofs.Batches.{no_items}
 use Rattle.asm_explore.proofs.Reaching.{each_got}
 use Rattle.asm_explore.proofs.answering.explore_machine.Goals as goal
@@ -14,7 +16,8 @@ returns g c =
     let a = c.args in
     let explored = c.in_ok-nodes.ensures in
     let states = c.len.result in
-    let claims = Claims (g.M.Machine.specification a.machine.now) (g.M.Machine.turns a.machine.now) a.steps a.limit (g.M.Machine.right a.machine.now) (g.M.Machine.rests a.machine.now) (g.M.Machine.within a.machine.now) states in
+    let crowds = IsCrowdOf (g.M.Machine.made a.machine.now) (g.M.Machine.limit a.machine.now) in
+    let claims = Claims (g.M.Machine.specification a.machine.now) (g.M.Machine.turns a.machine.now) crowds a.steps a.limit (g.M.Machine.right a.machine.now) (g.M.Machine.rests a.machine.now) (g.M.Machine.within a.machine.now) states in
     let shape = g.M.Machine.shape a.machine.now in
     let specification = g.M.Machine.specification a.machine.now in
     let turns = g.M.Machine.turns a.machine.now in
@@ -27,7 +30,9 @@ returns g c =
       | in-Bad+in_ok-finding-in-Bad w ↦ subst claims (sym w.finding-is) (w.in_ok-finding-in-Bad.ensures.claims a.limit states)
       | in-TooManyStates w ↦ subst claims (sym w.finding-is)
           (subst (λ n. a.limit ≤ n) (sym c.len.ensures) (explored.full w.in-TooManyStates.is), (explored.safe, explored.alive))
-      | in-TooManyOutcomes w ↦ subst claims (sym w.finding-is) (explored.safe, explored.alive)
+      | in-TooManyOutcomes w ↦ subst claims (sym w.finding-is) ((explored.safe, explored.alive),
+          let at = subst (λ e. IfCrowd e (AtNode shape crowds nodes c.in_ok-nodes.field-0.expanded c.in_ok-nodes.field-0.whole)) w.in-TooManyOutcomes.is explored.crowded in
+          (state_at shape at.0, node_reached shape specification turns within nodes explored.nodes.1 explored.inside c.in_ok-nodes.field-0.whole c.in_ok-nodes.field-0.expanded at.0 at.1 at.2, at.3))
       | in-Memory w ↦ subst claims (sym w.finding-is) (explored.safe, explored.alive)
     ];
       reached = map (state_at shape) nodes;

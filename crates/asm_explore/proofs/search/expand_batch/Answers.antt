@@ -1,4 +1,4 @@
-use Rattle.std.proofs.Common.{◌≡◌, ◌+◌, ◌<◌, ◌∙◌, length, true, refl, ap, sym, subst, arith}
+use Rattle.std.proofs.Common.{◌≡◌, ◌≤◌, ◌+◌, ◌<◌, ◌∙◌, length, true, refl, ap, sym, subst, arith}
 use Rattle.std.specs.Prelude.{Some, IfNone, IfSome, slice_get}
 use Rattle.std.proofs.lemmas.Option.{slice_get_within}
 use Rattle.asm_state.specs.Signature.{count_of, state_of}
@@ -8,8 +8,9 @@ use Rattle.asm_explore.specs.Lists.{Each}
 use Rattle.asm_explore.specs.Placed.{AreApart}
 use Rattle.asm_explore.specs.Quiet.{IsRested, RestsSo}
 use Rattle.asm_explore.specs.Reached.{Expanded, IsBad, IsBadStep, IsLooked, IsNear, state_at}
+use Rattle.asm_explore.specs.Steps.{IsCrowdOf}
 use Rattle.asm_explore.proofs.Batches.{each_mapped, each_between, batch_at, shallow_at, listed_count, listed_at, same_node}
-use Rattle.asm_explore.proofs.Endings.{refused_done, refused_closed, refused_bad}
+use Rattle.asm_explore.proofs.Endings.{refused_done, refused_closed, refused_bad, halts_full, ends_crowded}
 use Rattle.asm_explore.proofs.Reaching.{whole_nodes, looked_more, looked_same, long_more, at_more, some_at}
 use Rattle.asm_explore.proofs.Resting.{rested_more, rested_same}
 use Rattle.asm_explore.proofs.search.expand_batch.Goals as goal
@@ -25,7 +26,7 @@ listed-requires-clause-whole g c =
 pub index-requires : goal.index-requires
 index-requires g c =
     let a = c.args in
-    let count = listed_count (g.M.Machine.shape a.machine.now) (g.M.Machine.specification a.machine.now) (g.M.Machine.turns a.machine.now) a.states.now c.in-Ok.lists.items c.in-Ok.ensures.listed in
+    let count = listed_count (g.M.Machine.shape a.machine.now) (g.M.Machine.specification a.machine.now) (g.M.Machine.turns a.machine.now) (g.M.Machine.made a.machine.now) (g.M.Machine.limit a.machine.now) a.states.now c.in-Ok.lists.items c.in-Ok.ensures.listed in
     omega (arith, count, c.loop-k-test.true, c.in-Ok.lists.ok.0)
 
 pub expand_listed-requires-clause-shallow : goal.expand_listed-requires-clause-shallow
@@ -63,7 +64,7 @@ expand_listed-requires-clause-here g c = λ m here.
 pub expand_listed-requires-clause-step : goal.expand_listed-requires-clause-step
 expand_listed-requires-clause-step g c =
     let a = c.args in
-    listed_at (g.M.Machine.shape a.machine.now) (g.M.Machine.specification a.machine.now) (g.M.Machine.turns a.machine.now) a.states.now c.in-Ok.lists.items c.loop-k.k c.index-states-k.result c.index.result.now
+    listed_at (g.M.Machine.shape a.machine.now) (g.M.Machine.specification a.machine.now) (g.M.Machine.turns a.machine.now) (g.M.Machine.made a.machine.now) (g.M.Machine.limit a.machine.now) a.states.now c.in-Ok.lists.items c.loop-k.k c.index-states-k.result c.index.result.now
     c.in-Ok.ensures.listed c.loop-k-test.true c.index-states-k.is c.index.ensures
 
 pub returns-in-Ok-Some-clause-more : goal.returns-in-Ok-Some-clause-more
@@ -138,6 +139,7 @@ returns-in-Ok-Some-clause-stopped g c =
             (omega (arith, deep, ap (λ (n : Node). n.depth) same), subst (λ (x : Node). within (state_at shape x) ≡ true) same inside),
       );
       full = λ full. cc;
+      crowded = tt;
     }
 
 pub returns-in-Err-expand_listed-clause-stopped : goal.returns-in-Err-expand_listed-clause-stopped
@@ -157,13 +159,27 @@ returns-in-Err-expand_listed-clause-stopped g c =
     let extends = c.in-Err-expand_listed.ensures.extends n.0 there in
     let longer = long_more shape specification turns right (n.0.depth + 1) l.nodes c.expand_listed.new.nodes extends in
     let refused = c.cut_off-in-Err-expand_listed.ensures.refused in
+    let makes = g.M.Machine.made a.machine.now in
+    let limit = g.M.Machine.limit a.machine.now in
+    let A = state_of shape c.index-states-k.result in
+    let deep = shallow_at (λ (n : Node). n.depth < a.steps) a.nodes.now a.first (length a.states.now) l.k n.0 c.requires.shallow c.loop-k-test.true n.1 in
+    let here : n.0.state ≡ c.index-states-k.result =
+    sym (batch_at a.nodes.now a.first l.k a.states.now n.0 c.index-states-k.result c.requires.states c.loop-k-test.true n.1) ∙ sym c.index-states-k.is in
     record {
       some = omega (arith, longer, l.invariant.more, c.requires.first, c.loop-k-test.true);
       so_far = looked_same shape specification turns right within a.steps i n.0 (n.0.depth + 1) l.nodes c.expand_listed.new.nodes there refl extends (λ j k past here. (c.in-Err-expand_listed.ensures.begun j k past here, inside)) l.invariant.near l.invariant.looked;
       all = λ done. absurd (refused_done c.cut_off-in-Err-expand_listed.result refused done);
       closed = λ closed. absurd (refused_closed c.cut_off-in-Err-expand_listed.result refused closed);
       wrong = refused_bad _ c.cut_off-in-Err-expand_listed.result refused;
-      full = λ full. c.in-Err-expand_listed.ensures.full (c.cut_off-in-Err-expand_listed.ensures.states full);
+      full = λ full. halts_full (a.limit ≤ length c.expand_listed.new.nodes) (IsCrowdOf makes limit A) c.in-Err-expand_listed.halt (c.cut_off-in-Err-expand_listed.ensures.states full) c.in-Err-expand_listed.ensures.full;
+      crowded = ends_crowded (a.limit ≤ length c.expand_listed.new.nodes) (IsCrowdOf makes limit A) (λ crowd. (m : Node) × (slice_get c.expand_listed.new.nodes i ≡ Some m) × (m.depth < a.steps) × IsCrowdOf makes limit (state_at shape m) crowd)
+          c.cut_off-in-Err-expand_listed.result c.in-Err-expand_listed.halt c.cut_off-in-Err-expand_listed.ensures.crowd
+          (λ crowd so. (
+            n.0,
+            at_more shape specification turns right (n.0.depth + 1) l.nodes c.expand_listed.new.nodes extends i n.0 there,
+            deep,
+            subst (λ xs. IsCrowdOf makes limit (state_of shape xs) crowd) (sym here) so,
+          )) c.in-Err-expand_listed.ensures.full;
     }
 
 pub loop-k-preserved : goal.loop-k-preserved

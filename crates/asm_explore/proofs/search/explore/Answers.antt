@@ -1,11 +1,12 @@
-use Rattle.std.proofs.Common.{◌<◌, ◌≡◌, sym, subst, arith}
+use Rattle.std.proofs.Common.{◌<◌, ◌≤◌, ◌≡◌, sym, subst, arith}
 use Rattle.std.specs.Prelude.{slice_get, Some}
 use Rattle.asm_explore.specs.declared.explored.Bad.{Bad}
 use Rattle.asm_explore.specs.Kept.{Node}
-use Rattle.asm_explore.specs.Reached.{GoesWrongSo}
+use Rattle.asm_explore.specs.Reached.{AtNode, GoesWrongSo, state_at}
+use Rattle.asm_explore.specs.Steps.{IsCrowdOf}
 use Rattle.asm_explore.specs.Search.{IsQuiet, IsDeadlock}
 use Rattle.asm_explore.proofs.Chains.{bad_runs}
-use Rattle.asm_explore.proofs.Endings.{if_bad_weaker, closed_done}
+use Rattle.asm_explore.proofs.Endings.{if_bad_weaker, closed_done, crowd_weaker}
 use Rattle.asm_explore.proofs.Reaching.{looked_whole, looked_done, search_covers, closure_covers, holds_before, holds_always}
 use Rattle.asm_explore.proofs.Resting.{alive_whole, alive_all, quiet_none, first_quiet}
 use Rattle.asm_explore.proofs.search.explore.Goals as goal
@@ -131,3 +132,14 @@ returns-clause-first_quiet g c =
     let quiet = c.expand_all-looked.new.quiet.items in
     let i = c.expand_all-looked.result.expanded in
     first_quiet shape specification turns rests within a.steps right i nodes quiet looked.so_far rested
+
+pub returns-clause-crowded : goal.returns-clause-crowded
+returns-clause-crowded g c =
+    let a = c.args in
+    let shape = g.M.Machine.shape a.machine.now in
+    let crowds = IsCrowdOf (g.M.Machine.made a.machine.now) (g.M.Machine.limit a.machine.now) in
+    let nodes = c.expand_all-looked.new.nodes in
+    let i = c.expand_all-looked.result.expanded in
+    let whole = c.whole_depth-whole.result in
+    crowd_weaker (λ crowd. (n : Node) × (slice_get nodes i ≡ Some n) × (n.depth < a.steps) × crowds (state_at shape n) crowd) (AtNode shape crowds nodes i whole) c.expand_all-looked.result.ended
+    (λ crowd at. (at.0, at.1, omega (arith, c.whole_depth-whole.ensures.next at.0 at.1 at.2), at.3)) c.expand_all-looked.ensures.stopped.crowded
