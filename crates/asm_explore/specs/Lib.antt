@@ -18,4 +18,5 @@ pub mod Quiet
 pub mod ScriptTo
 pub mod Answers
 pub mod Conditions
+pub mod MainRule
 pub mod ChoiceLaws

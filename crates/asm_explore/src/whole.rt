@@ -4,6 +4,7 @@ ghost use Rattle.asm_syntax.specs.Views.{spec_of};
 ghost use Rattle.asm_meaning.specs.Declarations.{specification_of};
 ghost use Rattle.asm_explore.specs.Answers.{IsAnswer};
 ghost use Rattle.asm_explore.specs.Conditions.{holds_in, term_holds, IsSpecified};
+ghost use Rattle.asm_explore.specs.MainRule.{IsCrowdedMain};
 ghost use Rattle.asm_check.specs.Shapes.{shape_of};
 
 use crate::answer::Answered;
@@ -43,7 +44,7 @@ fn explore_specified(
 ) -> Result<Answered, AllocError>
     requires { IsSpecified specified.now }
     ensures { let s = spec_of specified.now.checked.now.spec in
-        IfOk result (λ answer. IsAnswer (specification_of s) specified.now.turns steps states (holds_in (shape_of s) specified.now.always.now) (holds_in (shape_of s) specified.now.when_quiet.now) (holds_in (shape_of s) specified.now.within.now) answer) }
+        IfOk result (λ answer. IsAnswer (specification_of s) specified.now.turns (IsCrowdedMain specified.now.checked.now specified.now.turns specified.now.limit) steps states (holds_in (shape_of s) specified.now.always.now) (holds_in (shape_of s) specified.now.when_quiet.now) (holds_in (shape_of s) specified.now.within.now) answer) }
 {
     let initial = State::initial(alloc, specified.checked.signature())?;
     explore_machine(alloc, specified, &initial, steps, states)
@@ -57,7 +58,7 @@ pub fn explore_all(
     question: &Question,
 ) -> Result<Answered, AllocError>
     ensures { let q = question.now in
-        IfOk result (λ answer. IsAnswer (specification_of (spec_of checked.now.spec)) q.turns q.steps q.states (term_holds checked.now q.always) (term_holds checked.now q.when_quiet) (term_holds checked.now q.within) answer) }
+        IfOk result (λ answer. IsAnswer (specification_of (spec_of checked.now.spec)) q.turns (IsCrowdedMain checked.now q.turns q.outcomes) q.steps q.states (term_holds checked.now q.always) (term_holds checked.now q.when_quiet) (term_holds checked.now q.within) answer) }
 {
     let code = resolve_main(alloc, checked)?;
     let always = condition_code(alloc, checked, &question.always)?;
