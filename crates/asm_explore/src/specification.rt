@@ -6,7 +6,9 @@ ghost use Rattle.asm_check.specs.Shapes.{shape_of};
 ghost use Rattle.asm_meaning.specs.Declarations.{specification_of};
 ghost use Rattle.asm_eval.specs.CodeViews.{code_of};
 ghost use Rattle.asm_eval.specs.RuleMeaning.{IsSoundTest};
+ghost use Rattle.asm_eval.specs.RuleViews.{rule_of};
 ghost use Rattle.asm_explore.specs.Conditions.{holds_in, IsSpecified};
+ghost use Rattle.asm_explore.specs.Made.{made_in};
 ghost use Rattle.asm_explore.specs.Steps.{IsStep};
 
 use crate::exploration::Exploration;
@@ -66,6 +68,10 @@ impl<'a> Machine for Specified<'a> {
     ghost turns = { λ m. m.turns };
 
     ghost shape = { λ m. shape_of (spec_of m.checked.now.spec) };
+
+    ghost made = { λ m. made_in (shape_of (spec_of m.checked.now.spec)) m.turns (rule_of m.code.now) };
+
+    ghost limit = { λ m. m.limit };
 
     ghost right = { λ m A. holds_in (shape_of (spec_of m.checked.now.spec)) m.always.now A };
 
