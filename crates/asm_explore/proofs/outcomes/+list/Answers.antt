@@ -1,4 +1,4 @@
-use Rattle.std.proofs.Common.{◌≡◌, ◌<◌, ◌≤◌, [], ◌-◌, ◌+◌, suc, true, false, cond, Some, rules, sym, ap, subst, ◌∙◌, arith, length, map, refl}
+use Rattle.std.proofs.Common.{◌≡◌, ◌<◌, ◌≤◌, [], ◌-◌, ◌+◌, ◌++◌, suc, true, false, cond, Some, rules, sym, ap, subst, ◌∙◌, arith, length, map, refl}
 use Rattle.std.specs.Prelude.{option_map}
 use Rattle.asm_state.specs.Signature.{count_of}
 use Rattle.asm_state.specs.Words.{value_of_code}
@@ -12,12 +12,20 @@ use Rattle.asm_eval.specs.RuleMeaning.{meaning}
 use Rattle.asm_eval.specs.RuleTree as tree
 use Rattle.asm_eval.specs.RuleViews.{place_of, rule_of, rules_of}
 use Rattle.asm_eval.specs.Running.{places_of}
-use Rattle.asm_explore.specs.Explored.{shape_on, state_on, yields_on, here_on, in_order_on}
+use Rattle.asm_explore.specs.Explored.{shape_on, state_on, yields_on, here_on, in_order_on, made_on, makes_on, order_made_on}
 use Rattle.asm_explore.specs.Lists.{picked, HaveChoices, Lists, AreCounted, IsCounted}
+use Rattle.asm_explore.specs.Made.{made, AreMade}
+use Rattle.asm_explore.specs.MadeSoFar.{MadeSoFar, MakesOfAll, MakesTo}
 use Rattle.asm_explore.specs.Placed.{IsPlaced, IsPlacedFrom, IsPlacedBefore}
-use Rattle.asm_explore.specs.Sequences.{BothHave, Underway, Next, StepsTo}
+use Rattle.asm_explore.specs.Sequences.{BothHave, HasSet, Underway, Next, StepsTo}
+use Rattle.asm_explore.proofs.Carried.{have_added}
 use Rattle.asm_explore.proofs.CodeLists.{sound_part, size_of_part, universe_here}
+use Rattle.asm_explore.proofs.CodeRules.{par_tree, seq_tree, if_tree, let_tree, forall_tree, choose_tree, iterate_tree, call_tree}
 use Rattle.asm_explore.proofs.ListLemmas.{lists_same, each_at}
+use Rattle.asm_explore.proofs.MadeChoices.{none_made, have_made, ok_made, joined_made, picked_made}
+use Rattle.asm_explore.proofs.MadeInOrder.{begun_made, next_made_none, one_made}
+use Rattle.asm_explore.proofs.Makings as makings
+use Rattle.asm_explore.proofs.Makings.{ok_tree}
 use Rattle.asm_explore.proofs.Placing.{placed_none, placed_part, placed_in, from_none, from_later, before_later, have_weaker, ok_have}
 use Rattle.asm_explore.proofs.Sequenced.{both_begin, both_placed, begun, ended, underway_next, next_none, next_more, next_all, next_one}
 use Rattle.asm_explore.proofs.Yielded.{ok_same, no_elements, parts_left, each_left, order_left, turns_left, part_next, part_last, element_next, element_last, is_passing, value_yields, forall_yields, choosing_none, choosing_more, choosing_all, none_yields, skip_yields, assign_is, par_yields, seq_yields, if_is, let_is, forall_is, choose_is, iterate_is, call_is, if_yes, if_no, let_with, call_with, iterate_yields, order_steps, order_ends, turn_steps}
@@ -34,6 +42,12 @@ outcomes-returns-in_ok-found-in-Skip-clause-lists t c =
 pub outcomes-returns-in_ok-found-in-Skip-clause-placed : goal.outcomes-returns-in_ok-found-in-Skip-clause-placed
 outcomes-returns-in_ok-found-in-Skip-clause-placed t c = have_weaker (λ cs. cs ≡ []) (IsPlaced c.args.path.now) (placed_none c.args.path.now) c.in_ok-found-in-Skip.found.items c.in_ok-found-in-Skip.ensures.choices
 
+pub outcomes-returns-in_ok-found-in-Skip-clause-made : goal.outcomes-returns-in_ok-found-in-Skip-clause-made
+outcomes-returns-in_ok-found-in-Skip-clause-made t c =
+    let a = c.args in
+    let m = makes_on a.on.now a.frame.now a.path.now (rule_of a.rule.now) in
+    none_made m c.in_ok-found-in-Skip.found.items c.in_ok-found-in-Skip.ensures.choices
+
 pub outcomes-returns-in_ok-found-in-Assign-clause-lists : goal.outcomes-returns-in_ok-found-in-Assign-clause-lists
 outcomes-returns-in_ok-found-in-Assign-clause-lists t c =
     let a = c.args in
@@ -43,12 +57,25 @@ outcomes-returns-in_ok-found-in-Assign-clause-lists t c =
 pub outcomes-returns-in_ok-found-in-Assign-clause-placed : goal.outcomes-returns-in_ok-found-in-Assign-clause-placed
 outcomes-returns-in_ok-found-in-Assign-clause-placed t c = have_weaker (λ cs. cs ≡ []) (IsPlaced c.args.path.now) (placed_none c.args.path.now) c.in_ok-found-in-Assign.found.items c.in_ok-found-in-Assign.ensures.choices
 
+pub outcomes-returns-in_ok-found-in-Assign-clause-made : goal.outcomes-returns-in_ok-found-in-Assign-clause-made
+outcomes-returns-in_ok-found-in-Assign-clause-made t c =
+    let a = c.args in
+    let m = makes_on a.on.now a.frame.now a.path.now (rule_of a.rule.now) in
+    none_made m c.in_ok-found-in-Assign.found.items c.in_ok-found-in-Assign.ensures.choices
+
 pub outcomes-returns-in-Par-clause-lists : goal.outcomes-returns-in-Par-clause-lists
 outcomes-returns-in-Par-clause-lists t c =
     let a = c.args in
     ok_same (shape_on a.on.now) _ _ c.list_all.result
     (par_yields a.on.now a.frame.now a.path.now a.rule.now c.in-Par.parts c.in-Par.is c.as_slice.result.now c.as_slice.ensures.value)
     c.list_all.ensures.lists
+
+pub outcomes-returns-in-Par-clause-made : goal.outcomes-returns-in-Par-clause-made
+outcomes-returns-in-Par-clause-made t c =
+    let a = c.args in
+    ok_tree a.on.now a.frame.now a.path.now _ _ c.list_all.result
+    (par_tree a.rule.now c.in-Par.parts c.in-Par.is c.as_slice.result.now c.as_slice.ensures.value)
+    (ok_made _ _ c.list_all.result (makings.par_makes a.on.now a.frame.now a.path.now c.as_slice.result.now) c.list_all.ensures.made)
 
 pub outcomes-returns-in-Seq-clause-lists : goal.outcomes-returns-in-Seq-clause-lists
 outcomes-returns-in-Seq-clause-lists t c =
@@ -57,12 +84,26 @@ outcomes-returns-in-Seq-clause-lists t c =
     (seq_yields a.on.now a.frame.now a.path.now a.rule.now c.in-Seq.parts c.in-Seq.is c.as_slice-in-Seq.result.now c.as_slice-in-Seq.ensures.value)
     c.list_in_order.ensures.lists
 
+pub outcomes-returns-in-Seq-clause-made : goal.outcomes-returns-in-Seq-clause-made
+outcomes-returns-in-Seq-clause-made t c =
+    let a = c.args in
+    ok_tree a.on.now a.frame.now a.path.now _ _ c.list_in_order.result
+    (seq_tree a.rule.now c.in-Seq.parts c.in-Seq.is c.as_slice-in-Seq.result.now c.as_slice-in-Seq.ensures.value)
+    (ok_made _ _ c.list_in_order.result (makings.seq_makes a.on.now a.frame.now a.path.now c.as_slice-in-Seq.result.now) c.list_in_order.ensures.made)
+
 pub outcomes-returns-in-If-clause-lists : goal.outcomes-returns-in-If-clause-lists
 outcomes-returns-in-If-clause-lists t c =
     let a = c.args in
     ok_same (shape_on a.on.now) _ _ c.list_if.result
     (if_is a.on.now a.frame.now a.path.now a.rule.now c.in-If.test c.in-If.yes c.in-If.no c.in-If.is c.deref.result.now c.deref-in-If.result.now c.deref.ensures c.deref-in-If.ensures)
     c.list_if.ensures.lists
+
+pub outcomes-returns-in-If-clause-made : goal.outcomes-returns-in-If-clause-made
+outcomes-returns-in-If-clause-made t c =
+    let a = c.args in
+    ok_tree a.on.now a.frame.now a.path.now _ _ c.list_if.result
+    (if_tree a.rule.now c.in-If.test c.in-If.yes c.in-If.no c.in-If.is c.in-If.test c.deref.result.now c.deref-in-If.result.now refl c.deref.ensures c.deref-in-If.ensures)
+    c.list_if.ensures.made
 
 pub outcomes-returns-in-Let-clause-lists : goal.outcomes-returns-in-Let-clause-lists
 outcomes-returns-in-Let-clause-lists t c =
@@ -71,12 +112,26 @@ outcomes-returns-in-Let-clause-lists t c =
     (let_is a.on.now a.frame.now a.path.now a.rule.now c.in-Let.value c.in-Let.body c.in-Let.is c.deref-in-Let.result.now c.deref-in-Let.ensures)
     c.list_let.ensures.lists
 
+pub outcomes-returns-in-Let-clause-made : goal.outcomes-returns-in-Let-clause-made
+outcomes-returns-in-Let-clause-made t c =
+    let a = c.args in
+    ok_tree a.on.now a.frame.now a.path.now _ _ c.list_let.result
+    (let_tree a.rule.now c.in-Let.value c.in-Let.body c.in-Let.is c.in-Let.value c.deref-in-Let.result.now refl c.deref-in-Let.ensures)
+    c.list_let.ensures.made
+
 pub outcomes-returns-in-Forall-clause-lists : goal.outcomes-returns-in-Forall-clause-lists
 outcomes-returns-in-Forall-clause-lists t c =
     let a = c.args in
     ok_same (shape_on a.on.now) _ _ c.list_each.result
     (forall_is a.on.now a.frame.now a.path.now a.rule.now c.in-Forall.over c.in-Forall.test c.in-Forall.body c.in-Forall.is c.deref-in-Forall.result.now c.deref-in-Forall.ensures)
     c.list_each.ensures.lists
+
+pub outcomes-returns-in-Forall-clause-made : goal.outcomes-returns-in-Forall-clause-made
+outcomes-returns-in-Forall-clause-made t c =
+    let a = c.args in
+    ok_tree a.on.now a.frame.now a.path.now _ _ c.list_each.result
+    (forall_tree a.rule.now c.in-Forall.over c.in-Forall.test c.in-Forall.body c.in-Forall.is c.in-Forall.test c.deref-in-Forall.result.now refl c.deref-in-Forall.ensures)
+    c.list_each.ensures.made
 
 pub outcomes-returns-in-Choose-clause-lists : goal.outcomes-returns-in-Choose-clause-lists
 outcomes-returns-in-Choose-clause-lists t c =
@@ -85,6 +140,13 @@ outcomes-returns-in-Choose-clause-lists t c =
     (choose_is a.on.now a.frame.now a.path.now a.rule.now c.in-Choose.over c.in-Choose.test c.in-Choose.body c.in-Choose.none c.in-Choose.is c.deref-in-Choose.result.now c.deref-in-Choose-2.result.now c.deref-in-Choose.ensures c.deref-in-Choose-2.ensures)
     c.list_choose.ensures.lists
 
+pub outcomes-returns-in-Choose-clause-made : goal.outcomes-returns-in-Choose-clause-made
+outcomes-returns-in-Choose-clause-made t c =
+    let a = c.args in
+    ok_tree a.on.now a.frame.now a.path.now _ _ c.list_choose.result
+    (choose_tree a.rule.now c.in-Choose.over c.in-Choose.test c.in-Choose.body c.in-Choose.none c.in-Choose.is c.in-Choose.test c.deref-in-Choose.result.now c.deref-in-Choose-2.result.now refl c.deref-in-Choose.ensures c.deref-in-Choose-2.ensures)
+    c.list_choose.ensures.made
+
 pub outcomes-returns-in-Iterate-clause-lists : goal.outcomes-returns-in-Iterate-clause-lists
 outcomes-returns-in-Iterate-clause-lists t c =
     let a = c.args in
@@ -92,12 +154,31 @@ outcomes-returns-in-Iterate-clause-lists t c =
     (iterate_is a.on.now a.frame.now a.path.now a.rule.now c.in-Iterate.body c.in-Iterate.is c.deref-in-Iterate.result.now c.deref-in-Iterate.ensures)
     c.list_turns.ensures.lists
 
+pub outcomes-returns-in-Iterate-clause-made : goal.outcomes-returns-in-Iterate-clause-made
+outcomes-returns-in-Iterate-clause-made t c =
+    let a = c.args in
+    ok_tree a.on.now a.frame.now a.path.now _ _ c.list_turns.result
+    (iterate_tree a.rule.now c.in-Iterate.body c.in-Iterate.is c.deref-in-Iterate.result.now c.deref-in-Iterate.ensures)
+    c.list_turns.ensures.made
+
 pub outcomes-returns-in-Call-clause-lists : goal.outcomes-returns-in-Call-clause-lists
 outcomes-returns-in-Call-clause-lists t c =
     let a = c.args in
     ok_same (shape_on a.on.now) _ _ c.list_call.result
     (call_is a.on.now a.frame.now a.path.now a.rule.now c.in-Call.body c.in-Call.answer c.in-Call.arguments c.in-Call.is c.deref-in-Call.result.now c.as_slice-in-Call.result.now c.deref-in-Call.ensures c.as_slice-in-Call.ensures.value)
     c.list_call.ensures.lists
+
+pub outcomes-returns-in-Call-clause-made : goal.outcomes-returns-in-Call-clause-made
+outcomes-returns-in-Call-clause-made t c =
+    let a = c.args in
+    ok_tree a.on.now a.frame.now a.path.now _ _ c.list_call.result
+    (call_tree a.rule.now c.in-Call.body c.in-Call.answer c.in-Call.arguments c.in-Call.is c.deref-in-Call.result.now c.in-Call.answer c.as_slice-in-Call.result.now c.deref-in-Call.ensures refl c.as_slice-in-Call.ensures.value)
+    c.list_call.ensures.made
+
+pub list_part-returns-clause-made : goal.list_part-returns-clause-made
+list_part-returns-clause-made t c =
+    let a = c.args in
+    subst (λ q. HaveChoices (AreMade (makes_on a.on.now a.frame.now q (rule_of a.rule.now))) c.in_ok-found.found.items) (c.as_slice.ensures.value ∙ c.in_ok-below.ensures) c.in_ok-found.ensures.made
 
 pub list_if-returns-then-holds-clause-lists : goal.list_if-returns-then-holds-clause-lists
 list_if-returns-then-holds-clause-lists t c =
@@ -109,6 +190,13 @@ list_if-returns-then-holds-clause-lists t c =
 pub list_if-returns-then-holds-clause-placed : goal.list_if-returns-then-holds-clause-placed
 list_if-returns-then-holds-clause-placed t c = ok_have (IsPlaced (at c.args.path.now 0)) (IsPlaced c.args.path.now) c.list_part.result (placed_part c.args.path.now 0) c.list_part.ensures.placed
 
+pub list_if-returns-then-holds-clause-made : goal.list_if-returns-then-holds-clause-made
+list_if-returns-then-holds-clause-made t c =
+    let a = c.args in
+    ok_made _ _ c.list_part.result
+    (makings.if_yes a.on.now a.frame.now a.path.now a.test.now a.yes.now a.no.now (sym c.holds.ensures ∙ c.if-holds.true))
+    c.list_part.ensures.made
+
 pub list_if-returns-else-holds-clause-lists : goal.list_if-returns-else-holds-clause-lists
 list_if-returns-else-holds-clause-lists t c =
     let a = c.args in
@@ -118,6 +206,13 @@ list_if-returns-else-holds-clause-lists t c =
 
 pub list_if-returns-else-holds-clause-placed : goal.list_if-returns-else-holds-clause-placed
 list_if-returns-else-holds-clause-placed t c = ok_have (IsPlaced (at c.args.path.now 1)) (IsPlaced c.args.path.now) c.list_part-else-holds.result (placed_part c.args.path.now 1) c.list_part-else-holds.ensures.placed
+
+pub list_if-returns-else-holds-clause-made : goal.list_if-returns-else-holds-clause-made
+list_if-returns-else-holds-clause-made t c =
+    let a = c.args in
+    ok_made _ _ c.list_part-else-holds.result
+    (makings.if_no a.on.now a.frame.now a.path.now a.test.now a.yes.now a.no.now (sym c.holds.ensures ∙ c.if-holds.false))
+    c.list_part-else-holds.ensures.made
 
 pub list_let-returns-clause-lists : goal.list_let-returns-clause-lists
 list_let-returns-clause-lists t c =
@@ -129,6 +224,13 @@ list_let-returns-clause-lists t c =
 pub list_let-returns-clause-placed : goal.list_let-returns-clause-placed
 list_let-returns-clause-placed t c = ok_have (IsPlaced (at c.args.path.now 0)) (IsPlaced c.args.path.now) c.list_part.result (placed_part c.args.path.now 0) c.list_part.ensures.placed
 
+pub list_let-returns-clause-made : goal.list_let-returns-clause-made
+list_let-returns-clause-made t c =
+    let a = c.args in
+    ok_made _ _ c.list_part.result
+    (makings.let_makes a.on.now a.frame.now a.path.now a.term.now a.body.now (value_of_code c.kept.result.value) (c.kept.ensures ∙ c.value-value.ensures))
+    c.list_part.ensures.made
+
 -- ---- parts
 
 pub list_all-loop-i-init : goal.list_all-loop-i-init
@@ -139,6 +241,7 @@ list_all-loop-i-init t c =
       lists = lists_same (shape_on a.on.now) (λ s. nothing.result) (parts_left a.on.now a.frame.now a.path.now a.parts.now (length a.parts.now)) c.in_ok-found.found.items
           (part_last a.on.now a.frame.now a.path.now a.parts.now (length a.parts.now) (omega arith)) c.in_ok-found.ensures.lists;
       placed = have_weaker (λ cs. cs ≡ []) (IsPlacedFrom a.path.now (length a.parts.now)) (from_none a.path.now (length a.parts.now)) c.in_ok-found.found.items c.in_ok-found.ensures.choices;
+      made = none_made (makings.parts_left a.on.now a.frame.now a.path.now a.parts.now (length a.parts.now)) c.in_ok-found.found.items c.in_ok-found.ensures.choices;
     }
 
 pub list_all-list_part-requires : goal.list_all-list_part-requires
@@ -156,6 +259,8 @@ list_all-loop-i-preserved t c =
     let low : l.i - 1 < length a.parts.now = omega (arith, l.invariant.within, c.loop-i-test.true) in
     let back : l.i ≡ l.i - 1 + 1 = omega (arith, c.loop-i-test.true) in
     let here = yields_on a.on.now a.frame.now (at a.path.now (l.i - 1)) (rule_of c.index-parts-i.result) in
+    let makes = makes_on a.on.now a.frame.now (at a.path.now (l.i - 1)) (rule_of c.index-parts-i.result) in
+    let left = makings.parts_left a.on.now a.frame.now a.path.now a.parts.now in
     record {
       within = omega (arith, l.invariant.within);
       lists = lists_same (shape_on a.on.now) (λ s. beside (here s) (parts_left a.on.now a.frame.now a.path.now a.parts.now l.i s))
@@ -165,6 +270,9 @@ list_all-loop-i-preserved t c =
           (c.in_ok-more.ensures.lists here (parts_left a.on.now a.frame.now a.path.now a.parts.now l.i) c.in_ok-part.ensures.lists l.invariant.lists);
       placed = c.in_ok-more.ensures.placed (l.i - 1) c.in_ok-part.ensures.placed
           (subst (λ k. HaveChoices (IsPlacedFrom a.path.now k) l.found.items) back l.invariant.placed);
+      made = have_made (λ s. makes s ++ left l.i s) (left (l.i - 1)) (λ s. ap (λ k. makes s ++ left k s) back
+          ∙ makings.parts_next a.on.now a.frame.now a.path.now a.parts.now (l.i - 1) c.index-parts-i.result low c.index-parts-i.is s)
+          c.in_ok-more.more.items (joined_made makes (left l.i) c.in_ok-part.part.items l.found.items c.in_ok-more.more.items c.in_ok-more.ensures.chosen c.in_ok-part.ensures.made l.invariant.made);
     }
 
 pub list_all-returns-clause-lists : goal.list_all-returns-clause-lists
@@ -179,6 +287,13 @@ list_all-returns-clause-placed t c =
     let l = c.loop-i in
     have_weaker (IsPlacedFrom c.args.path.now l.i) (IsPlaced c.args.path.now) (placed_in c.args.path.now (λ k. l.i ≤ k)) l.found.items l.invariant.placed
 
+pub list_all-returns-clause-made : goal.list_all-returns-clause-made
+list_all-returns-clause-made t c =
+    let a = c.args in
+    let l = c.loop-i in
+    let ends : l.i ≡ 0 = omega (arith, c.loop-i-test.false) in
+    subst (λ i. HaveChoices (AreMade (makings.parts_left a.on.now a.frame.now a.path.now a.parts.now i)) l.found.items) ends l.invariant.made
+
 -- ---- values of a universe
 
 pub list_each-loop-i-init : goal.list_each-loop-i-init
@@ -190,6 +305,7 @@ list_each-loop-i-init t c =
       lists = lists_same (shape_on a.on.now) (λ s. nothing.result) (each_left a.on.now a.frame.now a.path.now a.over a.test.now a.body.now (length us) us c.size-i.result) c.in_ok-found.found.items
           (element_last a.on.now a.frame.now a.path.now a.over a.test.now a.body.now (length us) us c.size-i.result (omega (arith, c.size-i.ensures.size))) c.in_ok-found.ensures.lists;
       placed = have_weaker (λ cs. cs ≡ []) (IsPlacedFrom a.path.now c.size-i.result) (from_none a.path.now c.size-i.result) c.in_ok-found.found.items c.in_ok-found.ensures.choices;
+      made = none_made (makings.each_left a.on.now a.frame.now a.path.now a.over a.test.now a.body.now (length us) us c.size-i.result) c.in_ok-found.found.items c.in_ok-found.ensures.choices;
     }
 
 pub list_each-list_element-requires : goal.list_each-list_element-requires
@@ -207,6 +323,8 @@ list_each-loop-i-preserved t c =
     let so = is_passing a.on.now a.frame.now a.path.now a.over a.test.now a.body.now v in
     let here = value_yields a.on.now a.frame.now a.path.now a.body.now v (l.i - 1) in
     let left = each_left a.on.now a.frame.now a.path.now a.over a.test.now a.body.now (length us) us in
+    let makes = makings.value_makes a.on.now a.frame.now a.path.now a.body.now v (l.i - 1) in
+    let more = makings.each_left a.on.now a.frame.now a.path.now a.over a.test.now a.body.now (length us) us in
     record {
       within = omega (arith, l.invariant.within);
       lists = lists_same (shape_on a.on.now) (λ s. cond so (beside (here s) (left l.i s)) (left l.i s)) (left (l.i - 1)) c.in_ok-more.more.items
@@ -214,6 +332,9 @@ list_each-loop-i-preserved t c =
           ∙ element_next a.on.now a.frame.now a.path.now a.over a.test.now a.body.now (length us) us (l.i - 1) v low (c.element.ensures ∙ ap Some (sym c.kept.ensures)) s so refl)
           (c.in_ok-more.ensures.lists (left l.i) l.invariant.lists);
       placed = c.in_ok-more.ensures.placed (subst (λ k. HaveChoices (IsPlacedFrom a.path.now k) l.found.items) back l.invariant.placed);
+      made = have_made (λ s. cond so (makes s ++ more l.i s) (more l.i s)) (more (l.i - 1)) (λ s. ap (λ k. cond so (makes s ++ more k s) (more k s)) back
+          ∙ makings.elements_next a.on.now a.frame.now a.path.now a.over a.test.now a.body.now (length us) us (l.i - 1) v low (c.element.ensures ∙ ap Some (sym c.kept.ensures)) s so refl)
+          c.in_ok-more.more.items (c.in_ok-more.ensures.made (more l.i) l.invariant.made);
     }
 
 pub list_each-returns-clause-lists : goal.list_each-returns-clause-lists
@@ -233,6 +354,18 @@ list_each-returns-clause-placed t c =
     let l = c.loop-i in
     have_weaker (IsPlacedFrom c.args.path.now l.i) (IsPlaced c.args.path.now) (placed_in c.args.path.now (λ k. l.i ≤ k)) l.found.items l.invariant.placed
 
+pub list_each-returns-clause-made : goal.list_each-returns-clause-made
+list_each-returns-clause-made t c =
+    let a = c.args in
+    let l = c.loop-i in
+    let us = c.universe-universe.result.now in
+    let ends : l.i ≡ 0 = omega (arith, c.loop-i-test.false) in
+    let same : universe_at (shape_on a.on.now) a.over ≡ us = universe_here (shape_on a.on.now).universes a.over us c.universe-universe.ensures in
+    let left = makings.each_left a.on.now a.frame.now a.path.now a.over a.test.now a.body.now (length us) in
+    have_made (left us 0) (makes_on a.on.now a.frame.now a.path.now (tree.Forall a.over (option_map code_of a.test.now) (rule_of a.body.now)))
+    (λ s. ap (λ ws. left ws 0 s) (sym same) ∙ makings.forall_makes a.on.now a.frame.now a.path.now a.over a.test.now a.body.now (length us) (ap length (sym same)) s)
+    l.found.items (subst (λ i. HaveChoices (AreMade (left us i)) l.found.items) ends l.invariant.made)
+
 pub list_element-returns-in_ok-found-clause-lists : goal.list_element-returns-in_ok-found-clause-lists
 list_element-returns-in_ok-found-clause-lists t c = λ o lists.
     let a = c.args in
@@ -243,6 +376,13 @@ list_element-returns-in_ok-found-clause-lists t c = λ o lists.
 
 pub list_element-returns-in_ok-found-clause-placed : goal.list_element-returns-in_ok-found-clause-placed
 list_element-returns-in_ok-found-clause-placed t c = λ later. c.in_ok-found.ensures.placed c.args.number c.in_ok-part.ensures.placed later
+
+pub list_element-returns-in_ok-found-clause-made : goal.list_element-returns-in_ok-found-clause-made
+list_element-returns-in_ok-found-clause-made t c = λ m after.
+    let a = c.args in
+    let makes = makes_on a.on.now a.frame.now (at a.path.now a.number) (rule_of a.body.now) in
+    have_made (λ s. makes s ++ m s) _ (λ s. ap (λ b. cond b (makes s ++ m s) (m s)) (sym c.if-passes.true ∙ c.passes.ensures)) c.in_ok-found.found.items
+    (joined_made makes m c.in_ok-part.part.items a.after.items c.in_ok-found.found.items c.in_ok-found.ensures.chosen c.in_ok-part.ensures.made after)
 
 pub list_element-returns-else-passes-clause-lists : goal.list_element-returns-else-passes-clause-lists
 list_element-returns-else-passes-clause-lists t c = λ o lists.
@@ -257,6 +397,12 @@ list_element-returns-else-passes-clause-placed t c =
     let a = c.args in
     have_weaker (IsPlacedFrom a.path.now (a.number + 1)) (IsPlacedFrom a.path.now a.number) (from_later a.path.now a.number) a.after.items
 
+pub list_element-returns-else-passes-clause-made : goal.list_element-returns-else-passes-clause-made
+list_element-returns-else-passes-clause-made t c = λ m after.
+    let a = c.args in
+    let makes = makes_on a.on.now a.frame.now (at a.path.now a.number) (rule_of a.body.now) in
+    have_made m _ (λ s. ap (λ b. cond b (makes s ++ m s) (m s)) (sym c.if-passes.false ∙ c.passes.ensures)) a.after.items after
+
 -- ---- candidates
 
 pub list_choose-returns-then-all-eq0-clause-lists : goal.list_choose-returns-then-all-eq0-clause-lists
@@ -270,12 +416,21 @@ list_choose-returns-then-all-eq0-clause-lists t c =
 pub list_choose-returns-then-all-eq0-clause-placed : goal.list_choose-returns-then-all-eq0-clause-placed
 list_choose-returns-then-all-eq0-clause-placed t c = ok_have (IsPlaced (at c.args.path.now 1)) (IsPlaced c.args.path.now) c.list_part.result (placed_part c.args.path.now 1) c.list_part.ensures.placed
 
+pub list_choose-returns-then-all-eq0-clause-made : goal.list_choose-returns-then-all-eq0-clause-made
+list_choose-returns-then-all-eq0-clause-made t c =
+    let a = c.args in
+    ok_made _ _ c.list_part.result
+    (makings.none_makes a.on.now a.frame.now a.path.now a.over a.test.now a.body.now a.none.now c.as_slice-all.result.now (c.as_slice-all.ensures.value ∙ c.in_ok-values.ensures)
+    (no_elements c.as_slice-all.result.now c.if-all-eq0.true))
+    c.list_part.ensures.made
+
 pub list_choose-loop-k-init : goal.list_choose-loop-k-init
 list_choose-loop-k-init t c =
     let a = c.args in
     record {
       choosing = choosing_none a.on.now a.frame.now a.path.now a.over a.test.now a.body.now a.none.now c.as_slice-all.result.now c.new-found.result.items c.new-found.ensures.items;
       placed = subst (HaveChoices (IsPlaced a.path.now)) (sym c.new-found.ensures.items) tt;
+      made = subst (HaveChoices (AreMade (makings.choose_makes a.on.now a.frame.now a.path.now a.over a.test.now a.body.now a.none.now))) (sym c.new-found.ensures.items) tt;
     }
 
 pub list_choose-loop-k-preserved : goal.list_choose-loop-k-preserved
@@ -287,6 +442,11 @@ list_choose-loop-k-preserved t c =
           l.k (value_of_code c.kept.result.value) (c.candidate_at-value.ensures ∙ ap Some (sym c.kept.ensures)) c.in_ok-part.part.items l.found.items c.add_part.new.found.items
           c.in_ok-part.ensures.lists c.in_ok-add_part.ensures.picks l.invariant.choosing;
       placed = c.in_ok-add_part.ensures.picks.placed c.in_ok-part.ensures.placed l.invariant.placed;
+      made = picked_made (makings.value_makes a.on.now a.frame.now a.path.now a.body.now (value_of_code c.kept.result.value) 0)
+          (makings.choose_makes a.on.now a.frame.now a.path.now a.over a.test.now a.body.now a.none.now) a.path.now l.k
+          (makings.taken_makes a.on.now a.frame.now a.path.now a.over a.test.now a.body.now a.none.now c.as_slice-all.result.now (c.as_slice-all.ensures.value ∙ c.in_ok-values.ensures)
+          l.k (value_of_code c.kept.result.value) (c.candidate_at-value.ensures ∙ ap Some (sym c.kept.ensures)))
+          c.in_ok-part.part.items l.found.items c.add_part.new.found.items c.in_ok-add_part.ensures.picks.chosen c.in_ok-part.ensures.made l.invariant.made;
     }
 
 pub list_choose-returns-clause-lists : goal.list_choose-returns-clause-lists
@@ -309,6 +469,13 @@ list_call-returns-clause-lists t c =
 pub list_call-returns-clause-placed : goal.list_call-returns-clause-placed
 list_call-returns-clause-placed t c = ok_have (IsPlaced (at c.args.path.now 0)) (IsPlaced c.args.path.now) c.list_part.result (placed_part c.args.path.now 0) c.list_part.ensures.placed
 
+pub list_call-returns-clause-made : goal.list_call-returns-clause-made
+list_call-returns-clause-made t c =
+    let a = c.args in
+    ok_made _ _ c.list_part.result
+    (makings.call_makes a.on.now a.frame.now a.path.now a.body.now a.answer.now a.arguments.now c.in_ok-answer.answer c.in_ok-answer.ensures.location)
+    c.list_part.ensures.made
+
 -- ---- one after the other
 
 pub list_in_order-loop-i-init : goal.list_in_order-loop-i-init
@@ -320,6 +487,8 @@ list_in_order-loop-i-init t c =
       underway = subst (λ d. Underway (shape_on a.on.now) (state_on a.on.now) total left d c.in_ok-begin.begin.items) (sym c.new.ensures.items)
           (begun (shape_on a.on.now) (state_on a.on.now) total left (λ s. refl) c.in_ok-begin.begin.items c.in_ok-begin.ensures.lists);
       placed = both_begin a.path.now c.new.result.items c.in_ok-begin.begin.items c.new.ensures.items c.in_ok-begin.ensures.choices;
+      made = begun_made (shape_on a.on.now) (state_on a.on.now) (order_made_on a.on.now a.frame.now a.path.now (rules_of (map rule_of a.parts.now)))
+          (makings.order_left a.on.now a.frame.now a.path.now a.parts.now 0) (λ s. refl) c.new.result.items c.in_ok-begin.begin.items c.new.ensures.items c.in_ok-begin.ensures.choices c.in_ok-begin.ensures.lists;
     }
 
 pub list_in_order-list_next-requires : goal.list_in_order-list_next-requires
@@ -347,6 +516,11 @@ list_in_order-loop-i-preserved t c =
           (subst (λ fs. Next (shape_on a.on.now) false (state_on a.on.now) here fs l.sorted.done.items c.in_ok-next.next) c.as_slice-front.ensures.value c.in_ok-next.ensures.next)
           l.invariant.underway;
       placed = c.in_ok-next.ensures.placed (subst (HaveChoices (IsPlacedBefore a.path.now l.i)) (sym c.as_slice-front.ensures.value) l.invariant.placed.1) l.invariant.placed.0;
+      made = c.in_ok-next.ensures.made (order_made_on a.on.now a.frame.now a.path.now (rules_of (map rule_of a.parts.now)))
+          (makings.order_left a.on.now a.frame.now a.path.now a.parts.now l.i) (makings.order_left a.on.now a.frame.now a.path.now a.parts.now (l.i + 1))
+          (makings.order_steps a.on.now a.frame.now a.path.now a.parts.now l.i c.index-parts-i.result c.loop-i-test.true c.index-parts-i.is)
+          (subst (MadeSoFar (shape_on a.on.now) (state_on a.on.now) (order_made_on a.on.now a.frame.now a.path.now (rules_of (map rule_of a.parts.now)))
+          (makings.order_left a.on.now a.frame.now a.path.now a.parts.now l.i) l.sorted.done.items) (sym c.as_slice-front.ensures.value) l.invariant.made);
     }
 
 pub list_in_order-returns-clause-lists : goal.list_in_order-returns-clause-lists
@@ -358,6 +532,13 @@ list_in_order-returns-clause-lists t c =
 
 pub list_in_order-returns-clause-placed : goal.list_in_order-returns-clause-placed
 list_in_order-returns-clause-placed t c = c.in_ok-found.ensures.placed (both_placed c.args.path.now c.loop-i.i c.loop-i.sorted c.loop-i.invariant.placed)
+
+pub list_in_order-returns-clause-made : goal.list_in_order-returns-clause-made
+list_in_order-returns-clause-made t c =
+    let a = c.args in
+    let l = c.loop-i in
+    have_added (AreMade (order_made_on a.on.now a.frame.now a.path.now (rules_of (map rule_of a.parts.now)))) l.sorted c.in_ok-found.found.items
+    c.in_ok-found.ensures.chosen (l.invariant.made.done_made, l.invariant.made.front_made)
 
 pub list_turns-loop-turn-init : goal.list_turns-loop-turn-init
 list_turns-loop-turn-init t c =
@@ -372,6 +553,10 @@ list_turns-loop-turn-init t c =
           (λ s. sym (iterate_yields a.on.now a.frame.now a.path.now R s) ∙ ap (λ n. turns_left a.on.now a.frame.now a.path.now R n 0 s (state_on a.on.now)) all)
           c.in_ok-begin.begin.items c.in_ok-begin.ensures.lists);
       placed = both_begin a.path.now c.new.result.items c.in_ok-begin.begin.items c.new.ensures.items c.in_ok-begin.ensures.choices;
+      made = begun_made (shape_on a.on.now) (state_on a.on.now) (makes_on a.on.now a.frame.now a.path.now (tree.Iterate R))
+          (makings.turns_left a.on.now a.frame.now a.path.now R (a.on.now.turns - 0) 0)
+          (λ s. sym (ap (λ n. makings.turns_left a.on.now a.frame.now a.path.now R n 0 s (state_on a.on.now)) all) ∙ makings.iterate_makes a.on.now a.frame.now a.path.now R s)
+          c.new.result.items c.in_ok-begin.begin.items c.new.ensures.items c.in_ok-begin.ensures.choices c.in_ok-begin.ensures.lists;
     }
 
 pub list_turns-returns-then-waiting-eq0-clause-lists : goal.list_turns-returns-then-waiting-eq0-clause-lists
@@ -384,6 +569,9 @@ list_turns-returns-then-waiting-eq0-clause-lists t c =
 
 pub list_turns-returns-then-waiting-eq0-clause-placed : goal.list_turns-returns-then-waiting-eq0-clause-placed
 list_turns-returns-then-waiting-eq0-clause-placed t c = (both_placed c.args.path.now c.loop-turn.turn c.loop-turn.sorted c.loop-turn.invariant.placed).0
+
+pub list_turns-returns-then-waiting-eq0-clause-made : goal.list_turns-returns-then-waiting-eq0-clause-made
+list_turns-returns-then-waiting-eq0-clause-made t c = c.loop-turn.invariant.made.done_made
 
 pub list_turns-list_next-requires : goal.list_turns-list_next-requires
 list_turns-list_next-requires t c =
@@ -398,6 +586,7 @@ list_turns-loop-turn-preserved t c =
     let here = here_on a.on.now a.frame.now (at a.path.now l.turn) R in
     let then = turns_left a.on.now a.frame.now a.path.now R (a.on.now.turns - (l.turn + 1)) (l.turn + 1) in
     let one : suc (a.on.now.turns - (l.turn + 1)) ≡ a.on.now.turns - l.turn = omega (arith, c.loop-turn-test.true) in
+    let left = makings.turns_left a.on.now a.frame.now a.path.now R in
     record {
       underway = underway_next (shape_on a.on.now) true (state_on a.on.now) here (yields_on a.on.now a.frame.now a.path.now (tree.Iterate R))
           (turns_left a.on.now a.frame.now a.path.now R (a.on.now.turns - l.turn) l.turn) then
@@ -411,6 +600,13 @@ list_turns-loop-turn-preserved t c =
           (subst (λ n. HaveChoices (IsPlacedBefore a.path.now n) c.as_slice-front.result.now) (sym c.from-number.ensures)
           (subst (HaveChoices (IsPlacedBefore a.path.now l.turn)) (sym c.as_slice-front.ensures.value) l.invariant.placed.1))
           (subst (λ n. HaveChoices (IsPlacedBefore a.path.now n) l.sorted.done.items) (sym c.from-number.ensures) l.invariant.placed.0));
+      made = c.in_ok-next.ensures.made (makes_on a.on.now a.frame.now a.path.now (tree.Iterate R)) (left (a.on.now.turns - l.turn) l.turn) (left (a.on.now.turns - (l.turn + 1)) (l.turn + 1))
+          (subst (λ k. MakesTo true (here_on a.on.now a.frame.now (at a.path.now k) R) (made_on a.on.now a.frame.now (at a.path.now k) R) (left (a.on.now.turns - l.turn) l.turn) (left (a.on.now.turns - (l.turn + 1)) (l.turn + 1)))
+          (sym c.from-number.ensures)
+          (subst (λ n. MakesTo true here (made_on a.on.now a.frame.now (at a.path.now l.turn) R) (left n l.turn) (left (a.on.now.turns - (l.turn + 1)) (l.turn + 1))) one
+          (makings.turn_steps a.on.now a.frame.now a.path.now R (a.on.now.turns - (l.turn + 1)) l.turn)))
+          (subst (MadeSoFar (shape_on a.on.now) (state_on a.on.now) (makes_on a.on.now a.frame.now a.path.now (tree.Iterate R)) (left (a.on.now.turns - l.turn) l.turn) l.sorted.done.items)
+          (sym c.as_slice-front.ensures.value) l.invariant.made);
     }
 
 pub list_turns-returns-clause-lists : goal.list_turns-returns-clause-lists
@@ -426,6 +622,13 @@ list_turns-returns-clause-lists t c =
 pub list_turns-returns-clause-placed : goal.list_turns-returns-clause-placed
 list_turns-returns-clause-placed t c = c.in_ok-found.ensures.placed (both_placed c.args.path.now c.loop-turn.turn c.loop-turn.sorted c.loop-turn.invariant.placed)
 
+pub list_turns-returns-clause-made : goal.list_turns-returns-clause-made
+list_turns-returns-clause-made t c =
+    let a = c.args in
+    let l = c.loop-turn in
+    have_added (AreMade (makes_on a.on.now a.frame.now a.path.now (tree.Iterate (rule_of a.body.now)))) l.sorted c.in_ok-found.found.items
+    c.in_ok-found.ensures.chosen (l.invariant.made.done_made, l.invariant.made.front_made)
+
 pub list_next-loop-i-init : goal.list_next-loop-i-init
 list_next-loop-i-init t c =
     let a = c.args in
@@ -436,6 +639,7 @@ list_next-loop-i-init t c =
         have_weaker (IsPlacedBefore a.path.now a.number) (IsPlacedBefore a.path.now (a.number + 1)) (before_later a.path.now a.number) a.done.items g,
         subst (HaveChoices (IsPlacedBefore a.path.now (a.number + 1))) (sym c.new.ensures.items) tt,
       );
+      made = λ total left left_then steps so_far. next_made_none (shape_on a.on.now) (state_on a.on.now) total left left_then a.done.items a.front.now c.new.result.items c.new.ensures.items so_far;
     }
 
 pub list_next-list_one-requires : goal.list_next-list_one-requires
@@ -455,6 +659,11 @@ list_next-loop-i-preserved t c =
           c.in_ok-list_one.ensures.placed
           (each_at (λ f. IsPlacedBefore a.path.now a.number f.choices.items) a.front.now l.i c.index-front-i.result c.loop-i-test.true c.index-front-i.is h)
           (l.invariant.placed h g);
+      made = λ total left left_then steps so_far.
+          c.in_ok-list_one.ensures.made total left left_then steps
+          (each_at (λ f. AreMade total f.choices.items) a.front.now l.i c.index-front-i.result c.loop-i-test.true c.index-front-i.is so_far.front_made)
+          (each_at (HasSet (shape_on a.on.now) (MakesOfAll (state_on a.on.now) total left)) a.front.now l.i c.index-front-i.result c.loop-i-test.true c.index-front-i.is so_far.front_on)
+          (l.invariant.made total left left_then steps so_far);
     }
 
 pub list_next-returns-clause-next : goal.list_next-returns-clause-next
@@ -479,9 +688,17 @@ pub list_one-returns-in_ok-sort_part-in-Set-clause-placed : goal.list_one-return
 list_one-returns-in_ok-sort_part-in-Set-clause-placed t c = λ here both.
     c.in_ok-sort_part-in-Set.ensures.sorts.placed c.args.path.now c.args.number here c.in_ok-part-in-Set.ensures.placed both
 
+pub list_one-returns-in_ok-sort_part-in-Set-clause-made : goal.list_one-returns-in_ok-sort_part-in-Set-clause-made
+list_one-returns-in_ok-sort_part-in-Set-clause-made t c = λ total left left_then steps own on so_far.
+    let a = c.args in
+    let upon = c.in_ok-part-in-Set.ensures.upon in
+    one_made (shape_on a.on.now) a.turns (state_on a.on.now) (here_on a.on.now a.frame.now (at a.path.now a.number) (rule_of a.rule.now))
+    (made_on a.on.now a.frame.now (at a.path.now a.number) (rule_of a.rule.now)) total left left_then steps a.one.now c.in-Set.so_far c.in-Set.is upon.state upon.fired own on
+    c.in_ok-part-in-Set.part.items a.sorted.now c.sort_part.new.sorted upon.made upon.lists c.in_ok-sort_part-in-Set.ensures.sorts so_far
+
 pub list_upon-returns-in_err-found-clause-upon : goal.list_upon-returns-in_err-found-clause-upon
 list_upon-returns-in_err-found-clause-upon t c =
-    record { state = shown c.upon-view.result; fired = λ U stands consistent. c.upon-view.ensures.fired U stands consistent; lists = search rules }
+    record { state = shown c.upon-view.result; fired = λ U stands consistent. c.upon-view.ensures.fired U stands consistent; lists = search rules; made = search rules }
 
 pub list_upon-returns-clause-upon : goal.list_upon-returns-clause-upon
 list_upon-returns-clause-upon t c =
@@ -492,4 +709,6 @@ list_upon-returns-clause-upon t c =
       fired = λ U stands consistent. c.upon-view.ensures.fired U stands consistent;
       lists = subst (λ sh. Lists sh (λ s. (meaning sh a.on.now.turns (picked s) (rule_of a.rule.now) (readings_of sh a.frame.now) (places_of sh a.frame.now) (shown v) (at a.path.now a.number)).result) c.in_ok-found.found.items)
           c.upon-view.ensures.signature c.in_ok-found.ensures.lists;
+      made = subst (λ sh. HaveChoices (AreMade (λ s. made sh a.on.now.turns (picked s) (rule_of a.rule.now) (readings_of sh a.frame.now) (places_of sh a.frame.now) (shown v) (at a.path.now a.number))) c.in_ok-found.found.items)
+          c.upon-view.ensures.signature c.in_ok-found.ensures.made;
     }
