@@ -1,13 +1,13 @@
 -- What a refusal says, and how the outcomes of each kind of rule differ.
 --     refuses_many, refuses_on      that there are many; and at the exit of a `?`
---     one_differs                   a list with one outcome
+--     one_differs, ok_differs       a list with one outcome; those of a part differ in the whole
 --     joined_*                      parts beside each other
 --     picked_*                      a candidate that is taken, and those before it
 --     sorted_*                      the next part, upon a set so far
 --     front_*                       the sets so far, while one after the other goes on
 --     closed_*                      the end
-use Rattle.std.proofs.Common.{◌≡◌, ℕ, ◌+◌, ◌<◌, ◌≤◌, List, [], ◌∷◌, ◌++◌, length, drop, get_or, sym, ap, subst, ◌∙◌, arith, append_assoc, append-nil}
-use Rattle.std.specs.Prelude.{Result as Returned, Ok, Err, IfErr}
+use Rattle.std.proofs.Common.{Vec, Global, ◌≡◌, ℕ, ◌+◌, ◌<◌, ◌≤◌, List, [], ◌∷◌, ◌++◌, length, drop, get_or, sym, ap, subst, ◌∙◌, arith, append_assoc, append-nil}
+use Rattle.std.specs.Prelude.{Result as Returned, Ok, Err, IfOk, IfErr}
 use Rattle.std.specs.Result.{IsErrAnd}
 use Rattle.std.proofs.lemmas.List.{drop_all, drop_more}
 use Rattle.asm_meaning.specs.Yields.{Path, at}
@@ -21,7 +21,7 @@ use Rattle.asm_explore.specs.Lists.{Each, HaveChoices}
 use Rattle.asm_explore.specs.Sequences.{BothHave, both_ways, AllDiffer}
 use Rattle.asm_explore.specs.Ways.{ways_of, AreSomeOf, behind, all_joined, with_choice}
 use Rattle.asm_explore.proofs.Carried.{each_picked, each_both, each_sorted}
-use Rattle.asm_explore.proofs.Differing.{different_append, different_parts, different_some, different_swapped, joined_differ, replaced_differ, picked_differ, picked_before}
+use Rattle.asm_explore.proofs.Differing.{different_append, different_parts, different_some, different_above, different_swapped, joined_differ, replaced_differ, picked_differ, picked_before}
 use Rattle.asm_explore.proofs.Ways.{some_behind, some_each, have_ways, ways_have, joined_each}
 
 -- ---- that there are many
@@ -77,6 +77,12 @@ module _ (p : Path) where
   one_differs [] low = tt
   one_differs (f ∷ []) low = (tt, tt)
   one_differs (f ∷ g ∷ fs) low = absurd (omega (arith, low))
+
+  -- those of a part differ in the whole
+  pub ok_differs : {E : Type 0} (k : ℕ) (r : Returned (Vec Found Global) E) → IfOk r (λ fs. AreDifferent (at p k) (ways_of fs.items))
+      → IfOk r (λ fs. AreDifferent p (ways_of fs.items))
+  ok_differs k (Ok fs) h = different_above p k (ways_of fs.items) h
+  ok_differs k (Err e) h = tt
 
   pub joined_differs : (k : ℕ) (left right found : List Found) → AreDifferent (at p k) (ways_of left) → AreDifferent p (ways_of right)
       → AreSomeOf (ways_of found) (all_joined (ways_of left) (ways_of right)) → AreDifferent p (ways_of found)

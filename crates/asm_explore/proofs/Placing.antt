@@ -102,6 +102,9 @@ from_part p k cs ds h =
     both_in p (λ i. i ≡ k) (λ i. k + 1 ≤ i) (λ i. k ≤ i) (λ i j is low same. omega (arith, is, low, same)) (λ i is. omega (arith, is)) (λ i low. omega (arith, low))
     cs ds (part_in p (λ i. i ≡ k) k (λ i. k) cs h)
 
+pub placed_both : (p : Path) (k : ℕ) (cs ds : List Choice) → IsPlaced (at p k) cs → IsPlacedFrom p (k + 1) ds → IsPlaced p (cs ++ ds)
+placed_both p k cs ds h g = placed_in p (λ i. k ≤ i) (cs ++ ds) (from_part p k cs ds h g)
+
 pub from_later : (p : Path) (k : ℕ) (cs : List Choice) → IsPlacedFrom p (k + 1) cs → IsPlacedFrom p k cs
 from_later p k = in_weaker p (λ i. k + 1 ≤ i) (λ i. k ≤ i) (λ i low. omega (arith, low))
 
