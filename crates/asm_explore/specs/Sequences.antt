@@ -9,7 +9,7 @@
 --     AllDiffer p fs sorted   each two of these and those take different candidates
 --     Underway                what stays true from part to part: each situation has its whole outcome among those that are done, or
 --                             the set so far among those that go on
-use Rattle.std.specs.Prelude.{◌≡◌, ℕ, ◌+◌, Bool, false, cond, not, ◌&&◌, ◌||◌, List, ◌⊎◌, ◌++◌, Result as Returned, IfOk}
+use Rattle.std.specs.Prelude.{◌≡◌, ℕ, ◌+◌, Bool, false, cond, not, ◌&&◌, ◌||◌, List, ◌⊎◌, ◌++◌, Result as Returned, IfOk, IfErr}
 use Rattle.std.proofs.Common.{Vec, Global}
 use Rattle.asm_state.specs.Location.{State}
 use Rattle.asm_state.specs.Signature.{Shape, count_of}
@@ -22,10 +22,10 @@ use Rattle.asm_explore.specs.declared.found.Found.{Found}
 use Rattle.asm_explore.specs.declared.refusal.Refusal.{Refusal}
 use Rattle.asm_explore.specs.declared.sorting.Sorted.{Sorted}
 use Rattle.asm_explore.specs.Lists.{Situation, Each, AnyOf, AreTaken, Shows, Shown, HaveChoices, IsCounted, AreCounted, IsSound, Lists, Grows}
-use Rattle.asm_explore.specs.Made.{AreMade}
+use Rattle.asm_explore.specs.Made.{AreMade, IsWay}
 use Rattle.asm_explore.specs.Placed.{IsPlaced, IsPlacedBefore}
 use Rattle.asm_explore.specs.Ways.{ways_of, AreSomeOf, behind}
-use Rattle.asm_explore.specs.Crowds.{AreDifferent}
+use Rattle.asm_explore.specs.Crowds.{AreDifferent, Refuses}
 
 abbrev pub ends : (turns : Bool) → UpdateSet → Bool
 ends turns V = (turns && is_none V) || not (is_consistent V)
@@ -124,12 +124,14 @@ pub record SortsAll (shape : Shape) (turns : Bool) (so_far : Entries) (choices :
 
 -- ---- what a part yields upon a set so far
 
--- what a rule yields in each situation, and which choices it makes, in the state in which a set so far has been fired
-pub record Upon (shape : Shape) (A : State) (so_far : Entries) (here : Situation → State → Result) (makes : Situation → State → List Choice) (part : Returned (Vec Found Global) Refusal) : Type 0 where
+-- what a rule at the path p yields in each situation, and which choices it makes, in the state in which a set so far has been fired
+pub record Upon (shape : Shape) (A : State) (so_far : Entries) (limit : ℕ) (p : Path) (here : Situation → State → Result) (makes : Situation → State → List Choice)
+    (part : Returned (Vec Found Global) Refusal) : Type 0 where
   pub state : State
   pub fired : (U : UpdateSet) → Stands shape so_far U → IsConsistent U → state ≡ fire A U
   pub lists : IfOk part (λ fs. Lists shape (λ s. here s state) fs.items)
   pub made : IfOk part (λ fs. HaveChoices (AreMade (λ s. makes s state)) fs.items)
+  pub refuses : IfErr part (Refuses limit (λ q. IsWay p (λ s. makes s state)))
 
 -- what is left is what the next part yields, and what is left after it
 abbrev pub StepsTo : (turns : Bool) → (left here left_then : Situation → State → Result) → Type 0
