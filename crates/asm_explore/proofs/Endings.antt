@@ -127,3 +127,8 @@ crowd_weaker P Q (ended.Bad bad) f h = tt
 crowd_weaker P Q ended.TooManyStates f h = tt
 crowd_weaker P Q (ended.TooManyOutcomes crowd) f h = f crowd h
 crowd_weaker P Q ended.Memory f h = tt
+
+-- what is said of what is answered, said otherwise
+pub errs_or : {T E : Type 0} (P Q : T → Type 0) (r : Returned T E) → ((x : T) → P x → Q x) → IfOk r P → IfOk r Q
+errs_or P Q (Ok x) f said = f x said
+errs_or P Q (Err e) f said = tt

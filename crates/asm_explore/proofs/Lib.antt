@@ -28,4 +28,9 @@ pub mod CodeLists
 pub mod CodeRules
 pub mod Yielded
 pub mod Choosing
+pub mod MadeChoices
+pub mod MadeRules
+pub mod Makings
+pub mod MadeInOrder
+pub mod Refused
 pub mod Specifications

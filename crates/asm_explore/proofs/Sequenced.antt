@@ -6,11 +6,11 @@
 --     next_none, next_more, next_all            how the first outcomes so far go on
 --     begun, underway_next, ended               a sequence from part to part
 --     closed, all_exhausted                     its end
-use Rattle.std.proofs.Common.{◌≡◌, ℕ, ◌+◌, ◌<◌, ◌≤◌, Bool, true, false, cond, not, ◌&&◌, ◌||◌, List, [], ◌++◌, length, take, get_or, ◌⊎◌, inl, inr, refl, sym, ap, subst, ◌∙◌, arith}
+use Rattle.std.proofs.Common.{◌≡◌, ℕ, ◌+◌, ◌<◌, ◌≤◌, Bool, true, false, cond, not, ◌&&◌, ◌||◌, List, [], ◌∷◌, ◌++◌, length, take, get_or, ◌⊎◌, inl, inr, refl, sym, ap, subst, ◌∙◌, arith}
 use Rattle.std.specs.Prelude.{Option, Some, None, is_some, IfNone, IfSome}
 use Rattle.std.proofs.Math.Bool.{or-true}
 use Rattle.std.proofs.lemmas.Bool.{false_from_ne_true}
-use Rattle.std.proofs.lemmas.List.{take_all}
+use Rattle.std.proofs.lemmas.List.{take_all, take_more}
 use Rattle.asm_state.specs.Location.{Proper, Stray, State}
 use Rattle.asm_state.specs.Signature.{Shape, count_of}
 use Rattle.asm_state.specs.Updates.{UpdateSet, IsConsistent, is_consistent, is_none, none, merge, fire, Fault, Clash, Outside, IsFirstFault}
@@ -32,7 +32,8 @@ use Rattle.asm_explore.specs.declared.updates.Updates.{Updates}
 use Rattle.asm_explore.specs.Lists.{Situation, Each, AreTaken, Shows, IsShownBy, Shown, HaveChoices, IsCounted, AreCounted, IsSound, Lists, Grows}
 use Rattle.asm_explore.specs.Placed.{IsPlaced, IsPlacedBefore}
 use Rattle.asm_explore.specs.Ways.{ways_of, AreSomeOf, behind}
-use Rattle.asm_explore.specs.Sequences.{ends, step_of, BothHave, both_ways, IsTold, Merges, ComesAfter, IsOn, Underway, Ends, GoesOn, Sorts, SortsAll, StepsTo, Next, NextOne, Adds, Exhausts}
+use Rattle.asm_explore.specs.Sequences.{ends, step_of, BothHave, both_ways, IsTold, Merges, ComesAfter, IsOn, Underway, Ends, GoesOn, Sorts, IsIn, ComesOf, SortsAll, StepsTo, Next, NextOne, Adds, Exhausts}
+use Rattle.asm_explore.proofs.Elements.{each_self, any_first, any_last}
 use Rattle.asm_explore.proofs.ListLemmas.{each_weaker, each_take_more, any_take_more, grows_each, grows_any, taken_both}
 use Rattle.asm_explore.proofs.Placing.{before_none, before_part, have_weaker, placed_in}
 use Rattle.asm_explore.proofs.Ways.{some_nil, ways_take, mapped_take, step_first, step_last, step_kept}
@@ -147,11 +148,15 @@ module _ (shape : Shape) (turns : Bool) (so_far : Entries) (choices : List Choic
     shown = λ U x rest stands h. absurd h;
     done_sound = λ total o hyp each h. h;
     more_sound = λ A total left o hyp each h. h;
+    more_from = all_inl (each_self old.more.items);
     placed = λ p k here each h. h;
     chosen = some_nil (both_ways old);
     done_chosen = some_nil (ways_of old.done.items);
     more_chosen = some_nil (ways_of old.more.items);
   }
+    where
+      all_inl : Each (λ f. IsIn f old.more.items) old.more.items → Each (λ f. IsIn f old.more.items ⊎ ComesOf shape turns so_far choices (take 0 part) f) old.more.items
+      all_inl = each_weaker (λ f. IsIn f old.more.items) (λ f. IsIn f old.more.items ⊎ ComesOf shape turns so_far choices (take 0 part) f) (λ f h. inl h) old.more.items
 
   pub sorted_all : (i : ℕ) (old new : Sorted) → length part ≤ i → SortsAll shape turns so_far choices (take i part) old new → SortsAll shape turns so_far choices part old new
   sorted_all i old new past = subst (λ fs. SortsAll shape turns so_far choices fs old new) (take_all i part past)
@@ -159,6 +164,21 @@ module _ (shape : Shape) (turns : Bool) (so_far : Entries) (choices : List Choic
   -- where the sequence ends with the next one, or goes on with it
   module _ (i : ℕ) (q : Found) (old mid new : Sorted) (low : i < length part) (is : q ≡ get_or part i q) (so_on : SortsAll shape turns so_far choices (take i part) old mid)
       (joined : Found) (chosen : joined.choices.items ≡ choices ++ q.choices.items) (counted : IsCounted (count_of shape) joined.answer) where
+    in_last : IsIn q (take (i + 1) part)
+    in_last = subst (IsIn q) (sym (take_more part i q low)) (any_last (λ g. g ≡ q) (take i part) (get_or part i q ∷ []) (inl (sym is)))
+
+    in_first : (f : Found) → IsIn f (take i part) → IsIn f (take (i + 1) part)
+    in_first f h = subst (IsIn f) (sym (take_more part i q low)) (any_first (λ g. g ≡ f) (take i part) (get_or part i q ∷ []) h)
+
+    still_from : (f : Found) → IsIn f old.more.items ⊎ ComesOf shape turns so_far choices (take i part) f → IsIn f old.more.items ⊎ ComesOf shape turns so_far choices (take (i + 1) part) f
+    still_from f (inl h) = inl h
+    still_from f (inr h) = inr (record { one = h.one; among = in_first h.one h.among; chosen = h.chosen; goes_on = h.goes_on })
+
+    from_before : Each (λ f. IsIn f old.more.items ⊎ ComesOf shape turns so_far choices (take (i + 1) part) f) mid.more.items
+    from_before =
+        each_weaker (λ f. IsIn f old.more.items ⊎ ComesOf shape turns so_far choices (take i part) f) (λ f. IsIn f old.more.items ⊎ ComesOf shape turns so_far choices (take (i + 1) part) f)
+        still_from mid.more.items so_on.more_from
+
     with_end : Ends shape turns so_far q joined → Grows mid.done.items joined new.done.items → new.more.items ≡ mid.more.items → SortsAll shape turns so_far choices (take (i + 1) part) old new
     with_end last grows same = record {
       done_counted = λ h. grows_each (λ f. IsCounted (count_of shape) f.answer) mid.done.items new.done.items joined grows (so_on.done_counted h) counted;
@@ -176,6 +196,7 @@ module _ (shape : Shape) (turns : Bool) (so_far : Entries) (choices : List Choic
       more_sound = λ A total left o hyp each h.
           let parts = each_take_more (IsSound shape o) part i q low is each in
           subst (Each (IsOn shape A total left)) (sym same) (so_on.more_sound A total left o hyp parts.0 h);
+      more_from = subst (Each (λ f. IsIn f old.more.items ⊎ ComesOf shape turns so_far choices (take (i + 1) part) f)) (sym same) from_before;
       placed = λ p k here each h.
           let parts = each_take_more (λ f. IsPlaced (at p k) f.choices.items) part i q low is each in
           let both = so_on.placed p k here parts.0 h in (
@@ -221,6 +242,8 @@ module _ (shape : Shape) (turns : Bool) (so_far : Entries) (choices : List Choic
           let here = hyp s halves.0 in
           let goes = on.shows here.0 (o s) here.1 (parts.1 s halves.1) in
           (merge here.0 goes.0, goes.3, here.2 goes.0 goes.1 goes.2));
+      more_from = grows_each (λ f. IsIn f old.more.items ⊎ ComesOf shape turns so_far choices (take (i + 1) part) f) mid.more.items new.more.items joined grows from_before
+          (inr (record { one = q; among = in_last; chosen = chosen; goes_on = on }));
       placed = λ p k here each h.
           let parts = each_take_more (λ f. IsPlaced (at p k) f.choices.items) part i q low is each in
           let both = so_on.placed p k here parts.0 h in (

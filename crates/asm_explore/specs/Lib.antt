@@ -6,10 +6,11 @@ pub mod Placed
 pub mod Ways
 pub mod Lists
 pub mod Written
-pub mod Explored
 pub mod Crowds
 pub mod Made
+pub mod Explored
 pub mod Sequences
+pub mod MadeSoFar
 pub mod Search
 pub mod Ends
 pub mod Reached
