@@ -2,9 +2,10 @@
 --     nothing_over        a view with the empty set over a state shows the state
 --     step_is             what the code of the main rule yields is the step of the specification
 --     agrees_nothing      where no name is bound
+--     refused_listed      a refusal of the main rule's outcomes is one of the step's
 --     same_answer         what an answer says of some conditions it says of others that are the same, and what it says of too many outcomes
 --                         is said otherwise
-use Rattle.std.proofs.Common.{◌≡◌, ℕ, Bool, List, [], refl, ap, subst, ◌∙◌}
+use Rattle.std.proofs.Common.{◌≡◌, ℕ, Bool, List, [], refl, ap, subst, ◌∙◌, Vec, Global, sym}
 use Rattle.asm_state.specs.Location.{State}
 use Rattle.asm_state.specs.Signature.{Shape, state_of}
 use Rattle.asm_state.specs.Updates.{UpdateSet, IsConsistent, none, fire}
@@ -22,6 +23,18 @@ use Rattle.asm_explore.specs.declared.answer.Finding.{Finding}
 use Rattle.asm_explore.specs.declared.answer.Finding.TheVariants as finding
 use Rattle.asm_explore.specs.declared.refusal.Crowd.{Crowd}
 use Rattle.asm_explore.proofs.Sequenced.{none_consistent}
+use Rattle.std.specs.Prelude.{Result as Returned, Ok, Err}
+use Rattle.std.specs.Result.{IsErrAnd}
+use Rattle.asm_explore.specs.declared.found.Choice.{Choice}
+use Rattle.asm_explore.specs.declared.found.Found.{Found}
+use Rattle.asm_explore.specs.declared.refusal.Refusal.{Refusal}
+use Rattle.asm_explore.specs.Crowds.{Refuses}
+use Rattle.asm_explore.specs.Lists.{Situation}
+use Rattle.asm_explore.specs.Made.{AreMade, IsWay}
+use Rattle.asm_explore.specs.Placed.{AreApart}
+use Rattle.asm_explore.specs.Steps.{IsListed}
+use Rattle.asm_explore.proofs.MadeChoices.{made_same}
+use Rattle.asm_explore.proofs.Refused.{refuses_weaker}
 
 pub nothing_over : (signature shape : Shape) (set : Entries) (contents : List Value) (A : State) → signature ≡ shape → Stands signature set none
     → ((U : UpdateSet) → Stands signature set U → IsConsistent U → A ≡ fire (state_of signature contents) U) → A ≡ state_of shape contents
@@ -30,6 +43,17 @@ nothing_over signature shape set contents A same stands fired =
 
 pub agrees_nothing : (program : Program) (rs : List Reading) → Agrees program [] nothing_bound rs
 agrees_nothing program rs = record { bound = λ x i is. cc; free = λ x is. refl }
+
+-- a refusal to list the outcomes of a rule at the top is one to list those of a step
+pub refused_listed : (shape : Shape) (specification : Specification) (turns : ℕ) (makes : State → Situation → List Choice) (limit : ℕ) (A : State)
+    (returned : Returned (Vec Found Global) Refusal) (e : Refusal) → IsErrAnd returned (λ again. again ≡ e) → (m : Situation → List Choice) → ((s : Situation) → m s ≡ makes A s)
+    → Refuses limit (λ p. IsWay [] m) e → IsListed shape specification turns makes limit A returned
+refused_listed shape specification turns makes limit A (Ok fs) e same m is refuses = absurd same
+refused_listed shape specification turns makes limit A (Err again) e same m is refuses = record {
+  step = tt;
+  refuses = subst (Refuses limit (λ p cs. AreApart cs × AreMade (makes A) cs)) (sym same)
+      (refuses_weaker limit (IsWay [] m) (λ cs. AreApart cs × AreMade (makes A) cs) (λ cs h. (h.placed.apart, made_same m (makes A) is cs h.made)) e refuses);
+}
 
 module _ (specification : Specification) (turns : ℕ) (crowds throngs : State → Crowd → Type 0) (f : (A : State) (crowd : Crowd) → crowds A crowd → throngs A crowd) (steps limit : ℕ) where
   claims_more : (right rests within : State → Bool) (states : ℕ) (finding : Finding)

@@ -1,5 +1,5 @@
 //! Specifications are machines.
-ghost use Rattle.std.specs.Prelude.{◌≡◌, ◌<◌, length, IfOk, option_map};
+ghost use Rattle.std.specs.Prelude.{◌≡◌, ◌<◌, length, option_map};
 ghost use Rattle.asm_state.specs.Signature.{count_of, state_of};
 ghost use Rattle.asm_syntax.specs.Views.{spec_of};
 ghost use Rattle.asm_check.specs.Shapes.{shape_of};
@@ -9,7 +9,7 @@ ghost use Rattle.asm_eval.specs.RuleMeaning.{IsSoundTest};
 ghost use Rattle.asm_eval.specs.RuleViews.{rule_of};
 ghost use Rattle.asm_explore.specs.Conditions.{holds_in, IsSpecified};
 ghost use Rattle.asm_explore.specs.Made.{made_in};
-ghost use Rattle.asm_explore.specs.Steps.{IsStep};
+ghost use Rattle.asm_explore.specs.Steps.{IsListed};
 
 use crate::exploration::Exploration;
 use crate::found::Found;
@@ -47,7 +47,8 @@ fn step_outcomes(
     requires sound { IsSpecified specified.now }
     requires whole { length state.now ≡ count_of (shape_of (spec_of specified.now.checked.now.spec)) }
     ensures { let s = spec_of specified.now.checked.now.spec in
-        IfOk result (λ fs. IsStep (shape_of s) (specification_of s) specified.now.turns (state_of (shape_of s) state.now) fs.items) }
+        let makes = made_in (shape_of s) specified.now.turns (rule_of specified.now.code.now) in
+        IsListed (shape_of s) (specification_of s) specified.now.turns makes specified.now.limit (state_of (shape_of s) state.now) result }
 {
     resolving_laws();
     let signature = specified.checked.signature();
