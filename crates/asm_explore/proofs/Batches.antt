@@ -5,7 +5,7 @@
 --     each_mapped, each_between      what holds of all nodes holds of these
 --     same_node                      one node stands at a place
 use Rattle.std.proofs.Common.{◌≡◌, ℕ, zero, suc, ◌+◌, ◌-◌, ◌<◌, List, [], ◌∷◌, ◌++◌, map, take, drop, length, get_or, refl, sym, ap, subst, ◌∙◌, arith, Vec, Global}
-use Rattle.std.specs.Prelude.{slice_get, Some, Result as Returned, IfOk}
+use Rattle.std.specs.Prelude.{slice_get, Some, Result as Returned}
 use Rattle.std.proofs.lemmas.List.{take_more, length-drop}
 use Rattle.std.proofs.lemmas.Option.{get_or_from_slice_get, slice_get_within}
 use Rattle.asm_state.specs.Location.{State}
@@ -17,7 +17,7 @@ use Rattle.asm_explore.specs.declared.found.Found.{Found}
 use Rattle.asm_explore.specs.declared.refusal.Refusal.{Refusal}
 use Rattle.asm_explore.specs.Kept.{Node}
 use Rattle.asm_explore.specs.Lists.{Situation, Each}
-use Rattle.asm_explore.specs.Steps.{IsStep, IsListed, AreListed}
+use Rattle.asm_explore.specs.Steps.{IsListed, AreListed}
 use Rattle.asm_explore.proofs.Kept.{get_or_drop}
 
 pub next_in : (nodes : List Node) (first i number : ℕ) (n : Node) → first + i ≡ number → slice_get nodes number ≡ Some n

@@ -5,7 +5,6 @@
 --     alive_whole, quiet_none, first_quiet      what the list says once the search has ended
 use Rattle.std.proofs.Common.{◌≡◌, ℕ, zero, suc, ◌+◌, ◌<◌, ◌≤◌, Bool, true, List, [], ◌∷◌, ◌++◌, length, take, drop, get_or, ◌⊎◌, inl, inr, refl, sym, ap, subst, ◌∙◌, arith}
 use Rattle.std.specs.Prelude.{slice_get, Some}
-use Rattle.std.proofs.lemmas.Bool.{cases_lt}
 use Rattle.std.proofs.lemmas.List.{take_all, take_more, take-append-le, take-append-drop}
 use Rattle.std.proofs.lemmas.Option.{get_or_from_slice_get, slice_get_within}
 use Rattle.asm_state.specs.Location.{State}
@@ -14,10 +13,10 @@ use Rattle.asm_meaning.specs.Run.{Specification}
 use Rattle.asm_explore.specs.Kept.{Node}
 use Rattle.asm_explore.specs.Lists.{Each}
 use Rattle.asm_explore.specs.Quiet.{AreJust, IsLookedAt, IsRested, RestsSo, IsFirstQuiet}
-use Rattle.asm_explore.specs.Reached.{state_at, Extends, Rises, IsLooked, IsSearched}
-use Rattle.asm_explore.specs.Search.{IsQuiet, IsDeadlock, HoldsBefore, HoldsAlways}
+use Rattle.asm_explore.specs.Reached.{state_at, Rises, IsLooked}
+use Rattle.asm_explore.specs.Search.{IsQuiet, IsDeadlock, HoldsBefore}
 use Rattle.asm_explore.proofs.ListLemmas.{each_append, each_weaker}
-use Rattle.asm_explore.proofs.Reaching.{holds_before, holds_always, looked_whole}
+use Rattle.asm_explore.proofs.Reaching.{holds_before, looked_whole}
 
 module _ {X : Type 0} (P : X → Type 0) where
   pub just_more : (k : ℕ) (xs : List X) (ks : List ℕ) (x : X) → ¬ (P x) → AreJust P k xs ks → AreJust P k (xs ++ x ∷ []) ks

@@ -1,4 +1,4 @@
-use Rattle.std.proofs.Common.{◌≡◌, ◌<◌, ◌≤◌, [], ◌∷◌, ◌++◌, drop, ◌-◌, ◌+◌, suc, true, false, cond, Some, rules, sym, ap, subst, ◌∙◌, arith, length, map, refl}
+use Rattle.std.proofs.Common.{◌≡◌, ◌<◌, ◌≤◌, [], ◌++◌, drop, ◌-◌, ◌+◌, suc, true, false, cond, Some, rules, sym, ap, subst, ◌∙◌, arith, length, map, refl}
 use Rattle.std.specs.Prelude.{option_map, IfErr}
 use Rattle.asm_state.specs.Signature.{count_of}
 use Rattle.asm_state.specs.Words.{value_of_code}

@@ -1,9 +1,9 @@
-use Rattle.std.proofs.Common.{◌≡◌, ◌<◌, ◌∙◌, refl, sym, subst, arith}
+use Rattle.std.proofs.Common.{◌≡◌, ◌∙◌, refl, sym, subst, arith}
 use Rattle.std.proofs.lemmas.Bool.{false≢true}
 use Rattle.asm_state.specs.Signature.{count_of, state_of}
 use Rattle.asm_meaning.specs.Yields.{Result}
 use Rattle.asm_explore.specs.declared.found.Found.{Found}
-use Rattle.asm_explore.specs.Lists.{Situation, AreTaken, IsCounted, IsSound, Shows}
+use Rattle.asm_explore.specs.Lists.{Situation, IsCounted, IsSound, Shows}
 use Rattle.asm_explore.specs.Placed.{AreApart}
 use Rattle.asm_explore.specs.Reached.{steps_from}
 use Rattle.asm_explore.specs.Search.{LeadsOn}

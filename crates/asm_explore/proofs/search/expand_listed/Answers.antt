@@ -1,5 +1,4 @@
-use Rattle.std.proofs.Common.{◌≡◌, [], ap, sym, subst, refl}
-use Rattle.std.specs.Prelude.{Some, slice_get}
+use Rattle.std.proofs.Common.{◌≡◌, [], sym, subst}
 use Rattle.asm_state.specs.Contents.{IsStateOf}
 use Rattle.asm_state.specs.Signature.{state_of}
 use Rattle.asm_explore.specs.declared.explored.Bad.{Bad}

@@ -1,4 +1,4 @@
-use Rattle.std.proofs.Common.{◌<◌, ◌≤◌, ◌≡◌, sym, subst, arith}
+use Rattle.std.proofs.Common.{◌<◌, ◌≡◌, sym, subst, arith}
 use Rattle.std.specs.Prelude.{slice_get, Some}
 use Rattle.asm_explore.specs.declared.explored.Bad.{Bad}
 use Rattle.asm_explore.specs.Kept.{Node}
