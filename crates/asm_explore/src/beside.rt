@@ -209,11 +209,10 @@ fn join_into(
     } = right;
     let choices = choices_into(alloc, first, then)?;
     let answer = beside_into(signature, left, right)?;
-    let hash = hash_of(&answer);
     Ok(Found {
         choices,
         answer,
-        hash,
+        hash: 0,
     })
 }
 
