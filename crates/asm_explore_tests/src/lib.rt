@@ -7,6 +7,10 @@
 #![tactic(auto)]
 
 #[cfg(test)]
+mod brute;
+#[cfg(test)]
+mod brute_rows;
+#[cfg(test)]
 mod conditions;
 #[cfg(test)]
 mod limits;
