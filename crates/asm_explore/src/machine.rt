@@ -1,9 +1,10 @@
 //! What is explored.
-ghost use Rattle.std.specs.Prelude.{◌≡◌, ℕ, Bool, length, IfOk};
+ghost use Rattle.std.specs.Prelude.{◌≡◌, ℕ, Bool, List, length, IfOk};
 ghost use Rattle.asm_state.specs.Location.{State as Contents};
 ghost use Rattle.asm_state.specs.Signature.{Shape, count_of, state_of};
 ghost use Rattle.asm_meaning.specs.Run.{Specification};
-ghost use Rattle.asm_explore.specs.Lists.{Each};
+ghost use Rattle.asm_explore.specs.declared.found.Choice.{Choice};
+ghost use Rattle.asm_explore.specs.Lists.{Situation, Each};
 ghost use Rattle.asm_explore.specs.Steps.{AreListed};
 
 use crate::found::Found;
@@ -23,6 +24,12 @@ pub trait Machine {
 
     ghost shape: { Self → Shape };
 
+    // which choices a step from a state makes
+    ghost made: { Self → Contents → Situation → List Choice };
+
+    // how many outcomes of a step may be listed
+    ghost limit: { Self → ℕ };
+
     // which states are right
     ghost right: { Self → Contents → Bool };
 
@@ -41,7 +48,7 @@ pub trait Machine {
     fn outcomes(&self, alloc: Global, states: &[State]) -> Result<Vec<Listed>, AllocError>
         requires sound { is_sound self.now }
         requires whole { Each (λ s. length s ≡ count_of (shape self.now)) states.now }
-        ensures { IfOk result (λ all. AreListed (shape self.now) (specification self.now) (turns self.now) states.now all.items) };
+        ensures { IfOk result (λ all. AreListed (shape self.now) (specification self.now) (turns self.now) (made self.now) (limit self.now) states.now all.items) };
 
     /// Whether the state is right.
     fn is_right(&self, alloc: Global, state: &State) -> bool

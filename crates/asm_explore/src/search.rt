@@ -391,7 +391,7 @@ fn next_states<M: Machine>(
 fn listed<M: Machine>(alloc: Global, machine: &M, states: &[State]) -> Result<Vec<Listed>, Halt>
     requires machine { M.is_sound machine.now }
     requires whole { Each (λ s. length s ≡ count_of (M.shape machine.now)) states.now }
-    ensures listed { IfOk result (λ all. AreListed (M.shape machine.now) (M.specification machine.now) (M.turns machine.now) states.now all.items) }
+    ensures listed { IfOk result (λ all. AreListed (M.shape machine.now) (M.specification machine.now) (M.turns machine.now) (M.made machine.now) (M.limit machine.now) states.now all.items) }
     ensures never { IfErr result (λ h. h ≢ halt.States) }
 {
     let lists = machine.outcomes(alloc, states)?;

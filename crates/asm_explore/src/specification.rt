@@ -1,13 +1,15 @@
 //! Specifications are machines.
-ghost use Rattle.std.specs.Prelude.{◌≡◌, ◌<◌, length, IfOk, option_map};
+ghost use Rattle.std.specs.Prelude.{◌≡◌, ◌<◌, length, option_map};
 ghost use Rattle.asm_state.specs.Signature.{count_of, state_of};
 ghost use Rattle.asm_syntax.specs.Views.{spec_of};
 ghost use Rattle.asm_check.specs.Shapes.{shape_of};
 ghost use Rattle.asm_meaning.specs.Declarations.{specification_of};
 ghost use Rattle.asm_eval.specs.CodeViews.{code_of};
 ghost use Rattle.asm_eval.specs.RuleMeaning.{IsSoundTest};
+ghost use Rattle.asm_eval.specs.RuleViews.{rule_of};
 ghost use Rattle.asm_explore.specs.Conditions.{holds_in, IsSpecified};
-ghost use Rattle.asm_explore.specs.Steps.{IsStep};
+ghost use Rattle.asm_explore.specs.Made.{made_in};
+ghost use Rattle.asm_explore.specs.Steps.{IsListed};
 
 use crate::exploration::Exploration;
 use crate::found::Found;
@@ -45,7 +47,8 @@ fn step_outcomes(
     requires sound { IsSpecified specified.now }
     requires whole { length state.now ≡ count_of (shape_of (spec_of specified.now.checked.now.spec)) }
     ensures { let s = spec_of specified.now.checked.now.spec in
-        IfOk result (λ fs. IsStep (shape_of s) (specification_of s) specified.now.turns (state_of (shape_of s) state.now) fs.items) }
+        let makes = made_in (shape_of s) specified.now.turns (rule_of specified.now.code.now) in
+        IsListed (shape_of s) (specification_of s) specified.now.turns makes specified.now.limit (state_of (shape_of s) state.now) result }
 {
     resolving_laws();
     let signature = specified.checked.signature();
@@ -66,6 +69,10 @@ impl<'a> Machine for Specified<'a> {
     ghost turns = { λ m. m.turns };
 
     ghost shape = { λ m. shape_of (spec_of m.checked.now.spec) };
+
+    ghost made = { λ m. made_in (shape_of (spec_of m.checked.now.spec)) m.turns (rule_of m.code.now) };
+
+    ghost limit = { λ m. m.limit };
 
     ghost right = { λ m A. holds_in (shape_of (spec_of m.checked.now.spec)) m.always.now A };
 

@@ -22,7 +22,7 @@ listed-requires-clause-whole g c =
 pub index-requires : goal.index-requires
 index-requires g c =
     let a = c.args in
-    let count = listed_count (g.M.Machine.shape a.machine.now) (g.M.Machine.specification a.machine.now) (g.M.Machine.turns a.machine.now) a.states.now c.in-Ok.lists.items c.in-Ok.ensures.listed in
+    let count = listed_count (g.M.Machine.shape a.machine.now) (g.M.Machine.specification a.machine.now) (g.M.Machine.turns a.machine.now) (g.M.Machine.made a.machine.now) (g.M.Machine.limit a.machine.now) a.states.now c.in-Ok.lists.items c.in-Ok.ensures.listed in
     omega (arith, count, c.loop-k-test.true, c.in-Ok.lists.ok.0)
 
 pub expand_listed-requires-clause-shallow : goal.expand_listed-requires-clause-shallow
@@ -58,7 +58,7 @@ expand_listed-requires-clause-here g c = λ m here.
 pub expand_listed-requires-clause-step : goal.expand_listed-requires-clause-step
 expand_listed-requires-clause-step g c =
     let a = c.args in
-    listed_at (g.M.Machine.shape a.machine.now) (g.M.Machine.specification a.machine.now) (g.M.Machine.turns a.machine.now) a.states.now c.in-Ok.lists.items c.loop-k.k c.index-states-k.result c.index.result.now
+    listed_at (g.M.Machine.shape a.machine.now) (g.M.Machine.specification a.machine.now) (g.M.Machine.turns a.machine.now) (g.M.Machine.made a.machine.now) (g.M.Machine.limit a.machine.now) a.states.now c.in-Ok.lists.items c.loop-k.k c.index-states-k.result c.index.result.now
     c.in-Ok.ensures.listed c.loop-k-test.true c.index-states-k.is c.index.ensures
 
 pub returns-in-Ok-Some-clause-more : goal.returns-in-Ok-Some-clause-more
