@@ -12,6 +12,7 @@ use Rattle.asm_state.specs.Location.{State}
 use Rattle.asm_state.specs.Signature.{Shape}
 use Rattle.asm_state.specs.Updates.{UpdateSet, is_consistent, is_none, fire}
 use Rattle.asm_state.specs.declared.value.Value.{Value}
+use Rattle.asm_meaning.specs.Does.{Outcome}
 use Rattle.asm_meaning.specs.Value.{Reading, is_true}
 use Rattle.asm_meaning.specs.Yields.{Path, Result, Gives, Exhausted, at}
 use Rattle.asm_eval.specs.Readings.{always, reading, universe_at}
@@ -30,12 +31,15 @@ pub record Part : Type 0 where
   pub yields : State → Path → Result
   pub makes : Making
 
--- what comes after a part of a sequence, where the sequence goes on
+abbrev part : (State → Path → Outcome) → Making → Part
+part does makes = record { yields = λ A p. (does A p).result; makes = makes }
+
+-- what is made after a part of a sequence, where the sequence goes on
 abbrev pub after_part : Result → (UpdateSet → List Choice) → List Choice
 after_part (Exhausted q) rest = []
 after_part (Gives U) rest = cond (is_consistent U) (rest U) []
 
--- what comes after a turn
+-- what is made after a turn
 abbrev pub after_turn : Result → (UpdateSet → List Choice) → List Choice
 after_turn (Exhausted q) rest = []
 after_turn (Gives U) rest = cond (is_none U || not (is_consistent U)) [] (rest U)
@@ -80,13 +84,13 @@ module _ (shape : Shape) (turns : ℕ) (chosen : Path → ℕ) where
         each_makes (λ v k. made P (always v ∷ rs) (None ∷ ls) A (at p k)) (λ v. passes shape c (always v ∷ rs) A) 0 (universe_at shape u)
     made (Choose u c P Q) rs ls A p =
         one_makes p (chosen p) (passing shape u c rs A) (λ v. made P (always v ∷ rs) (None ∷ ls) A (at p 0)) (made Q rs ls A (at p 1))
-    made (Iterate P) rs ls A p = turns_make (record { yields = λ A p. (meaning shape turns chosen P rs ls A p).result; makes = λ A p. made P rs ls A p }) turns 0 A p
+    made (Iterate P) rs ls A p = turns_make (part (meaning shape turns chosen P rs ls) (λ A p. made P rs ls A p)) turns 0 A p
     made (Call P to ts) rs ls A p =
         made P (answer_readings (located_at shape to rs ls A) ++ named_readings shape ts rs) (answer_locations (located_at shape to rs ls A)) A (at p 0)
 
     pub parts_of : RuleCodes → List Reading → Locations → List Part
     parts_of no_rules rs ls = []
-    parts_of (rule_then P Ps) rs ls = record { yields = λ A p. (meaning shape turns chosen P rs ls A p).result; makes = λ A p. made P rs ls A p } ∷ parts_of Ps rs ls
+    parts_of (rule_then P Ps) rs ls = part (meaning shape turns chosen P rs ls) (λ A p. made P rs ls A p) ∷ parts_of Ps rs ls
 
 abbrev pub made_in : Shape → (turns : ℕ) → RuleCode → State → Situation → List Choice
 made_in shape turns P A s = made shape turns (picked s) P [] [] A []

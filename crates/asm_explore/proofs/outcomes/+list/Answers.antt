@@ -1,4 +1,6 @@
-use Rattle.std.proofs.Common.{◌≡◌, ◌<◌, ◌≤◌, [], ◌++◌, drop, ◌-◌, ◌+◌, suc, true, false, cond, Some, rules, sym, ap, subst, ◌∙◌, arith, length, map, refl}
+mod Made
+mod Refusals
+use Rattle.std.proofs.Common.{◌≡◌, ◌<◌, ◌≤◌, [], ◌∷◌, ◌++◌, drop, ◌-◌, ◌+◌, suc, true, false, cond, Some, rules, sym, ap, subst, ◌∙◌, arith, length, map, refl}
 use Rattle.std.specs.Prelude.{option_map, IfErr}
 use Rattle.asm_state.specs.Signature.{count_of}
 use Rattle.asm_state.specs.Words.{value_of_code}
@@ -35,6 +37,8 @@ use Rattle.asm_explore.proofs.Elements.{any_first}
 use Rattle.asm_explore.proofs.Sequenced.{both_begin, both_placed, begun, ended, underway_next, next_none, next_more, next_all, next_one}
 use Rattle.asm_explore.proofs.Yielded.{ok_same, no_elements, parts_left, each_left, order_left, turns_left, part_next, part_last, element_next, element_last, is_passing, value_yields, forall_yields, choosing_none, choosing_more, choosing_all, none_yields, skip_yields, assign_is, par_yields, seq_yields, if_is, let_is, forall_is, choose_is, iterate_is, call_is, if_yes, if_no, let_with, call_with, iterate_yields, order_steps, order_ends, turn_steps}
 use Rattle.asm_explore.proofs.outcomes.+list.Goals as goal
+use Rattle.asm_explore.proofs.outcomes.+list.Answers.Made as made_answers
+use Rattle.asm_explore.proofs.outcomes.+list.Answers.Refusals as refusals
 
 -- ---- each kind of rule
 
@@ -48,10 +52,7 @@ pub outcomes-returns-in_ok-found-in-Skip-clause-placed : goal.outcomes-returns-i
 outcomes-returns-in_ok-found-in-Skip-clause-placed t c = have_weaker (λ cs. cs ≡ []) (IsPlaced c.args.path.now) (placed_none c.args.path.now) c.in_ok-found-in-Skip.found.items c.in_ok-found-in-Skip.ensures.choices
 
 pub outcomes-returns-in_ok-found-in-Skip-clause-made : goal.outcomes-returns-in_ok-found-in-Skip-clause-made
-outcomes-returns-in_ok-found-in-Skip-clause-made t c =
-    let a = c.args in
-    let m = makes_on a.on.now a.frame.now a.path.now (rule_of a.rule.now) in
-    none_made m c.in_ok-found-in-Skip.found.items c.in_ok-found-in-Skip.ensures.choices
+outcomes-returns-in_ok-found-in-Skip-clause-made = made_answers.outcomes-returns-in_ok-found-in-Skip-clause-made
 
 pub outcomes-returns-in_ok-found-in-Assign-clause-lists : goal.outcomes-returns-in_ok-found-in-Assign-clause-lists
 outcomes-returns-in_ok-found-in-Assign-clause-lists t c =
@@ -63,10 +64,7 @@ pub outcomes-returns-in_ok-found-in-Assign-clause-placed : goal.outcomes-returns
 outcomes-returns-in_ok-found-in-Assign-clause-placed t c = have_weaker (λ cs. cs ≡ []) (IsPlaced c.args.path.now) (placed_none c.args.path.now) c.in_ok-found-in-Assign.found.items c.in_ok-found-in-Assign.ensures.choices
 
 pub outcomes-returns-in_ok-found-in-Assign-clause-made : goal.outcomes-returns-in_ok-found-in-Assign-clause-made
-outcomes-returns-in_ok-found-in-Assign-clause-made t c =
-    let a = c.args in
-    let m = makes_on a.on.now a.frame.now a.path.now (rule_of a.rule.now) in
-    none_made m c.in_ok-found-in-Assign.found.items c.in_ok-found-in-Assign.ensures.choices
+outcomes-returns-in_ok-found-in-Assign-clause-made = made_answers.outcomes-returns-in_ok-found-in-Assign-clause-made
 
 pub outcomes-returns-in-Par-clause-lists : goal.outcomes-returns-in-Par-clause-lists
 outcomes-returns-in-Par-clause-lists t c =
@@ -76,11 +74,7 @@ outcomes-returns-in-Par-clause-lists t c =
     c.list_all.ensures.lists
 
 pub outcomes-returns-in-Par-clause-made : goal.outcomes-returns-in-Par-clause-made
-outcomes-returns-in-Par-clause-made t c =
-    let a = c.args in
-    ok_tree a.on.now a.frame.now a.path.now _ _ c.list_all.result
-    (par_tree a.rule.now c.in-Par.parts c.in-Par.is c.as_slice.result.now c.as_slice.ensures.value)
-    (ok_made _ _ c.list_all.result (makings.par_makes a.on.now a.frame.now a.path.now c.as_slice.result.now) c.list_all.ensures.made)
+outcomes-returns-in-Par-clause-made = made_answers.outcomes-returns-in-Par-clause-made
 
 pub outcomes-returns-in-Seq-clause-lists : goal.outcomes-returns-in-Seq-clause-lists
 outcomes-returns-in-Seq-clause-lists t c =
@@ -90,11 +84,7 @@ outcomes-returns-in-Seq-clause-lists t c =
     c.list_in_order.ensures.lists
 
 pub outcomes-returns-in-Seq-clause-made : goal.outcomes-returns-in-Seq-clause-made
-outcomes-returns-in-Seq-clause-made t c =
-    let a = c.args in
-    ok_tree a.on.now a.frame.now a.path.now _ _ c.list_in_order.result
-    (seq_tree a.rule.now c.in-Seq.parts c.in-Seq.is c.as_slice-in-Seq.result.now c.as_slice-in-Seq.ensures.value)
-    (ok_made _ _ c.list_in_order.result (makings.seq_makes a.on.now a.frame.now a.path.now c.as_slice-in-Seq.result.now) c.list_in_order.ensures.made)
+outcomes-returns-in-Seq-clause-made = made_answers.outcomes-returns-in-Seq-clause-made
 
 pub outcomes-returns-in-If-clause-lists : goal.outcomes-returns-in-If-clause-lists
 outcomes-returns-in-If-clause-lists t c =
@@ -104,11 +94,7 @@ outcomes-returns-in-If-clause-lists t c =
     c.list_if.ensures.lists
 
 pub outcomes-returns-in-If-clause-made : goal.outcomes-returns-in-If-clause-made
-outcomes-returns-in-If-clause-made t c =
-    let a = c.args in
-    ok_tree a.on.now a.frame.now a.path.now _ _ c.list_if.result
-    (if_tree a.rule.now c.in-If.test c.in-If.yes c.in-If.no c.in-If.is c.in-If.test c.deref.result.now c.deref-in-If.result.now refl c.deref.ensures c.deref-in-If.ensures)
-    c.list_if.ensures.made
+outcomes-returns-in-If-clause-made = made_answers.outcomes-returns-in-If-clause-made
 
 pub outcomes-returns-in-Let-clause-lists : goal.outcomes-returns-in-Let-clause-lists
 outcomes-returns-in-Let-clause-lists t c =
@@ -118,11 +104,7 @@ outcomes-returns-in-Let-clause-lists t c =
     c.list_let.ensures.lists
 
 pub outcomes-returns-in-Let-clause-made : goal.outcomes-returns-in-Let-clause-made
-outcomes-returns-in-Let-clause-made t c =
-    let a = c.args in
-    ok_tree a.on.now a.frame.now a.path.now _ _ c.list_let.result
-    (let_tree a.rule.now c.in-Let.value c.in-Let.body c.in-Let.is c.in-Let.value c.deref-in-Let.result.now refl c.deref-in-Let.ensures)
-    c.list_let.ensures.made
+outcomes-returns-in-Let-clause-made = made_answers.outcomes-returns-in-Let-clause-made
 
 pub outcomes-returns-in-Forall-clause-lists : goal.outcomes-returns-in-Forall-clause-lists
 outcomes-returns-in-Forall-clause-lists t c =
@@ -132,11 +114,7 @@ outcomes-returns-in-Forall-clause-lists t c =
     c.list_each.ensures.lists
 
 pub outcomes-returns-in-Forall-clause-made : goal.outcomes-returns-in-Forall-clause-made
-outcomes-returns-in-Forall-clause-made t c =
-    let a = c.args in
-    ok_tree a.on.now a.frame.now a.path.now _ _ c.list_each.result
-    (forall_tree a.rule.now c.in-Forall.over c.in-Forall.test c.in-Forall.body c.in-Forall.is c.in-Forall.test c.deref-in-Forall.result.now refl c.deref-in-Forall.ensures)
-    c.list_each.ensures.made
+outcomes-returns-in-Forall-clause-made = made_answers.outcomes-returns-in-Forall-clause-made
 
 pub outcomes-returns-in-Choose-clause-lists : goal.outcomes-returns-in-Choose-clause-lists
 outcomes-returns-in-Choose-clause-lists t c =
@@ -146,11 +124,7 @@ outcomes-returns-in-Choose-clause-lists t c =
     c.list_choose.ensures.lists
 
 pub outcomes-returns-in-Choose-clause-made : goal.outcomes-returns-in-Choose-clause-made
-outcomes-returns-in-Choose-clause-made t c =
-    let a = c.args in
-    ok_tree a.on.now a.frame.now a.path.now _ _ c.list_choose.result
-    (choose_tree a.rule.now c.in-Choose.over c.in-Choose.test c.in-Choose.body c.in-Choose.none c.in-Choose.is c.in-Choose.test c.deref-in-Choose.result.now c.deref-in-Choose-2.result.now refl c.deref-in-Choose.ensures c.deref-in-Choose-2.ensures)
-    c.list_choose.ensures.made
+outcomes-returns-in-Choose-clause-made = made_answers.outcomes-returns-in-Choose-clause-made
 
 pub outcomes-returns-in-Iterate-clause-lists : goal.outcomes-returns-in-Iterate-clause-lists
 outcomes-returns-in-Iterate-clause-lists t c =
@@ -160,11 +134,7 @@ outcomes-returns-in-Iterate-clause-lists t c =
     c.list_turns.ensures.lists
 
 pub outcomes-returns-in-Iterate-clause-made : goal.outcomes-returns-in-Iterate-clause-made
-outcomes-returns-in-Iterate-clause-made t c =
-    let a = c.args in
-    ok_tree a.on.now a.frame.now a.path.now _ _ c.list_turns.result
-    (iterate_tree a.rule.now c.in-Iterate.body c.in-Iterate.is c.deref-in-Iterate.result.now c.deref-in-Iterate.ensures)
-    c.list_turns.ensures.made
+outcomes-returns-in-Iterate-clause-made = made_answers.outcomes-returns-in-Iterate-clause-made
 
 pub outcomes-returns-in-Call-clause-lists : goal.outcomes-returns-in-Call-clause-lists
 outcomes-returns-in-Call-clause-lists t c =
@@ -174,16 +144,10 @@ outcomes-returns-in-Call-clause-lists t c =
     c.list_call.ensures.lists
 
 pub outcomes-returns-in-Call-clause-made : goal.outcomes-returns-in-Call-clause-made
-outcomes-returns-in-Call-clause-made t c =
-    let a = c.args in
-    ok_tree a.on.now a.frame.now a.path.now _ _ c.list_call.result
-    (call_tree a.rule.now c.in-Call.body c.in-Call.answer c.in-Call.arguments c.in-Call.is c.deref-in-Call.result.now c.in-Call.answer c.as_slice-in-Call.result.now c.deref-in-Call.ensures refl c.as_slice-in-Call.ensures.value)
-    c.list_call.ensures.made
+outcomes-returns-in-Call-clause-made = made_answers.outcomes-returns-in-Call-clause-made
 
 pub list_part-returns-clause-made : goal.list_part-returns-clause-made
-list_part-returns-clause-made t c =
-    let a = c.args in
-    subst (λ q. HaveChoices (AreMade (makes_on a.on.now a.frame.now q (rule_of a.rule.now))) c.in_ok-found.found.items) (c.as_slice.ensures.value ∙ c.in_ok-below.ensures) c.in_ok-found.ensures.made
+list_part-returns-clause-made = made_answers.list_part-returns-clause-made
 
 pub list_if-returns-then-holds-clause-lists : goal.list_if-returns-then-holds-clause-lists
 list_if-returns-then-holds-clause-lists t c =
@@ -196,11 +160,7 @@ pub list_if-returns-then-holds-clause-placed : goal.list_if-returns-then-holds-c
 list_if-returns-then-holds-clause-placed t c = ok_have (IsPlaced (at c.args.path.now 0)) (IsPlaced c.args.path.now) c.list_part.result (placed_part c.args.path.now 0) c.list_part.ensures.placed
 
 pub list_if-returns-then-holds-clause-made : goal.list_if-returns-then-holds-clause-made
-list_if-returns-then-holds-clause-made t c =
-    let a = c.args in
-    ok_made _ _ c.list_part.result
-    (makings.if_yes a.on.now a.frame.now a.path.now a.test.now a.yes.now a.no.now (sym c.holds.ensures ∙ c.if-holds.true))
-    c.list_part.ensures.made
+list_if-returns-then-holds-clause-made = made_answers.list_if-returns-then-holds-clause-made
 
 pub list_if-returns-else-holds-clause-lists : goal.list_if-returns-else-holds-clause-lists
 list_if-returns-else-holds-clause-lists t c =
@@ -213,11 +173,7 @@ pub list_if-returns-else-holds-clause-placed : goal.list_if-returns-else-holds-c
 list_if-returns-else-holds-clause-placed t c = ok_have (IsPlaced (at c.args.path.now 1)) (IsPlaced c.args.path.now) c.list_part-else-holds.result (placed_part c.args.path.now 1) c.list_part-else-holds.ensures.placed
 
 pub list_if-returns-else-holds-clause-made : goal.list_if-returns-else-holds-clause-made
-list_if-returns-else-holds-clause-made t c =
-    let a = c.args in
-    ok_made _ _ c.list_part-else-holds.result
-    (makings.if_no a.on.now a.frame.now a.path.now a.test.now a.yes.now a.no.now (sym c.holds.ensures ∙ c.if-holds.false))
-    c.list_part-else-holds.ensures.made
+list_if-returns-else-holds-clause-made = made_answers.list_if-returns-else-holds-clause-made
 
 pub list_let-returns-clause-lists : goal.list_let-returns-clause-lists
 list_let-returns-clause-lists t c =
@@ -230,11 +186,7 @@ pub list_let-returns-clause-placed : goal.list_let-returns-clause-placed
 list_let-returns-clause-placed t c = ok_have (IsPlaced (at c.args.path.now 0)) (IsPlaced c.args.path.now) c.list_part.result (placed_part c.args.path.now 0) c.list_part.ensures.placed
 
 pub list_let-returns-clause-made : goal.list_let-returns-clause-made
-list_let-returns-clause-made t c =
-    let a = c.args in
-    ok_made _ _ c.list_part.result
-    (makings.let_makes a.on.now a.frame.now a.path.now a.term.now a.body.now (value_of_code c.kept.result.value) (c.kept.ensures ∙ c.value-value.ensures))
-    c.list_part.ensures.made
+list_let-returns-clause-made = made_answers.list_let-returns-clause-made
 
 -- ---- parts
 
@@ -295,11 +247,7 @@ list_all-returns-clause-placed t c =
     have_weaker (IsPlacedFrom c.args.path.now l.i) (IsPlaced c.args.path.now) (placed_in c.args.path.now (λ k. l.i ≤ k)) l.found.items l.invariant.placed
 
 pub list_all-returns-clause-made : goal.list_all-returns-clause-made
-list_all-returns-clause-made t c =
-    let a = c.args in
-    let l = c.loop-i in
-    let ends : l.i ≡ 0 = omega (arith, c.loop-i-test.false) in
-    subst (λ i. HaveChoices (AreMade (makings.parts_left a.on.now a.frame.now a.path.now a.parts.now i)) l.found.items) ends l.invariant.made
+list_all-returns-clause-made = made_answers.list_all-returns-clause-made
 
 -- ---- values of a universe
 
@@ -364,16 +312,7 @@ list_each-returns-clause-placed t c =
     have_weaker (IsPlacedFrom c.args.path.now l.i) (IsPlaced c.args.path.now) (placed_in c.args.path.now (λ k. l.i ≤ k)) l.found.items l.invariant.placed
 
 pub list_each-returns-clause-made : goal.list_each-returns-clause-made
-list_each-returns-clause-made t c =
-    let a = c.args in
-    let l = c.loop-i in
-    let us = c.universe-universe.result.now in
-    let ends : l.i ≡ 0 = omega (arith, c.loop-i-test.false) in
-    let same : universe_at (shape_on a.on.now) a.over ≡ us = universe_here (shape_on a.on.now).universes a.over us c.universe-universe.ensures in
-    let left = makings.each_left a.on.now a.frame.now a.path.now a.over a.test.now a.body.now (length us) in
-    have_made (left us 0) (makes_on a.on.now a.frame.now a.path.now (tree.Forall a.over (option_map code_of a.test.now) (rule_of a.body.now)))
-    (λ s. ap (λ ws. left ws 0 s) (sym same) ∙ makings.forall_makes a.on.now a.frame.now a.path.now a.over a.test.now a.body.now (length us) (ap length (sym same)) s)
-    l.found.items (subst (λ i. HaveChoices (AreMade (left us i)) l.found.items) ends l.invariant.made)
+list_each-returns-clause-made = made_answers.list_each-returns-clause-made
 
 pub list_element-returns-in_ok-found-clause-lists : goal.list_element-returns-in_ok-found-clause-lists
 list_element-returns-in_ok-found-clause-lists t c = λ o lists.
@@ -387,11 +326,7 @@ pub list_element-returns-in_ok-found-clause-placed : goal.list_element-returns-i
 list_element-returns-in_ok-found-clause-placed t c = λ later. c.in_ok-found.ensures.placed c.args.number c.in_ok-part.ensures.placed later
 
 pub list_element-returns-in_ok-found-clause-made : goal.list_element-returns-in_ok-found-clause-made
-list_element-returns-in_ok-found-clause-made t c = λ m after.
-    let a = c.args in
-    let makes = makes_on a.on.now a.frame.now (at a.path.now a.number) (rule_of a.body.now) in
-    have_made (λ s. makes s ++ m s) _ (λ s. ap (λ b. cond b (makes s ++ m s) (m s)) (sym c.if-passes.true ∙ c.passes.ensures)) c.in_ok-found.found.items
-    (joined_made makes m c.in_ok-part.part.items a.after.items c.in_ok-found.found.items c.in_ok-found.ensures.chosen c.in_ok-part.ensures.made after)
+list_element-returns-in_ok-found-clause-made = made_answers.list_element-returns-in_ok-found-clause-made
 
 pub list_element-returns-else-passes-clause-lists : goal.list_element-returns-else-passes-clause-lists
 list_element-returns-else-passes-clause-lists t c = λ o lists.
@@ -407,10 +342,7 @@ list_element-returns-else-passes-clause-placed t c =
     have_weaker (IsPlacedFrom a.path.now (a.number + 1)) (IsPlacedFrom a.path.now a.number) (from_later a.path.now a.number) a.after.items
 
 pub list_element-returns-else-passes-clause-made : goal.list_element-returns-else-passes-clause-made
-list_element-returns-else-passes-clause-made t c = λ m after.
-    let a = c.args in
-    let makes = makes_on a.on.now a.frame.now (at a.path.now a.number) (rule_of a.body.now) in
-    have_made m _ (λ s. ap (λ b. cond b (makes s ++ m s) (m s)) (sym c.if-passes.false ∙ c.passes.ensures)) a.after.items after
+list_element-returns-else-passes-clause-made = made_answers.list_element-returns-else-passes-clause-made
 
 -- ---- candidates
 
@@ -426,12 +358,7 @@ pub list_choose-returns-then-all-eq0-clause-placed : goal.list_choose-returns-th
 list_choose-returns-then-all-eq0-clause-placed t c = ok_have (IsPlaced (at c.args.path.now 1)) (IsPlaced c.args.path.now) c.list_part.result (placed_part c.args.path.now 1) c.list_part.ensures.placed
 
 pub list_choose-returns-then-all-eq0-clause-made : goal.list_choose-returns-then-all-eq0-clause-made
-list_choose-returns-then-all-eq0-clause-made t c =
-    let a = c.args in
-    ok_made _ _ c.list_part.result
-    (makings.none_makes a.on.now a.frame.now a.path.now a.over a.test.now a.body.now a.none.now c.as_slice-all.result.now (c.as_slice-all.ensures.value ∙ c.in_ok-values.ensures)
-    (no_elements c.as_slice-all.result.now c.if-all-eq0.true))
-    c.list_part.ensures.made
+list_choose-returns-then-all-eq0-clause-made = made_answers.list_choose-returns-then-all-eq0-clause-made
 
 pub list_choose-loop-k-init : goal.list_choose-loop-k-init
 list_choose-loop-k-init t c =
@@ -484,11 +411,7 @@ pub list_call-returns-clause-placed : goal.list_call-returns-clause-placed
 list_call-returns-clause-placed t c = ok_have (IsPlaced (at c.args.path.now 0)) (IsPlaced c.args.path.now) c.list_part.result (placed_part c.args.path.now 0) c.list_part.ensures.placed
 
 pub list_call-returns-clause-made : goal.list_call-returns-clause-made
-list_call-returns-clause-made t c =
-    let a = c.args in
-    ok_made _ _ c.list_part.result
-    (makings.call_makes a.on.now a.frame.now a.path.now a.body.now a.answer.now a.arguments.now c.in_ok-answer.answer c.in_ok-answer.ensures.location)
-    c.list_part.ensures.made
+list_call-returns-clause-made = made_answers.list_call-returns-clause-made
 
 -- ---- one after the other
 
@@ -550,11 +473,7 @@ pub list_in_order-returns-clause-placed : goal.list_in_order-returns-clause-plac
 list_in_order-returns-clause-placed t c = c.in_ok-found.ensures.placed (both_placed c.args.path.now c.loop-i.i c.loop-i.sorted c.loop-i.invariant.placed)
 
 pub list_in_order-returns-clause-made : goal.list_in_order-returns-clause-made
-list_in_order-returns-clause-made t c =
-    let a = c.args in
-    let l = c.loop-i in
-    have_added (AreMade (order_made_on a.on.now a.frame.now a.path.now (rules_of (map rule_of a.parts.now)))) l.sorted c.in_ok-found.found.items
-    c.in_ok-found.ensures.chosen (l.invariant.made.done_made, l.invariant.made.front_made)
+list_in_order-returns-clause-made = made_answers.list_in_order-returns-clause-made
 
 pub list_turns-loop-turn-init : goal.list_turns-loop-turn-init
 list_turns-loop-turn-init t c =
@@ -588,7 +507,7 @@ pub list_turns-returns-then-waiting-eq0-clause-placed : goal.list_turns-returns-
 list_turns-returns-then-waiting-eq0-clause-placed t c = (both_placed c.args.path.now c.loop-turn.turn c.loop-turn.sorted c.loop-turn.invariant.placed).0
 
 pub list_turns-returns-then-waiting-eq0-clause-made : goal.list_turns-returns-then-waiting-eq0-clause-made
-list_turns-returns-then-waiting-eq0-clause-made t c = c.loop-turn.invariant.made.done_made
+list_turns-returns-then-waiting-eq0-clause-made = made_answers.list_turns-returns-then-waiting-eq0-clause-made
 
 pub list_turns-list_next-requires : goal.list_turns-list_next-requires
 list_turns-list_next-requires t c =
@@ -641,11 +560,7 @@ pub list_turns-returns-clause-placed : goal.list_turns-returns-clause-placed
 list_turns-returns-clause-placed t c = c.in_ok-found.ensures.placed (both_placed c.args.path.now c.loop-turn.turn c.loop-turn.sorted c.loop-turn.invariant.placed)
 
 pub list_turns-returns-clause-made : goal.list_turns-returns-clause-made
-list_turns-returns-clause-made t c =
-    let a = c.args in
-    let l = c.loop-turn in
-    have_added (AreMade (makes_on a.on.now a.frame.now a.path.now (tree.Iterate (rule_of a.body.now)))) l.sorted c.in_ok-found.found.items
-    c.in_ok-found.ensures.chosen (l.invariant.made.done_made, l.invariant.made.front_made)
+list_turns-returns-clause-made = made_answers.list_turns-returns-clause-made
 
 pub list_next-loop-i-init : goal.list_next-loop-i-init
 list_next-loop-i-init t c =
@@ -710,12 +625,7 @@ list_one-returns-in_ok-sort_part-in-Set-clause-placed t c = λ here both.
     c.in_ok-sort_part-in-Set.ensures.sorts.placed c.args.path.now c.args.number here c.in_ok-part-in-Set.ensures.placed both
 
 pub list_one-returns-in_ok-sort_part-in-Set-clause-made : goal.list_one-returns-in_ok-sort_part-in-Set-clause-made
-list_one-returns-in_ok-sort_part-in-Set-clause-made t c = λ total left left_then steps own on so_far.
-    let a = c.args in
-    let upon = c.in_ok-part-in-Set.ensures.upon in
-    one_made (shape_on a.on.now) a.turns (state_on a.on.now) (here_on a.on.now a.frame.now (at a.path.now a.number) (rule_of a.rule.now))
-    (made_on a.on.now a.frame.now (at a.path.now a.number) (rule_of a.rule.now)) total left left_then steps a.one.now c.in-Set.so_far c.in-Set.is upon.state upon.fired own on
-    c.in_ok-part-in-Set.part.items a.sorted.now c.sort_part.new.sorted upon.made upon.lists c.in_ok-sort_part-in-Set.ensures.sorts so_far
+list_one-returns-in_ok-sort_part-in-Set-clause-made = made_answers.list_one-returns-in_ok-sort_part-in-Set-clause-made
 
 pub list_upon-returns-in_err-found-clause-upon : goal.list_upon-returns-in_err-found-clause-upon
 list_upon-returns-in_err-found-clause-upon t c =
@@ -802,277 +712,85 @@ list_one-returns-in-Exhausted-clause-differ t c = λ others h. h.1
 -- ---- what a refusal says
 
 pub outcomes-returns-in-Par-clause-crowded : goal.outcomes-returns-in-Par-clause-crowded
-outcomes-returns-in-Par-clause-crowded t c =
-    let a = c.args in
-    refused_tree a.on.now a.frame.now a.path.now _ _ c.list_all.result
-    (par_tree a.rule.now c.in-Par.parts c.in-Par.is c.as_slice.result.now c.as_slice.ensures.value)
-    (err_made a.on.now.limit a.path.now _ _ c.list_all.result (makings.par_makes a.on.now a.frame.now a.path.now c.as_slice.result.now) c.list_all.ensures.crowded)
+outcomes-returns-in-Par-clause-crowded = refusals.outcomes-returns-in-Par-clause-crowded
 
 pub outcomes-returns-in-Seq-clause-crowded : goal.outcomes-returns-in-Seq-clause-crowded
-outcomes-returns-in-Seq-clause-crowded t c =
-    let a = c.args in
-    refused_tree a.on.now a.frame.now a.path.now _ _ c.list_in_order.result
-    (seq_tree a.rule.now c.in-Seq.parts c.in-Seq.is c.as_slice-in-Seq.result.now c.as_slice-in-Seq.ensures.value)
-    (err_made a.on.now.limit a.path.now _ _ c.list_in_order.result (makings.seq_makes a.on.now a.frame.now a.path.now c.as_slice-in-Seq.result.now) c.list_in_order.ensures.crowded)
+outcomes-returns-in-Seq-clause-crowded = refusals.outcomes-returns-in-Seq-clause-crowded
 
 pub outcomes-returns-in-If-clause-crowded : goal.outcomes-returns-in-If-clause-crowded
-outcomes-returns-in-If-clause-crowded t c =
-    let a = c.args in
-    refused_tree a.on.now a.frame.now a.path.now _ _ c.list_if.result
-    (if_tree a.rule.now c.in-If.test c.in-If.yes c.in-If.no c.in-If.is c.in-If.test c.deref.result.now c.deref-in-If.result.now refl c.deref.ensures c.deref-in-If.ensures)
-    c.list_if.ensures.crowded
+outcomes-returns-in-If-clause-crowded = refusals.outcomes-returns-in-If-clause-crowded
 
 pub outcomes-returns-in-Let-clause-crowded : goal.outcomes-returns-in-Let-clause-crowded
-outcomes-returns-in-Let-clause-crowded t c =
-    let a = c.args in
-    refused_tree a.on.now a.frame.now a.path.now _ _ c.list_let.result
-    (let_tree a.rule.now c.in-Let.value c.in-Let.body c.in-Let.is c.in-Let.value c.deref-in-Let.result.now refl c.deref-in-Let.ensures)
-    c.list_let.ensures.crowded
+outcomes-returns-in-Let-clause-crowded = refusals.outcomes-returns-in-Let-clause-crowded
 
 pub outcomes-returns-in-Forall-clause-crowded : goal.outcomes-returns-in-Forall-clause-crowded
-outcomes-returns-in-Forall-clause-crowded t c =
-    let a = c.args in
-    refused_tree a.on.now a.frame.now a.path.now _ _ c.list_each.result
-    (forall_tree a.rule.now c.in-Forall.over c.in-Forall.test c.in-Forall.body c.in-Forall.is c.in-Forall.test c.deref-in-Forall.result.now refl c.deref-in-Forall.ensures)
-    c.list_each.ensures.crowded
+outcomes-returns-in-Forall-clause-crowded = refusals.outcomes-returns-in-Forall-clause-crowded
 
 pub outcomes-returns-in-Choose-clause-crowded : goal.outcomes-returns-in-Choose-clause-crowded
-outcomes-returns-in-Choose-clause-crowded t c =
-    let a = c.args in
-    refused_tree a.on.now a.frame.now a.path.now _ _ c.list_choose.result
-    (choose_tree a.rule.now c.in-Choose.over c.in-Choose.test c.in-Choose.body c.in-Choose.none c.in-Choose.is c.in-Choose.test c.deref-in-Choose.result.now c.deref-in-Choose-2.result.now refl c.deref-in-Choose.ensures c.deref-in-Choose-2.ensures)
-    c.list_choose.ensures.crowded
+outcomes-returns-in-Choose-clause-crowded = refusals.outcomes-returns-in-Choose-clause-crowded
 
 pub outcomes-returns-in-Iterate-clause-crowded : goal.outcomes-returns-in-Iterate-clause-crowded
-outcomes-returns-in-Iterate-clause-crowded t c =
-    let a = c.args in
-    refused_tree a.on.now a.frame.now a.path.now _ _ c.list_turns.result
-    (iterate_tree a.rule.now c.in-Iterate.body c.in-Iterate.is c.deref-in-Iterate.result.now c.deref-in-Iterate.ensures)
-    c.list_turns.ensures.crowded
+outcomes-returns-in-Iterate-clause-crowded = refusals.outcomes-returns-in-Iterate-clause-crowded
 
 pub outcomes-returns-in-Call-clause-crowded : goal.outcomes-returns-in-Call-clause-crowded
-outcomes-returns-in-Call-clause-crowded t c =
-    let a = c.args in
-    refused_tree a.on.now a.frame.now a.path.now _ _ c.list_call.result
-    (call_tree a.rule.now c.in-Call.body c.in-Call.answer c.in-Call.arguments c.in-Call.is c.deref-in-Call.result.now c.in-Call.answer c.as_slice-in-Call.result.now c.deref-in-Call.ensures refl c.as_slice-in-Call.ensures.value)
-    c.list_call.ensures.crowded
+outcomes-returns-in-Call-clause-crowded = refusals.outcomes-returns-in-Call-clause-crowded
 
 pub list_part-returns-in_err-found-clause-crowded : goal.list_part-returns-in_err-found-clause-crowded
-list_part-returns-in_err-found-clause-crowded t c =
-    let a = c.args in
-    let same = c.as_slice.ensures.value ∙ c.in_ok-below.ensures in
-    subst (λ q. IfErr c.from_residual-in_err-found.result (Refuses a.on.now.limit (λ r. IsWay q (makes_on a.on.now a.frame.now q (rule_of a.rule.now))))) same
-    (refuses_on a.on.now.limit (λ r. IsWay c.as_slice.result.now (makes_on a.on.now a.frame.now c.as_slice.result.now (rule_of a.rule.now)))
-    c.from_residual-in_err-found.result c.in_err-found.field-0.0 c.from_residual-in_err-found.ensures.1 c.in_err-found.ensures.crowded)
+list_part-returns-in_err-found-clause-crowded = refusals.list_part-returns-in_err-found-clause-crowded
 
 pub list_if-returns-then-holds-clause-crowded : goal.list_if-returns-then-holds-clause-crowded
-list_if-returns-then-holds-clause-crowded t c =
-    let a = c.args in
-    err_part a.on.now.limit a.path.now _ _ 0 c.list_part.result
-    (makings.if_yes a.on.now a.frame.now a.path.now a.test.now a.yes.now a.no.now (sym c.holds.ensures ∙ c.if-holds.true))
-    c.list_part.ensures.crowded
+list_if-returns-then-holds-clause-crowded = refusals.list_if-returns-then-holds-clause-crowded
 
 pub list_if-returns-else-holds-clause-crowded : goal.list_if-returns-else-holds-clause-crowded
-list_if-returns-else-holds-clause-crowded t c =
-    let a = c.args in
-    err_part a.on.now.limit a.path.now _ _ 1 c.list_part-else-holds.result
-    (makings.if_no a.on.now a.frame.now a.path.now a.test.now a.yes.now a.no.now (sym c.holds.ensures ∙ c.if-holds.false))
-    c.list_part-else-holds.ensures.crowded
+list_if-returns-else-holds-clause-crowded = refusals.list_if-returns-else-holds-clause-crowded
 
 pub list_let-returns-clause-crowded : goal.list_let-returns-clause-crowded
-list_let-returns-clause-crowded t c =
-    let a = c.args in
-    err_part a.on.now.limit a.path.now _ _ 0 c.list_part.result
-    (makings.let_makes a.on.now a.frame.now a.path.now a.term.now a.body.now (value_of_code c.kept.result.value) (c.kept.ensures ∙ c.value-value.ensures))
-    c.list_part.ensures.crowded
+list_let-returns-clause-crowded = refusals.list_let-returns-clause-crowded
 
 pub list_call-returns-clause-crowded : goal.list_call-returns-clause-crowded
-list_call-returns-clause-crowded t c =
-    let a = c.args in
-    err_part a.on.now.limit a.path.now _ _ 0 c.list_part.result
-    (makings.call_makes a.on.now a.frame.now a.path.now a.body.now a.answer.now a.arguments.now c.in_ok-answer.answer c.in_ok-answer.ensures.location)
-    c.list_part.ensures.crowded
+list_call-returns-clause-crowded = refusals.list_call-returns-clause-crowded
 
 pub list_choose-returns-then-all-eq0-clause-crowded : goal.list_choose-returns-then-all-eq0-clause-crowded
-list_choose-returns-then-all-eq0-clause-crowded t c =
-    let a = c.args in
-    err_part a.on.now.limit a.path.now _ _ 1 c.list_part.result
-    (makings.none_makes a.on.now a.frame.now a.path.now a.over a.test.now a.body.now a.none.now c.as_slice-all.result.now (c.as_slice-all.ensures.value ∙ c.in_ok-values.ensures) (no_elements c.as_slice-all.result.now c.if-all-eq0.true))
-    c.list_part.ensures.crowded
+list_choose-returns-then-all-eq0-clause-crowded = refusals.list_choose-returns-then-all-eq0-clause-crowded
 
 pub list_all-returns-in_err-part-clause-crowded : goal.list_all-returns-in_err-part-clause-crowded
-list_all-returns-in_err-part-clause-crowded t c =
-    let a = c.args in
-    let l = c.loop-i in
-    let low : l.i - 1 < length a.parts.now = omega (arith, l.invariant.within, c.loop-i-test.true) in
-    exit_part a.on.now.limit a.path.now _ _ (l.i - 1) (makings.part_within a.on.now a.frame.now a.path.now a.parts.now (l.i - 1) c.index-parts-i.result low c.index-parts-i.is)
-    c.from_residual-in_err-part.result c.in_err-part.field-0.0 c.from_residual-in_err-part.ensures.1 c.in_err-part.ensures.crowded
+list_all-returns-in_err-part-clause-crowded = refusals.list_all-returns-in_err-part-clause-crowded
 
 pub list_all-returns-in_err-more-clause-crowded : goal.list_all-returns-in_err-more-clause-crowded
-list_all-returns-in_err-more-clause-crowded t c =
-    let a = c.args in
-    let l = c.loop-i in
-    let p = a.path.now in
-    let k = l.i - 1 in
-    let low : l.i - 1 < length a.parts.now = omega (arith, l.invariant.within, c.loop-i-test.true) in
-    let back : l.i ≡ l.i - 1 + 1 = omega (arith, c.loop-i-test.true) in
-    let makes = makes_on a.on.now a.frame.now (at p k) (rule_of c.index-parts-i.result) in
-    let left = makings.parts_left a.on.now a.frame.now p a.parts.now in
-    let whole = parts_made_on a.on.now a.frame.now p (rules_of (map rule_of a.parts.now)) in
-    refuses_on a.on.now.limit (λ q. IsWay p whole) c.from_residual-in_err-more.result c.in_err-more.field-0.0 c.from_residual-in_err-more.ensures.1
-    (beside_refused a.on.now.limit p k makes (left (k + 1)) whole
-    (λ s one there. makings.parts_within a.on.now a.frame.now p a.parts.now k (omega (arith, low)) s one
-    (subst (IsAmong one) (makings.parts_next a.on.now a.frame.now p a.parts.now k c.index-parts-i.result low c.index-parts-i.is s) there))
-    c.in_ok-part.part.items l.found.items c.in_ok-part.ensures.differ l.invariant.differ c.in_ok-part.ensures.placed c.in_ok-part.ensures.made
-    (subst (λ j. HaveChoices (IsPlacedFrom p j) l.found.items) back l.invariant.placed) (subst (λ j. HaveChoices (AreMade (left j)) l.found.items) back l.invariant.made)
-    (length c.in_ok-part.part.items) (length l.found.items) c.in_err-more.field-0.0 c.in_err-more.ensures.names c.in_err-more.ensures.crowd)
+list_all-returns-in_err-more-clause-crowded = refusals.list_all-returns-in_err-more-clause-crowded
 
 pub list_each-returns-in_err-more-clause-crowded : goal.list_each-returns-in_err-more-clause-crowded
-list_each-returns-in_err-more-clause-crowded t c =
-    let a = c.args in
-    let l = c.loop-i in
-    let us = c.universe-universe.result.now in
-    let v = value_of_code c.kept.result.value in
-    let low : l.i - 1 < length us = omega (arith, l.invariant.within, c.loop-i-test.true) in
-    let back : l.i ≡ l.i - 1 + 1 = omega (arith, c.loop-i-test.true) in
-    let so = is_passing a.on.now a.frame.now a.path.now a.over a.test.now a.body.now v in
-    let makes = makings.value_makes a.on.now a.frame.now a.path.now a.body.now v (l.i - 1) in
-    let more = makings.each_left a.on.now a.frame.now a.path.now a.over a.test.now a.body.now (length us) us in
-    let same : universe_at (shape_on a.on.now) a.over ≡ us = universe_here (shape_on a.on.now).universes a.over us c.universe-universe.ensures in
-    exit_wider a.on.now.limit a.path.now (λ s. cond so (makes s ++ more l.i s) (more l.i s)) _
-    (λ s one there. makings.each_within a.on.now a.frame.now a.path.now a.over a.test.now a.body.now us (l.i - 1) (omega (arith, low)) same s one
-    (subst (IsAmong one) (ap (λ k. cond so (makes s ++ more k s) (more k s)) back
-    ∙ makings.elements_next a.on.now a.frame.now a.path.now a.over a.test.now a.body.now (length us) us (l.i - 1) v low (c.element.ensures ∙ ap Some (sym c.kept.ensures)) s so refl) there))
-    c.from_residual-in_err-more.result c.in_err-more.field-0.0 c.from_residual-in_err-more.ensures.1
-    (c.in_err-more.ensures.crowded (more l.i) l.invariant.made (subst (λ k. HaveChoices (IsPlacedFrom a.path.now k) l.found.items) back l.invariant.placed) l.invariant.differ)
+list_each-returns-in_err-more-clause-crowded = refusals.list_each-returns-in_err-more-clause-crowded
 
 pub list_element-returns-in_err-part-clause-crowded : goal.list_element-returns-in_err-part-clause-crowded
-list_element-returns-in_err-part-clause-crowded t c = λ m after placed differ.
-    let a = c.args in
-    let makes = makes_on a.on.now a.frame.now (at a.path.now a.number) (rule_of a.body.now) in
-    exit_part a.on.now.limit a.path.now _ _ a.number
-    (λ s one there. subst (IsAmong one) (ap (λ b. cond b (makes s ++ m s) (m s)) (sym c.if-passes.true ∙ c.passes.ensures)) (any_first (λ d. d ≡ one) (makes s) (m s) there))
-    c.from_residual.result c.in_err-part.field-0.0 c.from_residual.ensures.1 c.in_err-part.ensures.crowded
+list_element-returns-in_err-part-clause-crowded = refusals.list_element-returns-in_err-part-clause-crowded
 
 pub list_element-returns-in_err-found-clause-crowded : goal.list_element-returns-in_err-found-clause-crowded
-list_element-returns-in_err-found-clause-crowded t c = λ m after placed differ.
-    let a = c.args in
-    let p = a.path.now in
-    let makes = makes_on a.on.now a.frame.now (at p a.number) (rule_of a.body.now) in
-    let so = passes_in a.on.now.view.now a.frame.now a.test.now in
-    refuses_on a.on.now.limit (λ q. IsWay p (λ s. cond so (makes s ++ m s) (m s))) c.from_residual-in_err-found.result c.in_err-found.field-0.0 c.from_residual-in_err-found.ensures.1
-    (beside_refused a.on.now.limit p a.number makes m (λ s. cond so (makes s ++ m s) (m s)) (λ s one. subst (IsAmong one) (ap (λ b. cond b (makes s ++ m s) (m s)) (sym c.if-passes.true ∙ c.passes.ensures)))
-    c.in_ok-part.part.items a.after.items c.in_ok-part.ensures.differ differ c.in_ok-part.ensures.placed c.in_ok-part.ensures.made placed after
-    (length c.in_ok-part.part.items) (length a.after.items) c.in_err-found.field-0.0 c.in_err-found.ensures.names c.in_err-found.ensures.crowd)
+list_element-returns-in_err-found-clause-crowded = refusals.list_element-returns-in_err-found-clause-crowded
 
 pub list_choose-returns-in_err-part-clause-crowded : goal.list_choose-returns-in_err-part-clause-crowded
-list_choose-returns-in_err-part-clause-crowded t c =
-    let a = c.args in
-    let l = c.loop-k in
-    let p = a.path.now in
-    let v = value_of_code c.kept.result.value in
-    let makes = makings.value_makes a.on.now a.frame.now p a.body.now v 0 in
-    let whole = makings.choose_makes a.on.now a.frame.now p a.over a.test.now a.body.now a.none.now in
-    let taken = makings.taken_makes a.on.now a.frame.now p a.over a.test.now a.body.now a.none.now c.as_slice-all.result.now (c.as_slice-all.ensures.value ∙ c.in_ok-values.ensures)
-    l.k v (c.candidate_at-value.ensures ∙ ap Some (sym c.kept.ensures)) in
-    exit_chosen a.on.now.limit p makes whole l.k taken c.from_residual-in_err-part.result c.in_err-part.field-0.0 c.from_residual-in_err-part.ensures.1 c.in_err-part.ensures.crowded
+list_choose-returns-in_err-part-clause-crowded = refusals.list_choose-returns-in_err-part-clause-crowded
 
 pub list_choose-returns-in_err-add_part-clause-crowded : goal.list_choose-returns-in_err-add_part-clause-crowded
-list_choose-returns-in_err-add_part-clause-crowded t c =
-    let a = c.args in
-    let l = c.loop-k in
-    let p = a.path.now in
-    let v = value_of_code c.kept.result.value in
-    let makes = makings.value_makes a.on.now a.frame.now p a.body.now v 0 in
-    let whole = makings.choose_makes a.on.now a.frame.now p a.over a.test.now a.body.now a.none.now in
-    let taken = makings.taken_makes a.on.now a.frame.now p a.over a.test.now a.body.now a.none.now c.as_slice-all.result.now (c.as_slice-all.ensures.value ∙ c.in_ok-values.ensures)
-    l.k v (c.candidate_at-value.ensures ∙ ap Some (sym c.kept.ensures)) in
-    refuses_on a.on.now.limit (λ q. IsWay p whole) c.from_residual-in_err-add_part.result c.in_err-add_part.field-0.0 c.from_residual-in_err-add_part.ensures.1
-    (picked_refused a.on.now.limit p makes whole l.k taken c.in_ok-part.part.items l.found.items l.invariant.differ l.invariant.takes c.in_ok-part.ensures.differ
-    c.in_ok-part.ensures.placed c.in_ok-part.ensures.made l.invariant.placed l.invariant.made
-    (length c.in_ok-part.part.items) (length l.found.items) c.in_err-add_part.field-0.0 c.in_err-add_part.ensures.names c.in_err-add_part.ensures.crowd)
+list_choose-returns-in_err-add_part-clause-crowded = refusals.list_choose-returns-in_err-add_part-clause-crowded
 
 pub list_in_order-returns-in_err-next-clause-crowded : goal.list_in_order-returns-in_err-next-clause-crowded
-list_in_order-returns-in_err-next-clause-crowded t c =
-    let a = c.args in
-    let l = c.loop-i in
-    let total = order_made_on a.on.now a.frame.now a.path.now (rules_of (map rule_of a.parts.now)) in
-    let left = makings.order_left a.on.now a.frame.now a.path.now a.parts.now in
-    let front = sym c.as_slice-front.ensures.value in
-    refuses_on a.on.now.limit (λ q. IsWay a.path.now total) c.from_residual-in_err-next.result c.in_err-next.field-0.0 c.from_residual-in_err-next.ensures.1
-    (c.in_err-next.ensures.crowded total (left l.i) (left (l.i + 1))
-    (makings.order_steps a.on.now a.frame.now a.path.now a.parts.now l.i c.index-parts-i.result c.loop-i-test.true c.index-parts-i.is)
-    (subst (MadeSoFar (shape_on a.on.now) (state_on a.on.now) total (left l.i) l.sorted.done.items) front l.invariant.made)
-    (subst (HaveChoices (IsPlacedBefore a.path.now l.i)) front l.invariant.placed.1) l.invariant.placed.0
-    (subst (λ fs. AreDifferent a.path.now (ways_of l.sorted.done.items ++ ways_of fs)) front l.invariant.differ))
+list_in_order-returns-in_err-next-clause-crowded = refusals.list_in_order-returns-in_err-next-clause-crowded
 
 pub list_in_order-returns-in_err-found-clause-crowded : goal.list_in_order-returns-in_err-found-clause-crowded
-list_in_order-returns-in_err-found-clause-crowded t c =
-    let a = c.args in
-    let l = c.loop-i in
-    let total = order_made_on a.on.now a.frame.now a.path.now (rules_of (map rule_of a.parts.now)) in
-    refuses_on a.on.now.limit (λ q. IsWay a.path.now total) c.from_residual-in_err-found.result c.in_err-found.field-0.0 c.from_residual-in_err-found.ensures.1
-    (closed_refused a.on.now.limit a.path.now total l.sorted l.invariant.differ (both_placed a.path.now l.i l.sorted l.invariant.placed) l.invariant.made.done_made l.invariant.made.front_made
-    (length l.sorted.done.items) (length l.sorted.more.items) c.in_err-found.field-0.0 c.in_err-found.ensures.names c.in_err-found.ensures.crowd)
+list_in_order-returns-in_err-found-clause-crowded = refusals.list_in_order-returns-in_err-found-clause-crowded
 
 pub list_turns-returns-in_err-next-clause-crowded : goal.list_turns-returns-in_err-next-clause-crowded
-list_turns-returns-in_err-next-clause-crowded t c =
-    let a = c.args in
-    let l = c.loop-turn in
-    let R = rule_of a.body.now in
-    let total = makes_on a.on.now a.frame.now a.path.now (tree.Iterate R) in
-    let left = makings.turns_left a.on.now a.frame.now a.path.now R in
-    let one : suc (a.on.now.turns - (l.turn + 1)) ≡ a.on.now.turns - l.turn = omega (arith, c.loop-turn-test.true) in
-    let front = sym c.as_slice-front.ensures.value in
-    let number = sym c.from-number.ensures in
-    refuses_on a.on.now.limit (λ q. IsWay a.path.now total) c.from_residual-in_err-next.result c.in_err-next.field-0.0 c.from_residual-in_err-next.ensures.1
-    (c.in_err-next.ensures.crowded total (left (a.on.now.turns - l.turn) l.turn) (left (a.on.now.turns - (l.turn + 1)) (l.turn + 1))
-    (subst (λ k. MakesTo true (here_on a.on.now a.frame.now (at a.path.now k) R) (made_on a.on.now a.frame.now (at a.path.now k) R) (left (a.on.now.turns - l.turn) l.turn) (left (a.on.now.turns - (l.turn + 1)) (l.turn + 1))) number
-    (subst (λ n. MakesTo true (here_on a.on.now a.frame.now (at a.path.now l.turn) R) (made_on a.on.now a.frame.now (at a.path.now l.turn) R) (left n l.turn) (left (a.on.now.turns - (l.turn + 1)) (l.turn + 1))) one
-    (makings.turn_steps a.on.now a.frame.now a.path.now R (a.on.now.turns - (l.turn + 1)) l.turn)))
-    (subst (MadeSoFar (shape_on a.on.now) (state_on a.on.now) total (left (a.on.now.turns - l.turn) l.turn) l.sorted.done.items) front l.invariant.made)
-    (subst (λ n. HaveChoices (IsPlacedBefore a.path.now n) c.as_slice-front.result.now) number (subst (HaveChoices (IsPlacedBefore a.path.now l.turn)) front l.invariant.placed.1))
-    (subst (λ n. HaveChoices (IsPlacedBefore a.path.now n) l.sorted.done.items) number l.invariant.placed.0)
-    (subst (λ fs. AreDifferent a.path.now (ways_of l.sorted.done.items ++ ways_of fs)) front l.invariant.differ))
+list_turns-returns-in_err-next-clause-crowded = refusals.list_turns-returns-in_err-next-clause-crowded
 
 pub list_turns-returns-in_err-found-clause-crowded : goal.list_turns-returns-in_err-found-clause-crowded
-list_turns-returns-in_err-found-clause-crowded t c =
-    let a = c.args in
-    let l = c.loop-turn in
-    let total = makes_on a.on.now a.frame.now a.path.now (tree.Iterate (rule_of a.body.now)) in
-    refuses_on a.on.now.limit (λ q. IsWay a.path.now total) c.from_residual-in_err-found.result c.in_err-found.field-0.0 c.from_residual-in_err-found.ensures.1
-    (closed_refused a.on.now.limit a.path.now total l.sorted l.invariant.differ (both_placed a.path.now l.turn l.sorted l.invariant.placed) l.invariant.made.done_made l.invariant.made.front_made
-    (length l.sorted.done.items) (length l.sorted.more.items) c.in_err-found.field-0.0 c.in_err-found.ensures.names c.in_err-found.ensures.crowd)
+list_turns-returns-in_err-found-clause-crowded = refusals.list_turns-returns-in_err-found-clause-crowded
 
 pub list_next-returns-in_err-list_one-clause-crowded : goal.list_next-returns-in_err-list_one-clause-crowded
-list_next-returns-in_err-list_one-clause-crowded t c = λ total left left_then steps so_far h g differ.
-    let a = c.args in
-    let l = c.loop-i in
-    let one = c.index-front-i.result in
-    refuses_on a.on.now.limit (λ q. IsWay a.path.now total) c.from_residual.result c.in_err-list_one.field-0.0 c.from_residual.ensures.1
-    (c.in_err-list_one.ensures.crowded total left left_then steps
-    (each_at (λ f. AreMade total f.choices.items) a.front.now l.i one c.loop-i-test.true c.index-front-i.is so_far.front_made)
-    (each_at (HasSet (shape_on a.on.now) (MakesOfAll (state_on a.on.now) total left)) a.front.now l.i one c.loop-i-test.true c.index-front-i.is so_far.front_on)
-    (l.invariant.made total left left_then steps so_far)
-    (each_at (λ f. IsPlacedBefore a.path.now a.number f.choices.items) a.front.now l.i one c.loop-i-test.true c.index-front-i.is h)
-    (l.invariant.placed h g)
-    (front_one a.path.now one (drop (l.i + 1) a.front.now) l.sorted (front_next a.path.now a.front.now l.i one l.sorted c.loop-i-test.true c.index-front-i.is (l.invariant.differ differ))))
+list_next-returns-in_err-list_one-clause-crowded = refusals.list_next-returns-in_err-list_one-clause-crowded
 
 pub list_one-returns-in_err-part-in-Set-clause-crowded : goal.list_one-returns-in_err-part-in-Set-clause-crowded
-list_one-returns-in_err-part-in-Set-clause-crowded t c = λ total left left_then steps own on so_far before both differ.
-    let a = c.args in
-    let upon = c.in_err-part-in-Set.ensures.upon in
-    part_refused (shape_on a.on.now) a.turns (state_on a.on.now) (here_on a.on.now a.frame.now (at a.path.now a.number) (rule_of a.rule.now))
-    (made_on a.on.now a.frame.now (at a.path.now a.number) (rule_of a.rule.now)) total left left_then steps a.one.now c.in-Set.so_far c.in-Set.is upon.state upon.fired own on
-    a.on.now.limit a.path.now a.number before c.from_residual.result c.in_err-part-in-Set.field-0.0 c.from_residual.ensures.1 upon.refuses
+list_one-returns-in_err-part-in-Set-clause-crowded = refusals.list_one-returns-in_err-part-in-Set-clause-crowded
 
 pub list_one-returns-in_err-sort_part-in-Set-clause-crowded : goal.list_one-returns-in_err-sort_part-in-Set-clause-crowded
-list_one-returns-in_err-sort_part-in-Set-clause-crowded t c = λ total left left_then steps own on so_far before both differ.
-    let a = c.args in
-    let upon = c.in_ok-part-in-Set.ensures.upon in
-    refuses_on a.on.now.limit (λ q. IsWay a.path.now total) c.from_residual-in_err-sort_part-in-Set.result c.in_err-sort_part-in-Set.field-0.0 c.from_residual-in_err-sort_part-in-Set.ensures.1
-    (sorted_refused (shape_on a.on.now) a.turns (state_on a.on.now) (here_on a.on.now a.frame.now (at a.path.now a.number) (rule_of a.rule.now))
-    (made_on a.on.now a.frame.now (at a.path.now a.number) (rule_of a.rule.now)) total left left_then steps a.one.now c.in-Set.so_far c.in-Set.is upon.state upon.fired own on
-    a.on.now.limit a.path.now a.number before c.in_ok-part-in-Set.part.items a.sorted.now differ c.in_ok-part-in-Set.ensures.differ c.in_ok-part-in-Set.ensures.placed upon.made both
-    so_far.done_made so_far.front_made
-    (length c.in_ok-part-in-Set.part.items) (length a.sorted.now.more.items) c.in_err-sort_part-in-Set.field-0.0 c.in_err-sort_part-in-Set.ensures.names c.in_err-sort_part-in-Set.ensures.crowd)
+list_one-returns-in_err-sort_part-in-Set-clause-crowded = refusals.list_one-returns-in_err-sort_part-in-Set-clause-crowded
