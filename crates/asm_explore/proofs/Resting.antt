@@ -33,11 +33,14 @@ module _ {X : Type 0} (P : X → Type 0) where
       inl (h.0, subst (λ n. AreJust P (suc k) (xs ++ x ∷ []) (ks ++ n ∷ [])) place (just_next (suc k) xs ks x so h.1))
   just_next k (y ∷ xs) ks x so (inr h) =
       let place : suc k + length xs ≡ k + suc (length xs) = omega arith in
-      inr (h.0, (
-        h.1.0 ++ (k + suc (length xs)) ∷ [],
-        ap (λ ns. ns ++ (k + suc (length xs)) ∷ []) h.1.1,
-        subst (λ n. AreJust P (suc k) (xs ++ x ∷ []) (h.1.0 ++ n ∷ [])) place (just_next (suc k) xs h.1.0 x so h.1.2),
-      ))
+      inr (
+        h.0,
+        (
+          h.1.0 ++ (k + suc (length xs)) ∷ [],
+          ap (λ ns. ns ++ (k + suc (length xs)) ∷ []) h.1.1,
+          subst (λ n. AreJust P (suc k) (xs ++ x ∷ []) (h.1.0 ++ n ∷ [])) place (just_next (suc k) xs h.1.0 x so h.1.2),
+        ),
+      )
 
   pub just_none : (k : ℕ) (xs : List X) → AreJust P k xs [] → Each (λ x. ¬ (P x)) xs
   just_none k [] just = tt
@@ -197,8 +200,7 @@ module _ (shape : Shape) (specification : Specification) (turns : ℕ) (rests wi
       let n = one.1 in
       let same : q ≡ j = omega (arith, one.2) in
       let there = take_got nodes i j n one.3 in
-      let searched = looked_whole shape specification turns right within depth i n.depth nodes (omega (arith, one.4.0.0)) (behind nodes j i n so_far.rises there.1 (omega (arith, there.0))) so_far in
-      (
+      let searched = looked_whole shape specification turns right within depth i n.depth nodes (omega (arith, one.4.0.0)) (behind nodes j i n so_far.rises there.1 (omega (arith, there.0))) so_far in (
         n,
         ap (slice_get nodes) same ∙ there.1,
         one.4.0.1,

@@ -61,14 +61,28 @@ module _ (specification : Specification) (turns : ℕ) (crowds throngs : State �
   claims_more right rests within states finding.Closed h = h
   claims_more right rests within states (finding.SafeTo depth) h = h
   claims_more right rests within states (finding.Bad bad) h = record {
-    script = h.script; spelled = h.spelled; wrong = h.wrong; stays = h.stays; limited = h.limited; before = h.before; next = h.next; shortest = h.shortest;
+    script = h.script;
+    spelled = h.spelled;
+    wrong = h.wrong;
+    stays = h.stays;
+    limited = h.limited;
+    before = h.before;
+    next = h.next;
+    shortest = h.shortest;
   }
   claims_more right rests within states finding.WrongFirst h = h
   claims_more right rests within states (finding.TooManyStates depth) h = h
   claims_more right rests within states (finding.TooManyOutcomes depth crowd) h = (h.0, (h.1.0, h.1.1, f h.1.0 crowd h.1.2))
   claims_more right rests within states (finding.NoMemory depth) h = h
   claims_more right rests within states (finding.Unwritten unwritten) h = record {
-    lines = h.lines; wrong = h.wrong; stays = h.stays; limited = h.limited; long = h.long; before = h.before; next = h.next; shortest = h.shortest;
+    lines = h.lines;
+    wrong = h.wrong;
+    stays = h.stays;
+    limited = h.limited;
+    long = h.long;
+    before = h.before;
+    next = h.next;
+    shortest = h.shortest;
   }
 
   pub same_answer : (right rests within also rested inside : State → Bool) (answer : Answered)

@@ -129,7 +129,12 @@ static RESTING: [Case; 11] = [
 fn quiet_states_are_listed(rt: HostRuntime) -> Result<(), Fail> {
     for (text, asked, expected) in &RESTING {
         let told = told_of(rt.alloc(), text, asked)?;
-        assert_eq!(rt; told, *expected, "{text} with {} where quiet", asked.when_quiet);
+        assert_eq!(rt;
+            told,
+            *expected,
+            "{text} with {} where quiet",
+            asked.when_quiet
+        );
     }
     Ok(())
 }

@@ -113,9 +113,11 @@ returns-in-Err-Outcomes-clause-claims g c = λ limit states.
     let said = subst (HaltsSo ⊥ (λ (crowd : Crowd). (n : Node) → slice_get a.nodes.now a.bad.from ≡ Some n → (number : ℕ) × AtNode shape crowds a.nodes.now number n.depth crowd))
     c.in-Err-Outcomes.field-0-is c.in-Err-Outcomes.ensures.crowded wrong.from wrong.there in
     let n = said.1.0 in
-    let shallow : n.depth ≤ a.whole = omega (arith, said.1.2, (c.requires.deep wrong.from wrong.there).0) in
-    ((c.requires.safe, c.requires.alive), (
-      state_at shape n,
-      node_reached shape specification turns within a.nodes.now c.requires.linked c.requires.inside a.whole said.0 n said.1.1 shallow,
-      subst (crowds (state_at shape n)) (sym c.in-Err-Outcomes.crowd-is) said.1.3,
-    ))
+    let shallow : n.depth ≤ a.whole = omega (arith, said.1.2, (c.requires.deep wrong.from wrong.there).0) in (
+      (c.requires.safe, c.requires.alive),
+      (
+        state_at shape n,
+        node_reached shape specification turns within a.nodes.now c.requires.linked c.requires.inside a.whole said.0 n said.1.1 shallow,
+        subst (crowds (state_at shape n)) (sym c.in-Err-Outcomes.crowd-is) said.1.3,
+      ),
+    )

@@ -25,16 +25,18 @@ returns g c =
     let nodes = c.in_ok-nodes.field-0.nodes in
     record {
       found = elim c.match-ended.branch [
-      | in-Closed w ↦ subst claims (sym w.finding-is) (explored.closed w.in-Closed.is, explored.always_alive w.in-Closed.is)
-      | in-AtLimit w ↦ subst claims (sym w.finding-is) (explored.at_limit w.in-AtLimit.is, (explored.safe, explored.alive))
-      | in-Bad+in_ok-finding-in-Bad w ↦ subst claims (sym w.finding-is) (w.in_ok-finding-in-Bad.ensures.claims a.limit states)
-      | in-TooManyStates w ↦ subst claims (sym w.finding-is)
-          (subst (λ n. a.limit ≤ n) (sym c.len.ensures) (explored.full w.in-TooManyStates.is), (explored.safe, explored.alive))
-      | in-TooManyOutcomes w ↦ subst claims (sym w.finding-is) ((explored.safe, explored.alive),
+        | in-Closed w ↦ subst claims (sym w.finding-is) (explored.closed w.in-Closed.is, explored.always_alive w.in-Closed.is)
+        | in-AtLimit w ↦ subst claims (sym w.finding-is) (explored.at_limit w.in-AtLimit.is, (explored.safe, explored.alive))
+        | in-Bad+in_ok-finding-in-Bad w ↦ subst claims (sym w.finding-is) (w.in_ok-finding-in-Bad.ensures.claims a.limit states)
+        | in-TooManyStates w ↦ subst claims (sym w.finding-is)
+            (subst (λ n. a.limit ≤ n) (sym c.len.ensures) (explored.full w.in-TooManyStates.is), (explored.safe, explored.alive))
+        | in-TooManyOutcomes w ↦ subst claims (sym w.finding-is) (
+          (explored.safe, explored.alive),
           let at = subst (λ e. IfCrowd e (AtNode shape crowds nodes c.in_ok-nodes.field-0.expanded c.in_ok-nodes.field-0.whole)) w.in-TooManyOutcomes.is explored.crowded in
-          (state_at shape at.0, node_reached shape specification turns within nodes explored.nodes.1 explored.inside c.in_ok-nodes.field-0.whole c.in_ok-nodes.field-0.expanded at.0 at.1 at.2, at.3))
-      | in-Memory w ↦ subst claims (sym w.finding-is) (explored.safe, explored.alive)
-    ];
+              (state_at shape at.0, node_reached shape specification turns within nodes explored.nodes.1 explored.inside c.in_ok-nodes.field-0.whole c.in_ok-nodes.field-0.expanded at.0 at.1 at.2, at.3),
+        )
+        | in-Memory w ↦ subst claims (sym w.finding-is) (explored.safe, explored.alive)
+      ];
       reached = map (state_at shape) nodes;
       count = length-map nodes (state_at shape) ∙ sym c.len.ensures;
       reach = nodes_reached shape specification turns within nodes explored.nodes.1 explored.inside c.greatest_depth.result

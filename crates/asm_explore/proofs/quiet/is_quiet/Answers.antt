@@ -41,8 +41,7 @@ returns-then-not-branch g c =
     let s : Situation = record { script = taken.0; step = 1 } in
     let r = steps_from (g.M.Machine.specification a.machine.now) (g.M.Machine.turns a.machine.now) A s in
     let shows = each_at (IsSound shape (steps_from (g.M.Machine.specification a.machine.now) (g.M.Machine.turns a.machine.now) A)) a.outcomes.now c.loop-k.k one c.loop-k-test.true c.index-outcomes-k.is step.lists.sound s taken.1 in
-    let so = c.in_ok-leads.ensures r (subst (λ s. Shows s one.answer r) (sym c.signature-signature.ensures) shows) in
-    (
+    let so = c.in_ok-leads.ensures r (subst (λ s. Shows s one.answer r) (sym c.signature-signature.ensures) shows) in (
       λ yes. absurd (false≢true yes),
       λ quiet. absurd (false≢true (sym c.if-not-branch.true ∙ so.1 (subst (λ s. LeadsOn r (state_of s a.state.now) (λ B. B ≡ state_of s a.state.now)) (sym c.signature-signature.ensures) (quiet taken.0 1)))),
     )
@@ -51,8 +50,7 @@ pub returns : goal.returns
 returns g c =
     let a = c.args in
     let shape = g.M.Machine.shape a.machine.now in
-    let A = state_of shape a.state.now in
-    (
+    let A = state_of shape a.state.now in (
       λ yes script step.
           let s : Situation = record { script = script; step = step } in
           let r = steps_from (g.M.Machine.specification a.machine.now) (g.M.Machine.turns a.machine.now) A s in

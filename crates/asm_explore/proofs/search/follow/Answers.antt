@@ -38,7 +38,7 @@ reach-requires-clause-leads g c = λ n there.
     let set = c.in-Set.updates in
     let outcome = c.requires.outcome n there in
     let leads : (s : Situation) → AreTaken s a.one.now.choices.items
-        → LeadsOn (steps_from (g.M.Machine.specification a.machine.now) (g.M.Machine.turns a.machine.now) (state_at shape n) s) (state_at shape n) (λ A. A ≡ state_of shape c.in_ok-next.next) = λ s taken.
+    → LeadsOn (steps_from (g.M.Machine.specification a.machine.now) (g.M.Machine.turns a.machine.now) (state_at shape n) s) (state_at shape n) (λ A. A ≡ state_of shape c.in_ok-next.next) = λ s taken.
     let r = steps_from (g.M.Machine.specification a.machine.now) (g.M.Machine.turns a.machine.now) (state_at shape n) s in
     set_leads shape set a.one.now (state_at shape n) c.in_ok-next.next r (λ A. A ≡ state_of shape c.in_ok-next.next) c.in-Set.is
     (outcome.1 s taken)

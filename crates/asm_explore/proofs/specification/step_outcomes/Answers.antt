@@ -39,17 +39,17 @@ returns c =
     let steps = steps_from (specification_of s) m.turns (state_of shape a.state.now) in
     record {
       step = record {
-            lists = subst (λ sh. Lists sh steps c.in_ok-found.found.items) viewed
-                (lists_same _ _ steps c.in_ok-found.found.items
-                (λ q.
-                let o : Outcome = does (program_of s) m.turns q.script q.step A nothing_bound [] R in
-                ap (λ (o : Outcome). o.result)
-                (subst (λ (sh : Shape). meaning sh m.turns (picked q) (rule_of m.code.now) [] [] A [] ≡ o) (sym viewed)
-                (c.resolving_laws.ensures.means s R (rule_of m.code.now) m.turns q.script q.step A [] c.requires.sound.main))
-                ∙ ap (λ B. steps_from (specification_of s) m.turns B q) shows)
-                c.in_ok-found.ensures.lists);
-            apart = have_weaker (IsPlaced []) AreApart (λ cs placed. placed.apart) c.in_ok-found.found.items c.in_ok-found.ensures.placed;
-          };
+        lists = subst (λ sh. Lists sh steps c.in_ok-found.found.items) viewed
+            (lists_same _ _ steps c.in_ok-found.found.items
+            (λ q.
+            let o : Outcome = does (program_of s) m.turns q.script q.step A nothing_bound [] R in
+            ap (λ (o : Outcome). o.result)
+            (subst (λ (sh : Shape). meaning sh m.turns (picked q) (rule_of m.code.now) [] [] A [] ≡ o) (sym viewed)
+            (c.resolving_laws.ensures.means s R (rule_of m.code.now) m.turns q.script q.step A [] c.requires.sound.main))
+            ∙ ap (λ B. steps_from (specification_of s) m.turns B q) shows)
+            c.in_ok-found.ensures.lists);
+        apart = have_weaker (IsPlaced []) AreApart (λ cs placed. placed.apart) c.in_ok-found.found.items c.in_ok-found.ensures.placed;
+      };
       refuses = tt;
     }
 

@@ -163,9 +163,12 @@ returns-in_err-choices-clause-crowded g c =
     let said : Crowd → Type 0 = λ crowd. (n : Node) → slice_get nodes a.last ≡ Some n → (number : ℕ) × AtNode shape crowds nodes number n.depth crowd in
     full_on (HaltsSo ⊥ said) c.choices_between.result c.from_residual-in_err-choices.result c.in_err-choices.field-0.0 c.in_err-choices.was c.from_residual-in_err-choices.ensures.1
     (errs_weaker ⊥ ⊥ (crowds (state_of shape c.in_ok-earlier.earlier)) said c.choices_between.result (λ none. none)
-    (λ crowd so k last. (c.from-from.result, (
-      e,
-      at,
-      omega (arith, end, deep, from.deeper, c.loop-step-test.true, ap (λ (n : Node). n.depth) (same_node nodes a.last n.0 k n.1 last)),
-      subst (λ xs. crowds (state_of shape xs) crowd) (c.in_ok-earlier.ensures e at) so,
-    ))) c.choices_between.ensures.crowded)
+    (λ crowd so k last. (
+      c.from-from.result,
+      (
+        e,
+        at,
+        omega (arith, end, deep, from.deeper, c.loop-step-test.true, ap (λ (n : Node). n.depth) (same_node nodes a.last n.0 k n.1 last)),
+        subst (λ xs. crowds (state_of shape xs) crowd) (c.in_ok-earlier.ensures e at) so,
+      ),
+    )) c.choices_between.ensures.crowded)
