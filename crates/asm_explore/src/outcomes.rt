@@ -1,5 +1,5 @@
 //! The outcomes of a resolved rule through all scripts.
-ghost use Rattle.std.specs.Prelude.{◌≡◌, ◌+◌, ◌++◌, List, [], ◌∷◌, cond, IfOk, IfErr, OnOk, map, option_map};
+ghost use Rattle.std.specs.Prelude.{◌≡◌, ◌+◌, ◌++◌, [], ◌∷◌, ◌<◌, List, cond, IfOk, IfErr, OnOk, map, option_map, length, take};
 ghost use Rattle.asm_state.specs.Location.{State};
 ghost use Rattle.asm_state.specs.Signature.{count_of};
 ghost use Rattle.asm_meaning.specs.Yields as yields;
@@ -38,6 +38,9 @@ use asm_eval::value::{holds, value};
 use asm_meaning::View;
 use std::alloc::{AllocError, Global};
 
+/// Paths with fewer numbers than this need no memory.
+const SHORT: usize = 16;
+
 /// The path of the part with this number.
 fn path_at(alloc: Global, path: &[u64], number: u64) -> Result<Vec<u64>, AllocError>
     ensures { IfOk result (λ p. p.items ≡ yields.at path.now number) }
@@ -46,6 +49,17 @@ fn path_at(alloc: Global, path: &[u64], number: u64) -> Result<Vec<u64>, AllocEr
     below.extend_from_slice(path)?;
     below.push(number)?;
     Ok(below)
+}
+
+/// Puts the path of the part with this number first.
+#[inline(always)]
+fn put_path(path: &[u64], number: u64, below: &mut [u64; SHORT])
+    requires { length path.now < 16 }
+    ensures { take (length path.now + 1) below.new ≡ yields.at path.now number }
+{
+    let len = path.len();
+    below[..len].copy_from_slice(path);
+    below[len] = number;
 }
 
 /// What the rule may yield at this path: each outcome with choices that lead to it.
@@ -115,6 +129,11 @@ fn list_part<'e>(
     ensures crowded { let here = yields.at path.now number in
         IfErr result (Refuses on.now.limit (λ q. IsWay here (makes_on on.now frame.now here (rule_of rule.now)))) }
 {
+    if path.len() < SHORT {
+        let mut below = [0u64; SHORT];
+        put_path(path, number, &mut below);
+        return outcomes(alloc, on, frame, rule, &below[..path.len() + 1]);
+    }
     let below = path_at(alloc, path, number)?;
     let found = outcomes(alloc, on, frame, rule, below.as_slice())?;
     Ok(found)

@@ -149,6 +149,9 @@ outcomes-returns-in-Call-clause-made = made_answers.outcomes-returns-in-Call-cla
 pub list_part-returns-clause-made : goal.list_part-returns-clause-made
 list_part-returns-clause-made = made_answers.list_part-returns-clause-made
 
+pub list_part-returns-then-path-lt-SHORT-clause-made : goal.list_part-returns-then-path-lt-SHORT-clause-made
+list_part-returns-then-path-lt-SHORT-clause-made = made_answers.list_part-returns-then-path-lt-SHORT-clause-made
+
 pub list_if-returns-then-holds-clause-lists : goal.list_if-returns-then-holds-clause-lists
 list_if-returns-then-holds-clause-lists t c =
     let a = c.args in
@@ -511,8 +514,7 @@ list_turns-returns-then-waiting-eq0-clause-made = made_answers.list_turns-return
 
 pub list_turns-list_next-requires : goal.list_turns-list_next-requires
 list_turns-list_next-requires t c =
-    let a = c.args in
-    (omega (arith, c.decreases), (c.requires.sound, (c.requires.framed, subst (AreCounted (count_of (shape_on a.on.now))) (sym c.as_slice-front.ensures.value) c.loop-turn.invariant.underway.front_counted)))
+    (omega (arith, c.decreases), (c.requires.sound, (c.requires.framed, subst (AreCounted (count_of (shape_on c.args.on.now))) (sym c.as_slice-front.ensures.value) c.loop-turn.invariant.underway.front_counted)))
 
 pub list_turns-loop-turn-preserved : goal.list_turns-loop-turn-preserved
 list_turns-loop-turn-preserved t c =
@@ -610,8 +612,7 @@ list_next-returns-clause-next t c =
 
 pub list_one-list_upon-requires : goal.list_one-list_upon-requires
 list_one-list_upon-requires t c =
-    let a = c.args in
-    (omega (arith, c.decreases), (c.requires.sound, (c.requires.framed, subst (IsCounted (count_of (shape_on a.on.now))) c.in-Set.is c.requires.counted)))
+    (omega (arith, c.decreases), (c.requires.sound, (c.requires.framed, subst (IsCounted (count_of (shape_on c.args.on.now))) c.in-Set.is c.requires.counted)))
 
 pub list_one-returns-in_ok-sort_part-in-Set-clause-next : goal.list_one-returns-in_ok-sort_part-in-Set-clause-next
 list_one-returns-in_ok-sort_part-in-Set-clause-next t c =
@@ -737,6 +738,9 @@ outcomes-returns-in-Call-clause-crowded = refusals.outcomes-returns-in-Call-clau
 
 pub list_part-returns-in_err-found-clause-crowded : goal.list_part-returns-in_err-found-clause-crowded
 list_part-returns-in_err-found-clause-crowded = refusals.list_part-returns-in_err-found-clause-crowded
+
+pub list_part-returns-then-path-lt-SHORT-clause-crowded : goal.list_part-returns-then-path-lt-SHORT-clause-crowded
+list_part-returns-then-path-lt-SHORT-clause-crowded = refusals.list_part-returns-then-path-lt-SHORT-clause-crowded
 
 pub list_if-returns-then-holds-clause-crowded : goal.list_if-returns-then-holds-clause-crowded
 list_if-returns-then-holds-clause-crowded = refusals.list_if-returns-then-holds-clause-crowded

@@ -8,6 +8,7 @@ use Rattle.asm_eval.specs.Readings.{universe_at}
 use Rattle.asm_eval.specs.RuleTree as tree
 use Rattle.asm_eval.specs.RuleViews.{rule_of, rules_of}
 use Rattle.asm_explore.specs.Explored.{shape_on, state_on, here_on, made_on, makes_on, order_made_on}
+use Rattle.std.specs.Prelude.{IfOk}
 use Rattle.asm_explore.specs.Lists.{HaveChoices}
 use Rattle.asm_explore.specs.Made.{AreMade}
 use Rattle.asm_explore.proofs.Carried.{have_added}
@@ -92,6 +93,11 @@ pub list_part-returns-clause-made : goal.list_part-returns-clause-made
 list_part-returns-clause-made t c =
     let a = c.args in
     subst (λ q. HaveChoices (AreMade (makes_on a.on.now a.frame.now q (rule_of a.rule.now))) c.in_ok-found.found.items) (c.as_slice.ensures.value ∙ c.in_ok-below.ensures) c.in_ok-found.ensures.made
+
+pub list_part-returns-then-path-lt-SHORT-clause-made : goal.list_part-returns-then-path-lt-SHORT-clause-made
+list_part-returns-then-path-lt-SHORT-clause-made t c =
+    let a = c.args in
+    subst (λ q. IfOk c.outcomes.result (λ fs. HaveChoices (AreMade (makes_on a.on.now a.frame.now q (rule_of a.rule.now))) fs.items)) c.put_path.ensures c.outcomes.ensures.made
 
 pub list_if-returns-then-holds-clause-made : goal.list_if-returns-then-holds-clause-made
 list_if-returns-then-holds-clause-made t c =

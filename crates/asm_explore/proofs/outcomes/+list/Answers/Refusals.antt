@@ -92,6 +92,11 @@ list_part-returns-in_err-found-clause-crowded t c =
     (refuses_on a.on.now.limit (λ r. IsWay c.as_slice.result.now (makes_on a.on.now a.frame.now c.as_slice.result.now (rule_of a.rule.now)))
     c.from_residual-in_err-found.result c.in_err-found.field-0.0 c.from_residual-in_err-found.ensures.1 c.in_err-found.ensures.crowded)
 
+pub list_part-returns-then-path-lt-SHORT-clause-crowded : goal.list_part-returns-then-path-lt-SHORT-clause-crowded
+list_part-returns-then-path-lt-SHORT-clause-crowded t c =
+    let a = c.args in
+    subst (λ q. IfErr c.outcomes.result (Refuses a.on.now.limit (λ r. IsWay q (makes_on a.on.now a.frame.now q (rule_of a.rule.now))))) c.put_path.ensures c.outcomes.ensures.crowded
+
 pub list_if-returns-then-holds-clause-crowded : goal.list_if-returns-then-holds-clause-crowded
 list_if-returns-then-holds-clause-crowded t c =
     let a = c.args in
