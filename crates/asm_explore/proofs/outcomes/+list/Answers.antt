@@ -581,8 +581,7 @@ list_next-loop-i-init t c =
 pub list_next-list_one-requires : goal.list_next-list_one-requires
 list_next-list_one-requires t c =
     let a = c.args in
-    let l = c.loop-i in
-    (omega (arith, c.decreases), (c.requires.sound, (c.requires.framed, each_at (λ f. IsCounted (count_of (shape_on a.on.now)) f.answer) a.front.now l.i c.index-front-i.result c.loop-i-test.true c.index-front-i.is c.requires.counted)))
+    (omega (arith, c.decreases), (c.requires.sound, (c.requires.framed, each_at (λ f. IsCounted (count_of (shape_on a.on.now)) f.answer) a.front.now c.loop-i.i c.index-front-i.result c.loop-i-test.true c.index-front-i.is c.requires.counted)))
 
 pub list_next-loop-i-preserved : goal.list_next-loop-i-preserved
 list_next-loop-i-preserved t c =
