@@ -53,31 +53,43 @@ const STUCK: Told = Told {
     ..LEAPT
 };
 
-/// What is to hold where nothing happens any more.
-const fn resting(when_quiet: &'static str) -> Asked {
-    Asked { when_quiet, ..ANY }
-}
+/// A run may rest with 4 alone.
+const FOUR: Asked = Asked {
+    when_quiet: "count = 4",
+    ..ANY
+};
 
-/// So many steps are looked at.
-const fn stepping(steps: u32) -> Asked {
-    Asked {
-        when_quiet: "count = 4",
-        steps,
-        ..ANY
-    }
-}
+/// A run may rest nowhere.
+const NOWHERE: Asked = Asked {
+    when_quiet: "false",
+    ..ANY
+};
 
 static RESTING: [Case; 11] = [
     (LEAPS, ANY, LEAPT),
-    (LEAPS, resting("count > 2"), LEAPT),
-    (LEAPS, resting("count = 4"), STUCK),
+    (
+        LEAPS,
+        Asked {
+            when_quiet: "count > 2",
+            ..ANY
+        },
+        LEAPT,
+    ),
+    (LEAPS, FOUR, STUCK),
     // What is neither true nor false isn't true.
-    (LEAPS, resting("count"), STUCK),
-    (LEAPS, stepping(3), STUCK),
+    (
+        LEAPS,
+        Asked {
+            when_quiet: "count",
+            ..ANY
+        },
+        STUCK,
+    ),
+    (LEAPS, Asked { steps: 3, ..FOUR }, STUCK),
     // That nothing happens in the third step isn't seen in the second one.
     (
         LEAPS,
-        stepping(2),
+        Asked { steps: 2, ..FOUR },
         Told {
             verdict: Verdict::SafeTo(2),
             outcomes: 6,
@@ -90,8 +102,7 @@ static RESTING: [Case; 11] = [
         LEAPS,
         Asked {
             within: "count < 3",
-            when_quiet: "false",
-            ..ANY
+            ..NOWHERE
         },
         Told {
             outcomes: 6,
@@ -102,7 +113,7 @@ static RESTING: [Case; 11] = [
     (STILL, ANY, ONE),
     (
         STILL,
-        resting("false"),
+        NOWHERE,
         Told {
             verdict: Verdict::Bad(1, Fault::Deadlock),
             quiet: 0,
@@ -112,7 +123,7 @@ static RESTING: [Case; 11] = [
     // Some choice goes on from each state.
     (
         SWINGING,
-        resting("false"),
+        NOWHERE,
         Told {
             states: 2,
             depth: 1,
@@ -122,19 +133,21 @@ static RESTING: [Case; 11] = [
             ..ONE
         },
     ),
-    (WRITING, resting("x = 0"), ONE),
+    (
+        WRITING,
+        Asked {
+            when_quiet: "x = 0",
+            ..ANY
+        },
+        ONE,
+    ),
 ];
 
 #[test]
 fn quiet_states_are_listed(rt: HostRuntime) -> Result<(), Fail> {
     for (text, asked, expected) in &RESTING {
-        let told = told_of(rt.alloc(), text, asked)?;
-        assert_eq!(rt;
-            told,
-            *expected,
-            "{text} with {} where quiet",
-            asked.when_quiet
-        );
+        let (told, when_quiet) = (told_of(rt.alloc(), text, asked)?, asked.when_quiet);
+        assert_eq!(rt; told, *expected, "{text} with {when_quiet} where quiet");
     }
     Ok(())
 }
