@@ -2,7 +2,7 @@
 --     par_makes, seq_makes, iterate_makes, forall_makes     of the whole
 --     if_yes, if_no, let_makes, choose_some, choose_none, call_makes     of the part that is reached
 --     parts_next, parts_end, elements_next, elements_end, order_next, order_end, turns_next, turns_end     of the first, and of what is left
-use Rattle.std.proofs.Common.{◌++◌, ◌≡◌, ◌∙◌, ℕ, suc, ◌+◌, ◌≤◌, ◌<◌, ◌%◌, Bool, true, false, cond, not, List, [], ◌∷◌, length, get_or, map, drop, Option, Some, None, refl, ap, sym, arith, add-one}
+use Rattle.std.proofs.Common.{◌++◌, ◌≡◌, ◌∙◌, ℕ, suc, ◌+◌, ◌≤◌, ◌<◌, ◌%◌, Bool, true, false, cond, not, List, [], ◌∷◌, length, get_or, map, drop, Option, Some, None, refl, ap, sym, arith, add-one, ◌-◌, take}
 use Rattle.std.specs.Prelude.{option_map, slice_get, slice_index_or}
 use Rattle.std.proofs.Math.Nat.{mod-eq_of_lt}
 use Rattle.std.proofs.lemmas.List.{at_drop_more, drop_more}
@@ -15,7 +15,7 @@ use Rattle.asm_state.specs.Updates.{UpdateSet, is_consistent, fire}
 use Rattle.asm_meaning.specs.Intervals.{between}
 use Rattle.asm_meaning.specs.Value.{Reading, is_true}
 use Rattle.asm_meaning.specs.Yields.{Path, Result, Gives, Exhausted, at}
-use Rattle.asm_meaning.proofs.Intervals.{interval_laws-all as between_all, between_more, between_none}
+use Rattle.asm_meaning.proofs.Intervals.{interval_laws-all as between_all}
 use Rattle.asm_eval.specs.CodeViews.{code_of, codes_of}
 use Rattle.asm_eval.specs.CodeTree as codes
 use Rattle.asm_eval.specs.Frames.{answer_contents, by_name}
@@ -31,6 +31,23 @@ use Rattle.asm_explore.specs.declared.found.Choice.{Choice}
 use Rattle.asm_explore.specs.Made.{Part, made, parts_of, parts_make, order_makes, each_makes, one_makes, turns_make, after_part, after_turn}
 use Rattle.asm_explore.specs.MadeSoFar.{made_after}
 use Rattle.asm_explore.proofs.CodeRules.{contents_are, named_are}
+
+-- the first of the positions between two, and those behind it; and none
+between_more : (from to : ℕ) (vs : List Value) (v : Value) → from < to → slice_get vs from ≡ Some v → between from to vs ≡ v ∷ between (from + 1) to vs
+between_more from to vs v low there =
+    let less : to - from ≡ suc (to - (from + 1)) = omega (arith, low) in
+    ap (λ n. take n (drop from vs)) less
+    ∙ ap (take (suc (to - (from + 1)))) (at_drop_more (λ (xs : List Value). xs) vs from v (slice_get_within vs from v there))
+    ∙ ap (λ w. w ∷ between (from + 1) to vs) (get_or_from_slice_get vs from v v there)
+
+between_none : (from to : ℕ) (vs : List Value) → to ≤ from → between from to vs ≡ []
+between_none from to vs past =
+    let none_left : to - from ≡ 0 = omega (arith, past) in
+    ap (λ n. take n (drop from vs)) none_left ∙ take_none (drop from vs)
+  where
+    take_none : (xs : List Value) → take 0 xs ≡ []
+    take_none [] = refl
+    take_none (x ∷ xs) = refl
 
 -- ---- elements and candidates
 
