@@ -59,8 +59,12 @@ static SCRIPTS: [Case; 8] = [
 /// The run that is found.
 fn found_run(alloc: Global, text: &str, asked: &Asked) -> Result<BadRun, Fail> {
     let answered = answer_to(alloc, text, asked)?;
-    match answered.finding {
-        Finding::Bad(bad) => Ok(bad),
+    match &answered.finding {
+        Finding::Bad(bad) => Ok(BadRun {
+            script: String::from_str(alloc, bad.script.as_str())?,
+            step: bad.step,
+            fault: bad.fault,
+        }),
         _ => Err(Fail::new("no run goes wrong")),
     }
 }
