@@ -18,7 +18,7 @@ use asm_reader::Picks;
 use asm_state::word::Word;
 
 /// Whether the condition holds, or there is none.
-pub(crate) fn passes<'e>(view: &View, frame: &'e Frame<'e>, test: &'e Option<Code>) -> bool
+pub fn passes<'e>(view: &View, frame: &'e Frame<'e>, test: &'e Option<Code>) -> bool
     requires sound { IsSoundTest view.now.signature.now (option_map code_of test.now) }
     requires framed { IsSoundFrame view.now.signature.now frame.now }
     ensures { result ≡ passes_in view.now frame.now test.now }

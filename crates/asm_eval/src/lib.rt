@@ -4,7 +4,7 @@
 
 mod applied;
 pub mod bodies;
-mod choose;
+pub mod choose;
 pub mod code;
 mod find;
 pub mod form;
@@ -18,7 +18,7 @@ pub mod open;
 pub mod outcome;
 pub mod parameters;
 pub mod piece;
-mod place;
+pub mod place;
 pub mod positions;
 pub mod regions;
 pub mod resolve;

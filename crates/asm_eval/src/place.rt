@@ -24,7 +24,7 @@ use std::alloc::{AllocError, Global};
 const FEW: usize = 4;
 
 /// The number of the location that a call's answer goes to.
-pub(crate) fn answer_number<'e>(
+pub fn answer_number<'e>(
     alloc: Global,
     view: &View,
     frame: &'e Frame<'e>,
@@ -41,9 +41,10 @@ pub(crate) fn answer_number<'e>(
     }
 }
 
-/// The number of the location that is updated, if there is one.
+/// The number of the location that is updated, if there is one: a place that stands for a call's
+/// answer may stand for none. Memory is asked for only where there are more than four arguments.
 #[inline(always)]
-pub(crate) fn place_number<'e>(
+pub fn place_number<'e>(
     alloc: Global,
     view: &View,
     frame: &'e Frame<'e>,

@@ -5,17 +5,19 @@
 --     each_mapped, each_between      what holds of all nodes holds of these
 --     same_node                      one node stands at a place
 use Rattle.std.proofs.Common.{◌≡◌, ℕ, zero, suc, ◌+◌, ◌-◌, ◌<◌, List, [], ◌∷◌, ◌++◌, map, take, drop, length, get_or, refl, sym, ap, subst, ◌∙◌, arith, Vec, Global}
-use Rattle.std.specs.Prelude.{slice_get, Some, Result as Returned, IfOk}
+use Rattle.std.specs.Prelude.{slice_get, Some, Result as Returned}
 use Rattle.std.proofs.lemmas.List.{take_more, length-drop}
 use Rattle.std.proofs.lemmas.Option.{get_or_from_slice_get, slice_get_within}
+use Rattle.asm_state.specs.Location.{State}
 use Rattle.asm_state.specs.Signature.{Shape, state_of}
 use Rattle.asm_state.specs.declared.value.Value.{Value}
 use Rattle.asm_meaning.specs.Run.{Specification}
+use Rattle.asm_explore.specs.declared.found.Choice.{Choice}
 use Rattle.asm_explore.specs.declared.found.Found.{Found}
 use Rattle.asm_explore.specs.declared.refusal.Refusal.{Refusal}
 use Rattle.asm_explore.specs.Kept.{Node}
-use Rattle.asm_explore.specs.Lists.{Each}
-use Rattle.asm_explore.specs.Steps.{IsStep, AreListed}
+use Rattle.asm_explore.specs.Lists.{Situation, Each}
+use Rattle.asm_explore.specs.Steps.{IsListed, AreListed}
 use Rattle.asm_explore.proofs.Kept.{get_or_drop}
 
 pub next_in : (nodes : List Node) (first i number : ℕ) (n : Node) → first + i ≡ number → slice_get nodes number ≡ Some n
@@ -82,20 +84,20 @@ each_between P (n ∷ nodes) zero zero h = tt
 each_between P (n ∷ nodes) zero (suc m) h = (h.0, each_between P nodes zero m h.1)
 each_between P (n ∷ nodes) (suc first) m h = each_between P nodes first m h.1
 
-module _ (shape : Shape) (specification : Specification) (turns : ℕ) where
-  pub listed_count : (As : List (List Value)) (rs : List (Returned (Vec Found Global) Refusal)) → AreListed shape specification turns As rs → length rs ≡ length As
+module _ (shape : Shape) (specification : Specification) (turns : ℕ) (makes : State → Situation → List Choice) (limit : ℕ) where
+  pub listed_count : (As : List (List Value)) (rs : List (Returned (Vec Found Global) Refusal)) → AreListed shape specification turns makes limit As rs → length rs ≡ length As
   listed_count [] [] h = refl
   listed_count [] (r ∷ rs) h = absurd h
   listed_count (A ∷ As) [] h = absurd h
   listed_count (A ∷ As) (r ∷ rs) h = ap suc (listed_count As rs h.1)
 
   pub listed_at : (As : List (List Value)) (rs : List (Returned (Vec Found Global) Refusal)) (k : ℕ) (A : List Value) (r : Returned (Vec Found Global) Refusal)
-      → AreListed shape specification turns As rs → k < length As → A ≡ get_or As k A → r ≡ get_or rs k r → IfOk r (λ fs. IsStep shape specification turns (state_of shape A) fs.items)
+      → AreListed shape specification turns makes limit As rs → k < length As → A ≡ get_or As k A → r ≡ get_or rs k r → IsListed shape specification turns makes limit (state_of shape A) r
   listed_at [] rs k A r h low is listed = absurd (omega (arith, low))
   listed_at (B ∷ As) [] k A r h low is listed = absurd h
   listed_at (B ∷ As) (q ∷ rs) zero A r h low is listed =
-      subst (λ o. IfOk o (λ fs. IsStep shape specification turns (state_of shape A) fs.items)) (sym listed)
-      (subst (λ C. IfOk q (λ fs. IsStep shape specification turns (state_of shape C) fs.items)) (sym is) h.0)
+      subst (IsListed shape specification turns makes limit (state_of shape A)) (sym listed)
+      (subst (λ C. IsListed shape specification turns makes limit (state_of shape C) q) (sym is) h.0)
   listed_at (B ∷ As) (q ∷ rs) (suc k) A r h low is listed = listed_at As rs k A r h.1 (omega (arith, low)) is listed
 
 pub same_node : (nodes : List Node) (i : ℕ) (n m : Node) → slice_get nodes i ≡ Some n → slice_get nodes i ≡ Some m → n ≡ m
@@ -105,11 +107,11 @@ pub no_items : {X : Type 0} (xs ys : List X) → xs ≡ ys → length xs ≡ 0 �
 no_items xs [] is none = refl
 no_items xs (y ∷ ys) is none = absurd (omega (arith, none, ap length is))
 
-module _ (shape : Shape) (specification : Specification) (turns : ℕ) where
+module _ (shape : Shape) (specification : Specification) (turns : ℕ) (makes : State → Situation → List Choice) (limit : ℕ) where
   -- those of one more state
   pub listed_push : (As : List (List Value)) (rs : List (Returned (Vec Found Global) Refusal)) (A : List Value) (r : Returned (Vec Found Global) Refusal)
-      → AreListed shape specification turns As rs → IfOk r (λ fs. IsStep shape specification turns (state_of shape A) fs.items)
-      → AreListed shape specification turns (As ++ A ∷ []) (rs ++ r ∷ [])
+      → AreListed shape specification turns makes limit As rs → IsListed shape specification turns makes limit (state_of shape A) r
+      → AreListed shape specification turns makes limit (As ++ A ∷ []) (rs ++ r ∷ [])
   listed_push [] [] A r listed here = (here, tt)
   listed_push [] (q ∷ rs) A r listed here = absurd listed
   listed_push (B ∷ As) [] A r listed here = absurd listed
@@ -117,7 +119,7 @@ module _ (shape : Shape) (specification : Specification) (turns : ℕ) where
 
   -- the outcomes of one state alone
   pub listed_last : (A : List Value) (rs front : List (Returned (Vec Found Global) Refusal)) (r : Returned (Vec Found Global) Refusal)
-      → AreListed shape specification turns (A ∷ []) rs → rs ≡ front ++ r ∷ [] → IfOk r (λ fs. IsStep shape specification turns (state_of shape A) fs.items)
-  listed_last A rs [] r listed is = (subst (AreListed shape specification turns (A ∷ [])) is listed).0
-  listed_last A rs (q ∷ []) r listed is = absurd (subst (AreListed shape specification turns (A ∷ [])) is listed).1
-  listed_last A rs (q ∷ p ∷ front) r listed is = absurd (subst (AreListed shape specification turns (A ∷ [])) is listed).1
+      → AreListed shape specification turns makes limit (A ∷ []) rs → rs ≡ front ++ r ∷ [] → IsListed shape specification turns makes limit (state_of shape A) r
+  listed_last A rs [] r listed is = (subst (AreListed shape specification turns makes limit (A ∷ [])) is listed).0
+  listed_last A rs (q ∷ []) r listed is = absurd (subst (AreListed shape specification turns makes limit (A ∷ [])) is listed).1
+  listed_last A rs (q ∷ p ∷ front) r listed is = absurd (subst (AreListed shape specification turns makes limit (A ∷ [])) is listed).1

@@ -1,5 +1,6 @@
 -- Runs along choices that lead to a state.
 --     comes_on        a run that comes to a state goes on from there
+--     trail_run       a run under a script that makes the choices of the steps that lead to a state comes to it, and stays within before
 --     bad_runs        each script that makes the choices of the steps that lead to a bad step has a run that goes wrong there
 use Rattle.std.proofs.Common.{◌≡◌, ℕ, zero, suc, ◌+◌, ◌<◌, ◌≤◌, Bool, true, false, cond, List, [], ◌∷◌, length, inl, inr, refl, sym, ap, subst, ◌∙◌, arith}
 use Rattle.std.specs.Prelude.{slice_get, Some}
@@ -20,22 +21,26 @@ use Rattle.asm_explore.specs.declared.found.Choice.{Choice}
 use Rattle.asm_explore.specs.Kept.{Node}
 use Rattle.asm_explore.specs.Lists.{Situation}
 use Rattle.asm_explore.specs.Reached.{steps_from, state_at, GoesWrong, LeadTo, MakesAll, GoesWrongSo, IsBad}
-use Rattle.asm_explore.specs.Search.{LeadsOn, EndsSo}
+use Rattle.asm_explore.specs.Search.{LeadsOn, IsDeadlock, EndsSo}
 
 record Same (r q : Run) : Type 0 where
   end : r.end ≡ q.end
   last : r.last ≡ q.last
 
-ends_same : (right : State → Bool) (f : Fault) (step : ℕ) (r q : Run) → Same r q → EndsSo right f step q → EndsSo right f step r
-ends_same right fault.Exhausted step r q same h = (h.0, same.end ∙ h.1)
-ends_same right fault.Inconsistent step r q same h = (h.0, same.end ∙ h.1, h.2)
-ends_same right fault.Wrong step r q same h = (same.end ∙ h.0, ap right same.last ∙ h.1)
+ends_same : (right : State → Bool) (dead : State → Type 0) (f : Fault) (step : ℕ) (r q : Run) → Same r q → EndsSo right dead f step q → EndsSo right dead f step r
+ends_same right dead fault.Exhausted step r q same h = (h.0, same.end ∙ h.1)
+ends_same right dead fault.Inconsistent step r q same h = (h.0, same.end ∙ h.1, h.2)
+ends_same right dead fault.Wrong step r q same h = (same.end ∙ h.0, ap right same.last ∙ h.1)
+ends_same right dead fault.Deadlock step r q same h = (same.end ∙ h.0, subst dead (sym same.last) h.1)
 
 inconsistent : (U : UpdateSet) → ¬ (IsConsistent U) → (b : Bool) → is_consistent U ≡ b → is_consistent U ≡ false
 inconsistent U faulty true is = absurd (faulty ((test_laws.consistency U).0 is))
 inconsistent U faulty false is = is
 
-module _ (specification : Specification) (turns : ℕ) (right : State → Bool) (script : Script) where
+module _ (specification : Specification) (turns : ℕ) (right rests : State → Bool) (script : Script) where
+  abbrev dead : State → Type 0
+  dead A = IsDeadlock specification turns rests A
+
   abbrev runs : ℕ → ℕ → State → Run
   runs n i A = run_from specification.program turns specification.main script n i A
 
@@ -89,7 +94,7 @@ module _ (specification : Specification) (turns : ℕ) (right : State → Bool) 
       ap (λ x. (step_and specification.program turns specification.main x m i A rest).end) is
       ∙ ap (λ b. (cond b (fired U m (rest U)) (ended (AtFault i U) A)).end) (inconsistent U faulty (is_consistent U) refl)
 
-  goes_wrong : (f : Fault) (i : ℕ) (A : State) → GoesWrong right f (steps_from specification turns A (step_at i)) A → EndsSo right f i (runs 1 i A)
+  goes_wrong : (f : Fault) (i : ℕ) (A : State) → GoesWrong right dead f (steps_from specification turns A (step_at i)) A → EndsSo right dead f i (runs 1 i A)
   goes_wrong fault.Exhausted i A h =
       let o : Outcome = does specification.program turns script i A nothing_bound [] specification.main in
       (h.0, exhausted_ends o.result h.0 o.instances i A (λ U. runs 0 (suc i) (fire A U)) h.1)
@@ -101,6 +106,12 @@ module _ (specification : Specification) (turns : ℕ) (right : State → Bool) 
       let same : Same (runs 1 i A) (ended AtLimit (fire A leads.set)) =
       step_same o.result o.instances i A leads.set (λ U. runs 0 (suc i) (fire A U)) (ended AtLimit (fire A leads.set)) leads.gives leads.consistent (record { end = refl; last = refl }) in
       (same.end, ap right same.last ∙ leads.leads)
+  goes_wrong fault.Deadlock i A h =
+      let o : Outcome = does specification.program turns script i A nothing_bound [] specification.main in
+      let leads = h.0 script i in
+      let same : Same (runs 1 i A) (ended AtLimit (fire A leads.set)) =
+      step_same o.result o.instances i A leads.set (λ U. runs 0 (suc i) (fire A U)) (ended AtLimit (fire A leads.set)) leads.gives leads.consistent (record { end = refl; last = refl }) in
+      (same.end, subst dead (sym (same.last ∙ leads.leads)) h)
 
   -- along the choices that lead to a state
   module _ (within : State → Bool) where
@@ -113,44 +124,60 @@ module _ (specification : Specification) (turns : ℕ) (right : State → Bool) 
         let count : d + 0 ≡ d = omega arith in
         ap (λ n. (runs n 1 specification.initial).last) (sym count) ∙ (comes_on d 0 B comes).last
 
-    -- runs that come that way stay within
+    -- runs that come that way stay within before
+    trail_before : (back : List (List Choice)) (B : State) → LeadTo specification turns within B back → MakesAll script back → (k : ℕ) → k < length back
+        → within (runs k 1 specification.initial).last ≡ true
+    trail_before [] B leads makes k less = absurd (omega (arith, less))
+    trail_before (cs ∷ back) B leads makes k less =
+        elim (cases_lt k (length back)) [
+          | inl below ↦ trail_before back leads.0 leads.1 makes.1 k below
+          | inr past ↦
+              let same : k ≡ length back = omega (arith, less, past) in
+              ap (λ n. within (runs n 1 specification.initial).last) same ∙ ap within (comes_last (length back) leads.0 (trail_comes back leads.0 leads.1 makes.1)) ∙ leads.2
+        ]
+
+    -- and in the state that they come to
     trail_stays : (back : List (List Choice)) (B : State) → LeadTo specification turns within B back → MakesAll script back → within B ≡ true
         → (k : ℕ) → k ≤ length back → within (runs k 1 specification.initial).last ≡ true
     trail_stays back B leads makes inside k low =
         elim (cases_lt k (length back)) [
-          | inl less ↦ before back B leads makes k less
+          | inl less ↦ trail_before back B leads makes k less
           | inr past ↦
               let same : k ≡ length back = omega (arith, low, past) in
               ap (λ n. within (runs n 1 specification.initial).last) same ∙ ap within (comes_last (length back) B (trail_comes back B leads makes)) ∙ inside
         ]
-      where
-        before : (back : List (List Choice)) (B : State) → LeadTo specification turns within B back → MakesAll script back → (k : ℕ) → k < length back
-            → within (runs k 1 specification.initial).last ≡ true
-        before [] B leads makes k less = absurd (omega (arith, less))
-        before (cs ∷ back) B leads makes k less =
-            elim (cases_lt k (length back)) [
-              | inl below ↦ before back leads.0 leads.1 makes.1 k below
-              | inr past ↦
-                  let same : k ≡ length back = omega (arith, less, past) in
-                  ap (λ n. within (runs n 1 specification.initial).last) same ∙ ap within (comes_last (length back) leads.0 (trail_comes back leads.0 leads.1 makes.1)) ∙ leads.2
-            ]
 
-pub bad_runs : (specification : Specification) (turns : ℕ) (right within : State → Bool) (shape : Shape) (nodes : List Node) (bad : Bad)
-    → IsBad shape specification turns right nodes bad → ((n : Node) → slice_get nodes bad.from ≡ Some n → within (state_at shape n) ≡ true)
-    → GoesWrongSo specification turns right within shape nodes bad
-bad_runs specification turns right within shape nodes bad is inside = record {
+-- a run that comes that way to a state
+pub trail_run : (specification : Specification) (turns : ℕ) (within : State → Bool) (script : Script) (back : List (List Choice)) (B : State)
+    → LeadTo specification turns within B back → MakesAll script back
+    → ((run specification turns script (length back)).end ≡ AtLimit) × ((run specification turns script (length back)).last ≡ B)
+    × ((k : ℕ) → k < length back → within (run specification turns script k).last ≡ true)
+trail_run specification turns within script back B leads makes =
+    let none : State → Bool = λ A. true in
+    let comes = trail_comes specification turns none none script within back B leads makes in
+    let here = comes_on specification turns none none script (length back) 0 B comes in
+    let count : length back ≡ length back + 0 = omega arith in (
+      ap (λ n. (run specification turns script n).end) count ∙ here.end,
+      comes_last specification turns none none script within (length back) B comes,
+      trail_before specification turns none none script within back B leads makes,
+    )
+
+pub bad_runs : (specification : Specification) (turns : ℕ) (right rests within : State → Bool) (shape : Shape) (nodes : List Node) (bad : Bad)
+    → IsBad shape specification turns right rests nodes bad → ((n : Node) → slice_get nodes bad.from ≡ Some n → within (state_at shape n) ≡ true)
+    → GoesWrongSo specification turns right rests within shape nodes bad
+bad_runs specification turns right rests within shape nodes bad is inside = record {
   from = is.from;
   there = is.there;
   apart = is.apart;
   wrong = λ back leads script makes.
       let d = length back in
       let A = state_at shape is.from in
-      let comes = trail_comes specification turns right script within back A leads makes.1 in
-      let same = comes_on specification turns right script d 1 A comes in
+      let comes = trail_comes specification turns right rests script within back A leads makes.1 in
+      let same = comes_on specification turns right rests script d 1 A comes in
       let count : suc d ≡ d + 1 = omega arith in
-      let here = goes_wrong specification turns right script bad.fault (suc d) A (is.wrong (record { script = script; step = suc d }) makes.0) in (
-        subst (λ k. EndsSo right bad.fault (suc d) (run specification turns script k)) (sym count)
-            (ends_same right bad.fault (suc d) (run specification turns script (d + 1)) (run_from specification.program turns specification.main script 1 (suc d) A) same here),
-        λ k less. trail_stays specification turns right script within back A leads makes.1 (inside is.from is.there) k (omega (arith, less)),
+      let here = goes_wrong specification turns right rests script bad.fault (suc d) A (is.wrong (record { script = script; step = suc d }) makes.0) in (
+        subst (λ k. EndsSo right (IsDeadlock specification turns rests) bad.fault (suc d) (run specification turns script k)) (sym count)
+            (ends_same right (IsDeadlock specification turns rests) bad.fault (suc d) (run specification turns script (d + 1)) (run_from specification.program turns specification.main script 1 (suc d) A) same here),
+        λ k less. trail_stays specification turns right rests script within back A leads makes.1 (inside is.from is.there) k (omega (arith, less)),
       );
 }

@@ -1,5 +1,5 @@
 -- The tree of each variant of the program's rule codes, and what it yields, by what its parts yield.
---     *_form        the tree of a code
+--     *_form, *_tree     the tree of a code, and that by the codes of the parts
 --     *_yields, *_is, *_with, if_*, choose_*     what it yields
 use Rattle.std.proofs.Common.{◌++◌, ◌≡◌, ◌∙◌, ℕ, ◌+◌, ◌≤◌, ◌<◌, true, false, cond, List, [], ◌∷◌, length, get_or, map, drop, Option, Some, None, refl, ap, sym, Box, Vec, Global, add-one}
 use Rattle.std.specs.Prelude.{option_map, slice_get}
@@ -65,6 +65,34 @@ pub call_form : (P : RuleCode) (body : _) (to : Option Place) (ts : Vec Code Glo
     → rule_of P ≡ tree.Call (rule_of (arc_value body)) (option_map place_of to) (codes_of (map code_of ts.items))
 call_form P body to ts is = ap rule_of is ∙ ap rule_of (sym (code.rolls-Call body to ts)) ∙ fold-roll-RuleCode tree.RuleCode rule_step (opened_code.Call body to ts)
 
+-- ---- the same by the codes of the parts
+
+pub par_tree : (P : RuleCode) (Ps : Vec RuleCode Global) → P ≡ code.Par Ps → (Qs : List RuleCode) → Qs ≡ Ps.items → tree.Par (rules_of (map rule_of Qs)) ≡ rule_of P
+par_tree P Ps is Qs same = ap (λ Qs. tree.Par (rules_of (map rule_of Qs))) same ∙ sym (par_form P Ps is)
+
+pub seq_tree : (P : RuleCode) (Ps : Vec RuleCode Global) → P ≡ code.Seq Ps → (Qs : List RuleCode) → Qs ≡ Ps.items → tree.Seq (rules_of (map rule_of Qs)) ≡ rule_of P
+seq_tree P Ps is Qs same = ap (λ Qs. tree.Seq (rules_of (map rule_of Qs))) same ∙ sym (seq_form P Ps is)
+
+pub if_tree : (P : RuleCode) (c : Code) (Q R : Box RuleCode Global) → P ≡ code.If c Q R → (d : Code) (S N : RuleCode) → d ≡ c → S ≡ Q.value → N ≡ R.value → tree.If (code_of d) (rule_of S) (rule_of N) ≡ rule_of P
+if_tree P c Q R is d S N same same' same'' = (λ i. tree.If (code_of (same i)) (rule_of (same' i)) (rule_of (same'' i))) ∙ sym (if_form P c Q R is)
+
+pub let_tree : (P : RuleCode) (t : Code) (Q : Box RuleCode Global) → P ≡ code.Let t Q → (u : Code) (S : RuleCode) → u ≡ t → S ≡ Q.value → tree.Let (code_of u) (rule_of S) ≡ rule_of P
+let_tree P t Q is u S same same' = (λ i. tree.Let (code_of (same i)) (rule_of (same' i))) ∙ sym (let_form P t Q is)
+
+pub forall_tree : (P : RuleCode) (u : ℕ) (c : Option Code) (Q : Box RuleCode Global) → P ≡ code.Forall u c Q → (d : Option Code) (S : RuleCode) → d ≡ c → S ≡ Q.value → tree.Forall u (option_map code_of d) (rule_of S) ≡ rule_of P
+forall_tree P u c Q is d S same same' = (λ i. tree.Forall u (option_map code_of (same i)) (rule_of (same' i))) ∙ sym (forall_form P u c Q is)
+
+pub choose_tree : (P : RuleCode) (u : ℕ) (c : Option Code) (Q R : Box RuleCode Global) → P ≡ code.Choose u c Q R → (d : Option Code) (S N : RuleCode) → d ≡ c → S ≡ Q.value → N ≡ R.value
+    → tree.Choose u (option_map code_of d) (rule_of S) (rule_of N) ≡ rule_of P
+choose_tree P u c Q R is d S N same same' same'' = (λ i. tree.Choose u (option_map code_of (same i)) (rule_of (same' i)) (rule_of (same'' i))) ∙ sym (choose_form P u c Q R is)
+
+pub iterate_tree : (P : RuleCode) (Q : Box RuleCode Global) → P ≡ code.Iterate Q → (S : RuleCode) → S ≡ Q.value → tree.Iterate (rule_of S) ≡ rule_of P
+iterate_tree P Q is S same = ap (λ (k : RuleCode). tree.Iterate (rule_of k)) same ∙ sym (iterate_form P Q is)
+
+pub call_tree : (P : RuleCode) (body : _) (to : Option Place) (ts : Vec Code Global) → P ≡ code.Call body to ts → (S : RuleCode) (d : Option Place) (us : List Code) → S ≡ arc_value body → d ≡ to → us ≡ ts.items
+    → tree.Call (rule_of S) (option_map place_of d) (codes_of (map code_of us)) ≡ rule_of P
+call_tree P body to ts is S d us same same' are = (λ i. tree.Call (rule_of (same i)) (option_map place_of (same' i)) (codes_of (map code_of (are i)))) ∙ sym (call_form P body to ts is)
+
 -- ---- what each yields
 
 pub named_are : (shape : Shape) (rs : List Reading) (ts : List Code) → named_readings shape (codes_of (map code_of ts)) rs ≡ by_name shape rs ts
@@ -108,7 +136,7 @@ module _ (shape : Shape) (turns : ℕ) (chosen : Path → ℕ) (rs : List Readin
       ap (λ Qs. in_order (meanings shape turns chosen (rules_of (map rule_of Qs)) rs ls) 0 A nothing_bound p) same ∙ sym (ap yields (seq_form P Ps is))
 
   pub iterate_yields : (P : RuleCode) (Q : Box RuleCode Global) → P ≡ code.Iterate Q → (S : RuleCode) → S ≡ Q.value → yields (tree.Iterate (rule_of S)) ≡ yields (rule_of P)
-  iterate_yields P Q is S same = ap (λ (k : RuleCode). yields (tree.Iterate (rule_of k))) same ∙ sym (ap yields (iterate_form P Q is))
+  iterate_yields P Q is S same = ap yields (iterate_tree P Q is S same)
 
   -- ---- the same by the codes of the parts
 
@@ -143,24 +171,24 @@ module _ (shape : Shape) (turns : ℕ) (chosen : Path → ℕ) (rs : List Readin
 
   -- and of the whole rule
   pub if_is : (P : RuleCode) (c : Code) (Q R : Box RuleCode Global) → P ≡ code.If c Q R → (d : Code) (S N : RuleCode) → d ≡ c → S ≡ Q.value → N ≡ R.value → yields (tree.If (code_of d) (rule_of S) (rule_of N)) ≡ yields (rule_of P)
-  if_is P c Q R is d S N same same' same'' = (λ i. yields (tree.If (code_of (same i)) (rule_of (same' i)) (rule_of (same'' i)))) ∙ sym (ap yields (if_form P c Q R is))
+  if_is P c Q R is d S N same same' same'' = ap yields (if_tree P c Q R is d S N same same' same'')
 
   pub let_is : (P : RuleCode) (t : Code) (Q : Box RuleCode Global) → P ≡ code.Let t Q → (u : Code) (S : RuleCode) → u ≡ t → S ≡ Q.value → yields (tree.Let (code_of u) (rule_of S)) ≡ yields (rule_of P)
-  let_is P t Q is u S same same' = (λ i. yields (tree.Let (code_of (same i)) (rule_of (same' i)))) ∙ sym (ap yields (let_form P t Q is))
+  let_is P t Q is u S same same' = ap yields (let_tree P t Q is u S same same')
 
   pub choose_is : (P : RuleCode) (u : ℕ) (c : Option Code) (Q R : Box RuleCode Global) → P ≡ code.Choose u c Q R → (d : Option Code) (S N : RuleCode) → d ≡ c → S ≡ Q.value → N ≡ R.value
       → yields (tree.Choose u (option_map code_of d) (rule_of S) (rule_of N)) ≡ yields (rule_of P)
-  choose_is P u c Q R is d S N same same' same'' = (λ i. yields (tree.Choose u (option_map code_of (same i)) (rule_of (same' i)) (rule_of (same'' i)))) ∙ sym (ap yields (choose_form P u c Q R is))
+  choose_is P u c Q R is d S N same same' same'' = ap yields (choose_tree P u c Q R is d S N same same' same'')
 
   pub forall_is : (P : RuleCode) (u : ℕ) (c : Option Code) (Q : Box RuleCode Global) → P ≡ code.Forall u c Q → (d : Option Code) (S : RuleCode) → d ≡ c → S ≡ Q.value → yields (tree.Forall u (option_map code_of d) (rule_of S)) ≡ yields (rule_of P)
-  forall_is P u c Q is d S same same' = (λ i. yields (tree.Forall u (option_map code_of (same i)) (rule_of (same' i)))) ∙ sym (ap yields (forall_form P u c Q is))
+  forall_is P u c Q is d S same same' = ap yields (forall_tree P u c Q is d S same same')
 
   pub assign_is : (P : RuleCode) (to : Place) (t : Code) → P ≡ code.Assign to t → (place : Place) (u : Code) → place ≡ to → u ≡ t → yields (tree.Assign (place_of place) (code_of u)) ≡ yields (rule_of P)
   assign_is P to t is place u same same' = (λ i. yields (tree.Assign (place_of (same i)) (code_of (same' i)))) ∙ sym (ap yields (assign_form P to t is))
 
   pub call_is : (P : RuleCode) (body : _) (to : Option Place) (ts : Vec Code Global) → P ≡ code.Call body to ts → (S : RuleCode) (d : Option Place) (us : List Code) → S ≡ arc_value body → d ≡ to → us ≡ ts.items
       → yields (tree.Call (rule_of S) (option_map place_of d) (codes_of (map code_of us))) ≡ yields (rule_of P)
-  call_is P body to ts is S d us same same' are = (λ i. yields (tree.Call (rule_of (same i)) (option_map place_of (same' i)) (codes_of (map code_of (are i))))) ∙ sym (ap yields (call_form P body to ts is))
+  call_is P body to ts is S d us same same' are = ap yields (call_tree P body to ts is S d us same same' are)
 
   -- ---- parts
 

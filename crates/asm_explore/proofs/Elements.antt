@@ -1,5 +1,5 @@
 -- What holds of each, or of some, of a list's elements.
-use Rattle.std.proofs.Common.{◌≡◌, ℕ, zero, suc, ◌+◌, ◌<◌, List, [], ◌∷◌, ◌++◌, length, take, get_or, ◌⊎◌, inl, inr, sym, subst, arith}
+use Rattle.std.proofs.Common.{◌≡◌, ℕ, zero, suc, ◌+◌, ◌<◌, List, [], ◌∷◌, ◌++◌, length, take, get_or, ◌⊎◌, inl, inr, refl, sym, subst, arith}
 use Rattle.std.proofs.lemmas.List.{take_more}
 use Rattle.asm_explore.specs.Elements.{Each, AnyOf}
 
@@ -66,3 +66,14 @@ module _ {X : Type 0} (P : X → Type 0) where
   pub any_take_more : (xs : List X) (i : ℕ) (x : X) → i < length xs → x ≡ get_or xs i x → AnyOf P (take (i + 1) xs) → AnyOf P (take i xs) ⊎ P x
   any_take_more xs i x low is h =
       the_one (take i xs) x (get_or xs i x) is (any_split (take i xs) (get_or xs i x ∷ []) (subst (AnyOf P) (take_more xs i x low) h))
+
+-- ---- each of a list is among it
+
+pub each_among : {X : Type 0} (P : X → Type 0) (xs : List X) (x : X) → AnyOf (λ y. y ≡ x) xs → Each P xs → P x
+each_among P [] x there h = absurd there
+each_among P (y ∷ ys) x (inl is) h = subst P is h.0
+each_among P (y ∷ ys) x (inr there) h = each_among P ys x there h.1
+
+pub each_self : {X : Type 0} (xs : List X) → Each (λ x. AnyOf (λ y. y ≡ x) xs) xs
+each_self [] = tt
+each_self (x ∷ xs) = (inl refl, each_weaker (λ z. AnyOf (λ y. y ≡ z) xs) (λ z. AnyOf (λ y. y ≡ z) (x ∷ xs)) (λ z h. inr h) xs (each_self xs))

@@ -1,14 +1,25 @@
 -- How searches end.
 --     refused_*       one that was refused isn't done, nor closed, and nothing is said of a bad step
+--     halts_*         why a search is cut off, said otherwise
 --     done_bad        where all nodes are expanded, nothing is said of a bad step
-use Rattle.std.proofs.Common.{◌≡◌, ◌≢◌, sym, subst}
+use Rattle.std.proofs.Common.{◌≡◌, ◌≢◌, ℕ, List, sym, subst}
 use Rattle.asm_explore.specs.declared.explored.Bad.{Bad}
 use Rattle.asm_explore.specs.declared.explored.Ended.{Ended}
 use Rattle.asm_explore.specs.declared.explored.Ended.TheVariants as ended
-use Rattle.std.specs.Prelude.{Result as Returned, Ok, Err, IfErr, IsErrAnd}
+use Rattle.std.specs.Prelude.{Option, Some, None, IfSome, Result as Returned, Ok, Err, IfOk, IfErr, IsErrAnd}
 use Rattle.asm_explore.specs.declared.halt.Halt.{Halt}
 use Rattle.asm_explore.specs.declared.halt.Halt.TheVariants as halt
-use Rattle.asm_explore.specs.Ends.{IfBad, IsDone, IsRefused}
+use Rattle.asm_explore.specs.declared.found.Choice.{Choice}
+use Rattle.asm_explore.specs.declared.refusal.Crowd.{Crowd}
+use Rattle.asm_explore.specs.declared.refusal.Refusal.{Refusal}
+use Rattle.asm_explore.specs.declared.refusal.Refusal.TheVariants as refusal
+use Rattle.asm_explore.specs.Crowds.{Refuses}
+use Rattle.asm_explore.specs.Ends.{HaltsSo, IfBad, IfCrowd, IsDone, IsRefused}
+use Rattle.asm_explore.specs.Lists.{Situation}
+use Rattle.asm_explore.specs.Made.{AreMade}
+use Rattle.asm_explore.specs.Placed.{AreApart}
+use Rattle.asm_explore.specs.Steps.{IsCrowdOf}
+use Rattle.asm_state.specs.Location.{State}
 
 pub refused_done : (e : Ended) → IsRefused e → IsDone e → ⊥
 refused_done ended.Closed r d = r
@@ -64,3 +75,60 @@ full_on P given (Err e) h is same said = subst P (sym same) (subst (λ r. IfErr 
 pub never_full : {T : Type 0} (Q : Type 0) (r : Returned T Halt) → IfErr r (λ h. h ≢ halt.States) → IfErr r (λ h. h ≡ halt.States → Q)
 never_full Q (Ok x) said = tt
 never_full Q (Err e) said = λ is. absurd (said is)
+
+-- what is said of something that was found, said otherwise
+pub found_weaker : {T E : Type 0} (P Q : T → Type 0) (r : Returned (Option T) E) → ((x : T) → P x → Q x) → IfOk r (λ o. IfSome o P) → IfOk r (λ o. IfSome o Q)
+found_weaker P Q (Ok None) f h = tt
+found_weaker P Q (Ok (Some x)) f h = f x h
+found_weaker P Q (Err e) f h = tt
+
+-- ---- why a search is cut off
+
+pub halts_weaker : (X Y : Type 0) (P Q : Crowd → Type 0) (h : Halt) → (X → Y) → ((crowd : Crowd) → P crowd → Q crowd) → HaltsSo X P h → HaltsSo Y Q h
+halts_weaker X Y P Q halt.Memory f g said = tt
+halts_weaker X Y P Q halt.States f g said = f said
+halts_weaker X Y P Q (halt.Outcomes crowd) f g said = g crowd said
+
+pub errs_weaker : {T : Type 0} (X Y : Type 0) (P Q : Crowd → Type 0) (r : Returned T Halt) → (X → Y) → ((crowd : Crowd) → P crowd → Q crowd) → IfErr r (HaltsSo X P) → IfErr r (HaltsSo Y Q)
+errs_weaker X Y P Q (Ok x) f g said = tt
+errs_weaker X Y P Q (Err h) f g said = halts_weaker X Y P Q h f g said
+
+pub halts_full : (X : Type 0) (P : Crowd → Type 0) (h : Halt) → h ≡ halt.States → HaltsSo X P h → X
+halts_full X P h is said = subst (HaltsSo X P) is said
+
+-- the refusal that there are too many outcomes
+pub halts_crowded : (X : Type 0) (makes : State → Situation → List Choice) (limit : ℕ) (A : State) (given : Refusal) (h : Halt)
+    → Refuses limit (λ p cs. AreApart cs × AreMade (makes A) cs) given → HaltsSo ⊥ (λ crowd. given ≡ refusal.TooMany crowd) h → HaltsSo X (IsCrowdOf makes limit A) h
+halts_crowded X makes limit A given halt.Memory refuses said = tt
+halts_crowded X makes limit A given halt.States refuses said = absurd said
+halts_crowded X makes limit A given (halt.Outcomes crowd) refuses said = subst (Refuses limit (λ p cs. AreApart cs × AreMade (makes A) cs)) said refuses
+
+-- it ends a search
+pub ends_crowded : (X : Type 0) (P Q : Crowd → Type 0) (e : Ended) (h : Halt) → IfCrowd e (λ crowd. h ≡ halt.Outcomes crowd) → ((crowd : Crowd) → P crowd → Q crowd) → HaltsSo X P h → IfCrowd e Q
+ends_crowded X P Q ended.Closed h from f said = tt
+ends_crowded X P Q ended.AtLimit h from f said = tt
+ends_crowded X P Q (ended.Bad bad) h from f said = tt
+ends_crowded X P Q ended.TooManyStates h from f said = tt
+ends_crowded X P Q (ended.TooManyOutcomes crowd) h from f said = f crowd (subst (HaltsSo X P) from said)
+ends_crowded X P Q ended.Memory h from f said = tt
+
+pub done_crowd : (P : Crowd → Type 0) (e : Ended) → IsDone e → IfCrowd e P
+done_crowd P ended.Closed d = tt
+done_crowd P ended.AtLimit d = tt
+done_crowd P (ended.Bad bad) d = absurd d
+done_crowd P ended.TooManyStates d = absurd d
+done_crowd P (ended.TooManyOutcomes crowd) d = absurd d
+done_crowd P ended.Memory d = absurd d
+
+pub crowd_weaker : (P Q : Crowd → Type 0) (e : Ended) → ((crowd : Crowd) → P crowd → Q crowd) → IfCrowd e P → IfCrowd e Q
+crowd_weaker P Q ended.Closed f h = tt
+crowd_weaker P Q ended.AtLimit f h = tt
+crowd_weaker P Q (ended.Bad bad) f h = tt
+crowd_weaker P Q ended.TooManyStates f h = tt
+crowd_weaker P Q (ended.TooManyOutcomes crowd) f h = f crowd h
+crowd_weaker P Q ended.Memory f h = tt
+
+-- what is said of what is answered, said otherwise
+pub errs_or : {T E : Type 0} (P Q : T → Type 0) (r : Returned T E) → ((x : T) → P x → Q x) → IfOk r P → IfOk r Q
+errs_or P Q (Ok x) f said = f x said
+errs_or P Q (Err e) f said = tt

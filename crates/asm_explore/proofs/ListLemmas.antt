@@ -2,7 +2,7 @@
 --     grows_*                 of a list with one more outcome
 --     joined_none, joined_more, joined_all      one outcome beside the first elements of a list
 --     both_none, both_more, both_all            the first elements of a list beside another list
-use Rattle.std.proofs.Common.{◌≡◌, ℕ, ◌+◌, ◌<◌, ◌≤◌, List, [], ◌∷◌, ◌++◌, length, take, get_or, ◌⊎◌, inl, inr, refl, sym, subst, arith}
+use Rattle.std.proofs.Common.{◌≡◌, ℕ, ◌+◌, ◌<◌, ◌≤◌, List, [], ◌∷◌, ◌++◌, length, take, get_or, ◌⊎◌, inl, inr, refl, sym, subst, arith, append-nil}
 use Rattle.std.proofs.lemmas.List.{take_all}
 use Rattle.asm_state.specs.Signature.{Shape, count_of}
 use Rattle.asm_state.specs.Updates.{UpdateSet, together}
@@ -15,7 +15,9 @@ use Rattle.asm_explore.specs.declared.found.Found.{Found}
 use Rattle.asm_explore.specs.declared.updates.Updates.{Updates}
 use Rattle.asm_explore.specs.Lists.{Situation, Each, AnyOf, IsTaken, AreTaken, Shows, IsShownBy, Shown, HaveChoices, IsCounted, AreCounted, IsSound, Lists, Grows, IsJoined, IsPicked}
 use Rattle.asm_explore.specs.Placed.{IsPlaced, IsPlacedFrom}
+use Rattle.asm_explore.specs.Ways.{ways_of, AreSomeOf, behind, all_joined, with_choice}
 use Rattle.asm_explore.proofs.Placing.{placed_chosen, from_part}
+use Rattle.asm_explore.proofs.Ways.{some_nil, mapped_take, step_last, joined_take}
 pub use Rattle.asm_explore.proofs.Elements.{each_append, each_first, each_last, each_at, each_take_more, each_weaker, any_first, any_last, any_weaker, any_at, any_split, any_take_more}
 
 -- ---- one more
@@ -73,6 +75,7 @@ module _ (shape : Shape) (left : Found) (right : List Found) where
     shown = λ x y here h. absurd h;
     sound = λ o q here each h. h;
     placed = λ p k here each h. h;
+    chosen = λ ways h. subst (AreSomeOf (ways_of old)) (sym (append-nil ways)) h;
   }
 
   pub joined_all : (i : ℕ) (old new : List Found) → length right ≤ i → IsJoined shape left (take i right) old new → IsJoined shape left right old new
@@ -96,6 +99,9 @@ module _ (shape : Shape) (left : Found) (right : List Found) where
         let parts = each_take_more (λ f. IsPlacedFrom p (k + 1) f.choices.items) right i r low is each in
         grows_each (λ f. IsPlacedFrom p k f.choices.items) mid new one grows (so_far.placed p k here parts.0 h)
         (subst (IsPlacedFrom p k) (sym chosen) (from_part p k left.choices.items r.choices.items here parts.1));
+    chosen = λ ways h.
+        step_last [] ways (behind left.choices.items (ways_of (take i right))) (behind left.choices.items (ways_of (take (i + 1) right))) mid new one grows
+        (left.choices.items ++ r.choices.items) chosen (mapped_take (λ ds. left.choices.items ++ ds) right i r low is) (so_far.chosen ways h);
   }
     where
       next : (x y : Result) → Shows shape left.answer x → Shown shape (take i right) y ⊎ Shows shape r.answer y → Shown shape new (beside x y)
@@ -109,10 +115,11 @@ pub record AreJoined (shape : Shape) (left right found : List Found) : Type 0 wh
   pub shown : (x y : Result) → Shown shape left x → Shown shape right y → Shown shape found (beside x y)
   pub sound : (o q : Situation → Result) → Each (IsSound shape o) left → Each (IsSound shape q) right → Each (IsSound shape (λ s. beside (o s) (q s))) found
   pub placed : (p : Path) (k : ℕ) → HaveChoices (IsPlaced (at p k)) left → HaveChoices (IsPlacedFrom p (k + 1)) right → HaveChoices (IsPlacedFrom p k) found
+  pub chosen : AreSomeOf (ways_of found) (all_joined (ways_of left) (ways_of right))
 
 module _ (shape : Shape) (left right : List Found) where
   pub both_none : AreJoined shape (take 0 left) right []
-  both_none = record { counted = tt; shown = λ x y h g. absurd h; sound = λ o q h g. tt; placed = λ p k h g. tt }
+  both_none = record { counted = tt; shown = λ x y h g. absurd h; sound = λ o q h g. tt; placed = λ p k h g. tt; chosen = tt }
 
   pub both_more : (i : ℕ) (f : Found) (old new : List Found) → i < length left → f ≡ get_or left i f
       → IsJoined shape f right old new → AreJoined shape (take i left) right old → AreJoined shape (take (i + 1) left) right new
@@ -125,6 +132,8 @@ module _ (shape : Shape) (left right : List Found) where
     placed = λ p k h g.
         let parts = each_take_more (λ f. IsPlaced (at p k) f.choices.items) left i f low is h in
         joined.placed p k parts.1 g (so_far.placed p k parts.0 g);
+    chosen = subst (AreSomeOf (ways_of new)) (sym (joined_take left (ways_of right) i f low is))
+        (joined.chosen (all_joined (ways_of (take i left)) (ways_of right)) so_far.chosen);
   }
     where
       next : (x y : Result) → Shown shape right y → Shown shape (take i left) x ⊎ Shows shape f.answer x → Shown shape new (beside x y)
@@ -147,11 +156,17 @@ module _ (shape : Shape) (left right : List Found) where
       let whole : AreJoined shape left right found = subst (λ fs. AreJoined shape fs right found) (take_all i left past) joined in
       whole.placed
 
+  pub both_chosen : (i : ℕ) (found : List Found) → length left ≤ i → AreJoined shape (take i left) right found
+      → AreSomeOf (ways_of found) (all_joined (ways_of left) (ways_of right))
+  both_chosen i found past joined =
+      let whole : AreJoined shape left right found = subst (λ fs. AreJoined shape fs right found) (take_all i left past) joined in
+      whole.chosen
+
 -- ---- the outcomes of a candidate
 
 module _ (p : List ℕ) (k : ℕ) (part : List Found) where
   pub picked_none : (old : List Found) → IsPicked p k (take 0 part) old old
-  picked_none old = record { counted = λ n g h. h; older = λ shape r h. h; shown = λ shape r h. absurd h; sound = λ shape o q each same h. h; placed = λ each h. h }
+  picked_none old = record { counted = λ n g h. h; older = λ shape r h. h; shown = λ shape r h. absurd h; sound = λ shape o q each same h. h; placed = λ each h. h; chosen = some_nil (ways_of old) }
 
   pub picked_all : (i : ℕ) (old new : List Found) → length part ≤ i → IsPicked p k (take i part) old new → IsPicked p k part old new
   picked_all i old new past = subst (λ fs. IsPicked p k fs old new) (take_all i part past)
@@ -175,6 +190,8 @@ module _ (p : List ℕ) (k : ℕ) (part : List Found) where
         let parts = each_take_more (λ f. IsPlaced (at p 0) f.choices.items) part i f low is each in
         grows_each (λ f. IsPlaced p f.choices.items) mid new one grows (so_far.placed parts.0 h)
         (subst (IsPlaced p) (sym chosen) (placed_chosen p k f.choices.items parts.1));
+    chosen = step_last [] (ways_of old) (with_choice p k (ways_of (take i part))) (with_choice p k (ways_of (take (i + 1) part))) mid new one grows
+        (f.choices.items ++ record { path = p; number = k } ∷ []) chosen (mapped_take (λ cs. cs ++ record { path = p; number = k } ∷ []) part i f low is) so_far.chosen;
   }
     where
       next : (shape : Shape) (r : Result) → Shown shape (take i part) r ⊎ Shows shape f.answer r → Shown shape new r

@@ -29,7 +29,7 @@ in_part p q k h = h.1 ∙ append_assoc p (k ∷ []) h.0
 pub parts_differ : (p q r : Path) (i j : ℕ) → LiesAt (at p i) q → LiesAt (at p j) r → i ≢ j → q ≢ r
 parts_differ p q r i j h g differ same = differ (next_same p i j h.0 g.0 (sym (in_part p q i h) ∙ same ∙ in_part p r j g))
 
-lies_above : (p q : Path) (k : ℕ) → LiesAt (at p k) q → LiesAt p q
+pub lies_above : (p q : Path) (k : ℕ) → LiesAt (at p k) q → LiesAt p q
 lies_above p q k h = (k ∷ h.0, in_part p q k h)
 
 -- ---- choices
@@ -101,6 +101,9 @@ pub from_part : (p : Path) (k : ℕ) (cs ds : List Choice) → IsPlaced (at p k)
 from_part p k cs ds h =
     both_in p (λ i. i ≡ k) (λ i. k + 1 ≤ i) (λ i. k ≤ i) (λ i j is low same. omega (arith, is, low, same)) (λ i is. omega (arith, is)) (λ i low. omega (arith, low))
     cs ds (part_in p (λ i. i ≡ k) k (λ i. k) cs h)
+
+pub placed_both : (p : Path) (k : ℕ) (cs ds : List Choice) → IsPlaced (at p k) cs → IsPlacedFrom p (k + 1) ds → IsPlaced p (cs ++ ds)
+placed_both p k cs ds h g = placed_in p (λ i. k ≤ i) (cs ++ ds) (from_part p k cs ds h g)
 
 pub from_later : (p : Path) (k : ℕ) (cs : List Choice) → IsPlacedFrom p (k + 1) cs → IsPlacedFrom p k cs
 from_later p k = in_weaker p (λ i. k + 1 ≤ i) (λ i. k ≤ i) (λ i low. omega (arith, low))

@@ -4,7 +4,8 @@
 --     found_known                                 a state that stands in a node is known
 --     set_leads, follows_none, follows_more, follows_all      the outcomes of a step, followed one after the other
 --     looked_*                                    nodes, expanded one after the other
---     search_covers                               a whole search covers what runs come to
+--     search_covers, holds_before                 a whole search covers what runs come to
+--     closure_covers, holds_always                so does one that is closed, however many steps they have
 use Rattle.std.proofs.Common.{◌≡◌, ℕ, zero, suc, ◌+◌, ◌<◌, ◌≤◌, Bool, true, List, [], ◌∷◌, ◌++◌, length, take, drop, get_or, ◌⊎◌, inl, inr, refl, sym, ap, subst, ◌∙◌, arith, append_assoc, append-nil}
 use Rattle.std.specs.Prelude.{slice_get, Option, Some, None, IfNone}
 use Rattle.std.proofs.lemmas.Bool.{cases_lt}
@@ -15,7 +16,7 @@ use Rattle.asm_state.specs.Location.{State}
 use Rattle.asm_state.specs.Signature.{Shape, count_of, state_of}
 use Rattle.asm_state.specs.Updates.{UpdateSet, IsConsistent, fire}
 use Rattle.asm_updates.specs.Stands.{Stands}
-use Rattle.asm_meaning.specs.Run.{Specification}
+use Rattle.asm_meaning.specs.Run.{Specification, run}
 use Rattle.asm_meaning.specs.Yields.{Path, Result, Gives, Exhausted}
 use Rattle.asm_explore.specs.declared.found.Answer.TheVariants as answer
 use Rattle.asm_explore.specs.declared.found.Choice.{Choice}
@@ -25,7 +26,7 @@ use Rattle.asm_explore.specs.declared.updates.Updates.{Updates}
 use Rattle.asm_explore.specs.declared.fault.Fault.{Fault}
 use Rattle.asm_explore.specs.Lists.{Situation, Each, AnyOf, Shows, Shown}
 use Rattle.asm_explore.specs.Reached.{AreBegun, AreInside, steps_from, state_at, Known, Rises, IsNear, IsGood, Extends, Follows, Expanded, IsLinked, IsLooked, IsOutcome, IsBadStep, LeadsTo, IsSearched}
-use Rattle.asm_explore.specs.Search.{LeadsOn, IsSafeUpTo, IsSafe}
+use Rattle.asm_explore.specs.Search.{LeadsOn, IsSafeUpTo, IsSafe, HoldsBefore, HoldsAlways}
 use Rattle.asm_explore.proofs.ListLemmas.{each_append, each_at, each_weaker, any_first, any_last, any_weaker, any_take_more}
 use Rattle.asm_explore.proofs.Layers.{layers_are_safe, closure_is_safe}
 
@@ -113,9 +114,9 @@ module _ (shape : Shape) (specification : Specification) (turns : ℕ) (right : 
         (each_weaker (IsLinked shape specification turns old) (IsLinked shape specification turns new) (λ n. linked_more shape specification turns old new extends.more n extends.is) old h)
         extends.linked)
 
-    pub bad_step_less : (from : ℕ) (choices : List Choice) (fault : Fault) → from < length old
-        → IsBadStep shape specification turns right new from choices fault → IsBadStep shape specification turns right old from choices fault
-    bad_step_less from choices fault low h n there = h n (at_more from n there)
+    pub bad_step_less : (rests : State → Bool) (from : ℕ) (choices : List Choice) (fault : Fault) → from < length old
+        → IsBadStep shape specification turns right rests new from choices fault → IsBadStep shape specification turns right rests old from choices fault
+    bad_step_less rests from choices fault low h n there = h n (at_more from n there)
 
     pub long_more : length old ≤ length new
     long_more =
@@ -431,6 +432,18 @@ module _ (shape : Shape) (specification : Specification) (turns : ℕ) (right wi
       goes_on = λ d A low known inside script step. known_leads d A low known inside (record { script = script; step = step });
     })
 
+    -- what holds of the nodes that are less deep, and within, holds of each state that fewer steps lead to
+    pub holds_before : (D : State → Type 0) → Each (λ n. n.depth < depth → within (state_at shape n) ≡ true → D (state_at shape n)) nodes → HoldsBefore specification turns within D depth
+    holds_before D each script k low stays =
+        let fine = layers_are_safe specification turns within (Known shape nodes k) k (Known shape nodes) (record {
+          begins = searched.begins;
+          right = λ d A shallow known. known_deeper d k A shallow known;
+          goes_on = λ d A less known inside script step. known_leads d A (omega (arith, less, low)) known inside (record { script = script; step = step });
+        }) script k (omega arith) (λ j less. stays j (omega (arith, less))) in
+        let A = (run specification turns script k).last in
+        let one = both_of (λ n. n.depth < depth → within (state_at shape n) ≡ true → D (state_at shape n)) (λ n. (n.depth ≤ k) × (state_at shape n ≡ A)) nodes each fine.1 in
+        subst D one.2.1 (one.1 (omega (arith, one.2.0, low)) (ap within one.2.1 ∙ stays k (omega arith)))
+
 -- ---- a search that is closed covers every depth
 
 pub each_taken : {X : Type 0} (P : X → Type 0) (xs : List X) (i : ℕ) → length xs ≤ i → Each P (take i xs) → Each P xs
@@ -473,6 +486,18 @@ module _ (shape : Shape) (specification : Specification) (turns : ℕ) (right wi
     right = λ e A within known. reached_right A known;
     goes_on = λ e A low known inside script step. reached_leads A known inside (record { script = script; step = step });
   })
+
+  pub holds_always : (D : State → Type 0) → Each (λ n. n.depth < depth → within (state_at shape n) ≡ true → D (state_at shape n)) nodes → HoldsAlways specification turns within D
+  holds_always D each script k stays =
+      let fine = closure_is_safe specification turns within (Reached 0) Reached (λ d. record {
+        begins = any_weaker (λ n. (n.depth ≤ 0) × (state_at shape n ≡ specification.initial)) (λ n. state_at shape n ≡ specification.initial) (λ n h. h.1) nodes searched.begins;
+        right = λ e A shallow known. known;
+        goes_on = λ e A low known inside script step. reached_leads A known inside (record { script = script; step = step });
+      }) script k (λ j less. stays j (omega (arith, less))) in
+      let A = (run specification turns script k).last in
+      let one = both_of (λ n. (n.depth < depth → within (state_at shape n) ≡ true → D (state_at shape n)) × (n.depth < depth)) (λ n. state_at shape n ≡ A) nodes
+      (both_each (λ n. n.depth < depth → within (state_at shape n) ≡ true → D (state_at shape n)) (λ n. n.depth < depth) nodes each above) fine.1 in
+      subst D one.2 (one.1.0 one.1.1 (ap within one.2 ∙ stays k (omega arith)))
 
 -- ---- options
 

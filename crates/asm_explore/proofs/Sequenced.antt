@@ -6,11 +6,11 @@
 --     next_none, next_more, next_all            how the first outcomes so far go on
 --     begun, underway_next, ended               a sequence from part to part
 --     closed, all_exhausted                     its end
-use Rattle.std.proofs.Common.{◌≡◌, ℕ, ◌+◌, ◌<◌, ◌≤◌, Bool, true, false, cond, not, ◌&&◌, ◌||◌, List, [], ◌++◌, length, take, get_or, ◌⊎◌, inl, inr, refl, sym, ap, subst, ◌∙◌, arith}
+use Rattle.std.proofs.Common.{◌≡◌, ℕ, ◌+◌, ◌<◌, ◌≤◌, Bool, true, false, cond, not, ◌&&◌, ◌||◌, List, [], ◌∷◌, ◌++◌, length, take, get_or, ◌⊎◌, inl, inr, refl, sym, ap, subst, ◌∙◌, arith}
 use Rattle.std.specs.Prelude.{Option, Some, None, is_some, IfNone, IfSome}
 use Rattle.std.proofs.Math.Bool.{or-true}
 use Rattle.std.proofs.lemmas.Bool.{false_from_ne_true}
-use Rattle.std.proofs.lemmas.List.{take_all}
+use Rattle.std.proofs.lemmas.List.{take_all, take_more}
 use Rattle.asm_state.specs.Location.{Proper, Stray, State}
 use Rattle.asm_state.specs.Signature.{Shape, count_of}
 use Rattle.asm_state.specs.Updates.{UpdateSet, IsConsistent, is_consistent, is_none, none, merge, fire, Fault, Clash, Outside, IsFirstFault}
@@ -31,9 +31,12 @@ use Rattle.asm_explore.specs.declared.sorting.Sorted.{Sorted}
 use Rattle.asm_explore.specs.declared.updates.Updates.{Updates}
 use Rattle.asm_explore.specs.Lists.{Situation, Each, AreTaken, Shows, IsShownBy, Shown, HaveChoices, IsCounted, AreCounted, IsSound, Lists, Grows}
 use Rattle.asm_explore.specs.Placed.{IsPlaced, IsPlacedBefore}
-use Rattle.asm_explore.specs.Sequences.{ends, step_of, BothHave, IsTold, Merges, ComesAfter, IsOn, Underway, Ends, GoesOn, Sorts, SortsAll, StepsTo, Next, NextOne, Adds, Exhausts}
+use Rattle.asm_explore.specs.Ways.{ways_of, AreSomeOf, behind}
+use Rattle.asm_explore.specs.Sequences.{ends, step_of, BothHave, both_ways, IsTold, Merges, ComesAfter, IsOn, Underway, Ends, GoesOn, Sorts, IsIn, ComesOf, SortsAll, StepsTo, Next, NextOne, Adds, Exhausts}
+use Rattle.asm_explore.proofs.Elements.{each_self, any_first, any_last}
 use Rattle.asm_explore.proofs.ListLemmas.{each_weaker, each_take_more, any_take_more, grows_each, grows_any, taken_both}
 use Rattle.asm_explore.proofs.Placing.{before_none, before_part, have_weaker, placed_in}
+use Rattle.asm_explore.proofs.Ways.{some_nil, ways_take, mapped_take, step_first, step_last, step_kept}
 
 -- ---- results and states
 
@@ -145,8 +148,15 @@ module _ (shape : Shape) (turns : Bool) (so_far : Entries) (choices : List Choic
     shown = λ U x rest stands h. absurd h;
     done_sound = λ total o hyp each h. h;
     more_sound = λ A total left o hyp each h. h;
+    more_from = all_inl (each_self old.more.items);
     placed = λ p k here each h. h;
+    chosen = some_nil (both_ways old);
+    done_chosen = some_nil (ways_of old.done.items);
+    more_chosen = some_nil (ways_of old.more.items);
   }
+    where
+      all_inl : Each (λ f. IsIn f old.more.items) old.more.items → Each (λ f. IsIn f old.more.items ⊎ ComesOf shape turns so_far choices (take 0 part) f) old.more.items
+      all_inl = each_weaker (λ f. IsIn f old.more.items) (λ f. IsIn f old.more.items ⊎ ComesOf shape turns so_far choices (take 0 part) f) (λ f h. inl h) old.more.items
 
   pub sorted_all : (i : ℕ) (old new : Sorted) → length part ≤ i → SortsAll shape turns so_far choices (take i part) old new → SortsAll shape turns so_far choices part old new
   sorted_all i old new past = subst (λ fs. SortsAll shape turns so_far choices fs old new) (take_all i part past)
@@ -154,6 +164,21 @@ module _ (shape : Shape) (turns : Bool) (so_far : Entries) (choices : List Choic
   -- where the sequence ends with the next one, or goes on with it
   module _ (i : ℕ) (q : Found) (old mid new : Sorted) (low : i < length part) (is : q ≡ get_or part i q) (so_on : SortsAll shape turns so_far choices (take i part) old mid)
       (joined : Found) (chosen : joined.choices.items ≡ choices ++ q.choices.items) (counted : IsCounted (count_of shape) joined.answer) where
+    in_last : IsIn q (take (i + 1) part)
+    in_last = subst (IsIn q) (sym (take_more part i q low)) (any_last (λ g. g ≡ q) (take i part) (get_or part i q ∷ []) (inl (sym is)))
+
+    in_first : (f : Found) → IsIn f (take i part) → IsIn f (take (i + 1) part)
+    in_first f h = subst (IsIn f) (sym (take_more part i q low)) (any_first (λ g. g ≡ f) (take i part) (get_or part i q ∷ []) h)
+
+    still_from : (f : Found) → IsIn f old.more.items ⊎ ComesOf shape turns so_far choices (take i part) f → IsIn f old.more.items ⊎ ComesOf shape turns so_far choices (take (i + 1) part) f
+    still_from f (inl h) = inl h
+    still_from f (inr h) = inr (record { one = h.one; among = in_first h.one h.among; chosen = h.chosen; goes_on = h.goes_on })
+
+    from_before : Each (λ f. IsIn f old.more.items ⊎ ComesOf shape turns so_far choices (take (i + 1) part) f) mid.more.items
+    from_before =
+        each_weaker (λ f. IsIn f old.more.items ⊎ ComesOf shape turns so_far choices (take i part) f) (λ f. IsIn f old.more.items ⊎ ComesOf shape turns so_far choices (take (i + 1) part) f)
+        still_from mid.more.items so_on.more_from
+
     with_end : Ends shape turns so_far q joined → Grows mid.done.items joined new.done.items → new.more.items ≡ mid.more.items → SortsAll shape turns so_far choices (take (i + 1) part) old new
     with_end last grows same = record {
       done_counted = λ h. grows_each (λ f. IsCounted (count_of shape) f.answer) mid.done.items new.done.items joined grows (so_on.done_counted h) counted;
@@ -171,6 +196,7 @@ module _ (shape : Shape) (turns : Bool) (so_far : Entries) (choices : List Choic
       more_sound = λ A total left o hyp each h.
           let parts = each_take_more (IsSound shape o) part i q low is each in
           subst (Each (IsOn shape A total left)) (sym same) (so_on.more_sound A total left o hyp parts.0 h);
+      more_from = subst (Each (λ f. IsIn f old.more.items ⊎ ComesOf shape turns so_far choices (take (i + 1) part) f)) (sym same) from_before;
       placed = λ p k here each h.
           let parts = each_take_more (λ f. IsPlaced (at p k) f.choices.items) part i q low is each in
           let both = so_on.placed p k here parts.0 h in (
@@ -178,6 +204,13 @@ module _ (shape : Shape) (turns : Bool) (so_far : Entries) (choices : List Choic
                 (subst (IsPlacedBefore p (k + 1)) (sym chosen) (before_part p k choices q.choices.items here parts.1)),
             subst (HaveChoices (IsPlacedBefore p (k + 1))) (sym same) both.1,
           );
+      chosen = subst (λ fs. AreSomeOf (ways_of new.done.items ++ ways_of fs) (both_ways old ++ behind choices (ways_of (take (i + 1) part)))) (sym same)
+          (step_first (ways_of mid.more.items) (both_ways old) (behind choices (ways_of (take i part))) (behind choices (ways_of (take (i + 1) part)))
+          mid.done.items new.done.items joined grows (choices ++ q.choices.items) chosen (mapped_take (λ ds. choices ++ ds) part i q low is) so_on.chosen);
+      done_chosen = step_last [] (ways_of old.done.items) (behind choices (ways_of (take i part))) (behind choices (ways_of (take (i + 1) part)))
+          mid.done.items new.done.items joined grows (choices ++ q.choices.items) chosen (mapped_take (λ ds. choices ++ ds) part i q low is) so_on.done_chosen;
+      more_chosen = step_kept (ways_of old.more.items) (behind choices (ways_of (take i part))) (behind choices (ways_of (take (i + 1) part)))
+          mid.more.items new.more.items (choices ++ q.choices.items) same (mapped_take (λ ds. choices ++ ds) part i q low is) so_on.more_chosen;
     }
       where
         older : (U : UpdateSet) (x : Result) (rest : UpdateSet → Result)
@@ -209,6 +242,8 @@ module _ (shape : Shape) (turns : Bool) (so_far : Entries) (choices : List Choic
           let here = hyp s halves.0 in
           let goes = on.shows here.0 (o s) here.1 (parts.1 s halves.1) in
           (merge here.0 goes.0, goes.3, here.2 goes.0 goes.1 goes.2));
+      more_from = grows_each (λ f. IsIn f old.more.items ⊎ ComesOf shape turns so_far choices (take (i + 1) part) f) mid.more.items new.more.items joined grows from_before
+          (inr (record { one = q; among = in_last; chosen = chosen; goes_on = on }));
       placed = λ p k here each h.
           let parts = each_take_more (λ f. IsPlaced (at p k) f.choices.items) part i q low is each in
           let both = so_on.placed p k here parts.0 h in (
@@ -216,6 +251,13 @@ module _ (shape : Shape) (turns : Bool) (so_far : Entries) (choices : List Choic
             grows_each (λ f. IsPlacedBefore p (k + 1) f.choices.items) mid.more.items new.more.items joined grows both.1
                 (subst (IsPlacedBefore p (k + 1)) (sym chosen) (before_part p k choices q.choices.items here parts.1)),
           );
+      chosen = subst (λ fs. AreSomeOf (ways_of fs ++ ways_of new.more.items) (both_ways old ++ behind choices (ways_of (take (i + 1) part)))) (sym same)
+          (step_last (ways_of mid.done.items) (both_ways old) (behind choices (ways_of (take i part))) (behind choices (ways_of (take (i + 1) part)))
+          mid.more.items new.more.items joined grows (choices ++ q.choices.items) chosen (mapped_take (λ ds. choices ++ ds) part i q low is) so_on.chosen);
+      done_chosen = step_kept (ways_of old.done.items) (behind choices (ways_of (take i part))) (behind choices (ways_of (take (i + 1) part)))
+          mid.done.items new.done.items (choices ++ q.choices.items) same (mapped_take (λ ds. choices ++ ds) part i q low is) so_on.done_chosen;
+      more_chosen = step_last [] (ways_of old.more.items) (behind choices (ways_of (take i part))) (behind choices (ways_of (take (i + 1) part)))
+          mid.more.items new.more.items joined grows (choices ++ q.choices.items) chosen (mapped_take (λ ds. choices ++ ds) part i q low is) so_on.more_chosen;
     }
       where
         older : (U : UpdateSet) (x : Result) (rest : UpdateSet → Result)
@@ -376,7 +418,7 @@ module _ (shape : Shape) (turns : Bool) (A : State) (here : Situation → State 
 
 module _ (more : List Found) where
   pub adds_none : (old : List Found) → Adds old (take 0 more) old
-  adds_none old = record { counted = λ n h g. h; older = λ shape r h. h; shown = λ shape r h. absurd h; sound = λ shape o h g. h; placed = λ q h g. h }
+  adds_none old = record { counted = λ n h g. h; older = λ shape r h. h; shown = λ shape r h. absurd h; sound = λ shape o h g. h; placed = λ q h g. h; chosen = some_nil (ways_of old) }
 
   pub adds_more : (i : ℕ) (f one : Found) (old mid new : List Found) → i < length more → f ≡ get_or more i f
       → one.choices.items ≡ f.choices.items → ((n : ℕ) → IsCounted n f.answer → IsCounted n one.answer) → IsShownBy f.answer one.answer → Grows mid one new → Adds old (take i more) mid → Adds old (take (i + 1) more) new
@@ -393,6 +435,7 @@ module _ (more : List Found) where
     placed = λ q h g.
         let parts = each_take_more (λ f. IsPlaced q f.choices.items) more i f low is g in
         grows_each (λ f. IsPlaced q f.choices.items) mid new one grows (so_on.placed q h parts.0) (subst (IsPlaced q) (sym chosen) parts.1);
+    chosen = step_last [] (ways_of old) (ways_of (take i more)) (ways_of (take (i + 1) more)) mid new one grows f.choices.items chosen (ways_take more i f low is) so_on.chosen;
   }
     where
       next : (shape : Shape) (r : Result) → Shown shape (take i more) r ⊎ Shows shape f.answer r → Shown shape new r
@@ -424,7 +467,7 @@ closed shape A total left empty old more new under adds = record {
 
 module _ (p : Path) (more : List Found) where
   pub exhausts_none : (old : List Found) → Exhausts p old (take 0 more) old
-  exhausts_none old = record { counted = λ n h. h; older = λ shape r h. h; shown = λ shape r h. absurd h; sound = λ shape o h g. g; placed = λ q h g. h }
+  exhausts_none old = record { counted = λ n h. h; older = λ shape r h. h; shown = λ shape r h. absurd h; sound = λ shape o h g. g; placed = λ q h g. h; chosen = some_nil (ways_of old) }
 
   pub exhausts_more : (i : ℕ) (f one : Found) (old mid new : List Found) → i < length more → f ≡ get_or more i f
       → one.choices.items ≡ f.choices.items → one.answer ≡ answer.Exhausted p → Grows mid one new → Exhausts p old (take i more) mid → Exhausts p old (take (i + 1) more) new
@@ -439,6 +482,7 @@ module _ (p : Path) (more : List Found) where
     placed = λ q h g.
         let parts = each_take_more (λ f. IsPlaced q f.choices.items) more i f low is g in
         grows_each (λ f. IsPlaced q f.choices.items) mid new one grows (so_on.placed q h parts.0) (subst (IsPlaced q) (sym chosen) parts.1);
+    chosen = step_last [] (ways_of old) (ways_of (take i more)) (ways_of (take (i + 1) more)) mid new one grows f.choices.items chosen (ways_take more i f low is) so_on.chosen;
   }
     where
       at_end : (shape : Shape) → Shows shape one.answer (Exhausted p)

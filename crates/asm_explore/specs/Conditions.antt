@@ -36,3 +36,4 @@ pub record IsSpecified (m : Specified) : Type 0 where
   pub main : let s = spec_of m.checked.now.spec in resolved_rule_in s [] (main_rule s (inits s)) (rule_of m.code.now)
   pub always : IsSoundTest (shape_of (spec_of m.checked.now.spec)) (option_map code_of m.always.now)
   pub within : IsSoundTest (shape_of (spec_of m.checked.now.spec)) (option_map code_of m.within.now)
+  pub when_quiet : IsSoundTest (shape_of (spec_of m.checked.now.spec)) (option_map code_of m.when_quiet.now)

@@ -1,10 +1,60 @@
--- What a refusal of too many outcomes names.
+-- What a refusal of too many outcomes says.
 --     Names p first others refusal      the path of the rule, and how many outcomes its parts have
-use Rattle.std.specs.Prelude.{◌≡◌, ℕ}
+--     IfTooMany X overflow              what is so where a list has too many
+--     IsCrowded limit ways refusal      where there are too many, these lists of choices are more than the limit says
+--     IsAmong c cs                      a choice is one of these
+--     Differ p cs ds                    of some choose at the path or below it they take different candidates
+--     AreDifferent p css                each two of them do
+--     TakesBefore p k cs                of the choose at the path they take a candidate before this one
+--     AreMany limit p P                 there are more lists of choices than the limit says, each two differ, and this holds of each
+--     Refuses limit P refusal           where there are too many, this is so at the path that is named
+use Rattle.std.specs.Prelude.{◌≡◌, ◌≢◌, ◌<◌, ℕ, List, [], ◌∷◌, length}
 use Rattle.asm_meaning.specs.Yields.{Path}
+use Rattle.asm_explore.specs.declared.found.Choice.{Choice}
+use Rattle.asm_explore.specs.declared.overflow.Overflow.{Overflow}
+use Rattle.asm_explore.specs.declared.overflow.Overflow.TheVariants as overflow
 use Rattle.asm_explore.specs.declared.refusal.Refusal.{Refusal}
 use Rattle.asm_explore.specs.declared.refusal.Refusal.TheVariants as refusal
+use Rattle.asm_explore.specs.Elements.{Each, AnyOf}
+use Rattle.asm_explore.specs.Placed.{LiesAt}
 
 abbrev pub Names : Path → (first others : ℕ) → Refusal → Type 0
 Names p first others refusal.Memory = Unit {0}
 Names p first others (refusal.TooMany crowd) = (crowd.path ≡ p) × (crowd.first ≡ first) × (crowd.others ≡ others)
+
+abbrev pub IfTooMany : Type 0 → Overflow → Type 0
+IfTooMany X overflow.Memory = Unit {0}
+IfTooMany X overflow.TooMany = X
+
+abbrev pub IsCrowded : (limit : ℕ) → List (List Choice) → Refusal → Type 0
+IsCrowded limit ways refusal.Memory = Unit {0}
+IsCrowded limit ways (refusal.TooMany crowd) = limit < length ways
+
+abbrev pub IsAmong : Choice → List Choice → Type 0
+IsAmong c cs = AnyOf (λ d. d ≡ c) cs
+
+pub record Differ (p : Path) (cs ds : List Choice) : Type 0 where
+  pub one : Choice
+  pub other : Choice
+  pub first : IsAmong one cs
+  pub second : IsAmong other ds
+  pub same : one.path ≡ other.path
+  pub below : LiesAt p one.path
+  pub differ : one.number ≢ other.number
+
+abbrev pub AreDifferent : Path → List (List Choice) → Type 0
+AreDifferent p [] = Unit {0}
+AreDifferent p (cs ∷ css) = Each (Differ p cs) css × AreDifferent p css
+
+abbrev pub TakesBefore : Path → ℕ → List Choice → Type 0
+TakesBefore p k cs = (j : ℕ) × (j < k) × IsAmong (record { path = p; number = j }) cs
+
+pub record AreMany (limit : ℕ) (p : Path) (P : List Choice → Type 0) : Type 0 where
+  pub ways : List (List Choice)
+  pub more : limit < length ways
+  pub different : AreDifferent p ways
+  pub each : Each P ways
+
+abbrev pub Refuses : (limit : ℕ) → (Path → List Choice → Type 0) → Refusal → Type 0
+Refuses limit P refusal.Memory = Unit {0}
+Refuses limit P (refusal.TooMany crowd) = AreMany limit crowd.path (P crowd.path)

@@ -3,7 +3,9 @@
 --     outcome_on on f p R s A      what R yields under a frame, at a path, in a situation and a state
 --     here_on, yields_on           its result, and that in the state of the exploration
 --     parts_on, in_order_on        the results of rules beside and after each other
-use Rattle.std.specs.Prelude.{ℕ}
+--     made_on, makes_on            the choices that R makes in a situation and a state, and in the state of the exploration
+--     parts_made_on, order_made_on those of rules beside and after each other
+use Rattle.std.specs.Prelude.{ℕ, List}
 use Rattle.asm_state.specs.Location.{State}
 use Rattle.asm_state.specs.Signature.{Shape}
 use Rattle.asm_meaning.specs.Does.{Outcome, parts, in_order, turns_of}
@@ -16,7 +18,9 @@ use Rattle.asm_eval.specs.RuleTree.{RuleCode, RuleCodes}
 use Rattle.asm_eval.specs.Running.{places_of}
 use Rattle.asm_eval.specs.declared.frame.Frame.{Frame}
 use Rattle.asm_explore.specs.declared.exploration.Exploration.{Exploration}
+use Rattle.asm_explore.specs.declared.found.Choice.{Choice}
 use Rattle.asm_explore.specs.Lists.{Situation, picked}
+use Rattle.asm_explore.specs.Made.{made, parts_of, parts_make, order_makes, turns_make}
 
 module _ (on : Exploration) where
   abbrev pub shape_on : Shape
@@ -50,3 +54,26 @@ module _ (on : Exploration) where
 
   abbrev pub in_order_on : Frame → Path → RuleCodes → Situation → Result
   in_order_on f p Rs s = (in_order_from f p 0 Rs s state_on).result
+
+  -- ---- which choices are made
+
+  abbrev pub made_on : Frame → Path → RuleCode → Situation → State → List Choice
+  made_on f p R s A = made shape_on on.turns (picked s) R (readings_of shape_on f) (places_of shape_on f) A p
+
+  abbrev pub makes_on : Frame → Path → RuleCode → Situation → List Choice
+  makes_on f p R s = made_on f p R s state_on
+
+  abbrev pub parts_made_from : Frame → Path → ℕ → RuleCodes → Situation → List Choice
+  parts_made_from f p k Rs s = parts_make (parts_of shape_on on.turns (picked s) Rs (readings_of shape_on f) (places_of shape_on f)) k state_on p
+
+  abbrev pub order_made_from : Frame → Path → ℕ → RuleCodes → Situation → State → List Choice
+  order_made_from f p k Rs s A = order_makes (parts_of shape_on on.turns (picked s) Rs (readings_of shape_on f) (places_of shape_on f)) k A p
+
+  abbrev pub turns_made_from : Frame → Path → (left t : ℕ) → RuleCode → Situation → State → List Choice
+  turns_made_from f p left t R s A = turns_make (record { yields = λ A p. here_on f p R s A; makes = λ A p. made_on f p R s A }) left t A p
+
+  abbrev pub parts_made_on : Frame → Path → RuleCodes → Situation → List Choice
+  parts_made_on f p Rs = parts_made_from f p 0 Rs
+
+  abbrev pub order_made_on : Frame → Path → RuleCodes → Situation → List Choice
+  order_made_on f p Rs s = order_made_from f p 0 Rs s state_on

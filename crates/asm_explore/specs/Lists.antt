@@ -20,6 +20,7 @@ use Rattle.asm_explore.specs.declared.found.Answer.TheVariants as answer
 use Rattle.asm_explore.specs.declared.found.Found.{Found}
 pub use Rattle.asm_explore.specs.Elements.{Each, AnyOf}
 use Rattle.asm_explore.specs.Placed.{IsPlaced, IsPlacedFrom}
+use Rattle.asm_explore.specs.Ways.{ways_of, AreSomeOf, behind, with_choice}
 
 pub record Situation : Type 0 where
   pub script : Script
@@ -81,6 +82,7 @@ pub record IsJoined (shape : Shape) (left : Found) (right old new : List Found) 
       → Each (IsSound shape (λ s. beside (o s) (q s))) old → Each (IsSound shape (λ s. beside (o s) (q s))) new
   pub placed : (p : Path) (k : ℕ) → IsPlaced (at p k) left.choices.items → HaveChoices (IsPlacedFrom p (k + 1)) right
       → HaveChoices (IsPlacedFrom p k) old → HaveChoices (IsPlacedFrom p k) new
+  pub chosen : (ways : List (List Choice)) → AreSomeOf (ways_of old) ways → AreSomeOf (ways_of new) (ways ++ behind left.choices.items (ways_of right))
 
 -- a list with the outcomes of a part, each with one more choice
 pub record IsPicked (p : Path) (k : ℕ) (part old new : List Found) : Type 0 where
@@ -90,3 +92,4 @@ pub record IsPicked (p : Path) (k : ℕ) (part old new : List Found) : Type 0 wh
   pub sound : (shape : Shape) (o q : Situation → Result) → Each (IsSound shape o) part → ((s : Situation) → picked s p ≡ k → o s ≡ q s)
       → Each (IsSound shape q) old → Each (IsSound shape q) new
   pub placed : HaveChoices (IsPlaced (at p 0)) part → HaveChoices (IsPlaced p) old → HaveChoices (IsPlaced p) new
+  pub chosen : AreSomeOf (ways_of new) (ways_of old ++ with_choice p k (ways_of part))

@@ -1,9 +1,10 @@
 -- States that a search has reached.
 --     steps_from        what a step from a state yields in each situation
+--     AtNode            it holds of the state of a node, and of what a refusal names
 --     Known nodes d A   some node of depth d or less has the state A
 --     Expanded          whatever a step yields from a node's state leads on to a state that is known one step deeper
 --     Follows           outcomes of a step lead on to states that are known
---     GoesWrong         how a step goes wrong
+--     GoesWrong         how a step goes wrong, or begins in a deadlock
 --     ComesFrom         a node that a step leads to from an earlier one
 --     IsLinked          each node is the first one, or comes from an earlier one
 --     Rises, IsNear     nodes stand in the order of their depths; none is much deeper than one of them
@@ -29,15 +30,16 @@ use Rattle.asm_meaning.specs.Yields.{Path, Result, Gives, Exhausted}
 use Rattle.asm_explore.specs.declared.explored.Bad.{Bad}
 use Rattle.asm_explore.specs.declared.explored.Ended.TheVariants as ended
 use Rattle.asm_explore.specs.declared.explored.Looked.{Looked}
-use Rattle.asm_explore.specs.Ends.{IfBad, IsDone}
+use Rattle.asm_explore.specs.Ends.{IfBad, IfCrowd, IsDone}
 use Rattle.asm_explore.specs.declared.fault.Fault.{Fault}
 use Rattle.asm_explore.specs.declared.fault.Fault.TheVariants as fault
 use Rattle.asm_explore.specs.declared.found.Choice.{Choice}
 use Rattle.asm_explore.specs.declared.found.Found.{Found}
+use Rattle.asm_explore.specs.declared.refusal.Crowd.{Crowd}
 use Rattle.asm_explore.specs.Kept.{Node}
 use Rattle.asm_explore.specs.Lists.{Situation, Each, AnyOf, AreTaken, Shown, IsSound}
 use Rattle.asm_explore.specs.Placed.{AreApart}
-use Rattle.asm_explore.specs.Search.{LeadsOn, EndsSo, StaysWithin}
+use Rattle.asm_explore.specs.Search.{LeadsOn, IsDeadlock, EndsSo, StaysWithin}
 
 abbrev pub steps_from : Specification → (turns : ℕ) → State → Situation → Result
 steps_from specification turns A s = (does specification.program turns s.script s.step A nothing_bound [] specification.main).result
@@ -55,10 +57,11 @@ abbrev pub IsNear : List Node → ℕ → Type 0
 IsNear nodes i = (n : Node) → slice_get nodes i ≡ Some n → Each (λ m. m.depth ≤ n.depth + 1) nodes
 
 -- how a step goes wrong
-abbrev pub GoesWrong : (right : State → Bool) → Fault → Result → State → Type 0
-GoesWrong right fault.Exhausted r A = (q : Path) × (r ≡ Exhausted q)
-GoesWrong right fault.Inconsistent r A = (U : UpdateSet) × (r ≡ Gives U) × ¬ (IsConsistent U)
-GoesWrong right fault.Wrong r A = LeadsOn r A (λ B. right B ≡ false)
+abbrev pub GoesWrong : (right : State → Bool) → (dead : State → Type 0) → Fault → Result → State → Type 0
+GoesWrong right dead fault.Exhausted r A = (q : Path) × (r ≡ Exhausted q)
+GoesWrong right dead fault.Inconsistent r A = (U : UpdateSet) × (r ≡ Gives U) × ¬ (IsConsistent U)
+GoesWrong right dead fault.Wrong r A = LeadsOn r A (λ B. right B ≡ false)
+GoesWrong right dead fault.Deadlock r A = dead A
 
 -- choices with which the step from a state leads to another, each at a path of its own
 pub record LeadBetween (specification : Specification) (turns : ℕ) (A B : State) (cs : List Choice) : Type 0 where
@@ -75,12 +78,12 @@ MakesAll script [] = Unit {0}
 MakesAll script (cs ∷ back) = AreTaken (record { script = script; step = suc (length back) }) cs × MakesAll script back
 
 -- the step from the state of a node, as deep as so many steps lead to, goes wrong
-pub record GoesWrongSo (specification : Specification) (turns : ℕ) (right within : State → Bool) (shape : Shape) (nodes : List Node) (bad : Bad) : Type 0 where
+pub record GoesWrongSo (specification : Specification) (turns : ℕ) (right rests within : State → Bool) (shape : Shape) (nodes : List Node) (bad : Bad) : Type 0 where
   pub from : Node
   pub there : slice_get nodes bad.from ≡ Some from
   pub apart : AreApart bad.choices.items
   pub wrong : (back : List (List Choice)) → LeadTo specification turns within (state_of shape from.state) back → (script : Script) → MakesAll script (bad.choices.items ∷ back)
-      → EndsSo right bad.fault (suc (length back)) (run specification turns script (suc (length back))) × StaysWithin specification turns within script (suc (length back))
+      → EndsSo right (IsDeadlock specification turns rests) bad.fault (suc (length back)) (run specification turns script (suc (length back))) × StaysWithin specification turns within script (suc (length back))
 
 module _ (shape : Shape) where
   abbrev pub state_at : Node → State
@@ -88,6 +91,10 @@ module _ (shape : Shape) where
 
   abbrev pub Known : List Node → ℕ → State → Type 0
   Known nodes d A = AnyOf (λ n. (n.depth ≤ d) × (state_at n ≡ A)) nodes
+
+  -- it holds of the state of a node, which is so deep at most, and of what is named
+  abbrev pub AtNode : (State → Crowd → Type 0) → List Node → (number depth : ℕ) → Crowd → Type 0
+  AtNode crowds nodes number depth crowd = (n : Node) × (slice_get nodes number ≡ Some n) × (n.depth ≤ depth) × crowds (state_at n) crowd
 
   pub record IsGood (right : State → Bool) (n : Node) : Type 0 where
     pub kept : IsStateOf shape n.state
@@ -98,9 +105,9 @@ module _ (shape : Shape) where
   Follows old new from below outcomes = (n : Node) (r : Result) → slice_get old from ≡ Some n → Shown shape outcomes r → LeadsOn r (state_at n) (Known new below)
 
   module _ (specification : Specification) (turns : ℕ) where
-    -- in some situation the step from a state leads to another
+    -- some choices lead from a state to another
     abbrev pub MayLead : (A B : State) → Type 0
-    MayLead A B = (s : Situation) × LeadsOn (steps_from specification turns A s) A (λ C. C ≡ B)
+    MayLead A B = (cs : List Choice) × LeadBetween specification turns A B cs
 
     -- a node that a step leads to from an earlier one
     pub record ComesFrom (nodes : List Node) (n : Node) : Type 0 where
@@ -127,15 +134,15 @@ module _ (shape : Shape) where
     abbrev pub IsOutcome : List Node → (from below : ℕ) → Found → Type 0
     IsOutcome nodes from below f = (n : Node) → slice_get nodes from ≡ Some n → (below ≡ n.depth + 1) × IsSound shape (steps_from specification turns (state_at n)) f
 
-    -- in some situation the step from a node leads to a state one step deeper
+    -- some choices lead from a node to a state one step deeper
     abbrev pub LeadsTo : List Node → (from below : ℕ) → State → Type 0
     LeadsTo nodes from below B = (n : Node) → slice_get nodes from ≡ Some n → (below ≡ n.depth + 1) × MayLead (state_at n) B
 
     -- a step from a node that goes wrong, in each situation that makes these choices
-    abbrev pub IsBadStep : (right : State → Bool) → List Node → (from : ℕ) → List Choice → Fault → Type 0
-    IsBadStep right nodes from choices fault =
+    abbrev pub IsBadStep : (right rests : State → Bool) → List Node → (from : ℕ) → List Choice → Fault → Type 0
+    IsBadStep right rests nodes from choices fault =
         (n : Node) → slice_get nodes from ≡ Some n → (s : Situation) → AreTaken s choices
-        → GoesWrong right fault (steps_from specification turns (state_at n) s) (state_at n)
+        → GoesWrong right (IsDeadlock specification turns rests) fault (steps_from specification turns (state_at n) s) (state_at n)
 
     abbrev pub Expanded : List Node → Node → Type 0
     Expanded nodes n = (s : Situation) → LeadsOn (steps_from specification turns (state_at n) s) (state_at n) (Known nodes (n.depth + 1))
@@ -153,11 +160,11 @@ module _ (shape : Shape) where
       pub rises : Rises nodes
       pub inside : AreInside within nodes
 
-    pub record IsBad (right : State → Bool) (nodes : List Node) (bad : Bad) : Type 0 where
+    pub record IsBad (right rests : State → Bool) (nodes : List Node) (bad : Bad) : Type 0 where
       pub from : Node
       pub there : slice_get nodes bad.from ≡ Some from
       pub apart : AreApart bad.choices.items
-      pub wrong : (s : Situation) → AreTaken s bad.choices.items → GoesWrong right bad.fault (steps_from specification turns (state_at from) s) (state_at from)
+      pub wrong : (s : Situation) → AreTaken s bad.choices.items → GoesWrong right (IsDeadlock specification turns rests) bad.fault (steps_from specification turns (state_at from) s) (state_at from)
 
     -- all nodes up to a depth are expanded, if they are within
     pub record IsSearched (right within : State → Bool) (depth : ℕ) (nodes : List Node) : Type 0 where
@@ -166,10 +173,11 @@ module _ (shape : Shape) where
       pub expanded : Each (λ n. n.depth < depth → within (state_at n) ≡ true → Expanded nodes n) nodes
 
     -- nodes have been expanded, so many, of at most so many states
-    pub record IsStopped (right within : State → Bool) (depth limit : ℕ) (nodes : List Node) (looked : Looked) : Type 0 where
+    pub record IsStopped (crowds : State → Crowd → Type 0) (right rests within : State → Bool) (depth limit : ℕ) (nodes : List Node) (looked : Looked) : Type 0 where
       pub some : looked.expanded ≤ length nodes
       pub so_far : IsLooked right within depth looked.expanded nodes
       pub all : IsDone looked.ended → looked.expanded ≡ length nodes
       pub closed : looked.ended ≡ ended.Closed → Each (λ n. n.depth < depth) nodes
-      pub wrong : IfBad looked.ended (λ bad. IsBad right nodes bad × (bad.from ≡ looked.expanded) × ((n : Node) → slice_get nodes bad.from ≡ Some n → (n.depth < depth) × (within (state_at n) ≡ true)))
+      pub wrong : IfBad looked.ended (λ bad. IsBad right rests nodes bad × (bad.from ≡ looked.expanded) × ((n : Node) → slice_get nodes bad.from ≡ Some n → (n.depth < depth) × (within (state_at n) ≡ true)))
       pub full : looked.ended ≡ ended.TooManyStates → limit ≤ length nodes
+      pub crowded : IfCrowd looked.ended (λ crowd. (n : Node) × (slice_get nodes looked.expanded ≡ Some n) × (n.depth < depth) × crowds (state_at n) crowd)

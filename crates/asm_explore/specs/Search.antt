@@ -1,9 +1,13 @@
 -- What is claimed of all runs of a specification.
+--     LeadsOn r A known       what a step yields in a state leads on to a state that is known
+--     IsQuiet A               whatever is chosen, the step from the state changes nothing
+--     IsDeadlock A            the state is quiet, and isn't one in which a run may rest
 --     IsFine r ok             a run ends at its limit, in a state that is right
 --     StaysWithin             a run of so many steps is gone on with from states alone that are within
 --     IsSafeUpTo              under every script, each run of at most so many steps that stays within is fine
 --     IsSafe                  of however many steps
---     EndsSo                  a run ends in this step by this fault, or in a state that isn't right
+--     HoldsBefore, HoldsAlways    it holds of each state that runs are followed from, which fewer steps than so many lead to; and of all of them
+--     EndsSo                  a run ends in this step by this fault, or in a state that isn't right, or in a deadlock
 --     Covers                  states by the depth up to which they are known: they are right, and no step from one of them that is within
 --                             has a fault, nor leads to a state that isn't known one step deeper
 use Rattle.std.specs.Prelude.{◌≡◌, ℕ, suc, ◌≤◌, ◌<◌, Bool, true, false, []}
@@ -16,6 +20,21 @@ use Rattle.asm_meaning.specs.Run.{Run, AtLimit, AtExhausted, AtFault, Specificat
 use Rattle.asm_meaning.specs.Yields.{Path, Result, Gives}
 use Rattle.asm_explore.specs.declared.fault.Fault.{Fault}
 use Rattle.asm_explore.specs.declared.fault.Fault.TheVariants as fault
+
+-- what a step yields in a state leads on to a state that is known
+pub record LeadsOn (r : Result) (A : State) (known : State → Type 0) : Type 0 where
+  pub set : UpdateSet
+  pub gives : r ≡ Gives set
+  pub consistent : IsConsistent set
+  pub leads : known (fire A set)
+
+-- whatever is chosen, the step from the state changes nothing
+abbrev pub IsQuiet : Specification → (turns : ℕ) → State → Type 0
+IsQuiet specification turns A =
+    (script : Script) (step : ℕ) → LeadsOn (does specification.program turns script step A nothing_bound [] specification.main).result A (λ B. B ≡ A)
+
+abbrev pub IsDeadlock : Specification → (turns : ℕ) → (rests : State → Bool) → State → Type 0
+IsDeadlock specification turns rests A = IsQuiet specification turns A × (rests A ≡ false)
 
 abbrev pub IsFine : (ok : State → Type 0) → Run → Type 0
 IsFine ok r = (r.end ≡ AtLimit) × ok r.last
@@ -32,17 +51,20 @@ abbrev pub IsSafe : Specification → (turns : ℕ) → (within : State → Bool
 IsSafe specification turns within ok =
     (script : Script) (limit : ℕ) → StaysWithin specification turns within script limit → IsFine ok (run specification turns script limit)
 
-abbrev pub EndsSo : (right : State → Bool) → Fault → (step : ℕ) → Run → Type 0
-EndsSo right fault.Exhausted step r = (q : Path) × (r.end ≡ AtExhausted step q)
-EndsSo right fault.Inconsistent step r = (U : UpdateSet) × (r.end ≡ AtFault step U) × ¬ (IsConsistent U)
-EndsSo right fault.Wrong step r = (r.end ≡ AtLimit) × (right r.last ≡ false)
+-- it holds of each state that fewer steps than so many lead to, if runs are followed from it
+abbrev pub HoldsBefore : Specification → (turns : ℕ) → (within : State → Bool) → (D : State → Type 0) → (depth : ℕ) → Type 0
+HoldsBefore specification turns within D depth =
+    (script : Script) (k : ℕ) → k < depth → StaysWithin specification turns within script (suc k) → D (run specification turns script k).last
 
--- what a step yields in a state leads on to a state that is known
-pub record LeadsOn (r : Result) (A : State) (known : State → Type 0) : Type 0 where
-  pub set : UpdateSet
-  pub gives : r ≡ Gives set
-  pub consistent : IsConsistent set
-  pub leads : known (fire A set)
+-- that however many steps lead to
+abbrev pub HoldsAlways : Specification → (turns : ℕ) → (within : State → Bool) → (D : State → Type 0) → Type 0
+HoldsAlways specification turns within D = (script : Script) (k : ℕ) → StaysWithin specification turns within script (suc k) → D (run specification turns script k).last
+
+abbrev pub EndsSo : (right : State → Bool) → (dead : State → Type 0) → Fault → (step : ℕ) → Run → Type 0
+EndsSo right dead fault.Exhausted step r = (q : Path) × (r.end ≡ AtExhausted step q)
+EndsSo right dead fault.Inconsistent step r = (U : UpdateSet) × (r.end ≡ AtFault step U) × ¬ (IsConsistent U)
+EndsSo right dead fault.Wrong step r = (r.end ≡ AtLimit) × (right r.last ≡ false)
+EndsSo right dead fault.Deadlock step r = (r.end ≡ AtLimit) × dead r.last
 
 pub record Covers (specification : Specification) (turns : ℕ) (within : State → Bool) (ok : State → Type 0) (depth : ℕ) (known : ℕ → State → Type 0) : Type 0 where
   pub begins : known 0 specification.initial

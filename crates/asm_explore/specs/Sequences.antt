@@ -1,11 +1,15 @@
 -- Sequences through all scripts: the outcomes of the parts so far.
 --     ends turns V            a part with the set V is the last: it is inconsistent, or empty where these are turns
 --     step_of turns r rest    what a part yields, and what comes after it
+--     HasSet shape holds f    an outcome is a set of which something holds, in each situation that takes its choices
 --     Sorts, SortsAll         how outcomes of the next part are added to those that are done and to those that go on
+--     ComesOf                 an outcome comes of one of the next part
 --     BothHave P sorted       the choices of each outcome that is sorted are so
+--     both_ways sorted        the choices of those that are done, and of those that go on
+--     AllDiffer p fs sorted   each two of these and those take different candidates
 --     Underway                what stays true from part to part: each situation has its whole outcome among those that are done, or
 --                             the set so far among those that go on
-use Rattle.std.specs.Prelude.{◌≡◌, ℕ, ◌+◌, Bool, false, cond, not, ◌&&◌, ◌||◌, List, ◌⊎◌, ◌++◌, Result as Returned, IfOk}
+use Rattle.std.specs.Prelude.{◌≡◌, ℕ, ◌+◌, Bool, false, cond, not, ◌&&◌, ◌||◌, List, ◌⊎◌, ◌++◌, Result as Returned, IfOk, IfErr}
 use Rattle.std.proofs.Common.{Vec, Global}
 use Rattle.asm_state.specs.Location.{State}
 use Rattle.asm_state.specs.Signature.{Shape, count_of}
@@ -17,8 +21,11 @@ use Rattle.asm_explore.specs.declared.found.Choice.{Choice}
 use Rattle.asm_explore.specs.declared.found.Found.{Found}
 use Rattle.asm_explore.specs.declared.refusal.Refusal.{Refusal}
 use Rattle.asm_explore.specs.declared.sorting.Sorted.{Sorted}
-use Rattle.asm_explore.specs.Lists.{Situation, Each, AreTaken, Shows, Shown, HaveChoices, IsCounted, AreCounted, IsSound, Lists, Grows}
+use Rattle.asm_explore.specs.Lists.{Situation, Each, AnyOf, AreTaken, Shows, Shown, HaveChoices, IsCounted, AreCounted, IsSound, Lists, Grows}
+use Rattle.asm_explore.specs.Made.{AreMade, IsWay}
 use Rattle.asm_explore.specs.Placed.{IsPlaced, IsPlacedBefore}
+use Rattle.asm_explore.specs.Ways.{ways_of, AreSomeOf, behind}
+use Rattle.asm_explore.specs.Crowds.{AreDifferent, Refuses}
 
 abbrev pub ends : (turns : Bool) → UpdateSet → Bool
 ends turns V = (turns && is_none V) || not (is_consistent V)
@@ -38,8 +45,12 @@ Merges so_far later joined = (shape : Shape) (U V : UpdateSet) → Stands shape 
 abbrev pub ComesAfter : State → (total : Situation → Result) → (left : Situation → State → Result) → Situation → UpdateSet → Type 0
 ComesAfter A total left s U = IsConsistent U × (total s ≡ after U (left s (fire A U)))
 
+-- an outcome is a set of which this holds, in each situation that takes its choices
+abbrev pub HasSet : Shape → (holds : Situation → UpdateSet → Type 0) → Found → Type 0
+HasSet shape holds f = (s : Situation) → AreTaken s f.choices.items → (U : UpdateSet) × Shows shape f.answer (Gives U) × holds s U
+
 abbrev pub IsOn : Shape → State → (total : Situation → Result) → (left : Situation → State → Result) → Found → Type 0
-IsOn shape A total left f = (s : Situation) → AreTaken s f.choices.items → (U : UpdateSet) × Shows shape f.answer (Gives U) × ComesAfter A total left s U
+IsOn shape A total left = HasSet shape (ComesAfter A total left)
 
 pub record Underway (shape : Shape) (A : State) (total : Situation → Result) (left : Situation → State → Result) (done front : List Found) : Type 0 where
   pub done_counted : AreCounted (count_of shape) done
@@ -51,6 +62,13 @@ pub record Underway (shape : Shape) (A : State) (total : Situation → Result) (
 -- of those that are done, and of those that go on
 abbrev pub BothHave : (List Choice → Type 0) → Sorted → Type 0
 BothHave P sorted = HaveChoices P sorted.done.items × HaveChoices P sorted.more.items
+
+abbrev pub both_ways : Sorted → List (List Choice)
+both_ways sorted = ways_of sorted.done.items ++ ways_of sorted.more.items
+
+-- with others, which are still to go on
+abbrev pub AllDiffer : Path → List Found → Sorted → Type 0
+AllDiffer p front sorted = AreDifferent p (ways_of front ++ both_ways sorted)
 
 -- ---- how one outcome of the next part is added
 
@@ -72,6 +90,16 @@ pub record Sorts (shape : Shape) (turns : Bool) (so_far : Entries) (choices : Li
 
 -- ---- how all of them are
 
+abbrev pub IsIn : Found → List Found → Type 0
+IsIn f fs = AnyOf (λ g. g ≡ f) fs
+
+-- an outcome that comes of one of the next part, with which the sequence goes on
+pub record ComesOf (shape : Shape) (turns : Bool) (so_far : Entries) (choices : List Choice) (part : List Found) (f : Found) : Type 0 where
+  pub one : Found
+  pub among : IsIn one part
+  pub chosen : f.choices.items ≡ choices ++ one.choices.items
+  pub goes_on : GoesOn shape turns so_far one f
+
 pub record SortsAll (shape : Shape) (turns : Bool) (so_far : Entries) (choices : List Choice) (part : List Found) (old new : Sorted) : Type 0 where
   pub done_counted : AreCounted (count_of shape) old.done.items → AreCounted (count_of shape) new.done.items
   pub more_counted : AreCounted (count_of shape) old.more.items → AreCounted (count_of shape) new.more.items
@@ -87,16 +115,23 @@ pub record SortsAll (shape : Shape) (turns : Bool) (so_far : Entries) (choices :
       → ((s : Situation) → AreTaken s choices → (U : UpdateSet) × Stands shape so_far U
       × ((V : UpdateSet) → o s ≡ Gives V → ends turns V ≡ false → ComesAfter A total left s (merge U V)))
       → Each (IsSound shape o) part → Each (IsOn shape A total left) old.more.items → Each (IsOn shape A total left) new.more.items
+  pub more_from : Each (λ f. IsIn f old.more.items ⊎ ComesOf shape turns so_far choices part f) new.more.items
   pub placed : (p : Path) (k : ℕ) → IsPlacedBefore p k choices → HaveChoices (IsPlaced (at p k)) part
       → BothHave (IsPlacedBefore p (k + 1)) old → BothHave (IsPlacedBefore p (k + 1)) new
+  pub chosen : AreSomeOf (both_ways new) (both_ways old ++ behind choices (ways_of part))
+  pub done_chosen : AreSomeOf (ways_of new.done.items) (ways_of old.done.items ++ behind choices (ways_of part))
+  pub more_chosen : AreSomeOf (ways_of new.more.items) (ways_of old.more.items ++ behind choices (ways_of part))
 
 -- ---- what a part yields upon a set so far
 
--- what a rule yields in each situation, in the state in which a set so far has been fired
-pub record Upon (shape : Shape) (A : State) (so_far : Entries) (here : Situation → State → Result) (part : Returned (Vec Found Global) Refusal) : Type 0 where
+-- what a rule at the path p yields in each situation, and which choices it makes, in the state in which a set so far has been fired
+pub record Upon (shape : Shape) (A : State) (so_far : Entries) (limit : ℕ) (p : Path) (here : Situation → State → Result) (makes : Situation → State → List Choice)
+    (part : Returned (Vec Found Global) Refusal) : Type 0 where
   pub state : State
   pub fired : (U : UpdateSet) → Stands shape so_far U → IsConsistent U → state ≡ fire A U
   pub lists : IfOk part (λ fs. Lists shape (λ s. here s state) fs.items)
+  pub made : IfOk part (λ fs. HaveChoices (AreMade (λ s. makes s state)) fs.items)
+  pub refuses : IfErr part (Refuses limit (λ q. IsWay p (λ s. makes s state)))
 
 -- what is left is what the next part yields, and what is left after it
 abbrev pub StepsTo : (turns : Bool) → (left here left_then : Situation → State → Result) → Type 0
@@ -138,6 +173,7 @@ pub record Adds (old more new : List Found) : Type 0 where
   pub shown : (shape : Shape) (r : Result) → Shown shape more r → Shown shape new r
   pub sound : (shape : Shape) (o : Situation → Result) → Each (IsSound shape o) old → Each (IsSound shape o) more → Each (IsSound shape o) new
   pub placed : (q : Path) → HaveChoices (IsPlaced q) old → HaveChoices (IsPlaced q) more → HaveChoices (IsPlaced q) new
+  pub chosen : AreSomeOf (ways_of new) (ways_of old ++ ways_of more)
 
 -- a list with the choices of others, after which the whole is exhausted
 pub record Exhausts (p : Path) (old more new : List Found) : Type 0 where
@@ -147,3 +183,4 @@ pub record Exhausts (p : Path) (old more new : List Found) : Type 0 where
   pub sound : (shape : Shape) (o : Situation → Result) → Each (λ f. (s : Situation) → AreTaken s f.choices.items → o s ≡ Exhausted p) more
       → Each (IsSound shape o) old → Each (IsSound shape o) new
   pub placed : (q : Path) → HaveChoices (IsPlaced q) old → HaveChoices (IsPlaced q) more → HaveChoices (IsPlaced q) new
+  pub chosen : AreSomeOf (ways_of new) (ways_of old ++ ways_of more)

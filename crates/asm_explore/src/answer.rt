@@ -21,6 +21,16 @@ pub struct Unwritten {
     pub fault: Fault,
 }
 
+/// A run that comes to a quiet state: it stays there, whatever is chosen.
+#[derive(Drop)]
+pub struct QuietRun {
+    /// The text of a script.
+    pub script: String,
+    /// The run under this script comes to the state by so many steps, and no run comes to a quiet
+    /// state by fewer.
+    pub steps: u64,
+}
+
 /// What is found of the runs of a specification.
 #[derive(Drop)]
 pub enum Finding {
@@ -55,7 +65,8 @@ pub struct Answered {
     pub outcomes: usize,
     /// The most outcomes of a step.
     pub widest: usize,
-    /// So many states have a step whose outcomes all change nothing: a run that comes to one stays
-    /// there.
+    /// So many states are quiet: their step changes nothing, whatever is chosen.
     pub quiet: usize,
+    /// A run that comes to the first of them, unless there is none, or no script of it was written.
+    pub first_quiet: Option<QuietRun>,
 }

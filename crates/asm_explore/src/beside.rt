@@ -1,10 +1,12 @@
 //! Lists of outcomes of parts that stand beside each other.
-ghost use Rattle.std.specs.Prelude.{◌≡◌, ℕ, ◌+◌, [], ◌∷◌, ◌++◌, IfOk, OnOk};
+ghost use Rattle.std.specs.Prelude.{◌≡◌, ◌<◌, ℕ, ◌+◌, [], ◌∷◌, ◌++◌, length, IfOk, IfErr, OnOk};
 ghost use Rattle.asm_state.specs.Signature.{Shape, count_of};
 ghost use Rattle.asm_meaning.specs.Yields as yields;
 ghost use Rattle.asm_meaning.specs.Yields.{Result as Yielded};
+ghost use Rattle.asm_explore.specs.Crowds.{IfTooMany};
 ghost use Rattle.asm_explore.specs.Lists.{Situation, Shows, HaveChoices, IsCounted, AreCounted, IsJoined, Lists};
 ghost use Rattle.asm_explore.specs.Placed.{IsPlaced, IsPlacedFrom};
+ghost use Rattle.asm_explore.specs.Ways.{ways_of, AreSomeOf, all_joined};
 
 use crate::found::{Answer, Choice, Found, add_choices, copy_path};
 use crate::listing::add;
@@ -98,7 +100,8 @@ fn beside_each(
 ) -> Result<(), Overflow>
     requires left { IsCounted (count_of signature.now) left.now.answer }
     requires right { AreCounted (count_of signature.now) right.now }
-    ensures { OnOk result (IsJoined signature.now left.now right.now found.old.items found.new.items) }
+    ensures joins { OnOk result (IsJoined signature.now left.now right.now found.old.items found.new.items) }
+    ensures crowd { IfErr result (IfTooMany (limit < length found.old.items + length right.now)) }
 {
     for i in 0..right.len() {
         let joined = join(alloc, signature, left, &right[i])?;
@@ -122,6 +125,8 @@ pub(crate) fn beside_all(
         IfOk result (λ fs. Lists signature.now (λ s. yields.beside (o s) (q s)) fs.items) }
     ensures placed { (p : yields.Path) (k : ℕ) → HaveChoices (IsPlaced (yields.at p k)) left.now → HaveChoices (IsPlacedFrom p (k + 1)) right.now →
         IfOk result (λ fs. HaveChoices (IsPlacedFrom p k) fs.items) }
+    ensures chosen { IfOk result (λ fs. AreSomeOf (ways_of fs.items) (all_joined (ways_of left.now) (ways_of right.now))) }
+    ensures crowd { IfErr result (IfTooMany (limit < length (all_joined (ways_of left.now) (ways_of right.now)))) }
 {
     let mut found = Vec::new(alloc);
     for i in 0..left.len() {
@@ -204,11 +209,10 @@ fn join_into(
     } = right;
     let choices = choices_into(alloc, first, then)?;
     let answer = beside_into(signature, left, right)?;
-    let hash = hash_of(&answer);
     Ok(Found {
         choices,
         answer,
-        hash,
+        hash: 0,
     })
 }
 
@@ -227,6 +231,7 @@ fn one_beside_one(
         IfOk result (λ fs. Lists signature.now (λ s. yields.beside (o s) (q s)) fs.items) }
     ensures placed { (p : yields.Path) (k : ℕ) → HaveChoices (IsPlaced (yields.at p k)) (left ∷ []) → HaveChoices (IsPlacedFrom p (k + 1)) (right ∷ []) →
         IfOk result (λ fs. HaveChoices (IsPlacedFrom p k) fs.items) }
+    ensures chosen { IfOk result (λ fs. AreSomeOf (ways_of fs.items) (all_joined (ways_of (left ∷ [])) (ways_of (right ∷ [])))) }
 {
     let one = join_into(alloc, signature, left, right)?;
     let mut found = room;
@@ -248,6 +253,8 @@ pub(crate) fn beside_lists(
         IfOk result (λ fs. Lists signature.now (λ s. yields.beside (o s) (q s)) fs.items) }
     ensures placed { (p : yields.Path) (k : ℕ) → HaveChoices (IsPlaced (yields.at p k)) left.items → HaveChoices (IsPlacedFrom p (k + 1)) right.items →
         IfOk result (λ fs. HaveChoices (IsPlacedFrom p k) fs.items) }
+    ensures chosen { IfOk result (λ fs. AreSomeOf (ways_of fs.items) (all_joined (ways_of left.items) (ways_of right.items))) }
+    ensures crowd { IfErr result (IfTooMany (limit < length (all_joined (ways_of left.items) (ways_of right.items)))) }
 {
     if left.len() == 1 && right.len() == 1 {
         let (mut part, mut room) = (left, right);

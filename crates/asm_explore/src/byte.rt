@@ -1,5 +1,5 @@
 //! Values that a byte stands for.
-ghost use Rattle.std.specs.Prelude.{◌≡◌, IfSome};
+ghost use Rattle.std.specs.Prelude.{◌≡◌, IfSome, IsTrue};
 ghost use Rattle.asm_explore.specs.Bytes.{code_of_byte, content_of_byte};
 
 use asm_state::word::Word;
@@ -40,6 +40,14 @@ pub(crate) fn content_of(byte: u8) -> Word
         Some(word) => word,
         None => Word::undef(),
     }
+}
+
+/// Whether a byte stands for this value.
+#[inline(always)]
+pub(crate) fn is_of(byte: u8, word: Word) -> bool
+    ensures { IsTrue result → content_of_byte byte ≡ word }
+{
+    code_of(byte) == word.code()
 }
 
 /// The byte that stands for a value, if one does.

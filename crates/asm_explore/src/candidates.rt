@@ -3,27 +3,15 @@ ghost use Rattle.std.specs.Prelude.{◌≡◌, ◌<◌, Some, IfOk, length, opti
 ghost use Rattle.asm_eval.specs.CodeViews.{code_of};
 ghost use Rattle.asm_eval.specs.Frames.{IsSoundFrame};
 ghost use Rattle.asm_eval.specs.RuleMeaning.{IsSoundTest};
-ghost use Rattle.asm_eval.specs.Running.{passes_in, passing_in};
+ghost use Rattle.asm_eval.specs.Running.{passing_in};
 ghost use Rattle.asm_eval.specs.Sound.{IsUniverseNumber};
 
+use asm_eval::choose::passes;
 use asm_eval::code::Code;
 use asm_eval::frame::Frame;
-use asm_eval::value::holds;
 use asm_meaning::View;
 use asm_state::word::Word;
 use std::alloc::{AllocError, Global};
-
-/// Whether the condition holds, or there is none.
-pub(crate) fn passes<'e>(view: &View, frame: &'e Frame<'e>, test: &'e Option<Code>) -> bool
-    requires sound { IsSoundTest view.now.signature.now (option_map code_of test.now) }
-    requires framed { IsSoundFrame view.now.signature.now frame.now }
-    ensures { result ≡ passes_in view.now frame.now test.now }
-{
-    match test {
-        None => true,
-        Some(test) => holds(view, frame, test),
-    }
-}
 
 /// The values of a universe for which the condition holds.
 pub(crate) fn candidates<'e>(

@@ -1,6 +1,6 @@
 //! What a search has found.
 ghost use Rattle.std.specs.Prelude.{◌≡◌};
-ghost use Rattle.asm_explore.specs.Ends.{IsRefused};
+ghost use Rattle.asm_explore.specs.Ends.{IfCrowd, IsRefused};
 ghost use Rattle.asm_explore.specs.declared.explored.Ended.TheVariants as ended;
 ghost use Rattle.asm_explore.specs.declared.halt.Halt.TheVariants as halts;
 
@@ -44,13 +44,16 @@ pub struct Explored {
     pub nodes: Nodes,
     /// No run of at most so many steps goes wrong.
     pub whole: u32,
+    /// So many of the states were looked at, in order.
+    pub expanded: usize,
     pub ended: Ended,
     /// So many outcomes of steps were followed.
     pub outcomes: usize,
     /// The most outcomes of a step.
     pub widest: usize,
-    /// So many states have a step whose outcomes all change nothing.
-    pub quiet: usize,
+    /// The numbers of the quiet states, of those that were looked at and that runs are followed
+    /// from, in order.
+    pub quiet: Vec<u32>,
 }
 
 /// How far a search has gone.
@@ -65,6 +68,7 @@ pub(crate) struct Looked {
 pub(crate) fn cut_off(halt: Halt) -> Ended
     ensures refused { IsRefused result }
     ensures states { result ≡ ended.TooManyStates → halt ≡ halts.States }
+    ensures crowd { IfCrowd result (λ crowd. halt ≡ halts.Outcomes crowd) }
 {
     match halt {
         Halt::Memory => Ended::Memory,

@@ -9,4 +9,6 @@ pub enum Fault {
     Inconsistent,
     /// It leads to a state that isn't right.
     Wrong,
+    /// It changes nothing, whatever is chosen, in a state in which a run may not rest.
+    Deadlock,
 }

@@ -28,7 +28,8 @@ pub enum Answer {
 pub struct Found {
     pub choices: Vec<Choice>,
     pub answer: Answer,
-    /// By which equal answers are found. No proof rests on it: they are compared.
+    /// By which equal answers are found, or 0 while it stands alone in its list. No proof rests on
+    /// it: they are compared.
     pub hash: u64,
 }
 

@@ -1,6 +1,8 @@
 //! Why a search was cut off.
-ghost use Rattle.std.specs.Prelude.{◌≡◌, ◌≢◌, IfErr, IsErr};
+ghost use Rattle.std.specs.Prelude.{◌≡◌, IfErr, IsErr};
 ghost use Rattle.asm_explore.specs.declared.halt.Halt.TheVariants as halt;
+ghost use Rattle.asm_explore.specs.declared.refusal.Refusal.TheVariants as refusals;
+ghost use Rattle.asm_explore.specs.Ends.{HaltsSo};
 
 use crate::refusal::{Crowd, Refusal, copy_crowd};
 use std::alloc::{AllocError, AllocFailed, Global};
@@ -34,7 +36,7 @@ impl<T: Drop> From<AllocFailed<T>> for Halt {
 
 /// Why a step has no outcomes to follow, as an error.
 fn halts(alloc: Global, refusal: &Refusal) -> Result<(), Halt>
-    ensures never { IfErr result (λ h. h ≢ halt.States) }
+    ensures told { IfErr result (HaltsSo ⊥ (λ crowd. refusal.now ≡ refusals.TooMany crowd)) }
     ensures refused { IsErr result }
 {
     match refusal {
@@ -48,7 +50,7 @@ fn halts(alloc: Global, refusal: &Refusal) -> Result<(), Halt>
 
 /// The end of a search that has no outcomes to follow.
 pub(crate) fn halted(alloc: Global, refusal: &Refusal) -> Halt
-    ensures { result ≢ halt.States }
+    ensures { HaltsSo ⊥ (λ crowd. refusal.now ≡ refusals.TooMany crowd) result }
 {
     match halts(alloc, refusal) {
         Ok(()) => unreachable!(),

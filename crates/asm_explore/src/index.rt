@@ -13,10 +13,6 @@ pub(crate) struct Index {
     pub outcomes: usize,
     /// The most outcomes of a step.
     pub widest: usize,
-    /// So many outcomes of the step that is followed change nothing.
-    pub idle: usize,
-    /// So many nodes have a step whose outcomes all change nothing.
-    pub quiet: usize,
 }
 
 impl Index {
@@ -26,8 +22,6 @@ impl Index {
             slots: Vec::new(alloc),
             outcomes: 0,
             widest: 0,
-            idle: 0,
-            quiet: 0,
         }
     }
 
@@ -36,21 +30,6 @@ impl Index {
         self.outcomes = self.outcomes.saturating_add(outcomes);
         if outcomes > self.widest {
             self.widest = outcomes;
-        }
-        self.idle = 0;
-    }
-
-    /// Counts an outcome that changes nothing.
-    pub(crate) fn count_idle(&mut self, same: bool) {
-        if same {
-            self.idle = self.idle.saturating_add(1);
-        }
-    }
-
-    /// Counts a node of whose so many outcomes none changes anything.
-    pub(crate) fn count_quiet(&mut self, outcomes: usize) {
-        if self.idle == outcomes {
-            self.quiet = self.quiet.saturating_add(1);
         }
     }
 }

@@ -1,5 +1,5 @@
 //! The outcomes of rules that choose nothing.
-ghost use Rattle.std.specs.Prelude.{◌≡◌, [], IfOk};
+ghost use Rattle.std.specs.Prelude.{◌≡◌, [], IfOk, length};
 ghost use Rattle.asm_state.specs.Signature.{Shape, count_of};
 ghost use Rattle.asm_meaning.specs.Does.{nothing};
 ghost use Rattle.asm_meaning.specs.Yields.{Result as Yielded};
@@ -14,11 +14,10 @@ ghost use Rattle.asm_explore.specs.Lists.{Situation, Shows, HaveChoices, IsCount
 
 use crate::exploration::Exploration;
 use crate::found::{Answer, Found};
-use crate::place::place_number;
-use crate::same::hash_of;
 use crate::sets::{no_updates, one_update};
 use asm_eval::code::Code;
 use asm_eval::frame::Frame;
+use asm_eval::place::place_number;
 use asm_eval::rule_code::Place;
 use asm_eval::value::value;
 use std::alloc::{AllocError, Global};
@@ -27,13 +26,13 @@ use std::alloc::{AllocError, Global};
 fn alone(alloc: Global, answer: Answer) -> Result<Vec<Found>, AllocError>
     ensures lists { (shape : Shape) (o : Situation → Yielded) → IsCounted (count_of shape) answer → ((s : Situation) → Shows shape answer (o s)) → IfOk result (λ fs. Lists shape o fs.items) }
     ensures choices { IfOk result (λ fs. HaveChoices (λ cs. cs ≡ []) fs.items) }
+    ensures one { IfOk result (λ fs. length fs.items ≡ 1) }
 {
     let mut found = Vec::new(alloc);
-    let hash = hash_of(&answer);
     found.push(Found {
         choices: Vec::new(alloc),
         answer,
-        hash,
+        hash: 0,
     })?;
     Ok(found)
 }
@@ -42,6 +41,7 @@ fn alone(alloc: Global, answer: Answer) -> Result<Vec<Found>, AllocError>
 pub(crate) fn empty(alloc: Global, on: &Exploration<'_, '_>) -> Result<Vec<Found>, AllocError>
     ensures lists { IfOk result (λ fs. Lists (shape_on on.now) (λ s. nothing.result) fs.items) }
     ensures choices { IfOk result (λ fs. HaveChoices (λ cs. cs ≡ []) fs.items) }
+    ensures one { IfOk result (λ fs. length fs.items ≡ 1) }
 {
     let updates = no_updates(alloc, on.view.signature);
     alone(alloc, Answer::Set(updates))
@@ -62,6 +62,7 @@ pub(crate) fn assigned<'e>(
     ensures lists { let R = tree.Assign (place_of place.now) (code_of new.now) in
         IfOk result (λ fs. Lists (shape_on on.now) (yields_on on.now frame.now path.now R) fs.items) }
     ensures choices { IfOk result (λ fs. HaveChoices (λ cs. cs ≡ []) fs.items) }
+    ensures one { IfOk result (λ fs. length fs.items ≡ 1) }
 {
     let Some(n) = place_number(alloc, on.view, frame, place)? else {
         let updates = no_updates(alloc, on.view.signature);

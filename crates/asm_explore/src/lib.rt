@@ -24,7 +24,7 @@ pub mod nodes;
 pub mod outcomes;
 pub mod overflow;
 mod picking;
-mod place;
+mod quiet;
 pub mod refusal;
 mod same;
 pub mod script_line;
@@ -39,7 +39,7 @@ pub mod whole;
 pub mod writing;
 pub mod writing_error;
 
-pub use answer::{Answered, BadRun, Finding, Unwritten};
+pub use answer::{Answered, BadRun, Finding, QuietRun, Unwritten};
 pub use exploration::Exploration;
 pub use explored::{Bad, Ended, Explored};
 pub use fault::Fault;

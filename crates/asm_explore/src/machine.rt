@@ -1,9 +1,10 @@
 //! What is explored.
-ghost use Rattle.std.specs.Prelude.{◌≡◌, ℕ, Bool, length, IfOk};
+ghost use Rattle.std.specs.Prelude.{◌≡◌, ℕ, Bool, List, length, IfOk};
 ghost use Rattle.asm_state.specs.Location.{State as Contents};
 ghost use Rattle.asm_state.specs.Signature.{Shape, count_of, state_of};
 ghost use Rattle.asm_meaning.specs.Run.{Specification};
-ghost use Rattle.asm_explore.specs.Lists.{Each};
+ghost use Rattle.asm_explore.specs.declared.found.Choice.{Choice};
+ghost use Rattle.asm_explore.specs.Lists.{Situation, Each};
 ghost use Rattle.asm_explore.specs.Steps.{AreListed};
 
 use crate::found::Found;
@@ -23,11 +24,20 @@ pub trait Machine {
 
     ghost shape: { Self → Shape };
 
+    // which choices a step from a state makes
+    ghost made: { Self → Contents → Situation → List Choice };
+
+    // how many outcomes of a step may be listed
+    ghost limit: { Self → ℕ };
+
     // which states are right
     ghost right: { Self → Contents → Bool };
 
     // from which states runs are followed
     ghost within: { Self → Contents → Bool };
+
+    // in which quiet states a run may rest
+    ghost rests: { Self → Contents → Bool };
 
     // what has to hold of it
     ghost is_sound: { Self → Type 0 };
@@ -41,7 +51,7 @@ pub trait Machine {
     fn outcomes(&self, alloc: Global, states: &[State]) -> Result<Vec<Listed>, AllocError>
         requires sound { is_sound self.now }
         requires whole { Each (λ s. length s ≡ count_of (shape self.now)) states.now }
-        ensures { IfOk result (λ all. AreListed (shape self.now) (specification self.now) (turns self.now) states.now all.items) };
+        ensures { IfOk result (λ all. AreListed (shape self.now) (specification self.now) (turns self.now) (made self.now) (limit self.now) states.now all.items) };
 
     /// Whether the state is right.
     fn is_right(&self, alloc: Global, state: &State) -> bool
@@ -54,4 +64,10 @@ pub trait Machine {
         requires sound { is_sound self.now }
         requires whole { length state.now ≡ count_of (shape self.now) }
         ensures { result ≡ within self.now (state_of (shape self.now) state.now) };
+
+    /// Whether a run may rest in the state, if it is quiet: it changes no more, whatever is chosen.
+    fn may_rest(&self, alloc: Global, state: &State) -> bool
+        requires sound { is_sound self.now }
+        requires whole { length state.now ≡ count_of (shape self.now) }
+        ensures { result ≡ rests self.now (state_of (shape self.now) state.now) };
 }

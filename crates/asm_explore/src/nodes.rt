@@ -2,7 +2,7 @@
 ghost use Rattle.std.specs.Prelude.{◌≡◌, ◌+◌, ◌<◌, ◌≤◌, [], ◌∷◌, ◌++◌, Some, IsTrue, IfOk, OnOk, OnErr, length, slice_get, take, drop, map};
 ghost use Rattle.asm_explore.specs.Kept.{Node, begin_of, between, contents_of, GrowsBy, IsFront};
 
-use crate::byte::{byte_of, content_of};
+use crate::byte::{byte_of, content_of, is_of};
 use crate::index::{NO_CONTENTS, with_content};
 use crate::same::is_same_value;
 use asm_state::state::State;
@@ -181,7 +181,7 @@ fn are_contents(bytes: &[u8], words: &[Word], state: &State) -> bool
     ensures { IsTrue result → contents_of bytes.now words.now ≡ state.now }
 {
     for i in 0..bytes.len() {
-        if !is_same_value(content_of(bytes[i]), state.content(i)) {
+        if !is_of(bytes[i], state.content(i)) {
             return false;
         }
     }

@@ -1,5 +1,6 @@
 //! The outcomes of a resolved rule through all scripts.
-ghost use Rattle.std.specs.Prelude.{◌≡◌, ◌+◌, cond, IfOk, OnOk, map, option_map};
+ghost use Rattle.std.specs.Prelude.{◌≡◌, ◌+◌, ◌++◌, [], ◌∷◌, ◌<◌, List, cond, IfOk, IfErr, OnOk, map, option_map, length, take};
+ghost use Rattle.asm_state.specs.Location.{State};
 ghost use Rattle.asm_state.specs.Signature.{count_of};
 ghost use Rattle.asm_meaning.specs.Yields as yields;
 ghost use Rattle.asm_eval.specs.CodeViews.{code_of, codes_of};
@@ -9,26 +10,36 @@ ghost use Rattle.asm_eval.specs.RuleTree as tree;
 ghost use Rattle.asm_eval.specs.RuleViews.{place_of, rule_of, rules_of};
 ghost use Rattle.asm_eval.specs.Running.{passes_in};
 ghost use Rattle.asm_eval.specs.Sound.{AreSound, IsSound, IsUniverseNumber};
-ghost use Rattle.asm_explore.specs.Explored.{shape_on, state_on, yields_on, parts_on, in_order_on, here_on};
+ghost use Rattle.asm_explore.specs.declared.found.Choice.{Choice};
+ghost use Rattle.asm_explore.specs.declared.found.Found.{Found as found_now};
+ghost use Rattle.asm_explore.specs.Crowds.{AreDifferent, Refuses};
+ghost use Rattle.asm_explore.specs.Explored.{shape_on, state_on, yields_on, parts_on, in_order_on, here_on, made_on, makes_on, parts_made_on, order_made_on};
 ghost use Rattle.asm_explore.specs.Lists.{Situation, HaveChoices, AreCounted, IsCounted, Lists};
+ghost use Rattle.asm_explore.specs.Made.{AreMade, IsWay};
+ghost use Rattle.asm_explore.specs.MadeSoFar.{MadeSoFar, MakesOfAll, MakesTo};
 ghost use Rattle.asm_explore.specs.Placed.{IsPlaced, IsPlacedFrom, IsPlacedBefore};
-ghost use Rattle.asm_explore.specs.Sequences.{BothHave, Next, NextOne, Upon};
+ghost use Rattle.asm_explore.specs.Sequences.{AllDiffer, BothHave, HasSet, Next, NextOne, Upon};
+ghost use Rattle.asm_explore.specs.Ways.{ways_of};
 
-use crate::candidates::{candidate_at, candidates, passes};
+use crate::candidates::{candidate_at, candidates};
 use crate::crowding::{add_part, beside_lists, close, exhaust, sort_part};
 use crate::exploration::Exploration;
 use crate::found::{Answer, Found};
 use crate::leaf::{assigned, empty};
-use crate::place::answer_number;
 use crate::refusal::Refusal;
 use crate::sorting::Sorted;
 use crate::updates::Updates;
+use asm_eval::choose::passes;
 use asm_eval::code::Code;
 use asm_eval::frame::Frame;
+use asm_eval::place::answer_number;
 use asm_eval::rule_code::{Place, RuleCode};
 use asm_eval::value::{holds, value};
 use asm_meaning::View;
 use std::alloc::{AllocError, Global};
+
+/// Paths with fewer numbers than this need no memory.
+const SHORT: usize = 16;
 
 /// The path of the part with this number.
 fn path_at(alloc: Global, path: &[u64], number: u64) -> Result<Vec<u64>, AllocError>
@@ -38,6 +49,17 @@ fn path_at(alloc: Global, path: &[u64], number: u64) -> Result<Vec<u64>, AllocEr
     below.extend_from_slice(path)?;
     below.push(number)?;
     Ok(below)
+}
+
+/// Puts the path of the part with this number first.
+#[inline(always)]
+fn put_path(path: &[u64], number: u64, below: &mut [u64; SHORT])
+    requires { length path.now < 16 }
+    ensures { take (length path.now + 1) below.new ≡ yields.at path.now number }
+{
+    let len = path.len();
+    below[..len].copy_from_slice(path);
+    below[len] = number;
 }
 
 /// What the rule may yield at this path: each outcome with choices that lead to it.
@@ -53,6 +75,9 @@ pub fn outcomes<'e>(
     requires framed { IsSoundFrame (shape_on on.now) frame.now }
     ensures lists { IfOk result (λ fs. Lists (shape_on on.now) (yields_on on.now frame.now path.now (rule_of rule.now)) fs.items) }
     ensures placed { IfOk result (λ fs. HaveChoices (IsPlaced path.now) fs.items) }
+    ensures differ { IfOk result (λ fs. AreDifferent path.now (ways_of fs.items)) }
+    ensures made { IfOk result (λ fs. HaveChoices (AreMade (makes_on on.now frame.now path.now (rule_of rule.now))) fs.items) }
+    ensures crowded { IfErr result (Refuses on.now.limit (λ q. IsWay path.now (makes_on on.now frame.now path.now (rule_of rule.now)))) }
 {
     match rule {
         RuleCode::Skip => {
@@ -99,7 +124,16 @@ fn list_part<'e>(
     requires framed { IsSoundFrame (shape_on on.now) frame.now }
     ensures lists { IfOk result (λ fs. Lists (shape_on on.now) (yields_on on.now frame.now (yields.at path.now number) (rule_of rule.now)) fs.items) }
     ensures placed { IfOk result (λ fs. HaveChoices (IsPlaced (yields.at path.now number)) fs.items) }
+    ensures differ { IfOk result (λ fs. AreDifferent (yields.at path.now number) (ways_of fs.items)) }
+    ensures made { IfOk result (λ fs. HaveChoices (AreMade (makes_on on.now frame.now (yields.at path.now number) (rule_of rule.now))) fs.items) }
+    ensures crowded { let here = yields.at path.now number in
+        IfErr result (Refuses on.now.limit (λ q. IsWay here (makes_on on.now frame.now here (rule_of rule.now)))) }
 {
+    if path.len() < SHORT {
+        let mut below = [0u64; SHORT];
+        put_path(path, number, &mut below);
+        return outcomes(alloc, on, frame, rule, &below[..path.len() + 1]);
+    }
     let below = path_at(alloc, path, number)?;
     let found = outcomes(alloc, on, frame, rule, below.as_slice())?;
     Ok(found)
@@ -123,6 +157,11 @@ fn list_if<'e>(
     ensures lists { let R = tree.If (code_of test.now) (rule_of yes.now) (rule_of no.now) in
         IfOk result (λ fs. Lists (shape_on on.now) (yields_on on.now frame.now path.now R) fs.items) }
     ensures placed { IfOk result (λ fs. HaveChoices (IsPlaced path.now) fs.items) }
+    ensures differ { IfOk result (λ fs. AreDifferent path.now (ways_of fs.items)) }
+    ensures made { let R = tree.If (code_of test.now) (rule_of yes.now) (rule_of no.now) in
+        IfOk result (λ fs. HaveChoices (AreMade (makes_on on.now frame.now path.now R)) fs.items) }
+    ensures crowded { let R = tree.If (code_of test.now) (rule_of yes.now) (rule_of no.now) in
+        IfErr result (Refuses on.now.limit (λ q. IsWay path.now (makes_on on.now frame.now path.now R))) }
 {
     if holds(on.view, frame, test) {
         list_part(alloc, on, frame, yes, 0, path)
@@ -147,6 +186,11 @@ fn list_let<'e>(
     ensures lists { let R = tree.Let (code_of term.now) (rule_of body.now) in
         IfOk result (λ fs. Lists (shape_on on.now) (yields_on on.now frame.now path.now R) fs.items) }
     ensures placed { IfOk result (λ fs. HaveChoices (IsPlaced path.now) fs.items) }
+    ensures differ { IfOk result (λ fs. AreDifferent path.now (ways_of fs.items)) }
+    ensures made { let R = tree.Let (code_of term.now) (rule_of body.now) in
+        IfOk result (λ fs. HaveChoices (AreMade (makes_on on.now frame.now path.now R)) fs.items) }
+    ensures crowded { let R = tree.Let (code_of term.now) (rule_of body.now) in
+        IfErr result (Refuses on.now.limit (λ q. IsWay path.now (makes_on on.now frame.now path.now R))) }
 {
     let value = value(on.view, frame, term);
     let bound = Frame::One {
@@ -169,6 +213,9 @@ fn list_all<'e>(
     requires framed { IsSoundFrame (shape_on on.now) frame.now }
     ensures lists { IfOk result (λ fs. Lists (shape_on on.now) (parts_on on.now frame.now path.now (rules_of (map rule_of parts.now))) fs.items) }
     ensures placed { IfOk result (λ fs. HaveChoices (IsPlaced path.now) fs.items) }
+    ensures differ { IfOk result (λ fs. AreDifferent path.now (ways_of fs.items)) }
+    ensures made { IfOk result (λ fs. HaveChoices (AreMade (parts_made_on on.now frame.now path.now (rules_of (map rule_of parts.now)))) fs.items) }
+    ensures crowded { IfErr result (Refuses on.now.limit (λ q. IsWay path.now (parts_made_on on.now frame.now path.now (rules_of (map rule_of parts.now))))) }
 {
     let mut found = empty(alloc, on)?;
     let mut i = parts.len();
@@ -200,6 +247,11 @@ fn list_each<'e>(
     ensures lists { let R = tree.Forall over (option_map code_of test.now) (rule_of body.now) in
         IfOk result (λ fs. Lists (shape_on on.now) (yields_on on.now frame.now path.now R) fs.items) }
     ensures placed { IfOk result (λ fs. HaveChoices (IsPlaced path.now) fs.items) }
+    ensures differ { IfOk result (λ fs. AreDifferent path.now (ways_of fs.items)) }
+    ensures made { let R = tree.Forall over (option_map code_of test.now) (rule_of body.now) in
+        IfOk result (λ fs. HaveChoices (AreMade (makes_on on.now frame.now path.now R)) fs.items) }
+    ensures crowded { let R = tree.Forall over (option_map code_of test.now) (rule_of body.now) in
+        IfErr result (Refuses on.now.limit (λ q. IsWay path.now (makes_on on.now frame.now path.now R))) }
 {
     let mut found = empty(alloc, on)?;
     let universe = on.view.signature.universe(over);
@@ -238,6 +290,15 @@ fn list_element<'e>(
         IfOk result (λ fs. Lists (shape_on on.now) (λ s. cond so (yields.beside (here s) (o s)) (o s)) fs.items) }
     ensures placed { HaveChoices (IsPlacedFrom path.now (number + 1)) after.items →
         IfOk result (λ fs. HaveChoices (IsPlacedFrom path.now number) fs.items) }
+    ensures differ { AreDifferent path.now (ways_of after.items) → IfOk result (λ fs. AreDifferent path.now (ways_of fs.items)) }
+    ensures made { (m : Situation → List Choice) → HaveChoices (AreMade m) after.items →
+        let here = makes_on on.now frame.now (yields.at path.now number) (rule_of body.now) in
+        let so = passes_in on.now.view.now frame.now test.now in
+        IfOk result (λ fs. HaveChoices (AreMade (λ s. cond so (here s ++ m s) (m s))) fs.items) }
+    ensures crowded { (m : Situation → List Choice) → HaveChoices (AreMade m) after.items → HaveChoices (IsPlacedFrom path.now (number + 1)) after.items → AreDifferent path.now (ways_of after.items) →
+        let here = makes_on on.now frame.now (yields.at path.now number) (rule_of body.now) in
+        let so = passes_in on.now.view.now frame.now test.now in
+        IfErr result (Refuses on.now.limit (λ q. IsWay path.now (λ s. cond so (here s ++ m s) (m s)))) }
 {
     if passes(on.view, frame, test) {
         let part = list_part(alloc, on, frame, body, number, path)?;
@@ -269,6 +330,11 @@ fn list_choose<'e>(
     ensures lists { let R = tree.Choose over (option_map code_of test.now) (rule_of body.now) (rule_of none.now) in
         IfOk result (λ fs. Lists (shape_on on.now) (yields_on on.now frame.now path.now R) fs.items) }
     ensures placed { IfOk result (λ fs. HaveChoices (IsPlaced path.now) fs.items) }
+    ensures differ { IfOk result (λ fs. AreDifferent path.now (ways_of fs.items)) }
+    ensures made { let R = tree.Choose over (option_map code_of test.now) (rule_of body.now) (rule_of none.now) in
+        IfOk result (λ fs. HaveChoices (AreMade (makes_on on.now frame.now path.now R)) fs.items) }
+    ensures crowded { let R = tree.Choose over (option_map code_of test.now) (rule_of body.now) (rule_of none.now) in
+        IfErr result (Refuses on.now.limit (λ q. IsWay path.now (makes_on on.now frame.now path.now R))) }
 {
     let values = candidates(alloc, on.view, frame, over, test)?;
     let all = values.as_slice();
@@ -306,6 +372,11 @@ fn list_call<'e>(
     ensures lists { let R = tree.Call (rule_of body.now) (option_map place_of answer.now) (codes_of (map code_of arguments.now)) in
         IfOk result (λ fs. Lists (shape_on on.now) (yields_on on.now frame.now path.now R) fs.items) }
     ensures placed { IfOk result (λ fs. HaveChoices (IsPlaced path.now) fs.items) }
+    ensures differ { IfOk result (λ fs. AreDifferent path.now (ways_of fs.items)) }
+    ensures made { let R = tree.Call (rule_of body.now) (option_map place_of answer.now) (codes_of (map code_of arguments.now)) in
+        IfOk result (λ fs. HaveChoices (AreMade (makes_on on.now frame.now path.now R)) fs.items) }
+    ensures crowded { let R = tree.Call (rule_of body.now) (option_map place_of answer.now) (codes_of (map code_of arguments.now)) in
+        IfErr result (Refuses on.now.limit (λ q. IsWay path.now (makes_on on.now frame.now path.now R))) }
 {
     let answer = answer_number(alloc, on.view, frame, answer)?;
     let bound = Frame::Terms {
@@ -330,6 +401,9 @@ fn list_in_order<'e>(
     requires framed { IsSoundFrame (shape_on on.now) frame.now }
     ensures lists { IfOk result (λ fs. Lists (shape_on on.now) (in_order_on on.now frame.now path.now (rules_of (map rule_of parts.now))) fs.items) }
     ensures placed { IfOk result (λ fs. HaveChoices (IsPlaced path.now) fs.items) }
+    ensures differ { IfOk result (λ fs. AreDifferent path.now (ways_of fs.items)) }
+    ensures made { IfOk result (λ fs. HaveChoices (AreMade (order_made_on on.now frame.now path.now (rules_of (map rule_of parts.now)))) fs.items) }
+    ensures crowded { IfErr result (Refuses on.now.limit (λ q. IsWay path.now (order_made_on on.now frame.now path.now (rules_of (map rule_of parts.now))))) }
 {
     let begin = empty(alloc, on)?;
     let mut sorted = Sorted {
@@ -362,6 +436,11 @@ fn list_turns<'e>(
     ensures lists { let R = tree.Iterate (rule_of body.now) in
         IfOk result (λ fs. Lists (shape_on on.now) (yields_on on.now frame.now path.now R) fs.items) }
     ensures placed { IfOk result (λ fs. HaveChoices (IsPlaced path.now) fs.items) }
+    ensures differ { IfOk result (λ fs. AreDifferent path.now (ways_of fs.items)) }
+    ensures made { let R = tree.Iterate (rule_of body.now) in
+        IfOk result (λ fs. HaveChoices (AreMade (makes_on on.now frame.now path.now R)) fs.items) }
+    ensures crowded { let R = tree.Iterate (rule_of body.now) in
+        IfErr result (Refuses on.now.limit (λ q. IsWay path.now (makes_on on.now frame.now path.now R))) }
 {
     let begin = empty(alloc, on)?;
     let mut sorted = Sorted {
@@ -403,6 +482,18 @@ fn list_next<'e>(
         IfOk result (Next (shape_on on.now) turns (state_on on.now) here front.now done.items) }
     ensures placed { HaveChoices (IsPlacedBefore path.now number) front.now → HaveChoices (IsPlacedBefore path.now number) done.items →
         IfOk result (BothHave (IsPlacedBefore path.now (number + 1))) }
+    ensures differ { AreDifferent path.now (ways_of done.items ++ ways_of front.now) → IfOk result (AllDiffer path.now []) }
+    ensures made { let here = here_on on.now frame.now (yields.at path.now number) (rule_of rule.now) in
+        let makes = made_on on.now frame.now (yields.at path.now number) (rule_of rule.now) in
+        (total : Situation → List Choice) (left left_then : Situation → State → List Choice) → MakesTo turns here makes left left_then →
+        MadeSoFar (shape_on on.now) (state_on on.now) total left done.items front.now →
+        IfOk result (λ sorted. MadeSoFar (shape_on on.now) (state_on on.now) total left_then sorted.done.items sorted.more.items) }
+    ensures crowded { let here = here_on on.now frame.now (yields.at path.now number) (rule_of rule.now) in
+        let makes = made_on on.now frame.now (yields.at path.now number) (rule_of rule.now) in
+        (total : Situation → List Choice) (left left_then : Situation → State → List Choice) → MakesTo turns here makes left left_then →
+        MadeSoFar (shape_on on.now) (state_on on.now) total left done.items front.now →
+        HaveChoices (IsPlacedBefore path.now number) front.now → HaveChoices (IsPlacedBefore path.now number) done.items →
+        AreDifferent path.now (ways_of done.items ++ ways_of front.now) → IfErr result (Refuses on.now.limit (λ q. IsWay path.now total)) }
 {
     let mut sorted = Sorted {
         done,
@@ -444,6 +535,20 @@ fn list_one<'e>(
         OnOk result (NextOne (shape_on on.now) turns (state_on on.now) here one.now sorted.old sorted.new) }
     ensures placed { IsPlacedBefore path.now number one.now.choices.items → BothHave (IsPlacedBefore path.now (number + 1)) sorted.old →
         OnOk result (BothHave (IsPlacedBefore path.now (number + 1)) sorted.new) }
+    ensures differ { (others : List found_now) → AllDiffer path.now (one.now ∷ others) sorted.old → OnOk result (AllDiffer path.now others sorted.new) }
+    ensures made { let here = here_on on.now frame.now (yields.at path.now number) (rule_of rule.now) in
+        let makes = made_on on.now frame.now (yields.at path.now number) (rule_of rule.now) in
+        (total : Situation → List Choice) (left left_then : Situation → State → List Choice) → MakesTo turns here makes left left_then →
+        AreMade total one.now.choices.items → HasSet (shape_on on.now) (MakesOfAll (state_on on.now) total left) one.now →
+        MadeSoFar (shape_on on.now) (state_on on.now) total left_then sorted.old.done.items sorted.old.more.items →
+        OnOk result (MadeSoFar (shape_on on.now) (state_on on.now) total left_then sorted.new.done.items sorted.new.more.items) }
+    ensures crowded { let here = here_on on.now frame.now (yields.at path.now number) (rule_of rule.now) in
+        let makes = made_on on.now frame.now (yields.at path.now number) (rule_of rule.now) in
+        (total : Situation → List Choice) (left left_then : Situation → State → List Choice) → MakesTo turns here makes left left_then →
+        AreMade total one.now.choices.items → HasSet (shape_on on.now) (MakesOfAll (state_on on.now) total left) one.now →
+        MadeSoFar (shape_on on.now) (state_on on.now) total left_then sorted.old.done.items sorted.old.more.items →
+        IsPlacedBefore path.now number one.now.choices.items → BothHave (IsPlacedBefore path.now (number + 1)) sorted.old → AllDiffer path.now (one.now ∷ []) sorted.old →
+        IfErr result (Refuses on.now.limit (λ q. IsWay path.now total)) }
 {
     match &one.answer {
         Answer::Set(so_far) => {
@@ -473,8 +578,10 @@ fn list_upon<'e>(
     requires framed { IsSoundFrame (shape_on on.now) frame.now }
     requires counted { so_far.now.set.count ≡ count_of (shape_on on.now) }
     ensures upon { let here = here_on on.now frame.now (yields.at path.now number) (rule_of rule.now) in
-        Upon (shape_on on.now) (state_on on.now) so_far.now.set here result }
+        let makes = made_on on.now frame.now (yields.at path.now number) (rule_of rule.now) in
+        Upon (shape_on on.now) (state_on on.now) so_far.now.set on.now.limit (yields.at path.now number) here makes result }
     ensures placed { IfOk result (λ fs. HaveChoices (IsPlaced (yields.at path.now number)) fs.items) }
+    ensures differ { IfOk result (λ fs. AreDifferent (yields.at path.now number) (ways_of fs.items)) }
 {
     let view = View::upon(on.view, &so_far.set);
     let inner = Exploration {

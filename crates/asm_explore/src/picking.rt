@@ -1,8 +1,10 @@
 //! Lists with the outcomes of a candidate.
-ghost use Rattle.std.specs.Prelude.{◌≡◌, ℕ, ◌<◌, ◌++◌, ◌∷◌, [], Some, IfOk, OnOk, length, slice_get};
+ghost use Rattle.std.specs.Prelude.{◌≡◌, ℕ, ◌+◌, ◌<◌, ◌≤◌, ◌++◌, ◌∷◌, [], Some, IfOk, IfErr, OnOk, length, slice_get};
 ghost use Rattle.asm_state.specs.Signature.{Shape};
 ghost use Rattle.asm_meaning.specs.Yields.{Result as Yielded};
+ghost use Rattle.asm_explore.specs.Crowds.{IfTooMany};
 ghost use Rattle.asm_explore.specs.Lists.{Shows, IsCounted, IsPicked};
+ghost use Rattle.asm_explore.specs.Ways.{ways_of, with_choice as with_own};
 
 use crate::found::{Answer, Choice, Found, add_choices, copy_answer};
 use crate::listing::add;
@@ -44,7 +46,8 @@ fn add_chosen(
     limit: usize,
     found: &mut Vec<Found>,
 ) -> Result<(), Overflow>
-    ensures { OnOk result (IsPicked path.now number part.now found.old.items found.new.items) }
+    ensures picks { OnOk result (IsPicked path.now number part.now found.old.items found.new.items) }
+    ensures crowd { IfErr result (IfTooMany (limit < length found.old.items + length part.now)) }
 {
     for i in 0..part.len() {
         let one = with_choice(alloc, &part[i], path, number)?;
@@ -101,7 +104,8 @@ fn add_one(
     limit: usize,
     found: &mut Vec<Found>,
 ) -> Result<(), Overflow>
-    ensures { OnOk result (IsPicked path.now number (one ∷ []) found.old.items found.new.items) }
+    ensures picks { OnOk result (IsPicked path.now number (one ∷ []) found.old.items found.new.items) }
+    ensures crowd { IfErr result (IfTooMany (limit ≤ length found.old.items)) }
 {
     let chosen = choose_into(alloc, one, path, number)?;
     add(found, chosen, limit)?;
@@ -117,7 +121,8 @@ pub(crate) fn add_part(
     limit: usize,
     found: &mut Vec<Found>,
 ) -> Result<(), Overflow>
-    ensures { OnOk result (IsPicked path.now number part.items found.old.items found.new.items) }
+    ensures picks { OnOk result (IsPicked path.now number part.items found.old.items found.new.items) }
+    ensures crowd { IfErr result (IfTooMany (limit < length (ways_of found.old.items ++ with_own path.now number (ways_of part.items)))) }
 {
     if part.len() == 1 {
         let mut rest = part;

@@ -8,12 +8,13 @@ ghost use Rattle.asm_explore.specs.declared.explored.Ended.TheVariants.{Closed, 
 ghost use Rattle.asm_explore.specs.declared.halt.Halt.TheVariants as halt;
 ghost use Rattle.asm_explore.specs.declared.found.Found.{Found};
 ghost use Rattle.asm_explore.specs.Kept.{Node};
-ghost use Rattle.asm_explore.specs.Ends.{IfBad, IsDone};
+ghost use Rattle.asm_explore.specs.Ends.{HaltsSo, IfBad, IfCrowd, IsDone};
 ghost use Rattle.asm_explore.specs.Lists.{Situation, Each, AnyOf, Shows, HaveChoices, AreCounted, IsCounted, Lists};
 ghost use Rattle.asm_explore.specs.Placed.{AreApart};
-ghost use Rattle.asm_explore.specs.Reached.{AreBegun, AreInside, Known, IsNear, IsGood, Extends, Follows, Expanded, IsLinked, IsLooked, IsOutcome, IsBadStep, IsBad, IsStopped, LeadsTo, Rises, GoesWrongSo, steps_from, state_at};
-ghost use Rattle.asm_explore.specs.Search.{LeadsOn, IsSafeUpTo, IsSafe};
-ghost use Rattle.asm_explore.specs.Steps.{AreListed, IsStep};
+ghost use Rattle.asm_explore.specs.Reached.{AreBegun, AreInside, AtNode, Known, IsNear, IsGood, Extends, Follows, Expanded, IsLinked, IsLooked, IsOutcome, IsBadStep, IsBad, IsStopped, LeadsTo, Rises, GoesWrongSo, steps_from, state_at};
+ghost use Rattle.asm_explore.specs.Quiet.{IsFirstQuiet, IsRested, RestsSo};
+ghost use Rattle.asm_explore.specs.Search.{LeadsOn, IsQuiet, IsDeadlock, IsSafeUpTo, IsSafe, HoldsBefore, HoldsAlways};
+ghost use Rattle.asm_explore.specs.Steps.{AreListed, IsCrowdOf, IsListed, IsStep};
 
 use crate::explored::{Bad, Ended, Explored, Looked, cut_off};
 use crate::fault::Fault;
@@ -22,6 +23,7 @@ use crate::halt::{Halt, halted};
 use crate::index::{Index, first_place, hash_of, next_place};
 use crate::machine::{Listed, Machine};
 use crate::nodes::Nodes;
+use crate::quiet::rest;
 use crate::same::is_same_value;
 use asm_state::state::State;
 use std::alloc::{AllocError, Global};
@@ -140,7 +142,7 @@ fn reach<M: Machine>(
     ensures room { length nodes.new ≤ limit }
     ensures known { IfOk result (λ fine. IsTrue fine → Known (M.shape machine.now) nodes.new below (state_of (M.shape machine.now) state.now)) }
     ensures wrong { IfOk result (λ fine. fine ≡ false → (M.right machine.now) (state_of (M.shape machine.now) state.now) ≡ false) }
-    ensures full { IfErr result (λ h. h ≡ halt.States → limit ≤ length nodes.new) }
+    ensures full { IfErr result (HaltsSo (limit ≤ length nodes.new) (λ _. ⊥)) }
 {
     let count = machine.signature().count();
     if is_reached(nodes, index, state, count) {
@@ -185,8 +187,8 @@ fn follow<M: Machine>(
     ensures room { length nodes.new ≤ limit }
     ensures leads { IfOk result (λ fault. IfNone fault ((n : Node) (r : Yielded) → slice_get nodes.old from ≡ Some n → Shows (M.shape machine.now) one.now.answer r →
         LeadsOn r (state_at (M.shape machine.now) n) (Known (M.shape machine.now) nodes.new below))) }
-    ensures wrong { IfOk result (λ fault. IfSome fault (IsBadStep (M.shape machine.now) (M.specification machine.now) (M.turns machine.now) (M.right machine.now) nodes.old from one.now.choices.items)) }
-    ensures full { IfErr result (λ h. h ≡ halt.States → limit ≤ length nodes.new) }
+    ensures wrong { IfOk result (λ fault. IfSome fault (IsBadStep (M.shape machine.now) (M.specification machine.now) (M.turns machine.now) (M.right machine.now) (M.rests machine.now) nodes.old from one.now.choices.items)) }
+    ensures full { IfErr result (HaltsSo (limit ≤ length nodes.new) (λ _. ⊥)) }
 {
     let updates = match &one.answer {
         Answer::Set(updates) => updates,
@@ -197,7 +199,6 @@ fn follow<M: Machine>(
         return Ok(Some(Fault::Inconsistent));
     }
     let next = updates.set.fire(alloc, signature, state)?;
-    index.count_idle(is_same_state(&next, state, signature.count()));
     let fine = reach(alloc, machine, &next, from, below, limit, index, nodes)?;
     if fine {
         Ok(None)
@@ -241,8 +242,8 @@ fn follow_all<M: Machine>(
     ensures room { length nodes.new ≤ limit }
     ensures leads { IfOk result (λ bad. IfNone bad (Follows (M.shape machine.now) nodes.old nodes.new from below outcomes.now)) }
     ensures wrong { IfOk result (λ bad. IfSome bad (λ b. (f : Found) × (slice_get outcomes.now b.number ≡ Some f) ×
-        IsBadStep (M.shape machine.now) (M.specification machine.now) (M.turns machine.now) (M.right machine.now) nodes.old from f.choices.items b.fault)) }
-    ensures full { IfErr result (λ h. h ≡ halt.States → limit ≤ length nodes.new) }
+        IsBadStep (M.shape machine.now) (M.specification machine.now) (M.turns machine.now) (M.right machine.now) (M.rests machine.now) nodes.old from f.choices.items b.fault)) }
+    ensures full { IfErr result (HaltsSo (limit ≤ length nodes.new) (λ _. ⊥)) }
 {
     for k in 0..outcomes.len() {
         let one = &outcomes[k];
@@ -290,19 +291,16 @@ fn expand<M: Machine>(
     ensures room { length nodes.new ≤ limit }
     ensures expanded { IfOk result (λ bad. IfNone bad ((n : Node) → slice_get nodes.old from ≡ Some n → Expanded (M.shape machine.now) (M.specification machine.now) (M.turns machine.now) nodes.new n)) }
     ensures wrong { IfOk result (λ bad. IfSome bad (λ b. (b.from ≡ from) ×
-        IsBadStep (M.shape machine.now) (M.specification machine.now) (M.turns machine.now) (M.right machine.now) nodes.old from b.choices.items b.fault)) }
+        IsBadStep (M.shape machine.now) (M.specification machine.now) (M.turns machine.now) (M.right machine.now) (M.rests machine.now) nodes.old from b.choices.items b.fault)) }
     ensures apart { IfOk result (λ bad. IfSome bad (λ b. AreApart b.choices.items)) }
-    ensures full { IfErr result (λ h. h ≡ halt.States → limit ≤ length nodes.new) }
+    ensures full { IfErr result (HaltsSo (limit ≤ length nodes.new) (λ _. ⊥)) }
 {
     let below = nodes.depth(from) + 1;
     index.count(outcomes.len());
     match follow_all(
         alloc, machine, from, state, outcomes, below, limit, index, nodes,
     )? {
-        None => {
-            index.count_quiet(outcomes.len());
-            Ok(None)
-        }
+        None => Ok(None),
         Some(bad) => {
             let choices = choices_of(alloc, outcomes, bad.number)?;
             Ok(Some(Bad {
@@ -314,8 +312,8 @@ fn expand<M: Machine>(
     }
 }
 
-/// Expands a node, whose step has these outcomes. Answers what is wrong with the step, if anything
-/// is.
+/// Expands a node, whose step has these outcomes, and lists it if its state is quiet. Answers what
+/// is wrong with the step, if anything is.
 fn expand_listed<M: Machine>(
     alloc: Global,
     machine: &M,
@@ -325,6 +323,7 @@ fn expand_listed<M: Machine>(
     limit: u32,
     index: &mut Index,
     nodes: &mut Nodes,
+    quiet: &mut Vec<u32>,
 ) -> Result<Option<Bad>, Halt>
     requires machine { M.is_sound machine.now }
     requires from { from < length nodes.old }
@@ -333,20 +332,26 @@ fn expand_listed<M: Machine>(
     requires room { length nodes.old ≤ limit }
     requires nodes { Each (IsGood (M.shape machine.now) (M.right machine.now)) nodes.old }
     requires near { IsNear nodes.old from }
-    requires step { IfOk listed.now (λ fs. IsStep (M.shape machine.now) (M.specification machine.now) (M.turns machine.now) (state_of (M.shape machine.now) state.now) fs.items) }
+    requires step { IsListed (M.shape machine.now) (M.specification machine.now) (M.turns machine.now) (M.made machine.now) (M.limit machine.now) (state_of (M.shape machine.now) state.now) listed.now }
     ensures extends { (n : Node) → slice_get nodes.old from ≡ Some n → Extends (M.shape machine.now) (M.specification machine.now) (M.turns machine.now) (M.right machine.now) (n.depth + 1) nodes.old nodes.new }
     ensures begun { AreBegun from nodes.old nodes.new }
     ensures room { length nodes.new ≤ limit }
     ensures expanded { IfOk result (λ bad. IfNone bad ((n : Node) → slice_get nodes.old from ≡ Some n → Expanded (M.shape machine.now) (M.specification machine.now) (M.turns machine.now) nodes.new n)) }
     ensures wrong { IfOk result (λ bad. IfSome bad (λ b. (b.from ≡ from) ×
-        IsBadStep (M.shape machine.now) (M.specification machine.now) (M.turns machine.now) (M.right machine.now) nodes.old from b.choices.items b.fault)) }
+        IsBadStep (M.shape machine.now) (M.specification machine.now) (M.turns machine.now) (M.right machine.now) (M.rests machine.now) nodes.old from b.choices.items b.fault)) }
     ensures apart { IfOk result (λ bad. IfSome bad (λ b. AreApart b.choices.items)) }
-    ensures full { IfErr result (λ h. h ≡ halt.States → limit ≤ length nodes.new) }
+    ensures rests { IfOk result (λ bad. IfNone bad (RestsSo (M.specification machine.now) (M.turns machine.now) (M.rests machine.now) (state_of (M.shape machine.now) state.now) from quiet.old.items quiet.new.items)) }
+    ensures listed { IfOk result (λ bad. IfSome bad (λ _. quiet.new.items ≡ quiet.old.items)) }
+    ensures unlisted { IfErr result (λ _. quiet.new.items ≡ quiet.old.items) }
+    ensures full { IfErr result (HaltsSo (limit ≤ length nodes.new) (IsCrowdOf (M.made machine.now) (M.limit machine.now) (state_of (M.shape machine.now) state.now))) }
 {
     match listed {
         Ok(outcomes) => {
             let outcomes = outcomes.as_slice();
-            expand(alloc, machine, from, state, outcomes, limit, index, nodes)
+            match expand(alloc, machine, from, state, outcomes, limit, index, nodes)? {
+                None => rest(alloc, machine, from, state, outcomes, quiet),
+                Some(bad) => Ok(Some(bad)),
+            }
         }
         Err(refusal) => Err(halted(alloc, refusal)),
     }
@@ -371,7 +376,7 @@ fn next_states<M: Machine>(
     ensures shallow { IfOk result (λ states. Each (λ n. n.depth < steps) (take (length states.items) (drop first nodes.now))) }
     ensures inside { IfOk result (λ states. Each (λ n. (M.within machine.now) (state_at (M.shape machine.now) n) ≡ true) (take (length states.items) (drop first nodes.now))) }
     ensures none { IfOk result (λ states. states.items ≡ [] → (n : Node) → slice_get nodes.now first ≡ Some n → n.depth < steps → (M.within machine.now) (state_at (M.shape machine.now) n) ≡ false) }
-    ensures never { IfErr result (λ h. h ≢ halt.States) }
+    ensures never { IfErr result (HaltsSo ⊥ (λ _. ⊥)) }
 {
     let mut states = Vec::new(alloc);
     for number in first..nodes.len() {
@@ -391,8 +396,8 @@ fn next_states<M: Machine>(
 fn listed<M: Machine>(alloc: Global, machine: &M, states: &[State]) -> Result<Vec<Listed>, Halt>
     requires machine { M.is_sound machine.now }
     requires whole { Each (λ s. length s ≡ count_of (M.shape machine.now)) states.now }
-    ensures listed { IfOk result (λ all. AreListed (M.shape machine.now) (M.specification machine.now) (M.turns machine.now) states.now all.items) }
-    ensures never { IfErr result (λ h. h ≢ halt.States) }
+    ensures listed { IfOk result (λ all. AreListed (M.shape machine.now) (M.specification machine.now) (M.turns machine.now) (M.made machine.now) (M.limit machine.now) states.now all.items) }
+    ensures never { IfErr result (HaltsSo ⊥ (λ _. ⊥)) }
 {
     let lists = machine.outcomes(alloc, states)?;
     Ok(lists)
@@ -408,6 +413,7 @@ fn expand_batch<M: Machine>(
     limit: u32,
     index: &mut Index,
     nodes: &mut Nodes,
+    quiet: &mut Vec<u32>,
 ) -> Result<(), Looked>
     requires machine { M.is_sound machine.now }
     requires first { first + length states.now ≤ length nodes.old }
@@ -416,12 +422,15 @@ fn expand_batch<M: Machine>(
     requires inside { Each (λ n. (M.within machine.now) (state_at (M.shape machine.now) n) ≡ true) (take (length states.now) (drop first nodes.old)) }
     requires room { length nodes.old ≤ limit }
     requires looked { IsLooked (M.shape machine.now) (M.specification machine.now) (M.turns machine.now) (M.right machine.now) (M.within machine.now) steps first nodes.old }
+    requires rested { IsRested (M.shape machine.now) (M.specification machine.now) (M.turns machine.now) (M.rests machine.now) (M.within machine.now) steps first nodes.old quiet.old.items }
     requires near { IsNear nodes.old first }
     ensures room { length nodes.new ≤ limit }
     ensures looked { IfOk result (λ _. IsLooked (M.shape machine.now) (M.specification machine.now) (M.turns machine.now) (M.right machine.now) (M.within machine.now) steps (first + length states.now) nodes.new) }
+    ensures rested { IfOk result (λ _. IsRested (M.shape machine.now) (M.specification machine.now) (M.turns machine.now) (M.rests machine.now) (M.within machine.now) steps (first + length states.now) nodes.new quiet.new.items) }
     ensures near { IfOk result (λ _. IsNear nodes.new (first + length states.now)) }
     ensures more { length nodes.old ≤ length nodes.new }
-    ensures stopped { IfErr result (λ stopped. IsStopped (M.shape machine.now) (M.specification machine.now) (M.turns machine.now) (M.right machine.now) (M.within machine.now) steps limit nodes.new stopped) }
+    ensures rests { IfErr result (λ stopped. IsRested (M.shape machine.now) (M.specification machine.now) (M.turns machine.now) (M.rests machine.now) (M.within machine.now) steps stopped.expanded nodes.new quiet.new.items) }
+    ensures stopped { IfErr result (λ stopped. IsStopped (M.shape machine.now) (M.specification machine.now) (M.turns machine.now) (IsCrowdOf (M.made machine.now) (M.limit machine.now)) (M.right machine.now) (M.rests machine.now) (M.within machine.now) steps limit nodes.new stopped) }
 {
     let lists = match listed(alloc, machine, states) {
         Ok(lists) => lists,
@@ -435,7 +444,9 @@ fn expand_batch<M: Machine>(
     for k in 0..states.len() {
         let from = first + k;
         let (state, listed) = (&states[k], &lists[k]);
-        match expand_listed(alloc, machine, from, state, listed, limit, index, nodes) {
+        match expand_listed(
+            alloc, machine, from, state, listed, limit, index, nodes, quiet,
+        ) {
             Ok(None) => {}
             Ok(Some(bad)) => {
                 return Err(Looked {
@@ -479,18 +490,22 @@ fn expand_next<M: Machine>(
     limit: u32,
     index: &mut Index,
     nodes: &mut Nodes,
+    quiet: &mut Vec<u32>,
 ) -> Result<usize, Looked>
     requires machine { M.is_sound machine.now }
     requires expanded { expanded < length nodes.old }
     requires like { length like.now ≡ count_of (M.shape machine.now) }
     requires room { length nodes.old ≤ limit }
     requires looked { IsLooked (M.shape machine.now) (M.specification machine.now) (M.turns machine.now) (M.right machine.now) (M.within machine.now) steps expanded nodes.old }
+    requires rested { IsRested (M.shape machine.now) (M.specification machine.now) (M.turns machine.now) (M.rests machine.now) (M.within machine.now) steps expanded nodes.old quiet.old.items }
     requires near { IsNear nodes.old expanded }
     ensures room { length nodes.new ≤ limit }
     ensures some { IfOk result (λ done. (expanded < done) × (done ≤ length nodes.new)) }
     ensures looked { IfOk result (λ done. IsLooked (M.shape machine.now) (M.specification machine.now) (M.turns machine.now) (M.right machine.now) (M.within machine.now) steps done nodes.new) }
+    ensures rested { IfOk result (λ done. IsRested (M.shape machine.now) (M.specification machine.now) (M.turns machine.now) (M.rests machine.now) (M.within machine.now) steps done nodes.new quiet.new.items) }
     ensures near { IfOk result (λ done. IsNear nodes.new done) }
-    ensures stopped { IfErr result (λ stopped. IsStopped (M.shape machine.now) (M.specification machine.now) (M.turns machine.now) (M.right machine.now) (M.within machine.now) steps limit nodes.new stopped) }
+    ensures rests { IfErr result (λ stopped. IsRested (M.shape machine.now) (M.specification machine.now) (M.turns machine.now) (M.rests machine.now) (M.within machine.now) steps stopped.expanded nodes.new quiet.new.items) }
+    ensures stopped { IfErr result (λ stopped. IsStopped (M.shape machine.now) (M.specification machine.now) (M.turns machine.now) (IsCrowdOf (M.made machine.now) (M.limit machine.now)) (M.right machine.now) (M.rests machine.now) (M.within machine.now) steps limit nodes.new stopped) }
 {
     let states = match next_states(alloc, machine, nodes, expanded, steps, like) {
         Ok(states) => states,
@@ -505,7 +520,9 @@ fn expand_next<M: Machine>(
     if states.len() == 0 {
         return Ok(expanded + 1);
     }
-    expand_batch(alloc, machine, expanded, states, steps, limit, index, nodes)?;
+    expand_batch(
+        alloc, machine, expanded, states, steps, limit, index, nodes, quiet,
+    )?;
     Ok(expanded + states.len())
 }
 
@@ -518,17 +535,22 @@ fn expand_all<M: Machine>(
     limit: u32,
     index: &mut Index,
     nodes: &mut Nodes,
+    quiet: &mut Vec<u32>,
 ) -> Looked
     requires machine { M.is_sound machine.now }
     requires like { length like.now ≡ count_of (M.shape machine.now) }
     requires room { length nodes.old ≤ limit }
     requires looked { IsLooked (M.shape machine.now) (M.specification machine.now) (M.turns machine.now) (M.right machine.now) (M.within machine.now) steps 0 nodes.old }
+    requires rested { IsRested (M.shape machine.now) (M.specification machine.now) (M.turns machine.now) (M.rests machine.now) (M.within machine.now) steps 0 nodes.old quiet.old.items }
     requires near { IsNear nodes.old 0 }
-    ensures { IsStopped (M.shape machine.now) (M.specification machine.now) (M.turns machine.now) (M.right machine.now) (M.within machine.now) steps limit nodes.new result }
+    ensures rests { IsRested (M.shape machine.now) (M.specification machine.now) (M.turns machine.now) (M.rests machine.now) (M.within machine.now) steps result.expanded nodes.new quiet.new.items }
+    ensures stopped { IsStopped (M.shape machine.now) (M.specification machine.now) (M.turns machine.now) (IsCrowdOf (M.made machine.now) (M.limit machine.now)) (M.right machine.now) (M.rests machine.now) (M.within machine.now) steps limit nodes.new result }
 {
     let mut expanded = 0;
     while expanded < nodes.len() {
-        match expand_next(alloc, machine, expanded, like, steps, limit, index, nodes) {
+        match expand_next(
+            alloc, machine, expanded, like, steps, limit, index, nodes, quiet,
+        ) {
             Ok(done) => expanded = done,
             Err(stopped) => return stopped,
         }
@@ -557,7 +579,8 @@ fn whole_depth(nodes: &Nodes, expanded: usize, steps: u32) -> u32
 /// Looks through all runs of so many steps. Each run of at most `whole` steps under each script
 /// ends at its limit, in a state that is right; where nothing is left to be looked at, so does each
 /// run of however many steps; where a bad step was found, each script that makes its choices and
-/// those that lead to it has a run that goes wrong in this step. The first state is to be right.
+/// those that lead to it has a run that goes wrong in this step. The quiet states are listed, of
+/// those that runs are followed from. The first state is to be right.
 pub fn explore<M: Machine>(
     alloc: Global,
     machine: &M,
@@ -571,11 +594,18 @@ pub fn explore<M: Machine>(
     requires right { (M.right machine.now) (M.specification machine.now).initial ≡ true }
     ensures safe { IfOk result (λ explored. IsSafeUpTo (M.specification machine.now) (M.turns machine.now) (M.within machine.now) (λ A. (M.right machine.now) A ≡ true) explored.whole) }
     ensures closed { IfOk result (λ explored. explored.ended ≡ Closed → IsSafe (M.specification machine.now) (M.turns machine.now) (M.within machine.now) (λ A. (M.right machine.now) A ≡ true)) }
+    ensures alive { IfOk result (λ explored. HoldsBefore (M.specification machine.now) (M.turns machine.now) (M.within machine.now) (λ A. ¬ (IsDeadlock (M.specification machine.now) (M.turns machine.now) (M.rests machine.now) A)) explored.whole) }
+    ensures always_alive { IfOk result (λ explored. explored.ended ≡ Closed → HoldsAlways (M.specification machine.now) (M.turns machine.now) (M.within machine.now) (λ A. ¬ (IsDeadlock (M.specification machine.now) (M.turns machine.now) (M.rests machine.now) A))) }
+    ensures rested { IfOk result (λ explored. IsRested (M.shape machine.now) (M.specification machine.now) (M.turns machine.now) (M.rests machine.now) (M.within machine.now) steps explored.expanded explored.nodes explored.quiet.items) }
+    ensures lively { IfOk result (λ explored. explored.ended ≡ Closed → explored.quiet.items ≡ [] → HoldsAlways (M.specification machine.now) (M.turns machine.now) (M.within machine.now) (λ A. ¬ (IsQuiet (M.specification machine.now) (M.turns machine.now) A))) }
+    ensures first_quiet { IfOk result (λ explored. IsFirstQuiet (M.shape machine.now) (M.specification machine.now) (M.turns machine.now) (M.within machine.now) explored.nodes explored.quiet.items) }
+    ensures rises { IfOk result (λ explored. Rises explored.nodes) }
     ensures at_limit { IfOk result (λ explored. explored.ended ≡ AtLimit → explored.whole ≡ steps) }
-    ensures wrong { IfOk result (λ explored. IfBad explored.ended (GoesWrongSo (M.specification machine.now) (M.turns machine.now) (M.right machine.now) (M.within machine.now) (M.shape machine.now) explored.nodes)) }
+    ensures wrong { IfOk result (λ explored. IfBad explored.ended (GoesWrongSo (M.specification machine.now) (M.turns machine.now) (M.right machine.now) (M.rests machine.now) (M.within machine.now) (M.shape machine.now) explored.nodes)) }
     ensures inside { IfOk result (λ explored. AreInside (M.shape machine.now) (M.specification machine.now) (M.turns machine.now) (M.within machine.now) explored.nodes) }
     ensures deep { IfOk result (λ explored. IfBad explored.ended (λ bad. (n : Node) → slice_get explored.nodes bad.from ≡ Some n → (n.depth ≡ explored.whole) × (n.depth < steps))) }
     ensures nodes { IfOk result (λ explored. Each (IsGood (M.shape machine.now) (M.right machine.now)) explored.nodes × Each (IsLinked (M.shape machine.now) (M.specification machine.now) (M.turns machine.now) explored.nodes) explored.nodes) }
+    ensures crowded { IfOk result (λ explored. IfCrowd explored.ended (AtNode (M.shape machine.now) (IsCrowdOf (M.made machine.now) (M.limit machine.now)) explored.nodes explored.expanded explored.whole)) }
     ensures full { IfOk result (λ explored. explored.ended ≡ TooManyStates → limit ≤ length explored.nodes) }
 {
     let count = machine.signature().count();
@@ -584,14 +614,18 @@ pub fn explore<M: Machine>(
     let mut index = Index::new(alloc);
     note_last(alloc, &nodes, &mut index)?;
     let room = limit.max(1);
-    let looked = expand_all(alloc, machine, initial, steps, room, &mut index, &mut nodes);
+    let mut quiet = Vec::new(alloc);
+    let looked = expand_all(
+        alloc, machine, initial, steps, room, &mut index, &mut nodes, &mut quiet,
+    );
     let whole = whole_depth(&nodes, looked.expanded, steps);
     Ok(Explored {
         nodes,
         whole,
+        expanded: looked.expanded,
         ended: looked.ended,
         outcomes: index.outcomes,
         widest: index.widest,
-        quiet: index.quiet,
+        quiet,
     })
 }

@@ -1,14 +1,16 @@
 //! How a sequence goes on: the sets so far, and what a part yields upon one of them.
-ghost use Rattle.std.specs.Prelude.{◌≡◌, ◌++◌, IfOk, OnOk};
+ghost use Rattle.std.specs.Prelude.{◌≡◌, ◌+◌, ◌≤◌, ◌<◌, ◌++◌, length, IfOk, IfErr, OnOk};
 ghost use Rattle.asm_state.specs.Location.{State};
 ghost use Rattle.asm_state.specs.Signature.{Shape, count_of};
 ghost use Rattle.asm_state.specs.Updates.{none};
 ghost use Rattle.asm_meaning.specs.Yields as yields;
 ghost use Rattle.asm_meaning.specs.Yields.{Result as Yielded, Gives, Exhausted};
 ghost use Rattle.asm_explore.specs.declared.found.Answer.TheVariants as answer;
+ghost use Rattle.asm_explore.specs.Crowds.{IfTooMany};
 ghost use Rattle.asm_explore.specs.Lists.{Situation, HaveChoices, AreCounted, IsCounted, Lists};
 ghost use Rattle.asm_explore.specs.Placed.{IsPlaced};
-ghost use Rattle.asm_explore.specs.Sequences.{BothHave, Sorts, SortsAll, Underway, Adds, Exhausts};
+ghost use Rattle.asm_explore.specs.Sequences.{BothHave, both_ways, Sorts, SortsAll, Underway, Adds, Exhausts};
+ghost use Rattle.asm_explore.specs.Ways.{ways_of, AreSomeOf, behind};
 
 use crate::found::{Answer, Choice, Found, add_choices, copy_found, copy_path};
 use crate::listing::add;
@@ -50,7 +52,8 @@ fn sort_one(
 ) -> Result<(), Overflow>
     requires so_far { so_far.now.set.count ≡ count_of signature.now }
     requires one { IsCounted (count_of signature.now) one.now.answer }
-    ensures { OnOk result (Sorts signature.now turns so_far.now.set choices.now one.now sorted.old sorted.new) }
+    ensures sorts { OnOk result (Sorts signature.now turns so_far.now.set choices.now one.now sorted.old sorted.new) }
+    ensures crowd { IfErr result (IfTooMany (limit ≤ length (both_ways sorted.old))) }
 {
     let choices = both_choices(alloc, choices, one.choices.as_slice())?;
     match &one.answer {
@@ -100,7 +103,8 @@ fn sort_all(
 ) -> Result<(), Overflow>
     requires so_far { so_far.now.set.count ≡ count_of signature.now }
     requires part { AreCounted (count_of signature.now) part.now }
-    ensures { OnOk result (SortsAll signature.now turns so_far.now.set choices.now part.now sorted.old sorted.new) }
+    ensures sorts { OnOk result (SortsAll signature.now turns so_far.now.set choices.now part.now sorted.old sorted.new) }
+    ensures crowd { IfErr result (IfTooMany (limit < length (both_ways sorted.old) + length part.now)) }
 {
     for i in 0..part.len() {
         sort_one(
@@ -123,7 +127,8 @@ pub(crate) fn sort_part(
 ) -> Result<(), Overflow>
     requires so_far { so_far.now.set.count ≡ count_of signature.now }
     requires part { AreCounted (count_of signature.now) part.items }
-    ensures { OnOk result (SortsAll signature.now turns so_far.now.set one.now.choices.items part.items sorted.old sorted.new) }
+    ensures sorts { OnOk result (SortsAll signature.now turns so_far.now.set one.now.choices.items part.items sorted.old sorted.new) }
+    ensures crowd { IfErr result (IfTooMany (limit < length (both_ways sorted.old ++ behind one.now.choices.items (ways_of part.items)))) }
 {
     let choices = one.choices.as_slice();
     let outcomes = part.as_slice();
@@ -140,7 +145,8 @@ fn add_each(
     limit: usize,
     done: &mut Vec<Found>,
 ) -> Result<(), Overflow>
-    ensures { OnOk result (Adds done.old.items more.now done.new.items) }
+    ensures adds { OnOk result (Adds done.old.items more.now done.new.items) }
+    ensures crowd { IfErr result (IfTooMany (limit < length done.old.items + length more.now)) }
 {
     for i in 0..more.len() {
         let one = copy_found(alloc, &more[i])?;
@@ -174,7 +180,8 @@ fn exhaust_each(
     limit: usize,
     done: &mut Vec<Found>,
 ) -> Result<(), Overflow>
-    ensures { OnOk result (Exhausts path.now done.old.items more.now done.new.items) }
+    ensures exhausts { OnOk result (Exhausts path.now done.old.items more.now done.new.items) }
+    ensures crowd { IfErr result (IfTooMany (limit < length done.old.items + length more.now)) }
 {
     for i in 0..more.len() {
         let one = exhausted(alloc, &more[i], path)?;
@@ -188,6 +195,8 @@ pub(crate) fn close(alloc: Global, sorted: Sorted, limit: usize) -> Result<Vec<F
     ensures lists { (shape : Shape) (A : State) (total : Situation → Yielded) (left : Situation → State → Yielded) → ((s : Situation) (B : State) → left s B ≡ Gives none) →
         Underway shape A total left sorted.done.items sorted.more.items → IfOk result (λ fs. Lists shape total fs.items) }
     ensures placed { (p : yields.Path) → BothHave (IsPlaced p) sorted → IfOk result (λ fs. HaveChoices (IsPlaced p) fs.items) }
+    ensures chosen { IfOk result (λ fs. AreSomeOf (ways_of fs.items) (both_ways sorted)) }
+    ensures crowd { IfErr result (IfTooMany (limit < length (both_ways sorted))) }
 {
     let Sorted { mut done, more } = sorted;
     add_each(alloc, more.as_slice(), limit, &mut done)?;
@@ -204,6 +213,8 @@ pub(crate) fn exhaust(
     ensures lists { (shape : Shape) (A : State) (total : Situation → Yielded) (left : Situation → State → Yielded) → ((s : Situation) (B : State) → left s B ≡ Exhausted path.now) →
         Underway shape A total left sorted.done.items sorted.more.items → IfOk result (λ fs. Lists shape total fs.items) }
     ensures placed { (p : yields.Path) → BothHave (IsPlaced p) sorted → IfOk result (λ fs. HaveChoices (IsPlaced p) fs.items) }
+    ensures chosen { IfOk result (λ fs. AreSomeOf (ways_of fs.items) (both_ways sorted)) }
+    ensures crowd { IfErr result (IfTooMany (limit < length (both_ways sorted))) }
 {
     let Sorted { mut done, more } = sorted;
     exhaust_each(alloc, more.as_slice(), path, limit, &mut done)?;

@@ -1,21 +1,23 @@
 //! Specifications are machines.
-ghost use Rattle.std.specs.Prelude.{◌≡◌, ◌<◌, length, IfOk, option_map};
+ghost use Rattle.std.specs.Prelude.{◌≡◌, ◌<◌, length, option_map};
 ghost use Rattle.asm_state.specs.Signature.{count_of, state_of};
 ghost use Rattle.asm_syntax.specs.Views.{spec_of};
 ghost use Rattle.asm_check.specs.Shapes.{shape_of};
 ghost use Rattle.asm_meaning.specs.Declarations.{specification_of};
 ghost use Rattle.asm_eval.specs.CodeViews.{code_of};
 ghost use Rattle.asm_eval.specs.RuleMeaning.{IsSoundTest};
+ghost use Rattle.asm_eval.specs.RuleViews.{rule_of};
 ghost use Rattle.asm_explore.specs.Conditions.{holds_in, IsSpecified};
-ghost use Rattle.asm_explore.specs.Steps.{IsStep};
+ghost use Rattle.asm_explore.specs.Made.{made_in};
+ghost use Rattle.asm_explore.specs.Steps.{IsListed};
 
-use crate::candidates::passes;
 use crate::exploration::Exploration;
 use crate::found::Found;
 use crate::machine::{Listed, Machine};
 use crate::outcomes::outcomes;
 use crate::refusal::Refusal;
 use crate::specified::Specified;
+use asm_eval::choose::passes;
 use asm_eval::code::Code;
 use asm_eval::frame::Frame;
 use asm_eval::laws::resolving_laws;
@@ -45,7 +47,8 @@ fn step_outcomes(
     requires sound { IsSpecified specified.now }
     requires whole { length state.now ≡ count_of (shape_of (spec_of specified.now.checked.now.spec)) }
     ensures { let s = spec_of specified.now.checked.now.spec in
-        IfOk result (λ fs. IsStep (shape_of s) (specification_of s) specified.now.turns (state_of (shape_of s) state.now) fs.items) }
+        let makes = made_in (shape_of s) specified.now.turns (rule_of specified.now.code.now) in
+        IsListed (shape_of s) (specification_of s) specified.now.turns makes specified.now.limit (state_of (shape_of s) state.now) result }
 {
     resolving_laws();
     let signature = specified.checked.signature();
@@ -67,9 +70,15 @@ impl<'a> Machine for Specified<'a> {
 
     ghost shape = { λ m. shape_of (spec_of m.checked.now.spec) };
 
+    ghost made = { λ m. made_in (shape_of (spec_of m.checked.now.spec)) m.turns (rule_of m.code.now) };
+
+    ghost limit = { λ m. m.limit };
+
     ghost right = { λ m A. holds_in (shape_of (spec_of m.checked.now.spec)) m.always.now A };
 
     ghost within = { λ m A. holds_in (shape_of (spec_of m.checked.now.spec)) m.within.now A };
+
+    ghost rests = { λ m A. holds_in (shape_of (spec_of m.checked.now.spec)) m.when_quiet.now A };
 
     ghost is_sound = { IsSpecified };
 
@@ -92,5 +101,9 @@ impl<'a> Machine for Specified<'a> {
 
     fn is_within(&self, alloc: Global, state: &State) -> bool {
         holds_at(alloc, self.checked.signature(), state, self.within)
+    }
+
+    fn may_rest(&self, alloc: Global, state: &State) -> bool {
+        holds_at(alloc, self.checked.signature(), state, self.when_quiet)
     }
 }

@@ -18,5 +18,7 @@ pub struct Specified<'a> {
     pub always: &'a Option<Code>,
     /// From which states runs are followed.
     pub within: &'a Option<Code>,
+    /// What is to hold in each quiet state.
+    pub when_quiet: &'a Option<Code>,
     pub ghost turns_in_range: { turns < 2 ^ 32 },
 }

@@ -1,14 +1,14 @@
 //! The choices of the steps that lead to a state.
-ghost use Rattle.std.specs.Prelude.{◌≡◌, ◌≢◌, ◌<◌, ◌↔◌, Some, length, map, slice_get, IsTrue, IfOk, IfErr, IfSome, IfNone};
+ghost use Rattle.std.specs.Prelude.{◌≡◌, ◌<◌, ℕ, ◌↔◌, Some, length, map, slice_get, IsTrue, IfOk, IfErr, IfSome, IfNone};
 ghost use Rattle.asm_state.specs.Contents.{IsStateOf};
 ghost use Rattle.asm_state.specs.Signature.{count_of, state_of};
 ghost use Rattle.asm_meaning.specs.Yields.{Result as Yielded};
-ghost use Rattle.asm_explore.specs.declared.halt.Halt.TheVariants as halt;
+ghost use Rattle.asm_explore.specs.Ends.{HaltsSo};
 ghost use Rattle.asm_explore.specs.Kept.{Node};
 ghost use Rattle.asm_explore.specs.Lists.{Situation, Each, IsCounted, Shows};
-ghost use Rattle.asm_explore.specs.Reached.{AreInside, IsGood, IsLinked, LeadBetween, LeadTo, MayLead, state_at, steps_from};
+ghost use Rattle.asm_explore.specs.Reached.{AreInside, AtNode, IsGood, IsLinked, LeadBetween, LeadTo, MayLead, state_at, steps_from};
 ghost use Rattle.asm_explore.specs.Search.{LeadsOn};
-ghost use Rattle.asm_explore.specs.Steps.{IsStep};
+ghost use Rattle.asm_explore.specs.Steps.{IsCrowdOf, IsStep};
 
 use crate::found::{Answer, Choice, Found, add_choices};
 use crate::halt::{Halt, halted};
@@ -20,7 +20,7 @@ use asm_state::state::State;
 use std::alloc::{AllocError, Global};
 
 /// Whether an outcome of the step from a state leads to another.
-fn leads(
+pub(crate) fn leads(
     alloc: Global,
     signature: &Signature,
     one: &Found,
@@ -49,7 +49,7 @@ fn outcomes_from<M: Machine>(alloc: Global, machine: &M, from: &State) -> Result
     requires machine { M.is_sound machine.now }
     requires whole { length from.now ≡ count_of (M.shape machine.now) }
     ensures step { IfOk result (λ fs. IsStep (M.shape machine.now) (M.specification machine.now) (M.turns machine.now) (state_of (M.shape machine.now) from.now) fs.items) }
-    ensures never { IfErr result (λ h. h ≢ halt.States) }
+    ensures crowded { IfErr result (HaltsSo ⊥ (IsCrowdOf (M.made machine.now) (M.limit machine.now) (state_of (M.shape machine.now) from.now))) }
 {
     let state = from.copy(alloc)?;
     let mut states = Vec::new(alloc);
@@ -74,7 +74,7 @@ fn choices_between<M: Machine>(
     requires to { IsStateOf (M.shape machine.now) to.now }
     ensures some { IfOk result (λ found. IfSome found (λ cs. LeadBetween (M.specification machine.now) (M.turns machine.now) (state_of (M.shape machine.now) from.now) (state_of (M.shape machine.now) to.now) cs.items)) }
     ensures none { IfOk result (λ found. IfNone found (MayLead (M.shape machine.now) (M.specification machine.now) (M.turns machine.now) (state_of (M.shape machine.now) from.now) (state_of (M.shape machine.now) to.now) → ⊥)) }
-    ensures never { IfErr result (λ h. h ≢ halt.States) }
+    ensures crowded { IfErr result (HaltsSo ⊥ (IsCrowdOf (M.made machine.now) (M.limit machine.now) (state_of (M.shape machine.now) from.now))) }
 {
     let outcomes = outcomes_from(alloc, machine, from)?;
     for k in 0..outcomes.len() {
@@ -105,7 +105,7 @@ pub(crate) fn trail_to<M: Machine>(
     requires inside { AreInside (M.shape machine.now) (M.specification machine.now) (M.turns machine.now) (M.within machine.now) nodes.now }
     ensures leads { IfOk result (λ trail. (n : Node) → slice_get nodes.now last ≡ Some n → LeadTo (M.specification machine.now) (M.turns machine.now) (M.within machine.now) (state_at (M.shape machine.now) n) (map (λ cs. cs.items) trail.items)) }
     ensures deep { IfOk result (λ trail. (n : Node) → slice_get nodes.now last ≡ Some n → length trail.items ≡ n.depth) }
-    ensures never { IfErr result (λ h. h ≢ halt.States) }
+    ensures crowded { IfErr result (HaltsSo ⊥ (λ crowd. (n : Node) → slice_get nodes.now last ≡ Some n → (number : ℕ) × AtNode (M.shape machine.now) (IsCrowdOf (M.made machine.now) (M.limit machine.now)) nodes.now number n.depth crowd)) }
 {
     let mut trail = Vec::new(alloc);
     let mut at = last;

@@ -2,8 +2,9 @@
 ghost use Rattle.std.specs.Prelude.{◌≡◌, ◌<◌, ◌^◌, IfOk};
 ghost use Rattle.asm_syntax.specs.Views.{spec_of};
 ghost use Rattle.asm_meaning.specs.Declarations.{specification_of};
-ghost use Rattle.asm_explore.specs.Answers.{Claims};
+ghost use Rattle.asm_explore.specs.Answers.{IsAnswer};
 ghost use Rattle.asm_explore.specs.Conditions.{holds_in, term_holds, IsSpecified};
+ghost use Rattle.asm_explore.specs.MainRule.{IsCrowdedMain};
 ghost use Rattle.asm_check.specs.Shapes.{shape_of};
 
 use crate::answer::Answered;
@@ -23,6 +24,8 @@ pub struct Question {
     pub always: Option<Term>,
     /// From which states runs are followed.
     pub within: Option<Term>,
+    /// What is to hold in each quiet state, in which nothing changes any more, whatever is chosen.
+    pub when_quiet: Option<Term>,
     pub turns: u32,
     /// Runs are looked at of at most so many steps.
     pub steps: u32,
@@ -41,7 +44,7 @@ fn explore_specified(
 ) -> Result<Answered, AllocError>
     requires { IsSpecified specified.now }
     ensures { let s = spec_of specified.now.checked.now.spec in
-        IfOk result (λ answer. Claims (specification_of s) specified.now.turns steps states (holds_in (shape_of s) specified.now.always.now) (holds_in (shape_of s) specified.now.within.now) answer.states answer.finding) }
+        IfOk result (λ answer. IsAnswer (specification_of s) specified.now.turns (IsCrowdedMain specified.now.checked.now specified.now.turns specified.now.limit) steps states (holds_in (shape_of s) specified.now.always.now) (holds_in (shape_of s) specified.now.when_quiet.now) (holds_in (shape_of s) specified.now.within.now) answer) }
 {
     let initial = State::initial(alloc, specified.checked.signature())?;
     explore_machine(alloc, specified, &initial, steps, states)
@@ -55,11 +58,12 @@ pub fn explore_all(
     question: &Question,
 ) -> Result<Answered, AllocError>
     ensures { let q = question.now in
-        IfOk result (λ answer. Claims (specification_of (spec_of checked.now.spec)) q.turns q.steps q.states (term_holds checked.now q.always) (term_holds checked.now q.within) answer.states answer.finding) }
+        IfOk result (λ answer. IsAnswer (specification_of (spec_of checked.now.spec)) q.turns (IsCrowdedMain checked.now q.turns q.outcomes) q.steps q.states (term_holds checked.now q.always) (term_holds checked.now q.when_quiet) (term_holds checked.now q.within) answer) }
 {
     let code = resolve_main(alloc, checked)?;
     let always = condition_code(alloc, checked, &question.always)?;
     let within = condition_code(alloc, checked, &question.within)?;
+    let when_quiet = condition_code(alloc, checked, &question.when_quiet)?;
     let specified = Specified {
         checked,
         code: &code,
@@ -67,6 +71,7 @@ pub fn explore_all(
         limit: question.outcomes,
         always: &always,
         within: &within,
+        when_quiet: &when_quiet,
     };
     let answered = explore_specified(alloc, &specified, question.steps, question.states)?;
     Ok(answered)

@@ -14,6 +14,7 @@ use std::test::Fail;
 pub struct Asked {
     pub always: &'static str,
     pub within: &'static str,
+    pub when_quiet: &'static str,
     pub turns: u32,
     pub steps: u32,
     pub states: u32,
@@ -24,6 +25,7 @@ pub struct Asked {
 pub const ANY: Asked = Asked {
     always: "",
     within: "",
+    when_quiet: "",
     turns: 1000,
     steps: 1_000_000,
     states: 1_000_000,
@@ -67,9 +69,11 @@ fn condition_of(alloc: Global, text: &str) -> Result<Option<Term>, Unchecked> {
 pub fn question_of(alloc: Global, asked: &Asked) -> Result<Question, Unchecked> {
     let always = condition_of(alloc, asked.always)?;
     let within = condition_of(alloc, asked.within)?;
+    let when_quiet = condition_of(alloc, asked.when_quiet)?;
     Ok(Question {
         always,
         within,
+        when_quiet,
         turns: asked.turns,
         steps: asked.steps,
         states: asked.states,

@@ -34,7 +34,18 @@ const BOTH: Asked = Asked {
     ..ANY
 };
 
-static SCRIPTS: [Case; 7] = [
+/// Counts by 1 or by 2 as long as the count is below 3.
+const LEAPS: &str = "CoreASM T init M universe Leap = 1 .. 2 \
+function controlled count initially 0 \
+rule M = if count < 3 then choose i in Leap do count := count + i endchoose endif";
+
+/// A run that comes to 3 is stuck.
+const FOUR: Asked = Asked {
+    when_quiet: "count = 4",
+    ..ANY
+};
+
+static SCRIPTS: [Case; 8] = [
     (MUTEX_WRONG, ANY, End::Clash),
     (ALTERNATING_WRONG, ANY, End::Clash),
     (TERMINATION_WRONG, ANY, End::Clash),
@@ -42,13 +53,18 @@ static SCRIPTS: [Case; 7] = [
     (OUTSIDE, ANY, End::Outside),
     (EXHAUSTED, ANY, End::Exhausted),
     (MUTEX_WRONG, BOTH, End::Limit),
+    (LEAPS, FOUR, End::Limit),
 ];
 
 /// The run that is found.
 fn found_run(alloc: Global, text: &str, asked: &Asked) -> Result<BadRun, Fail> {
     let answered = answer_to(alloc, text, asked)?;
-    match answered.finding {
-        Finding::Bad(bad) => Ok(bad),
+    match &answered.finding {
+        Finding::Bad(bad) => Ok(BadRun {
+            script: String::from_str(alloc, bad.script.as_str())?,
+            step: bad.step,
+            fault: bad.fault,
+        }),
         _ => Err(Fail::new("no run goes wrong")),
     }
 }
@@ -106,6 +122,22 @@ fn ends_critical<R: Threads + Sync + AllocGlobal>(rt: &R, steps: u32) -> Result<
     let bad = found_run(rt.alloc(), MUTEX_WRONG, &BOTH)?;
     let (_, trace) = run_under(rt, MUTEX_WRONG, bad.script.as_str(), steps)?;
     Ok(trace.as_slice().ends_with(BOTH_CRITICAL))
+}
+
+/// The end of a trace whose last step changes nothing, and in which nothing can change any more.
+const STUCK_AT_3: &[u8] = b"end limit\nstate\ncount = 3\n";
+
+#[test]
+fn a_found_script_leads_to_a_deadlock(rt: HostRuntime) -> Result<(), Fail> {
+    let bad = found_run(rt.alloc(), LEAPS, &FOUR)?;
+    assert_eq!(rt; bad.step, 3);
+    for steps in 2..5 {
+        let (_, trace) = run_under(&rt, LEAPS, bad.script.as_str(), steps)?;
+        assert!(rt; trace.as_slice().ends_with(STUCK_AT_3), "{steps}");
+    }
+    let (_, trace) = run_under(&rt, LEAPS, bad.script.as_str(), 1)?;
+    assert!(rt; !trace.as_slice().ends_with(STUCK_AT_3));
+    Ok(())
 }
 
 #[test]

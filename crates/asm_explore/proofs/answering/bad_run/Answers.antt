@@ -1,5 +1,5 @@
-use Rattle.std.proofs.Common.{◌≡◌, ◌≤◌, suc, ◌+◌, ◌∷◌, map, length, sym, ap, subst, ◌∙◌, arith, Vec, Global}
-use Rattle.std.specs.Prelude.{IfErr}
+use Rattle.std.proofs.Common.{◌≡◌, ◌≤◌, ℕ, suc, ◌+◌, ◌∷◌, map, length, sym, ap, subst, ◌∙◌, arith, Vec, Global}
+use Rattle.std.specs.Prelude.{slice_get, Some, IfErr}
 use Rattle.std.specs.String.{string_bytes}
 use Rattle.std.proofs.lemmas.List.{length-map}
 use Rattle.asm_reader.specs.ExactLines.{exactly}
@@ -8,10 +8,15 @@ use Rattle.asm_meaning.specs.Run.{run}
 use Rattle.asm_explore.specs.declared.found.Choice.{Choice}
 use Rattle.asm_explore.specs.Lists.{Each}
 use Rattle.asm_explore.specs.Placed.{AreApart}
-use Rattle.asm_explore.specs.Reached.{state_at}
+use Rattle.asm_explore.specs.declared.refusal.Crowd.{Crowd}
+use Rattle.asm_explore.specs.Ends.{HaltsSo}
+use Rattle.asm_explore.specs.Kept.{Node}
+use Rattle.asm_explore.specs.Reached.{AtNode, state_at}
+use Rattle.asm_explore.specs.Steps.{IsCrowdOf}
 use Rattle.asm_explore.specs.ScriptTo.{lines_of, needed}
-use Rattle.asm_explore.specs.Search.{EndsSo, StaysWithin}
+use Rattle.asm_explore.specs.Search.{EndsSo, IsDeadlock, StaysWithin}
 use Rattle.asm_explore.specs.Written.{IsTextRefusal, lines_text, numbers_in}
+use Rattle.asm_explore.proofs.Arriving.{node_reached}
 use Rattle.asm_explore.proofs.LinesTo.{needed_make}
 use Rattle.asm_explore.proofs.Trails.{leads_apart, long_text}
 use Rattle.asm_explore.proofs.answering.bad_run.Goals as goal
@@ -31,8 +36,8 @@ script_to-requires g c =
     ap (map (λ (cs : Vec Choice Global). cs.items)) (c.as_slice.ensures.value ∙ c.in_ok-back.ensures) in
     subst (Each AreApart) (sym back) apart
 
-pub returns-in-Ok-script_to : goal.returns-in-Ok-script_to
-returns-in-Ok-script_to g c = λ limit states.
+pub returns-in-Ok-script_to-clause-claims : goal.returns-in-Ok-script_to-clause-claims
+returns-in-Ok-script_to-clause-claims g c = λ limit states.
     let a = c.args in
     let specification = g.M.Machine.specification a.machine.now in
     let turns = g.M.Machine.turns a.machine.now in
@@ -50,7 +55,7 @@ returns-in-Ok-script_to g c = λ limit states.
     let limited : c.from.result + 1 ≤ a.steps = omega (arith, c.from.ensures, (c.requires.deep n wrong.there).0, (c.requires.deep n wrong.there).1) in
     let both = wrong.wrong trail leads (exactly lines) (needed_make (a.bad.choices.items ∷ trail) apart) in
     let stays = subst (StaysWithin specification turns within (exactly lines)) step both.1 in
-    let ends = subst (λ k. EndsSo (g.M.Machine.right a.machine.now) a.bad.fault k (run specification turns (exactly lines) k)) step both.0 in
+    let ends = subst (λ k. EndsSo (g.M.Machine.right a.machine.now) (IsDeadlock specification turns (g.M.Machine.rests a.machine.now)) a.bad.fault k (run specification turns (exactly lines) k)) step both.0 in
     record {
       script = exactly lines;
       spelled = subst (λ b. IsScript (string_bytes c.in-Ok-script_to.script) (exactly (needed (lines_of b)))) back c.in-Ok-script_to.ensures.script;
@@ -59,11 +64,11 @@ returns-in-Ok-script_to g c = λ limit states.
       limited = limited;
       before = a.whole;
       next = omega (arith, c.from.ensures);
-      shortest = c.requires.safe;
+      shortest = (c.requires.safe, c.requires.alive);
     }
 
-pub returns : goal.returns
-returns g c = λ limit states.
+pub returns-clause-claims : goal.returns-clause-claims
+returns-clause-claims g c = λ limit states.
     let a = c.args in
     let specification = g.M.Machine.specification a.machine.now in
     let turns = g.M.Machine.turns a.machine.now in
@@ -81,7 +86,7 @@ returns g c = λ limit states.
     let limited : c.from.result + 1 ≤ a.steps = omega (arith, c.from.ensures, (c.requires.deep n wrong.there).0, (c.requires.deep n wrong.there).1) in
     let both = wrong.wrong trail leads (exactly lines) (needed_make (a.bad.choices.items ∷ trail) apart) in
     let stays = subst (StaysWithin specification turns within (exactly lines)) step both.1 in
-    let ends = subst (λ k. EndsSo (g.M.Machine.right a.machine.now) a.bad.fault k (run specification turns (exactly lines) k)) step both.0 in
+    let ends = subst (λ k. EndsSo (g.M.Machine.right a.machine.now) (IsDeadlock specification turns (g.M.Machine.rests a.machine.now)) a.bad.fault k (run specification turns (exactly lines) k)) step both.0 in
     record {
       lines = lines;
       wrong = ends;
@@ -93,5 +98,26 @@ returns g c = λ limit states.
           (subst (λ b. IfErr c.script_to.result (IsTextRefusal (numbers_in (needed (lines_of b))) (lines_text (needed (lines_of b))))) back c.script_to.ensures.refused)));
       before = a.whole;
       next = omega (arith, c.from.ensures);
-      shortest = c.requires.safe;
+      shortest = (c.requires.safe, c.requires.alive);
     }
+
+pub returns-in-Err-Outcomes-clause-claims : goal.returns-in-Err-Outcomes-clause-claims
+returns-in-Err-Outcomes-clause-claims g c = λ limit states.
+    let a = c.args in
+    let shape = g.M.Machine.shape a.machine.now in
+    let specification = g.M.Machine.specification a.machine.now in
+    let turns = g.M.Machine.turns a.machine.now in
+    let within = g.M.Machine.within a.machine.now in
+    let wrong = c.requires.wrong in
+    let crowds = IsCrowdOf (g.M.Machine.made a.machine.now) (g.M.Machine.limit a.machine.now) in
+    let said = subst (HaltsSo ⊥ (λ (crowd : Crowd). (n : Node) → slice_get a.nodes.now a.bad.from ≡ Some n → (number : ℕ) × AtNode shape crowds a.nodes.now number n.depth crowd))
+    c.in-Err-Outcomes.field-0-is c.in-Err-Outcomes.ensures.crowded wrong.from wrong.there in
+    let n = said.1.0 in
+    let shallow : n.depth ≤ a.whole = omega (arith, said.1.2, (c.requires.deep wrong.from wrong.there).0) in (
+      (c.requires.safe, c.requires.alive),
+      (
+        state_at shape n,
+        node_reached shape specification turns within a.nodes.now c.requires.linked c.requires.inside a.whole said.0 n said.1.1 shallow,
+        subst (crowds (state_at shape n)) (sym c.in-Err-Outcomes.crowd-is) said.1.3,
+      ),
+    )

@@ -3,9 +3,9 @@ use Rattle.asm_explore.specs.Lists.{AnyOf, IsShownBy}
 use Rattle.asm_explore.proofs.ListLemmas.{known, pushed}
 use Rattle.asm_explore.proofs.listing.add.Goals as goal
 
-pub returns-then-is_known : goal.returns-then-is_known
-returns-then-is_known c =
+pub returns-then-is_known-clause-grows : goal.returns-then-is_known-clause-grows
+returns-then-is_known-clause-grows c =
     known c.args.found.now.items c.args.one (subst (AnyOf (λ f. IsShownBy c.args.one.answer f.answer)) c.as_slice.ensures.value (c.is_known.ensures c.if-is_known.true))
 
-pub returns : goal.returns
-returns c = pushed c.args.found.now.items c.push.new.self.items c.args.one c.in_ok-push.ensures.items
+pub returns-clause-grows : goal.returns-clause-grows
+returns-clause-grows c = pushed c.args.found.now.items c.push.new.self.items c.args.one c.in_ok-push.ensures.items

@@ -12,7 +12,7 @@ loop-i-preserved c =
     let count : length all ≡ length a.state.now = contents_count a.bytes.now a.words.now ∙ c.requires in
     let low : c.loop-i.i < length all = omega (arith, contents_count a.bytes.now a.words.now) in
     take_more_same all a.state.now c.loop-i.i Undef low (omega (arith, low, count)) c.loop-i.invariant
-    (contents_byte a.bytes.now a.words.now c.loop-i.i 0 Undef (omega arith) ∙ sym c.content_of.ensures ∙ c.is_same_value.ensures.0 c.if-not-is_same_value.false ∙ c.content.ensures.content)
+    (contents_byte a.bytes.now a.words.now c.loop-i.i 0 Undef (omega arith) ∙ c.is_of.ensures c.if-not-is_of.false ∙ c.content.ensures.content)
 
 pub loop-i-2-preserved : goal.loop-i-2-preserved
 loop-i-2-preserved c =
@@ -23,4 +23,4 @@ loop-i-2-preserved c =
     let count : length all ≡ length a.state.now = contents_count a.bytes.now a.words.now ∙ c.requires in
     let low : k < length all = omega (arith, contents_count a.bytes.now a.words.now) in
     rw next (take_more_same all a.state.now k Undef low (omega (arith, low, count)) c.loop-i-2.invariant
-    (contents_word a.bytes.now a.words.now c.loop-i-2.i Undef ∙ get_or_default a.words.now c.loop-i-2.i Undef c.index-words-i.result (omega arith) ∙ sym c.index-words-i.is ∙ c.is_same_value-in-loop-i-2.ensures.0 c.if-not-is_same_value-2.false ∙ c.content-in-loop-i-2.ensures.content))
+    (contents_word a.bytes.now a.words.now c.loop-i-2.i Undef ∙ get_or_default a.words.now c.loop-i-2.i Undef c.index-words-i.result (omega arith) ∙ sym c.index-words-i.is ∙ c.is_same_value.ensures.0 c.if-not-is_same_value.false ∙ c.content-in-loop-i-2.ensures.content))

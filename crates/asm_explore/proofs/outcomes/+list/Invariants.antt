@@ -1,12 +1,19 @@
-use Rattle.std.proofs.Common.{◌+◌, ◌*◌, ◌-◌, ◌≤◌, length, map, take}
+use Rattle.std.proofs.Common.{◌+◌, ◌*◌, ◌-◌, ◌≤◌, List, [], ◌++◌, length, map, take, drop}
+use Rattle.asm_state.specs.Location.{State}
 use Rattle.asm_meaning.specs.Yields.{at}
 use Rattle.asm_eval.specs.RuleMeaning.{rule_size, rule_sizes}
 use Rattle.asm_eval.specs.RuleTree as tree
 use Rattle.asm_eval.specs.RuleViews.{rule_of, rules_of}
-use Rattle.asm_explore.specs.Explored.{shape_on, state_on, yields_on, in_order_on, here_on}
-use Rattle.asm_explore.specs.Lists.{HaveChoices, Lists}
+use Rattle.asm_explore.specs.declared.found.Choice.{Choice}
+use Rattle.asm_explore.specs.Explored.{shape_on, state_on, yields_on, in_order_on, here_on, made_on, makes_on, order_made_on}
+use Rattle.asm_explore.specs.Lists.{Situation, HaveChoices, Lists}
+use Rattle.asm_explore.specs.Made.{AreMade}
+use Rattle.asm_explore.specs.MadeSoFar.{MadeSoFar, MakesTo}
 use Rattle.asm_explore.specs.Placed.{IsPlaced, IsPlacedFrom, IsPlacedBefore}
-use Rattle.asm_explore.specs.Sequences.{BothHave, Underway, Next}
+use Rattle.asm_explore.specs.Sequences.{AllDiffer, BothHave, Underway, Next}
+use Rattle.asm_explore.specs.Crowds.{AreDifferent, TakesBefore}
+use Rattle.asm_explore.specs.Ways.{ways_of}
+use Rattle.asm_explore.proofs.Makings as makings
 use Rattle.asm_explore.proofs.Yielded.{parts_left, each_left, IsChoosing, order_left, turns_left}
 use Rattle.asm_explore.proofs.outcomes.+list.Given as goal
 
@@ -62,6 +69,8 @@ invariant-list_all-loop-i l = record {
   within : l.i ≤ length l.parts;
   lists : Lists (shape_on l.on) (parts_left l.on l.frame l.path l.parts l.i) l.found.items;
   placed : HaveChoices (IsPlacedFrom l.path l.i) l.found.items;
+  differ : AreDifferent l.path (ways_of l.found.items);
+  made : HaveChoices (AreMade (makings.parts_left l.on l.frame l.path l.parts l.i)) l.found.items;
 }
 
 abbrev pub decreases-list_all-loop-i : goal.decreases-list_all-loop-i
@@ -73,6 +82,8 @@ invariant-list_each-loop-i l = record {
   within : l.i ≤ length l.universe;
   lists : Lists (shape_on l.on) (each_left l.on l.frame l.path l.over l.test l.body (length l.universe) l.universe l.i) l.found.items;
   placed : HaveChoices (IsPlacedFrom l.path l.i) l.found.items;
+  differ : AreDifferent l.path (ways_of l.found.items);
+  made : HaveChoices (AreMade (makings.each_left l.on l.frame l.path l.over l.test l.body (length l.universe) l.universe l.i)) l.found.items;
 }
 
 abbrev pub decreases-list_each-loop-i : goal.decreases-list_each-loop-i
@@ -83,6 +94,9 @@ abbrev pub invariant-list_choose-loop-k : goal.invariant-list_choose-loop-k
 invariant-list_choose-loop-k l = record {
   choosing : IsChoosing l.on l.frame l.path l.over l.test l.body l.none l.all l.k l.found.items;
   placed : HaveChoices (IsPlaced l.path) l.found.items;
+  differ : AreDifferent l.path (ways_of l.found.items);
+  takes : HaveChoices (TakesBefore l.path l.k) l.found.items;
+  made : HaveChoices (AreMade (makings.choose_makes l.on l.frame l.path l.over l.test l.body l.none)) l.found.items;
 }
 
 -- the outcomes so far of the parts, and of the turns
@@ -90,6 +104,8 @@ abbrev pub invariant-list_in_order-loop-i : goal.invariant-list_in_order-loop-i
 invariant-list_in_order-loop-i l = record {
   underway : Underway (shape_on l.on) (state_on l.on) (in_order_on l.on l.frame l.path (rules_of (map rule_of l.parts))) (order_left l.on l.frame l.path l.parts l.i) l.sorted.done.items l.sorted.more.items;
   placed : BothHave (IsPlacedBefore l.path l.i) l.sorted;
+  differ : AllDiffer l.path [] l.sorted;
+  made : MadeSoFar (shape_on l.on) (state_on l.on) (order_made_on l.on l.frame l.path (rules_of (map rule_of l.parts))) (makings.order_left l.on l.frame l.path l.parts l.i) l.sorted.done.items l.sorted.more.items;
 }
 
 abbrev pub invariant-list_turns-loop-turn : goal.invariant-list_turns-loop-turn
@@ -97,6 +113,9 @@ invariant-list_turns-loop-turn l = record {
   underway : Underway (shape_on l.on) (state_on l.on) (yields_on l.on l.frame l.path (tree.Iterate (rule_of l.body)))
       (turns_left l.on l.frame l.path (rule_of l.body) (l.on.turns - l.turn) l.turn) l.sorted.done.items l.sorted.more.items;
   placed : BothHave (IsPlacedBefore l.path l.turn) l.sorted;
+  differ : AllDiffer l.path [] l.sorted;
+  made : MadeSoFar (shape_on l.on) (state_on l.on) (makes_on l.on l.frame l.path (tree.Iterate (rule_of l.body)))
+      (makings.turns_left l.on l.frame l.path (rule_of l.body) (l.on.turns - l.turn) l.turn) l.sorted.done.items l.sorted.more.items;
 }
 
 -- the first of those that go on have gone on
@@ -105,4 +124,8 @@ invariant-list_next-loop-i l = record {
   next : Next (shape_on l.on) l.turns (state_on l.on) (here_on l.on l.frame (at l.path l.number) (rule_of l.rule)) (take l.i l.front) l.initial.sorted.done.items l.sorted;
   placed : HaveChoices (IsPlacedBefore l.path l.number) l.front → HaveChoices (IsPlacedBefore l.path l.number) l.initial.sorted.done.items
       → BothHave (IsPlacedBefore l.path (l.number + 1)) l.sorted;
+  differ : AreDifferent l.path (ways_of l.initial.sorted.done.items ++ ways_of l.front) → AllDiffer l.path (drop l.i l.front) l.sorted;
+  made : (total : Situation → List Choice) (left left_then : Situation → State → List Choice)
+      → MakesTo l.turns (here_on l.on l.frame (at l.path l.number) (rule_of l.rule)) (made_on l.on l.frame (at l.path l.number) (rule_of l.rule)) left left_then
+      → MadeSoFar (shape_on l.on) (state_on l.on) total left l.initial.sorted.done.items l.front → MadeSoFar (shape_on l.on) (state_on l.on) total left_then l.sorted.done.items l.sorted.more.items;
 }

@@ -1,4 +1,6 @@
-use Rattle.asm_explore.proofs.ListLemmas.{picked_more}
+use Rattle.std.proofs.Common.{◌≤◌, ◌<◌, ◌+◌, ◌∷◌, [], ◌++◌, length}
+use Rattle.asm_explore.proofs.Overfull.{too_many_on, crowd_found}
+use Rattle.asm_explore.proofs.ListLemmas.{picked_none, picked_more}
 use Rattle.asm_explore.proofs.picking.add_chosen.Goals as goal
 
 pub loop-i-preserved : goal.loop-i-preserved
@@ -7,4 +9,16 @@ loop-i-preserved c =
     let l = c.loop-i in
     picked_more a.path.now a.number a.part.now l.i c.index-part-i.result a.found.now.items l.found.items c.add.new.found.items c.in_ok-one.one
     c.loop-i-test.true c.index-part-i.is c.in_ok-one.ensures.choices
-    (λ n. c.in_ok-one.ensures.counted n) (λ shape r. c.in_ok-one.ensures.shows shape r) c.in_ok-add.ensures l.invariant
+    (λ n. c.in_ok-one.ensures.counted n) (λ shape r. c.in_ok-one.ensures.shows shape r) c.in_ok-add.ensures.grows l.invariant
+
+pub loop-i-init : goal.loop-i-init
+loop-i-init c = picked_none c.args.path.now c.args.number c.args.part.now c.args.found.now.items
+
+pub returns-in_err-add-clause-crowd : goal.returns-in_err-add-clause-crowd
+returns-in_err-add-clause-crowd c =
+    let a = c.args in
+    let l = c.loop-i in
+    too_many_on (a.limit ≤ length l.found.items) (a.limit < length a.found.now.items + length a.part.now)
+    c.from_residual-in_err-add.result c.in_err-add.field-0.0 c.from_residual-in_err-add.ensures.1
+    (crowd_found a.limit a.part.now l.i c.loop-i-test.true (λ cs. cs ++ record { path = a.path.now; number = a.number } ∷ []) l.found.items a.found.now.items l.invariant.chosen)
+    c.in_err-add.ensures.full

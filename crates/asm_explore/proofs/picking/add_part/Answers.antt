@@ -9,14 +9,14 @@ only n m xs rest x one same left is =
     let none : n - 1 ≡ 0 = omega (arith, one, same) in
     is ∙ ap (λ r. r ++ x ∷ []) (left ∙ ap (λ k. take k xs) none)
 
-pub returns-then-len-eq1 : goal.returns-then-len-eq1
-returns-then-len-eq1 c =
+pub returns-then-len-eq1-clause-picks : goal.returns-then-len-eq1-clause-picks
+returns-then-len-eq1-clause-picks c =
     let a = c.args in
     let some = c.in-Some in
     let left : a.part.items ≡ some.one ∷ [] = only _ c.len.result a.part.items c.pop.new.self.items some.one c.if-len-eq1.true c.len.ensures some.ensures.rest some.ensures.items in
-    subst (λ fs. IsPicked a.path.now a.number fs a.found.now.items c.add_one.new.found.items) (sym left) c.in_ok-add_one.ensures
+    subst (λ fs. IsPicked a.path.now a.number fs a.found.now.items c.add_one.new.found.items) (sym left) c.in_ok-add_one.ensures.picks
 
-pub returns : goal.returns
-returns c =
+pub returns-clause-picks : goal.returns-clause-picks
+returns-clause-picks c =
     let a = c.args in
-    subst (λ fs. IsPicked a.path.now a.number fs a.found.now.items c.add_chosen.new.found.items) c.as_slice.ensures.value c.in_ok-add_chosen.ensures
+    subst (λ fs. IsPicked a.path.now a.number fs a.found.now.items c.add_chosen.new.found.items) c.as_slice.ensures.value c.in_ok-add_chosen.ensures.picks

@@ -15,10 +15,10 @@ use Rattle.asm_explore.proofs.ListLemmas.{each_weaker}
 use Rattle.asm_explore.proofs.Reaching.{each_got, some_at}
 use Rattle.asm_explore.proofs.search.expand.Goals as goal
 
-abbrev IsWrongAt : {M : Type 0} (shape : M → Shape) (specification : M → Specification) (turns : M → ℕ) (right : M → State → Bool) (m : M)
+abbrev IsWrongAt : {M : Type 0} (shape : M → Shape) (specification : M → Specification) (turns : M → ℕ) (right rests : M → State → Bool) (m : M)
     → List Node → (from : ℕ) → List Found → BadOutcome → Type 0
-IsWrongAt shape specification turns right m nodes from outcomes b =
-    (f : Found) × (slice_get outcomes b.number ≡ Some f) × IsBadStep (shape m) (specification m) (turns m) (right m) nodes from f.choices.items b.fault
+IsWrongAt shape specification turns right rests m nodes from outcomes b =
+    (f : Found) × (slice_get outcomes b.number ≡ Some f) × IsBadStep (shape m) (specification m) (turns m) (right m) (rests m) nodes from f.choices.items b.fault
 
 pub overflow_add-below : goal.overflow_add-below
 overflow_add-below g c =
@@ -53,8 +53,8 @@ follow_all-requires-clause-sound g c =
 pub choices_of-requires : goal.choices_of-requires
 choices_of-requires g c =
     let a = c.args in
-    let wrong : IsWrongAt g.M.Machine.shape g.M.Machine.specification g.M.Machine.turns g.M.Machine.right a.machine.now a.nodes.now a.from a.outcomes.now c.in-Some.bad =
-    subst (λ o. IfSome o (IsWrongAt g.M.Machine.shape g.M.Machine.specification g.M.Machine.turns g.M.Machine.right a.machine.now a.nodes.now a.from a.outcomes.now)) c.in-Some.is c.in_ok-follow_all.ensures.wrong in
+    let wrong : IsWrongAt g.M.Machine.shape g.M.Machine.specification g.M.Machine.turns g.M.Machine.right g.M.Machine.rests a.machine.now a.nodes.now a.from a.outcomes.now c.in-Some.bad =
+    subst (λ o. IfSome o (IsWrongAt g.M.Machine.shape g.M.Machine.specification g.M.Machine.turns g.M.Machine.right g.M.Machine.rests a.machine.now a.nodes.now a.from a.outcomes.now)) c.in-Some.is c.in_ok-follow_all.ensures.wrong in
     slice_get_within a.outcomes.now c.in-Some.bad.number wrong.0 wrong.1
 
 pub returns-in-None-clause-expanded : goal.returns-in-None-clause-expanded
@@ -73,7 +73,7 @@ returns-in-None-clause-expanded g c = λ n there s.
 pub returns-in_ok-choices-in-Some-clause-apart : goal.returns-in_ok-choices-in-Some-clause-apart
 returns-in_ok-choices-in-Some-clause-apart g c =
     let a = c.args in
-    let wrong : IsWrongAt g.M.Machine.shape g.M.Machine.specification g.M.Machine.turns g.M.Machine.right a.machine.now a.nodes.now a.from a.outcomes.now c.in-Some.bad =
-    subst (λ o. IfSome o (IsWrongAt g.M.Machine.shape g.M.Machine.specification g.M.Machine.turns g.M.Machine.right a.machine.now a.nodes.now a.from a.outcomes.now)) c.in-Some.is c.in_ok-follow_all.ensures.wrong in
+    let wrong : IsWrongAt g.M.Machine.shape g.M.Machine.specification g.M.Machine.turns g.M.Machine.right g.M.Machine.rests a.machine.now a.nodes.now a.from a.outcomes.now c.in-Some.bad =
+    subst (λ o. IfSome o (IsWrongAt g.M.Machine.shape g.M.Machine.specification g.M.Machine.turns g.M.Machine.right g.M.Machine.rests a.machine.now a.nodes.now a.from a.outcomes.now)) c.in-Some.is c.in_ok-follow_all.ensures.wrong in
     subst AreApart (sym (c.in_ok-choices-in-Some.ensures wrong.0 wrong.1))
     (each_got (λ f. AreApart f.choices.items) a.outcomes.now c.in-Some.bad.number wrong.0 c.requires.step.apart wrong.1)

@@ -1,14 +1,18 @@
-use Rattle.std.proofs.Common.{◌≡◌, ◌+◌, ◌<◌, ◌∙◌, length, true, refl, ap, sym, subst, arith}
+use Rattle.std.proofs.Common.{◌≡◌, ◌≤◌, ◌+◌, ◌<◌, ◌∙◌, length, true, refl, ap, sym, subst, arith}
 use Rattle.std.specs.Prelude.{Some, IfNone, IfSome, slice_get}
-use Rattle.asm_state.specs.Signature.{count_of}
+use Rattle.std.proofs.lemmas.Option.{slice_get_within}
+use Rattle.asm_state.specs.Signature.{count_of, state_of}
 use Rattle.asm_explore.specs.declared.explored.Bad.{Bad}
 use Rattle.asm_explore.specs.Kept.{Node}
 use Rattle.asm_explore.specs.Lists.{Each}
 use Rattle.asm_explore.specs.Placed.{AreApart}
+use Rattle.asm_explore.specs.Quiet.{IsRested, RestsSo}
 use Rattle.asm_explore.specs.Reached.{Expanded, IsBad, IsBadStep, IsLooked, IsNear, state_at}
+use Rattle.asm_explore.specs.Steps.{IsCrowdOf}
 use Rattle.asm_explore.proofs.Batches.{each_mapped, each_between, batch_at, shallow_at, listed_count, listed_at, same_node}
-use Rattle.asm_explore.proofs.Endings.{refused_done, refused_closed, refused_bad}
+use Rattle.asm_explore.proofs.Endings.{refused_done, refused_closed, refused_bad, halts_full, ends_crowded}
 use Rattle.asm_explore.proofs.Reaching.{whole_nodes, looked_more, looked_same, long_more, at_more, some_at}
+use Rattle.asm_explore.proofs.Resting.{rested_more, rested_same}
 use Rattle.asm_explore.proofs.search.expand_batch.Goals as goal
 
 pub listed-requires-clause-whole : goal.listed-requires-clause-whole
@@ -22,7 +26,7 @@ listed-requires-clause-whole g c =
 pub index-requires : goal.index-requires
 index-requires g c =
     let a = c.args in
-    let count = listed_count (g.M.Machine.shape a.machine.now) (g.M.Machine.specification a.machine.now) (g.M.Machine.turns a.machine.now) a.states.now c.in-Ok.lists.items c.in-Ok.ensures.listed in
+    let count = listed_count (g.M.Machine.shape a.machine.now) (g.M.Machine.specification a.machine.now) (g.M.Machine.turns a.machine.now) (g.M.Machine.made a.machine.now) (g.M.Machine.limit a.machine.now) a.states.now c.in-Ok.lists.items c.in-Ok.ensures.listed in
     omega (arith, count, c.loop-k-test.true, c.in-Ok.lists.ok.0)
 
 pub expand_listed-requires-clause-shallow : goal.expand_listed-requires-clause-shallow
@@ -33,6 +37,7 @@ expand_listed-requires-clause-shallow g c = λ m here.
     let specification = g.M.Machine.specification a.machine.now in
     let turns = g.M.Machine.turns a.machine.now in
     let right = g.M.Machine.right a.machine.now in
+    let rests = g.M.Machine.rests a.machine.now in
     let within = g.M.Machine.within a.machine.now in
     let i = a.first + l.k in
     let n = some_at a.nodes.now i (omega (arith, c.requires.first, c.loop-k-test.true)) in
@@ -48,6 +53,7 @@ expand_listed-requires-clause-here g c = λ m here.
     let specification = g.M.Machine.specification a.machine.now in
     let turns = g.M.Machine.turns a.machine.now in
     let right = g.M.Machine.right a.machine.now in
+    let rests = g.M.Machine.rests a.machine.now in
     let within = g.M.Machine.within a.machine.now in
     let i = a.first + l.k in
     let n = some_at a.nodes.now i (omega (arith, c.requires.first, c.loop-k-test.true)) in
@@ -58,7 +64,7 @@ expand_listed-requires-clause-here g c = λ m here.
 pub expand_listed-requires-clause-step : goal.expand_listed-requires-clause-step
 expand_listed-requires-clause-step g c =
     let a = c.args in
-    listed_at (g.M.Machine.shape a.machine.now) (g.M.Machine.specification a.machine.now) (g.M.Machine.turns a.machine.now) a.states.now c.in-Ok.lists.items c.loop-k.k c.index-states-k.result c.index.result.now
+    listed_at (g.M.Machine.shape a.machine.now) (g.M.Machine.specification a.machine.now) (g.M.Machine.turns a.machine.now) (g.M.Machine.made a.machine.now) (g.M.Machine.limit a.machine.now) a.states.now c.in-Ok.lists.items c.loop-k.k c.index-states-k.result c.index.result.now
     c.in-Ok.ensures.listed c.loop-k-test.true c.index-states-k.is c.index.ensures
 
 pub returns-in-Ok-Some-clause-more : goal.returns-in-Ok-Some-clause-more
@@ -69,6 +75,7 @@ returns-in-Ok-Some-clause-more g c =
     let specification = g.M.Machine.specification a.machine.now in
     let turns = g.M.Machine.turns a.machine.now in
     let right = g.M.Machine.right a.machine.now in
+    let rests = g.M.Machine.rests a.machine.now in
     let within = g.M.Machine.within a.machine.now in
     let i = a.first + l.k in
     let n = some_at a.nodes.now i (omega (arith, c.requires.first, c.loop-k-test.true)) in
@@ -84,6 +91,7 @@ returns-in-Err-expand_listed-clause-more g c =
     let specification = g.M.Machine.specification a.machine.now in
     let turns = g.M.Machine.turns a.machine.now in
     let right = g.M.Machine.right a.machine.now in
+    let rests = g.M.Machine.rests a.machine.now in
     let within = g.M.Machine.within a.machine.now in
     let i = a.first + l.k in
     let n = some_at a.nodes.now i (omega (arith, c.requires.first, c.loop-k-test.true)) in
@@ -99,6 +107,7 @@ returns-in-Ok-Some-clause-stopped g c =
     let specification = g.M.Machine.specification a.machine.now in
     let turns = g.M.Machine.turns a.machine.now in
     let right = g.M.Machine.right a.machine.now in
+    let rests = g.M.Machine.rests a.machine.now in
     let within = g.M.Machine.within a.machine.now in
     let i = a.first + l.k in
     let n = some_at a.nodes.now i (omega (arith, c.requires.first, c.loop-k-test.true)) in
@@ -106,12 +115,12 @@ returns-in-Ok-Some-clause-stopped g c =
     let inside = shallow_at (λ (n : Node). within (state_at shape n) ≡ true) a.nodes.now a.first (length a.states.now) l.k n.0 c.requires.inside c.loop-k-test.true n.1 in
     let extends = c.in-Ok-Some.ensures.extends n.0 there in
     let longer = long_more shape specification turns right (n.0.depth + 1) l.nodes c.expand_listed.new.nodes extends in
-    let wrong : (c.in-Ok-Some.bad.from ≡ i) × IsBadStep shape specification turns right l.nodes i c.in-Ok-Some.bad.choices.items c.in-Ok-Some.bad.fault =
-    subst (λ o. IfSome o (λ (b : Bad). (b.from ≡ i) × IsBadStep shape specification turns right l.nodes i b.choices.items b.fault)) c.in-Ok-Some.field-0-is c.in-Ok-Some.ensures.wrong in
+    let wrong : (c.in-Ok-Some.bad.from ≡ i) × IsBadStep shape specification turns right rests l.nodes i c.in-Ok-Some.bad.choices.items c.in-Ok-Some.bad.fault =
+    subst (λ o. IfSome o (λ (b : Bad). (b.from ≡ i) × IsBadStep shape specification turns right rests l.nodes i b.choices.items b.fault)) c.in-Ok-Some.field-0-is c.in-Ok-Some.ensures.wrong in
     let at : slice_get c.expand_listed.new.nodes c.in-Ok-Some.bad.from ≡ Some n.0 =
     ap (slice_get c.expand_listed.new.nodes) wrong.0 ∙ at_more shape specification turns right (n.0.depth + 1) l.nodes c.expand_listed.new.nodes extends i n.0 there in
     let deep = shallow_at (λ (n : Node). n.depth < a.steps) a.nodes.now a.first (length a.states.now) l.k n.0 c.requires.shallow c.loop-k-test.true n.1 in
-    let bad : IsBad shape specification turns right c.expand_listed.new.nodes c.in-Ok-Some.bad = record {
+    let bad : IsBad shape specification turns right rests c.expand_listed.new.nodes c.in-Ok-Some.bad = record {
       from = n.0;
       there = at;
       apart = subst (λ o. IfSome o (λ (b : Bad). AreApart b.choices.items)) c.in-Ok-Some.field-0-is c.in-Ok-Some.ensures.apart;
@@ -130,6 +139,7 @@ returns-in-Ok-Some-clause-stopped g c =
             (omega (arith, deep, ap (λ (n : Node). n.depth) same), subst (λ (x : Node). within (state_at shape x) ≡ true) same inside),
       );
       full = λ full. cc;
+      crowded = tt;
     }
 
 pub returns-in-Err-expand_listed-clause-stopped : goal.returns-in-Err-expand_listed-clause-stopped
@@ -140,6 +150,7 @@ returns-in-Err-expand_listed-clause-stopped g c =
     let specification = g.M.Machine.specification a.machine.now in
     let turns = g.M.Machine.turns a.machine.now in
     let right = g.M.Machine.right a.machine.now in
+    let rests = g.M.Machine.rests a.machine.now in
     let within = g.M.Machine.within a.machine.now in
     let i = a.first + l.k in
     let n = some_at a.nodes.now i (omega (arith, c.requires.first, c.loop-k-test.true)) in
@@ -148,13 +159,27 @@ returns-in-Err-expand_listed-clause-stopped g c =
     let extends = c.in-Err-expand_listed.ensures.extends n.0 there in
     let longer = long_more shape specification turns right (n.0.depth + 1) l.nodes c.expand_listed.new.nodes extends in
     let refused = c.cut_off-in-Err-expand_listed.ensures.refused in
+    let makes = g.M.Machine.made a.machine.now in
+    let limit = g.M.Machine.limit a.machine.now in
+    let A = state_of shape c.index-states-k.result in
+    let deep = shallow_at (λ (n : Node). n.depth < a.steps) a.nodes.now a.first (length a.states.now) l.k n.0 c.requires.shallow c.loop-k-test.true n.1 in
+    let here : n.0.state ≡ c.index-states-k.result =
+    sym (batch_at a.nodes.now a.first l.k a.states.now n.0 c.index-states-k.result c.requires.states c.loop-k-test.true n.1) ∙ sym c.index-states-k.is in
     record {
       some = omega (arith, longer, l.invariant.more, c.requires.first, c.loop-k-test.true);
       so_far = looked_same shape specification turns right within a.steps i n.0 (n.0.depth + 1) l.nodes c.expand_listed.new.nodes there refl extends (λ j k past here. (c.in-Err-expand_listed.ensures.begun j k past here, inside)) l.invariant.near l.invariant.looked;
       all = λ done. absurd (refused_done c.cut_off-in-Err-expand_listed.result refused done);
       closed = λ closed. absurd (refused_closed c.cut_off-in-Err-expand_listed.result refused closed);
       wrong = refused_bad _ c.cut_off-in-Err-expand_listed.result refused;
-      full = λ full. c.in-Err-expand_listed.ensures.full (c.cut_off-in-Err-expand_listed.ensures.states full);
+      full = λ full. halts_full (a.limit ≤ length c.expand_listed.new.nodes) (IsCrowdOf makes limit A) c.in-Err-expand_listed.halt (c.cut_off-in-Err-expand_listed.ensures.states full) c.in-Err-expand_listed.ensures.full;
+      crowded = ends_crowded (a.limit ≤ length c.expand_listed.new.nodes) (IsCrowdOf makes limit A) (λ crowd. (m : Node) × (slice_get c.expand_listed.new.nodes i ≡ Some m) × (m.depth < a.steps) × IsCrowdOf makes limit (state_at shape m) crowd)
+          c.cut_off-in-Err-expand_listed.result c.in-Err-expand_listed.halt c.cut_off-in-Err-expand_listed.ensures.crowd
+          (λ crowd so. (
+            n.0,
+            at_more shape specification turns right (n.0.depth + 1) l.nodes c.expand_listed.new.nodes extends i n.0 there,
+            deep,
+            subst (λ xs. IsCrowdOf makes limit (state_of shape xs) crowd) (sym here) so,
+          )) c.in-Err-expand_listed.ensures.full;
     }
 
 pub loop-k-preserved : goal.loop-k-preserved
@@ -165,6 +190,7 @@ loop-k-preserved g c =
     let specification = g.M.Machine.specification a.machine.now in
     let turns = g.M.Machine.turns a.machine.now in
     let right = g.M.Machine.right a.machine.now in
+    let rests = g.M.Machine.rests a.machine.now in
     let within = g.M.Machine.within a.machine.now in
     let i = a.first + l.k in
     let n = some_at a.nodes.now i (omega (arith, c.requires.first, c.loop-k-test.true)) in
@@ -175,6 +201,12 @@ loop-k-preserved g c =
     let expanded : Expanded shape specification turns c.expand_listed.new.nodes n.0 =
     subst (λ o. IfNone o ((n : Node) → slice_get l.nodes i ≡ Some n → Expanded shape specification turns c.expand_listed.new.nodes n)) c.in-Ok-None.field-0-is c.in-Ok-None.ensures.expanded n.0 there in
     let next : i + 1 ≡ a.first + (l.k + 1) = omega arith in
+    let deep = shallow_at (λ (n : Node). n.depth < a.steps) a.nodes.now a.first (length a.states.now) l.k n.0 c.requires.shallow c.loop-k-test.true n.1 in
+    let here : n.0.state ≡ c.index-states-k.result =
+    sym (batch_at a.nodes.now a.first l.k a.states.now n.0 c.index-states-k.result c.requires.states c.loop-k-test.true n.1) ∙ sym c.index-states-k.is in
+    let so : RestsSo specification turns rests (state_at shape n.0) i l.quiet.items c.expand_listed.new.quiet.items =
+    subst (λ xs. RestsSo specification turns rests (state_of shape xs) i l.quiet.items c.expand_listed.new.quiet.items) (sym here)
+    (subst (λ o. IfNone o (RestsSo specification turns rests (state_of shape c.index-states-k.result) i l.quiet.items c.expand_listed.new.quiet.items)) c.in-Ok-None.field-0-is c.in-Ok-None.ensures.rests) in
     let both = looked_more shape specification turns right within a.steps i n.0 (n.0.depth + 1) l.nodes c.expand_listed.new.nodes there refl extends (λ low there. expanded) (λ j k past here. (c.in-Ok-None.ensures.begun j k past here, inside)) l.invariant.near l.invariant.looked in
     record {
       room = c.in-Ok-None.ensures.room;
@@ -182,4 +214,39 @@ loop-k-preserved g c =
       same = λ j m here. at_more shape specification turns right (n.0.depth + 1) l.nodes c.expand_listed.new.nodes extends j m (l.invariant.same j m here);
       looked = subst (λ j. IsLooked shape specification turns right within a.steps j c.expand_listed.new.nodes) next both.0;
       near = subst (λ j. IsNear c.expand_listed.new.nodes j) next both.1;
+      rested = subst (λ j. IsRested shape specification turns rests within a.steps j c.expand_listed.new.nodes c.expand_listed.new.quiet.items) next
+          (rested_more shape specification turns rests within a.steps i n.0 l.nodes c.expand_listed.new.nodes extends.more l.quiet.items c.expand_listed.new.quiet.items there extends.is (deep, inside) so l.invariant.rested);
     }
+
+pub returns-in-Ok-Some-clause-rests : goal.returns-in-Ok-Some-clause-rests
+returns-in-Ok-Some-clause-rests g c =
+    let a = c.args in
+    let l = c.loop-k in
+    let shape = g.M.Machine.shape a.machine.now in
+    let specification = g.M.Machine.specification a.machine.now in
+    let turns = g.M.Machine.turns a.machine.now in
+    let rests = g.M.Machine.rests a.machine.now in
+    let within = g.M.Machine.within a.machine.now in
+    let i = a.first + l.k in
+    let n = some_at a.nodes.now i (omega (arith, c.requires.first, c.loop-k-test.true)) in
+    let there = l.invariant.same i n.0 n.1 in
+    let extends = c.in-Ok-Some.ensures.extends n.0 there in
+    rested_same shape specification turns rests within a.steps i l.nodes c.expand_listed.new.nodes extends.more l.quiet.items c.expand_listed.new.quiet.items
+    (omega (arith, slice_get_within l.nodes i n.0 there)) extends.is
+    (subst (λ o. IfSome o (λ (_ : Bad). c.expand_listed.new.quiet.items ≡ l.quiet.items)) c.in-Ok-Some.field-0-is c.in-Ok-Some.ensures.listed) l.invariant.rested
+
+pub returns-in-Err-expand_listed-clause-rests : goal.returns-in-Err-expand_listed-clause-rests
+returns-in-Err-expand_listed-clause-rests g c =
+    let a = c.args in
+    let l = c.loop-k in
+    let shape = g.M.Machine.shape a.machine.now in
+    let specification = g.M.Machine.specification a.machine.now in
+    let turns = g.M.Machine.turns a.machine.now in
+    let rests = g.M.Machine.rests a.machine.now in
+    let within = g.M.Machine.within a.machine.now in
+    let i = a.first + l.k in
+    let n = some_at a.nodes.now i (omega (arith, c.requires.first, c.loop-k-test.true)) in
+    let there = l.invariant.same i n.0 n.1 in
+    let extends = c.in-Err-expand_listed.ensures.extends n.0 there in
+    rested_same shape specification turns rests within a.steps i l.nodes c.expand_listed.new.nodes extends.more l.quiet.items c.expand_listed.new.quiet.items
+    (omega (arith, slice_get_within l.nodes i n.0 there)) extends.is c.in-Err-expand_listed.ensures.unlisted l.invariant.rested

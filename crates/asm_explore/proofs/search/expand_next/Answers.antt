@@ -3,6 +3,7 @@ use Rattle.std.proofs.lemmas.Bool.{false≢true}
 use Rattle.std.proofs.lemmas.Option.{slice_get_within}
 use Rattle.asm_explore.proofs.Batches.{no_items}
 use Rattle.asm_explore.proofs.Reaching.{looked_more, extends_none, some_at}
+use Rattle.asm_explore.proofs.Resting.{rested_past}
 use Rattle.asm_explore.proofs.search.expand_next.Goals as goal
 
 pub returns-then-states-eq0-clause-looked : goal.returns-then-states-eq0-clause-looked
@@ -36,3 +37,11 @@ returns-then-states-eq0-clause-near g c =
     (λ low inside. absurd (false≢true (sym (c.in-Ok.ensures.none empty n.0 n.1 low) ∙ inside)))
     (λ j k past here. absurd (omega (arith, past, slice_get_within a.nodes.now j k here))) c.requires.near c.requires.looked in
     both.1
+
+pub returns-then-states-eq0-clause-rested : goal.returns-then-states-eq0-clause-rested
+returns-then-states-eq0-clause-rested g c =
+    let a = c.args in
+    let n = some_at a.nodes.now a.expanded c.requires.expanded in
+    let empty = no_items c.as_slice-states.result.now c.in-Ok.states.items c.as_slice-states.ensures.value c.if-states-eq0.true in
+    rested_past (g.M.Machine.shape a.machine.now) (g.M.Machine.specification a.machine.now) (g.M.Machine.turns a.machine.now) (g.M.Machine.rests a.machine.now) (g.M.Machine.within a.machine.now) a.steps
+    a.expanded n.0 a.nodes.now a.quiet.now.items n.1 (λ at. absurd (false≢true (sym (c.in-Ok.ensures.none empty n.0 n.1 at.0) ∙ at.1))) c.requires.rested

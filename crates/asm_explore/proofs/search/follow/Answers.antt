@@ -3,9 +3,11 @@ use Rattle.asm_state.specs.Contents.{IsStateOf}
 use Rattle.asm_state.specs.Signature.{state_of}
 use Rattle.asm_state.specs.Updates.{fire}
 use Rattle.asm_updates.specs.Stands.{Stands}
-use Rattle.asm_explore.specs.declared.halt.Halt.TheVariants as halt
-use Rattle.asm_explore.specs.Lists.{Situation}
+use Rattle.asm_explore.specs.declared.refusal.Crowd.{Crowd}
+use Rattle.asm_explore.specs.Ends.{HaltsSo}
+use Rattle.asm_explore.specs.Lists.{Situation, AreTaken}
 use Rattle.asm_explore.specs.Reached.{Known, steps_from, state_at}
+use Rattle.asm_explore.specs.Search.{LeadsOn}
 use Rattle.asm_explore.proofs.Endings.{full_on}
 use Rattle.asm_explore.proofs.LinesTo.{some_script}
 use Rattle.asm_explore.proofs.Reaching.{set_leads, set_stands, set_wrong, path_wrong, some_at}
@@ -35,11 +37,11 @@ reach-requires-clause-leads g c = λ n there.
     let signature = c.signature-signature.result.now in
     let set = c.in-Set.updates in
     let outcome = c.requires.outcome n there in
-    let taken = some_script 1 a.one.now.choices.items c.requires.apart in
-    let s : Situation = record { script = taken.0; step = 1 } in
+    let leads : (s : Situation) → AreTaken s a.one.now.choices.items
+    → LeadsOn (steps_from (g.M.Machine.specification a.machine.now) (g.M.Machine.turns a.machine.now) (state_at shape n) s) (state_at shape n) (λ A. A ≡ state_of shape c.in_ok-next.next) = λ s taken.
     let r = steps_from (g.M.Machine.specification a.machine.now) (g.M.Machine.turns a.machine.now) (state_at shape n) s in
-    let leads = set_leads shape set a.one.now (state_at shape n) c.in_ok-next.next r (λ A. A ≡ state_of shape c.in_ok-next.next) c.in-Set.is
-    (outcome.1 s taken.1)
+    set_leads shape set a.one.now (state_at shape n) c.in_ok-next.next r (λ A. A ≡ state_of shape c.in_ok-next.next) c.in-Set.is
+    (outcome.1 s taken)
     (λ U stands. no_fault_found signature set.set U c.first_fault.result (sym c.if-is_some.ensures) c.first_fault.ensures.consistent
     (subst (λ s. Stands s set.set U) (sym c.signature-signature.ensures) stands))
     (λ U stands consistent.
@@ -47,7 +49,7 @@ reach-requires-clause-leads g c = λ n there.
     (c.in_ok-next.ensures.fired U (subst (λ s. Stands s set.set U) (sym c.signature-signature.ensures) stands) consistent)
     ∙ ap (λ xs. fire (state_of shape xs) U) (sym (c.requires.here n there)))
     refl in
-    (outcome.0, (s, leads))
+    (outcome.0, (a.one.now.choices.items, record { apart = c.requires.apart; leads = leads }))
 
 pub returns-in-Exhausted-clause-wrong : goal.returns-in-Exhausted-clause-wrong
 returns-in-Exhausted-clause-wrong g c = λ n there s taken.
@@ -101,4 +103,4 @@ returns-clause-wrong g c = λ n there s taken.
 
 pub returns-in_err-fine-clause-full : goal.returns-in_err-fine-clause-full
 returns-in_err-fine-clause-full g c =
-    full_on (λ h. h ≡ halt.States → c.args.limit ≤ length c.reach.new.nodes) c.reach.result c.from_residual-in_err-fine.result c.in_err-fine.field-0.0 c.in_err-fine.was c.from_residual-in_err-fine.ensures.1 c.reach.ensures.full
+    full_on (HaltsSo (c.args.limit ≤ length c.reach.new.nodes) (λ (_ : Crowd). ⊥)) c.reach.result c.from_residual-in_err-fine.result c.in_err-fine.field-0.0 c.in_err-fine.was c.from_residual-in_err-fine.ensures.1 c.reach.ensures.full

@@ -9,7 +9,8 @@ use Rattle.asm_explore.specs.Reached.{IsOutcome, IsBadStep, Known, state_at}
 use Rattle.asm_explore.specs.Search.{LeadsOn}
 use Rattle.asm_explore.proofs.ListLemmas.{each_at}
 use Rattle.asm_explore.proofs.Reaching.{begun_none, begun_both, extends_none, extends_both, outcome_more, bad_step_less, follows_none, follows_more, follows_all, shallow_more}
-use Rattle.asm_explore.specs.declared.halt.Halt.TheVariants as halt
+use Rattle.asm_explore.specs.declared.refusal.Crowd.{Crowd}
+use Rattle.asm_explore.specs.Ends.{HaltsSo}
 use Rattle.asm_explore.proofs.Endings.{full_on}
 use Rattle.asm_explore.proofs.search.follow_all.Goals as goal
 
@@ -80,8 +81,8 @@ returns-in-Some-clause-wrong g c =
       f,
       slice_get-get_or a.outcomes.now l.k f c.loop-k-test.true ∙ ap Some (sym c.index-outcomes-k.is),
       bad_step_less (g.M.Machine.shape a.machine.now) (g.M.Machine.specification a.machine.now) (g.M.Machine.turns a.machine.now) (g.M.Machine.right a.machine.now) a.below
-          a.nodes.now l.nodes l.invariant.extends a.from f.choices.items c.in-Some.fault c.requires.from
-          (subst (λ o. IfSome o (IsBadStep (g.M.Machine.shape a.machine.now) (g.M.Machine.specification a.machine.now) (g.M.Machine.turns a.machine.now) (g.M.Machine.right a.machine.now) l.nodes a.from f.choices.items)) c.in-Some.is c.in_ok-fault.ensures.wrong),
+          a.nodes.now l.nodes l.invariant.extends (g.M.Machine.rests a.machine.now) a.from f.choices.items c.in-Some.fault c.requires.from
+          (subst (λ o. IfSome o (IsBadStep (g.M.Machine.shape a.machine.now) (g.M.Machine.specification a.machine.now) (g.M.Machine.turns a.machine.now) (g.M.Machine.right a.machine.now) (g.M.Machine.rests a.machine.now) l.nodes a.from f.choices.items)) c.in-Some.is c.in_ok-fault.ensures.wrong),
     )
 
 pub returns-clause-leads : goal.returns-clause-leads
@@ -100,7 +101,7 @@ follow-requires-clause-near g c =
 
 pub returns-in_err-fault-clause-full : goal.returns-in_err-fault-clause-full
 returns-in_err-fault-clause-full g c =
-    full_on (λ h. h ≡ halt.States → c.args.limit ≤ length c.follow.new.nodes) c.follow.result c.from_residual.result c.in_err-fault.field-0.0 c.in_err-fault.was c.from_residual.ensures.1 c.follow.ensures.full
+    full_on (HaltsSo (c.args.limit ≤ length c.follow.new.nodes) (λ (_ : Crowd). ⊥)) c.follow.result c.from_residual.result c.in_err-fault.field-0.0 c.in_err-fault.was c.from_residual.ensures.1 c.follow.ensures.full
 
 pub follow-requires-clause-apart : goal.follow-requires-clause-apart
 follow-requires-clause-apart g c =

@@ -5,8 +5,8 @@ use Rattle.asm_explore.specs.Sequences.{IsTold}
 use Rattle.asm_explore.proofs.Sequenced.{ends_exhausted, ends_set, goes_set}
 use Rattle.asm_explore.proofs.sorting.sort_one.Goals as goal
 
-pub returns-in_ok-add-in-Exhausted : goal.returns-in_ok-add-in-Exhausted
-returns-in_ok-add-in-Exhausted c =
+pub returns-in_ok-add-in-Exhausted-clause-sorts : goal.returns-in_ok-add-in-Exhausted-clause-sorts
+returns-in_ok-add-in-Exhausted-clause-sorts c =
     let a = c.args in
     let joined : Found = record { choices = c.in_ok-choices.choices; answer = answer.Exhausted c.in_ok-path-in-Exhausted.path; hash = c.hash_of-hash.result } in
     record {
@@ -15,13 +15,13 @@ returns-in_ok-add-in-Exhausted c =
       counted = tt;
       went = inl (
         ends_exhausted a.signature.now a.turns a.so_far.now.set a.one.now joined c.in-Exhausted.path c.in_ok-path-in-Exhausted.path c.in-Exhausted.is refl c.in_ok-path-in-Exhausted.ensures,
-        c.in_ok-add-in-Exhausted.ensures,
+        c.in_ok-add-in-Exhausted.ensures.grows,
         refl,
       );
     }
 
-pub returns-in_ok-add-in-Set : goal.returns-in_ok-add-in-Set
-returns-in_ok-add-in-Set c =
+pub returns-in_ok-add-in-Set-clause-sorts : goal.returns-in_ok-add-in-Set-clause-sorts
+returns-in_ok-add-in-Set-clause-sorts c =
     let a = c.args in
     let joined : Found = record { choices = c.in_ok-choices.choices; answer = answer.Set c.in_ok-joined-in-Set.joined; hash = c.hash_of-hash-in-Set.result } in
     record {
@@ -31,13 +31,13 @@ returns-in_ok-add-in-Set c =
       went = inl (
         ends_set a.signature.now a.turns a.so_far.now.set a.one.now joined c.in-Set.set c.in_ok-joined-in-Set.joined c.in-Set.is refl c.in_ok-joined-in-Set.ensures.merges
             (subst (IsTold a.signature.now a.turns c.in-Set.set.set) c.if-last.true c.is_last-last.ensures),
-        c.in_ok-add-in-Set.ensures,
+        c.in_ok-add-in-Set.ensures.grows,
         refl,
       );
     }
 
-pub returns-in_ok-add-in-Set-2 : goal.returns-in_ok-add-in-Set-2
-returns-in_ok-add-in-Set-2 c =
+pub returns-in_ok-add-in-Set-2-clause-sorts : goal.returns-in_ok-add-in-Set-2-clause-sorts
+returns-in_ok-add-in-Set-2-clause-sorts c =
     let a = c.args in
     let joined : Found = record { choices = c.in_ok-choices.choices; answer = answer.Set c.in_ok-joined-in-Set.joined; hash = c.hash_of-hash-in-Set.result } in
     record {
@@ -47,7 +47,7 @@ returns-in_ok-add-in-Set-2 c =
       went = inr (
         goes_set a.signature.now a.turns a.so_far.now.set a.one.now joined c.in-Set.set c.in_ok-joined-in-Set.joined c.in-Set.is refl c.in_ok-joined-in-Set.ensures.merges
             (subst (IsTold a.signature.now a.turns c.in-Set.set.set) c.if-last.false c.is_last-last.ensures),
-        c.in_ok-add-in-Set-2.ensures,
+        c.in_ok-add-in-Set-2.ensures.grows,
         refl,
       );
     }

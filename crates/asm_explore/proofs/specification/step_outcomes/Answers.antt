@@ -10,11 +10,12 @@ use Rattle.asm_meaning.specs.Valued.{shown}
 use Rattle.asm_eval.specs.RuleMeaning.{IsSoundRule, meaning}
 use Rattle.asm_eval.specs.RuleViews.{rule_of}
 use Rattle.asm_explore.specs.Lists.{picked, Lists}
+use Rattle.asm_explore.specs.Made.{made_in}
 use Rattle.asm_explore.specs.Placed.{AreApart, IsPlaced}
 use Rattle.asm_explore.specs.Reached.{steps_from}
 use Rattle.asm_explore.proofs.ListLemmas.{lists_same}
 use Rattle.asm_explore.proofs.Placing.{have_weaker}
-use Rattle.asm_explore.proofs.Specifications.{nothing_over}
+use Rattle.asm_explore.proofs.Specifications.{nothing_over, refused_listed}
 use Rattle.asm_explore.proofs.specification.step_outcomes.Goals as goal
 
 pub outcomes-requires-clause-sound : goal.outcomes-requires-clause-sound
@@ -37,14 +38,35 @@ returns c =
     (λ U stands consistent. c.new-view.ensures.fired U stands consistent) in
     let steps = steps_from (specification_of s) m.turns (state_of shape a.state.now) in
     record {
-      lists = subst (λ sh. Lists sh steps c.in_ok-found.found.items) viewed
-          (lists_same _ _ steps c.in_ok-found.found.items
-          (λ q.
-          let o : Outcome = does (program_of s) m.turns q.script q.step A nothing_bound [] R in
-          ap (λ (o : Outcome). o.result)
-          (subst (λ (sh : Shape). meaning sh m.turns (picked q) (rule_of m.code.now) [] [] A [] ≡ o) (sym viewed)
-          (c.resolving_laws.ensures.means s R (rule_of m.code.now) m.turns q.script q.step A [] c.requires.sound.main))
-          ∙ ap (λ B. steps_from (specification_of s) m.turns B q) shows)
-          c.in_ok-found.ensures.lists);
-      apart = have_weaker (IsPlaced []) AreApart (λ cs placed. placed.apart) c.in_ok-found.found.items c.in_ok-found.ensures.placed;
+      step = record {
+        lists = subst (λ sh. Lists sh steps c.in_ok-found.found.items) viewed
+            (lists_same _ _ steps c.in_ok-found.found.items
+            (λ q.
+            let o : Outcome = does (program_of s) m.turns q.script q.step A nothing_bound [] R in
+            ap (λ (o : Outcome). o.result)
+            (subst (λ (sh : Shape). meaning sh m.turns (picked q) (rule_of m.code.now) [] [] A [] ≡ o) (sym viewed)
+            (c.resolving_laws.ensures.means s R (rule_of m.code.now) m.turns q.script q.step A [] c.requires.sound.main))
+            ∙ ap (λ B. steps_from (specification_of s) m.turns B q) shows)
+            c.in_ok-found.ensures.lists);
+        apart = have_weaker (IsPlaced []) AreApart (λ cs placed. placed.apart) c.in_ok-found.found.items c.in_ok-found.ensures.placed;
+      };
+      refuses = tt;
     }
+
+pub returns-in_err-found : goal.returns-in_err-found
+returns-in_err-found c =
+    let a = c.args in
+    let m = a.specified.now in
+    let s = spec_of m.checked.now.spec in
+    let shape = shape_of s in
+    let R = rule_of m.code.now in
+    let signature = c.signature-signature.result.now in
+    let same : signature ≡ shape = c.signature-signature.ensures in
+    let viewed : c.new-view.result.signature.now ≡ shape = c.new-view.ensures.parts.0 ∙ same in
+    let A = shown c.new-view.result in
+    let shows : A ≡ state_of shape a.state.now =
+    nothing_over signature shape c.new-nothing.result a.state.now A same (c.new-nothing.ensures.empty signature c.count.ensures.sound c.count.ensures.count)
+    (λ U stands consistent. c.new-view.ensures.fired U stands consistent) in
+    refused_listed shape (specification_of s) m.turns (made_in shape m.turns R) m.limit (state_of shape a.state.now)
+    c.from_residual.result c.in_err-found.field-0.0 c.from_residual.ensures.1
+    (made_in c.new-view.result.signature.now m.turns R A) (λ q i. made_in (viewed i) m.turns R (shows i) q) c.in_err-found.ensures.crowded

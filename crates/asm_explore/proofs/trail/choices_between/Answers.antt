@@ -3,10 +3,11 @@ use Rattle.std.proofs.lemmas.Bool.{false≢true}
 use Rattle.asm_state.specs.Signature.{count_of, state_of}
 use Rattle.asm_meaning.specs.Yields.{Result}
 use Rattle.asm_explore.specs.declared.found.Found.{Found}
-use Rattle.asm_explore.specs.Lists.{AreTaken, IsCounted, IsSound, Shows}
+use Rattle.asm_explore.specs.Lists.{Situation, AreTaken, IsCounted, IsSound, Shows}
 use Rattle.asm_explore.specs.Placed.{AreApart}
 use Rattle.asm_explore.specs.Reached.{steps_from}
 use Rattle.asm_explore.specs.Search.{LeadsOn}
+use Rattle.asm_explore.proofs.LinesTo.{some_script}
 use Rattle.asm_explore.proofs.ListLemmas.{each_at}
 use Rattle.asm_explore.proofs.Reaching.{each_taken, each_taken_more}
 use Rattle.asm_explore.proofs.Trails.{none_leads}
@@ -63,7 +64,9 @@ returns-clause-none g c = λ may.
     let shape = g.M.Machine.shape a.machine.now in
     let A = state_of shape a.from.now in
     let fs = c.in_ok-outcomes.outcomes.items in
-    let r = steps_from (g.M.Machine.specification a.machine.now) (g.M.Machine.turns a.machine.now) A may.0 in
+    let taken = some_script 1 may.0 may.1.apart in
+    let s : Situation = record { script = taken.0; step = 1 } in
+    let r = steps_from (g.M.Machine.specification a.machine.now) (g.M.Machine.turns a.machine.now) A s in
     none_leads shape fs r A (λ B. B ≡ state_of shape a.to.now)
     (each_taken (λ (f : Found). (r : Result) → Shows shape f.answer r → LeadsOn r A (λ B. B ≡ state_of shape a.to.now) → ⊥) fs c.loop-k.k (omega (arith, c.len-k-end.ensures, c.in_ok-outcomes.outcomes.ok.0)) c.loop-k.invariant)
-    (c.in_ok-outcomes.ensures.step.lists.complete may.0) may.1
+    (c.in_ok-outcomes.ensures.step.lists.complete s) (may.1.leads s taken.1)

@@ -1,11 +1,15 @@
-use Rattle.std.proofs.Common.{◌≡◌, ◌+◌, ◌∷◌, [], ◌∙◌, map, length, ap, sym, subst, arith, append-nil}
+use Rattle.std.proofs.Common.{◌≡◌, ℕ, ◌+◌, ◌∷◌, [], ◌∙◌, map, length, ap, sym, subst, arith, append-nil}
 use Rattle.std.specs.Prelude.{slice_get, Some, IfNone, IfSome}
 use Rattle.std.proofs.lemmas.List.{length-append}
 use Rattle.std.proofs.lemmas.Option.{slice_get_within}
 use Rattle.asm_state.specs.Contents.{IsStateOf}
 use Rattle.asm_state.specs.Signature.{state_of}
 use Rattle.asm_explore.specs.Kept.{Node}
-use Rattle.asm_explore.specs.Reached.{IsGood, LeadBetween, LeadTo, MayLead, state_at}
+use Rattle.asm_explore.specs.declared.refusal.Crowd.{Crowd}
+use Rattle.asm_explore.specs.Ends.{HaltsSo}
+use Rattle.asm_explore.specs.Steps.{IsCrowdOf}
+use Rattle.asm_explore.proofs.Endings.{errs_weaker, full_on}
+use Rattle.asm_explore.specs.Reached.{AtNode, IsGood, LeadBetween, LeadTo, MayLead, state_at}
 use Rattle.asm_explore.proofs.Batches.{same_node}
 use Rattle.asm_explore.proofs.Reaching.{each_got, some_at}
 use Rattle.asm_explore.proofs.Trails.{comes, is_first, leads_back}
@@ -138,3 +142,33 @@ returns-clause-leads g c = λ p last.
     let deep = l.invariant.deep m.0 n.0 m.1 n.1 in
     let first = is_first shape specification turns nodes c.requires.linked l.at m.0 m.1 (omega (arith, end, deep, c.loop-step-test.false)) in
     subst (LeadTo specification turns within (state_at shape p)) (append-nil (map (λ cs. cs.items) l.trail.items)) (l.invariant.leads [] m.0 p m.1 last first)
+
+pub returns-in_err-choices-clause-crowded : goal.returns-in_err-choices-clause-crowded
+returns-in_err-choices-clause-crowded g c =
+    let a = c.args in
+    let shape = g.M.Machine.shape a.machine.now in
+    let specification = g.M.Machine.specification a.machine.now in
+    let turns = g.M.Machine.turns a.machine.now in
+    let within = g.M.Machine.within a.machine.now in
+    let nodes = a.nodes.now in
+    let l = c.loop-step in
+    let m = some_at nodes l.at l.invariant.there in
+    let n = some_at nodes a.last c.requires.last in
+    let end = c.depth-step-end.ensures n.0 n.1 in
+    let deep = l.invariant.deep m.0 n.0 m.1 n.1 in
+    let from = comes shape specification turns nodes c.requires.linked l.at m.0 m.1 (omega (arith, end, deep, c.loop-step-test.true)) in
+    let e = from.earlier in
+    let at : slice_get nodes c.from-from.result ≡ Some e = ap (slice_get nodes) (c.from-from.ensures m.0 m.1) ∙ from.there in
+    let crowds = IsCrowdOf (g.M.Machine.made a.machine.now) (g.M.Machine.limit a.machine.now) in
+    let said : Crowd → Type 0 = λ crowd. (n : Node) → slice_get nodes a.last ≡ Some n → (number : ℕ) × AtNode shape crowds nodes number n.depth crowd in
+    full_on (HaltsSo ⊥ said) c.choices_between.result c.from_residual-in_err-choices.result c.in_err-choices.field-0.0 c.in_err-choices.was c.from_residual-in_err-choices.ensures.1
+    (errs_weaker ⊥ ⊥ (crowds (state_of shape c.in_ok-earlier.earlier)) said c.choices_between.result (λ none. none)
+    (λ crowd so k last. (
+      c.from-from.result,
+      (
+        e,
+        at,
+        omega (arith, end, deep, from.deeper, c.loop-step-test.true, ap (λ (n : Node). n.depth) (same_node nodes a.last n.0 k n.1 last)),
+        subst (λ xs. crowds (state_of shape xs) crowd) (c.in_ok-earlier.ensures e at) so,
+      ),
+    )) c.choices_between.ensures.crowded)

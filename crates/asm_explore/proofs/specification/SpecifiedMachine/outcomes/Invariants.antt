@@ -2,6 +2,8 @@ use Rattle.std.proofs.Common.{take}
 use Rattle.asm_syntax.specs.Views.{spec_of}
 use Rattle.asm_check.specs.Shapes.{shape_of}
 use Rattle.asm_meaning.specs.Declarations.{specification_of}
+use Rattle.asm_eval.specs.RuleViews.{rule_of}
+use Rattle.asm_explore.specs.Made.{made_in}
 use Rattle.asm_explore.specs.Steps.{AreListed}
 use Rattle.asm_explore.proofs.specification.SpecifiedMachine.outcomes.Given as goal
 
@@ -9,4 +11,5 @@ use Rattle.asm_explore.proofs.specification.SpecifiedMachine.outcomes.Given as g
 abbrev pub invariant-loop-k : goal.invariant-loop-k
 invariant-loop-k l =
     let s = spec_of l.self.checked.now.spec in
-    AreListed (shape_of s) (specification_of s) l.self.turns (take l.k l.states) l.all.items
+    let makes = made_in (shape_of s) l.self.turns (rule_of l.self.code.now) in
+    AreListed (shape_of s) (specification_of s) l.self.turns makes l.self.limit (take l.k l.states) l.all.items

@@ -1,0 +1,74 @@
+//! Quiet states: the step from one changes nothing, whatever is chosen.
+ghost use Rattle.std.specs.Prelude.{◌≡◌, ◌<◌, ◌↔◌, [], IsTrue, IfOk, IfErr, IfSome, IfNone};
+ghost use Rattle.asm_state.specs.Contents.{IsStateOf};
+ghost use Rattle.asm_state.specs.Signature.{state_of};
+ghost use Rattle.asm_explore.specs.declared.fault.Fault.TheVariants as fault;
+ghost use Rattle.asm_explore.specs.Ends.{HaltsSo};
+ghost use Rattle.asm_explore.specs.Quiet.{RestsSo};
+ghost use Rattle.asm_explore.specs.Search.{IsQuiet, IsDeadlock};
+ghost use Rattle.asm_explore.specs.Steps.{IsStep};
+
+use crate::explored::Bad;
+use crate::fault::Fault;
+use crate::found::Found;
+use crate::halt::Halt;
+use crate::machine::Machine;
+use crate::trail::leads;
+use asm_state::state::State;
+use std::alloc::{AllocError, Global};
+
+/// Whether each outcome of the step from a state leaves it as it is.
+fn is_quiet<M: Machine>(
+    alloc: Global,
+    machine: &M,
+    state: &State,
+    outcomes: &[Found],
+) -> Result<bool, AllocError>
+    requires state { IsStateOf (M.shape machine.now) state.now }
+    requires step { IsStep (M.shape machine.now) (M.specification machine.now) (M.turns machine.now) (state_of (M.shape machine.now) state.now) outcomes.now }
+    ensures { IfOk result (λ so. IsTrue so ↔ IsQuiet (M.specification machine.now) (M.turns machine.now) (state_of (M.shape machine.now) state.now)) }
+{
+    let signature = machine.signature();
+    for k in 0..outcomes.len() {
+        let one = &outcomes[k];
+        if !leads(alloc, signature, one, state, state)? {
+            return Ok(false);
+        }
+    }
+    Ok(true)
+}
+
+/// Lists the number of a node if its state is quiet. Answers what is wrong with it where a run may
+/// not rest in it.
+pub(crate) fn rest<M: Machine>(
+    alloc: Global,
+    machine: &M,
+    from: usize,
+    state: &State,
+    outcomes: &[Found],
+    quiet: &mut Vec<u32>,
+) -> Result<Option<Bad>, Halt>
+    requires machine { M.is_sound machine.now }
+    requires from { from < 4_294_967_296 }
+    requires state { IsStateOf (M.shape machine.now) state.now }
+    requires step { IsStep (M.shape machine.now) (M.specification machine.now) (M.turns machine.now) (state_of (M.shape machine.now) state.now) outcomes.now }
+    ensures rests { IfOk result (λ bad. IfNone bad (RestsSo (M.specification machine.now) (M.turns machine.now) (M.rests machine.now) (state_of (M.shape machine.now) state.now) from quiet.old.items quiet.new.items)) }
+    ensures wrong { IfOk result (λ bad. IfSome bad (λ b. (b.from ≡ from) × (b.choices.items ≡ []) × (b.fault ≡ fault.Deadlock)
+        × IsDeadlock (M.specification machine.now) (M.turns machine.now) (M.rests machine.now) (state_of (M.shape machine.now) state.now))) }
+    ensures listed { IfOk result (λ bad. IfSome bad (λ _. quiet.new.items ≡ quiet.old.items)) }
+    ensures unlisted { IfErr result (λ _. quiet.new.items ≡ quiet.old.items) }
+    ensures never { IfErr result (HaltsSo ⊥ (λ _. ⊥)) }
+{
+    if !is_quiet(alloc, machine, state, outcomes)? {
+        return Ok(None);
+    }
+    if !machine.may_rest(alloc, state) {
+        return Ok(Some(Bad {
+            from,
+            choices: Vec::new(alloc),
+            fault: Fault::Deadlock,
+        }));
+    }
+    quiet.push(from as u32)?;
+    Ok(None)
+}
