@@ -1,4 +1,5 @@
-"""The program that the tests run, and what it answers to a text."""
+"""The programs that the tests run, and what they answer to a text."""
+import contextlib
 import os
 import pathlib
 import subprocess
@@ -35,17 +36,26 @@ def shortened(text):
     return repr(text) if len(text) <= 200 else f"{text[:100]!r} .. {text[-100:]!r} ({len(text)} bytes)"
 
 
-def program(word=None):
-    """The file of the program that this word of the command line names, or else of the one that is of these sources."""
+def program(word=None, name="asm"):
+    """The file of the program that this word of the command line names, or else of the one of this name that is of these sources."""
     if word:
         found = os.path.abspath(word)
         if not os.access(found, os.X_OK):
             sys.exit(f"{found}: no program is there")
         return found
-    asked = subprocess.run([ROOT / "release" / "which", "asm"], stdout=subprocess.PIPE, text=True)
+    asked = subprocess.run([ROOT / "release" / "which", name], stdout=subprocess.PIPE, text=True)
     if asked.returncode != 0:
         sys.exit("./build makes the program")
     return asked.stdout.split("\n")[0]
+
+
+def built(name):
+    """The two files of the program of this name that .ci/prove has built of these sources, as LLVM makes it and as Rattle's own compiler does."""
+    asked = subprocess.run([ROOT / "release" / "which", "--built", name], stdout=subprocess.PIPE, text=True)
+    if asked.returncode != 0:
+        sys.exit(1)
+    by_llvm = asked.stdout.split("\n")[0]
+    return [by_llvm, f"{by_llvm}.by-rattle"]
 
 
 def answer(words, text=b"", script=None, **given):
@@ -56,6 +66,32 @@ def answer(words, text=b"", script=None, **given):
         file.write(script)
         file.flush()
         return run([*words, "--script", file.name], text, given)
+
+
+def answer_among(files, words, text, input=None, output=None, error=None):
+    """What the words answer in a folder with these files, and nothing of what goes to a file of the system. The text is standard input, if
+    that isn't another file of the system."""
+    with tempfile.TemporaryDirectory() as folder, contextlib.ExitStack() as streams:
+
+        def stream(path, flags):
+            number = os.open(path, flags)
+            streams.callback(os.close, number)
+            return number
+
+        given = pathlib.Path(folder, "standard input")
+        given.write_text(text)
+        for name, content in files.items():
+            pathlib.Path(folder, name).write_text(content)
+        streams_given = {
+            "stdin": stream(input or given, os.O_RDONLY),
+            "stdout": stream(output, os.O_WRONLY) if output else subprocess.PIPE,
+            "stderr": stream(error, os.O_WRONLY) if error else subprocess.PIPE,
+        }
+        try:
+            ran = subprocess.run(words, cwd=folder, timeout=LONGEST, **streams_given)
+        except subprocess.TimeoutExpired:
+            return HANGS
+    return Answer(ran.returncode, ran.stdout or b"", ran.stderr or b"")
 
 
 def run(words, text, given):

@@ -1,0 +1,10 @@
+mod Decoding
+mod JoinedTerms
+mod LineParts
+mod Links
+mod Printed
+mod RunMore
+mod Skipped
+mod Spelled
+mod Told
+mod Views

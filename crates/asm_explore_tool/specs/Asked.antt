@@ -1,0 +1,42 @@
+-- What is asked of a specification, by the bytes of its text and of conditions, and what is found.
+--     IsAsked        the specification of the text, and a question with the terms of the conditions
+--     IsExplored     what the answer claims of the runs of the specification with this text
+use Rattle.std.specs.Prelude.{◌≡◌, ℕ, List, length, Some}
+use Rattle.std.specs.List.{list_all}
+use Rattle.asm_state.specs.Location.{State}
+use Rattle.asm_state.specs.declared.operation.Op.{Op}
+use Rattle.asm_syntax.specs.Views.{spec_of}
+use Rattle.asm_syntax.specs.declared.term.Term.{Term}
+use Rattle.asm_meaning.specs.Declarations.{specification_of}
+use Rattle.asm_run.specs.Headline.{IsAccepted}
+use Rattle.asm_explore.specs.Answers.{IsAnswer}
+use Rattle.asm_explore.specs.Conditions.{term_holds}
+use Rattle.asm_explore.specs.MainRule.{IsCrowdedMain}
+use Rattle.asm_explore.specs.declared.answer.Answered.{Answered}
+use Rattle.asm_explore_tool.specs.Conditions.{AreConditionsOf, IsJoined, MayBeConditionOf, text_of, texts_of}
+use Rattle.asm_explore_tool.specs.declared.asked.Asked.{Asked}
+use Rattle.asm_explore_tool.specs.declared.conditions.Conditions.{Conditions}
+use Rattle.asm_explore_tool.specs.declared.settings.Settings.{Settings}
+
+pub record IsAsked (text : List ℕ) (conditions : Conditions) (settings : Settings) (asked : Asked) : Type 0 where
+  pub accepted : IsAccepted text (spec_of asked.checked.spec)
+  pub links : List (Op × Term)
+  pub always : AreConditionsOf text (length asked.checked.spec.items.items) (texts_of conditions.always.items) links
+  pub joined : IsJoined links asked.question.always
+  -- all of them hold just where the one that is asked holds
+  pub all : (A : State) → term_holds asked.checked asked.question.always A ≡ list_all (λ link. term_holds asked.checked (Some link.1) A) links
+  pub when_quiet : MayBeConditionOf text (length asked.checked.spec.items.items) (text_of conditions.when_quiet) asked.question.when_quiet
+  pub within : MayBeConditionOf text (length asked.checked.spec.items.items) (text_of conditions.within) asked.question.within
+  pub turns : asked.question.turns ≡ settings.turns
+  pub steps : asked.question.steps ≡ settings.steps
+  pub states : asked.question.states ≡ settings.states
+  pub outcomes : asked.question.outcomes ≡ settings.outcomes
+
+-- what the answer claims of the runs of the specification with this text
+pub record IsExplored (text : List ℕ) (conditions : Conditions) (settings : Settings) (answer : Answered) : Type 0 where
+  pub asked : Asked
+  pub is_asked : IsAsked text conditions settings asked
+  pub claims :
+      let q = asked.question in
+      IsAnswer (specification_of (spec_of asked.checked.spec)) q.turns (IsCrowdedMain asked.checked q.turns q.outcomes) q.steps q.states
+      (term_holds asked.checked q.always) (term_holds asked.checked q.when_quiet) (term_holds asked.checked q.within) answer

@@ -1,0 +1,13 @@
+-- The statuses of faults.
+use Rattle.std.specs.Prelude.{ℕ}
+use Rattle.asm_explore_tool.specs.declared.fault.Fault.{Fault}
+use Rattle.asm_explore_tool.specs.declared.fault.Fault.TheVariants as fault
+
+abbrev pub status_of_fault : Fault → ℕ
+status_of_fault (fault.Words error) = 4
+status_of_fault fault.NotText = 4
+status_of_fault (fault.Text refused) = 2
+status_of_fault fault.Memory = 3
+status_of_fault (fault.File source) = 3
+status_of_fault fault.Write = 3
+status_of_fault fault.Unconfirmed = 3

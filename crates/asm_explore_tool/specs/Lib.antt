@@ -1,0 +1,9 @@
+pub mod Asked
+pub mod Comments
+pub mod Conditions
+pub mod Faults
+pub mod FirstLine
+pub mod Positions
+pub mod Replay
+pub mod Report
+pub mod Words

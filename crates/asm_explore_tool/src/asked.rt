@@ -1,0 +1,88 @@
+//! What is asked of a specification, from the texts.
+ghost use Rattle.std.specs.Prelude.{IfOk};
+ghost use Rattle.asm_syntax.specs.Views.{spec_of};
+ghost use Rattle.asm_run.specs.Headline.{IsAccepted};
+ghost use Rattle.asm_explore_tool.specs.Asked.{IsAsked};
+
+use crate::conditions::{Conditions, joined, links, optional_term};
+use crate::fault::{Fault, RefusedText, Source, TextError};
+use crate::laws::joined_law;
+use crate::settings::Settings;
+use asm_check::{Checked, check};
+use asm_explore::Question;
+use asm_reader::read;
+use asm_syntax::Refused;
+use std::alloc::{AllocError, Global};
+
+/// A specification, and what is looked for in it.
+#[derive(Drop)]
+pub struct Asked {
+    pub checked: Checked,
+    pub question: Question,
+}
+
+/// The fault of a specification's text that is refused.
+fn refused<'w>(
+    alloc: Global,
+    text: &[u8],
+    name: &'w str,
+    error: TextError,
+    at: Option<usize>,
+) -> Fault<'w> {
+    match Vec::from_slice(alloc, text) {
+        Ok(text) => Fault::Text(RefusedText {
+            source: Source::Specification(name),
+            text,
+            error,
+            at,
+        }),
+        Err(AllocError) => Fault::Memory,
+    }
+}
+
+/// The specification with this text.
+fn checked<'w>(alloc: Global, text: &[u8], name: &'w str) -> Result<Checked, Fault<'w>>
+    ensures { IfOk result (λ checked. IsAccepted text.now (spec_of checked.spec)) }
+{
+    let tree = match read(alloc, text) {
+        Ok(tree) => tree,
+        Err(Refused::Memory) => return Err(Fault::Memory),
+        Err(Refused::Named(error)) => {
+            let at = error.at();
+            return Err(refused(alloc, text, name, TextError::Read(error), at));
+        }
+    };
+    match check(alloc, tree) {
+        Ok(checked) => Ok(checked),
+        Err(Refused::Memory) => Err(Fault::Memory),
+        Err(Refused::Named(error)) => {
+            let at = Some(error.at);
+            Err(refused(alloc, text, name, TextError::Check(error), at))
+        }
+    }
+}
+
+/// What the settings ask of the specification with this text, by these conditions.
+pub fn ask<'w>(
+    alloc: Global,
+    text: &[u8],
+    conditions: &Conditions<'w>,
+    settings: &Settings<'w>,
+) -> Result<Asked, Fault<'w>>
+    ensures { IfOk result (IsAsked text.now conditions.now settings.now) }
+{
+    let checked = checked(alloc, text, settings.spec)?;
+    joined_law(&checked);
+    let items = checked.spec.items.len();
+    let links = links(alloc, text, items, conditions.always.as_slice())?;
+    let question = Question {
+        always: joined(alloc, links)?,
+        within: optional_term(alloc, text, items, &conditions.within)?,
+        when_quiet: optional_term(alloc, text, items, &conditions.when_quiet)?,
+        turns: settings.turns,
+        steps: settings.steps,
+        states: settings.states,
+        outcomes: settings.outcomes as usize,
+    };
+    Ok(Asked { checked, question })
+}

@@ -1,0 +1,61 @@
+//! The message on standard error.
+use crate::excerpt::excerpt;
+use crate::fault::{Fault, RefusedText, Source};
+use crate::position::{Line, Position};
+use crate::texts::Texts;
+use asm_run::sink::Sink;
+use std::fmt;
+use std::fmt::{Display, Formatter, Write};
+
+/// Says why the program ends without an answer. Where even this can't be written, the status alone
+/// tells.
+pub(crate) fn explain<E: Sink>(fault: &Fault<'_>, err: &mut E) {
+    let mut out = Texts::new(err);
+    let _ = message(fault, &mut out).and_then(|()| out.hand_on());
+}
+
+fn message<W: Write>(fault: &Fault<'_>, out: &mut W) -> fmt::Result {
+    match fault {
+        Fault::Words(error) => write!(out, "{error}"),
+        Fault::NotText => out.write_str("asm-explore: a word isn't UTF-8\n"),
+        Fault::Text(refused) => refusal(refused, out),
+        Fault::Memory => out.write_str("asm-explore: out of memory\n"),
+        Fault::File(source) => unreadable(*source, out),
+        Fault::Write => out.write_str("asm-explore: the answer can't be written\n"),
+        Fault::Unconfirmed => {
+            out.write_str("asm-explore: an error of this program: the script leads to no fault\n")
+        }
+    }
+}
+
+fn unreadable<W: Write>(source: Source<'_>, out: &mut W) -> fmt::Result {
+    match source {
+        Source::Specification("-") => out.write_str("asm-explore: standard input can't be read\n"),
+        _ => writeln!(out, "asm-explore: {source}: the file can't be read"),
+    }
+}
+
+/// Writes what is wrong with a text, and the line where it is.
+fn refusal<W: Write>(refused: &RefusedText<'_>, out: &mut W) -> fmt::Result {
+    let source = refused.source;
+    let error = refused.error;
+    let Some(at) = refused.at else {
+        return writeln!(out, "{source}: {error}");
+    };
+    let text = refused.text.as_slice();
+    let Position { line, column } = Position::of(text, at);
+    writeln!(out, "{source}:{line}:{column}: {error}")?;
+    excerpt(&Line::with(text, at), out)
+}
+
+impl Display for Source<'_> {
+    fn fmt<W: Write>(&self, f: &mut Formatter<W>) -> fmt::Result {
+        match *self {
+            Source::Specification("-") => f.write_str("standard input"),
+            Source::Specification(name) | Source::AlwaysFile(name) => f.write_str(name),
+            Source::Always(number) => write!(f, "condition {number}"),
+            Source::DeadlockUnless => f.write_str("--deadlock-unless"),
+            Source::Within => f.write_str("--within"),
+        }
+    }
+}

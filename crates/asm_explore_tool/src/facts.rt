@@ -1,0 +1,167 @@
+//! What is printed behind the first line of an answer.
+use crate::conditions::{Condition, Conditions};
+use crate::confirm::steps_shown;
+use crate::settings::Settings;
+use asm_explore::{Answered, Finding};
+use std::alloc::{AllocError, Global};
+
+/// So many bytes of a condition are shown.
+const SHOWN: usize = 200;
+
+/// Adds a line.
+fn add(lines: &mut Vec<Vec<u8>>, line: String) -> Result<(), AllocError> {
+    lines.push(line.into_bytes())?;
+    Ok(())
+}
+
+/// Adds a line with a condition's text, or the front of a long one.
+fn add_condition(
+    alloc: Global,
+    lines: &mut Vec<Vec<u8>>,
+    name: String,
+    condition: &Condition<'_>,
+) -> Result<(), AllocError> {
+    let mut line = name.into_bytes();
+    let text = condition.text.as_slice();
+    line.extend_from_slice(b": ")?;
+    let cut = if text.len() > SHOWN {
+        text.get(..SHOWN)
+    } else {
+        None
+    };
+    match cut {
+        Some(front) => {
+            line.extend_from_slice(front)?;
+            line.extend_from_slice(b" ..")?;
+        }
+        None => line.extend_from_slice(text)?,
+    }
+    lines.push(line)?;
+    Ok(())
+}
+
+/// Adds the conditions.
+fn add_conditions(
+    alloc: Global,
+    lines: &mut Vec<Vec<u8>>,
+    conditions: &Conditions<'_>,
+) -> Result<(), AllocError> {
+    let always = conditions.always.as_slice();
+    for k in 0..always.len() {
+        let number = k + 1;
+        let name = format!(in alloc; "condition {number}")?;
+        add_condition(alloc, lines, name, &always[k])?;
+    }
+    if let Some(condition) = &conditions.when_quiet {
+        add_condition(
+            alloc,
+            lines,
+            String::from_str(alloc, "deadlock unless")?,
+            condition,
+        )?;
+    }
+    if let Some(condition) = &conditions.within {
+        add_condition(alloc, lines, String::from_str(alloc, "within")?, condition)?;
+    }
+    Ok(())
+}
+
+/// Adds the line that says which faults were looked for.
+fn add_looked_for(
+    alloc: Global,
+    lines: &mut Vec<Vec<u8>>,
+    conditions: &Conditions<'_>,
+) -> Result<(), AllocError> {
+    let mut line = String::from_str(alloc, "looked for: clash, outside, exhausted")?;
+    for number in 1..=conditions.always.len() {
+        line.push_str(format!(in alloc; ", condition {number}")?.as_str())?;
+    }
+    if conditions.when_quiet.is_some() {
+        line.push_str(", deadlock")?;
+    }
+    add(lines, line)
+}
+
+/// Adds the counts.
+fn add_counts(
+    alloc: Global,
+    lines: &mut Vec<Vec<u8>>,
+    answered: &Answered,
+) -> Result<(), AllocError> {
+    let Answered {
+        states,
+        depth,
+        outcomes,
+        widest,
+        quiet,
+        ..
+    } = answered;
+    add(lines, format!(in alloc; "states {states}")?)?;
+    add(lines, format!(in alloc; "steps {outcomes}")?)?;
+    add(lines, format!(in alloc; "depth {depth}")?)?;
+    add(lines, format!(in alloc; "widest {widest}")?)?;
+    add(lines, format!(in alloc; "quiet {quiet}")?)
+}
+
+/// Adds the line that says of which rule a step has too many outcomes.
+fn add_crowd(alloc: Global, lines: &mut Vec<Vec<u8>>, finding: &Finding) -> Result<(), AllocError> {
+    let Finding::TooManyOutcomes { crowd, .. } = finding else {
+        return Ok(());
+    };
+    let mut line = String::from_str(alloc, "too many at place ")?;
+    push_path(alloc, &mut line, crowd.path.as_slice())?;
+    let (first, others) = (crowd.first, crowd.others);
+    line.push_str(format!(in alloc; ": {first} outcomes beside {others}")?.as_str())?;
+    add(lines, line)
+}
+
+/// Adds a path: `-`, or its numbers with a dot between each two.
+fn push_path(alloc: Global, line: &mut String, path: &[u64]) -> Result<(), AllocError> {
+    let [first, rest @ ..] = path else {
+        return line.push_str("-");
+    };
+    line.push_str(format!(in alloc; "{first}")?.as_str())?;
+    for number in rest {
+        line.push_str(format!(in alloc; ".{number}")?.as_str())?;
+    }
+    Ok(())
+}
+
+/// Adds the line that shows how the run under the script is made by `asm`.
+fn add_command(
+    alloc: Global,
+    lines: &mut Vec<Vec<u8>>,
+    settings: &Settings<'_>,
+    finding: &Finding,
+) -> Result<(), AllocError> {
+    let Finding::Bad(bad) = finding else {
+        return Ok(());
+    };
+    let steps = steps_shown(bad.fault, bad.step);
+    let mut line = format!(in alloc; "asm --steps {steps} --script THIS")?;
+    if settings.turns != 1000 {
+        let turns = settings.turns;
+        line.push_str(format!(in alloc; " --turns {turns}")?.as_str())?;
+    }
+    if settings.spec != "-" {
+        line.push_str(" ")?;
+        line.push_str(settings.spec)?;
+    }
+    add(lines, line)
+}
+
+/// What is said behind the first line.
+pub(crate) fn facts(
+    alloc: Global,
+    conditions: &Conditions<'_>,
+    settings: &Settings<'_>,
+    answered: &Answered,
+) -> Result<Vec<Vec<u8>>, AllocError> {
+    let mut lines = Vec::new(alloc);
+    add_crowd(alloc, &mut lines, &answered.finding)?;
+    add_conditions(alloc, &mut lines, conditions)?;
+    add_looked_for(alloc, &mut lines, conditions)?;
+    add_counts(alloc, &mut lines, answered)?;
+    add_command(alloc, &mut lines, settings, &answered.finding)?;
+    Ok(lines)
+}

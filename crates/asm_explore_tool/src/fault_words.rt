@@ -1,0 +1,107 @@
+//! The fault that is found, in words.
+ghost use Rattle.std.specs.Prelude.{◌≡◌, List, length, IfOk};
+ghost use Rattle.std.specs.String.{string_bytes};
+ghost use Rattle.asm_state.specs.Signature.{count_of, state_of};
+ghost use Rattle.asm_state.specs.declared.operation.Op.{Op};
+ghost use Rattle.asm_syntax.specs.Views.{spec_of};
+ghost use Rattle.asm_syntax.specs.declared.term.Term.{Term};
+ghost use Rattle.asm_check.specs.Shapes.{shape_of};
+ghost use Rattle.asm_reader.specs.ScriptLines as lines;
+ghost use Rattle.asm_reader.specs.ScriptText.{IsScript};
+ghost use Rattle.asm_meaning.specs.Declarations.{specification_of};
+ghost use Rattle.asm_explore_tool.specs.Conditions.{IsJoined};
+ghost use Rattle.asm_explore_tool.specs.Replay.{IsAfter};
+ghost use Rattle.asm_explore_tool.specs.Words.{BadTells, IsBroken, WordsTell, shown_after};
+
+use crate::asked::Asked;
+use crate::broken::broken_in;
+use crate::confirm::{end_words, steps_shown};
+use crate::fault::Fault;
+use crate::replay::state_after;
+use asm_explore::{BadRun, Fault as StepFault, Finding};
+use asm_reader::{one_script, read_script};
+use asm_state::state::State;
+use asm_syntax::Refused;
+use std::alloc::Global;
+use std::thread::Threads;
+
+/// The words for a state in which a condition isn't true.
+fn words_in<'w>(alloc: Global, asked: &Asked, state: &State) -> Result<Vec<u8>, Fault<'w>>
+    requires { length state.now ≡ count_of (shape_of (spec_of asked.now.checked.spec)) }
+    ensures { (links : List (Op × Term)) → IsJoined links asked.now.question.always →
+        IfOk result (λ words. IsBroken asked.now.checked links (state_of (shape_of (spec_of asked.now.checked.spec)) state.now) words.items) }
+{
+    match broken_in(alloc, &asked.checked, &asked.question.always, state)? {
+        Some(words) => Ok(words),
+        None => Err(Fault::Unconfirmed),
+    }
+}
+
+/// The last state of the run under the script that was found.
+fn last_state<'w>(alloc: Global, asked: &Asked, bad: &BadRun) -> Result<State, Fault<'w>>
+    ensures whole { IfOk result (λ s. length s ≡ count_of (shape_of (spec_of asked.now.checked.spec))) }
+    ensures after { let s = spec_of asked.now.checked.spec in (script : lines.Script) → IsScript (string_bytes bad.now.script) script →
+        IfOk result (λ A. IsAfter (specification_of s) asked.now.question.turns script (shown_after bad.now.fault bad.now.step) (state_of (shape_of s) A)) }
+{
+    let Ok(steps) = u32::try_from(steps_shown(bad.fault, bad.step)) else {
+        return Err(Fault::Unconfirmed);
+    };
+    one_script();
+    let script = match read_script(alloc, bad.script.as_bytes()) {
+        Ok(script) => script,
+        Err(Refused::Memory) => return Err(Fault::Memory),
+        Err(Refused::Named(_)) => return Err(Fault::Unconfirmed),
+    };
+    match state_after(alloc, &asked.checked, asked.question.turns, &script, steps)? {
+        Some(state) => Ok(state),
+        None => Err(Fault::Unconfirmed),
+    }
+}
+
+/// The words for a run that goes wrong. The run is made again.
+fn bad_words<'w, R: Threads + Sync>(
+    rt: &R,
+    alloc: Global,
+    text: &[u8],
+    asked: &Asked,
+    bad: &BadRun,
+) -> Result<Vec<u8>, Fault<'w>>
+    ensures { (links : List (Op × Term)) → IsJoined links asked.now.question.always →
+        IfOk result (λ words. BadTells asked.now.checked links asked.now.question.turns bad.now words.items) }
+{
+    let end = end_words(rt, alloc, text, asked.question.turns, bad)?;
+    match bad.fault {
+        StepFault::Exhausted | StepFault::Inconsistent => Ok(end),
+        StepFault::Wrong => {
+            let last = last_state(alloc, asked, bad)?;
+            words_in(alloc, asked, &last)
+        }
+        StepFault::Deadlock => Ok(Vec::from_slice(alloc, b"deadlock")?),
+    }
+}
+
+/// The words for the fault that is found, if there is one.
+pub(crate) fn fault_words<'w, R: Threads + Sync>(
+    rt: &R,
+    alloc: Global,
+    text: &[u8],
+    asked: &Asked,
+    finding: &Finding,
+) -> Result<Vec<u8>, Fault<'w>>
+    ensures { (links : List (Op × Term)) → IsJoined links asked.now.question.always →
+        IfOk result (λ words. WordsTell asked.now.checked links asked.now.question.turns finding.now words.items) }
+{
+    match finding {
+        Finding::Bad(bad) => bad_words(rt, alloc, text, asked, bad),
+        Finding::WrongFirst => {
+            let first = State::initial(alloc, asked.checked.signature())?;
+            words_in(alloc, asked, &first)
+        }
+        Finding::Unwritten(_) => Ok(Vec::from_slice(alloc, b"its script can't be written")?),
+        Finding::Closed
+        | Finding::SafeTo(_)
+        | Finding::TooManyStates(_)
+        | Finding::TooManyOutcomes { .. }
+        | Finding::NoMemory(_) => Ok(Vec::new(alloc)),
+    }
+}

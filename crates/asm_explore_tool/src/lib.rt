@@ -1,0 +1,28 @@
+//! The program `asm-explore` over any reader and writers: its words, its files, what it prints and
+//! its status.
+#![tactic(auto)]
+
+pub mod asked;
+mod broken;
+mod characters;
+mod comment;
+pub mod condition;
+pub mod conditions;
+mod confirm;
+mod excerpt;
+mod explain;
+mod facts;
+pub mod fault;
+mod fault_words;
+mod first_line;
+mod help;
+pub mod laws;
+mod position;
+mod replay;
+pub mod report;
+mod sentences;
+pub mod settings;
+pub mod status;
+mod texts;
+mod value_text;
+pub mod words;

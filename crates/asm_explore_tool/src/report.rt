@@ -1,0 +1,96 @@
+//! What is printed of an answer.
+ghost use Rattle.std.specs.Prelude.{◌≡◌, ◌∷◌, List, IfOk};
+ghost use Rattle.asm_state.specs.declared.operation.Op.{Op};
+ghost use Rattle.asm_syntax.specs.declared.term.Term.{Term};
+ghost use Rattle.asm_explore_tool.specs.Conditions.{IsJoined};
+ghost use Rattle.asm_explore_tool.specs.Report.{IsReport, IsWholeOr, script_of as found_script, status_of as found_status};
+ghost use Rattle.asm_explore_tool.specs.Comments.{comments as comments_of, lines_of};
+
+use crate::asked::Asked;
+use crate::comment::comments;
+use crate::conditions::Conditions;
+use crate::facts::facts;
+use crate::fault::Fault;
+use crate::fault_words::fault_words;
+use crate::first_line::first_line;
+use crate::settings::Settings;
+use asm_explore::{Answered, Finding};
+use std::alloc::{AllocError, Global};
+use std::thread::Threads;
+
+/// So many bytes a script may have.
+const MAX_SCRIPT: usize = 1_048_576;
+
+/// What the program prints, and its status.
+#[derive(Drop)]
+pub struct Report {
+    pub text: Vec<u8>,
+    pub status: u8,
+}
+
+/// The status of what is found.
+fn status_of(finding: &Finding) -> u8
+    ensures { result ≡ found_status finding.now }
+{
+    match finding {
+        Finding::Closed | Finding::SafeTo(_) => 0,
+        Finding::Bad(_) | Finding::WrongFirst | Finding::Unwritten(_) => 1,
+        Finding::TooManyStates(_) | Finding::TooManyOutcomes { .. } | Finding::NoMemory(_) => 5,
+    }
+}
+
+/// The script that is found, if there is one.
+fn script_of(finding: &Finding) -> &[u8]
+    ensures { result.now ≡ found_script finding.now }
+{
+    match finding {
+        Finding::Bad(bad) => bad.script.as_bytes(),
+        _ => &[],
+    }
+}
+
+/// A first comment and others, and behind them the script, unless that is more than a script may
+/// have: then the script alone.
+fn with_comments(
+    alloc: Global,
+    first: &[u8],
+    others: &[Vec<u8>],
+    script: &[u8],
+) -> Result<Vec<u8>, AllocError>
+    ensures { IfOk result (λ text. IsWholeOr (comments_of (first.now ∷ lines_of others.now)) script.now text.items) }
+{
+    let mut whole = comments(alloc, first, others)?;
+    if script.len() > MAX_SCRIPT || whole.len() > MAX_SCRIPT - script.len() {
+        return Vec::from_slice(alloc, script);
+    }
+    whole.extend_from_slice(script)?;
+    Ok(whole)
+}
+
+/// What is printed of an answer to what was asked of the specification with this text.
+pub(crate) fn reported<'w, R: Threads + Sync>(
+    rt: &R,
+    alloc: Global,
+    text: &[u8],
+    asked: &Asked,
+    conditions: &Conditions<'w>,
+    settings: &Settings<'w>,
+    answered: &Answered,
+) -> Result<Report, Fault<'w>>
+    ensures status { IfOk result (λ report. report.status ≡ found_status answered.now.finding) }
+    ensures text { (links : List (Op × Term)) → IsJoined links asked.now.question.always →
+        IfOk result (λ report. IsReport asked.now.checked links asked.now.question.turns answered.now.finding report.text.items) }
+{
+    let finding = &answered.finding;
+    let words = fault_words(rt, alloc, text, asked, finding)?;
+    let first = first_line(alloc, finding, words.as_slice())?;
+    let facts = facts(alloc, conditions, settings, answered)?;
+    let text = with_comments(
+        alloc,
+        first.as_slice(),
+        facts.as_slice(),
+        script_of(finding),
+    )?;
+    let status = status_of(finding);
+    Ok(Report { text, status })
+}

@@ -1,0 +1,149 @@
+//! The words that the program is called with.
+use crate::fault::Fault;
+use crate::help;
+use crate::settings::Settings;
+use asm_run::limits::{Bounds, STEPS, TURNS};
+use clap::error::ErrorKind;
+use clap::{Arg, ArgAction, ArgMatches, Command, Error};
+use std::alloc::{AllocError, Global};
+use std::convert::AsStr;
+
+/// Of `Settings::states`.
+pub const STATES: Bounds = Bounds {
+    least: 1,
+    most: 100_000_000,
+};
+
+/// Of `Settings::outcomes`.
+pub const OUTCOMES: Bounds = Bounds {
+    least: 1,
+    most: 1_000_000,
+};
+
+/// The command that looks at every run.
+const ALL: &str = "all";
+
+impl<'w> From<Error> for Fault<'w> {
+    fn from(error: Error) -> Fault<'w> {
+        match error.kind() {
+            ErrorKind::OutOfMemory => Fault::Memory,
+            _ => Fault::Words(error),
+        }
+    }
+}
+
+/// The settings that the words give, the program's name not among them. The first word names the
+/// command.
+pub fn settings<'w, S: AsStr>(alloc: Global, words: &'w [S]) -> Result<Settings<'w>, Fault<'w>> {
+    match words.split_first() {
+        Some((command, words)) if command.as_str() == ALL => of_all(alloc, words),
+        _ => Err(without_command(alloc, words)?.into()),
+    }
+}
+
+/// The settings that the words behind `all` give.
+fn of_all<'w, S: AsStr>(alloc: Global, words: &'w [S]) -> Result<Settings<'w>, Fault<'w>> {
+    let given = given(alloc, words)?;
+    Ok(Settings {
+        spec: given.get_str("spec").unwrap_or("-"),
+        steps: number_of(&given, "steps"),
+        turns: number_of(&given, "turns"),
+        states: number_of(&given, "states"),
+        outcomes: number_of(&given, "outcomes"),
+        always: texts_of(alloc, &given, "always")?,
+        always_files: texts_of(alloc, &given, "always-file")?,
+        when_quiet: given.get_str("deadlock-unless"),
+        within: given.get_str("within"),
+    })
+}
+
+/// What the words behind `all` give.
+fn given<'w, S: AsStr>(alloc: Global, words: &'w [S]) -> Result<ArgMatches<'w>, Fault<'w>> {
+    Ok(all(alloc)?.try_get_matches_from(words)?)
+}
+
+/// What may stand behind `all`.
+fn all<'w>(alloc: Global) -> Result<Command<'w>, AllocError> {
+    let steps = number(alloc, "steps", STEPS, help::STEPS).default_value("1000000");
+    let turns = number(alloc, "turns", TURNS, help::TURNS).default_value("1000");
+    let states = number(alloc, "states", STATES, help::STATES).default_value("1000000");
+    let outcomes = number(alloc, "outcomes", OUTCOMES, help::OUTCOMES).default_value("10000");
+    Command::new(alloc, "asm-explore all")
+        .display_name(help::NAME)?
+        .version(help::VERSION)
+        .about(help::ALL)
+        .after_help(help::AFTER_ALL)
+        .no_binary_name(true)
+        .arg(word(alloc, "spec", "SPEC", help::SPEC).required(true))?
+        .arg(steps)?
+        .arg(turns)?
+        .arg(texts(alloc, "always", "COND", help::ALWAYS))?
+        .arg(texts(alloc, "always-file", "FILE", help::ALWAYS_FILE))?
+        .arg(text(alloc, "deadlock-unless", "COND", help::DEADLOCK_UNLESS))?
+        .arg(text(alloc, "within", "COND", help::WITHIN))?
+        .arg(states)?
+        .arg(outcomes)
+}
+
+/// A word of its own.
+fn word<'w>(alloc: Global, name: &'w str, shown: &'w str, help: &'w str) -> Arg<'w> {
+    Arg::new(alloc, name)
+        .value_name(shown)
+        .help(help)
+        .action(ArgAction::Set)
+}
+
+/// The word `--name`, with a text.
+fn text<'w>(alloc: Global, name: &'w str, shown: &'w str, help: &'w str) -> Arg<'w> {
+    word(alloc, name, shown, help).long(name)
+}
+
+/// The same, which may be repeated.
+fn texts<'w>(alloc: Global, name: &'w str, shown: &'w str, help: &'w str) -> Arg<'w> {
+    text(alloc, name, shown, help).action(ArgAction::Append)
+}
+
+/// The word `--name`, with a number within these bounds.
+fn number<'w>(alloc: Global, name: &'w str, bounds: Bounds, help: &'w str) -> Arg<'w> {
+    text(alloc, name, "N", help).value_parser(clap::value_parser!(u32).range(
+        i64::from(bounds.least)..=i64::from(bounds.most),
+    ))
+}
+
+/// The number of an option. It has one, as there is a default.
+fn number_of(given: &ArgMatches<'_>, name: &str) -> u32 {
+    given.get_one::<u32>(name).unwrap_or(1)
+}
+
+/// The texts of an option, in the order of the words.
+fn texts_of<'w>(
+    alloc: Global,
+    given: &ArgMatches<'w>,
+    name: &str,
+) -> Result<Vec<&'w str>, AllocError> {
+    match given.get_strs(name) {
+        Some(texts) => texts.to_vec(alloc),
+        None => Ok(Vec::new(alloc)),
+    }
+}
+
+/// What is to be said of words that don't begin with a command.
+fn without_command<'w, S: AsStr>(alloc: Global, words: &'w [S]) -> Result<Error, Error> {
+    let mut commands = commands(alloc)?;
+    match commands.try_get_matches_from_mut(words) {
+        Ok(_) => Ok(commands.error(ErrorKind::MissingSubcommand, help::COMMAND_FIRST)?),
+        Err(error) => Ok(error),
+    }
+}
+
+/// The commands.
+fn commands<'w>(alloc: Global) -> Result<Command<'w>, AllocError> {
+    Command::new(alloc, help::NAME)
+        .bin_name(help::NAME)?
+        .version(help::VERSION)
+        .about(help::ABOUT)
+        .after_help(help::AFTER)
+        .no_binary_name(true)
+        .subcommand_required(true)
+        .subcommand(all(alloc)?.name(ALL))
+}
