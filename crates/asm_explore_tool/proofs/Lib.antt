@@ -1,8 +1,12 @@
 mod Decoding
+mod GivenNumbers
 mod JoinedTerms
 mod LineParts
 mod Links
+mod Options
 mod Printed
+mod ReadNumbers
+mod ReadTexts
 mod RunMore
 mod Skipped
 mod Spelled

@@ -1,4 +1,5 @@
 pub mod Asked
+pub mod CommandLine
 pub mod Comments
 pub mod Conditions
 pub mod Faults
@@ -6,4 +7,5 @@ pub mod FirstLine
 pub mod Positions
 pub mod Replay
 pub mod Report
+pub mod Said
 pub mod Words

@@ -28,16 +28,14 @@ fn refused<'w>(
     name: &'w str,
     error: TextError,
     at: Option<usize>,
-) -> Fault<'w> {
-    match Vec::from_slice(alloc, text) {
-        Ok(text) => Fault::Text(RefusedText {
-            source: Source::Specification(name),
-            text,
-            error,
-            at,
-        }),
-        Err(AllocError) => Fault::Memory,
-    }
+) -> Result<Fault<'w>, AllocError> {
+    let text = Vec::from_slice(alloc, text)?;
+    Ok(Fault::Text(RefusedText {
+        source: Source::Specification(name),
+        text,
+        error,
+        at,
+    }))
 }
 
 /// The specification with this text.
@@ -49,7 +47,7 @@ fn checked<'w>(alloc: Global, text: &[u8], name: &'w str) -> Result<Checked, Fau
         Err(Refused::Memory) => return Err(Fault::Memory),
         Err(Refused::Named(error)) => {
             let at = error.at();
-            return Err(refused(alloc, text, name, TextError::Read(error), at));
+            return Err(refused(alloc, text, name, TextError::Read(error), at)?);
         }
     };
     match check(alloc, tree) {
@@ -57,7 +55,7 @@ fn checked<'w>(alloc: Global, text: &[u8], name: &'w str) -> Result<Checked, Fau
         Err(Refused::Memory) => Err(Fault::Memory),
         Err(Refused::Named(error)) => {
             let at = Some(error.at);
-            Err(refused(alloc, text, name, TextError::Check(error), at))
+            Err(refused(alloc, text, name, TextError::Check(error), at)?)
         }
     }
 }

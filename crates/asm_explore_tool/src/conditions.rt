@@ -33,21 +33,15 @@ pub struct Conditions<'w> {
 fn refused<'w>(
     alloc: Global,
     condition: &Condition<'w>,
-    refused: Refused<ConditionError>,
-) -> Fault<'w> {
-    let ConditionError { error, at } = match refused {
-        Refused::Named(named) => named,
-        Refused::Memory => return Fault::Memory,
-    };
-    match Vec::from_slice(alloc, condition.text.as_slice()) {
-        Ok(text) => Fault::Text(RefusedText {
-            source: condition.source,
-            text,
-            error,
-            at,
-        }),
-        Err(AllocError) => Fault::Memory,
-    }
+    error: ConditionError,
+) -> Result<Fault<'w>, AllocError> {
+    let text = Vec::from_slice(alloc, condition.text.as_slice())?;
+    Ok(Fault::Text(RefusedText {
+        source: condition.source,
+        text,
+        error: error.error,
+        at: error.at,
+    }))
 }
 
 /// A condition as a term over the names of the specification with this text, which has so many
@@ -62,7 +56,8 @@ fn term_of<'w>(
 {
     match condition_term(alloc, text, items, condition.text.as_slice()) {
         Ok(term) => Ok(term),
-        Err(error) => Err(refused(alloc, condition, error)),
+        Err(Refused::Memory) => Err(Fault::Memory),
+        Err(Refused::Named(error)) => Err(refused(alloc, condition, error)?),
     }
 }
 

@@ -1,4 +1,15 @@
 //! The words that the program is called with.
+ghost use Rattle.std.specs.Prelude.{◌≡◌, ◌∷◌, [], Some, map, option_map, codes, pos, true, is_some, IsTrue, IfOk, IfErr};
+ghost use Rattle.std.specs.Str.Parse.{signed_digits_value};
+ghost use Rattle.clap.specs.Kinds.{HasKind};
+ghost use Rattle.clap.specs.Walk.{texts};
+ghost use Rattle.clap.specs.Words.{app_of, first_value, found_of, rule_of, rows_of};
+ghost use Rattle.asm_tool.specs.CommandLine as tool;
+ghost use Rattle.asm_tool.specs.Said.{HasNumber};
+ghost use Rattle.asm_explore_tool.specs.CommandLine as line;
+ghost use Rattle.asm_explore_tool.specs.CommandLine.{refusals};
+ghost use Rattle.asm_explore_tool.specs.Said.{AreParsed, AreSaid, AreSaidBehind, ExplainsBehind, IsFaultOf, all_of, are_in_range};
+
 use crate::fault::Fault;
 use crate::help;
 use crate::settings::Settings;
@@ -24,6 +35,8 @@ pub const OUTCOMES: Bounds = Bounds {
 const ALL: &str = "all";
 
 impl<'w> From<Error> for Fault<'w> {
+    ghost from_gives = { λ error fault. IsFaultOf error fault };
+
     fn from(error: Error) -> Fault<'w> {
         match error.kind() {
             ErrorKind::OutOfMemory => Fault::Memory,
@@ -34,18 +47,27 @@ impl<'w> From<Error> for Fault<'w> {
 
 /// The settings that the words give, the program's name not among them. The first word names the
 /// command.
-pub fn settings<'w, S: AsStr>(alloc: Global, words: &'w [S]) -> Result<Settings<'w>, Fault<'w>> {
+pub fn settings<'w, S: AsStr>(alloc: Global, words: &'w [S]) -> Result<Settings<'w>, Fault<'w>>
+    ensures in_range { IfOk result (λ s. IsTrue (are_in_range s)) }
+    ensures said { IfOk result (AreSaidBehind (map S.text words.entry.now)) }
+    ensures refused { IfErr result (ExplainsBehind (map S.text words.entry.now)) }
+{
     match words.split_first() {
-        Some((command, words)) if command.as_str() == ALL => of_all(alloc, words),
+        Some((command, words)) if command.as_str() == ALL => Ok(of_all(alloc, words)?),
         _ => Err(without_command(alloc, words)?.into()),
     }
 }
 
 /// The settings that the words behind `all` give.
-fn of_all<'w, S: AsStr>(alloc: Global, words: &'w [S]) -> Result<Settings<'w>, Fault<'w>> {
+fn of_all<'w, S: AsStr>(alloc: Global, words: &'w [S]) -> Result<Settings<'w>, Error>
+    ensures in_range { IfOk result (λ s. IsTrue (are_in_range s)) }
+    ensures taken { IfOk result (λ _. refusals (map S.text words.entry.now) ≡ []) }
+    ensures said { IfOk result (AreSaid (map S.text words.entry.now)) }
+    ensures refused { IfErr result (HasKind (refusals (map S.text words.entry.now))) }
+{
     let given = given(alloc, words)?;
     Ok(Settings {
-        spec: given.get_str("spec").unwrap_or("-"),
+        spec: given.get_str("spec").unwrap(),
         steps: number_of(&given, "steps"),
         turns: number_of(&given, "turns"),
         states: number_of(&given, "states"),
@@ -58,12 +80,20 @@ fn of_all<'w, S: AsStr>(alloc: Global, words: &'w [S]) -> Result<Settings<'w>, F
 }
 
 /// What the words behind `all` give.
-fn given<'w, S: AsStr>(alloc: Global, words: &'w [S]) -> Result<ArgMatches<'w>, Fault<'w>> {
-    Ok(all(alloc)?.try_get_matches_from(words)?)
+fn given<'w, S: AsStr>(alloc: Global, words: &'w [S]) -> Result<ArgMatches<'w>, Error>
+    ensures taken { IfOk result (λ _. refusals (map S.text words.entry.now) ≡ []) }
+    ensures parsed { IfOk result (AreParsed (map S.text words.entry.now)) }
+    ensures refused { IfErr result (HasKind (refusals (map S.text words.entry.now))) }
+{
+    let command = all(alloc)?;
+    let given = command.try_get_matches_from(words)?;
+    Ok(given)
 }
 
 /// What may stand behind `all`.
-fn all<'w>(alloc: Global) -> Result<Command<'w>, AllocError> {
+fn all<'w>(alloc: Global) -> Result<Command<'w>, AllocError>
+    ensures { IfOk result (λ c. app_of c ≡ line.command) }
+{
     let steps = number(alloc, "steps", STEPS, help::STEPS).default_value("1000000");
     let turns = number(alloc, "turns", TURNS, help::TURNS).default_value("1000");
     let states = number(alloc, "states", STATES, help::STATES).default_value("1000000");
@@ -86,7 +116,9 @@ fn all<'w>(alloc: Global) -> Result<Command<'w>, AllocError> {
 }
 
 /// A word of its own.
-fn word<'w>(alloc: Global, name: &'w str, shown: &'w str, help: &'w str) -> Arg<'w> {
+fn word<'w>(alloc: Global, name: &'w str, shown: &'w str, help: &'w str) -> Arg<'w>
+    ensures { rule_of result ≡ tool.positional name.entry.now }
+{
     Arg::new(alloc, name)
         .value_name(shown)
         .help(help)
@@ -94,25 +126,39 @@ fn word<'w>(alloc: Global, name: &'w str, shown: &'w str, help: &'w str) -> Arg<
 }
 
 /// The word `--name`, with a text.
-fn text<'w>(alloc: Global, name: &'w str, shown: &'w str, help: &'w str) -> Arg<'w> {
+fn text<'w>(alloc: Global, name: &'w str, shown: &'w str, help: &'w str) -> Arg<'w>
+    ensures { rule_of result ≡ tool.option name.entry.now }
+{
     word(alloc, name, shown, help).long(name)
 }
 
 /// The same, which may be repeated.
-fn texts<'w>(alloc: Global, name: &'w str, shown: &'w str, help: &'w str) -> Arg<'w> {
+fn texts<'w>(alloc: Global, name: &'w str, shown: &'w str, help: &'w str) -> Arg<'w>
+    ensures { rule_of result ≡ line.repeated (tool.option name.entry.now) }
+{
     text(alloc, name, shown, help).action(ArgAction::Append)
 }
 
 /// The word `--name`, with a number within these bounds.
-fn number<'w>(alloc: Global, name: &'w str, bounds: Bounds, help: &'w str) -> Arg<'w> {
-    text(alloc, name, "N", help).value_parser(clap::value_parser!(u32).range(
-        i64::from(bounds.least)..=i64::from(bounds.most),
-    ))
+fn number<'w>(alloc: Global, name: &'w str, bounds: Bounds, help: &'w str) -> Arg<'w>
+    ensures { rule_of result ≡ tool.number bounds name.entry.now }
+{
+    Arg::new(alloc, name)
+        .long(name)
+        .value_name("N")
+        .help(help)
+        .action(ArgAction::Set)
+        .value_parser(clap::value_parser!(u32).range(
+            i64::from(bounds.least)..=i64::from(bounds.most),
+        ))
 }
 
-/// The number of an option. It has one, as there is a default.
-fn number_of(given: &ArgMatches<'_>, name: &str) -> u32 {
-    given.get_one::<u32>(name).unwrap_or(1)
+/// The number of an option that has one.
+fn number_of(given: &ArgMatches<'_>, name: &str) -> u32
+    requires { HasNumber (found_of given.now) name.now (record { least = 0; most = 4_294_967_295 }) }
+    ensures { (text : _) → first_value (found_of given.now) name.now ≡ Some text → signed_digits_value 10 text ≡ pos result }
+{
+    given.get_one::<u32>(name).unwrap()
 }
 
 /// The texts of an option, in the order of the words.
@@ -120,7 +166,9 @@ fn texts_of<'w>(
     alloc: Global,
     given: &ArgMatches<'w>,
     name: &str,
-) -> Result<Vec<&'w str>, AllocError> {
+) -> Result<Vec<&'w str>, AllocError>
+    ensures { IfOk result (λ found. texts found.items ≡ all_of name.now (rows_of (found_of given.now))) }
+{
     match given.get_strs(name) {
         Some(texts) => texts.to_vec(alloc),
         None => Ok(Vec::new(alloc)),
