@@ -1,4 +1,5 @@
 mod Decoding
+mod Fronts
 mod GivenNumbers
 mod JoinedTerms
 mod LineParts

@@ -1,9 +1,11 @@
+pub mod Answered
 pub mod Asked
 pub mod CommandLine
 pub mod Comments
 pub mod Conditions
 pub mod Faults
 pub mod FirstLine
+pub mod Given
 pub mod Positions
 pub mod Replay
 pub mod Report

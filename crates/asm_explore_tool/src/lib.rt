@@ -15,6 +15,7 @@ mod facts;
 pub mod fault;
 mod fault_words;
 mod first_line;
+mod given;
 mod help;
 pub mod laws;
 mod position;

@@ -1,0 +1,36 @@
+-- What is read for settings: the text of the specification, and those of the conditions.
+--     file_of name                             the file of this name, but for `-`, which is standard input
+--     IsText contents input settings text      the text is that of the specification's file, or of the input
+--     AreFronts contents names texts           the texts are those of the files with these names
+--     AreGiven contents settings conditions    the conditions are those that the settings give, and those of the files that they name
+use Rattle.std.specs.Prelude.{◌≡◌, ℕ, List, [], ◌∷◌, ◌++◌, Option, Some, None, cond, option_map, codes, ⊤}
+use Rattle.std.specs.Str.{bytes_eq}
+use Rattle.clap.specs.Walk.{Text, texts}
+use Rattle.asm_tool.specs.Statuses.{IsFront, bytes_of}
+use Rattle.asm_explore_tool.specs.Conditions.{text_of, texts_of}
+use Rattle.asm_explore_tool.specs.declared.conditions.Conditions.{Conditions}
+use Rattle.asm_explore_tool.specs.declared.settings.Settings.{Settings}
+
+-- reading goes no further: what is of this length is too long
+abbrev pub most_bytes : ℕ
+most_bytes = 1_048_577
+
+abbrev pub file_of : Text → Option Text
+file_of name = cond (bytes_eq name (codes "-")) None (Some name)
+
+module _ (contents : Text → Option (List ℕ)) where
+  abbrev pub IsText : (input : Option (List ℕ)) → Text → List ℕ → Type 0
+  IsText input name text = IsFront (bytes_of contents input (file_of name)) most_bytes text
+
+  abbrev pub AreFronts : List Text → List (List ℕ) → Type 0
+  AreFronts [] [] = ⊤
+  AreFronts [] (text ∷ more) = ⊥
+  AreFronts (name ∷ names) [] = ⊥
+  AreFronts (name ∷ names) (text ∷ more) = IsFront (contents name) most_bytes text × AreFronts names more
+
+  pub record AreGiven (settings : Settings) (conditions : Conditions) : Type 0 where
+    pub files : List (List ℕ)
+    pub are_files : AreFronts (texts settings.always_files.items) files
+    pub always : texts_of conditions.always.items ≡ texts settings.always.items ++ files
+    pub when_quiet : text_of conditions.when_quiet ≡ option_map (λ text. text.now) settings.when_quiet
+    pub within : text_of conditions.within ≡ option_map (λ text. text.now) settings.within
