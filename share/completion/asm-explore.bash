@@ -1,0 +1,32 @@
+# Completion of the words of asm-explore, for bash: source it, or let ./install put it where bash looks for it.
+_asm_explore() {
+    local current="${COMP_WORDS[COMP_CWORD]}" before="${COMP_WORDS[COMP_CWORD - 1]}"
+    COMPREPLY=()
+    # A name with spaces stays one word.
+    local IFS=$'\n'
+    compopt -o filenames 2>/dev/null
+    # Bash breaks --always-file=F into three words.
+    if [ "$current" = "=" ]; then
+        current=""
+    elif [ "$before" = "=" ]; then
+        before="${COMP_WORDS[COMP_CWORD - 2]}"
+    fi
+    if [ "$COMP_CWORD" = 1 ]; then
+        COMPREPLY=($(compgen -W $'all\nhelp\n--help\n--version' -- "$current"))
+        return
+    fi
+    case "$before" in
+        --always-file)
+            COMPREPLY=($(compgen -f -- "$current") $(compgen -d -- "$current"))
+            return
+            ;;
+        --steps | --turns | --states | --outcomes | --always | --deadlock-unless | --within) return ;;
+    esac
+    case "$current" in
+        -*)
+            COMPREPLY=($(compgen -W $'--always\n--always-file\n--deadlock-unless\n--within\n--steps\n--states\n--outcomes\n--turns\n--help\n--version' -- "$current"))
+            ;;
+        *) COMPREPLY=($(compgen -f -X '!*.asm' -- "$current") $(compgen -d -- "$current")) ;;
+    esac
+}
+complete -F _asm_explore asm-explore ./asm-explore
