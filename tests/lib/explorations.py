@@ -39,6 +39,7 @@ def asked_by(words):
 
 CRITICAL = "not (stage(0) = critical and stage(1) = critical)"
 FLAGS = "not (flag(0) and flag(1))"
+NUMBERS = "number(0) < 4 and number(1) < 4"
 RECEIVED = "(forall i in Index holds received(i) = item(i))"
 
 EXPLORATIONS = [
@@ -50,6 +51,16 @@ EXPLORATIONS = [
     of("alternating_wrong", status=1),
     of("termination", "--deadlock-unless", "detected"),
     of("termination_wrong", status=1),
+    of("bakery", "--always", "isSafe", "--deadlock-unless", "false", "--within", NUMBERS),
+    of("bakery_wrong", "--always", "isSafe", status=1),
+    of("raft", "--always", "isSafe"),
+    of("raft_wrong", "--always", "isSafe", status=1),
+    of("window", "--always", "isSafe", "--deadlock-unless", "isDone"),
+    of("window_wrong", "--always", "isSafe", status=1),
+    of("msi", "--always", "isSafe", "--always", "isExclusive", "--within", "latest < 3"),
+    of("msi_wrong", "--always", "isSafe", status=1),
+    of("stack", "--always", "isSafe", "--always", "isLinked", "--deadlock-unless", "false", "--within", "tag < 6"),
+    of("stack_aba_wrong", "--always", "isSafe", status=1),
     of("commit", "--always", "isSafe"),
     of("election"),
     of("election_undef", "--always", "leader < 6", text="election", status=1),

@@ -1,0 +1,46 @@
+CoreASM Window
+init Step
+
+// A sliding window with selective repeat: the sender may send any of the next two items that isn't
+// acknowledged, and the receiver keeps any of the next two that it expects. An item may be lost,
+// and so may its acknowledgement. An item carries its number modulo 4, twice the window, by which
+// the receiver finds its place, and no item that is sent again is taken for a later one. The script
+// loses two acknowledgements. Look at step 4, which sends item 1 again: the receiver acknowledges
+// it, and keeps nothing. An item in another one's place would be a clash.
+
+universe Item = 1 .. 6
+universe Offset = 0 .. 1
+enum Fate = { arrives, isLost }
+
+// The first item of the sender's window, and of the receiver's.
+function controlled base : -> NUMBER initially 1
+function controlled isAcknowledged : Item -> BOOLEAN initially false
+function controlled expected : -> NUMBER initially 1
+// What was put into the place of an item.
+function controlled received : Item -> Item
+function controlled broken
+
+derived modulus = 4
+derived number(item) = item mod modulus
+derived maySend(item) = item <= 6 and not isAcknowledged(item)
+derived mayKeep(place, item) = place <= 6 and number(place) = number(item)
+derived isSafe = (forall item in Item holds received(item) = undef or received(item) = item)
+derived isDone = (forall item in Item holds received(item) = item and isAcknowledged(item))
+
+rule Step = par
+  choose offset in Offset with maySend(base + offset) do
+    choose fate in Fate do if fate = arrives then Arrive(base + offset) endif endchoose
+  endchoose
+  // The windows move on.
+  if isAcknowledged(base) then base := base + 1 endif
+  if received(expected) != undef then expected := expected + 1 endif
+  if not isSafe then par broken := 1 broken := 2 endpar endif
+endpar
+
+// The receiver keeps an item in a place that is empty, and acknowledges what comes in any case.
+rule Arrive(item) = par
+  choose ahead in Offset with mayKeep(expected + ahead, item) do
+    if received(expected + ahead) = undef then received(expected + ahead) := item endif
+  endchoose
+  choose fate in Fate do if fate = arrives then isAcknowledged(item) := true endif endchoose
+endpar
