@@ -3,10 +3,10 @@ init Schedule
 
 // Mutual exclusion by Lamport's bakery algorithm: who wants to enter draws a number above the
 // other's, and the smaller number goes first, of equal numbers that of process 0. To read the
-// other's number and to take one's own are two steps. Between them a process says that it is
-// choosing, and the other waits. The script lets both draw the same number. Look at the last state:
-// 0 has been critical, and 1 is now. Both at once would be a clash. Numbers can grow without end,
-// so a search through all runs needs a bound on them.
+// other's number is one step, and to take one's own is another. Until then a process says that it
+// is choosing, and the other waits. The script lets both draw the same number, and process 0 goes
+// first. Look at the last state: 0 has left, and 1 is critical. Both in the critical section would
+// be a clash. Numbers can grow without end, so a search through all runs needs a bound on them.
 
 enum Stage = { resting, choosing, hasRead, waiting, critical }
 universe Process = 0 .. 1

@@ -3,8 +3,8 @@ init Schedule
 
 // The bakery algorithm done wrong: nobody says that it is choosing. A process reads the other's
 // number in one step, and takes its own in another one. So process 0 reads that there is no number,
-// process 1 draws one and enters, and then 0 takes the same number and is before it. The script
-// leads both into the critical section, and the next step clashes.
+// process 1 draws one and enters, and then 0 takes the same number, goes first, and enters too. By
+// the script both are in the critical section then, and the next step clashes.
 
 enum Stage = { resting, hasRead, waiting, critical }
 universe Process = 0 .. 1

@@ -1,11 +1,12 @@
 CoreASM Msi
 init Schedule
 
-// Cache coherence by the protocol MSI, whose name is that of its states: three caches have a copy
-// of one line of the memory, which is modified, shared or invalid. A cache that needs another state
-// makes a request, and waits until the bus grants it. The script lets two caches that share the
-// line ask to modify it. The request of 1 is granted, which makes the copy of 2 invalid, so the
-// request of 2 has to fetch the line anew. Look at step 9. A stale copy would be a clash.
+// Cache coherence by the protocol MSI, named by its states: each of three caches has a copy of one
+// line of the memory, which is modified, shared or invalid. A cache that needs another state makes
+// a request, and waits until the bus grants it. The script lets two caches that share the line ask
+// for an upgrade to modified. That of 1 is granted, and makes the copy of 2 invalid. Look at step
+// 9: the request of 2 is granted, and it gets the line from 1. A stale copy would be a clash. Each
+// store stores a new number, so a search through all runs needs a bound on them.
 
 universe Cache = 1 .. 3
 enum State = { invalid, shared, modified }
@@ -16,7 +17,7 @@ function controlled state : Cache -> State initially invalid
 function controlled request : Cache -> Request initially none
 function controlled copy : Cache -> NUMBER
 function controlled memory : -> NUMBER initially 0
-// What was stored last, by whomever. Each store stores a new number.
+// What was stored last, by whichever cache.
 function controlled latest : -> NUMBER initially 0
 function controlled broken
 

@@ -15,15 +15,12 @@ function controlled state : Cache -> State initially invalid
 function controlled request : Cache -> Request initially none
 function controlled copy : Cache -> NUMBER
 function controlled memory : -> NUMBER initially 0
-// What was stored last, by whomever. Each store stores a new number.
+// What was stored last, by whichever cache.
 function controlled latest : -> NUMBER initially 0
 function controlled broken
 
 derived isOwned = (exists cache in Cache with state(cache) = modified)
 derived isSafe = (forall cache in Cache holds state(cache) = invalid or copy(cache) = latest)
-// Beside a modified copy all others are invalid.
-derived isExclusive = (forall owner in Cache holds state(owner) != modified
-  or (forall cache in Cache holds cache = owner or state(cache) = invalid))
 
 rule Schedule = par
   choose cache in Cache do

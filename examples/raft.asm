@@ -1,13 +1,13 @@
 CoreASM Raft
 init Schedule
 
-// The election of leaders as in Raft, by three nodes in terms that are numbered: a node that hears
-// of no leader for too long becomes a candidate in the next term, and asks the others for their
-// votes. A node has one vote in each term, and two votes make a leader. A node that crashes
-// remembers its term and its vote. The script lets node 2 vote for node 1, and crash. So it refuses
-// its vote to node 3, who gets it only in the next term. Two leaders of one term would be a clash.
-// A search through all runs ends since there is a last term: with three it goes through 6,919
-// states, and with four through 40,029.
+// The election of leaders as in Raft, by three nodes: one that hears of no leader for too long
+// becomes a candidate in the next term, and asks the others for their votes. Each has one vote in a
+// term, and two votes make a leader. A node that crashes remembers its term and its vote. The
+// script lets node 2 vote for node 1, and crash. Look at step 5: it refuses its vote to node 3, who
+// gets it in the next term. Two leaders of one term would be a clash.
+// There is a last term, so that a search through all runs ends: it has 6,919 states with three
+// terms, and 40,029 with four.
 
 universe Node = 1 .. 3
 universe Term = 1 .. 3

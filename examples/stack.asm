@@ -3,11 +3,11 @@ init Schedule
 
 // Treiber's stack, which two threads share without a lock, with a tag beside its top: to pop, a
 // thread looks at the top, the tag and the next cell in one step, and in another one it makes that
-// cell the top, if top and tag are as they were. Each change raises the tag. A push is right
-// whatever happens between its look and its change, so one step is enough for it here. The script
-// lets bob pop two cells and push the first again while ann is between her steps. Look at step 7,
-// which changes only her stage: she has to look again. A top that somebody holds would be a clash.
-// Tags can grow without end, so a search through all runs needs a bound on them.
+// cell the top, if top and tag are as it saw them. Each change raises the tag. To push is one step
+// here, since it needs the top alone, and no next cell. The script lets bob pop two cells and push
+// the first again while ann is between her steps. Look at step 7: the top is what she saw, and the
+// tag isn't, so she pops nothing, and looks again. A top that somebody holds would be a clash. The
+// tag grows without end, so a search through all runs needs a bound on it.
 
 universe Cell = 1 .. 3
 enum Thread = { ann, bob }
@@ -28,7 +28,7 @@ function controlled broken
 derived isAsSeen(thread) = top = seenTop(thread) and tag = seenTag(thread)
 derived isInStack(cell) = holder(cell) = undef
 derived isSafe = top = undef or isInStack(top)
-// Behind a cell in the stack there is no other one than those in the stack.
+// The next cell of one in the stack, if there is one, is in the stack too.
 derived isLinked = (forall cell in Cell holds
   not isInStack(cell) or next(cell) = undef or isInStack(next(cell)))
 

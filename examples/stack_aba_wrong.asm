@@ -3,10 +3,10 @@ init Schedule
 
 // Treiber's stack, which two threads share without a lock, done wrong: there is no tag beside its
 // top. To pop, a thread looks at the top and the next cell in one step, and in another one it makes
-// that cell the top, if the top is the one it saw. This is the ABA problem: the script lets bob pop
-// two cells and push the first again while ann is between her steps. The top is the cell that she
-// saw, and the next one is another. She makes a cell the top that bob holds, and the next step
-// clashes.
+// that cell the top, if the top is the one that it saw. What goes wrong is known as ABA: the script
+// lets bob pop two cells and push the first again while ann is between her steps. The top is what
+// she saw, and the next cell is another one. So she makes a cell the top that bob holds, and the
+// next step clashes.
 
 universe Cell = 1 .. 3
 enum Thread = { ann, bob }

@@ -14,8 +14,8 @@ enum Fate = { arrives, isLost }
 
 // The first item of the sender's window, and of the receiver's.
 function controlled base : -> NUMBER initially 1
-function controlled isAcknowledged : Item -> BOOLEAN initially false
 function controlled expected : -> NUMBER initially 1
+function controlled isAcknowledged : Item -> BOOLEAN initially false
 // What was put into the place of an item.
 function controlled received : Item -> Item
 function controlled broken

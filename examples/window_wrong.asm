@@ -12,8 +12,8 @@ enum Fate = { arrives, isLost }
 
 // The first item of the sender's window, and of the receiver's.
 function controlled base : -> NUMBER initially 1
-function controlled isAcknowledged : Item -> BOOLEAN initially false
 function controlled expected : -> NUMBER initially 1
+function controlled isAcknowledged : Item -> BOOLEAN initially false
 // What was put into the place of an item.
 function controlled received : Item -> Item
 function controlled broken
@@ -23,7 +23,6 @@ derived number(item) = item mod modulus
 derived maySend(item) = item <= 6 and not isAcknowledged(item)
 derived mayKeep(place, item) = place <= 6 and number(place) = number(item)
 derived isSafe = (forall item in Item holds received(item) = undef or received(item) = item)
-derived isDone = (forall item in Item holds received(item) = item and isAcknowledged(item))
 
 rule Step = par
   choose offset in Offset with maySend(base + offset) do

@@ -12,7 +12,7 @@ class Window:
         self.base = self.expected = 1
         self.acknowledged, self.received = set(), {}
         self.trace = Trace(
-            ["base"] + over("isAcknowledged", ITEMS) + ["expected"] + over("received", ITEMS) + ["broken"],
+            ["base", "expected"] + over("isAcknowledged", ITEMS) + over("received", ITEMS) + ["broken"],
             {"base": 1, "expected": 1} | {f"isAcknowledged({i})": False for i in ITEMS},
         )
 
