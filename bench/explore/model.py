@@ -88,6 +88,11 @@ def united(first, second):
     return ("set", {place: first[1].get(place, frozenset()) | second[1].get(place, frozenset()) for place in {**first[1], **second[1]}})
 
 
+def bind(bound, name, value):
+    """The names with one more, which stands before the others, and hides the one that is called so."""
+    return {name: value, **{other: of for other, of in bound.items() if other != name}}
+
+
 def is_consistent(updates):
     return all(place[1] is not None and len(values) == 1 for place, values in updates.items())
 
@@ -107,10 +112,11 @@ class Step:
     def yields(self, state):
         return self.rule(self.specification.rules[self.specification.main].body, {}, state, ())
 
-    def pick(self, path, count):
+    def taken(self, rule, path, candidates):
+        """The candidate that a choose takes."""
         number = self.picks[len(self.asked)] if len(self.asked) < len(self.picks) else 0
-        self.asked.append((path, number, count))
-        return number
+        self.asked.append((path, number, len(candidates)))
+        return candidates[number]
 
     def term(self, term, bound, state):
         kind = term[0]
@@ -184,13 +190,13 @@ class Step:
 
     def let_rule(self, rule, bound, state, path):
         _, name, term, body = rule
-        return self.rule(body, {**bound, name: self.term(term, bound, state)}, state, (*path, 0))
+        return self.rule(body, bind(bound, name, self.term(term, bound, state)), state, (*path, 0))
 
     def forall_rule(self, rule, bound, state, path):
         _, name, universe, test, body = rule
         all_of = ("set", {})
         for number, value in enumerate(self.specification.universes[universe].values):
-            inner = {**bound, name: value}
+            inner = bind(bound, name, value)
             if self.holds(test, inner, state):
                 all_of = united(all_of, self.rule(body, inner, state, (*path, number)))
         return all_of
@@ -201,8 +207,8 @@ class Step:
         candidates = [value for value in values if self.holds(test, {**bound, name: value}, state)]
         if not candidates:
             return self.rule(none, bound, state, (*path, 1)) if none else ("set", {})
-        value = candidates[self.pick(path, len(candidates))]
-        return self.rule(body, {**bound, name: value}, state, (*path, 0))
+        value = self.taken(rule, path, candidates)
+        return self.rule(body, bind(bound, name, value), state, (*path, 0))
 
     def call_rule(self, rule, bound, state, path):
         _, target, name, arguments = rule

@@ -8,21 +8,33 @@ TOKEN = re.compile(r"[A-Za-z_][A-Za-z0-9_]*|[0-9]+|:=|!=|<=|>=|<-|->|\.\.|[(){},
 COMPARISONS = ("=", "!=", "<", "<=", ">", ">=")
 
 
+class Marked(tuple):
+    """A rule with the offset of a name in it: of the variable of a choose, or of what an assignment changes."""
+
+    def __new__(cls, offset, *parts):
+        made = super().__new__(cls, parts)
+        made.offset = offset
+        return made
+
+
 def tokens_of(text):
-    found, at = [], 0
+    """The tokens, and the offset of each."""
+    found, offsets, at = [], [], 0
     while at < len(text):
         part = GAP.match(text, at) or TOKEN.match(text, at)
         if part.re is TOKEN:
             found.append(part.group())
+            offsets.append(at)
         at = part.end()
-    return found
+    return found, offsets
 
 
 class Reader:
     """Reads from the front of some tokens."""
 
     def __init__(self, text):
-        self.tokens, self.at = tokens_of(text), 0
+        self.tokens, self.offsets = tokens_of(text)
+        self.at = 0
 
     def next(self):
         return self.tokens[self.at] if self.at < len(self.tokens) else None
@@ -30,6 +42,10 @@ class Reader:
     def take(self):
         self.at += 1
         return self.tokens[self.at - 1]
+
+    def offset(self):
+        """Where the next token begins."""
+        return self.offsets[self.at]
 
     def has(self, *words):
         """Takes the next token, if it is one of these."""
@@ -174,18 +190,20 @@ class Reader:
         return name, self.take(), self.term() if self.has("with") else None
 
     def choose(self):
+        offset = self.offset()
         name, universe, test = self.bound()
         self.wants("do")
         body = self.rule()
         none = self.rule() if self.has("ifnone") else None
         self.wants("endchoose")
-        return ("choose", name, universe, test, body, none)
+        return Marked(offset, "choose", name, universe, test, body, none)
 
     def named(self, word):
         """An assignment or a call."""
+        offset = self.offsets[self.at - 1]
         target = ("result",) if word == "result" else ("name", word, self.arguments())
         if self.has(":="):
-            return ("assign", target, self.term())
+            return Marked(offset, "assign", target, self.term())
         if self.has("<-"):
             return ("call", target, self.take(), self.arguments())
         return ("call", None, word, target[2])

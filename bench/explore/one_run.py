@@ -1,0 +1,226 @@
+"""What asm-explore is to answer about one run of a specification, under a script: `choices` and `clash`, worked out by the model in model.py.
+
+A choose that is asked has candidates; it takes the one that the script says. What an assignment changes is followed through the sets of
+the step: a set has the values of each location, and here each value has the assignments that give it.
+"""
+from typing import NamedTuple
+
+import model
+import reader
+
+# A script has at most so many bytes, and a comment shows at most so many candidates.
+LONGEST, MOST_SHOWN = 1_048_576, 64
+
+
+def shown_path(path):
+    return ".".join(map(str, path)) or "-"
+
+
+def shown_place(place):
+    return place[0] + (f"({', '.join(map(str, place[1]))})" if place[1] else "")
+
+
+def words_of(places, scale, result):
+    """What is wrong with what a step yields, if anything is, with the location: of these, the first that is wrong."""
+    kind, what = result
+    if kind == "exhausted":
+        return f"exhausted place {shown_path(what)}", None
+    for place in places:
+        values = what.get(place, ())
+        if values and place[1] is None:
+            return f"outside {place[0]}", place
+        if len(values) > 1:
+            least, greatest = scale.bounds(values)
+            return f"clash {shown_place(place)} least {least} greatest {greatest}", place
+    return None
+
+
+# ---- scripts
+
+
+class ScriptLine(NamedTuple):
+    """A line of a script: the step or none, the path and the number, and which line it is."""
+
+    step: int
+    path: tuple
+    number: int
+    line: int
+
+    def shown(self):
+        return f"{self.step or '*'} {shown_path(self.path)} {self.number}"
+
+
+def path_of(word):
+    return () if word == "-" else tuple(map(int, word.split(".")))
+
+
+class Script:
+    """The lines of a script, and which of them a choose has met."""
+
+    def __init__(self, text):
+        self.lines, self.met = {}, set()
+        for number, line in enumerate(text.split("\n"), 1):
+            line = line.removesuffix("\r")
+            if line and not line.startswith("#"):
+                step, path, taken = line.split(" ")
+                made = ScriptLine(0 if step == "*" else int(step), path_of(path), int(taken), number)
+                self.lines[made.step, made.path] = made
+
+    def number(self, step, path):
+        """What is taken at a path: as the line of the step says, or else the line of every step."""
+        line = self.lines.get((step, path)) or self.lines.get((0, path))
+        self.met.add(line)
+        return line.number if line else 0
+
+    def unmet(self):
+        return [line for line in self.lines.values() if line not in self.met]
+
+
+# ---- one step, with what it asks and what it assigns
+
+
+class Choice(NamedTuple):
+    path: tuple
+    offset: int
+    name: str
+    candidates: list
+    number: int
+
+
+class Assignment(NamedTuple):
+    order: int
+    path: tuple
+    offset: int
+    place: tuple
+    value: object
+    bound: list
+
+
+class Place(tuple):
+    """A location, that has its arguments even where they are outside the domain."""
+
+    arguments = ()
+
+
+class Sources(dict):
+    """The values of a location in a set, each with the assignments that give it."""
+
+    def __or__(self, other):
+        return Sources({value: self.get(value, []) + other.get(value, []) for value in {**self, **other}}) if other else self
+
+    def __ror__(self, none):
+        return self
+
+
+class ToldStep(model.Step):
+    """One step under a script, with what is chosen and assigned, in the order of evaluation."""
+
+    def __init__(self, specification, turns, script, step):
+        super().__init__(specification, turns, [])
+        self.script, self.step, self.choices, self.assigned = script, step, [], 0
+        self.is_over = False
+
+    def taken(self, rule, path, candidates):
+        if self.is_over:
+            return candidates[0]
+        number = self.script.number(self.step, path) % len(candidates)
+        self.choices.append(Choice(path, rule.offset, rule[1], candidates, number))
+        return candidates[number]
+
+    def rule(self, rule, bound, state, path):
+        """A step is over once a rule in it is exhausted."""
+        result = super().rule(rule, bound, state, path)
+        self.is_over = self.is_over or result[0] == "exhausted"
+        return result
+
+    def place(self, target, bound, state):
+        if target[0] == "result":
+            return bound["result"]
+        made = Place(super().place(target, bound, state))
+        made.arguments = tuple(self.term(argument, bound, state) for argument in target[2])
+        return made
+
+    def assign_rule(self, rule, bound, state, path):
+        place, value = self.place(rule[1], bound, state), self.term(rule[2], bound, state)
+        names = [(name, self.term(("name", name, []), bound, state)) for name in bound if name != "result"]
+        self.assigned += 1
+        return ("set", {place: Sources({value: [Assignment(self.assigned, path, rule.offset, place, value, names)]})})
+
+
+class Position:
+    """Lines and columns in a text: both from 1, and a column for each character."""
+
+    def __init__(self, text):
+        self.text = text
+
+    def of(self, offset):
+        line, begin = self.text.count("\n", 0, offset), self.text.rfind("\n", 0, offset) + 1
+        return f"line {line + 1}, column {offset - begin + 1}"
+
+
+# ---- one run
+
+
+class OneRun:
+    """A run of at most so many steps under a script."""
+
+    def __init__(self, text, script, steps=1000, turns=1000):
+        specification = reader.specification_of(text)
+        places, scale = list(specification.locations()), model.Scale(specification)
+        self.position, self.script = Position(text), Script(script)
+        # The choices of each step; what is wrong, with the set and the location.
+        self.choices, self.fault, self.updates, self.place = [], None, {}, None
+        self.end = f"limit after step {steps}"
+        state = specification.initial()
+        for step in range(1, steps + 1):
+            told = ToldStep(specification, turns, self.script, step)
+            result = told.yields(state)
+            self.choices += [(step, choice) for choice in told.choices]
+            if wrong := words_of(places, scale, result):
+                self.fault, self.place = wrong
+                self.updates, self.end = result[1], f"fault in step {step}: {self.fault}"
+                return
+            state = model.fired(state, result[1])
+
+    # The answers
+
+    def comment(self, choice):
+        shown = ", ".join(map(str, choice.candidates[:MOST_SHOWN]))
+        if len(choice.candidates) > MOST_SHOWN:
+            shown += f", and {len(choice.candidates) - MOST_SHOWN} more"
+        return f"# {self.position.of(choice.offset)}: choose {choice.name}: {shown}"
+
+    def of_choices(self):
+        """What `choices` prints, and its status."""
+        lines = [f"# {self.end}"]
+        for step, choice in self.choices:
+            lines += [self.comment(choice), f"{step} {shown_path(choice.path)} {choice.number}"]
+        unmet = self.script.unmet()
+        lines += [f"# no choose met line {line.line} of the script: {line.shown()}" for line in unmet]
+        return within(lines), 1 if self.fault else 6 if unmet else 0
+
+    def of_clash(self):
+        """What `clash` prints, and its status."""
+        values = self.updates.get(self.place, {}) if self.place else {}
+        found = sorted(one for of in values.values() for one in of)
+        lines = [f"# {self.end}", *(self.assignment(one) for one in found)]
+        return within(lines), 1 if self.fault else 0
+
+    def assignment(self, one):
+        names = "".join(f", {name} = {value}" for name, value in one.bound)
+        target = shown_place((one.place[0], one.place.arguments))
+        return f"# {self.position.of(one.offset)}, place {shown_path(one.path)}: {target} := {one.value}{names}"
+
+
+def within(lines):
+    """The lines as a script, without its comments where they make it too long."""
+    text = "".join(f"{line}\n" for line in lines)
+    if len(text.encode()) <= LONGEST:
+        return text
+    return "".join(f"{line}\n" for line in lines if not line.startswith("#"))
+
+
+def answered(command, text, script, steps=1000, turns=1000):
+    """What a command prints, and its status."""
+    run = OneRun(text, script, steps, turns)
+    return run.of_choices() if command == "choices" else run.of_clash()
