@@ -90,3 +90,8 @@ RUNS = [
     clash("guide/shift", script=False, status=1),
     clash("guide/coin", "--steps", "0"),
 ]
+
+
+def without_unmet(answer):
+    """An answer of `choices` without the lines of the script that no choose met."""
+    return b"".join(line for line in answer.splitlines(True) if not line.startswith(b"# no choose met "))
