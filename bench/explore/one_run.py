@@ -1,7 +1,8 @@
 """What asm-explore is to answer about one run of a specification, under a script: `choices` and `clash`, worked out by the model in model.py.
 
-A choose that is asked has candidates; it takes the one that the script says. What an assignment changes is followed through the sets of
-the step: a set has the values of each location, and here each value has the assignments that give it.
+A choose that is asked has candidates, and takes the one that the script says. Each part of a `par` is asked, even where another one is
+exhausted. What an assignment changes is followed through the sets of the step: a set has the values of each location, and here each value
+has the assignments that give it.
 """
 from typing import NamedTuple
 
@@ -118,20 +119,11 @@ class ToldStep(model.Step):
     def __init__(self, specification, turns, script, step):
         super().__init__(specification, turns, [])
         self.script, self.step, self.choices, self.assigned = script, step, [], 0
-        self.is_over = False
 
     def taken(self, rule, path, candidates):
-        if self.is_over:
-            return candidates[0]
         number = self.script.number(self.step, path) % len(candidates)
         self.choices.append(Choice(path, rule.offset, rule[1], candidates, number))
         return candidates[number]
-
-    def rule(self, rule, bound, state, path):
-        """A step is over once a rule in it is exhausted."""
-        result = super().rule(rule, bound, state, path)
-        self.is_over = self.is_over or result[0] == "exhausted"
-        return result
 
     def place(self, target, bound, state):
         if target[0] == "result":
