@@ -2,7 +2,7 @@
 import os
 from typing import NamedTuple, Optional
 
-from program import HEAD, answer_among, program
+from program import HEAD, answer_among, program, shortened
 
 COIN = HEAD + "enum Side = { heads, tails }\nfunction controlled shown\nrule M = choose s in Side do shown := s endchoose\n"
 UNWRITTEN = "asm-explore: the answer can't be written\n"
@@ -34,7 +34,7 @@ class Row(NamedTuple):
         missing += [shown for shown in self.shows if shown.encode() not in found.out]
         if found.status == self.status and is_out and not missing and bool(found.err) == bool(self.says):
             return None
-        return f"{self.words}: {found.shown()} in place of status {self.status}, {self.out!r} and {self.says + self.shows}"
+        return f"{self.words}: {found.shown()} in place of status {self.status}, {shortened(self.out)} and {self.says + self.shows}"
 
 
 def refused(status, words, *says, **given):
