@@ -40,15 +40,11 @@ def words_of(places, scale, result):
 
 
 class ScriptLine(NamedTuple):
-    """A line of a script: the step or none, the path and the number, and which line it is."""
+    """What is taken as a line of a script says, which line it is, and how it is written."""
 
-    step: int
-    path: tuple
     number: int
     line: int
-
-    def shown(self):
-        return f"{self.step or '*'} {shown_path(self.path)} {self.number}"
+    text: str
 
 
 def path_of(word):
@@ -56,7 +52,7 @@ def path_of(word):
 
 
 class Script:
-    """The lines of a script, and which of them a choose has met."""
+    """The lines of a script by step and path, with 0 for every step, and those that a choose has met: at its path, in its step or in any."""
 
     def __init__(self, text):
         self.lines, self.met = {}, set()
@@ -64,17 +60,16 @@ class Script:
             line = line.removesuffix("\r")
             if line and not line.startswith("#"):
                 step, path, taken = line.split(" ")
-                made = ScriptLine(0 if step == "*" else int(step), path_of(path), int(taken), number)
-                self.lines[made.step, made.path] = made
+                self.lines[0 if step == "*" else int(step), path_of(path)] = ScriptLine(int(taken), number, line)
 
     def number(self, step, path):
-        """What is taken at a path: as the line of the step says, or else the line of every step."""
+        """What a choose takes: as the line of the step says, or else the line of every step."""
+        self.met.update([(step, path), (0, path)])
         line = self.lines.get((step, path)) or self.lines.get((0, path))
-        self.met.add(line)
         return line.number if line else 0
 
     def unmet(self):
-        return [line for line in self.lines.values() if line not in self.met]
+        return [line for at, line in self.lines.items() if at not in self.met]
 
 
 # ---- one step, with what it asks and what it assigns
@@ -92,15 +87,9 @@ class Assignment(NamedTuple):
     order: int
     path: tuple
     offset: int
-    place: tuple
+    target: tuple
     value: object
     bound: list
-
-
-class Place(tuple):
-    """A location, that has its arguments even where they are outside the domain."""
-
-    arguments = ()
 
 
 class Sources(dict):
@@ -125,18 +114,13 @@ class ToldStep(model.Step):
         self.choices.append(Choice(path, rule.offset, rule[1], candidates, number))
         return candidates[number]
 
-    def place(self, target, bound, state):
-        if target[0] == "result":
-            return bound["result"]
-        made = Place(super().place(target, bound, state))
-        made.arguments = tuple(self.term(argument, bound, state) for argument in target[2])
-        return made
-
     def assign_rule(self, rule, bound, state, path):
         place, value = self.place(rule[1], bound, state), self.term(rule[2], bound, state)
+        # Of `result` nothing but its location is known; the arguments of a function are, outside the domain too.
+        arguments = (place[1] or ()) if rule[1][0] == "result" else [self.term(argument, bound, state) for argument in rule[1][2]]
         names = [(name, self.term(("name", name, []), bound, state)) for name in bound if name != "result"]
         self.assigned += 1
-        return ("set", {place: Sources({value: [Assignment(self.assigned, path, rule.offset, place, value, names)]})})
+        return ("set", {place: Sources({value: [Assignment(self.assigned, path, rule.offset, (place[0], arguments), value, names)]})})
 
 
 class Position:
@@ -188,7 +172,7 @@ class OneRun:
         for step, choice in self.choices:
             lines += [self.comment(choice), f"{step} {shown_path(choice.path)} {choice.number}"]
         unmet = self.script.unmet()
-        lines += [f"# no choose met line {line.line} of the script: {line.shown()}" for line in unmet]
+        lines += [f"# no choose met line {line.line} of the script: {line.text}" for line in unmet]
         return within(lines), 1 if self.fault else 6 if unmet else 0
 
     def of_clash(self):
@@ -200,8 +184,7 @@ class OneRun:
 
     def assignment(self, one):
         names = "".join(f", {name} = {value}" for name, value in one.bound)
-        target = shown_place((one.place[0], one.place.arguments))
-        return f"# {self.position.of(one.offset)}, place {shown_path(one.path)}: {target} := {one.value}{names}"
+        return f"# {self.position.of(one.offset)}, place {shown_path(one.path)}: {shown_place(one.target)} := {one.value}{names}"
 
 
 def within(lines):
