@@ -21,3 +21,8 @@ pub mod Answers
 pub mod Conditions
 pub mod MainRule
 pub mod ChoiceLaws
+pub mod MadeLaws
+pub mod Asks
+pub mod AskedPieces
+pub mod RunChoices
+pub mod MadeSteps

@@ -1,14 +1,20 @@
 //! Laws of what is listed, and of what is claimed.
 ghost use Rattle.std.specs.Prelude.{◌≡◌, ℕ, Bool, true, List};
 ghost use Rattle.asm_state.specs.Location.{State};
+ghost use Rattle.asm_state.specs.Signature.{Shape};
 ghost use Rattle.asm_reader.specs.ExactLines.{exactly};
 ghost use Rattle.asm_reader.specs.ScriptLines.{Line, Script, pick};
 ghost use Rattle.asm_meaning.specs.Run.{Specification};
 ghost use Rattle.asm_meaning.specs.Scripts.{IsUnrepeated};
+ghost use Rattle.asm_meaning.specs.Value.{Reading};
+ghost use Rattle.asm_meaning.specs.Yields.{Path};
+ghost use Rattle.asm_eval.specs.RuleMeaning.{Locations};
+ghost use Rattle.asm_eval.specs.RuleTree.{RuleCode};
 ghost use Rattle.asm_explore.specs.declared.found.Choice.{Choice};
 ghost use Rattle.asm_explore.specs.Elements.{Each};
 ghost use Rattle.asm_explore.specs.Placed.{AreApart};
 ghost use Rattle.asm_explore.specs.ChoiceLaws.{ChoiceLaws};
+ghost use Rattle.asm_explore.specs.MadeLaws.{MakingLaws};
 ghost use Rattle.asm_explore.specs.Reached.{MakesAll};
 ghost use Rattle.asm_explore.specs.ScriptTo.{lines_of, needed};
 ghost use Rattle.asm_explore.specs.declared.script_line.Zeros.{Zeros};
@@ -39,4 +45,11 @@ pub fn script_law()
 /// left out.
 pub fn zeros_law()
     ensures { (zeros : Zeros) (lines : List Line) → IsUnrepeated (exactly lines) → (step : ℕ) (path : List ℕ) → pick (exactly (written zeros lines)) step path ≡ pick (exactly lines) step path }
+{}
+
+/// A rule makes each of its choices at a path of its own, at or below that of the rule. Who chooses
+/// the same at these paths, whatever elsewhere, has the rule do the same, and make the same choices.
+pub fn making_laws()
+    ensures { (shape : Shape) (turns : ℕ) (chosen : Path → ℕ) (P : RuleCode) (rs : List Reading) (ls : Locations) (A : State) (p : Path) →
+        MakingLaws shape turns chosen P rs ls A p }
 {}

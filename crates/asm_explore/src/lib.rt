@@ -4,6 +4,7 @@
 
 pub mod answer;
 pub mod answering;
+pub mod asked;
 mod beside;
 mod byte;
 mod candidates;
@@ -20,12 +21,14 @@ mod leading;
 mod leaf;
 mod listing;
 pub mod machine;
+pub mod making;
 pub mod nodes;
 pub mod outcomes;
 pub mod overflow;
 mod picking;
 mod quiet;
 pub mod refusal;
+pub mod run_choices;
 mod same;
 pub mod script_line;
 pub mod search;
@@ -40,6 +43,7 @@ pub mod writing;
 pub mod writing_error;
 
 pub use answer::{Answered, BadRun, Finding, QuietRun, Unwritten};
+pub use asked::Asked;
 pub use exploration::Exploration;
 pub use explored::{Bad, Ended, Explored};
 pub use fault::Fault;
@@ -48,6 +52,7 @@ pub use halt::Halt;
 pub use machine::{Listed, Machine};
 pub use nodes::Nodes;
 pub use refusal::{Crowd, Refusal};
+pub use run_choices::{RunChoices, choices_of_run, lines_of_run};
 pub use script_line::{ScriptLine, Zeros};
 pub use specified::Specified;
 pub use updates::Updates;

@@ -1,0 +1,83 @@
+-- The choices of the steps of a run, and the script that has a line for each.
+--     from_step, of_run       of each step that a run under a script makes, what belongs to the state that it begins in: the step that ends
+--                             the run is among them
+--     lines_from i steps      a line for each choice of some steps, of which the first has this number
+--     lines_forward steps     where steps count from 1
+--     MakesTheRun             lines of which no two have one step and one path, and under which the run is the same
+--     asked_said, asked_in    what was asked; in each step
+--     choices_made, choices_in    the choices that were made; in each step
+--     AreAsked                it is what the resolved main rule asks in each step of the run
+--     AreChoices              and these are the choices that it makes
+use Rattle.std.specs.Prelude.{◌≡◌, ℕ, zero, suc, List, [], ◌∷◌, ◌++◌, map}
+use Rattle.asm_state.specs.Location.{State}
+use Rattle.asm_state.specs.Updates.{fire}
+use Rattle.asm_syntax.specs.SourceTree.{Spec}
+use Rattle.asm_check.specs.Shapes.{shape_of}
+use Rattle.asm_reader.specs.ExactLines.{exactly}
+use Rattle.asm_reader.specs.ScriptLines.{Line, Script}
+use Rattle.asm_meaning.specs.Declarations.{specification_of}
+use Rattle.asm_meaning.specs.Run.{Specification, run}
+use Rattle.asm_meaning.specs.Scripts.{IsUnrepeated}
+use Rattle.asm_eval.specs.RuleScopes.{resolved_rule_in}
+use Rattle.asm_eval.specs.RuleTree.{RuleCode}
+use Rattle.asm_explore.specs.declared.asked.Asked.{Asked}
+use Rattle.asm_explore.specs.declared.found.Choice.{Choice}
+use Rattle.asm_explore.specs.declared.run_choices.RunChoices.{RunChoices}
+use Rattle.asm_explore.specs.Asks.{Asking, after_set, asks_in}
+use Rattle.asm_explore.specs.Lists.{Situation}
+use Rattle.asm_explore.specs.Made.{made_in}
+use Rattle.asm_explore.specs.Reached.{steps_from}
+use Rattle.asm_explore.specs.ScriptTo.{lines_for}
+
+-- ---- the steps of a run
+
+module _ {X : Type 0} (specification : Specification) (turns : ℕ) (its : State → Situation → X) (script : Script) where
+  -- of at most so many steps, the first of which has the number i and begins in the state A
+  abbrev pub from_step : (left i : ℕ) → State → List X
+  from_step zero i A = []
+  from_step (suc left) i A =
+      let s : Situation = record { script = script; step = i } in
+      its A s ∷ after_set (steps_from specification turns A s) (λ U. from_step left (suc i) (fire A U))
+
+  abbrev pub of_run : (limit : ℕ) → List X
+  of_run limit = from_step limit 1 specification.initial
+
+-- ---- the script
+
+abbrev pub lines_from : (step : ℕ) → List (List Choice) → List Line
+lines_from i [] = []
+lines_from i (cs ∷ steps) = lines_for i cs ++ lines_from (suc i) steps
+
+abbrev pub lines_forward : List (List Choice) → List Line
+lines_forward steps = lines_from 1 steps
+
+pub record MakesTheRun (specification : Specification) (turns : ℕ) (script : Script) (limit : ℕ) (lines : List Line) : Type 0 where
+  pub unrepeated : IsUnrepeated (exactly lines)
+  pub again : run specification turns (exactly lines) limit ≡ run specification turns script limit
+
+-- ---- what a run asked
+
+abbrev pub asked_said : Asked → Asking
+asked_said a = record { choice = a.choice; candidates = a.candidates.items }
+
+abbrev pub asked_in : RunChoices → List (List Asking)
+asked_in run = map (λ asked. map asked_said asked.items) run.steps.items
+
+abbrev pub choices_made : List Asked → List Choice
+choices_made asked = map (λ a. a.choice) asked
+
+abbrev pub choices_in : RunChoices → List (List Choice)
+choices_in run = map (λ asked. choices_made asked.items) run.steps.items
+
+module _ (spec : Spec) (turns : ℕ) (script : Script) (limit : ℕ) where
+  -- the rule that a specification starts with, resolved
+  pub record IsOfMain {X : Type 0} (its : RuleCode → State → Situation → X) (steps : List X) : Type 0 where
+    pub main : RuleCode
+    pub resolved : resolved_rule_in spec [] (specification_of spec).main main
+    pub steps_are : steps ≡ of_run (specification_of spec) turns (its main) script limit
+
+  abbrev pub AreAsked : List (List Asking) → Type 0
+  AreAsked steps = IsOfMain (asks_in (shape_of spec) turns) steps
+
+  abbrev pub AreChoices : List (List Choice) → Type 0
+  AreChoices steps = IsOfMain (made_in (shape_of spec) turns) steps
