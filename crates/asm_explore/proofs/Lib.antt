@@ -34,3 +34,5 @@ pub mod Makings
 pub mod MadeInOrder
 pub mod Refused
 pub mod Specifications
+pub mod MadePlaces
+pub mod MadeAlike

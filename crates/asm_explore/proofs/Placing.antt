@@ -73,6 +73,16 @@ placed_chosen p k cs h =
           (([], sym (append-nil p)), tt);
     }
 
+-- the same in the order in which they are made
+pub placed_first : (p : Path) (k : ℕ) (cs : List Choice) → IsPlaced (at p 0) cs → IsPlaced p (record { path = p; number = k } ∷ cs)
+placed_first p k cs h = record {
+  apart = (
+    each_weaker (λ c. LiesAt (at p 0) c.path) (λ c. p ≢ c.path) (λ c there same. no_longer p 0 there.0 (same ∙ in_part p c.path 0 there)) cs h.below,
+    h.apart,
+  );
+  below = (([], sym (append-nil p)), each_weaker (λ c. LiesAt (at p 0) c.path) (λ c. LiesAt p c.path) (λ c there. lies_above p c.path 0 there) cs h.below);
+}
+
 -- ---- choices of parts
 
 in_weaker : (p : Path) (N M : ℕ → Type 0) → ((k : ℕ) → N k → M k) → (cs : List Choice) → IsPlacedIn p N cs → IsPlacedIn p M cs

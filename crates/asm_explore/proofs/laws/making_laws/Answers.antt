@@ -1,0 +1,5 @@
+use Rattle.asm_explore.proofs.MadeAlike.{making_laws}
+use Rattle.asm_explore.proofs.laws.making_laws.Goals as goal
+
+pub returns : goal.returns
+returns c = making_laws
