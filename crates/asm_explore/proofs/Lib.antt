@@ -36,3 +36,6 @@ pub mod Refused
 pub mod Specifications
 pub mod MadePlaces
 pub mod MadeAlike
+pub mod AskedMade
+pub mod AskedWorks
+pub mod AskedOrder
