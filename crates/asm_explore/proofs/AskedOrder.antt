@@ -1,11 +1,12 @@
 -- What is asked in sequences and turns, from part to part.
 --     parts_left, seq_asks, order_next, order_end     what is left of a sequence
---     turns_left, iterate_asks, turns_next, turns_end what is left of turns
+--     turns_left, iterate_asks, turns_step, turns_end what is left of turns
+--     skip_none, assign_none    what asks nothing
 --     IsAsking          on the way: what was asked so far, and what is left upon the set so far, are the whole
 --     begins            before the first part
 --     part_on, turn_on  after one with which it goes on
 --     part_ends, turn_ends, gone      where it ends with one, or with one that is exhausted
-use Rattle.std.proofs.Common.{◌++◌, ◌≡◌, ◌∙◌, ◌+◌, ◌<◌, ◌≤◌, ℕ, zero, suc, Bool, true, false, cond, not, ◌||◌, List, [], ◌∷◌, length, get_or, map, drop, Some, None, inl, inr, refl, sym, ap, subst, add-one, append_assoc, append-nil, ◌⊎◌}
+use Rattle.std.proofs.Common.{◌++◌, ◌≡◌, ◌∙◌, ◌+◌, ◌-◌, ◌<◌, ◌≤◌, ℕ, arith, zero, suc, Bool, true, false, cond, not, ◌||◌, List, [], ◌∷◌, length, get_or, map, drop, Option, Some, None, inl, inr, refl, sym, ap, subst, add-one, append_assoc, append-nil, ◌⊎◌}
 use Rattle.std.proofs.Math.Bool.{or-true}
 use Rattle.std.proofs.Math.ListN.{drop_of_length-le}
 use Rattle.std.proofs.lemmas.List.{at_drop_more}
@@ -23,6 +24,7 @@ use Rattle.asm_meaning.specs.PartSets.{IsPartSet, ends_parts, ends_turns}
 use Rattle.asm_meaning.specs.Yields.{Path, Result, Gives, Exhausted, at}
 use Rattle.asm_meaning.specs.declared.part_set.PartSet.{PartSet}
 use Rattle.asm_meaning.proofs.Sequences.{part_laws-consistent_part as consistent_part, part_laws-ending_part as ending_part, part_laws-some_turn as some_turn, part_laws-consistent_turn as consistent_turn, part_laws-ending_turn as ending_turn}
+use Rattle.asm_eval.specs.CodeTree as codes
 use Rattle.asm_eval.specs.RuleTree as tree
 use Rattle.asm_eval.specs.RuleViews.{rule_of, rules_of}
 use Rattle.asm_eval.specs.Running.{rule_in, shape_at, state_at}
@@ -102,7 +104,7 @@ module _ {P : Type 0} {picks : Ghosts P} (running : Running P picks) (f : Frame)
   abbrev IsOn : Type 0
   IsOn = IsAsking (shape_at running) (state_at running) so_far left whole now
 
-  abbrev Upon : _ → Type 0
+  abbrev Upon : Option PartSet → Type 0
   Upon next = (U : UpdateSet) → Stands (shape_at running) so_far U → IsConsistent U → IsUpon running f q R U joined now new next
 
   -- upon a set: what was asked, and what comes after it
@@ -208,5 +210,22 @@ module _ {P : Type 0} {picks : Ghosts P} (running : Running P picks) (f : Frame)
   turns_next R left t B =
       ap (λ k. asks_at running f (at p t) R B ++ after_turn_set (rule_in running f (at p t) R B).result (λ V. turns_left R left k (fire B V))) (sym (add-one t))
 
+  -- of so many turns
+  pub turns_step : (R : tree.RuleCode) (all t : ℕ) → t < all → (B : State)
+      → turns_left R (all - t) t B ≡ asks_at running f (at p t) R B ++ after_turn_set (rule_in running f (at p t) R B).result (λ V. turns_left R (all - (t + 1)) (t + 1) (fire B V))
+  turns_step R all t low B =
+      let count : suc (all - (t + 1)) ≡ all - t = omega (arith, low) in
+      ap (λ n. turns_left R n t B) (sym count) ∙ turns_next R (all - (t + 1)) t B
+
   pub turns_end : (R : tree.RuleCode) (t : ℕ) (B : State) → turns_left R 0 t B ≡ []
   turns_end R t B = refl
+
+  -- ---- what asks nothing
+
+  pub skip_none : (R : tree.RuleCode) (B : State) → R ≡ tree.Skip → asks_at running f p R B ≡ []
+  unfolding asks
+  skip_none R B is = ap (λ Q. asks_at running f p Q B) is
+
+  pub assign_none : (R : tree.RuleCode) (to : tree.Place) (t : codes.Code) (B : State) → R ≡ tree.Assign to t → asks_at running f p R B ≡ []
+  unfolding asks
+  assign_none R to t B is = ap (λ Q. asks_at running f p Q B) is

@@ -1,6 +1,7 @@
 -- What is asked in a rule is what its own `choose` asks, and what is asked in the works to which it is opened.
 --     work_asks, works_of     what is asked in a work; the works of what something is opened to
 --     opened_asks             of a rule that isn't closed
+--     closed_own              a rule that is closed asks nothing itself
 --     works_fall              each of these works is of a smaller rule, and has all of it
 use Rattle.std.proofs.Common.{◌++◌, ◌≡◌, ◌∙◌, ◌%◌, ◌+◌, ◌-◌, ◌<◌, ◌≤◌, ℕ, zero, suc, Bool, true, false, cond, List, [], ◌∷◌, length, Option, Some, None, refl, sym, ap, arith, add-one, append-nil}
 use Rattle.std.specs.Prelude.{nat_le, slice_index_or}
@@ -111,9 +112,22 @@ module _ (shape : Shape) (turns : ℕ) (chosen : Path → ℕ) (A : State) where
     opened_asks cut (Choose u c P Q) open few = choice_asked (chosen p) (passing shape u c rs A) P Q
     opened_asks cut (Call P to ts) open few = sym (append-nil _)
 
+-- a rule that is closed asks nothing itself
+pub closed_own : (shape : Shape) (chosen : Path → ℕ) (R : RuleCode) (rs : List Reading) (A : State) (p : Path) → is_closed R ≡ true → own_asks shape chosen R rs A p ≡ []
+closed_own shape chosen Skip rs A p is = refl
+closed_own shape chosen (Assign to t) rs A p is = refl
+closed_own shape chosen (Par Ps) rs A p is = refl
+closed_own shape chosen (Seq Ps) rs A p is = refl
+closed_own shape chosen (If c P Q) rs A p is = refl
+closed_own shape chosen (Let t P) rs A p is = refl
+closed_own shape chosen (Forall u c P) rs A p is = refl
+closed_own shape chosen (Choose u c P Q) rs A p is = cc
+closed_own shape chosen (Iterate P) rs A p is = refl
+closed_own shape chosen (Call P to ts) rs A p is = refl
+
 -- ---- the works are of smaller rules
 
-record IsBelow (n : ℕ) (w : Work) : Type 0 where
+pub record IsBelow (n : ℕ) (w : Work) : Type 0 where
   pub smaller : rule_size w.rule < n
   pub whole : w.part ≡ part.Whole
 

@@ -39,3 +39,6 @@ pub mod MadeAlike
 pub mod AskedMade
 pub mod AskedWorks
 pub mod AskedOrder
+pub mod OpenedAsks
+pub mod RunsAgain
+pub mod RunSteps

@@ -5,6 +5,7 @@
 --     order_asked, turns_asked    in rules in order, and in turns, from a number on
 --     own_choice, own_asks    at a `choose` itself
 --     HasAtMost o n           a number is at most so great, if there is one
+--     HasCount n o            the set of an outcome has this count of locations
 --     IsUpon                  what was asked in the next part upon a set, and how the sequence goes on
 use Rattle.std.specs.Prelude.{◌≡◌, ◌≤◌, ◌%◌, ◌++◌, ℕ, List, [], ◌∷◌, length, map, Option, Some, None}
 use Rattle.asm_reader.specs.declared.picks.Picks.{Ghosts}
@@ -17,6 +18,8 @@ use Rattle.asm_updates.specs.Stands.{Stands}
 use Rattle.asm_meaning.specs.PartSets.{IsPartSet}
 use Rattle.asm_meaning.specs.Value.{Reading}
 use Rattle.asm_meaning.specs.Yields.{Path, Result, Gives, Exhausted}
+use Rattle.asm_meaning.specs.declared.outcome.Outcome.{Outcome}
+use Rattle.asm_meaning.specs.declared.outcome.Outcome.TheVariants as outcome
 use Rattle.asm_meaning.specs.declared.part_set.PartSet.{PartSet}
 use Rattle.asm_eval.specs.Frames.{readings_of}
 use Rattle.asm_eval.specs.RuleMeaning.{passing}
@@ -41,6 +44,10 @@ HasAtMost (Some k) n = k ≤ n
 abbrev pub own_choice : Path → (chosen : ℕ) → List Value → List Asking
 own_choice p n [] = []
 own_choice p n (v ∷ vs) = record { choice = record { path = p; number = n % length (v ∷ vs) }; candidates = v ∷ vs } ∷ []
+
+abbrev pub HasCount : ℕ → Outcome → Type 0
+HasCount n (outcome.Set set instances) = set.count ≡ n
+HasCount n (outcome.Exhausted p) = Unit {0}
 
 module _ (shape : Shape) (chosen : Path → ℕ) where
   abbrev pub own_asks : RuleCode → List Reading → State → Path → List Asking

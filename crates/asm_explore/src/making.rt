@@ -15,7 +15,7 @@ ghost use Rattle.asm_eval.specs.RuleTree as tree;
 ghost use Rattle.asm_eval.specs.RuleViews.{rule_of, rules_of};
 ghost use Rattle.asm_eval.specs.Running.{chosen_at, passing_in, rule_upon, shape_at, state_at};
 ghost use Rattle.asm_eval.specs.Sound.{IsUniverseNumber};
-ghost use Rattle.asm_explore.specs.AskedPieces.{HasAtMost, IsUpon, all_said, asks_at, own_at, own_choice, piece_asks};
+ghost use Rattle.asm_explore.specs.AskedPieces.{HasAtMost, HasCount, IsUpon, all_said, asks_at, own_at, own_choice, piece_asks};
 
 use crate::asked::Asked;
 use crate::candidates::candidates;
@@ -288,6 +288,7 @@ fn asked_upon<'e, P: Picks>(
     requires counted { so_far.now.count ≡ count_of (shape_at running.now) }
     ensures asked { (U : UpdateSet) → Stands (shape_at running.now) so_far.now U → IsConsistent U →
         OnOk result (all_said into.new.items ≡ all_said into.old.items ++ asks_at running.now piece.now.frame piece.now.path (rule_of piece.now.rule.now) (fire (state_at running.now) U)) }
+    ensures counted { IfOk result (HasCount (count_of (shape_at running.now))) }
     ensures formed { (U : UpdateSet) → Stands (shape_at running.now) so_far.now U → IsConsistent U →
         IfOk result (IsFormed (shape_at running.now) (rule_upon running.now U piece.now.frame piece.now.path (rule_of piece.now.rule.now))) }
 {

@@ -148,6 +148,7 @@ pub fn choices_of_run<P: Picks>(
     ensures choices { IfOk result (λ run. AreChoices (spec_of checked.now.spec) turns (P.script script.now) steps (choices_in run)) }
     ensures again { IfOk result (λ run. MakesTheRun (specification_of (spec_of checked.now.spec)) turns (P.script script.now) steps (lines_forward (choices_in run))) }
 {
+    resolving_laws();
     let code = resolve_main(alloc, checked)?;
     let run = asked_by_run(alloc, checked, &code, turns, script, steps)?;
     Ok(run)

@@ -1,0 +1,154 @@
+use Rattle.std.proofs.Common.{◌≡◌, ◌∙◌, ◌+◌, ◌-◌, ◌++◌, map, length, take, Some, None, rules, refl, sym, ap, subst, arith, append-nil, append_assoc}
+use Rattle.std.specs.List.{flat_map}
+use Rattle.std.proofs.lemmas.List.{take_all}
+use Rattle.asm_meaning.specs.Does as does
+use Rattle.asm_meaning.specs.Formed.{IsFormed, IsSet}
+use Rattle.asm_meaning.specs.Yields.{at}
+use Rattle.asm_eval.specs.CodeViews.{code_of}
+use Rattle.asm_eval.specs.RuleTree as tree
+use Rattle.asm_eval.specs.RuleViews.{place_of, rule_of, rules_of}
+use Rattle.asm_eval.specs.Running.{rule_upon, shape_at, state_at}
+use Rattle.asm_explore.specs.AskedPieces.{IsUpon, all_said, own_at, piece_asks}
+use Rattle.asm_explore.proofs.AskedOrder.{begins, gone, part_on, part_ends, part_exhausted, turn_on, turn_ends, turn_exhausted, parts_left, seq_asks, order_next, order_end, turns_left, iterate_asks, turns_step, skip_none, assign_none}
+use Rattle.asm_explore.proofs.CodeLists.{sound_part, size_of_part}
+use Rattle.asm_explore.proofs.CodeRules.{skip_form, assign_form}
+use Rattle.asm_explore.proofs.OpenedAsks.{formed_counted, piece_falls, pieces_ask}
+use Rattle.asm_explore.proofs.making.+asking.Goals as goal
+
+-- src/making.rt:131:17
+pub add_asked-add_asked-requires : goal.add_asked-add_asked-requires
+add_asked-add_asked-requires g t c κs within =
+    let a = c.args in
+    let low = c.loop-i-test.true in
+    let falls = piece_falls a.running.now a.piece.now c.whole_cut-cut.result c.requires.whole c.whole_cut-cut.ensures.whole c.in_ok-pieces.field-0 c.in_ok-pieces.ensures
+    c.in-Pieces.pieces c.in-Pieces.instances c.in-Pieces.is c.loop-i.i c.index.result.now (omega (arith, low, c.len-i-end.ensures)) c.index.ensures in
+    let small = falls.0 in
+    (omega (arith, c.decreases, small), (search rules, (search rules, (falls.2, falls.1))))
+
+pub add_asked-returns-after-loop-i : goal.add_asked-returns-after-loop-i
+add_asked-returns-after-loop-i g t c =
+    let a = c.args in
+    let r = a.running.now in
+    let old = all_said a.into.now.items in
+    let pieces = c.in-Pieces.pieces in
+    let all = take_all c.loop-i.i pieces.items (omega (arith, c.loop-i-test.false, c.len-i-end.ensures)) in
+    c.loop-i.invariant
+    ∙ ap (λ xs. (old ++ own_at r a.piece.now) ++ flat_map (piece_asks r) xs) all
+    ∙ append_assoc old (own_at r a.piece.now) (flat_map (piece_asks r) pieces.items)
+    ∙ ap (λ xs. old ++ xs) (sym (pieces_ask r a.piece.now c.whole_cut-cut.result c.requires.whole c.whole_cut-cut.ensures.whole c.in_ok-pieces.field-0 c.in_ok-pieces.ensures
+    pieces c.in-Pieces.instances c.in-Pieces.is))
+
+pub add_closed-returns-in-Skip : goal.add_closed-returns-in-Skip
+add_closed-returns-in-Skip g t c =
+    let a = c.args in
+    let old = all_said a.into.now.items in
+    sym (append-nil old)
+    ∙ ap (λ xs. old ++ xs) (sym (skip_none a.running.now a.piece.now.frame a.piece.now.path (rule_of a.piece.now.rule.now) (state_at a.running.now) (skip_form a.piece.now.rule.now c.in-Skip.is)))
+
+pub add_closed-returns-in-Assign : goal.add_closed-returns-in-Assign
+add_closed-returns-in-Assign g t c =
+    let a = c.args in
+    let old = all_said a.into.now.items in
+    sym (append-nil old)
+    ∙ ap (λ xs. old ++ xs) (sym (assign_none a.running.now a.piece.now.frame a.piece.now.path (rule_of a.piece.now.rule.now) (place_of c.in-Assign.place) (code_of c.in-Assign.value) (state_at a.running.now)
+    (assign_form a.piece.now.rule.now c.in-Assign.place c.in-Assign.value c.in-Assign.is)))
+
+-- ---- parts in order
+
+pub add_in_order-loop-i-init : goal.add_in_order-loop-i-init
+add_in_order-loop-i-init g t c =
+    let a = c.args in
+    let r = a.running.now in
+    record {
+      counted = c.new-so_far.ensures.count ∙ c.count.ensures.count;
+      asking = begins (shape_at r) (state_at r) c.new-so_far.result (parts_left r a.frame.now a.path.now a.parts.now 0) (all_said a.into.now.items) _
+          (c.new-so_far.ensures.empty (shape_at r) c.count.ensures.sound c.count.ensures.count) (seq_asks r a.frame.now a.path.now a.parts.now (state_at r));
+    }
+
+pub add_in_order-add_next-requires : goal.add_in_order-add_next-requires
+add_in_order-add_next-requires g t c κs within =
+    let a = c.args in
+    let l = c.loop-i in
+    let small = size_of_part a.parts.now l.i c.index-parts-i.result c.loop-i-test.true c.index-parts-i.is in
+    (omega (arith, c.decreases, small), (search rules, (search rules, (sound_part (shape_at a.running.now) a.parts.now l.i c.index-parts-i.result c.loop-i-test.true c.index-parts-i.is c.requires.sound, (c.requires.framed, l.invariant.counted)))))
+
+pub add_in_order-returns-in_default : goal.add_in_order-returns-in_default
+add_in_order-returns-in_default g t c =
+    let a = c.args in
+    let r = a.running.now in
+    let l = c.loop-i in
+    part_exhausted r a.frame.now (at a.path.now l.i) (rule_of c.index-parts-i.result) l.so_far c.add_next.new.so_far
+    (parts_left r a.frame.now a.path.now a.parts.now l.i) (parts_left r a.frame.now a.path.now a.parts.now (l.i + 1)) _ (all_said l.into.items) (all_said c.add_next.new.into.items)
+    (order_next r a.frame.now a.path.now a.parts.now l.i c.index-parts-i.result c.loop-i-test.true c.index-parts-i.is)
+    (λ U stands consistent. subst (IsUpon r a.frame.now (at a.path.now l.i) (rule_of c.index-parts-i.result) U c.add_next.new.so_far (all_said l.into.items) (all_said c.add_next.new.into.items))
+    c.in_default.is (c.in_ok-next.ensures.upon U stands consistent))
+    l.invariant.asking
+
+pub add_in_order-returns-then-ends_parts : goal.add_in_order-returns-then-ends_parts
+add_in_order-returns-then-ends_parts g t c =
+    let a = c.args in
+    let r = a.running.now in
+    let l = c.loop-i in
+    part_ends r a.frame.now (at a.path.now l.i) (rule_of c.index-parts-i.result) l.so_far c.add_next.new.so_far
+    (parts_left r a.frame.now a.path.now a.parts.now l.i) (parts_left r a.frame.now a.path.now a.parts.now (l.i + 1)) _ (all_said l.into.items) (all_said c.add_next.new.into.items)
+    (order_next r a.frame.now a.path.now a.parts.now l.i c.index-parts-i.result c.loop-i-test.true c.index-parts-i.is)
+    c.in-Some.part (sym c.ends_parts.ensures ∙ c.if-ends_parts.true)
+    (λ U stands consistent. subst (IsUpon r a.frame.now (at a.path.now l.i) (rule_of c.index-parts-i.result) U c.add_next.new.so_far (all_said l.into.items) (all_said c.add_next.new.into.items))
+    c.in-Some.is (c.in_ok-next.ensures.upon U stands consistent))
+    l.invariant.asking
+
+pub add_in_order-loop-i-preserved : goal.add_in_order-loop-i-preserved
+add_in_order-loop-i-preserved g t c =
+    let a = c.args in
+    let r = a.running.now in
+    let l = c.loop-i in
+    record {
+      counted = c.in_ok-next.ensures.counted ∙ l.invariant.counted;
+      asking = part_on r a.frame.now (at a.path.now l.i) (rule_of c.index-parts-i.result) l.so_far c.add_next.new.so_far
+          (parts_left r a.frame.now a.path.now a.parts.now l.i) (parts_left r a.frame.now a.path.now a.parts.now (l.i + 1)) _ (all_said l.into.items) (all_said c.add_next.new.into.items)
+          (order_next r a.frame.now a.path.now a.parts.now l.i c.index-parts-i.result c.loop-i-test.true c.index-parts-i.is)
+          c.in-Some.part (sym c.ends_parts.ensures ∙ c.if-ends_parts.false)
+          (λ U stands consistent. subst (IsUpon r a.frame.now (at a.path.now l.i) (rule_of c.index-parts-i.result) U c.add_next.new.so_far (all_said l.into.items) (all_said c.add_next.new.into.items))
+          c.in-Some.is (c.in_ok-next.ensures.upon U stands consistent))
+          l.invariant.asking;
+    }
+
+pub add_in_order-returns : goal.add_in_order-returns
+add_in_order-returns g t c =
+    let a = c.args in
+    let r = a.running.now in
+    let l = c.loop-i in
+    gone (shape_at r) (state_at r) l.so_far (parts_left r a.frame.now a.path.now a.parts.now l.i) _ (all_said l.into.items)
+    (order_end r a.frame.now a.path.now a.parts.now l.i (omega (arith, c.loop-i-test.false))) l.invariant.asking
+
+-- ---- the next part
+
+pub add_next-of-part-requires : goal.add_next-of-part-requires
+add_next-of-part-requires g t c = ?
+
+pub add_next-then-requires : goal.add_next-then-requires
+add_next-then-requires g t c = ?
+
+pub add_next-returns-clause-upon : goal.add_next-returns-clause-upon
+add_next-returns-clause-upon g t c = ?
+
+-- ---- turns
+
+pub add_turns-loop-turn-init : goal.add_turns-loop-turn-init
+add_turns-loop-turn-init g t c =
+    let a = c.args in
+    let r = a.running.now in
+    record {
+      counted = c.new-so_far.ensures.count ∙ c.count.ensures.count;
+      asking = begins (shape_at r) (state_at r) c.new-so_far.result (turns_left r a.frame.now a.path.now (rule_of a.body.now) r.turns 0) (all_said a.into.now.items) _
+          (c.new-so_far.ensures.empty (shape_at r) c.count.ensures.sound c.count.ensures.count) (iterate_asks r a.frame.now a.path.now (rule_of a.body.now) (state_at r));
+    }
+
+pub add_turns-returns-in_default : goal.add_turns-returns-in_default
+add_turns-returns-in_default g t c = ?
+
+pub add_turns-returns-then-ends_turns : goal.add_turns-returns-then-ends_turns
+add_turns-returns-then-ends_turns g t c = ?
+
+pub add_turns-loop-turn-preserved : goal.add_turns-loop-turn-preserved
+add_turns-loop-turn-preserved g t c = ?
