@@ -123,11 +123,11 @@ module _ {P : Type 0} {picks : Ghosts P} (running : Running P picks) (f : Frame)
       let U = it.set in
       let next = upon U it.stands it.consistent in
       let V = next.joins.0 in
-      let kind = next.joins.2.0 in
+      let kind = next.joins.2 in
       let good_set = consistent V kind in
       record {
         set = merge U V;
-        stands = next.joins.2.1;
+        stands = next.joins.3;
         consistent = merge_laws.consistent U V it.consistent good_set;
         asked = ap (λ B. new ++ left_then B) (merge_laws.firing A U V)
             ∙ ap (λ xs. new ++ xs) (sym (goes V kind (λ W. left_then (fire (fire A U) W))))
@@ -142,7 +142,7 @@ module _ {P : Type 0} {picks : Ghosts P} (running : Running P picks) (f : Frame)
       let V = next.joins.0 in
       let B = fire (state_at running) it.set in
       sym (append-nil new)
-      ∙ ap (λ xs. new ++ xs) (sym (stops V next.joins.2.0 (λ W. left_then (fire B W))))
+      ∙ ap (λ xs. new ++ xs) (sym (stops V next.joins.2 (λ W. left_then (fire B W))))
       ∙ ap (λ r. new ++ after r (λ W. left_then (fire B W))) (sym next.joins.1)
       ∙ asked_then after steps it next.asked
 

@@ -101,16 +101,16 @@ module _ (shape : Shape) (turns : ℕ) (chosen : Path → ℕ) (A : State) where
     pub opened_asks : (cut : ℕ) (R : RuleCode) → is_closed R ≡ false → HasAtMost (all_positions shape R) cut
         → asks shape turns chosen R rs ls A p ≡ own_asks shape chosen R rs A p ++ all_ask (works_of (rule_works shape A chosen cut R rs ls p))
     unfolding asks
-    opened_asks cut Skip open few = cc
-    opened_asks cut (Assign to t) open few = cc
-    opened_asks cut (Seq Ps) open few = cc
-    opened_asks cut (Iterate P) open few = cc
-    opened_asks cut (Par Ps) open few = parts_asked Ps 0
-    opened_asks cut (If c P Q) open few = either_asked (is_true (reading shape c rs A)) P Q
-    opened_asks cut (Let t P) open few = sym (append-nil _)
-    opened_asks cut (Forall u c P) open few = span_asked c P cut u few
-    opened_asks cut (Choose u c P Q) open few = choice_asked (chosen p) (passing shape u c rs A) P Q
-    opened_asks cut (Call P to ts) open few = sym (append-nil _)
+    opened_asks cut Skip opens few = cc
+    opened_asks cut (Assign to t) opens few = cc
+    opened_asks cut (Seq Ps) opens few = cc
+    opened_asks cut (Iterate P) opens few = cc
+    opened_asks cut (Par Ps) opens few = parts_asked Ps 0
+    opened_asks cut (If c P Q) opens few = either_asked (is_true (reading shape c rs A)) P Q
+    opened_asks cut (Let t P) opens few = sym (append-nil _)
+    opened_asks cut (Forall u c P) opens few = span_asked c P cut u few
+    opened_asks cut (Choose u c P Q) opens few = choice_asked (chosen p) (passing shape u c rs A) P Q
+    opened_asks cut (Call P to ts) opens few = sym (append-nil _)
 
 -- a rule that is closed asks nothing itself
 pub closed_own : (shape : Shape) (chosen : Path → ℕ) (R : RuleCode) (rs : List Reading) (A : State) (p : Path) → is_closed R ≡ true → own_asks shape chosen R rs A p ≡ []

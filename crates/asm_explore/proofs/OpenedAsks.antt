@@ -18,7 +18,7 @@ use Rattle.asm_meaning.specs.declared.outcome.Outcome.{Outcome}
 use Rattle.asm_meaning.specs.declared.outcome.Outcome.TheVariants as outcome
 use Rattle.asm_meaning.specs.declared.part.Part.TheVariants as part
 use Rattle.asm_eval.specs.Frames.{readings_of}
-use Rattle.asm_eval.specs.OpenedPieces.{Opens, is_closed, works_in}
+use Rattle.asm_eval.specs.OpenedPieces.{Opens, is_closed, pieces_in, works_in}
 use Rattle.asm_eval.specs.Opening.{Work, work_of, part_opened, rule_works}
 use Rattle.asm_eval.specs.Pieces.{IsPiece, all_positions}
 use Rattle.asm_eval.specs.RuleMeaning.{Locations, rule_size}
@@ -83,12 +83,8 @@ module _ {P : Type 0} {picks : Ghosts P} (running : Running P picks) (piece : Pi
   piece_falls i q low there =
       let falls = subst (Each (IsBelow (rule_size R))) (sym (ap works_of works_are)) (works_fall shape (state_at running) (chosen_at running) cut R rs ls piece.path few) in
       let one = each_at (λ (q : Piece). IsBelow (rule_size R) (work_of shape q)) pieces.items i q low there (each_mapped (IsBelow (rule_size R)) (work_of shape) pieces.items falls) in
-      let all = subst (λ it. All (IsPiece shape) (pieces_of it)) is opens.are_pieces in
-      (one.smaller, (one.whole, subst (IsPiece shape) (sym there) (All-get_or (IsPiece shape) pieces.items i q low all)))
-    where
-      abbrev pieces_of : Opened → List Piece
-      pieces_of (opening.Pieces pieces n) = pieces.items
-      pieces_of opening.Closed = []
+      let all = subst (λ it. All (IsPiece shape) (pieces_in it)) is opens.are_pieces in
+      (one.smaller, one.whole, subst (IsPiece shape) (sym there) (All-get_or (IsPiece shape) pieces.items i q low all))
 
   pub pieces_ask : piece_asks running piece ≡ own_at running piece ++ flat_map (piece_asks running) pieces.items
   pieces_ask =
