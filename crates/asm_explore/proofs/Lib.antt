@@ -42,3 +42,4 @@ pub mod AskedOrder
 pub mod OpenedAsks
 pub mod RunsAgain
 pub mod RunSteps
+pub mod StepLeads

@@ -1,6 +1,6 @@
 -- What is asked in a run, from step to step.
 --     steps_on, steps_end     after a step with which the run goes on; after one in which it ends
---     none_left               where no step is left
+--     steps_begin, none_left  before the first step; where no step is left
 --     said_choices, run_choices    the choices of what was asked
 --     for_more, from_more     the lines of one choice more, and of one step more
 --     lines_counted           steps count from 1
@@ -70,6 +70,11 @@ module _ {X : Type 0} (specification : Specification) (turns : ℕ) (its : State
       ap (λ xs. so_far ++ one ∷ xs) (sym (leads_nowhere shape A (steps_from specification turns A (situation i)) (from_now n (suc i)) leads))
       ∙ ap (λ (x : X). so_far ++ x ∷ after_set (steps_from specification turns A (situation i)) (λ U. from_now n (suc i) (fire A U))) is
       ∙ ap (λ xs. so_far ++ xs) (sym (steps_next (all - done) i n A count))
+
+  pub steps_begin : (all : ℕ) (A : State) → A ≡ specification.initial → from_now (all - 0) (0 + 1) A ≡ from_now all 1 specification.initial
+  steps_begin all A is =
+      let every : all - 0 ≡ all = omega arith in
+      (λ j. from_now (every j) 1 (is j))
 
   pub none_left : (all done : ℕ) (A : State) (so_far : List X) → all ≤ done → so_far ≡ so_far ++ from_now (all - done) (done + 1) A
   none_left all done A so_far past =

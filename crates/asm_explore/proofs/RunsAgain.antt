@@ -66,45 +66,46 @@ lines_back steps = turned_lines [] steps
 
 -- ---- the steps of a run
 
-from_each : {X : Type 0} (specification : Specification) (turns : ℕ) (its : State → Situation → X) (script : Script) (P : X → Type 0)
-    → ((A : State) (s : Situation) → P (its A s)) → (left i : ℕ) (A : State) → Each P (from_step specification turns its script left i A)
-from_each specification turns its script P h zero i A = tt
-from_each specification turns its script P h (suc left) i A =
-    let s : Situation = record { script = script; step = i } in
-    (h A s, after_each (steps_from specification turns A s) (λ U. from_step specification turns its script left (suc i) (fire A U)) (λ U. from_each specification turns its script P h left (suc i) (fire A U)))
-  where
-    if_each : (b : Bool) (xs : List X) → Each P xs → Each P (cond b xs [])
-    if_each true xs h = h
-    if_each false xs h = tt
+module _ {X : Type 0} (P : X → Type 0) where
+  if_each : (b : Bool) (xs : List X) → Each P xs → Each P (cond b xs [])
+  if_each true xs h = h
+  if_each false xs h = tt
 
-    after_each : (r : Result) (rest : UpdateSet → List X) → ((U : UpdateSet) → Each P (rest U)) → Each P (after_set r rest)
-    after_each (Exhausted q) rest h = tt
-    after_each (Gives U) rest h = if_each (is_consistent U) (rest U) (h U)
+  after_each : (r : Result) (rest : UpdateSet → List X) → ((U : UpdateSet) → Each P (rest U)) → Each P (after_set r rest)
+  after_each (Exhausted q) rest h = tt
+  after_each (Gives U) rest h = if_each (is_consistent U) (rest U) (h U)
+
+  module _ (specification : Specification) (turns : ℕ) (its : State → Situation → X) (script : Script) (holds : (A : State) (s : Situation) → P (its A s)) where
+    from_each : (left i : ℕ) (A : State) → Each P (from_step specification turns its script left i A)
+    from_each zero i A = tt
+    from_each (suc left) i A =
+        let s : Situation = record { script = script; step = i } in
+        (holds A s, after_each (steps_from specification turns A s) (λ U. from_step specification turns its script left (suc i) (fire A U)) (λ U. from_each left (suc i) (fire A U)))
 
 pub all_apart : (specification : Specification) (turns : ℕ) (shape : Shape) (main : RuleCode) (script : Script) (limit : ℕ)
     → Each AreApart (of_run specification turns (made_in shape turns main) script limit)
 all_apart specification turns shape main script limit =
-    from_each specification turns (made_in shape turns main) script AreApart (λ A s. (rule_placed shape turns (picked s) main [] [] A []).apart) limit 1 specification.initial
+    from_each AreApart specification turns (made_in shape turns main) script (λ A s. (rule_placed shape turns (picked s) main [] [] A []).apart) limit 1 specification.initial
 
 -- ---- the choices of what is asked
 
-from_choices : (specification : Specification) (turns : ℕ) (shape : Shape) (main : RuleCode) (script : Script) (left i : ℕ) (A : State)
-    → map choices_of (from_step specification turns (asks_in shape turns main) script left i A) ≡ from_step specification turns (made_in shape turns main) script left i A
-from_choices specification turns shape main script zero i A = refl
-from_choices specification turns shape main script (suc left) i A =
-    let s : Situation = record { script = script; step = i } in
-    (λ j. made_asked shape turns (picked s) main [] [] A [] j
-    ∷ after_map (steps_from specification turns A s) (λ U. from_step specification turns (asks_in shape turns main) script left (suc i) (fire A U))
-    (λ U. from_step specification turns (made_in shape turns main) script left (suc i) (fire A U)) (λ U. from_choices specification turns shape main script left (suc i) (fire A U)) j)
-  where
-    if_map : (b : Bool) (xs : List (List Asking)) (ys : List (List Choice)) → map choices_of xs ≡ ys → map choices_of (cond b xs []) ≡ cond b ys []
-    if_map true xs ys h = h
-    if_map false xs ys h = refl
+if_choices : (b : Bool) (xs : List (List Asking)) (ys : List (List Choice)) → map choices_of xs ≡ ys → map choices_of (cond b xs []) ≡ cond b ys []
+if_choices true xs ys h = h
+if_choices false xs ys h = refl
 
-    after_map : (r : Result) (x : UpdateSet → List (List Asking)) (y : UpdateSet → List (List Choice)) → ((U : UpdateSet) → map choices_of (x U) ≡ y U)
-        → map choices_of (after_set r x) ≡ after_set r y
-    after_map (Exhausted q) x y h = refl
-    after_map (Gives U) x y h = if_map (is_consistent U) (x U) (y U) (h U)
+after_choices : (r : Result) (x : UpdateSet → List (List Asking)) (y : UpdateSet → List (List Choice)) → ((U : UpdateSet) → map choices_of (x U) ≡ y U)
+    → map choices_of (after_set r x) ≡ after_set r y
+after_choices (Exhausted q) x y h = refl
+after_choices (Gives U) x y h = if_choices (is_consistent U) (x U) (y U) (h U)
+
+module _ (specification : Specification) (turns : ℕ) (shape : Shape) (main : RuleCode) (script : Script) where
+  from_choices : (left i : ℕ) (A : State) → map choices_of (from_step specification turns (asks_in shape turns main) script left i A) ≡ from_step specification turns (made_in shape turns main) script left i A
+  from_choices zero i A = refl
+  from_choices (suc left) i A =
+      let s : Situation = record { script = script; step = i } in
+      let rest = after_choices (steps_from specification turns A s) (λ U. from_step specification turns (asks_in shape turns main) script left (suc i) (fire A U))
+      (λ U. from_step specification turns (made_in shape turns main) script left (suc i) (fire A U)) (λ U. from_choices left (suc i) (fire A U)) in
+      (λ j. made_asked shape turns (picked s) main [] [] A [] j ∷ rest j)
 
 pub choices_are : (specification : Specification) (turns : ℕ) (shape : Shape) (main : RuleCode) (script : Script) (limit : ℕ)
     → map choices_of (of_run specification turns (asks_in shape turns main) script limit) ≡ of_run specification turns (made_in shape turns main) script limit

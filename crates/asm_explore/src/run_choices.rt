@@ -128,7 +128,7 @@ fn asked_by_run<P: Picks>(
         let next = make_step(alloc, checked, code, turns, &choices, &state, &mut asked)?;
         all.push(asked)?;
         match next {
-            Some(next) => state = next,
+            Some(later) => state = later,
             None => return Ok(RunChoices { steps: all }),
         }
     }
@@ -150,8 +150,8 @@ pub fn choices_of_run<P: Picks>(
 {
     resolving_laws();
     let code = resolve_main(alloc, checked)?;
-    let run = asked_by_run(alloc, checked, &code, turns, script, steps)?;
-    Ok(run)
+    let choices = asked_by_run(alloc, checked, &code, turns, script, steps)?;
+    Ok(choices)
 }
 
 /// Adds a line for each choice of a step.
