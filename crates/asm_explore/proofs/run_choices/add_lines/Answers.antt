@@ -1,6 +1,7 @@
-use Rattle.std.proofs.Common.{◌≡◌, ◌++◌, ◌∷◌, [], take, ap, ◌∙◌}
+use Rattle.std.proofs.Common.{◌≡◌, ◌++◌, ◌∷◌, [], get_or, take, sym, ap, ◌∙◌}
 use Rattle.std.proofs.lemmas.List.{append_assoc, map_push}
 use Rattle.asm_reader.specs.ScriptLines.{Line}
+use Rattle.asm_explore.specs.declared.asked.Asked.{Asked}
 use Rattle.asm_explore.specs.RunChoices.{choices_made}
 use Rattle.asm_explore.specs.ScriptTo.{lines_for}
 use Rattle.asm_explore.specs.Written.{line_said, lines_said}
@@ -13,8 +14,8 @@ loop-k-preserved c =
     let choice = c.index-asked-k.result.choice in
     let so_far = lines_for c.args.step (choices_made (take c.loop-k.k c.args.asked.now)) in
     let line : Line = record { step = c.args.step; path = choice.path; choice = choice.number } in
-    let pushed = ap lines_said c.in_ok-push.ensures.items ∙ map_push line_said c.loop-k.lines.items record { step = c.args.step; path = c.as_slice.result; number = choice.number } in
+    let pushed = ap lines_said c.in_ok-push.ensures.items ∙ map_push line_said c.loop-k.lines.items record { step = c.args.step; path = c.as_slice.result; number = (get_or c.args.asked.now c.loop-k.k c.index-asked-k.result).choice.number } in
     let same : lines_said c.push.new.self.items ≡ lines_said c.loop-k.lines.items ++ line ∷ [] =
-    pushed ∙ ap (λ p. lines_said c.loop-k.lines.items ++ record { step = c.args.step; path = p; choice = choice.number } ∷ []) c.as_slice.ensures in
+    pushed ∙ (λ i. lines_said c.loop-k.lines.items ++ record { step = c.args.step; path = (c.as_slice.ensures ∙ ap (λ (it : Asked). it.choice.path) (sym c.index-asked-k.is)) i; choice = (sym c.index-asked-k.is i).choice.number } ∷ []) in
     same ∙ (ap (λ it. it ++ line ∷ []) c.loop-k.invariant ∙ (append_assoc old so_far (line ∷ [])
     ∙ ap (λ it. old ++ it) (for_more c.args.step c.args.asked.now c.loop-k.k c.index-asked-k.result c.loop-k-test.true c.index-asked-k.is)))
