@@ -1,0 +1,2 @@
+mod StandingSets
+mod StandingRules

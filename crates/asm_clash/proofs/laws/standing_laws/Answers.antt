@@ -1,0 +1,5 @@
+use Rattle.asm_clash.proofs.StandingRules.{standing_laws}
+use Rattle.asm_clash.proofs.laws.standing_laws.Goals as goal
+
+pub returns : goal.returns
+returns c = standing_laws

@@ -1,0 +1,81 @@
+//! What an assignment reads beside its value.
+ghost use Rattle.asm_eval.specs.Frames.{IsSoundFrame};
+ghost use Rattle.asm_eval.specs.RuleMeaning.{IsSoundPlace};
+ghost use Rattle.asm_eval.specs.RuleViews.{place_of};
+
+use asm_eval::frame::Frame;
+use asm_eval::rule_code::Place;
+use asm_eval::value::value;
+use asm_meaning::View;
+use asm_state::word::Word;
+use std::alloc::{AllocError, Global};
+
+/// The values of the arguments of a place's function.
+pub(crate) fn arguments_at<'e>(
+    alloc: Global,
+    view: &View<'_>,
+    frame: &'e Frame<'e>,
+    place: &'e Place,
+) -> Result<Vec<Word>, AllocError>
+    requires sound { IsSoundPlace view.now.signature.now (place_of place.now) }
+    requires framed { IsSoundFrame view.now.signature.now frame.now }
+{
+    let mut values = Vec::new(alloc);
+    match place {
+        Place::Answer(_) => {}
+        Place::Cell(_) => {}
+        Place::Row { argument, .. } => values.push(value(view, frame, argument))?,
+        Place::Grid { row, column, .. } => {
+            values.push(value(view, frame, row))?;
+            values.push(value(view, frame, column))?;
+        }
+        Place::Held { arguments, .. } => {
+            for i in 0..arguments.len() {
+                values.push(value(view, frame, &arguments[i]))?;
+            }
+        }
+    }
+    Ok(values)
+}
+
+/// The values of the names that are bound in a frame, the innermost first.
+pub(crate) fn values_bound<'e>(
+    alloc: Global,
+    view: &View<'_>,
+    frame: &'e Frame<'e>,
+) -> Result<Vec<Word>, AllocError>
+    requires { IsSoundFrame view.now.signature.now frame.now }
+{
+    let mut values = Vec::new(alloc);
+    push_bound(view, frame, &mut values)?;
+    Ok(values)
+}
+
+/// Puts the values of the names that are bound in a frame behind others.
+fn push_bound<'e>(
+    view: &View<'_>,
+    frame: &'e Frame<'e>,
+    values: &mut Vec<Word>,
+) -> Result<(), AllocError>
+    requires { IsSoundFrame view.now.signature.now frame.now }
+{
+    match frame {
+        Frame::Empty => Ok(()),
+        Frame::One { value, outer } => {
+            values.push(Word::again(*value))?;
+            push_bound(view, outer, values)
+        }
+        Frame::Values { values: own, outer } => {
+            for i in 0..own.len() {
+                values.push(own[i])?;
+            }
+            push_bound(view, outer, values)
+        }
+        Frame::Terms { codes, caller, .. } => {
+            for i in 0..codes.len() {
+                values.push(value(view, caller, &codes[i]))?;
+            }
+            Ok(())
+        }
+    }
+}

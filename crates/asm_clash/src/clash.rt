@@ -1,0 +1,65 @@
+//! A run up to its end, with the assignments at the location of its fault.
+ghost use Rattle.std.specs.Prelude.{◌≡◌, IfOk};
+ghost use Rattle.asm_syntax.specs.Views.{spec_of};
+ghost use Rattle.asm_meaning.specs.Declarations.{specification_of};
+ghost use Rattle.asm_meaning.specs.Run.{run};
+ghost use Rattle.asm_clash.specs.ClashOfRun.{EndsSo};
+
+use crate::assignment::Assignment;
+use crate::step::{Made, made_by_step};
+use asm_check::Checked;
+use asm_eval::whole::resolve_main;
+use asm_meaning::{Choices, Path};
+use asm_reader::Script;
+use asm_state::laws::test_laws;
+use asm_state::state::State;
+use asm_updates::fault::Fault;
+use std::alloc::{AllocError, Global};
+
+/// How a run ends.
+#[derive(Drop)]
+pub enum ClashOfRun {
+    /// At its limit of steps.
+    Limit,
+    /// In this step, where the `iterate` at this path has made its last turn.
+    Exhausted { step: u64, path: Path },
+    /// In this step, whose set has this first fault: with the assignments whose updates stand in
+    /// that set at the fault's location, in the order of evaluation.
+    Faulty {
+        step: u64,
+        fault: Fault,
+        assignments: Vec<Assignment>,
+    },
+}
+
+/// Makes the run under the script, of at most so many steps, and says how it ends.
+pub fn clash_of_run(
+    alloc: Global,
+    checked: &Checked,
+    turns: u32,
+    script: &Script,
+    steps: u32,
+) -> Result<ClashOfRun, AllocError>
+    ensures { let s = spec_of checked.now.spec in
+        IfOk result (EndsSo s turns script.now (run (specification_of s) turns script.now steps)) }
+{
+    test_laws();
+    let main = resolve_main(alloc, checked)?;
+    let mut state = State::initial(alloc, checked.signature())?;
+    for done in 0..steps {
+        let step = u64::from(done) + 1;
+        let choices = Choices { script, step };
+        match made_by_step(alloc, checked, &main, turns, &choices, &state)? {
+            Made::Consistent(set) => set.fire_into(&mut state),
+            Made::Exhausted(path) => return Ok(ClashOfRun::Exhausted { step, path }),
+            Made::Faulty { fault, assignments } => {
+                return Ok(ClashOfRun::Faulty {
+                    step,
+                    fault,
+                    assignments,
+                });
+            }
+        }
+    }
+    Ok(ClashOfRun::Limit)
+}

@@ -1,0 +1,8 @@
+//! Laws of what stands at a location.
+ghost use Rattle.asm_clash.specs.StandingLaws.{StandingLaws};
+
+/// Where a rule yields a set, the values of each location in it are those of the assignments that
+/// stand there.
+pub fn standing_laws()
+    ensures { StandingLaws }
+{}

@@ -1,0 +1,201 @@
+//! The assignments whose updates stand at a location, found by a walk over pieces.
+ghost use Rattle.std.specs.Prelude.{◌≡◌, ◌<◌, IfOk, map};
+ghost use Rattle.asm_state.specs.Signature.{count_of, location_at};
+ghost use Rattle.asm_state.specs.Updates.{UpdateSet, IsConsistent, fire};
+ghost use Rattle.asm_updates.specs.Stands.{Stands};
+ghost use Rattle.asm_meaning.specs.Yields as yields;
+ghost use Rattle.asm_meaning.specs.declared.part.Part.TheVariants as part;
+ghost use Rattle.asm_eval.specs.Frames.{IsSoundFrame};
+ghost use Rattle.asm_eval.specs.Pieces.{IsPiece};
+ghost use Rattle.asm_eval.specs.RuleMeaning.{AreSoundRules, IsSoundRule};
+ghost use Rattle.asm_eval.specs.RuleTree as tree;
+ghost use Rattle.asm_eval.specs.RuleViews.{rule_of, rules_of};
+ghost use Rattle.asm_eval.specs.Running.{rule_upon, shape_at, state_at};
+ghost use Rattle.asm_clash.specs.Walks.{IsNext, all_assigned, order_in, stands_at, stands_in};
+
+use crate::assignment::Assignment;
+use crate::leaf::assigned;
+use asm_eval::frame::Frame;
+use asm_eval::laws::{member_laws, opening_laws};
+use asm_eval::open::{Opened, open_piece};
+use asm_eval::piece::{Piece, whole_piece};
+use asm_eval::positions::positions_of;
+use asm_eval::rule_code::RuleCode;
+use asm_eval::running::Running;
+use asm_meaning::part_set::PartSet;
+use asm_meaning::{Outcome, Part, Path, View};
+use asm_reader::Picks;
+use asm_state::laws::merge_laws;
+use asm_updates::summary::Summary;
+use std::alloc::{AllocError, Global};
+
+/// The assignments of the piece's rule whose updates stand at the location with this number, in the
+/// set that the piece yields, in the order of evaluation.
+#[cycle(walk)]
+pub fn standing_in<'e, P: Picks>(
+    alloc: Global,
+    running: &Running<'_, '_, P>,
+    piece: &'e Piece<'e>,
+    n: usize,
+) -> Result<Vec<Assignment>, AllocError>
+    requires piece { IsPiece (shape_at running.now) piece.now }
+    requires whole { piece.now.part ≡ part.Whole }
+    requires number { n < count_of (shape_at running.now) }
+    ensures { let l = location_at (shape_at running.now) n in
+        IfOk result (λ found. all_assigned found.items ≡ stands_at running.now l piece.now.frame piece.now.path (rule_of piece.now.rule.now)) }
+{
+    opening_laws::<P>();
+    // The call says that a universe has no more values than the greatest `usize`.
+    let _positions = positions_of(running.view.signature, piece);
+    let frame = &piece.frame;
+    let path = piece.path.as_slice();
+    match open_piece(alloc, running, &*piece, usize::MAX)? {
+        Opened::Pieces { pieces, .. } => {
+            let mut all = Vec::new(alloc);
+            for i in 0..pieces.len() {
+                let mut found = standing_in(alloc, running, &pieces[i], n)?;
+                all.append(&mut found)?;
+            }
+            Ok(all)
+        }
+        Opened::Closed => match piece.rule {
+            RuleCode::Assign { place, value } => {
+                assigned(alloc, running.view, frame, place, value, path, n)
+            }
+            RuleCode::Seq(parts) => {
+                standing_in_order(alloc, running, frame, parts.as_slice(), path, n)
+            }
+            RuleCode::Iterate(body) => standing_in_turns(alloc, running, frame, body, path, n),
+            _ => Ok(Vec::new(alloc)),
+        },
+    }
+}
+
+/// The same of the parts one after the other, up to the first whose set is faulty.
+#[cycle(walk)]
+fn standing_in_order<'e, P: Picks>(
+    alloc: Global,
+    running: &Running<'_, '_, P>,
+    frame: &'e Frame<'e>,
+    parts: &'e [RuleCode],
+    path: &[u64],
+    n: usize,
+) -> Result<Vec<Assignment>, AllocError>
+    requires sound { AreSoundRules (shape_at running.now) (rules_of (map rule_of parts.now)) }
+    requires framed { IsSoundFrame (shape_at running.now) frame.now }
+    requires number { n < count_of (shape_at running.now) }
+    ensures { let l = location_at (shape_at running.now) n in
+        IfOk result (λ found. all_assigned found.items ≡ order_in running.now l frame.now path.now 0 (rules_of (map rule_of parts.now)) (state_at running.now)) }
+{
+    member_laws();
+    merge_laws();
+    let mut so_far = Summary::new(alloc, running.view.signature.count());
+    let mut found = Vec::new(alloc);
+    for i in 0..parts.len() {
+        let rule = &parts[i];
+        let number = i as u64;
+        let next = standing_next(
+            alloc, running, frame, rule, path, number, n, &mut so_far, &mut found,
+        )?;
+        let Some(part) = next else {
+            return Ok(found);
+        };
+        if part.ends_parts() {
+            return Ok(found);
+        }
+    }
+    Ok(found)
+}
+
+/// The same of turns of the body one after the other, up to the first whose set is empty or faulty.
+#[cycle(walk)]
+fn standing_in_turns<'e, P: Picks>(
+    alloc: Global,
+    running: &Running<'_, '_, P>,
+    frame: &'e Frame<'e>,
+    body: &'e RuleCode,
+    path: &[u64],
+    n: usize,
+) -> Result<Vec<Assignment>, AllocError>
+    requires sound { IsSoundRule (shape_at running.now) (rule_of body.now) }
+    requires framed { IsSoundFrame (shape_at running.now) frame.now }
+    requires number { n < count_of (shape_at running.now) }
+    ensures { let l = location_at (shape_at running.now) n in
+        IfOk result (λ found. all_assigned found.items ≡ stands_at running.now l frame.now path.now (tree.Iterate (rule_of body.now))) }
+{
+    merge_laws();
+    let mut so_far = Summary::new(alloc, running.view.signature.count());
+    let mut found = Vec::new(alloc);
+    for turn in 0..running.turns {
+        let number = u64::from(turn);
+        let next = standing_next(
+            alloc, running, frame, body, path, number, n, &mut so_far, &mut found,
+        )?;
+        let Some(part) = next else {
+            return Ok(found);
+        };
+        if part.ends_turns() {
+            return Ok(found);
+        }
+    }
+    Ok(found)
+}
+
+/// Goes on with the part with this number, in the state in which the set so far has been fired, and
+/// says what its set is: none where it is exhausted.
+#[cycle(walk)]
+fn standing_next<'e, P: Picks>(
+    alloc: Global,
+    running: &Running<'_, '_, P>,
+    frame: &'e Frame<'e>,
+    rule: &'e RuleCode,
+    path: &[u64],
+    number: u64,
+    n: usize,
+    so_far: &mut Summary,
+    found: &mut Vec<Assignment>,
+) -> Result<Option<PartSet>, AllocError>
+    requires sound { IsSoundRule (shape_at running.now) (rule_of rule.now) }
+    requires framed { IsSoundFrame (shape_at running.now) frame.now }
+    requires number { n < count_of (shape_at running.now) }
+    requires so_far { so_far.old.count ≡ count_of (shape_at running.now) }
+    ensures count { so_far.new.count ≡ so_far.old.count }
+    ensures next { let p = yields.at path.now number in
+        let l = location_at (shape_at running.now) n in
+        IfOk result (λ part. (U : UpdateSet) → Stands (shape_at running.now) so_far.old U → IsConsistent U →
+        IsNext (shape_at running.now) U (rule_upon running.now U frame.now p (rule_of rule.now)).result (stands_in running.now l frame.now p (rule_of rule.now) (fire (state_at running.now) U))
+        (all_assigned found.old.items) (all_assigned found.new.items) so_far.new part) }
+{
+    let path = path_below(alloc, path, number)?;
+    let piece = Piece {
+        rule,
+        frame: *frame,
+        path,
+        part: Part::Whole,
+    };
+    let view = View::upon(running.view, so_far);
+    let inner = Running {
+        view: &view,
+        choices: running.choices,
+        turns: running.turns,
+    };
+    let Outcome::Set { set, .. } = whole_piece(alloc, &inner, &piece)? else {
+        return Ok(None);
+    };
+    let own = standing_in(alloc, &inner, &piece, n)?;
+    let part = PartSet::of(running.view.signature, &set);
+    so_far.then(&set)?;
+    if !own.is_empty() {
+        *found = own;
+    }
+    Ok(Some(part))
+}
+
+/// The path of the part with this number.
+fn path_below(alloc: Global, path: &[u64], number: u64) -> Result<Path, AllocError>
+    ensures { IfOk result (λ p. p ≡ yields.at path.now number) }
+{
+    let mut numbers = path.to_vec(alloc)?;
+    numbers.push(number)?;
+    Ok(Path::new(numbers))
+}
