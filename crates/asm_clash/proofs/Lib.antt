@@ -1,2 +1,5 @@
-mod StandingSets
-mod StandingRules
+pub mod StandingSets
+pub mod StandingRules
+pub mod OpenedRules
+pub mod Sequences
+pub mod Runs

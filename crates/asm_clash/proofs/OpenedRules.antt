@@ -1,0 +1,139 @@
+-- What stands of a rule is what stands of the works that it is opened to, one after the other.
+--     work_stands, works_stand    what stands of a work, and of works
+--     AreBelow size works         each is all of a rule with fewer nodes
+--     IsLong shape R cut          a `forall` has no more positions than the cut
+--     AreOpened                   works are those that something is opened to, in which this stands
+--     rule_opened                 what a rule is opened to, by its cases
+use Rattle.std.proofs.Common.{◌≡◌, ℕ, zero, suc, ◌+◌, ◌-◌, ◌≤◌, ◌<◌, Bool, true, false, cond, List, [], ◌∷◌, ◌++◌, length, Option, Some, None, refl, sym, ap, subst, map, ◌∙◌, arith, add-one}
+use Rattle.std.specs.Prelude.{nat_le}
+use Rattle.std.proofs.lemmas.List.{append-nil}
+use Rattle.asm_state.specs.declared.value.Value.{Value}
+use Rattle.asm_state.specs.Location.{Location, State}
+use Rattle.asm_state.specs.Signature.{Shape}
+use Rattle.asm_meaning.specs.Intervals.{between}
+use Rattle.asm_meaning.specs.Taken.{taken}
+use Rattle.asm_meaning.specs.Value.{Reading, is_true}
+use Rattle.asm_meaning.specs.Yields.{Path, at}
+use Rattle.asm_meaning.specs.declared.part.Part.TheVariants as part
+use Rattle.asm_meaning.proofs.Intervals.{interval_laws-all as between_all}
+use Rattle.asm_eval.specs.CodeTree.{Code}
+use Rattle.asm_eval.specs.Opening.{Work, all_of, body_works, choice_works, counted_works, one_work, part_of, part_works, rule_works, span_works, spans}
+use Rattle.asm_eval.specs.Readings.{always, reading, universe_at}
+use Rattle.asm_eval.specs.RuleMeaning.{Locations, passes, passing, rule_size, rule_sizes}
+use Rattle.asm_eval.specs.RuleTree.{RuleCode, Skip, Assign, Par, Seq, If, Let, Forall, Choose, Iterate, Call, RuleCodes, no_rules, rule_then}
+use Rattle.asm_clash.specs.Standing.{Assigned, each_stands, one_stands, parts_of, parts_stand, standing}
+
+abbrev pub IsLong : Shape → RuleCode → ℕ → Type 0
+IsLong shape (Forall u c P) cut = length (universe_at shape u) ≤ cut
+IsLong shape R cut = Unit {0}
+
+abbrev pub AreBelow : (size : ℕ) → List Work → Type 0
+AreBelow size [] = Unit {0}
+AreBelow size (w ∷ works) = (rule_size w.rule < size) × (w.part ≡ part.Whole) × AreBelow size works
+
+module _ (shape : Shape) (turns : ℕ) (chosen : Path → ℕ) (l : Location) (A : State) where
+  abbrev pub work_stands : Work → List Assigned
+  work_stands w = standing shape turns chosen l w.rule w.readings w.locations A w.path
+
+  abbrev pub works_stand : List Work → List Assigned
+  works_stand [] = []
+  works_stand (w ∷ works) = work_stands w ++ works_stand works
+
+  abbrev pub AreOpened : (size : ℕ) → List Assigned → Option (List Work × ℕ) → Type 0
+  AreOpened size all None = Unit {0}
+  AreOpened size all (Some found) = (all ≡ works_stand found.0) × AreBelow size found.0
+
+  abbrev stands : RuleCode → List Reading → Locations → Path → List Assigned
+  stands R rs ls p = standing shape turns chosen l R rs ls A p
+
+  one_opened : (size : ℕ) (P : RuleCode) (rs : List Reading) (ls : Locations) (p : Path) (k : ℕ) → rule_size P < size → AreOpened size (stands P rs ls (at p k)) (one_work P rs ls p k)
+  one_opened size P rs ls p k low = (sym (append-nil (stands P rs ls (at p k))), (low, refl, tt))
+
+  either_opened : (size : ℕ) (b : Bool) (yes_works no_works : Option (List Work × ℕ)) (all others : List Assigned)
+      → AreOpened size all yes_works → AreOpened size others no_works → AreOpened size (cond b all others) (cond b yes_works no_works)
+  either_opened size true yes_works no_works all others opened other = opened
+  either_opened size false yes_works no_works all others opened other = other
+
+  -- ---- parts
+
+  parts_opened : (k : ℕ) (Ps : RuleCodes) (rs : List Reading) (ls : Locations) (p : Path)
+      → parts_stand (parts_of shape turns chosen l Ps rs ls) k A p ≡ works_stand (part_works k Ps rs ls p)
+  unfolding parts_of
+  parts_opened k no_rules rs ls p = refl
+  parts_opened k (rule_then P Ps) rs ls p =
+      ap (λ more. stands P rs ls (at p k) ++ more)
+      (ap (λ n. parts_stand (parts_of shape turns chosen l Ps rs ls) n A p) (sym (add-one k)) ∙ parts_opened (k + 1) Ps rs ls p)
+
+  parts_below : (size k : ℕ) (Ps : RuleCodes) (rs : List Reading) (ls : Locations) (p : Path) → rule_sizes Ps < size → AreBelow size (part_works k Ps rs ls p)
+  parts_below size k no_rules rs ls p low = tt
+  parts_below size k (rule_then P Ps) rs ls p low = (omega (arith, low), refl, parts_below size (k + 1) Ps rs ls p (omega (arith, low)))
+
+  -- ---- bodies
+
+  module _ (c : Option Code) (P : RuleCode) (rs : List Reading) (ls : Locations) (p : Path) where
+    abbrev bodies : ℕ → List Value → List Work
+    bodies k vs = body_works shape A c P rs ls p k vs
+
+    abbrev bodies_stand : ℕ → List Value → List Assigned
+    bodies_stand k vs = each_stands (λ v n. stands P (always v ∷ rs) (None ∷ ls) (at p n)) (λ v. passes shape c (always v ∷ rs) A) k vs
+
+    by_both : (b : Bool) (w : Work) (works : List Work) (all : List Assigned) → all ≡ works_stand works → cond b (work_stands w ++ all) all ≡ works_stand (cond b (w ∷ works) works)
+    by_both true w works all same = ap (λ more. work_stands w ++ more) same
+    by_both false w works all same = same
+
+    bodies_opened : (k : ℕ) (vs : List Value) → bodies_stand k vs ≡ works_stand (bodies k vs)
+    bodies_opened k [] = refl
+    bodies_opened k (v ∷ vs) =
+        by_both (passes shape c (always v ∷ rs) A) (all_of P (always v ∷ rs) (None ∷ ls) (at p k)) (bodies (k + 1) vs) (bodies_stand (suc k) vs)
+        (ap (λ n. bodies_stand n vs) (sym (add-one k)) ∙ bodies_opened (k + 1) vs)
+
+    below_both : (size : ℕ) (b : Bool) (w : Work) (works : List Work) → rule_size w.rule < size → w.part ≡ part.Whole → AreBelow size works → AreBelow size (cond b (w ∷ works) works)
+    below_both size true w works low is below = (low, is, below)
+    below_both size false w works low is below = below
+
+    bodies_below : (size k : ℕ) (vs : List Value) → rule_size P < size → AreBelow size (bodies k vs)
+    bodies_below size k [] low = tt
+    bodies_below size k (v ∷ vs) low =
+        below_both size (passes shape c (always v ∷ rs) A) (all_of P (always v ∷ rs) (None ∷ ls) (at p k)) (bodies (k + 1) vs) low refl (bodies_below size (k + 1) vs low)
+
+  -- ---- each kind of rule
+
+  choice_opened : (size n : ℕ) (vs : List Value) (P Q : RuleCode) (rs : List Reading) (ls : Locations) (p : Path) → rule_size P < size → rule_size Q < size
+      → AreOpened size (one_stands n vs (λ v. stands P (always v ∷ rs) (None ∷ ls) (at p 0)) (stands Q rs ls (at p 1))) (choice_works (taken n vs) P Q rs ls p)
+  choice_opened size n [] P Q rs ls p low low' = one_opened size Q rs ls p 1 low'
+  choice_opened size n (v ∷ vs) P Q rs ls p low low' = one_opened size P _ (None ∷ ls) p 0 low
+
+  module _ (cut : ℕ) where
+    forall_opened : (u : ℕ) (c : Option Code) (P : RuleCode) (rs : List Reading) (ls : Locations) (p : Path) (size : ℕ) → length (universe_at shape u) ≤ cut → rule_size P < size
+        → AreOpened size (bodies_stand c P rs ls p 0 (universe_at shape u)) (span_works shape A cut u c P rs ls p 0 (length (universe_at shape u)))
+    forall_opened u c P rs ls p size long low =
+        let us = universe_at shape u in
+        let short : nat_le (length us - 0) cut ≡ true = grind (arith, long) in
+        let works = bodies c P rs ls p 0 us in
+        let all : between 0 (length us) us ≡ us = between_all us in
+        let others = Some (to_spans u c P rs ls p us) in
+        opened_same size (bodies_stand c P rs ls p 0 us) (counted_works works) (span_works shape A cut u c P rs ls p 0 (length us))
+        (sym (ap (λ b. cond b (counted_works (bodies c P rs ls p 0 (between 0 (length us) us))) others) short ∙ ap (λ vs. counted_works (bodies c P rs ls p 0 vs)) all))
+        (bodies_opened c P rs ls p 0 us, bodies_below c P rs ls p size 0 us low)
+      where
+        abbrev to_spans : ℕ → Option Code → RuleCode → List Reading → Locations → Path → List Value → List Work × ℕ
+        to_spans u c P rs ls p us = (map (part_of (Forall u c P) rs ls p) (spans cut (length us - 0) 0 (length us)), 0)
+
+        opened_same : (size : ℕ) (all : List Assigned) (works others : Option (List Work × ℕ)) → works ≡ others → AreOpened size all works → AreOpened size all others
+        opened_same size all works others same opened = subst (AreOpened size all) same opened
+
+    pub rule_opened : (R : RuleCode) (rs : List Reading) (ls : Locations) (p : Path) → IsLong shape R cut
+        → AreOpened (rule_size R) (stands R rs ls p) (rule_works shape A chosen cut R rs ls p)
+    unfolding standing
+    rule_opened Skip rs ls p long = tt
+    rule_opened (Assign to t) rs ls p long = tt
+    rule_opened (Seq Ps) rs ls p long = tt
+    rule_opened (Iterate P) rs ls p long = tt
+    rule_opened (Par Ps) rs ls p long = (parts_opened 0 Ps rs ls p, parts_below (rule_size (Par Ps)) 0 Ps rs ls p (omega arith))
+    rule_opened (If c P Q) rs ls p long =
+        either_opened (rule_size (If c P Q)) (is_true (reading shape c rs A)) (one_work P rs ls p 0) (one_work Q rs ls p 1) _ _
+        (one_opened (rule_size (If c P Q)) P rs ls p 0 (omega arith)) (one_opened (rule_size (If c P Q)) Q rs ls p 1 (omega arith))
+    rule_opened (Let t P) rs ls p long = one_opened (rule_size (Let t P)) P (always (reading shape t rs A) ∷ rs) (None ∷ ls) p 0 (omega arith)
+    rule_opened (Forall u c P) rs ls p long = forall_opened u c P rs ls p (rule_size (Forall u c P)) long (omega arith)
+    rule_opened (Choose u c P Q) rs ls p long = choice_opened (rule_size (Choose u c P Q)) (chosen p) (passing shape u c rs A) P Q rs ls p (omega arith) (omega arith)
+    rule_opened (Call P to ts) rs ls p long = one_opened (rule_size (Call P to ts)) P _ _ p 0 (omega arith)

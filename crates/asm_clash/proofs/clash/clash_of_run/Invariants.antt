@@ -1,0 +1,15 @@
+use Rattle.std.proofs.Common.{◌≡◌, length}
+use Rattle.asm_state.specs.Signature.{count_of, state_of}
+use Rattle.asm_syntax.specs.Views.{spec_of}
+use Rattle.asm_check.specs.Shapes.{shape_of}
+use Rattle.asm_meaning.specs.Declarations.{specification_of}
+use Rattle.asm_clash.proofs.Runs.{IsRest}
+use Rattle.asm_clash.proofs.clash.clash_of_run.Given as goal
+
+abbrev pub invariant-loop-done : goal.invariant-loop-done
+invariant-loop-done l =
+    let s = spec_of l.checked.spec in
+    record {
+      whole : length l.state ≡ count_of (shape_of s);
+      rest : IsRest (specification_of s) l.turns l.script l.steps l.done (state_of (shape_of s) l.state);
+    }

@@ -1,0 +1,63 @@
+use Rattle.std.proofs.Common.{◌≡◌, ◌+◌, ◌*◌, ◌++◌, map, drop}
+use Rattle.asm_state.specs.Signature.{count_of, location_at}
+use Rattle.asm_eval.specs.Frames.{readings_of}
+use Rattle.asm_eval.specs.Opening.{work_of}
+use Rattle.asm_eval.specs.RuleMeaning.{rule_size, rule_sizes}
+use Rattle.asm_eval.specs.RuleTree as tree
+use Rattle.asm_eval.specs.RuleViews.{rule_of, rules_of}
+use Rattle.asm_eval.specs.Running.{chosen_at, places_of, shape_at, state_at}
+use Rattle.asm_clash.specs.Walks.{all_assigned, order_in, stands_at}
+use Rattle.asm_clash.proofs.OpenedRules.{works_stand}
+use Rattle.asm_clash.proofs.Sequences.{IsWalked, order_left, turns_left}
+use Rattle.asm_clash.proofs.standing.+walk.Given as goal
+
+-- ---- that it ends: each goes by its rule
+
+abbrev pub decreases-standing_in : goal.decreases-standing_in
+decreases-standing_in g l = 5 * rule_size (rule_of l.piece.now.rule.now) + 1
+
+abbrev pub decreases-standing_in_order : goal.decreases-standing_in_order
+decreases-standing_in_order g l = 5 * rule_sizes (rules_of (map rule_of l.parts.now)) + 5
+
+abbrev pub decreases-standing_in_turns : goal.decreases-standing_in_turns
+decreases-standing_in_turns g l = 5 * rule_size (rule_of l.body.now) + 5
+
+abbrev pub decreases-standing_next : goal.decreases-standing_next
+decreases-standing_next g l = 5 * rule_size (rule_of l.rule.now) + 4
+
+-- ---- the loops
+
+-- what stands of the first pieces, and of those that are left
+abbrev pub invariant-standing_in-loop-i : goal.invariant-standing_in-loop-i
+invariant-standing_in-loop-i g l =
+    let r = l.running in
+    let shape = shape_at r in
+    let at = location_at shape l.n in
+    stands_at r at l.piece.frame l.piece.path (rule_of l.piece.rule.now)
+    ≡ all_assigned l.all.items ++ works_stand shape r.turns (chosen_at r) at (state_at r) (map (work_of shape) (drop l.i l.pieces.items))
+
+-- the sets of the parts so far, and what is left of the parts
+abbrev pub invariant-standing_in_order-loop-i : goal.invariant-standing_in_order-loop-i
+invariant-standing_in_order-loop-i g l =
+    let r = l.running in
+    let shape = shape_at r in
+    let at = location_at shape l.n in
+    record {
+      counted : l.so_far.count ≡ count_of shape;
+      walked : IsWalked shape (state_at r) (order_in r at l.frame l.path 0 (rules_of (map rule_of l.parts)) (state_at r))
+          (order_left shape r.turns (chosen_at r) at (readings_of shape l.frame) (places_of shape l.frame) l.path l.parts l.i)
+          (all_assigned l.found.items) l.so_far;
+    }
+
+-- the sets of the turns so far, and what is left of the turns
+abbrev pub invariant-standing_in_turns-loop-turn : goal.invariant-standing_in_turns-loop-turn
+invariant-standing_in_turns-loop-turn g l =
+    let r = l.running in
+    let shape = shape_at r in
+    let at = location_at shape l.n in
+    record {
+      counted : l.so_far.count ≡ count_of shape;
+      walked : IsWalked shape (state_at r) (stands_at r at l.frame l.path (tree.Iterate (rule_of l.body)))
+          (turns_left shape r.turns (chosen_at r) at (readings_of shape l.frame) (places_of shape l.frame) l.path (rule_of l.body) l.turn)
+          (all_assigned l.found.items) l.so_far;
+    }
