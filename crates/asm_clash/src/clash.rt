@@ -8,10 +8,10 @@ ghost use Rattle.asm_clash.specs.ClashOfRun.{EndsSo};
 use crate::assignment::Assignment;
 use crate::step::{Made, made_by_step};
 use asm_check::Checked;
+use asm_eval::laws::resolving_laws;
 use asm_eval::whole::resolve_main;
 use asm_meaning::{Choices, Path};
 use asm_reader::Script;
-use asm_state::laws::test_laws;
 use asm_state::state::State;
 use asm_updates::fault::Fault;
 use std::alloc::{AllocError, Global};
@@ -43,13 +43,14 @@ pub fn clash_of_run(
     ensures { let s = spec_of checked.now.spec in
         IfOk result (EndsSo s turns script.now (run (specification_of s) turns script.now steps)) }
 {
-    test_laws();
+    resolving_laws();
+    let signature = checked.signature();
     let main = resolve_main(alloc, checked)?;
-    let mut state = State::initial(alloc, checked.signature())?;
+    let mut state = State::initial(alloc, signature)?;
     for done in 0..steps {
         let step = u64::from(done) + 1;
         let choices = Choices { script, step };
-        match made_by_step(alloc, checked, &main, turns, &choices, &state)? {
+        match made_by_step(alloc, signature, &main, turns, &choices, &state)? {
             Made::Consistent(set) => set.fire_into(&mut state),
             Made::Exhausted(path) => return Ok(ClashOfRun::Exhausted { step, path }),
             Made::Faulty { fault, assignments } => {

@@ -18,7 +18,6 @@ use asm_eval::place::place_number;
 use asm_eval::rule_code::Place;
 use asm_eval::value::value;
 use asm_meaning::{Path, View};
-use asm_state::laws::number_laws;
 use std::alloc::{AllocError, Global};
 
 /// The path with these numbers.
@@ -46,7 +45,6 @@ pub(crate) fn assigned<'e>(
     ensures { IfOk result (λ found. all_assigned found.items ≡
         assigned_at (location_at view.now.signature.now n) (place_in view.now frame.now (place_of place.now)) (code_value view.now frame.now term.now) path.now) }
 {
-    number_laws();
     let mut found = Vec::new(alloc);
     let Some(m) = place_number(alloc, view, frame, place)? else {
         return Ok(found);

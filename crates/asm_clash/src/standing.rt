@@ -16,7 +16,7 @@ ghost use Rattle.asm_clash.specs.Walks.{IsNext, all_assigned, order_in, stands_a
 use crate::assignment::Assignment;
 use crate::leaf::assigned;
 use asm_eval::frame::Frame;
-use asm_eval::laws::{member_laws, opening_laws};
+use asm_eval::laws::opening_laws;
 use asm_eval::open::{Opened, open_piece};
 use asm_eval::piece::{Piece, whole_piece};
 use asm_eval::positions::positions_of;
@@ -25,7 +25,6 @@ use asm_eval::running::Running;
 use asm_meaning::part_set::PartSet;
 use asm_meaning::{Outcome, Part, Path, View};
 use asm_reader::Picks;
-use asm_state::laws::merge_laws;
 use asm_updates::summary::Summary;
 use std::alloc::{AllocError, Global};
 
@@ -87,8 +86,6 @@ fn standing_in_order<'e, P: Picks>(
     ensures { let l = location_at (shape_at running.now) n in
         IfOk result (λ found. all_assigned found.items ≡ order_in running.now l frame.now path.now 0 (rules_of (map rule_of parts.now)) (state_at running.now)) }
 {
-    member_laws();
-    merge_laws();
     let mut so_far = Summary::new(alloc, running.view.signature.count());
     let mut found = Vec::new(alloc);
     for i in 0..parts.len() {
@@ -123,7 +120,6 @@ fn standing_in_turns<'e, P: Picks>(
     ensures { let l = location_at (shape_at running.now) n in
         IfOk result (λ found. all_assigned found.items ≡ stands_at running.now l frame.now path.now (tree.Iterate (rule_of body.now))) }
 {
-    merge_laws();
     let mut so_far = Summary::new(alloc, running.view.signature.count());
     let mut found = Vec::new(alloc);
     for turn in 0..running.turns {

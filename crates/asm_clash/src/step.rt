@@ -1,30 +1,22 @@
 //! One step of a run, with the assignments at the location of its fault.
-ghost use Rattle.std.specs.Prelude.{◌≡◌, ◌<◌, [], IfOk, length};
+ghost use Rattle.std.specs.Prelude.{◌≡◌, ◌<◌, IfOk, length};
 ghost use Rattle.asm_state.specs.Signature.{count_of, location_at, state_of};
 ghost use Rattle.asm_state.specs.Updates.{UpdateSet, IsFirstFault};
 ghost use Rattle.asm_updates.specs.Faults.{fault_of};
 ghost use Rattle.asm_updates.specs.Stands.{Stands};
-ghost use Rattle.asm_syntax.specs.Views.{spec_of};
-ghost use Rattle.asm_check.specs.Faults.{inits};
-ghost use Rattle.asm_check.specs.Shapes.{shape_of};
-ghost use Rattle.asm_meaning.specs.Declarations.{main_rule};
+ghost use Rattle.asm_reader.specs.ScriptLines.{pick};
 ghost use Rattle.asm_eval.specs.RuleMeaning.{IsSoundRule};
-ghost use Rattle.asm_eval.specs.RuleScopes.{resolved_rule_in};
 ghost use Rattle.asm_eval.specs.RuleViews.{rule_of};
 ghost use Rattle.asm_clash.specs.ClashOfRun.{IsMade, location_of};
 
 use crate::assignment::Assignment;
-use crate::laws::standing_laws;
 use crate::standing::standing_in;
-use asm_check::Checked;
 use asm_eval::frame::Frame;
-use asm_eval::laws::resolving_laws;
 use asm_eval::piece::{Piece, whole_piece};
 use asm_eval::rule_code::RuleCode;
 use asm_eval::running::Running;
 use asm_meaning::{Choices, Outcome, Part, Path, View};
 use asm_reader::Script;
-use asm_state::laws::{fault_laws, number_laws};
 use asm_state::signature::Signature;
 use asm_state::state::State;
 use asm_updates::fault::Fault;
@@ -51,7 +43,6 @@ fn fault_number(signature: &Signature, set: &Summary, fault: Fault) -> usize
     ensures in_range { result < count_of signature.now }
     ensures location { location_at signature.now result ≡ location_of signature.now fault }
 {
-    number_laws();
     match fault {
         Fault::Clash { location, .. } => location,
         Fault::Outside { function } => signature.stray_number(function),
@@ -61,21 +52,16 @@ fn fault_number(signature: &Signature, set: &Summary, fault: Fault) -> usize
 /// What comes of the step with these choices, by the code of the main rule.
 pub(crate) fn made_by_step(
     alloc: Global,
-    checked: &Checked,
+    signature: &Signature,
     main: &RuleCode,
     turns: u32,
     choices: &Choices<'_, Script>,
     state: &State,
 ) -> Result<Made, AllocError>
-    requires whole { length state.now ≡ count_of (shape_of (spec_of checked.now.spec)) }
-    requires main { let s = spec_of checked.now.spec in resolved_rule_in s [] (main_rule s (inits s)) (rule_of main.now) }
-    ensures { let s = spec_of checked.now.spec in
-        IfOk result (IsMade s turns choices.now.script.now choices.now.step (state_of (shape_of s) state.now)) }
+    requires whole { length state.now ≡ count_of signature.now }
+    requires sound { IsSoundRule signature.now (rule_of main.now) }
+    ensures { IfOk result (IsMade signature.now turns (pick choices.now.script.now choices.now.step) (rule_of main.now) (state_of signature.now state.now)) }
 {
-    resolving_laws();
-    fault_laws();
-    standing_laws();
-    let signature = checked.signature();
     let nothing = Summary::new(alloc, signature.count());
     let view = View::new(signature, state, &nothing);
     let running = Running {
