@@ -1,6 +1,7 @@
 -- An assignment's update is at a location just where its place has the location's number.
 --     none_here, elsewhere, here     where it has none, another one, and that one
-use Rattle.std.proofs.Common.{◌≡◌, ℕ, ◌<◌, Bool, true, false, cond, List, [], ◌∷◌, Option, Some, None, refl, ap, sym, ◌∙◌}
+use Rattle.std.proofs.Common.{◌≡◌, ℕ, ◌<◌, Bool, true, false, cond, List, [], ◌∷◌, Option, Some, None, refl, ap, sym, subst, ◌∙◌}
+use Rattle.std.specs.Prelude.{IfSome}
 use Rattle.std.specs.Cmp.{Equal-is, tied_itself}
 use Rattle.std.proofs.lemmas.Bool.{false_from_ne_true}
 use Rattle.asm_state.specs.declared.value.Value.{Value}
@@ -16,6 +17,9 @@ same_location l m e = location_cmp-antisymmetric l m ((Equal-is (location_cmp l 
 
 location_itself : (l : Location) → is_location l l ≡ true
 location_itself l = (Equal-is (location_cmp l l)).1 (tied_itself location_cmp-total l)
+
+pub some_below : (shape : Shape) (o : Option ℕ) (m : ℕ) → o ≡ Some m → IfSome o (λ k. k < count_of shape) → m < count_of shape
+some_below shape o m is low = subst (λ x. IfSome x (λ k. k < count_of shape)) is low
 
 module _ (shape : Shape) (n : ℕ) (to : Option Location) (o : Option ℕ) (v : Value) (p : Path) (is : location_numbered shape o ≡ to) where
   abbrev given : Assigned

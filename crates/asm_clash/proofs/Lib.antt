@@ -1,7 +1,9 @@
 pub mod StandingSets
 pub mod StandingRules
 pub mod OpenedRules
+pub mod ClosedRules
 pub mod Sequences
+pub mod Walked
 pub mod Leaves
 pub mod FirstFaults
 pub mod Runs

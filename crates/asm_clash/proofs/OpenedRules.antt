@@ -1,7 +1,6 @@
 -- What stands of a rule is what stands of the works that it is opened to, one after the other.
 --     work_stands, works_stand    what stands of a work, and of works
 --     AreBelow size works         each is all of a rule with fewer nodes
---     IsLong shape R cut          a `forall` has no more positions than the cut
 --     AreOpened                   works are those that something is opened to, in which this stands
 --     rule_opened                 what a rule is opened to, by its cases
 use Rattle.std.proofs.Common.{◌≡◌, ℕ, zero, suc, ◌+◌, ◌-◌, ◌≤◌, ◌<◌, Bool, true, false, cond, List, [], ◌∷◌, ◌++◌, length, Option, Some, None, refl, sym, ap, subst, map, ◌∙◌, arith, add-one}
@@ -21,11 +20,8 @@ use Rattle.asm_eval.specs.Opening.{Work, all_of, body_works, choice_works, count
 use Rattle.asm_eval.specs.Readings.{always, reading, universe_at}
 use Rattle.asm_eval.specs.RuleMeaning.{Locations, passes, passing, rule_size, rule_sizes}
 use Rattle.asm_eval.specs.RuleTree.{RuleCode, Skip, Assign, Par, Seq, If, Let, Forall, Choose, Iterate, Call, RuleCodes, no_rules, rule_then}
+use Rattle.asm_clash.specs.Walks.{IsLong}
 use Rattle.asm_clash.specs.Standing.{Assigned, each_stands, one_stands, parts_of, parts_stand, standing}
-
-abbrev pub IsLong : Shape → RuleCode → ℕ → Type 0
-IsLong shape (Forall u c P) cut = length (universe_at shape u) ≤ cut
-IsLong shape R cut = Unit {0}
 
 abbrev pub AreBelow : (size : ℕ) → List Work → Type 0
 AreBelow size [] = Unit {0}
@@ -104,23 +100,18 @@ module _ (shape : Shape) (turns : ℕ) (chosen : Path → ℕ) (l : Location) (A
   choice_opened size n (v ∷ vs) P Q rs ls p low low' = one_opened size P _ (None ∷ ls) p 0 low
 
   module _ (cut : ℕ) where
+    abbrev to_spans : ℕ → Option Code → RuleCode → List Reading → Locations → Path → Option (List Work × ℕ)
+    to_spans u c P rs ls p = Some (map (part_of (Forall u c P) rs ls p) (spans cut (length (universe_at shape u) - 0) 0 (length (universe_at shape u))), 0)
+
     forall_opened : (u : ℕ) (c : Option Code) (P : RuleCode) (rs : List Reading) (ls : Locations) (p : Path) (size : ℕ) → length (universe_at shape u) ≤ cut → rule_size P < size
         → AreOpened size (bodies_stand c P rs ls p 0 (universe_at shape u)) (span_works shape A cut u c P rs ls p 0 (length (universe_at shape u)))
     forall_opened u c P rs ls p size long low =
         let us = universe_at shape u in
         let short : nat_le (length us - 0) cut ≡ true = grind (arith, long) in
-        let works = bodies c P rs ls p 0 us in
         let all : between 0 (length us) us ≡ us = between_all us in
-        let others = Some (to_spans u c P rs ls p us) in
-        opened_same size (bodies_stand c P rs ls p 0 us) (counted_works works) (span_works shape A cut u c P rs ls p 0 (length us))
-        (sym (ap (λ b. cond b (counted_works (bodies c P rs ls p 0 (between 0 (length us) us))) others) short ∙ ap (λ vs. counted_works (bodies c P rs ls p 0 vs)) all))
-        (bodies_opened c P rs ls p 0 us, bodies_below c P rs ls p size 0 us low)
-      where
-        abbrev to_spans : ℕ → Option Code → RuleCode → List Reading → Locations → Path → List Value → List Work × ℕ
-        to_spans u c P rs ls p us = (map (part_of (Forall u c P) rs ls p) (spans cut (length us - 0) 0 (length us)), 0)
-
-        opened_same : (size : ℕ) (all : List Assigned) (works others : Option (List Work × ℕ)) → works ≡ others → AreOpened size all works → AreOpened size all others
-        opened_same size all works others same opened = subst (AreOpened size all) same opened
+        let same : span_works shape A cut u c P rs ls p 0 (length us) ≡ counted_works (bodies c P rs ls p 0 us) =
+        ap (λ b. cond b (counted_works (bodies c P rs ls p 0 (between 0 (length us) us))) (to_spans u c P rs ls p)) short ∙ ap (λ vs. counted_works (bodies c P rs ls p 0 vs)) all in
+        subst (AreOpened size (bodies_stand c P rs ls p 0 us)) (sym same) (bodies_opened c P rs ls p 0 us, bodies_below c P rs ls p size 0 us low)
 
     pub rule_opened : (R : RuleCode) (rs : List Reading) (ls : Locations) (p : Path) → IsLong shape R cut
         → AreOpened (rule_size R) (stands R rs ls p) (rule_works shape A chosen cut R rs ls p)

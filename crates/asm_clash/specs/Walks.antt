@@ -3,9 +3,10 @@
 --     stands_in at l f p R A        what stands of R at the location l, under a frame, at p and in the state A, with a run's choices
 --     stands_at                     the same in what the run's view shows
 --     order_in                      the same of rules one after the other
+--     IsLong shape R cut            a `forall` has no more positions than the cut
 --     IsNext                        what comes of the next part of a sequence: the set so far is joined with its own, and what stands goes
 --                                   on with what stands in its own
-use Rattle.std.specs.Prelude.{◌≡◌, ℕ, List, map, Option, Some, None}
+use Rattle.std.specs.Prelude.{◌≡◌, ◌≤◌, ℕ, List, length, map, Option, Some, None}
 use Rattle.asm_state.specs.Location.{Location, State}
 use Rattle.asm_state.specs.Signature.{Shape}
 use Rattle.asm_state.specs.Updates.{UpdateSet, merge}
@@ -16,7 +17,8 @@ use Rattle.asm_meaning.specs.PartSets.{IsPartSet}
 use Rattle.asm_meaning.specs.Yields.{Path, Result, Gives, Exhausted}
 use Rattle.asm_meaning.specs.declared.part_set.PartSet.{PartSet}
 use Rattle.asm_eval.specs.Frames.{readings_of}
-use Rattle.asm_eval.specs.RuleTree.{RuleCode, RuleCodes}
+use Rattle.asm_eval.specs.Readings.{universe_at}
+use Rattle.asm_eval.specs.RuleTree.{Forall, RuleCode, RuleCodes}
 use Rattle.asm_eval.specs.Running.{chosen_at, places_of, shape_at, state_at}
 use Rattle.asm_eval.specs.declared.frame.Frame.{Frame}
 use Rattle.asm_eval.specs.declared.running.Running.{Running}
@@ -28,6 +30,10 @@ assigned_of a = record { path = a.path; value = a.value }
 
 abbrev pub all_assigned : List Assignment → List Assigned
 all_assigned found = map assigned_of found
+
+abbrev pub IsLong : Shape → RuleCode → (cut : ℕ) → Type 0
+IsLong shape (Forall u c P) cut = length (universe_at shape u) ≤ cut
+IsLong shape R cut = Unit {0}
 
 module _ {P : Type 0} {picks : Ghosts P} (at : Running P picks) (l : Location) where
   abbrev pub stands_in : Frame → Path → RuleCode → State → List Assigned

@@ -1,9 +1,11 @@
 //! What an assignment reads beside its value.
-ghost use Rattle.asm_eval.specs.Frames.{IsSoundFrame};
+ghost use Rattle.asm_eval.specs.Frames.{AllSound, IsSoundFrame};
 ghost use Rattle.asm_eval.specs.RuleMeaning.{IsSoundPlace};
 ghost use Rattle.asm_eval.specs.RuleViews.{place_of};
 
+use asm_eval::code::Code;
 use asm_eval::frame::Frame;
+use asm_eval::laws::member_laws;
 use asm_eval::rule_code::Place;
 use asm_eval::value::value;
 use asm_meaning::View;
@@ -30,12 +32,27 @@ pub(crate) fn arguments_at<'e>(
             values.push(value(view, frame, column))?;
         }
         Place::Held { arguments, .. } => {
-            for i in 0..arguments.len() {
-                values.push(value(view, frame, &arguments[i]))?;
-            }
+            push_values(view, frame, arguments.as_slice(), &mut values)?;
         }
     }
     Ok(values)
+}
+
+/// Puts the values of terms behind others.
+fn push_values<'e>(
+    view: &View<'_>,
+    frame: &'e Frame<'e>,
+    terms: &'e [Code],
+    values: &mut Vec<Word>,
+) -> Result<(), AllocError>
+    requires sound { AllSound view.now.signature.now terms.now }
+    requires framed { IsSoundFrame view.now.signature.now frame.now }
+{
+    member_laws();
+    for i in 0..terms.len() {
+        values.push(value(view, frame, &terms[i]))?;
+    }
+    Ok(())
 }
 
 /// The values of the names that are bound in a frame, the innermost first.
@@ -72,9 +89,7 @@ fn push_bound<'e>(
             push_bound(view, outer, values)
         }
         Frame::Terms { codes, caller, .. } => {
-            for i in 0..codes.len() {
-                values.push(value(view, caller, &codes[i]))?;
-            }
+            push_values(view, caller, codes, values)?;
             Ok(())
         }
     }

@@ -11,7 +11,8 @@ ghost use Rattle.asm_eval.specs.RuleMeaning.{AreSoundRules, IsSoundRule};
 ghost use Rattle.asm_eval.specs.RuleTree as tree;
 ghost use Rattle.asm_eval.specs.RuleViews.{rule_of, rules_of};
 ghost use Rattle.asm_eval.specs.Running.{rule_upon, shape_at, state_at};
-ghost use Rattle.asm_clash.specs.Walks.{IsNext, all_assigned, order_in, stands_at, stands_in};
+ghost use Rattle.asm_clash.specs.Standing.{later};
+ghost use Rattle.asm_clash.specs.Walks.{IsLong, IsNext, all_assigned, order_in, stands_at, stands_in};
 
 use crate::assignment::Assignment;
 use crate::leaf::assigned;
@@ -25,6 +26,7 @@ use asm_eval::running::Running;
 use asm_meaning::part_set::PartSet;
 use asm_meaning::{Outcome, Part, Path, View};
 use asm_reader::Picks;
+use asm_state::signature::Signature;
 use asm_updates::summary::Summary;
 use std::alloc::{AllocError, Global};
 
@@ -44,11 +46,10 @@ pub fn standing_in<'e, P: Picks>(
         IfOk result (λ found. all_assigned found.items ≡ stands_at running.now l piece.now.frame piece.now.path (rule_of piece.now.rule.now)) }
 {
     opening_laws::<P>();
-    // The call says that a universe has no more values than the greatest `usize`.
-    let _positions = positions_of(running.view.signature, piece);
+    let cut = cut_of(running.view.signature, piece);
     let frame = &piece.frame;
     let path = piece.path.as_slice();
-    match open_piece(alloc, running, &*piece, usize::MAX)? {
+    match open_piece(alloc, running, &*piece, cut)? {
         Opened::Pieces { pieces, .. } => {
             let mut all = Vec::new(alloc);
             for i in 0..pieces.len() {
@@ -175,16 +176,40 @@ fn standing_next<'e, P: Picks>(
         choices: running.choices,
         turns: running.turns,
     };
-    let Outcome::Set { set, .. } = whole_piece(alloc, &inner, &piece)? else {
-        return Ok(None);
-    };
-    let own = standing_in(alloc, &inner, &piece, n)?;
-    let part = PartSet::of(running.view.signature, &set);
-    so_far.then(&set)?;
-    if !own.is_empty() {
-        *found = own;
+    let outcome = whole_piece(alloc, &inner, &piece)?;
+    match outcome {
+        Outcome::Exhausted(_) => Ok(None),
+        Outcome::Set { set, .. } => {
+            let own = standing_in(alloc, &inner, &piece, n)?;
+            let part = PartSet::of(running.view.signature, &set);
+            so_far.then(&set)?;
+            put_later(found, own);
+            Ok(Some(part))
+        }
     }
-    Ok(Some(part))
+}
+
+/// Puts later assignments in the place of earlier ones, if there are any.
+fn put_later(found: &mut Vec<Assignment>, own: Vec<Assignment>)
+    ensures { all_assigned found.new.items ≡ later (all_assigned found.old.items) (all_assigned own.items) }
+{
+    if own.len() == 0 {
+        return;
+    }
+    *found = own;
+}
+
+/// A cut by which all of a rule isn't opened to spans.
+fn cut_of(signature: &Signature, piece: &Piece<'_>) -> usize
+    requires piece { IsPiece signature.now piece.now }
+    requires whole { piece.now.part ≡ part.Whole }
+    ensures some { 0 < result }
+    ensures long { IsLong signature.now (rule_of piece.now.rule.now) result }
+{
+    match positions_of(signature, piece) {
+        Some(positions) => positions.max(1),
+        None => 1,
+    }
 }
 
 /// The path of the part with this number.

@@ -5,6 +5,7 @@ ghost use Rattle.asm_state.specs.Updates.{UpdateSet, IsFirstFault};
 ghost use Rattle.asm_updates.specs.Faults.{fault_of};
 ghost use Rattle.asm_updates.specs.Stands.{Stands};
 ghost use Rattle.asm_reader.specs.ScriptLines.{pick};
+ghost use Rattle.asm_meaning.specs.Valued.{shown};
 ghost use Rattle.asm_eval.specs.RuleMeaning.{IsSoundRule};
 ghost use Rattle.asm_eval.specs.RuleViews.{rule_of};
 ghost use Rattle.asm_clash.specs.ClashOfRun.{IsMade, location_of};
@@ -49,7 +50,44 @@ fn fault_number(signature: &Signature, set: &Summary, fault: Fault) -> usize
     }
 }
 
-/// What comes of the step with these choices, by the code of the main rule.
+/// What comes of the step with these choices in what a view shows, by the code of the main rule.
+fn made_upon(
+    alloc: Global,
+    view: &View<'_>,
+    main: &RuleCode,
+    turns: u32,
+    choices: &Choices<'_, Script>,
+) -> Result<Made, AllocError>
+    requires { IsSoundRule view.now.signature.now (rule_of main.now) }
+    ensures { IfOk result (IsMade view.now.signature.now turns (pick choices.now.script.now choices.now.step) (rule_of main.now) (shown view.now)) }
+{
+    let signature = view.signature;
+    let running = Running {
+        view,
+        choices,
+        turns,
+    };
+    let piece = Piece {
+        rule: main,
+        frame: Frame::Empty,
+        path: Path::new(Vec::new(alloc)),
+        part: Part::Whole,
+    };
+    let outcome = whole_piece(alloc, &running, &piece)?;
+    match outcome {
+        Outcome::Exhausted(path) => Ok(Made::Exhausted(path)),
+        Outcome::Set { set, .. } => match set.first_fault(signature) {
+            None => Ok(Made::Consistent(set)),
+            Some(fault) => {
+                let n = fault_number(signature, &set, fault);
+                let assignments = standing_in(alloc, &running, &piece, n)?;
+                Ok(Made::Faulty { fault, assignments })
+            }
+        },
+    }
+}
+
+/// What comes of the step from a state with these choices, by the code of the main rule.
 pub(crate) fn made_by_step(
     alloc: Global,
     signature: &Signature,
@@ -64,26 +102,6 @@ pub(crate) fn made_by_step(
 {
     let nothing = Summary::new(alloc, signature.count());
     let view = View::new(signature, state, &nothing);
-    let running = Running {
-        view: &view,
-        choices,
-        turns,
-    };
-    let piece = Piece {
-        rule: main,
-        frame: Frame::Empty,
-        path: Path::new(Vec::new(alloc)),
-        part: Part::Whole,
-    };
-    match whole_piece(alloc, &running, &piece)? {
-        Outcome::Exhausted(path) => Ok(Made::Exhausted(path)),
-        Outcome::Set { set, .. } => match set.first_fault(signature) {
-            None => Ok(Made::Consistent(set)),
-            Some(fault) => {
-                let n = fault_number(signature, &set, fault);
-                let assignments = standing_in(alloc, &running, &piece, n)?;
-                Ok(Made::Faulty { fault, assignments })
-            }
-        },
-    }
+    let made = made_upon(alloc, &view, main, turns, choices)?;
+    Ok(made)
 }
