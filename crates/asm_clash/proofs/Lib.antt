@@ -7,3 +7,4 @@ pub mod Walked
 pub mod Leaves
 pub mod FirstFaults
 pub mod Runs
+pub mod Steps

@@ -50,7 +50,8 @@ pub fn clash_of_run(
     for done in 0..steps {
         let step = u64::from(done) + 1;
         let choices = Choices { script, step };
-        match made_by_step(alloc, signature, &main, turns, &choices, &state)? {
+        let made = made_by_step(alloc, signature, &main, turns, &choices, &state)?;
+        match made {
             Made::Consistent(set) => set.fire_into(&mut state),
             Made::Exhausted(path) => return Ok(ClashOfRun::Exhausted { step, path }),
             Made::Faulty { fault, assignments } => {

@@ -8,6 +8,7 @@ ghost use Rattle.asm_reader.specs.ScriptLines.{pick};
 ghost use Rattle.asm_meaning.specs.Valued.{shown};
 ghost use Rattle.asm_eval.specs.RuleMeaning.{IsSoundRule};
 ghost use Rattle.asm_eval.specs.RuleViews.{rule_of};
+ghost use Rattle.asm_eval.specs.declared.frame.Frame.TheVariants as bare;
 ghost use Rattle.asm_clash.specs.ClashOfRun.{IsMade, location_of};
 
 use crate::assignment::Assignment;
@@ -51,14 +52,16 @@ fn fault_number(signature: &Signature, set: &Summary, fault: Fault) -> usize
 }
 
 /// What comes of the step with these choices in what a view shows, by the code of the main rule.
-fn made_upon(
+fn made_upon<'e>(
     alloc: Global,
     view: &View<'_>,
-    main: &RuleCode,
+    frame: &'e Frame<'e>,
+    main: &'e RuleCode,
     turns: u32,
     choices: &Choices<'_, Script>,
 ) -> Result<Made, AllocError>
-    requires { IsSoundRule view.now.signature.now (rule_of main.now) }
+    requires bare { frame.now ≡ bare.Empty }
+    requires sound { IsSoundRule view.now.signature.now (rule_of main.now) }
     ensures { IfOk result (IsMade view.now.signature.now turns (pick choices.now.script.now choices.now.step) (rule_of main.now) (shown view.now)) }
 {
     let signature = view.signature;
@@ -67,10 +70,11 @@ fn made_upon(
         choices,
         turns,
     };
+    let path = Path::new(Vec::new(alloc));
     let piece = Piece {
         rule: main,
-        frame: Frame::Empty,
-        path: Path::new(Vec::new(alloc)),
+        frame: *frame,
+        path,
         part: Part::Whole,
     };
     let outcome = whole_piece(alloc, &running, &piece)?;
@@ -102,6 +106,6 @@ pub(crate) fn made_by_step(
 {
     let nothing = Summary::new(alloc, signature.count());
     let view = View::new(signature, state, &nothing);
-    let made = made_upon(alloc, &view, main, turns, choices)?;
+    let made = made_upon(alloc, &view, &Frame::Empty, main, turns, choices)?;
     Ok(made)
 }

@@ -34,7 +34,7 @@ standing_in-standing_in-requires g t c κs within =
     let pieces = c.in-Pieces.pieces in
     let low : c.loop-i.i < length pieces.items = omega (arith, c.loop-i-test.true, c.len-i-end.ensures, pieces.ok) in
     let one = piece_here r a.piece.now c.requires.whole _ _ c.in_ok-pieces.ensures l pieces c.in-Pieces.instances c.in-Pieces.is c.cut_of-cut.ensures.long c.loop-i.i c.index.result.now low c.index.ensures in
-    (omega (arith, c.decreases, one.0), (one.1, (one.2, c.requires.number)))
+    (omega (arith, c.decreases, one.0), (search rules, (one.1, (one.2, c.requires.number))))
 
 pub standing_in-returns-in-Assign : goal.standing_in-returns-in-Assign
 standing_in-returns-in-Assign g t c =
@@ -88,7 +88,7 @@ standing_in_order-standing_next-requires g t c κs within =
     let a = c.args in
     let l = c.loop-i in
     let small = size_of_part a.parts.now l.i c.index-parts-i.result c.loop-i-test.true c.index-parts-i.is in
-    (omega (arith, c.decreases, small), (sound_part (shape_at a.running.now) a.parts.now l.i c.index-parts-i.result c.loop-i-test.true c.index-parts-i.is c.requires.sound, (c.requires.framed, (c.requires.number, l.invariant.counted))))
+    (omega (arith, c.decreases, small), (search rules, (sound_part (shape_at a.running.now) a.parts.now l.i c.index-parts-i.result c.loop-i-test.true c.index-parts-i.is c.requires.sound, (c.requires.framed, (c.requires.number, l.invariant.counted)))))
 
 pub standing_in_order-returns-in_default : goal.standing_in_order-returns-in_default
 standing_in_order-returns-in_default g t c =
@@ -195,3 +195,8 @@ standing_in_turns-loop-turn-preserved g t c =
           _ (all_assigned c.standing_next.new.found.items) c.standing_next.new.so_far (c.in_ok-next.ensures.next under.set under.stands under.consistent)
           c.in-Some.part c.in-Some.is (sym c.ends_turns.ensures ∙ c.if-ends_turns.false);
     }
+
+-- ---- the next part
+
+pub standing_next-returns-clause-next : goal.standing_next-returns-clause-next
+standing_next-returns-clause-next g t c = ?

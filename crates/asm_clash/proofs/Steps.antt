@@ -1,0 +1,70 @@
+-- A step by the code of the main rule, and the run that goes on with it or ends in it.
+--     yields_here, standing_here        what the code yields and what stands of it, at the empty path
+--     goes_on, ends_exhausted, ends_faulty       the run behind a step with a consistent set, and its ends
+use Rattle.std.proofs.Common.{◌≡◌, ℕ, ◌+◌, ◌<◌, ◌≤◌, List, [], Vec, Global, refl, sym, ap, subst, ◌∙◌}
+use Rattle.asm_state.specs.Location.{Location, State}
+use Rattle.asm_state.specs.Signature.{Shape}
+use Rattle.asm_state.specs.Updates.{UpdateSet, IsConsistent, fire}
+use Rattle.asm_updates.specs.Entries.{Entries}
+use Rattle.asm_updates.specs.Faults.{fault_of}
+use Rattle.asm_updates.specs.declared.fault.Fault.{Fault}
+use Rattle.asm_syntax.specs.SourceTree.{Spec}
+use Rattle.asm_reader.specs.ScriptLines.{Script, pick}
+use Rattle.asm_check.specs.Faults.{inits}
+use Rattle.asm_check.specs.Shapes.{shape_of}
+use Rattle.asm_meaning.specs.Declarations.{main_rule, specification_of}
+use Rattle.asm_meaning.specs.Does.{Outcome, does}
+use Rattle.asm_meaning.specs.Program.{nothing_bound}
+use Rattle.asm_meaning.specs.Run.{AtExhausted, AtFault, Run, Specification, run}
+use Rattle.asm_meaning.specs.Yields.{Path, Result, Gives, Exhausted}
+use Rattle.asm_eval.specs.ResolvingLaws.{ResolvingLaws}
+use Rattle.asm_eval.specs.RuleMeaning.{meaning}
+use Rattle.asm_eval.specs.RuleScopes.{resolved_rule_in}
+use Rattle.asm_eval.specs.RuleTree.{RuleCode}
+use Rattle.asm_clash.specs.ClashOfRun.{EndsSo, IsMade, coded, coded_at, location_of}
+use Rattle.asm_clash.specs.Standing.{Assigned, AreValuesAt, standing}
+use Rattle.asm_clash.specs.Walks.{all_assigned}
+use Rattle.asm_clash.specs.declared.assignment.Assignment.{Assignment}
+use Rattle.asm_clash.specs.declared.clash.ClashOfRun.TheVariants as clash
+use Rattle.asm_clash.specs.declared.step.Made.TheVariants as made
+use Rattle.asm_clash.proofs.FirstFaults.{first_is_fault}
+use Rattle.asm_clash.proofs.Runs.{IsRest, rest_exhausted, rest_faulty, rest_fired}
+use Rattle.asm_clash.proofs.StandingRules.{standing_laws}
+
+module _ (shape : Shape) (turns : ℕ) (chosen : Path → ℕ) (R : RuleCode) (A : State) (p : Path) (top : p ≡ []) where
+  pub yields_here : (r : Result) → (meaning shape turns chosen R [] [] A p).result ≡ r → coded shape turns chosen R A ≡ r
+  yields_here r is = ap (λ q. (meaning shape turns chosen R [] [] A q).result) (sym top) ∙ is
+
+  pub standing_here : (l : Location) (fault : Fault) (found : List Assigned) → l ≡ location_of shape fault → found ≡ standing shape turns chosen l R [] [] A p
+      → found ≡ coded_at shape turns chosen R A fault
+  standing_here l fault found at is = is ∙ (λ i. standing shape turns chosen (at i) R [] [] A (top i))
+
+module _ (laws : ResolvingLaws) (s : Spec) (turns : ℕ) (script : Script) (limit done step : ℕ) (A : State) (R : RuleCode)
+    (resolved : resolved_rule_in s [] (main_rule s (inits s)) R) (at : step ≡ done + 1) (low : done < limit) (rest : IsRest (specification_of s) turns script limit done A) where
+  abbrev main : Specification
+  main = specification_of s
+
+  abbrev whole : Run
+  whole = run main turns script limit
+
+  code_yields : (r : Result) → coded (shape_of s) turns (pick script step) R A ≡ r → (does main.program turns script (done + 1) A nothing_bound [] main.main).result ≡ r
+  code_yields r is =
+      sym (ap (λ (o : Outcome). o.result) (laws.means s (main_rule s (inits s)) R turns script (done + 1) A [] resolved))
+      ∙ ap (λ k. coded (shape_of s) turns (pick script k) R A) (sym at) ∙ is
+
+  pub goes_on : (U : UpdateSet) (B : State) → coded (shape_of s) turns (pick script step) R A ≡ Gives U → IsConsistent U → B ≡ fire A U → IsRest main turns script limit (done + 1) B
+  goes_on U B gives good leads = rest_fired main turns script limit done A low rest U B (code_yields (Gives U) gives) good leads
+
+  pub ends_exhausted : (q : Path) → IsMade (shape_of s) turns (pick script step) R A (made.Exhausted q) → EndsSo s turns script whole (clash.Exhausted step q)
+  ends_exhausted q is = rest_exhausted main turns script limit done A low rest q (code_yields (Exhausted q) is) ∙ ap (λ k. AtExhausted k q) (sym at)
+
+  pub ends_faulty : (fault : Fault) (found : Vec Assignment Global) → IsMade (shape_of s) turns (pick script step) R A (made.Faulty fault found) → EndsSo s turns script whole (clash.Faulty step fault found)
+  ends_faulty fault found (U, gives, first, stand) =
+      let l = location_of (shape_of s) fault in
+      let ended = rest_faulty main turns script limit done A low rest U (code_yields (Gives U) gives) (first_is_fault U (fault_of (shape_of s) fault) first) in
+      let values = standing_laws.in_set (shape_of s) turns (pick script step) l R [] [] A [] U gives in (
+        U,
+        ended.0 ∙ ap (λ k. AtFault k U) (sym at),
+        record { first = first; values = subst (AreValuesAt U l) (sym stand) values },
+        (R, resolved, stand ∙ ap (λ B. coded_at (shape_of s) turns (pick script step) R B fault) (sym ended.1)),
+      )
