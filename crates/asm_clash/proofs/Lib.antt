@@ -4,6 +4,7 @@ pub mod OpenedRules
 pub mod ClosedRules
 pub mod Sequences
 pub mod Walked
+pub mod Upon
 pub mod Leaves
 pub mod FirstFaults
 pub mod Runs

@@ -52,13 +52,13 @@ fn fault_number(signature: &Signature, set: &Summary, fault: Fault) -> usize
 }
 
 /// What comes of the step with these choices in what a view shows, by the code of the main rule.
-fn made_upon<'e>(
+fn made_upon<'a, 'e>(
     alloc: Global,
-    view: &View<'_>,
+    view: &'a View<'_>,
     frame: &'e Frame<'e>,
     main: &'e RuleCode,
     turns: u32,
-    choices: &Choices<'_, Script>,
+    choices: &'a Choices<'a, Script>,
 ) -> Result<Made, AllocError>
     requires bare { frame.now ≡ bare.Empty }
     requires sound { IsSoundRule view.now.signature.now (rule_of main.now) }

@@ -1,9 +1,13 @@
-use Rattle.std.proofs.Common.{rules, ◌≡◌, ◌<◌, ◌≤◌, ◌∙◌, ◌++◌, List, Vec, Global, length, map, ap, sym, subst, refl, arith}
+use Rattle.std.proofs.Common.{rules, ◌≡◌, ◌<◌, ◌≤◌, ◌∙◌, ◌++◌, List, Vec, Global, Some, length, map, ap, sym, subst, refl, arith}
 use Rattle.std.specs.Prelude.{IfOk}
 use Rattle.asm_state.specs.Signature.{count_of, location_at}
+use Rattle.asm_state.specs.Updates.{fire}
+use Rattle.asm_meaning.specs.Formed.{IsFormed}
+use Rattle.asm_meaning.specs.Valued.{shown}
 use Rattle.asm_meaning.specs.Yields.{at}
 use Rattle.asm_eval.specs.Frames.{readings_of}
 use Rattle.asm_eval.specs.Opening.{work_of}
+use Rattle.asm_eval.specs.RuleMeaning.{meaning}
 use Rattle.asm_eval.specs.RuleViews.{rule_of}
 use Rattle.asm_eval.specs.Running.{chosen_at, places_of, shape_at, state_at}
 use Rattle.asm_clash.specs.Standing.{Assigned}
@@ -11,6 +15,7 @@ use Rattle.asm_clash.specs.Walks.{all_assigned, stands_at}
 use Rattle.asm_clash.specs.declared.assignment.Assignment.{Assignment}
 use Rattle.asm_clash.proofs.ClosedRules.{assign_here, seq_here, iterate_here, other_here, closed_here, pieces_here, piece_here, sound_part, size_of_part}
 use Rattle.asm_clash.proofs.OpenedRules.{works_stand}
+use Rattle.asm_clash.proofs.Upon.{next_set}
 use Rattle.asm_clash.proofs.Walked.{order_begin, order_none, order_off, order_on, order_finish, turns_start, turn_none, turn_off, turn_on, turns_finish}
 use Rattle.asm_clash.proofs.standing.+walk.Goals as goal
 
@@ -199,4 +204,16 @@ standing_in_turns-loop-turn-preserved g t c =
 -- ---- the next part
 
 pub standing_next-returns-clause-next : goal.standing_next-returns-clause-next
-standing_next-returns-clause-next g t c = ?
+standing_next-returns-clause-next g t c = λ U stands consistent.
+    let a = c.args in
+    let r = a.running.now in
+    let shape = shape_at r in
+    let v = c.upon-view.result in
+    let upper = v.signature.now in
+    let yielded = meaning upper r.turns (chosen_at r) (rule_of a.rule.now) (readings_of upper a.frame.now) (places_of upper a.frame.now) (shown v) c.in_ok-path.path in
+    next_set r.turns (chosen_at r) (rule_of a.rule.now) a.frame.now a.n shape upper c.upon-view.ensures.signature (fire (state_at r) U) (shown v) (c.upon-view.ensures.fired U stands consistent)
+    (at a.path.now a.number) c.in_ok-path.path c.in_ok-path.ensures
+    U (all_assigned a.found.now.items) (all_assigned c.put_later.new.found.items) c.then.new.self (Some c.of-part.result)
+    c.of-part.result c.in-Set.set c.in-Set.instances (all_assigned c.in_ok-own-in-Set.own.items) refl
+    (subst (IsFormed upper yielded) c.in-Set.is c.in_ok-outcome.ensures) c.in_ok-own-in-Set.ensures c.of-part.ensures
+    (λ V there. c.in_ok-then-in-Set.ensures.merge shape U V stands there) c.put_later.ensures
