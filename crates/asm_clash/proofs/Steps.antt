@@ -1,12 +1,17 @@
 -- A step by the code of the main rule, and the run that goes on with it or ends in it.
---     yields_here, standing_here        what the code yields and what stands of it, at the empty path
+--     yields_here, standing_here        what the code yields and what stands of it, with nothing bound and at the empty path
+--     nothing_over                      what a view shows with nothing over a state
 --     goes_on, ends_exhausted, ends_faulty       the run behind a step with a consistent set, and its ends
 use Rattle.std.proofs.Common.{◌≡◌, ℕ, ◌+◌, ◌<◌, ◌≤◌, List, [], Vec, Global, refl, sym, ap, subst, ◌∙◌}
-use Rattle.asm_state.specs.Location.{Location, State}
-use Rattle.asm_state.specs.Signature.{Shape}
-use Rattle.asm_state.specs.Updates.{UpdateSet, IsConsistent, fire}
+use Rattle.asm_state.specs.declared.value.Value.{Value}
+use Rattle.asm_state.specs.Location.{Location, Stray, State}
+use Rattle.asm_state.specs.Signature.{Shape, state_of}
+use Rattle.asm_state.specs.Updates.{UpdateSet, IsConsistent, none, fire}
+use Rattle.asm_state.proofs.Members.{member_laws}
+use Rattle.asm_state.proofs.Summaries.{fire_laws}
 use Rattle.asm_updates.specs.Entries.{Entries}
 use Rattle.asm_updates.specs.Faults.{fault_of}
+use Rattle.asm_updates.specs.Stands.{Stands}
 use Rattle.asm_updates.specs.declared.fault.Fault.{Fault}
 use Rattle.asm_syntax.specs.SourceTree.{Spec}
 use Rattle.asm_reader.specs.ScriptLines.{Script, pick}
@@ -17,10 +22,14 @@ use Rattle.asm_meaning.specs.Does.{Outcome, does}
 use Rattle.asm_meaning.specs.Program.{nothing_bound}
 use Rattle.asm_meaning.specs.Run.{AtExhausted, AtFault, Run, Specification, run}
 use Rattle.asm_meaning.specs.Yields.{Path, Result, Gives, Exhausted}
+use Rattle.asm_eval.specs.Frames.{readings_of}
 use Rattle.asm_eval.specs.ResolvingLaws.{ResolvingLaws}
 use Rattle.asm_eval.specs.RuleMeaning.{meaning}
 use Rattle.asm_eval.specs.RuleScopes.{resolved_rule_in}
 use Rattle.asm_eval.specs.RuleTree.{RuleCode}
+use Rattle.asm_eval.specs.Running.{places_of}
+use Rattle.asm_eval.specs.declared.frame.Frame.{Frame}
+use Rattle.asm_eval.specs.declared.frame.Frame.TheVariants as bare
 use Rattle.asm_clash.specs.ClashOfRun.{EndsSo, IsMade, coded, coded_at, location_of}
 use Rattle.asm_clash.specs.Standing.{Assigned, AreValuesAt, standing}
 use Rattle.asm_clash.specs.Walks.{all_assigned}
@@ -31,13 +40,21 @@ use Rattle.asm_clash.proofs.FirstFaults.{first_is_fault}
 use Rattle.asm_clash.proofs.Runs.{IsRest, rest_exhausted, rest_faulty, rest_fired}
 use Rattle.asm_clash.proofs.StandingRules.{standing_laws}
 
-module _ (shape : Shape) (turns : ℕ) (chosen : Path → ℕ) (R : RuleCode) (A : State) (p : Path) (top : p ≡ []) where
-  pub yields_here : (r : Result) → (meaning shape turns chosen R [] [] A p).result ≡ r → coded shape turns chosen R A ≡ r
-  yields_here r is = ap (λ q. (meaning shape turns chosen R [] [] A q).result) (sym top) ∙ is
+module _ (shape : Shape) (turns : ℕ) (chosen : Path → ℕ) (R : RuleCode) (A : State) (f : Frame) (nothing : f ≡ bare.Empty) (p : Path) (top : p ≡ []) where
+  pub yields_here : (r : Result) → (meaning shape turns chosen R (readings_of shape f) (places_of shape f) A p).result ≡ r → coded shape turns chosen R A ≡ r
+  yields_here r is = sym (λ i. (meaning shape turns chosen R (readings_of shape (nothing i)) (places_of shape (nothing i)) A (top i)).result) ∙ is
 
-  pub standing_here : (l : Location) (fault : Fault) (found : List Assigned) → l ≡ location_of shape fault → found ≡ standing shape turns chosen l R [] [] A p
+  pub standing_here : (l : Location) (fault : Fault) (found : List Assigned) → l ≡ location_of shape fault → found ≡ standing shape turns chosen l R (readings_of shape f) (places_of shape f) A p
       → found ≡ coded_at shape turns chosen R A fault
-  standing_here l fault found at is = is ∙ (λ i. standing shape turns chosen (at i) R [] [] A (top i))
+  standing_here l fault found at is = is ∙ (λ i. standing shape turns chosen (at i) R (readings_of shape (nothing i)) (places_of shape (nothing i)) A (top i))
+
+none_consistent : IsConsistent none
+none_consistent = record { one_value = λ l v w h k. absurd (member_laws.of_none l v h); no_stray = λ f v. member_laws.of_none (Stray f) v }
+
+-- a view with nothing over a state shows the state
+pub nothing_over : (shape : Shape) (set : Entries) (contents : List Value) (A : State) → Stands shape set none
+    → ((U : UpdateSet) → Stands shape set U → IsConsistent U → A ≡ fire (state_of shape contents) U) → A ≡ state_of shape contents
+nothing_over shape set contents A stands fired = fired none stands none_consistent ∙ fire_laws.of_none (state_of shape contents)
 
 module _ (laws : ResolvingLaws) (s : Spec) (turns : ℕ) (script : Script) (limit done step : ℕ) (A : State) (R : RuleCode)
     (resolved : resolved_rule_in s [] (main_rule s (inits s)) R) (at : step ≡ done + 1) (low : done < limit) (rest : IsRest (specification_of s) turns script limit done A) where

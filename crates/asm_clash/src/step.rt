@@ -40,14 +40,14 @@ pub enum Made {
 }
 
 /// The number of the location of a set's first fault.
-fn fault_number(signature: &Signature, set: &Summary, fault: Fault) -> usize
-    requires first { (U : UpdateSet) × Stands signature.now set.now U × IsFirstFault U (fault_of signature.now fault) }
+fn fault_number(signature: &Signature, set: &Summary, fault: &Fault) -> usize
+    requires first { (U : UpdateSet) × Stands signature.now set.now U × IsFirstFault U (fault_of signature.now fault.now) }
     ensures in_range { result < count_of signature.now }
-    ensures location { location_at signature.now result ≡ location_of signature.now fault }
+    ensures location { location_at signature.now result ≡ location_of signature.now fault.now }
 {
     match fault {
-        Fault::Clash { location, .. } => location,
-        Fault::Outside { function } => signature.stray_number(function),
+        Fault::Clash { location, .. } => *location,
+        Fault::Outside { function } => signature.stray_number(*function),
     }
 }
 
@@ -83,7 +83,7 @@ fn made_upon<'a, 'e>(
         Outcome::Set { set, .. } => match set.first_fault(signature) {
             None => Ok(Made::Consistent(set)),
             Some(fault) => {
-                let n = fault_number(signature, &set, fault);
+                let n = fault_number(signature, &set, &fault);
                 let assignments = standing_in(alloc, &running, &piece, n)?;
                 Ok(Made::Faulty { fault, assignments })
             }
