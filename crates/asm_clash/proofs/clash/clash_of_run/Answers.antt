@@ -36,12 +36,12 @@ returns-in-Exhausted c =
     let a = c.args in
     let s = spec_of a.checked.now.spec in
     let l = c.loop-done in
-    let chosen = pick a.script.now (c.from.result + 1) in
+    let chosen = pick a.script.now (c.from-step.result + 1) in
     let R = rule_of c.in_ok-main.main in
     let there : IsMade (shape_of s) a.turns chosen R (state_of (shape_of s) l.state) c.in_ok-made.made =
     subst (λ (sh : Shape). IsMade sh a.turns chosen R (state_of sh l.state) c.in_ok-made.made) c.signature-signature.ensures c.in_ok-made.ensures in
-    ends_exhausted c.resolving_laws.ensures s a.turns a.script.now a.steps l.done (c.from.result + 1) (state_of (shape_of s) l.state) R c.in_ok-main.ensures
-    (ap (λ k. k + 1) c.from.ensures) c.loop-done-test.true l.invariant.rest c.in-Exhausted.path
+    ends_exhausted c.resolving_laws.ensures s a.turns a.script.now a.steps l.done (c.from-step.result + 1) (state_of (shape_of s) l.state) R c.in_ok-main.ensures
+    (ap (λ k. k + 1) c.from-step.ensures) c.loop-done-test.true l.invariant.rest c.in-Exhausted.path
     (subst (IsMade (shape_of s) a.turns chosen R (state_of (shape_of s) l.state)) c.in-Exhausted.is there)
 
 pub returns-in-Faulty : goal.returns-in-Faulty
@@ -49,12 +49,12 @@ returns-in-Faulty c =
     let a = c.args in
     let s = spec_of a.checked.now.spec in
     let l = c.loop-done in
-    let chosen = pick a.script.now (c.from.result + 1) in
+    let chosen = pick a.script.now (c.from-step.result + 1) in
     let R = rule_of c.in_ok-main.main in
     let there : IsMade (shape_of s) a.turns chosen R (state_of (shape_of s) l.state) c.in_ok-made.made =
     subst (λ (sh : Shape). IsMade sh a.turns chosen R (state_of sh l.state) c.in_ok-made.made) c.signature-signature.ensures c.in_ok-made.ensures in
-    ends_faulty c.resolving_laws.ensures s a.turns a.script.now a.steps l.done (c.from.result + 1) (state_of (shape_of s) l.state) R c.in_ok-main.ensures
-    (ap (λ k. k + 1) c.from.ensures) c.loop-done-test.true l.invariant.rest c.in-Faulty.fault c.in-Faulty.assignments
+    ends_faulty c.resolving_laws.ensures s a.turns a.script.now a.steps l.done (c.from-step.result + 1) (state_of (shape_of s) l.state) R c.in_ok-main.ensures
+    (ap (λ k. k + 1) c.from-step.ensures) c.loop-done-test.true l.invariant.rest c.in-Faulty.fault c.in-Faulty.assignments
     (subst (IsMade (shape_of s) a.turns chosen R (state_of (shape_of s) l.state)) c.in-Faulty.is there)
 
 pub loop-done-preserved : goal.loop-done-preserved
@@ -63,7 +63,7 @@ loop-done-preserved c =
     let s = spec_of a.checked.now.spec in
     let shape = shape_of s in
     let l = c.loop-done in
-    let chosen = pick a.script.now (c.from.result + 1) in
+    let chosen = pick a.script.now (c.from-step.result + 1) in
     let R = rule_of c.in_ok-main.main in
     let there : IsMade shape a.turns chosen R (state_of shape l.state) c.in_ok-made.made =
     subst (λ (sh : Shape). IsMade sh a.turns chosen R (state_of sh l.state) c.in_ok-made.made) c.signature-signature.ensures c.in_ok-made.ensures in
@@ -71,7 +71,7 @@ loop-done-preserved c =
     subst (IsMade shape a.turns chosen R (state_of shape l.state)) c.in-Consistent.is there in
     record {
       whole = c.fire_into.ensures.len ∙ l.invariant.whole;
-      rest = goes_on c.resolving_laws.ensures s a.turns a.script.now a.steps l.done (c.from.result + 1) (state_of shape l.state) R c.in_ok-main.ensures
-          (ap (λ k. k + 1) c.from.ensures) c.loop-done-test.true l.invariant.rest on.0 (state_of shape c.fire_into.new.state) on.1 on.2
+      rest = goes_on c.resolving_laws.ensures s a.turns a.script.now a.steps l.done (c.from-step.result + 1) (state_of shape l.state) R c.in_ok-main.ensures
+          (ap (λ k. k + 1) c.from-step.ensures) c.loop-done-test.true l.invariant.rest on.0 (state_of shape c.fire_into.new.state) on.1 on.2
           (c.fire_into.ensures.fired shape on.0 on.3 on.2);
     }
