@@ -5,7 +5,7 @@
 --     pieces_here                           what stands of the pieces that a piece is opened to
 --     piece_here                            each of them is all of a rule with fewer nodes
 --     sound_part, size_of_part              a part of sound rules is sound, and has no more nodes than all of them
-use Rattle.std.proofs.Common.{◌≡◌, ℕ, zero, suc, ◌≤◌, ◌<◌, Bool, true, false, List, [], ◌∷◌, length, map, get_or, All, Option, Some, None, refl, sym, ap, subst, ◌∙◌, arith, Box, Vec, Global}
+use Rattle.std.proofs.Common.{◌≡◌, ℕ, zero, suc, ◌≤◌, ◌<◌, true, List, [], ◌∷◌, length, map, get_or, All, Option, Some, None, sym, ap, subst, ◌∙◌, arith, Box, Vec, Global}
 use Rattle.std.proofs.lemmas.Bool.{false≢true}
 use Rattle.std.proofs.lemmas.List.Elements.{All-get_or}
 use Rattle.asm_reader.specs.declared.picks.Picks.{Ghosts}
@@ -18,7 +18,7 @@ use Rattle.asm_meaning.specs.declared.part.Part.TheVariants as part
 use Rattle.asm_eval.specs.CodeViews.{code_of}
 use Rattle.asm_eval.specs.Frames.{readings_of}
 use Rattle.asm_eval.specs.OpenedPieces.{Gives, Opens, OpeningLaws, is_closed, is_closed_part, pieces_in, works_in}
-use Rattle.asm_eval.specs.Opening.{opened, part_opened, work_of}
+use Rattle.asm_eval.specs.Opening.{part_opened, work_of}
 use Rattle.asm_eval.specs.Pieces.{IsPiece, piece_yields, positions}
 use Rattle.asm_eval.specs.Readings.{reading, universe_at}
 use Rattle.asm_eval.specs.RuleMeaning.{IsSoundRule, AreSoundRules, Locations, place_location, rule_size, rule_sizes}

@@ -2,11 +2,11 @@
 --     clash_within       the number of a clash's location is below their count
 --     outside_held       a function that is updated outside its domain is controlled
 --     first_is_fault     the set isn't consistent
-use Rattle.std.proofs.Common.{◌≡◌, ℕ, ◌<◌, ◌≤◌, Bool, length, subst, ◌⊎◌, inl, inr}
+use Rattle.std.proofs.Common.{ℕ, ◌<◌, subst, inl, inr}
 use Rattle.std.proofs.lemmas.Bool.{cases_lt}
 use Rattle.std.proofs.lemmas.List.{get_or_past}
 use Rattle.asm_state.specs.declared.function.FunctionKind.TheVariants.{Controlled}
-use Rattle.asm_state.specs.Location.{Location, Proper, Stray}
+use Rattle.asm_state.specs.Location.{Proper, Stray}
 use Rattle.asm_state.specs.Signature.{Shape, HasKind, count_of, location_at, locations}
 use Rattle.asm_state.specs.Updates.{UpdateSet, Fault, Clash, Outside, IsConsistent, IsFirstFault, Range}
 use Rattle.asm_state.proofs.Faults.{fault_laws}

@@ -1,7 +1,7 @@
 -- The rest of a run, from the state that its first steps lead to.
 --     IsRest             a run ends as the rest of it does, from a step on
 --     rest_begin, rest_fired, rest_exhausted, rest_faulty, rest_limit     from step to step, and at the end
-use Rattle.std.proofs.Common.{◌≡◌, ℕ, zero, suc, ◌+◌, ◌-◌, ◌<◌, ◌≤◌, Bool, true, false, cond, [], refl, ap, sym, ◌∙◌, arith, add-one}
+use Rattle.std.proofs.Common.{◌≡◌, ℕ, suc, ◌+◌, ◌-◌, ◌<◌, ◌≤◌, false, cond, [], ap, sym, ◌∙◌, arith, add-one}
 use Rattle.std.proofs.lemmas.Bool.{false_from_ne_true}
 use Rattle.asm_state.specs.Location.{State}
 use Rattle.asm_state.specs.Updates.{UpdateSet, IsConsistent, is_consistent, fire}

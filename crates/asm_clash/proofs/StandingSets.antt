@@ -2,7 +2,7 @@
 --     Shows l r found       a result is exhausted, or its set has those values at l
 --     none_shown, assigned_shown, beside_shown, part_shown, turn_shown, elements_shown, one_shown, turns_shown
 --                           of no update and of one, and of what parts, elements, candidates and turns make
-use Rattle.std.proofs.Common.{◌++◌, ◌≡◌, ◌<◌, ℕ, zero, suc, Bool, true, false, cond, not, ◌||◌, List, [], ◌∷◌, map, refl, sym, ap, subst, ◌∙◌, arith, ◌⊎◌, inl, inr, ◌↔◌, Option, Some, None}
+use Rattle.std.proofs.Common.{◌++◌, ◌≡◌, ◌<◌, ℕ, zero, suc, Bool, true, false, cond, not, ◌||◌, List, [], ◌∷◌, refl, sym, ap, subst, ◌∙◌, arith, ◌⊎◌, inl, inr, Option, Some, None}
 use Rattle.std.specs.Prelude.{Contains, length, slice_index_or}
 use Rattle.std.specs.Cmp.{Equal-is, tied_itself}
 use Rattle.std.proofs.lemmas.Bool.{false≢true}
@@ -10,13 +10,13 @@ use Rattle.std.proofs.lemmas.List.Elements.{Contains-append_left, Contains-appen
 use Rattle.asm_state.specs.declared.value.Value.{Value}
 use Rattle.asm_state.specs.Location.{Location, State, location_cmp, location_cmp-total, location_cmp-antisymmetric}
 use Rattle.asm_state.specs.Signature.{is_location}
-use Rattle.asm_state.specs.Updates.{UpdateSet, Has, Names, none, one, together, merge, is_none, is_consistent, fire}
+use Rattle.asm_state.specs.Updates.{UpdateSet, Has, Names, one, together, merge, is_none, is_consistent, fire}
 use Rattle.asm_state.proofs.Members.{member_laws}
 use Rattle.asm_meaning.specs.Does.{Outcome, nothing, both, counted, following, part_and, turn_and, each, one_of, turns_of}
 use Rattle.asm_meaning.specs.Program.{nothing_bound}
 use Rattle.asm_meaning.specs.Targets.{update}
 use Rattle.asm_meaning.specs.Yields.{Path, Result, Gives, Exhausted, at, beside, after}
-use Rattle.asm_clash.specs.Standing.{Assigned, Part, AreValuesAt, values_of, later, after_part, after_turn, assigned_at, each_stands, one_stands, turns_stand}
+use Rattle.asm_clash.specs.Standing.{Assigned, AreValuesAt, values_of, later, after_part, after_turn, assigned_at, each_stands, one_stands, turns_stand}
 
 -- ---- elements of lists
 

@@ -2,7 +2,7 @@
 --     yields_here, standing_here        what the code yields and what stands of it, with nothing bound and at the empty path
 --     nothing_over                      what a view shows with nothing over a state
 --     goes_on, ends_exhausted, ends_faulty       the run behind a step with a consistent set, and its ends
-use Rattle.std.proofs.Common.{◌≡◌, ℕ, ◌+◌, ◌<◌, ◌≤◌, List, [], Vec, Global, refl, sym, ap, subst, ◌∙◌}
+use Rattle.std.proofs.Common.{◌≡◌, ℕ, ◌+◌, ◌<◌, List, [], Vec, Global, sym, ap, subst, ◌∙◌}
 use Rattle.asm_state.specs.declared.value.Value.{Value}
 use Rattle.asm_state.specs.Location.{Location, Stray, State}
 use Rattle.asm_state.specs.Signature.{Shape, state_of}
@@ -32,7 +32,6 @@ use Rattle.asm_eval.specs.declared.frame.Frame.{Frame}
 use Rattle.asm_eval.specs.declared.frame.Frame.TheVariants as bare
 use Rattle.asm_clash.specs.ClashOfRun.{EndsSo, IsMade, coded, coded_at, location_of}
 use Rattle.asm_clash.specs.Standing.{Assigned, AreValuesAt, standing}
-use Rattle.asm_clash.specs.Walks.{all_assigned}
 use Rattle.asm_clash.specs.declared.assignment.Assignment.{Assignment}
 use Rattle.asm_clash.specs.declared.clash.ClashOfRun.TheVariants as clash
 use Rattle.asm_clash.specs.declared.step.Made.TheVariants as made

@@ -1,6 +1,6 @@
 -- The next part of a sequence, in a view with the set so far laid over the view of the whole.
 --     next_exhausted, next_set      where it is exhausted, and where it gives a set
-use Rattle.std.proofs.Common.{◌≡◌, ℕ, List, Option, Some, None, refl, sym, ap, subst, ◌∙◌}
+use Rattle.std.proofs.Common.{◌≡◌, ℕ, List, Option, Some, None, sym, ap, subst, ◌∙◌}
 use Rattle.asm_state.specs.Location.{State}
 use Rattle.asm_state.specs.Signature.{Shape, location_at}
 use Rattle.asm_state.specs.Updates.{UpdateSet, merge}
@@ -9,7 +9,7 @@ use Rattle.asm_updates.specs.Stands.{Stands}
 use Rattle.asm_meaning.specs.Does.{Outcome}
 use Rattle.asm_meaning.specs.Formed.{IsSet}
 use Rattle.asm_meaning.specs.PartSets.{IsPartSet}
-use Rattle.asm_meaning.specs.Yields.{Path, Result, Exhausted}
+use Rattle.asm_meaning.specs.Yields.{Path, Exhausted}
 use Rattle.asm_meaning.specs.declared.part_set.PartSet.{PartSet}
 use Rattle.asm_eval.specs.Frames.{readings_of}
 use Rattle.asm_eval.specs.RuleMeaning.{meaning}

@@ -2,7 +2,7 @@
 --     order_begin, order_none, order_off, order_on, order_finish     of parts in order
 --     turns_start, turn_none, turn_off, turn_on, turns_finish        of turns
 --     later_nothing, later_some                                      assignments that are put in the place of others
-use Rattle.std.proofs.Common.{◌≡◌, ℕ, zero, suc, ◌+◌, ◌<◌, ◌≤◌, Bool, true, false, List, [], ◌∷◌, length, map, get_or, Option, Some, None, refl, sym, ap, subst, ◌∙◌, arith}
+use Rattle.std.proofs.Common.{◌≡◌, ℕ, ◌+◌, ◌<◌, ◌≤◌, true, false, List, [], ◌∷◌, length, get_or, Option, Some, None, refl, subst, ◌∙◌, arith}
 use Rattle.asm_state.specs.Location.{Location, State}
 use Rattle.asm_state.specs.Signature.{Shape}
 use Rattle.asm_state.specs.Updates.{UpdateSet, none, fire}
@@ -14,7 +14,7 @@ use Rattle.asm_meaning.specs.Yields.{Path, Result, at}
 use Rattle.asm_meaning.specs.declared.part_set.PartSet.{PartSet}
 use Rattle.asm_eval.specs.RuleMeaning.{Locations, meaning}
 use Rattle.asm_eval.specs.RuleTree as tree
-use Rattle.asm_eval.specs.RuleViews.{rule_of, rules_of}
+use Rattle.asm_eval.specs.RuleViews.{rule_of}
 use Rattle.asm_eval.specs.declared.rule_code.RuleCode.{RuleCode}
 use Rattle.asm_clash.specs.Standing.{Assigned, later, standing}
 use Rattle.asm_clash.specs.Walks.{IsNext, all_assigned}

@@ -1,5 +1,5 @@
 //! A run up to its end, with the assignments at the location of its fault.
-ghost use Rattle.std.specs.Prelude.{◌≡◌, IfOk};
+ghost use Rattle.std.specs.Prelude.{IfOk};
 ghost use Rattle.asm_syntax.specs.Views.{spec_of};
 ghost use Rattle.asm_meaning.specs.Declarations.{specification_of};
 ghost use Rattle.asm_meaning.specs.Run.{run};
@@ -22,7 +22,10 @@ pub enum ClashOfRun {
     /// At its limit of steps.
     Limit,
     /// In this step, where the `iterate` at this path has made its last turn.
-    Exhausted { step: u64, path: Path },
+    Exhausted {
+        step: u64,
+        path: Path,
+    },
     /// In this step, whose set has this first fault: with the assignments whose updates stand in
     /// that set at the fault's location, in the order of evaluation.
     Faulty {

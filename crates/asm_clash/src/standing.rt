@@ -93,7 +93,15 @@ fn standing_in_order<'e, P: Picks>(
         let rule = &parts[i];
         let number = i as u64;
         let next = standing_next(
-            alloc, running, frame, rule, path, number, n, &mut so_far, &mut found,
+            alloc,
+            running,
+            frame,
+            rule,
+            path,
+            number,
+            n,
+            &mut so_far,
+            &mut found,
         )?;
         let Some(part) = next else {
             return Ok(found);
@@ -126,7 +134,15 @@ fn standing_in_turns<'e, P: Picks>(
     for turn in 0..running.turns {
         let number = u64::from(turn);
         let next = standing_next(
-            alloc, running, frame, body, path, number, n, &mut so_far, &mut found,
+            alloc,
+            running,
+            frame,
+            body,
+            path,
+            number,
+            n,
+            &mut so_far,
+            &mut found,
         )?;
         let Some(part) = next else {
             return Ok(found);

@@ -1,5 +1,4 @@
-use Rattle.std.proofs.Common.{◌≡◌, ◌≤◌, ◌<◌, ◌+◌, ◌∙◌, ℕ, length, refl, sym, ap, subst, arith}
-use Rattle.asm_state.specs.Location.{State}
+use Rattle.std.proofs.Common.{◌≡◌, ◌+◌, ◌∙◌, sym, ap, subst}
 use Rattle.asm_state.specs.Signature.{Shape, count_of, initial_state, state_of}
 use Rattle.asm_reader.specs.ScriptLines.{pick}
 use Rattle.asm_syntax.specs.Views.{spec_of}
@@ -8,9 +7,8 @@ use Rattle.asm_meaning.specs.Declarations.{specification_of}
 use Rattle.asm_eval.specs.RuleMeaning.{IsSoundRule}
 use Rattle.asm_eval.specs.RuleViews.{rule_of}
 use Rattle.asm_clash.specs.ClashOfRun.{IsMade}
-use Rattle.asm_clash.specs.declared.step.Made.{Made}
 use Rattle.asm_clash.specs.declared.step.Made.TheVariants as made
-use Rattle.asm_clash.proofs.Runs.{rest_begin, rest_limit}
+use Rattle.asm_clash.proofs.Runs.{rest_begin}
 use Rattle.asm_clash.proofs.Steps.{goes_on, ends_exhausted, ends_faulty}
 use Rattle.asm_clash.proofs.clash.clash_of_run.Goals as goal
 

@@ -1,6 +1,4 @@
-use Rattle.std.proofs.Common.{◌≡◌, ◌≢◌, ◌<◌, ◌∙◌, ◌++◌, ◌∷◌, [], ℕ, List, Option, Some, ap, sym, subst, arith}
-use Rattle.std.specs.Prelude.{IfSome}
-use Rattle.asm_state.specs.Signature.{Shape, count_of}
+use Rattle.std.proofs.Common.{◌∙◌, ◌++◌, ◌∷◌, [], List, ap, arith}
 use Rattle.asm_eval.specs.Frames.{code_value}
 use Rattle.asm_eval.specs.RuleViews.{place_of}
 use Rattle.asm_eval.specs.Running.{place_in}

@@ -1,6 +1,6 @@
-use Rattle.std.proofs.Common.{rules, ◌≡◌, ◌<◌, ◌≤◌, ◌∙◌, ◌++◌, List, Vec, Global, Some, length, map, ap, sym, subst, refl, arith}
+use Rattle.std.proofs.Common.{rules, ◌≡◌, ◌<◌, ◌∙◌, ◌++◌, List, Vec, Global, Some, length, map, ap, sym, subst, refl, arith}
 use Rattle.std.specs.Prelude.{IfOk}
-use Rattle.asm_state.specs.Signature.{count_of, location_at}
+use Rattle.asm_state.specs.Signature.{location_at}
 use Rattle.asm_state.specs.Updates.{fire}
 use Rattle.asm_meaning.specs.Formed.{IsFormed}
 use Rattle.asm_meaning.specs.Valued.{shown}
@@ -10,13 +10,12 @@ use Rattle.asm_eval.specs.Opening.{work_of}
 use Rattle.asm_eval.specs.RuleMeaning.{meaning}
 use Rattle.asm_eval.specs.RuleViews.{rule_of}
 use Rattle.asm_eval.specs.Running.{chosen_at, places_of, shape_at, state_at}
-use Rattle.asm_clash.specs.Standing.{Assigned}
-use Rattle.asm_clash.specs.Walks.{all_assigned, stands_at}
+use Rattle.asm_clash.specs.Walks.{all_assigned}
 use Rattle.asm_clash.specs.declared.assignment.Assignment.{Assignment}
-use Rattle.asm_clash.proofs.ClosedRules.{assign_here, seq_here, iterate_here, other_here, closed_here, pieces_here, piece_here, sound_part, size_of_part}
+use Rattle.asm_clash.proofs.ClosedRules.{assign_here, seq_here, other_here, closed_here, pieces_here, piece_here, sound_part, size_of_part}
 use Rattle.asm_clash.proofs.OpenedRules.{works_stand}
 use Rattle.asm_clash.proofs.Upon.{next_set}
-use Rattle.asm_clash.proofs.Walked.{order_begin, order_none, order_off, order_on, order_finish, turns_start, turn_none, turn_off, turn_on, turns_finish}
+use Rattle.asm_clash.proofs.Walked.{order_begin, order_none, order_off, order_on, order_finish, turns_start, turn_none, turn_off, turn_on}
 use Rattle.asm_clash.proofs.standing.+walk.Goals as goal
 
 -- ---- pieces

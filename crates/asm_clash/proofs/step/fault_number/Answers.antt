@@ -1,5 +1,5 @@
-use Rattle.std.proofs.Common.{◌≡◌, subst}
-use Rattle.asm_state.specs.Updates.{IsFirstFault, Fault}
+use Rattle.std.proofs.Common.{subst}
+use Rattle.asm_state.specs.Updates.{IsFirstFault}
 use Rattle.asm_updates.specs.Faults.{fault_of}
 use Rattle.asm_updates.specs.declared.fault.Fault.{Fault as NumberedFault}
 use Rattle.asm_clash.proofs.FirstFaults.{outside_held}
