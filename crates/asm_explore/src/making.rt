@@ -216,16 +216,7 @@ fn add_turns<'e, P: Picks>(
     let mut so_far = Summary::new(alloc, running.view.signature.count());
     for turn in 0..running.turns {
         let number = u64::from(turn);
-        let next = add_next(
-            alloc,
-            running,
-            frame,
-            body,
-            number,
-            path,
-            &mut so_far,
-            into,
-        )?;
+        let next = add_next(alloc, running, frame, body, number, path, &mut so_far, into)?;
         let Some(part) = next else {
             return Ok(());
         };
