@@ -1,3 +1,4 @@
+mod BetweenLines
 mod Decoding
 mod Fronts
 mod GivenNumbers
@@ -13,3 +14,4 @@ mod Skipped
 mod Spelled
 mod Told
 mod Views
+mod WholeLines

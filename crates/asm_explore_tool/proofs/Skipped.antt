@@ -1,18 +1,139 @@
--- Comments before a script change nothing of what it says.
---     comment_first      the lines of a text that begins with a comment
---     skipped_first      a line that is skipped, before others
+-- Lines that are skipped change nothing of what a script says.
+--     kept lines         those that aren't skipped
+--     says_alike         a text says what another one does that has the same lines but for those that are skipped
+--     feed_first         the lines of a text are those before a line feed and those behind it
+--     comments_kept      comments before a text add no line to those that aren't skipped
 --     comments_say       a script with comments before it, where it isn't too long
-use Rattle.std.proofs.Common.{◌≡◌, ℕ, zero, suc, ◌≤◌, ◌-◌, Bool, true, false, cond, not, is_none, ◌==◌, ◌&&◌, ◌||◌, List, [], ◌∷◌, ◌++◌, length, map, take, refl, sym, ap, subst, ◌∙◌, arith}
-use Rattle.std.specs.List.{All}
+use Rattle.std.proofs.Common.{◌≡◌, ℕ, zero, suc, ◌<◌, ◌≤◌, ◌-◌, Bool, true, false, cond, not, is_none, ◌==◌, ◌&&◌, ◌||◌, List, [], ◌∷◌, ◌++◌, length, map, take, refl, sym, ap, subst, ◌∙◌, arith}
+use Rattle.std.specs.List.{All, filter, onto_first, slice_split}
 use Rattle.std.specs.Prelude.{slice_index}
 use Rattle.std.specs.Str.Lines.{strip_carriage_return}
-use Rattle.std.proofs.lemmas.List.{append_assoc}
-use Rattle.std.proofs.lemmas.List.Splits.{slice_split_at}
+use Rattle.std.proofs.lemmas.List.{append_assoc, map-append}
+use Rattle.std.proofs.lemmas.List.Elements.{filter-append}
+use Rattle.std.proofs.lemmas.List.Splits.{length-slice_split, slice_split_at}
 use Rattle.asm_reader.specs.ScriptLines.{Script, script_of}
 use Rattle.asm_reader.specs.ScriptText.{AreFaultless, IsScript, is_bad, is_repeated, is_skipped, line_of, lines_of, max_script, said, said_in, says_again, script_in}
 use Rattle.asm_explore_tool.specs.Comments.{comment, comments, in_one_line, shown}
 
--- ---- a comment is a line
+-- ---- lines that aren't skipped
+
+abbrev pub kept : List (List ℕ) → List (List ℕ)
+kept lines = filter (λ line. not (is_skipped line)) lines
+
+-- the lines behind one, with it where it isn't skipped
+abbrev kept_behind : Bool → List ℕ → List (List ℕ) → List (List ℕ)
+kept_behind skips line lines = cond (not skips) (line ∷ lines) lines
+
+skipped_first : (line : List ℕ) (lines : List (List ℕ)) → is_skipped line ≡ true → kept (line ∷ lines) ≡ kept lines
+skipped_first line lines skips = ap (λ b. kept_behind b line (kept lines)) skips
+
+kept_first : (line : List ℕ) (lines : List (List ℕ)) → is_skipped line ≡ false → kept (line ∷ lines) ≡ line ∷ kept lines
+kept_first line lines stays = ap (λ b. kept_behind b line (kept lines)) stays
+
+same_said : (lines : List (List ℕ)) → said_in (kept lines) ≡ said_in lines
+same_said [] = refl
+same_said (line ∷ lines) = go (is_skipped line) refl (same_said lines)
+  where
+    go : (b : Bool) → is_skipped line ≡ b → said_in (kept lines) ≡ said_in lines → said_in (kept_behind b line (kept lines)) ≡ said b (line_of line) ++ said_in lines
+    go true is rest = rest
+    go false is rest = ap (λ b. said b (line_of line) ++ said_in (kept lines)) is ∙ ap (λ it. said false (line_of line) ++ it) rest
+
+same_script : (lines : List (List ℕ)) → script_in (kept lines) ≡ script_in lines
+same_script lines = ap script_of (same_said lines)
+
+-- where a line stands among those that aren't skipped it stands among all
+record IsCut (lines before : List (List ℕ)) (bytes : List ℕ) : Type 0 where
+  front : List (List ℕ)
+  back : List (List ℕ)
+  parts : lines ≡ front ++ bytes ∷ back
+  same : kept front ≡ before
+
+cut : (lines before after : List (List ℕ)) (bytes : List ℕ) → kept lines ≡ before ++ bytes ∷ after → IsCut lines before bytes
+cut [] [] after bytes e = let no : [] ≡ bytes ∷ after = e in cc
+cut [] (b ∷ before) after bytes e = let no : [] ≡ b ∷ (before ++ bytes ∷ after) = e in cc
+cut (line ∷ lines) before after bytes e = go (is_skipped line) refl before e (λ before. cut lines before after bytes)
+  where
+    Cuts : Type 0
+    Cuts = (before : List (List ℕ)) → kept lines ≡ before ++ bytes ∷ after → IsCut lines before bytes
+    go : (b : Bool) → is_skipped line ≡ b → (before : List (List ℕ)) → kept_behind b line (kept lines) ≡ before ++ bytes ∷ after → Cuts → IsCut (line ∷ lines) before bytes
+    go true is before e cuts =
+        let c = cuts before e in
+        record { front = line ∷ c.front; back = c.back; parts = ap (λ ls. line ∷ ls) c.parts; same = skipped_first line c.front is ∙ c.same }
+    go false is [] e cuts =
+        let same : line ≡ bytes = cc in
+        record { front = []; back = lines; parts = ap (λ b. b ∷ lines) same; same = refl }
+    go false is (b ∷ before) e cuts =
+        let same : line ≡ b = cc in
+        let rest : kept lines ≡ before ++ bytes ∷ after = cc in
+        let c = cuts before rest in
+        record {
+          front = line ∷ c.front;
+          back = c.back;
+          parts = ap (λ ls. line ∷ ls) c.parts;
+          same = kept_first line c.front is ∙ (ap (λ l. l ∷ kept c.front) same ∙ ap (λ ls. b ∷ ls) c.same);
+        }
+
+-- ---- faults
+
+-- what a line repeats depends on what those before it say
+repeats_alike : (one other : List (List ℕ)) (bytes : List ℕ) → script_in one ≡ script_in other → is_bad bytes || is_repeated one bytes ≡ is_bad bytes || is_repeated other bytes
+repeats_alike one other bytes same = ap (λ it. is_bad bytes || says_again it (said (is_skipped bytes) (line_of bytes))) same
+
+faultless_kept : (lines : List (List ℕ)) → AreFaultless lines → AreFaultless (kept lines)
+faultless_kept lines good before after bytes e =
+    let c = cut lines before after bytes e in
+    repeats_alike before c.front bytes (ap script_in (sym c.same) ∙ same_script c.front) ∙ good c.front c.back bytes c.parts
+
+skipped_is_good : (before : List (List ℕ)) (line : List ℕ) → is_skipped line ≡ true → is_bad line || is_repeated before line ≡ false
+skipped_is_good before line skips =
+    ap (λ b. not b && is_none (line_of line) || is_repeated before line) skips
+    ∙ ap (λ b. says_again (script_in before) (said b (line_of line))) skips
+
+faultless_whole : (lines : List (List ℕ)) → AreFaultless (kept lines) → AreFaultless lines
+faultless_whole lines good before after bytes e = go (is_skipped bytes) refl
+  where
+    go : (b : Bool) → is_skipped bytes ≡ b → is_bad bytes || is_repeated before bytes ≡ false
+    go true is = skipped_is_good before bytes is
+    go false is =
+        let parts : kept lines ≡ kept before ++ bytes ∷ kept after =
+        ap kept e ∙ (filter-append (λ line. not (is_skipped line)) before (bytes ∷ after) ∙ ap (λ ls. kept before ++ ls) (kept_first bytes after is)) in
+        repeats_alike before (kept before) bytes (sym (same_script before)) ∙ good (kept before) (kept after) bytes parts
+
+pub says_alike : (text bare : List ℕ) (script : Script) → kept (lines_of text) ≡ kept (lines_of bare) → length text ≤ max_script → IsScript bare script → IsScript text script
+says_alike text bare script same fits is =
+    record {
+      fits = fits;
+      faultless = faultless_whole (lines_of text) (subst AreFaultless (sym same) (faultless_kept (lines_of bare) is.faultless));
+      says = is.says ∙ (sym (same_script (lines_of bare)) ∙ (ap script_in (sym same) ∙ same_script (lines_of text)));
+    }
+
+-- ---- a line feed ends a line
+
+onto_front : {X : Type 0} (x : X) (parts more : List (List X)) → 0 < length parts → onto_first x (parts ++ more) ≡ onto_first x parts ++ more
+onto_front x [] more some = absurd (omega (arith, some))
+onto_front x (part ∷ parts) more some = refl
+
+abbrev is_feed : ℕ → Bool
+is_feed byte = byte == 10
+
+split_at_feed : (front rest : List ℕ) → slice_split is_feed (front ++ 10 ∷ rest) ≡ slice_split is_feed front ++ slice_split is_feed rest
+split_at_feed [] rest = refl
+split_at_feed (byte ∷ front) rest = go (is_feed byte) (split_at_feed front rest)
+  where
+    some : 0 < length (slice_split is_feed front)
+    some = omega (arith, length-slice_split is_feed front)
+    cut_by : Bool → List (List ℕ) → List (List ℕ)
+    cut_by b lines = cond b ([] ∷ lines) (onto_first byte lines)
+    go : (b : Bool) → slice_split is_feed (front ++ 10 ∷ rest) ≡ slice_split is_feed front ++ slice_split is_feed rest → cut_by b (slice_split is_feed (front ++ 10 ∷ rest)) ≡ cut_by b (slice_split is_feed front) ++ slice_split is_feed rest
+    go true same = ap (λ ls. [] ∷ ls) same
+    go false same = ap (onto_first byte) same ∙ onto_front byte (slice_split is_feed front) (slice_split is_feed rest) some
+
+pub feed_first : (front rest : List ℕ) → lines_of (front ++ 10 ∷ rest) ≡ lines_of front ++ lines_of rest
+feed_first front rest =
+    ap (map strip_carriage_return) (split_at_feed front rest)
+    ∙ map-append strip_carriage_return (slice_split is_feed front) (slice_split is_feed rest)
+
+-- ---- a comment is a line that is skipped
 
 never_feeds : (byte : ℕ) → (shown byte == 10) ≡ false
 never_feeds byte = go (byte == 10) refl
@@ -52,42 +173,14 @@ bare_skipped line =
     let front = 35 ∷ 32 ∷ in_one_line line in
     skipped_either_way (slice_index front (length front - 1) == 13) (in_one_line line)
 
--- ---- a line that is skipped
-
-module _ (line : List ℕ) (skips : is_skipped line ≡ true) where
-  says_nothing : said (is_skipped line) (line_of line) ≡ []
-  says_nothing = ap (λ b. said b (line_of line)) skips
-
-  same_script : (lines : List (List ℕ)) → script_in (line ∷ lines) ≡ script_in lines
-  same_script lines = ap (λ it. script_of (it ++ said_in lines)) says_nothing
-
-  first_is_good : (before : List (List ℕ)) → is_bad line || is_repeated before line ≡ false
-  first_is_good before =
-      ap (λ b. not b && is_none (line_of line) || is_repeated before line) skips
-      ∙ ap (λ it. says_again (script_in before) it) says_nothing
-
-  still_faultless : (lines : List (List ℕ)) → AreFaultless lines → AreFaultless (line ∷ lines)
-  still_faultless lines good [] after bytes e = let is : bytes ≡ line = cc in ap (λ it. is_bad it || is_repeated [] it) is ∙ first_is_good []
-  still_faultless lines good (b ∷ before) after bytes e =
-      let first : b ≡ line = cc in
-      let rest : lines ≡ before ++ bytes ∷ after = cc in
-      ap (λ it. is_bad bytes || is_repeated (it ∷ before) bytes) first
-      ∙ (ap (λ it. is_bad bytes || says_again it (said (is_skipped bytes) (line_of bytes))) (same_script before) ∙ good before after bytes rest)
+pub comments_kept : (lines : List (List ℕ)) (rest : List ℕ) → kept (lines_of (comments lines ++ rest)) ≡ kept (lines_of rest)
+comments_kept [] rest = refl
+comments_kept (line ∷ lines) rest =
+    ap (λ t. kept (lines_of t)) (append_assoc (comment line) (comments lines) rest)
+    ∙ (ap kept (comment_first line (comments lines ++ rest))
+    ∙ (skipped_first (bare line) (lines_of (comments lines ++ rest)) (bare_skipped line) ∙ comments_kept lines rest))
 
 -- ---- comments before a script
 
-module _ (text : List ℕ) (script : Script) (is : IsScript text script) where
-  comments_lines : (lines : List (List ℕ)) → AreFaultless (lines_of (comments lines ++ text)) × (script ≡ script_in (lines_of (comments lines ++ text)))
-  comments_lines [] = (is.faultless, is.says)
-  comments_lines (line ∷ lines) =
-      let rest = comments_lines lines in
-      let whole : lines_of (comments (line ∷ lines) ++ text) ≡ bare line ∷ lines_of (comments lines ++ text) =
-      ap lines_of (append_assoc (comment line) (comments lines) text) ∙ comment_first line (comments lines ++ text) in (
-        subst AreFaultless (sym whole) (still_faultless (bare line) (bare_skipped line) (lines_of (comments lines ++ text)) rest.0),
-        rest.1 ∙ sym (ap script_in whole ∙ same_script (bare line) (bare_skipped line) (lines_of (comments lines ++ text))),
-      )
-
-  pub comments_say : (lines : List (List ℕ)) → length (comments lines ++ text) ≤ max_script → IsScript (comments lines ++ text) script
-  comments_say lines fits =
-      let both = comments_lines lines in
-      record { fits = fits; faultless = both.0; says = both.1 }
+pub comments_say : (text : List ℕ) (script : Script) → IsScript text script → (lines : List (List ℕ)) → length (comments lines ++ text) ≤ max_script → IsScript (comments lines ++ text) script
+comments_say text script is lines fits = says_alike (comments lines ++ text) text script (comments_kept lines text) fits is

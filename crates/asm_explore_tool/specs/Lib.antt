@@ -1,6 +1,7 @@
 pub mod Answered
 pub mod Asked
 pub mod CommandLine
+pub mod Commented
 pub mod Comments
 pub mod Conditions
 pub mod Faults

@@ -31,6 +31,16 @@ fn shown(byte: u8) -> u8
     if byte == b'\n' { b' ' } else { byte }
 }
 
+/// Adds comments, each in a line of its own.
+pub(crate) fn add_comments(text: &mut Vec<u8>, lines: &[Vec<u8>]) -> Result<(), AllocError>
+    ensures { OnOk result (text.new.items ≡ text.old.items ++ comments.comments (comments.lines_of lines.now)) }
+{
+    for line in lines {
+        add_comment(text, line.as_slice())?;
+    }
+    Ok(())
+}
+
 /// A first comment and others, each in a line of its own.
 pub(crate) fn comments(
     alloc: Global,
@@ -41,8 +51,6 @@ pub(crate) fn comments(
 {
     let mut text = Vec::new(alloc);
     add_comment(&mut text, first)?;
-    for line in others {
-        add_comment(&mut text, line.as_slice())?;
-    }
+    add_comments(&mut text, others)?;
     Ok(text)
 }

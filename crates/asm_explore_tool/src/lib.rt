@@ -6,6 +6,7 @@ pub mod asked;
 mod broken;
 mod characters;
 mod comment;
+mod commented;
 pub mod condition;
 pub mod conditions;
 mod confirm;
