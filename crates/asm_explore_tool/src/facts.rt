@@ -1,7 +1,10 @@
 //! What is printed behind the first line of an answer.
 use crate::conditions::{Condition, Conditions};
 use crate::confirm::steps_shown;
+use crate::place_text::{push_path, push_position};
 use crate::settings::Settings;
+use crate::text_place::text_place;
+use asm_check::Checked;
 use asm_explore::{Answered, Finding};
 use std::alloc::{AllocError, Global};
 
@@ -104,26 +107,27 @@ fn add_counts(
 }
 
 /// Adds the line that says of which rule a step has too many outcomes.
-fn add_crowd(alloc: Global, lines: &mut Vec<Vec<u8>>, finding: &Finding) -> Result<(), AllocError> {
+fn add_crowd(
+    alloc: Global,
+    lines: &mut Vec<Vec<u8>>,
+    text: &[u8],
+    checked: &Checked,
+    finding: &Finding,
+) -> Result<(), AllocError> {
     let Finding::TooManyOutcomes { crowd, .. } = finding else {
         return Ok(());
     };
-    let mut line = String::from_str(alloc, "too many at place ")?;
-    push_path(alloc, &mut line, crowd.path.as_slice())?;
-    let (first, others) = (crowd.first, crowd.others);
-    line.push_str(format!(in alloc; ": {first} outcomes beside {others}")?.as_str())?;
-    add(lines, line)
-}
-
-/// Adds a path: `-`, or its numbers with a dot between each two.
-fn push_path(alloc: Global, line: &mut String, path: &[u64]) -> Result<(), AllocError> {
-    let [first, rest @ ..] = path else {
-        return line.push_str("-");
-    };
-    line.push_str(format!(in alloc; "{first}")?.as_str())?;
-    for number in rest {
-        line.push_str(format!(in alloc; ".{number}")?.as_str())?;
+    let path = crowd.path.as_slice();
+    let mut line = String::from_str(alloc, "too many outcomes at ")?.into_bytes();
+    if let Some(place) = text_place(alloc, checked, path)? {
+        push_position(alloc, &mut line, text, place.name.at)?;
+        line.extend_from_slice(b", ")?;
     }
+    line.extend_from_slice(b"place ")?;
+    push_path(alloc, &mut line, path)?;
+    let (first, others) = (crowd.first, crowd.others);
+    line.extend_from_slice(format!(in alloc; ": {first} beside {others}")?.as_bytes())?;
+    lines.push(line)?;
     Ok(())
 }
 
@@ -153,12 +157,14 @@ fn add_command(
 /// What is said behind the first line.
 pub(crate) fn facts(
     alloc: Global,
+    text: &[u8],
+    checked: &Checked,
     conditions: &Conditions<'_>,
     settings: &Settings<'_>,
     answered: &Answered,
 ) -> Result<Vec<Vec<u8>>, AllocError> {
     let mut lines = Vec::new(alloc);
-    add_crowd(alloc, &mut lines, &answered.finding)?;
+    add_crowd(alloc, &mut lines, text, checked, &answered.finding)?;
     add_conditions(alloc, &mut lines, conditions)?;
     add_looked_for(alloc, &mut lines, conditions)?;
     add_counts(alloc, &mut lines, answered)?;

@@ -3,8 +3,10 @@
 #![tactic(auto)]
 
 pub mod asked;
+mod assignment_line;
 mod broken;
 mod characters;
+mod choose_line;
 mod comment;
 mod commented;
 pub mod condition;
@@ -16,15 +18,18 @@ mod facts;
 pub mod fault;
 mod fault_words;
 mod first_line;
+mod first_name;
 mod given;
 mod help;
 pub mod laws;
+mod place_text;
 mod position;
 mod replay;
 pub mod report;
 mod sentences;
 pub mod settings;
 pub mod status;
+mod text_place;
 mod texts;
 mod value_text;
 pub mod words;

@@ -84,7 +84,7 @@ pub(crate) fn reported<'w, R: Threads + Sync>(
     let finding = &answered.finding;
     let words = fault_words(rt, alloc, text, asked, finding)?;
     let first = first_line(alloc, finding, words.as_slice())?;
-    let facts = facts(alloc, conditions, settings, answered)?;
+    let facts = facts(alloc, text, &asked.checked, conditions, settings, answered)?;
     let text = with_comments(
         alloc,
         first.as_slice(),

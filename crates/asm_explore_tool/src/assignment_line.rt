@@ -1,0 +1,82 @@
+//! What is said of an assignment.
+use crate::choose_line::push_values;
+use crate::place_text::{push_path, push_position};
+use crate::text_place::{TextPlace, text_place};
+use crate::value_text::push_value;
+use asm_check::Checked;
+use asm_state::word::Word;
+use asm_syntax::name::Name;
+use std::alloc::{AllocError, Global};
+
+/// Says of the assignment at a path of the main rule where it stands in the text, at which location
+/// it puts which value, and which values the names have that are bound there, the innermost first.
+pub(crate) fn assignment_line(
+    alloc: Global,
+    text: &[u8],
+    checked: &Checked,
+    path: &[u64],
+    arguments: &[Word],
+    value: Word,
+    bound: &[Word],
+) -> Result<Vec<u8>, AllocError> {
+    let mut line = Vec::new(alloc);
+    let place = text_place(alloc, checked, path)?;
+    if let Some(place) = &place {
+        push_position(alloc, &mut line, text, place.name.at)?;
+        line.extend_from_slice(b", ")?;
+    }
+    line.extend_from_slice(b"place ")?;
+    push_path(alloc, &mut line, path)?;
+    line.extend_from_slice(b": ")?;
+    if let Some(place) = &place {
+        line.extend_from_slice(place.name.text.as_bytes())?;
+    }
+    push_arguments(alloc, &mut line, checked, arguments)?;
+    line.extend_from_slice(b" := ")?;
+    push_value(alloc, &mut line, checked, value.value())?;
+    if let Some(place) = &place {
+        push_bound(alloc, &mut line, checked, place, bound)?;
+    }
+    Ok(line)
+}
+
+/// Adds arguments in brackets, if there are any.
+fn push_arguments(
+    alloc: Global,
+    line: &mut Vec<u8>,
+    checked: &Checked,
+    arguments: &[Word],
+) -> Result<(), AllocError> {
+    if arguments.is_empty() {
+        return Ok(());
+    }
+    line.push(b'(')?;
+    push_values(alloc, line, checked, arguments)?;
+    line.push(b')')?;
+    Ok(())
+}
+
+/// Adds the names that are bound and not hidden, each with its value.
+fn push_bound(
+    alloc: Global,
+    line: &mut Vec<u8>,
+    checked: &Checked,
+    place: &TextPlace<'_>,
+    values: &[Word],
+) -> Result<(), AllocError> {
+    let names = place.bound.as_slice();
+    for i in 0..names.len().min(values.len()) {
+        if !is_among(&names[..i], names[i]) {
+            line.extend_from_slice(b", ")?;
+            line.extend_from_slice(names[i].text.as_bytes())?;
+            line.extend_from_slice(b" = ")?;
+            push_value(alloc, line, checked, values[i].value())?;
+        }
+    }
+    Ok(())
+}
+
+/// Whether a name has the text of one of these.
+fn is_among(names: &[&Name], name: &Name) -> bool {
+    names.iter().any(|other| other.text.is(&name.text))
+}

@@ -1,0 +1,79 @@
+//! The comment for a choice.
+use crate::place_text::{push_path, push_position};
+use crate::text_place::text_place;
+use crate::value_text::push_value;
+use asm_check::Checked;
+use asm_state::word::Word;
+use asm_syntax::rule::Rule;
+use std::alloc::{AllocError, Global};
+
+/// So many candidates are shown.
+const SHOWN: usize = 64;
+
+/// Says of the `choose` at a path of the main rule where it stands in the text, and which candidates
+/// it has.
+pub(crate) fn choose_line(
+    alloc: Global,
+    text: &[u8],
+    checked: &Checked,
+    path: &[u64],
+    candidates: &[Word],
+) -> Result<Vec<u8>, AllocError> {
+    let mut line = Vec::new(alloc);
+    push_choose(alloc, &mut line, text, checked, path)?;
+    line.extend_from_slice(b": ")?;
+    push_candidates(alloc, &mut line, checked, candidates)?;
+    Ok(line)
+}
+
+/// Adds line and column of the variable, and its name.
+fn push_choose(
+    alloc: Global,
+    line: &mut Vec<u8>,
+    text: &[u8],
+    checked: &Checked,
+    path: &[u64],
+) -> Result<(), AllocError> {
+    if let Some(place) = text_place(alloc, checked, path)? {
+        if let Rule::Choose { name, .. } = place.rule {
+            push_position(alloc, line, text, name.at)?;
+            line.extend_from_slice(b": choose ")?;
+            return line.extend_from_slice(name.text.as_bytes());
+        }
+    }
+    line.extend_from_slice(b"place ")?;
+    push_path(alloc, line, path)?;
+    line.extend_from_slice(b": choose")
+}
+
+/// Adds the first candidates, and how many more there are.
+fn push_candidates(
+    alloc: Global,
+    line: &mut Vec<u8>,
+    checked: &Checked,
+    candidates: &[Word],
+) -> Result<(), AllocError> {
+    let shown = candidates.len().min(SHOWN);
+    push_values(alloc, line, checked, &candidates[..shown])?;
+    let more = candidates.len() - shown;
+    if more > 0 {
+        line.extend_from_slice(format!(in alloc; ", and {more} more")?.as_bytes())?;
+    }
+    Ok(())
+}
+
+/// Adds values, with a comma between each two.
+pub(crate) fn push_values(
+    alloc: Global,
+    line: &mut Vec<u8>,
+    checked: &Checked,
+    values: &[Word],
+) -> Result<(), AllocError> {
+    for i in 0..values.len() {
+        if i > 0 {
+            line.extend_from_slice(b", ")?;
+        }
+        push_value(alloc, line, checked, values[i].value())?;
+    }
+    Ok(())
+}
