@@ -2,6 +2,7 @@ mod BetweenLines
 mod Decoding
 mod Fronts
 mod GivenNumbers
+mod InputOnce
 mod JoinedTerms
 mod LineParts
 mod Links
@@ -10,6 +11,8 @@ mod Printed
 mod ReadNumbers
 mod ReadTexts
 mod RunMore
+mod RunOptions
+mod RunTold
 mod Skipped
 mod Spelled
 mod Told

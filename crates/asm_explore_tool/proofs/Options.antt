@@ -26,11 +26,11 @@ pub unrelated : IsUnrelated command
 unfolding command
 unrelated = record { simple = refl; free = refl; plain = refl; negates = refl }
 
-abbrev no_rule : Rule
+abbrev pub no_rule : Rule
 no_rule = positional []
 
 -- two texts whose first bytes are not the same
-apart : (name other : Text) → (slice_index name 0 ≡ slice_index other 0 → ⊥) → name ≡ other → ⊥
+pub apart : (name other : Text) → (slice_index name 0 ≡ slice_index other 0 → ⊥) → name ≡ other → ⊥
 apart name other differ same = differ (ap (λ t. slice_index t 0) same)
 
 module _ (c : Command) (m : ArgMatches) (p : IsParsedFrom c m) (is : app_of c ≡ command) where

@@ -1,24 +1,31 @@
 -- What the program answers to words.
---     AreTaken words          they begin with `all`, and what stands behind it is taken
---     Answers                 the answer to settings: status, and what the bytes of the output grew by, of the texts that are read for them
---     IsAnswered              the answer to the settings that the words give
-use Rattle.std.specs.Prelude.{◌≡◌, ℕ, List, [], ◌∷◌, Option, codes}
+--     AreTaken words          they begin with a command, and what stands behind it is taken
+--     Answers                 the answer to settings of `all`: status, and what the bytes of the output grew by, of the texts that are
+--                             read for them
+--     AnswersRun              the same for settings of one run, of which so much is printed
+--     AnswersTask             the answer to a command with its settings
+--     IsAnswered              the answer to the command and the settings that the words give
+use Rattle.std.specs.Prelude.{◌≡◌, ◌⊎◌, ℕ, List, [], ◌∷◌, Option, codes}
 use Rattle.std.specs.Io.KnownBytes.{Appends}
 use Rattle.clap.specs.Walk.{Text}
 use Rattle.asm_explore_tool.specs.CommandLine.{refusals}
-use Rattle.asm_explore_tool.specs.Given.{AreGiven, IsText}
+use Rattle.asm_explore_tool.specs.Given.{AreGiven, AreRunTexts, IsText}
 use Rattle.asm_explore_tool.specs.Report.{IsReported}
-use Rattle.asm_explore_tool.specs.Said.{AreSaidBehind}
+use Rattle.asm_explore_tool.specs.RunReport.{AreChoicesReported, IsClashReported}
+use Rattle.asm_explore_tool.specs.Said.{AreRunTaken, AreSaidBehind, IsOfRun}
 use Rattle.asm_explore_tool.specs.declared.conditions.Conditions.{Conditions}
 use Rattle.asm_explore_tool.specs.declared.report.Report.{Report}
+use Rattle.asm_explore_tool.specs.declared.settings.RunSettings.{RunSettings}
 use Rattle.asm_explore_tool.specs.declared.settings.Settings.{Settings}
+use Rattle.asm_explore_tool.specs.declared.settings.Task.{Task}
+use Rattle.asm_explore_tool.specs.declared.settings.Task.TheVariants.{All, Choices, Clash}
 
 abbrev pub AreTaken : List Text → Type 0
 AreTaken [] = ⊥
-AreTaken (command ∷ words) = (command ≡ codes "all") × (refusals words ≡ [])
+AreTaken (command ∷ words) = ((command ≡ codes "all") × (refusals words ≡ [])) ⊎ (IsOfRun command × AreRunTaken words)
 
 module _ (contents : Text → Option (List ℕ)) (input old new : Option (List ℕ)) where
-  -- the answer to settings
+  -- the answer to settings of `all`
   pub record Answers (settings : Settings) (status : ℕ) : Type 0 where
     pub text : List ℕ
     pub is_text : IsText contents input settings.spec.now text
@@ -29,7 +36,22 @@ module _ (contents : Text → Option (List ℕ)) (input old new : Option (List �
     pub status_is : status ≡ report.status
     pub appended : Appends old new report.text.items
 
+  -- the answer to settings of one run: what is reported of the texts
+  pub record AnswersRun (AreReported : (text script_text : List ℕ) → RunSettings → Report → Type 0) (settings : RunSettings) (status : ℕ) : Type 0 where
+    pub text : List ℕ
+    pub script_text : List ℕ
+    pub are_texts : AreRunTexts contents input settings text script_text
+    pub report : Report
+    pub reported : AreReported text script_text settings report
+    pub status_is : status ≡ report.status
+    pub appended : Appends old new report.text.items
+
+  abbrev pub AnswersTask : Task → (status : ℕ) → Type 0
+  AnswersTask (All settings) status = Answers settings status
+  AnswersTask (Choices settings) status = AnswersRun AreChoicesReported settings status
+  AnswersTask (Clash settings) status = AnswersRun IsClashReported settings status
+
   pub record IsAnswered (words : List Text) (status : ℕ) : Type 0 where
-    pub settings : Settings
-    pub said : AreSaidBehind words settings
-    pub answers : Answers settings status
+    pub task : Task
+    pub said : AreSaidBehind words task
+    pub answers : AnswersTask task status

@@ -1,6 +1,7 @@
--- The words behind `all`, in the terms of the library that reads them.
---     command           it has a version; its arguments: the text's file, and an option for each limit and condition
---     refusals words    the kinds of what is wrong with the words, none where they are taken
+-- The words behind a command, in the terms of the library that reads them.
+--     command, refusals words           behind `all`: it has a version; its arguments: the text's file, and an option for each limit and
+--                                       condition. The kinds of what is wrong with the words, none where they are taken
+--     run_command, run_refusals words   behind `choices` and `clash`: the text's file, and an option for each limit and for the script's file
 use Rattle.std.specs.Prelude.{true, List, [], ◌∷◌, Some, codes}
 use Rattle.clap.specs.Faults.{fault_of}
 use Rattle.clap.specs.Kinds.{Kinds}
@@ -36,3 +37,20 @@ command = record {
 
 abbrev pub refusals : List Text → Kinds
 refusals words = fault_of command words
+
+unfoldable pub run_command : App
+run_command = record {
+  top = record (new_shape (codes "asm-explore")) {
+    no_binary_name = true;
+    has_version = true;
+    rules = required (positional (codes "spec"))
+        ∷ or_else (codes "1000") (number STEPS (codes "steps"))
+        ∷ or_else (codes "1000") (number TURNS (codes "turns"))
+        ∷ option (codes "script")
+        ∷ [];
+  };
+  subs = [];
+}
+
+abbrev pub run_refusals : List Text → Kinds
+run_refusals words = fault_of run_command words

@@ -13,6 +13,7 @@ status_of_fault fault.Memory = 3
 status_of_fault (fault.File source) = 3
 status_of_fault fault.Write = 3
 status_of_fault fault.Unconfirmed = 3
+status_of_fault fault.Unwritten = 3
 
 -- a fault of words that are refused, by the library that reads them
 abbrev pub IsOfWords : Fault → Type 0
@@ -23,3 +24,4 @@ IsOfWords fault.Memory = ⊥
 IsOfWords (fault.File source) = ⊥
 IsOfWords fault.Write = ⊥
 IsOfWords fault.Unconfirmed = ⊥
+IsOfWords fault.Unwritten = ⊥

@@ -1,6 +1,9 @@
 -- What is read for settings: the text of the specification, and those of the conditions.
 --     file_of name                             the file of this name, but for `-`, which is standard input
 --     IsText contents input settings text      the text is that of the specification's file, or of the input
+--     AreRunTexts contents input settings text script
+--                                              the texts of the specification's file and of the script's, of which one may be the input;
+--                                              a script that isn't named has no bytes
 --     AreFronts contents names texts           the texts are those of the files with these names
 --     AreGiven contents settings conditions    the conditions are those that the settings give, and those of the files that they name
 use Rattle.std.specs.Prelude.{◌≡◌, ℕ, List, [], ◌∷◌, ◌++◌, Option, Some, None, cond, option_map, codes, ⊤}
@@ -9,6 +12,7 @@ use Rattle.clap.specs.Walk.{Text, texts}
 use Rattle.asm_tool.specs.Statuses.{IsFront, bytes_of}
 use Rattle.asm_explore_tool.specs.Conditions.{text_of, texts_of}
 use Rattle.asm_explore_tool.specs.declared.conditions.Conditions.{Conditions}
+use Rattle.asm_explore_tool.specs.declared.settings.RunSettings.{RunSettings}
 use Rattle.asm_explore_tool.specs.declared.settings.Settings.{Settings}
 
 -- reading goes no further: what is of this length is too long
@@ -22,11 +26,22 @@ module _ (contents : Text → Option (List ℕ)) where
   abbrev pub IsText : (input : Option (List ℕ)) → Text → List ℕ → Type 0
   IsText input name text = IsFront (bytes_of contents input (file_of name)) most_bytes text
 
+  abbrev pub IsTextOfFile : Text → List ℕ → Type 0
+  IsTextOfFile name text = IsFront (contents name) most_bytes text
+
+  abbrev pub IsTextOfScript : (input : Option (List ℕ)) → Option Text → List ℕ → Type 0
+  IsTextOfScript input None script = script ≡ []
+  IsTextOfScript input (Some name) script = IsText input name script
+
+  pub record AreRunTexts (input : Option (List ℕ)) (settings : RunSettings) (text script : List ℕ) : Type 0 where
+    pub is_text : IsText input settings.spec.now text
+    pub is_script : IsTextOfScript input (option_map (λ name. name.now) settings.script) script
+
   abbrev pub AreFronts : List Text → List (List ℕ) → Type 0
   AreFronts [] [] = ⊤
   AreFronts [] (text ∷ more) = ⊥
   AreFronts (name ∷ names) [] = ⊥
-  AreFronts (name ∷ names) (text ∷ more) = IsFront (contents name) most_bytes text × AreFronts names more
+  AreFronts (name ∷ names) (text ∷ more) = IsTextOfFile name text × AreFronts names more
 
   pub record AreGiven (settings : Settings) (conditions : Conditions) : Type 0 where
     pub files : List (List ℕ)

@@ -4,11 +4,13 @@ pub mod CommandLine
 pub mod Commented
 pub mod Comments
 pub mod Conditions
+pub mod Ended
 pub mod Faults
 pub mod FirstLine
 pub mod Given
 pub mod Positions
 pub mod Replay
 pub mod Report
+pub mod RunReport
 pub mod Said
 pub mod Words

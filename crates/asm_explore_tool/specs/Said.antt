@@ -1,8 +1,11 @@
 -- What words say.
---     AreSaid words settings        the settings are those that the words give
---     AreSaidBehind words settings  the same of the words behind `all`
---     Explains words fault          the words are refused, as the fault says, or memory ran out
-use Rattle.std.specs.Prelude.{◌≡◌, Bool, true, ◌&&◌, List, [], ◌∷◌, Some, option_map, codes, is_some, ⊤}
+--     AreSaid words settings        the settings are those that the words behind `all` give
+--     AreRunSaid words settings     the same behind `choices` and `clash`: the text and the script aren't both standard input
+--     AreSaidBehind words task      the first word names the command, and the others give its settings
+--     Explains, ExplainsRun words fault
+--                                   the words behind a command are refused, as the fault says, or memory ran out
+--     ExplainsBehind words fault    the same with the command before them
+use Rattle.std.specs.Prelude.{◌≡◌, ◌⊎◌, Bool, true, false, ◌&&◌, List, [], ◌∷◌, Option, Some, None, option_map, codes, is_some, ⊤}
 use Rattle.std.specs.Option.{option_map_or}
 use Rattle.std.specs.Prelude.{find}
 use Rattle.std.specs.Str.{bytes_eq}
@@ -12,20 +15,31 @@ use Rattle.clap.specs.Simple.{matches_of}
 use Rattle.clap.specs.Values.{kind_of}
 use Rattle.clap.specs.Walk.{Row, Text, first_of, rows_of, texts}
 use Rattle.clap.specs.declared.error.Error.{Error}
-use Rattle.clap.specs.declared.error.kind.ErrorKind.TheVariants.{OutOfMemory}
+use Rattle.clap.specs.declared.error.kind.ErrorKind.TheVariants.{ArgumentConflict, OutOfMemory}
 use Rattle.clap.specs.declared.parser.matches.ArgMatches.{ArgMatches}
 use Rattle.asm_run.specs.declared.limits.TheConstants.{STEPS, TURNS}
 use Rattle.asm_run.specs.Limits.{is_within}
 use Rattle.asm_tool.specs.Said.{HasNumber, IsNumber}
-use Rattle.asm_explore_tool.specs.CommandLine.{command, refusals}
+use Rattle.asm_explore_tool.specs.CommandLine.{command, refusals, run_command, run_refusals}
 use Rattle.asm_explore_tool.specs.declared.fault.Fault.{Fault}
 use Rattle.asm_explore_tool.specs.declared.fault.Fault.TheVariants.{Memory, Words}
+use Rattle.asm_explore_tool.specs.declared.settings.RunSettings.{RunSettings}
 use Rattle.asm_explore_tool.specs.declared.settings.Settings.{Settings}
+use Rattle.asm_explore_tool.specs.declared.settings.Task.{Task}
+use Rattle.asm_explore_tool.specs.declared.settings.Task.TheVariants.{All, Choices, Clash}
 use Rattle.asm_explore_tool.specs.declared.words.TheConstants.{STATES, OUTCOMES}
 
 -- each number is within its bounds
 abbrev pub are_in_range : Settings → Bool
 are_in_range s = is_within STEPS s.steps && is_within TURNS s.turns && is_within STATES s.states && is_within OUTCOMES s.outcomes
+
+abbrev pub are_run_in_range : RunSettings → Bool
+are_run_in_range s = is_within STEPS s.steps && is_within TURNS s.turns
+
+abbrev pub is_task_in_range : Task → Bool
+is_task_in_range (All settings) = are_in_range settings
+is_task_in_range (Choices settings) = are_run_in_range settings
+is_task_in_range (Clash settings) = are_run_in_range settings
 
 -- what a parse of the words finds
 pub record AreParsed (words : List Text) (matches : ArgMatches) : Type 0 where
@@ -35,6 +49,16 @@ pub record AreParsed (words : List Text) (matches : ArgMatches) : Type 0 where
   pub turns : HasNumber (found_of matches) (codes "turns") TURNS
   pub states : HasNumber (found_of matches) (codes "states") STATES
   pub outcomes : HasNumber (found_of matches) (codes "outcomes") OUTCOMES
+
+-- the rows of the words behind `choices` and `clash`
+abbrev pub run_rows : List Text → List Row
+run_rows words = matches_of run_command words
+
+pub record AreRunParsed (words : List Text) (matches : ArgMatches) : Type 0 where
+  pub rows : rows_of (found_of matches) ≡ run_rows words
+  pub spec : is_some (first_value (found_of matches) (codes "spec")) ≡ true
+  pub steps : HasNumber (found_of matches) (codes "steps") STEPS
+  pub turns : HasNumber (found_of matches) (codes "turns") TURNS
 
 -- the texts of an argument
 abbrev pub all_of : Text → List Row → List Text
@@ -56,12 +80,47 @@ pub record AreRead (rows : List Row) (settings : Settings) : Type 0 where
 abbrev pub AreSaid : List Text → Settings → Type 0
 AreSaid words settings = AreRead (matches_of command words) settings
 
+pub record AreRunRead (rows : List Row) (settings : RunSettings) : Type 0 where
+  pub spec : first_of (codes "spec") rows ≡ Some settings.spec.now
+  pub steps : IsNumber rows (codes "steps") settings.steps
+  pub turns : IsNumber rows (codes "turns") settings.turns
+  pub script : option_map (λ text. text.now) settings.script ≡ first_of (codes "script") rows
+
+-- the file with this name is standard input
+abbrev pub is_input : Option Text → Bool
+is_input None = false
+is_input (Some name) = bytes_eq name (codes "-")
+
+-- the text and the script are both on standard input
+abbrev pub reads_input_twice : RunSettings → Bool
+reads_input_twice settings = is_input (Some settings.spec.now) && is_input (option_map (λ text. text.now) settings.script)
+
+abbrev pub reads_task_twice : Task → Bool
+reads_task_twice (All settings) = false
+reads_task_twice (Choices settings) = reads_input_twice settings
+reads_task_twice (Clash settings) = reads_input_twice settings
+
+-- the words ask for both from standard input
+abbrev pub are_both_input : List Text → Bool
+are_both_input words = is_input (first_of (codes "spec") (run_rows words)) && is_input (first_of (codes "script") (run_rows words))
+
+abbrev pub AreRunTaken : List Text → Type 0
+AreRunTaken words = (run_refusals words ≡ []) × (are_both_input words ≡ false)
+
+abbrev pub AreRunSaid : List Text → RunSettings → Type 0
+AreRunSaid words settings = AreRunTaken words × AreRunRead (run_rows words) settings
+
 -- ---- faults
 
 abbrev pub Explains : List Text → Fault → Type 0
 Explains words Memory = ⊤
 Explains words (Words error) = IsAmong (kind_of error) (refusals words)
 Explains words _ = ⊥
+
+abbrev pub ExplainsRun : List Text → Fault → Type 0
+ExplainsRun words Memory = ⊤
+ExplainsRun words (Words error) = IsAmong (kind_of error) (run_refusals words) ⊎ ((are_both_input words ≡ true) × (kind_of error ≡ ArgumentConflict))
+ExplainsRun words _ = ⊥
 
 abbrev pub IsFaultOf : Error → Fault → Type 0
 IsFaultOf error Memory = kind_of error ≡ OutOfMemory
@@ -70,10 +129,16 @@ IsFaultOf error _ = ⊥
 
 -- ---- behind the command
 
-abbrev pub AreSaidBehind : List Text → Settings → Type 0
-AreSaidBehind [] settings = ⊥
-AreSaidBehind (command ∷ words) settings = (command ≡ codes "all") × (refusals words ≡ []) × AreSaid words settings
+-- the command takes the settings of one run
+abbrev pub IsOfRun : Text → Type 0
+IsOfRun command = (command ≡ codes "choices") ⊎ (command ≡ codes "clash")
+
+abbrev pub AreSaidBehind : List Text → Task → Type 0
+AreSaidBehind [] task = ⊥
+AreSaidBehind (command ∷ words) (All settings) = (command ≡ codes "all") × (refusals words ≡ []) × AreSaid words settings
+AreSaidBehind (command ∷ words) (Choices settings) = (command ≡ codes "choices") × AreRunSaid words settings
+AreSaidBehind (command ∷ words) (Clash settings) = (command ≡ codes "clash") × AreRunSaid words settings
 
 abbrev pub ExplainsBehind : List Text → Fault → Type 0
 ExplainsBehind [] fault = ⊤
-ExplainsBehind (command ∷ words) fault = command ≡ codes "all" → Explains words fault
+ExplainsBehind (command ∷ words) fault = (command ≡ codes "all" → Explains words fault) × (IsOfRun command → ExplainsRun words fault)

@@ -39,7 +39,7 @@ fn refused<'w>(
 }
 
 /// The specification with this text.
-fn checked<'w>(alloc: Global, text: &[u8], name: &'w str) -> Result<Checked, Fault<'w>>
+pub(crate) fn checked<'w>(alloc: Global, text: &[u8], name: &'w str) -> Result<Checked, Fault<'w>>
     ensures { IfOk result (λ checked. IsAccepted text.now (spec_of checked.spec)) }
 {
     let tree = match read(alloc, text) {

@@ -25,12 +25,17 @@ fn message<W: Write>(fault: &Fault<'_>, out: &mut W) -> fmt::Result {
         Fault::Unconfirmed => {
             out.write_str("asm-explore: an error of this program: the script leads to no fault\n")
         }
+        Fault::Unwritten => out.write_str(
+            "asm-explore: the run has too many choices for a script: ask for fewer --steps\n",
+        ),
     }
 }
 
 fn unreadable<W: Write>(source: Source<'_>, out: &mut W) -> fmt::Result {
     match source {
-        Source::Specification("-") => out.write_str("asm-explore: standard input can't be read\n"),
+        Source::Specification("-") | Source::Script("-") => {
+            out.write_str("asm-explore: standard input can't be read\n")
+        }
         _ => writeln!(out, "asm-explore: {source}: the file can't be read"),
     }
 }
@@ -51,8 +56,10 @@ fn refusal<W: Write>(refused: &RefusedText<'_>, out: &mut W) -> fmt::Result {
 impl Display for Source<'_> {
     fn fmt<W: Write>(&self, f: &mut Formatter<W>) -> fmt::Result {
         match *self {
-            Source::Specification("-") => f.write_str("standard input"),
-            Source::Specification(name) | Source::AlwaysFile(name) => f.write_str(name),
+            Source::Specification("-") | Source::Script("-") => f.write_str("standard input"),
+            Source::Specification(name) | Source::Script(name) | Source::AlwaysFile(name) => {
+                f.write_str(name)
+            }
             Source::Always(number) => write!(f, "condition {number}"),
             Source::DeadlockUnless => f.write_str("--deadlock-unless"),
             Source::Within => f.write_str("--within"),

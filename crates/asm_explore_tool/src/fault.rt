@@ -3,7 +3,7 @@ ghost use Rattle.std.specs.Prelude.{◌≡◌};
 ghost use Rattle.asm_explore_tool.specs.Faults.{status_of_fault};
 
 use asm_check::CheckError;
-use asm_reader::ReadError;
+use asm_reader::{ReadError, ScriptError};
 use std::alloc::{AllocError, AllocFailed};
 
 /// Where a text came from.
@@ -11,6 +11,8 @@ use std::alloc::{AllocError, AllocFailed};
 pub enum Source<'w> {
     /// The specification's file; `-` is standard input.
     Specification(&'w str),
+    /// The script's file; `-` is standard input.
+    Script(&'w str),
     /// A condition's file.
     AlwaysFile(&'w str),
     /// The value of this `--always`, from 1.
@@ -28,6 +30,8 @@ pub enum TextError {
     Read(ReadError),
     /// It can be read, and breaks a rule of the language.
     Check(CheckError),
+    /// It is no script.
+    Script(ScriptError),
     /// It is to be a condition, and is more than one term.
     MoreThanATerm,
 }
@@ -50,7 +54,7 @@ pub enum Fault<'w> {
     Words(clap::Error),
     /// A word isn't text.
     NotText,
-    /// The specification or a condition is refused.
+    /// The specification, the script or a condition is refused.
     Text(RefusedText<'w>),
     /// Memory ran out.
     Memory,
@@ -60,6 +64,9 @@ pub enum Fault<'w> {
     Write,
     /// The run under the script that was found ends otherwise than it was found to.
     Unconfirmed,
+    /// The choices of the run have no script that isn't too long, and has no number of more than
+    /// nine digits.
+    Unwritten,
 }
 
 impl Fault<'_> {
@@ -69,7 +76,11 @@ impl Fault<'_> {
     {
         match self {
             Fault::Text(_) => 2,
-            Fault::Memory | Fault::File(_) | Fault::Write | Fault::Unconfirmed => 3,
+            Fault::Memory
+            | Fault::File(_)
+            | Fault::Write
+            | Fault::Unconfirmed
+            | Fault::Unwritten => 3,
             Fault::Words(_) | Fault::NotText => 4,
         }
     }

@@ -16,21 +16,22 @@ use std::io::Read;
 
 /// One more than the bytes of the longest text: reading goes no further, and what is of this length
 /// is too long.
-const MOST_BYTES: u64 = 1_048_577;
+pub(crate) const MOST_BYTES: u64 = 1_048_577;
 
 /// The fault of a text that can't be had.
-fn of_file<'w>(fault: &ToolFault, source: Source<'w>) -> Fault<'w> {
+pub(crate) fn of_file<'w>(fault: &ToolFault, source: Source<'w>) -> Fault<'w> {
     match fault {
         ToolFault::Memory => Fault::Memory,
         _ => Fault::File(source),
     }
 }
 
-/// The text of the specification: of its file, or of the input.
+/// The text from this source: of the file with this name, or of the input.
 pub(crate) fn text<'w, F: Folder, I: Read + Drop>(
     folder: &F,
     alloc: Global,
-    name: &'w str,
+    source: Source<'w>,
+    name: &str,
     input: I,
 ) -> Result<Vec<u8>, Fault<'w>>
     ensures { IfOk result (λ text. IsText (F.contents folder.now) (I.remaining input) name.now text.items) }
@@ -38,7 +39,7 @@ pub(crate) fn text<'w, F: Folder, I: Read + Drop>(
     let file = if name == "-" { None } else { Some(name) };
     match input::text(folder, alloc, file, input, MOST_BYTES) {
         Ok(text) => Ok(text),
-        Err(fault) => Err(of_file(&fault, Source::Specification(name))),
+        Err(fault) => Err(of_file(&fault, source)),
     }
 }
 

@@ -9,11 +9,21 @@ pub const ABOUT: &str = "Looks for faults in the runs of an abstract state machi
 
 pub const ALL: &str = "Looks at every run, and writes a shortest script to a fault";
 
+pub const CHOICES: &str = "Shows the choices of one run, as a script that makes it";
+
+pub const CLASH: &str = "Shows the assignments by which one run ends";
+
 pub const COMMAND_FIRST: &str = "the command comes first";
 
 pub const SPEC: &str = "The file that has the specification; - is standard input";
 
 pub const STEPS: &str = "Runs of at most so many steps are looked at: 0 to 1000000";
+
+pub const RUN_STEPS: &str = "The run has at most so many steps: 0 to 1000000";
+
+pub const SCRIPT: &str = "The file that has the choices; - is standard input [without it: none]";
+
+pub const ONE_INPUT: &str = "the specification and the script can't both be standard input";
 
 pub const TURNS: &str = "So many turns exhaust an iterate or a while: 1 to 1000000";
 
@@ -34,6 +44,31 @@ pub const OUTCOMES: &str = "A rule has at most so many outcomes: 1 to 1000000";
 pub const AFTER: &str = "\
 `asm-explore COMMAND --help` says more of a command. What it writes to standard output is a script,
 for `asm --script FILE`: a line is `STEP PATH NUMBER`, or begins with `# ` and says something.";
+
+/// What stands below the options of `choices` and of `clash`.
+pub const AFTER_RUN: &str = "\
+What is written to standard output is a script: a line is `STEP PATH NUMBER`, or begins with `# `
+and says something. The first one says how the run ends:
+  limit after step N            all of its N steps were made
+  fault in step N: clash ..     step N fails as it does in asm; so do outside and exhausted
+
+`choices` then writes a line for each choose that was asked and had candidates, also where the first
+one is taken, and before it a comment with the line and the column of the choose, its variable and
+its candidates in order. Under the script that is written the run is the same. At the end stand those
+lines of the script that was given which no choose met. Where the comments make the script longer
+than 1048576 bytes, they are left out.
+
+`clash` writes a line for each assignment whose update stands in the set of the step that fails, at
+the location where it fails: line and column, place (its path), location and value, and the names that
+are bound there with their values, the innermost first.
+
+Status:
+  0  the run made all its steps; or help or the version was asked for
+  1  the run ended before: clash, outside or exhausted
+  2  the specification or the script is refused
+  3  memory ran out, a file can't be read, or the answer can't be written
+  4  these words can't be understood
+  6  the run made all its steps, and a line of the script met no choose (`choices` alone)";
 
 /// What stands below the options of `all`.
 pub const AFTER_ALL: &str = "\

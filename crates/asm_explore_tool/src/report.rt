@@ -51,7 +51,7 @@ fn script_of(finding: &Finding) -> &[u8]
 
 /// A first comment and others, and behind them the script, unless that is more than a script may
 /// have: then the script alone.
-fn with_comments(
+pub(crate) fn with_comments(
     alloc: Global,
     first: &[u8],
     others: &[Vec<u8>],

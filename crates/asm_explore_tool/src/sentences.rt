@@ -1,7 +1,7 @@
 //! What is wrong with a text, in a sentence.
 use crate::fault::TextError;
 use asm_check::FaultKind;
-use asm_reader::ReadError;
+use asm_reader::{ReadError, ScriptError};
 use asm_syntax::LexError;
 use std::fmt;
 use std::fmt::{Display, Formatter, Write};
@@ -12,6 +12,9 @@ impl Display for TextError {
             TextError::Read(error) => write!(f, "read {}: {}", error.number(), of_reader(*error)),
             TextError::Check(error) => {
                 write!(f, "check {}: {}", error.number(), of_checker(error.kind))
+            }
+            TextError::Script(error) => {
+                write!(f, "script {}: {}", error.number(), of_script(*error))
             }
             TextError::MoreThanATerm => {
                 f.write_str("a condition is one term, and this text goes on behind it")
@@ -32,6 +35,18 @@ fn of_reader(error: ReadError) -> &'static str {
         ReadError::TooDeep { .. } => {
             "this opens a 65th level: make the inner part a rule or a derived function"
         }
+    }
+}
+
+fn of_script(error: ScriptError) -> &'static str {
+    match error {
+        ScriptError::BadLine { .. } => {
+            "this isn't a step or `*`, a path as `0.1` or `-`, and a number, with a space between each two"
+        }
+        ScriptError::Repeated { .. } => {
+            "a line before this one has the same step, or `*`, and the same path"
+        }
+        ScriptError::TooLong => "this has more than 1,048,576 bytes",
     }
 }
 

@@ -1,4 +1,17 @@
 //! What the program is asked to do.
+ghost use Rattle.std.specs.Prelude.{◌≡◌, option_map};
+ghost use Rattle.asm_explore_tool.specs.Said.{is_input};
+
+/// What the words ask for: a command, with its settings.
+#[derive(Debug, Drop)]
+pub enum Task<'w> {
+    /// To look at every run.
+    All(Settings<'w>),
+    /// To show the choices of one run.
+    Choices(RunSettings<'w>),
+    /// To show the assignments by which one run ends.
+    Clash(RunSettings<'w>),
+}
 
 /// What the words after `all` ask for.
 #[derive(Debug, Drop)]
@@ -21,4 +34,27 @@ pub struct Settings<'w> {
     pub when_quiet: Option<&'w str>,
     /// From states in which this condition isn't true no run is followed.
     pub within: Option<&'w str>,
+}
+
+/// What the words after `choices` or `clash` ask for: of which run something is shown.
+#[derive(Clone, Copy, Debug, PartialEq, Eq)]
+pub struct RunSettings<'w> {
+    /// The name of the specification's file; `-` is standard input.
+    pub spec: &'w str,
+    /// The run has at most so many steps.
+    pub steps: u32,
+    /// So many turns exhaust an `iterate` or a `while`.
+    pub turns: u32,
+    /// The name of the script's file, where there is one; `-` is standard input.
+    pub script: Option<&'w str>,
+}
+
+/// Whether the file with this name is standard input.
+pub(crate) fn is_standard_input(name: Option<&str>) -> bool
+    ensures { result ≡ is_input (option_map (λ text. text.now) name.entry) }
+{
+    match name {
+        Some(name) => name == "-",
+        None => false,
+    }
 }

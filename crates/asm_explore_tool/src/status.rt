@@ -1,17 +1,22 @@
 //! The program over any reader and writers, and the status that it ends with.
-ghost use Rattle.std.specs.Prelude.{◌≡◌, ◌≢◌, map, IfOk, OnOk};
+ghost use Rattle.std.specs.Prelude.{◌≡◌, ◌≢◌, false, map, IfOk, OnOk};
 ghost use Rattle.std.specs.Io.KnownBytes.{Appends};
-ghost use Rattle.asm_explore_tool.specs.Answered.{Answers, AreTaken, IsAnswered};
+ghost use Rattle.asm_explore_tool.specs.Answered.{Answers, AnswersRun, AnswersTask, AreTaken, IsAnswered};
 ghost use Rattle.asm_explore_tool.specs.Faults.{IsOfWords, status_of_fault};
 ghost use Rattle.asm_explore_tool.specs.Report.{IsReported};
+ghost use Rattle.asm_explore_tool.specs.RunReport.{AreChoicesReported, IsClashReported};
+ghost use Rattle.asm_explore_tool.specs.Said.{reads_input_twice, reads_task_twice};
 
 use crate::asked::ask;
+use crate::choices_report::choices_report;
+use crate::clash_report::clash_report;
 use crate::conditions::Conditions;
 use crate::explain::explain;
-use crate::fault::Fault;
+use crate::fault::{Fault, Source};
 use crate::given::{conditions, text};
 use crate::report::{Report, reported};
-use crate::settings::Settings;
+use crate::run_texts::run_texts;
+use crate::settings::{RunSettings, Settings, Task};
 use crate::words::settings;
 use asm_explore::whole::explore_all;
 use asm_run::sink::Sink;
@@ -73,12 +78,69 @@ fn answer<'w, R: Threads + Sync + AllocGlobal, F: Folder, S: AsStr, I: Read + Dr
         IfOk result (IsAnswered (F.contents folder.now) (I.remaining input) (O.contents out.old) (O.contents out.new) (map S.text words.entry.now)) }
 {
     match settings(rt.alloc(), words) {
-        Ok(settings) => answer_settings(rt, folder, rt.alloc(), &settings, input, out),
+        Ok(task) => answer_task(rt, folder, rt.alloc(), &task, input, out),
         Err(fault) => told(out, fault),
     }
 }
 
-/// Writes the answer to settings, and returns its status.
+/// Writes the answer to a command with its settings, and returns its status.
+fn answer_task<'w, R: Threads + Sync, F: Folder, I: Read + Drop, O: Write>(
+    rt: &R,
+    folder: &F,
+    alloc: Global,
+    task: &Task<'w>,
+    input: I,
+    out: &mut O,
+) -> Result<u8, Fault<'w>>
+    requires { reads_task_twice task.now ≡ false }
+    ensures { IfOk result (AnswersTask (F.contents folder.now) (I.remaining input) (O.contents out.old) (O.contents out.new) task.now) }
+{
+    match task {
+        Task::All(settings) => answer_settings(rt, folder, alloc, settings, input, out),
+        Task::Choices(settings) => answer_choices(rt, folder, alloc, settings, input, out),
+        Task::Clash(settings) => answer_clash(rt, folder, alloc, settings, input, out),
+    }
+}
+
+/// Writes the choices of the run that settings ask for, and returns the status.
+fn answer_choices<'w, R: Threads + Sync, F: Folder, I: Read + Drop, O: Write>(
+    rt: &R,
+    folder: &F,
+    alloc: Global,
+    settings: &RunSettings<'w>,
+    input: I,
+    out: &mut O,
+) -> Result<u8, Fault<'w>>
+    requires { reads_input_twice settings.now ≡ false }
+    ensures { IfOk result (AnswersRun (F.contents folder.now) (I.remaining input) (O.contents out.old) (O.contents out.new) AreChoicesReported settings.now) }
+{
+    let texts = run_texts(folder, alloc, settings, input)?;
+    let (text, script) = (texts.text.as_slice(), texts.script.as_slice());
+    let report = choices_report(rt, alloc, text, script, settings)?;
+    written(out, report.text.as_slice())?;
+    Ok(report.status)
+}
+
+/// Writes the assignments by which the run ends that settings ask for, and returns the status.
+fn answer_clash<'w, R: Threads + Sync, F: Folder, I: Read + Drop, O: Write>(
+    rt: &R,
+    folder: &F,
+    alloc: Global,
+    settings: &RunSettings<'w>,
+    input: I,
+    out: &mut O,
+) -> Result<u8, Fault<'w>>
+    requires { reads_input_twice settings.now ≡ false }
+    ensures { IfOk result (AnswersRun (F.contents folder.now) (I.remaining input) (O.contents out.old) (O.contents out.new) IsClashReported settings.now) }
+{
+    let texts = run_texts(folder, alloc, settings, input)?;
+    let (text, script) = (texts.text.as_slice(), texts.script.as_slice());
+    let report = clash_report(rt, alloc, text, script, settings)?;
+    written(out, report.text.as_slice())?;
+    Ok(report.status)
+}
+
+/// Writes the answer to settings of `all`, and returns its status.
 fn answer_settings<'w, R: Threads + Sync, F: Folder, I: Read + Drop, O: Write>(
     rt: &R,
     folder: &F,
@@ -89,7 +151,8 @@ fn answer_settings<'w, R: Threads + Sync, F: Folder, I: Read + Drop, O: Write>(
 ) -> Result<u8, Fault<'w>>
     ensures { IfOk result (Answers (F.contents folder.now) (I.remaining input) (O.contents out.old) (O.contents out.new) settings.now) }
 {
-    let text = text(folder, alloc, settings.spec, input)?;
+    let spec = settings.spec;
+    let text = text(folder, alloc, Source::Specification(spec), spec, input)?;
     let conditions = conditions(folder, alloc, settings)?;
     let report = explored(rt, alloc, text.as_slice(), &conditions, settings)?;
     written(out, report.text.as_slice())?;

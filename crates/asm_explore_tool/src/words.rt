@@ -2,17 +2,19 @@
 ghost use Rattle.std.specs.Prelude.{◌≡◌, ◌∷◌, [], Some, map, option_map, codes, pos, true, is_some, IsTrue, IfOk, IfErr};
 ghost use Rattle.std.specs.Str.Parse.{signed_digits_value};
 ghost use Rattle.clap.specs.Kinds.{HasKind};
+ghost use Rattle.clap.specs.Values.{kind_of};
 ghost use Rattle.clap.specs.Walk.{texts};
 ghost use Rattle.clap.specs.Words.{app_of, first_value, found_of, rule_of, rows_of};
+ghost use Rattle.clap.specs.declared.error.kind.ErrorKind.TheVariants.{ArgumentConflict, OutOfMemory};
 ghost use Rattle.asm_tool.specs.CommandLine as tool;
 ghost use Rattle.asm_tool.specs.Said.{HasNumber};
 ghost use Rattle.asm_explore_tool.specs.CommandLine as line;
-ghost use Rattle.asm_explore_tool.specs.CommandLine.{refusals};
-ghost use Rattle.asm_explore_tool.specs.Said.{AreParsed, AreSaid, AreSaidBehind, ExplainsBehind, IsFaultOf, all_of, are_in_range};
+ghost use Rattle.asm_explore_tool.specs.CommandLine.{refusals, run_refusals};
+ghost use Rattle.asm_explore_tool.specs.Said.{AreParsed, AreRunParsed, AreRunRead, AreRunSaid, AreSaid, AreSaidBehind, ExplainsBehind, ExplainsRun, IsFaultOf, all_of, are_in_range, are_run_in_range, is_task_in_range, run_rows};
 
 use crate::fault::Fault;
 use crate::help;
-use crate::settings::Settings;
+use crate::settings::{RunSettings, Settings, Task, is_standard_input};
 use asm_run::limits::{Bounds, STEPS, TURNS};
 use clap::error::ErrorKind;
 use clap::{Arg, ArgAction, ArgMatches, Command, Error};
@@ -34,6 +36,18 @@ pub const OUTCOMES: Bounds = Bounds {
 /// The command that looks at every run.
 const ALL: &str = "all";
 
+/// The command that shows the choices of one run.
+const CHOICES: &str = "choices";
+
+/// The command that shows the assignments by which one run ends.
+const CLASH: &str = "clash";
+
+/// The command `choices` as its help shows it.
+const CALLED_CHOICES: &str = "asm-explore choices";
+
+/// The command `clash` as its help shows it.
+const CALLED_CLASH: &str = "asm-explore clash";
+
 impl<'w> From<Error> for Fault<'w> {
     ghost from_gives = { λ error fault. IsFaultOf error fault };
 
@@ -45,15 +59,26 @@ impl<'w> From<Error> for Fault<'w> {
     }
 }
 
-/// The settings that the words give, the program's name not among them. The first word names the
-/// command.
-pub fn settings<'w, S: AsStr>(alloc: Global, words: &'w [S]) -> Result<Settings<'w>, Fault<'w>>
-    ensures in_range { IfOk result (λ s. IsTrue (are_in_range s)) }
+/// The command and the settings that the words give, the program's name not among them. The first
+/// word names the command.
+pub fn settings<'w, S: AsStr>(alloc: Global, words: &'w [S]) -> Result<Task<'w>, Fault<'w>>
+    ensures in_range { IfOk result (λ task. IsTrue (is_task_in_range task)) }
     ensures said { IfOk result (AreSaidBehind (map S.text words.entry.now)) }
     ensures refused { IfErr result (ExplainsBehind (map S.text words.entry.now)) }
 {
     match words.split_first() {
-        Some((command, words)) if command.as_str() == ALL => Ok(of_all(alloc, words)?),
+        Some((command, words)) if command.as_str() == ALL => {
+            Ok(Task::All(of_all(alloc, words)?))
+        }
+        Some((command, words)) if command.as_str() == CHOICES => Ok(Task::Choices(of_run(
+            alloc,
+            CALLED_CHOICES,
+            help::CHOICES,
+            words,
+        )?)),
+        Some((command, words)) if command.as_str() == CLASH => {
+            Ok(Task::Clash(of_run(alloc, CALLED_CLASH, help::CLASH, words)?))
+        }
         _ => Err(without_command(alloc, words)?.into()),
     }
 }
@@ -113,6 +138,93 @@ fn all<'w>(alloc: Global) -> Result<Command<'w>, AllocError>
         .arg(text(alloc, "within", "COND", help::WITHIN))?
         .arg(states)?
         .arg(outcomes)
+}
+
+/// The settings that the words behind `choices` or `clash` give.
+fn of_run<'w, S: AsStr>(
+    alloc: Global,
+    called: &'w str,
+    about: &'w str,
+    words: &'w [S],
+) -> Result<RunSettings<'w>, Fault<'w>>
+    ensures in_range { IfOk result (λ s. IsTrue (are_run_in_range s)) }
+    ensures said { IfOk result (AreRunSaid (map S.text words.entry.now)) }
+    ensures refused { IfErr result (ExplainsRun (map S.text words.entry.now)) }
+{
+    let settings = run_given(alloc, called, about, words)?;
+    if is_standard_input(Some(settings.spec)) && is_standard_input(settings.script) {
+        return Err(both_are_input(alloc, called, about)?.into());
+    }
+    Ok(settings)
+}
+
+/// What is to be said where the specification and the script are both to be read from the input.
+fn both_are_input<'w>(alloc: Global, called: &'w str, about: &'w str) -> Result<Error, Error>
+    ensures conflict { IfOk result (λ error. kind_of error ≡ ArgumentConflict) }
+    ensures memory { IfErr result (λ error. kind_of error ≡ OutOfMemory) }
+{
+    let mut command = run_command(alloc, called, about)?;
+    Ok(command.error(ErrorKind::ArgumentConflict, help::ONE_INPUT)?)
+}
+
+/// The same settings, whether or not the specification and the script are both standard input.
+fn run_given<'w, S: AsStr>(
+    alloc: Global,
+    called: &'w str,
+    about: &'w str,
+    words: &'w [S],
+) -> Result<RunSettings<'w>, Error>
+    ensures in_range { IfOk result (λ s. IsTrue (are_run_in_range s)) }
+    ensures taken { IfOk result (λ _. run_refusals (map S.text words.entry.now) ≡ []) }
+    ensures read { IfOk result (AreRunRead (run_rows (map S.text words.entry.now))) }
+    ensures refused { IfErr result (HasKind (run_refusals (map S.text words.entry.now))) }
+{
+    let given = run_parsed(alloc, called, about, words)?;
+    Ok(RunSettings {
+        spec: given.get_str("spec").unwrap(),
+        steps: number_of(&given, "steps"),
+        turns: number_of(&given, "turns"),
+        script: given.get_str("script"),
+    })
+}
+
+/// What the words behind `choices` or `clash` give.
+fn run_parsed<'w, S: AsStr>(
+    alloc: Global,
+    called: &'w str,
+    about: &'w str,
+    words: &'w [S],
+) -> Result<ArgMatches<'w>, Error>
+    ensures taken { IfOk result (λ _. run_refusals (map S.text words.entry.now) ≡ []) }
+    ensures parsed { IfOk result (AreRunParsed (map S.text words.entry.now)) }
+    ensures refused { IfErr result (HasKind (run_refusals (map S.text words.entry.now))) }
+{
+    let command = run_command(alloc, called, about)?;
+    let given = command.try_get_matches_from(words)?;
+    Ok(given)
+}
+
+/// What may stand behind `choices` or `clash`. Its help shows the command by this name, and says
+/// this of it.
+fn run_command<'w>(
+    alloc: Global,
+    called: &'w str,
+    about: &'w str,
+) -> Result<Command<'w>, AllocError>
+    ensures { IfOk result (λ c. app_of c ≡ line.run_command) }
+{
+    let steps = number(alloc, "steps", STEPS, help::RUN_STEPS).default_value("1000");
+    let turns = number(alloc, "turns", TURNS, help::TURNS).default_value("1000");
+    Command::new(alloc, help::NAME)
+        .bin_name(called)?
+        .version(help::VERSION)
+        .about(about)
+        .after_help(help::AFTER_RUN)
+        .no_binary_name(true)
+        .arg(word(alloc, "spec", "SPEC", help::SPEC).required(true))?
+        .arg(steps)?
+        .arg(turns)?
+        .arg(text(alloc, "script", "FILE", help::SCRIPT))
 }
 
 /// A word of its own.
@@ -193,5 +305,7 @@ fn commands<'w>(alloc: Global) -> Result<Command<'w>, AllocError> {
         .after_help(help::AFTER)
         .no_binary_name(true)
         .subcommand_required(true)
-        .subcommand(all(alloc)?.name(ALL))
+        .subcommand(all(alloc)?.name(ALL))?
+        .subcommand(run_command(alloc, CALLED_CHOICES, help::CHOICES)?.name(CHOICES))?
+        .subcommand(run_command(alloc, CALLED_CLASH, help::CLASH)?.name(CLASH))
 }

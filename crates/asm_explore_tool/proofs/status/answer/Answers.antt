@@ -1,6 +1,11 @@
+use Rattle.std.proofs.Common.{map}
 use Rattle.std.proofs.lemmas.Result.{IfOk-weaker}
+use Rattle.asm_explore_tool.proofs.RunTold.{never_twice}
 use Rattle.asm_explore_tool.proofs.status.answer.Goals as goal
+
+pub answer_task-requires : goal.answer_task-requires
+answer_task-requires g c = never_twice (map g.S.AsStr.text c.args.words.now) c.in-Ok.task c.in-Ok.ensures.said
 
 pub returns-in-Ok : goal.returns-in-Ok
 returns-in-Ok g c taken =
-    IfOk-weaker c.answer_settings.result _ _ (λ status answers. record { settings = c.in-Ok.settings; said = c.in-Ok.ensures.said; answers = answers }) c.answer_settings.ensures
+    IfOk-weaker c.answer_task.result _ _ (λ status answers. record { task = c.in-Ok.task; said = c.in-Ok.ensures.said; answers = answers }) c.answer_task.ensures

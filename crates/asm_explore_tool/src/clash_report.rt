@@ -1,0 +1,82 @@
+//! What is printed of the assignments by which a run ends.
+ghost use Rattle.std.specs.Prelude.{◌≡◌, length, map, IfOk, OnOk, ◌+◌};
+ghost use Rattle.asm_explore_tool.specs.RunReport.{IsClashReported, assignments_in, clash_status};
+
+use crate::asked::checked;
+use crate::assignment_line::assignment_line;
+use crate::choices_report::ended;
+use crate::fault::Fault;
+use crate::report::{Report, with_comments};
+use crate::script_given::script_given;
+use crate::settings::RunSettings;
+use asm_check::Checked;
+use asm_clash::assignment::Assignment;
+use asm_clash::clash::{ClashOfRun, clash_of_run};
+use std::alloc::{AllocError, Global};
+use std::thread::Threads;
+
+/// The status of a run that ends so.
+fn status_of(clash: &ClashOfRun) -> u8
+    ensures { result ≡ clash_status clash.now }
+{
+    match clash {
+        ClashOfRun::Limit => 0,
+        ClashOfRun::Exhausted { .. } | ClashOfRun::Faulty { .. } => 1,
+    }
+}
+
+/// The assignments by which a run ends.
+fn assignments(clash: &ClashOfRun) -> &[Assignment]
+    ensures { result.now ≡ assignments_in clash.now }
+{
+    match clash {
+        ClashOfRun::Faulty { assignments, .. } => assignments.as_slice(),
+        ClashOfRun::Limit | ClashOfRun::Exhausted { .. } => &[],
+    }
+}
+
+/// A line for each assignment.
+fn assignment_lines(
+    alloc: Global,
+    text: &[u8],
+    checked: &Checked,
+    assignments: &[Assignment],
+) -> Result<Vec<Vec<u8>>, AllocError>
+    ensures { IfOk result (λ lines. length lines.items ≡ length assignments.now) }
+{
+    let mut lines = Vec::new(alloc);
+    for k in 0..assignments.len() {
+        let one = &assignments[k];
+        lines.push(assignment_line(
+            alloc,
+            text,
+            checked,
+            one.path.as_slice(),
+            one.arguments.as_slice(),
+            one.value,
+            one.bound.as_slice(),
+        )?)?;
+    }
+    Ok(lines)
+}
+
+/// What is printed of the assignments by which the run ends that the settings ask for.
+pub(crate) fn clash_report<'w, R: Threads + Sync>(
+    rt: &R,
+    alloc: Global,
+    text: &[u8],
+    script_text: &[u8],
+    settings: &RunSettings<'w>,
+) -> Result<Report, Fault<'w>>
+    ensures { IfOk result (IsClashReported text.now script_text.now settings.now) }
+{
+    let checked = checked(alloc, text, settings.spec)?;
+    let script = script_given(alloc, script_text, settings)?;
+    let clash = clash_of_run(alloc, &checked, settings.turns, &script, settings.steps)?;
+    let ended = ended(rt, alloc, text, script_text, settings)?;
+    let first = ended.line(alloc, settings.steps)?;
+    let others = assignment_lines(alloc, text, &checked, assignments(&clash))?;
+    let text = with_comments(alloc, first.as_slice(), others.as_slice(), &[])?;
+    let status = status_of(&clash);
+    Ok(Report { text, status })
+}

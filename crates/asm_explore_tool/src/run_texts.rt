@@ -1,0 +1,64 @@
+//! What is read for one run: the texts of the specification and of the script.
+ghost use Rattle.std.specs.Prelude.{◌≡◌, false, IfOk};
+ghost use Rattle.asm_explore_tool.specs.Given.{AreRunTexts, IsText, IsTextOfFile};
+ghost use Rattle.asm_explore_tool.specs.Said.{reads_input_twice};
+
+use crate::fault::{Fault, Source};
+use crate::given::{MOST_BYTES, of_file, text as text_of};
+use crate::settings::RunSettings;
+use asm_tool::folder::Folder;
+use asm_tool::input;
+use std::alloc::Global;
+use std::io::Read;
+
+/// The texts of the specification and of the script; without a script that has no bytes.
+#[derive(Drop)]
+pub(crate) struct RunTexts {
+    pub text: Vec<u8>,
+    pub script: Vec<u8>,
+}
+
+/// The text in the file of this name.
+fn from_file<'w, F: Folder>(
+    folder: &F,
+    alloc: Global,
+    name: &'w str,
+    source: Source<'w>,
+) -> Result<Vec<u8>, Fault<'w>>
+    ensures { IfOk result (λ text. IsTextOfFile (F.contents folder.now) name.now text.items) }
+{
+    match input::script(folder, alloc, Some(name), MOST_BYTES) {
+        Ok(text) => Ok(text),
+        Err(fault) => Err(of_file(&fault, source)),
+    }
+}
+
+/// The texts that the settings name, at most one of them on the input.
+pub(crate) fn run_texts<'w, F: Folder, I: Read + Drop>(
+    folder: &F,
+    alloc: Global,
+    settings: &RunSettings<'w>,
+    input: I,
+) -> Result<RunTexts, Fault<'w>>
+    requires { reads_input_twice settings.now ≡ false }
+    ensures { IfOk result (λ texts. AreRunTexts (F.contents folder.now) (I.remaining input) settings.now texts.text.items texts.script.items) }
+{
+    let spec = settings.spec;
+    match settings.script {
+        None => {
+            let text = text_of(folder, alloc, Source::Specification(spec), spec, input)?;
+            let script = Vec::new(alloc);
+            Ok(RunTexts { text, script })
+        }
+        Some(name) if name == "-" => {
+            let text = from_file(folder, alloc, spec, Source::Specification(spec))?;
+            let script = text_of(folder, alloc, Source::Script(name), name, input)?;
+            Ok(RunTexts { text, script })
+        }
+        Some(name) => {
+            let text = text_of(folder, alloc, Source::Specification(spec), spec, input)?;
+            let script = from_file(folder, alloc, name, Source::Script(name))?;
+            Ok(RunTexts { text, script })
+        }
+    }
+}
