@@ -55,6 +55,7 @@ cut (line ∷ lines) before after bytes e = go (is_skipped line) refl before e (
   where
     Cuts : Type 0
     Cuts = (before : List (List ℕ)) → kept lines ≡ before ++ bytes ∷ after → IsCut lines before bytes
+
     go : (b : Bool) → is_skipped line ≡ b → (before : List (List ℕ)) → kept_behind b line (kept lines) ≡ before ++ bytes ∷ after → Cuts → IsCut (line ∷ lines) before bytes
     go true is before e cuts =
         let c = cuts before e in
@@ -122,8 +123,10 @@ split_at_feed (byte ∷ front) rest = go (is_feed byte) (split_at_feed front res
   where
     some : 0 < length (slice_split is_feed front)
     some = omega (arith, length-slice_split is_feed front)
+
     cut_by : Bool → List (List ℕ) → List (List ℕ)
     cut_by b lines = cond b ([] ∷ lines) (onto_first byte lines)
+
     go : (b : Bool) → slice_split is_feed (front ++ 10 ∷ rest) ≡ slice_split is_feed front ++ slice_split is_feed rest → cut_by b (slice_split is_feed (front ++ 10 ∷ rest)) ≡ cut_by b (slice_split is_feed front) ++ slice_split is_feed rest
     go true same = ap (λ ls. [] ∷ ls) same
     go false same = ap (onto_first byte) same ∙ onto_front byte (slice_split is_feed front) (slice_split is_feed rest) some

@@ -58,6 +58,9 @@ module _ (d : Entry) where
 pub longer_already : (entries : List Entry) (last : List (List ℕ)) (i : ℕ) (d : Entry) → i < length entries → max_script < length (entries_text (take i entries) ++ entry_text (get_or entries i d))
     → max_script < length (commented entries last)
 longer_already entries last i d low long = omega (
-    arith, long, length-append (entries_text (take i entries)) (entry_text (get_or entries i d)), length-flat_map-take entry_text entries i d low,
-    length-append (entries_text entries) (comments last),
+  arith,
+  long,
+  length-append (entries_text (take i entries)) (entry_text (get_or entries i d)),
+  length-flat_map-take entry_text entries i d low,
+  length-append (entries_text entries) (comments last),
 )

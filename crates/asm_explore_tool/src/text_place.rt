@@ -49,7 +49,10 @@ impl<'c> Walk<'c> {
             Rule::Let { name, body, .. } => self.body(name, body),
             Rule::Forall { name, body, .. } => self.body(name, body),
             Rule::Choose {
-                name, body, none, ..
+                name,
+                body,
+                none,
+                ..
             } => {
                 if number == 0 {
                     return self.body(name, body);
@@ -129,7 +132,9 @@ pub(crate) fn text_place<'c>(
         }
     }
     let Walk {
-        rule, mut bound, ..
+        rule,
+        mut bound,
+        ..
     } = walk;
     bound.reverse();
     Ok(first_name(rule).map(|name| TextPlace { rule, name, bound }))
