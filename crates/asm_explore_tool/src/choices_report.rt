@@ -131,13 +131,9 @@ fn last_comments(
     first: &[u8],
     unmet: Vec<Vec<u8>>,
 ) -> Result<Vec<Vec<u8>>, AllocError> {
-    if has_lines {
-        return Ok(unmet);
-    }
-    let mut last = Vec::new(alloc);
-    last.push(Vec::from_slice(alloc, first)?)?;
-    for line in unmet {
-        last.push(line)?;
+    let mut last = unmet;
+    if !has_lines {
+        last.insert(0, Vec::from_slice(alloc, first)?)?;
     }
     Ok(last)
 }

@@ -40,7 +40,7 @@ fn keys_of(alloc: Global, script: &[u8]) -> Result<BTreeSet<Vec<u64>>, AllocErro
     let mut keys = BTreeSet::new(alloc);
     for line in script.split(|b| *b == b'\n') {
         if let Some(key) = key_of(alloc, without_return(line))? {
-            let _ = keys.insert(key)?;
+            keys.insert(key)?;
         }
     }
     Ok(keys)
