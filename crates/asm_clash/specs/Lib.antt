@@ -1,4 +1,5 @@
 pub mod Standing
 pub mod StandingLaws
+pub mod Bound
 pub mod Walks
 pub mod ClashOfRun

@@ -1,7 +1,9 @@
 //! What an assignment reads beside its value.
-ghost use Rattle.asm_eval.specs.Frames.{AllSound, IsSoundFrame};
+ghost use Rattle.std.specs.Prelude.{◌≡◌, ◌++◌, IfOk, OnOk, map};
+ghost use Rattle.asm_eval.specs.Frames.{AllSound, IsSoundFrame, code_value};
 ghost use Rattle.asm_eval.specs.RuleMeaning.{IsSoundPlace};
 ghost use Rattle.asm_eval.specs.RuleViews.{place_of};
+ghost use Rattle.asm_clash.specs.Bound.{arguments_in, bound_in};
 
 use asm_eval::code::Code;
 use asm_eval::frame::Frame;
@@ -21,21 +23,26 @@ pub(crate) fn arguments_at<'e>(
 ) -> Result<Vec<Word>, AllocError>
     requires sound { IsSoundPlace view.now.signature.now (place_of place.now) }
     requires framed { IsSoundFrame view.now.signature.now frame.now }
+    ensures { IfOk result (λ values. values.items ≡ arguments_in view.now frame.now place.now) }
 {
     let mut values = Vec::new(alloc);
     match place {
-        Place::Answer(_) => {}
-        Place::Cell(_) => {}
-        Place::Row { argument, .. } => values.push(value(view, frame, argument))?,
+        Place::Answer(_) => Ok(values),
+        Place::Cell(_) => Ok(values),
+        Place::Row { argument, .. } => {
+            values.push(value(view, frame, argument))?;
+            Ok(values)
+        }
         Place::Grid { row, column, .. } => {
             values.push(value(view, frame, row))?;
             values.push(value(view, frame, column))?;
+            Ok(values)
         }
         Place::Held { arguments, .. } => {
             push_values(view, frame, arguments.as_slice(), &mut values)?;
+            Ok(values)
         }
     }
-    Ok(values)
 }
 
 /// Puts the values of terms behind others.
@@ -47,6 +54,7 @@ fn push_values<'e>(
 ) -> Result<(), AllocError>
     requires sound { AllSound view.now.signature.now terms.now }
     requires framed { IsSoundFrame view.now.signature.now frame.now }
+    ensures { OnOk result (values.new.items ≡ values.old.items ++ map (code_value view.now frame.now) terms.now) }
 {
     member_laws();
     for i in 0..terms.len() {
@@ -62,6 +70,7 @@ pub(crate) fn values_bound<'e>(
     frame: &'e Frame<'e>,
 ) -> Result<Vec<Word>, AllocError>
     requires { IsSoundFrame view.now.signature.now frame.now }
+    ensures { IfOk result (λ values. values.items ≡ bound_in view.now frame.now) }
 {
     let mut values = Vec::new(alloc);
     push_bound(view, frame, &mut values)?;
@@ -75,6 +84,7 @@ fn push_bound<'e>(
     values: &mut Vec<Word>,
 ) -> Result<(), AllocError>
     requires { IsSoundFrame view.now.signature.now frame.now }
+    ensures { OnOk result (values.new.items ≡ values.old.items ++ bound_in view.now frame.now) }
 {
     match frame {
         Frame::Empty => Ok(()),
