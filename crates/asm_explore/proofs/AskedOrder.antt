@@ -6,7 +6,7 @@
 --     begins            before the first part
 --     part_on, turn_on  after one with which it goes on
 --     part_ends, turn_ends, gone      where it ends with one, or with one that is exhausted
-use Rattle.std.proofs.Common.{◌++◌, ◌≡◌, ◌∙◌, ◌+◌, ◌-◌, ◌<◌, ◌≤◌, ℕ, arith, zero, suc, Bool, true, false, cond, not, ◌||◌, List, [], ◌∷◌, length, get_or, map, drop, Option, Some, None, inl, inr, refl, sym, ap, subst, add-one, append_assoc, append-nil, ◌⊎◌}
+use Rattle.std.proofs.Common.{◌++◌, ◌≡◌, ◌∙◌, ◌+◌, ◌-◌, ◌<◌, ◌≤◌, ℕ, arith, suc, Bool, true, false, cond, not, ◌||◌, List, [], length, get_or, map, drop, Option, Some, None, inl, inr, refl, sym, ap, add-one, append_assoc, append-nil, ◌⊎◌}
 use Rattle.std.proofs.Math.Bool.{or-true}
 use Rattle.std.proofs.Math.ListN.{drop_of_length-le}
 use Rattle.std.proofs.lemmas.List.{at_drop_more}

@@ -3,7 +3,7 @@
 --     opened_asks             of a rule that isn't closed
 --     closed_own              a rule that is closed asks nothing itself
 --     works_fall              each of these works is of a smaller rule, and has all of it
-use Rattle.std.proofs.Common.{◌++◌, ◌≡◌, ◌∙◌, ◌%◌, ◌+◌, ◌-◌, ◌<◌, ◌≤◌, ℕ, zero, suc, Bool, true, false, cond, List, [], ◌∷◌, length, Option, Some, None, refl, sym, ap, arith, add-one, append-nil}
+use Rattle.std.proofs.Common.{◌++◌, ◌≡◌, ◌∙◌, ◌%◌, ◌+◌, ◌-◌, ◌<◌, ◌≤◌, ℕ, suc, Bool, true, false, cond, List, [], ◌∷◌, length, map, Option, Some, None, refl, sym, ap, arith, add-one, append-nil}
 use Rattle.std.specs.Prelude.{nat_le, slice_index_or}
 use Rattle.std.specs.List.{flat_map}
 use Rattle.asm_state.specs.declared.value.Value.{Value}
@@ -20,13 +20,12 @@ use Rattle.asm_eval.specs.OpenedPieces.{is_closed}
 use Rattle.asm_eval.specs.Opening.{Work, all_of, one_work, choice_works, part_works, part_of, body_works, counted_works, spans, span_works, rule_works}
 use Rattle.asm_eval.specs.Pieces.{all_positions}
 use Rattle.asm_eval.specs.Readings.{always, reading, universe_at}
-use Rattle.asm_eval.specs.RuleMeaning.{Locations, passes, passing, located_at, named_readings, answer_readings, answer_locations, rule_size, rule_sizes}
+use Rattle.asm_eval.specs.RuleMeaning.{Locations, passes, passing, rule_size, rule_sizes}
 use Rattle.asm_eval.specs.RuleTree.{RuleCode, Skip, Assign, Par, Seq, If, Let, Forall, Choose, Iterate, Call, RuleCodes, no_rules, rule_then}
 use Rattle.asm_explore.specs.Asks.{Asking, asks, asking_parts, parts_ask, each_asks, one_asks}
 use Rattle.asm_explore.specs.AskedPieces.{HasAtMost, own_asks, own_choice}
 use Rattle.asm_explore.specs.Elements.{Each}
 use Rattle.asm_explore.proofs.Elements.{each_weaker}
-use Rattle.std.proofs.Common.{map}
 
 abbrev pub works_of : Option (List Work × ℕ) → List Work
 works_of (Some (works, n)) = works

@@ -1,6 +1,6 @@
 -- A resolved rule makes each of its choices at a path of its own, at or below that of the rule.
 --     rule_placed        those of a rule
-use Rattle.std.proofs.Common.{◌++◌, ◌≡◌, ◌%◌, ◌+◌, ℕ, zero, suc, Bool, true, false, cond, not, ◌||◌, List, [], ◌∷◌, length, None, refl, sym, subst, add-one}
+use Rattle.std.proofs.Common.{◌++◌, ◌%◌, ◌+◌, ℕ, zero, suc, Bool, true, false, cond, not, ◌||◌, List, [], ◌∷◌, length, None, refl, sym, subst, add-one}
 use Rattle.std.specs.Prelude.{slice_index_or}
 use Rattle.asm_state.specs.declared.value.Value.{Value}
 use Rattle.asm_state.specs.Location.{State}

@@ -2,8 +2,7 @@
 --     piece_falls         each of these is of a smaller rule, and has all of it
 --     pieces_ask          what is asked in a piece that is opened
 --     formed_counted      the set of an outcome has as many locations as the state
-use Rattle.std.proofs.Common.{◌++◌, ◌≡◌, ◌∙◌, ◌<◌, ◌≤◌, ℕ, Bool, true, false, cond, List, [], ◌∷◌, length, get_or, map, Option, Some, None, Vec, Global, refl, sym, ap, subst}
-use Rattle.std.specs.Prelude.{nat_le}
+use Rattle.std.proofs.Common.{◌++◌, ◌≡◌, ◌∙◌, ◌<◌, ℕ, false, List, [], ◌∷◌, length, get_or, map, Option, Some, Vec, Global, refl, sym, ap, subst}
 use Rattle.std.specs.List.{All, flat_map}
 use Rattle.std.proofs.lemmas.List.Elements.{All-get_or}
 use Rattle.std.proofs.lemmas.List.Folds.{flat_map-map}

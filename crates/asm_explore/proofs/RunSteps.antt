@@ -4,20 +4,20 @@
 --     said_choices, run_choices    the choices of what was asked
 --     for_more, from_more     the lines of one choice more, and of one step more
 --     lines_counted           steps count from 1
-use Rattle.std.proofs.Common.{◌++◌, ◌≡◌, ◌∙◌, ◌+◌, ◌-◌, ◌<◌, ◌≤◌, ℕ, zero, suc, List, [], ◌∷◌, length, get_or, map, take, Option, Some, None, Vec, Global, refl, sym, ap, add-one, append-nil, append_assoc, arith}
+use Rattle.std.proofs.Common.{◌++◌, ◌≡◌, ◌∙◌, ◌+◌, ◌-◌, ◌<◌, ◌≤◌, ℕ, suc, List, [], ◌∷◌, length, get_or, map, take, Some, None, Vec, Global, refl, sym, ap, append-nil, append_assoc, arith}
 use Rattle.std.proofs.lemmas.List.{length-map, length-take-le, map-append, take_more}
 use Rattle.asm_state.specs.Location.{State}
 use Rattle.asm_state.specs.Signature.{Shape, state_of}
-use Rattle.asm_state.specs.Updates.{UpdateSet, fire}
+use Rattle.asm_state.specs.Updates.{fire}
 use Rattle.asm_state.specs.declared.value.Value.{Value}
-use Rattle.asm_reader.specs.ScriptLines.{Line, Script}
+use Rattle.asm_reader.specs.ScriptLines.{Script}
 use Rattle.asm_meaning.specs.Run.{Specification}
 use Rattle.asm_meaning.specs.Yields.{Result, Gives, Exhausted}
 use Rattle.asm_explore.specs.declared.asked.Asked.{Asked}
 use Rattle.asm_explore.specs.declared.found.Choice.{Choice}
 use Rattle.asm_explore.specs.declared.run_choices.RunChoices.{RunChoices}
 use Rattle.asm_explore.specs.Asks.{after_set, choices_of}
-use Rattle.asm_explore.specs.Lists.{Situation, Each}
+use Rattle.asm_explore.specs.Lists.{Situation}
 use Rattle.asm_explore.specs.MadeSteps.{LeadsTo}
 use Rattle.asm_explore.specs.Reached.{steps_from}
 use Rattle.asm_explore.specs.RunChoices.{asked_said, asked_in, choices_made, choices_in, from_step, lines_from, lines_forward}

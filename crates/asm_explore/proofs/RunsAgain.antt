@@ -3,21 +3,20 @@
 --     all_apart           the choices of each step lie at paths of their own
 --     makes_the_run       a script with a line for each choice makes the run
 --     choices_are         the choices of what is asked in each step
-use Rattle.std.proofs.Common.{◌++◌, ◌≡◌, ◌∙◌, ◌+◌, ℕ, zero, suc, Bool, true, false, cond, List, [], ◌∷◌, length, map, refl, sym, ap, subst, append_assoc, append-nil, arith}
+use Rattle.std.proofs.Common.{◌++◌, ◌≡◌, ◌∙◌, ◌+◌, ℕ, zero, suc, Bool, true, false, cond, List, [], ◌∷◌, length, map, refl, sym, ap, subst, append_assoc, append-nil}
 use Rattle.asm_state.specs.Location.{State}
 use Rattle.asm_state.specs.Signature.{Shape}
 use Rattle.asm_state.specs.Updates.{UpdateSet, is_consistent, fire}
 use Rattle.asm_syntax.specs.SourceTree.{Spec}
 use Rattle.asm_check.specs.Shapes.{shape_of}
 use Rattle.asm_reader.specs.ExactLines.{exactly}
-use Rattle.asm_reader.specs.ScriptLines.{Line, Script, pick}
-use Rattle.asm_meaning.specs.Declarations.{program_of, specification_of}
+use Rattle.asm_reader.specs.ScriptLines.{Script, pick}
+use Rattle.asm_meaning.specs.Declarations.{specification_of}
 use Rattle.asm_meaning.specs.Does.{Outcome, does}
 use Rattle.asm_meaning.specs.Program.{nothing_bound}
-use Rattle.asm_meaning.specs.Run.{Run, Specification, run, run_from, step_and, fired, ended, AtFault}
-use Rattle.asm_meaning.specs.Yields.{Path, Result, Gives, Exhausted}
+use Rattle.asm_meaning.specs.Run.{Run, Specification, run_from, step_and, fired, ended, AtFault}
+use Rattle.asm_meaning.specs.Yields.{Result, Gives, Exhausted}
 use Rattle.asm_eval.specs.ResolvingLaws.{ResolvingLaws}
-use Rattle.asm_eval.specs.RuleMeaning.{meaning}
 use Rattle.asm_eval.specs.RuleScopes.{resolved_rule_in}
 use Rattle.asm_eval.specs.RuleTree.{RuleCode}
 use Rattle.asm_explore.specs.declared.found.Choice.{Choice}
@@ -29,7 +28,6 @@ use Rattle.asm_explore.specs.Reached.{MakesAll, steps_from}
 use Rattle.asm_explore.specs.RunChoices.{of_run, from_step, lines_from, lines_forward, MakesTheRun}
 use Rattle.asm_explore.specs.ScriptTo.{lines_for, lines_of}
 use Rattle.asm_explore.proofs.AskedMade.{made_asked}
-use Rattle.asm_explore.proofs.Elements.{each_append, each_first, each_last}
 use Rattle.asm_explore.proofs.LinesTo.{lines_apart, lines_make}
 use Rattle.asm_explore.proofs.MadeAlike.{rule_alike}
 use Rattle.asm_explore.proofs.MadePlaces.{rule_placed}

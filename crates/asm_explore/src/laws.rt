@@ -18,6 +18,7 @@ ghost use Rattle.asm_explore.specs.MadeLaws.{MakingLaws};
 ghost use Rattle.asm_explore.specs.Reached.{MakesAll};
 ghost use Rattle.asm_explore.specs.ScriptTo.{lines_of, needed};
 ghost use Rattle.asm_explore.specs.declared.script_line.Zeros.{Zeros};
+ghost use Rattle.asm_explore.specs.declared.script_line.Zeros.TheVariants.{Written};
 ghost use Rattle.asm_explore.specs.Search.{StaysWithin};
 ghost use Rattle.asm_explore.specs.Written.{written};
 
@@ -45,6 +46,11 @@ pub fn script_law()
 /// left out.
 pub fn zeros_law()
     ensures { (zeros : Zeros) (lines : List Line) → IsUnrepeated (exactly lines) → (step : ℕ) (path : List ℕ) → pick (exactly (written zeros lines)) step path ≡ pick (exactly lines) step path }
+{}
+
+/// Where each line is written, all are.
+pub fn written_law()
+    ensures { (lines : List Line) → written Written lines ≡ lines }
 {}
 
 /// A rule makes each of its choices at a path of its own, at or below that of the rule. Who chooses

@@ -21,7 +21,7 @@ mod leading;
 mod leaf;
 mod listing;
 pub mod machine;
-pub mod making;
+mod making;
 pub mod nodes;
 pub mod outcomes;
 pub mod overflow;

@@ -1,4 +1,4 @@
-use Rattle.std.proofs.Common.{◌≡◌, ℕ, ◌∙◌, ◌+◌, ◌-◌, ◌++◌, map, length, take, Some, None, rules, refl, sym, ap, subst, arith, append-nil, append_assoc}
+use Rattle.std.proofs.Common.{◌≡◌, ◌∙◌, ◌+◌, ◌-◌, ◌++◌, rules, sym, ap, subst, arith, append-nil, append_assoc}
 use Rattle.std.specs.List.{flat_map}
 use Rattle.std.proofs.lemmas.List.{take_all}
 use Rattle.asm_state.specs.Location.{State}
@@ -7,8 +7,7 @@ use Rattle.asm_state.specs.Updates.{fire}
 use Rattle.asm_meaning.specs.Formed.{IsFormed, IsSet}
 use Rattle.asm_meaning.specs.Yields.{at}
 use Rattle.asm_eval.specs.CodeViews.{code_of}
-use Rattle.asm_eval.specs.RuleTree as tree
-use Rattle.asm_eval.specs.RuleViews.{place_of, rule_of, rules_of}
+use Rattle.asm_eval.specs.RuleViews.{place_of, rule_of}
 use Rattle.asm_eval.specs.Running.{rule_in, rule_upon, shape_at, state_at}
 use Rattle.asm_explore.specs.Asks.{after_turn_set}
 use Rattle.asm_explore.specs.AskedPieces.{HasCount, IsUpon, all_said, asks_at, own_at, piece_asks}

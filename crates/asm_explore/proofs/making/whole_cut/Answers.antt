@@ -1,6 +1,4 @@
 use Rattle.std.proofs.Common.{◌≡◌, sym, ap, subst, length, arith}
-use Rattle.std.specs.Prelude.{option_map}
-use Rattle.asm_eval.specs.CodeViews.{code_of}
 use Rattle.asm_eval.specs.Pieces.{all_positions}
 use Rattle.asm_eval.specs.Readings.{universe_at}
 use Rattle.asm_explore.specs.AskedPieces.{HasAtMost}

@@ -1,4 +1,4 @@
-use Rattle.std.proofs.Common.{◌≡◌, ◌∙◌, sym, ap, map}
+use Rattle.std.proofs.Common.{◌∙◌, sym, ap, map}
 use Rattle.asm_syntax.specs.Views.{spec_of}
 use Rattle.asm_check.specs.Shapes.{shape_of}
 use Rattle.asm_meaning.specs.Declarations.{specification_of}

@@ -1,4 +1,4 @@
-use Rattle.std.proofs.Common.{◌≡◌, ◌+◌, ◌++◌, take, sym, subst, ap, ◌∙◌}
+use Rattle.std.proofs.Common.{◌+◌, ◌++◌, take, sym, subst, ap, ◌∙◌}
 use Rattle.asm_explore.specs.RunChoices.{choices_made, lines_forward}
 use Rattle.asm_explore.specs.ScriptTo.{lines_for}
 use Rattle.asm_explore.specs.Written.{AreSteps}
