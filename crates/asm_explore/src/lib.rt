@@ -52,7 +52,7 @@ pub use halt::Halt;
 pub use machine::{Listed, Machine};
 pub use nodes::Nodes;
 pub use refusal::{Crowd, Refusal};
-pub use run_choices::{RunChoices, choices_of_run, lines_of_run};
+pub use run_choices::{RunChoices, choices_of_run, choices_of_step, lines_of_run};
 pub use script_line::{ScriptLine, Zeros};
 pub use specified::Specified;
 pub use updates::Updates;

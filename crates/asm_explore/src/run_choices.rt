@@ -104,6 +104,26 @@ fn make_step<P: Picks>(
     }
 }
 
+/// What is asked in the step from a state: the choices that the rule with this code makes, in their
+/// order, each with its candidates.
+pub fn choices_of_step<P: Picks>(
+    alloc: Global,
+    checked: &Checked,
+    code: &RuleCode,
+    turns: u32,
+    choices: &Choices<'_, P>,
+    state: &State,
+) -> Result<Vec<Asked>, AllocError>
+    requires main { let s = spec_of checked.now.spec in resolved_rule_in s [] (main_rule s (inits s)) (rule_of code.now) }
+    requires whole { length state.now ≡ count_of (shape_of (spec_of checked.now.spec)) }
+    ensures { let shape = shape_of (spec_of checked.now.spec) in
+        IfOk result (λ asked. all_said asked.items ≡ asks_in shape turns (rule_of code.now) (state_of shape state.now) (situation_of P.script choices.now)) }
+{
+    let mut asked = Vec::new(alloc);
+    let _next = make_step(alloc, checked, code, turns, choices, state, &mut asked)?;
+    Ok(asked)
+}
+
 /// What is asked in each step of the run under a script, of so many steps at most.
 fn asked_by_run<P: Picks>(
     alloc: Global,
