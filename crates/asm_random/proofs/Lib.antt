@@ -1,0 +1,5 @@
+mod DraftLines
+mod Endings
+mod FirstFaults
+mod OneStep
+mod Views

@@ -1,0 +1,4 @@
+pub mod Drafts
+pub mod Replay
+pub mod WrongRuns
+pub mod RandomAnswers

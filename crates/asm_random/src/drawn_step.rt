@@ -1,0 +1,84 @@
+//! The numbers of a step, drawn.
+ghost use Rattle.std.specs.Prelude.{◌≡◌, length};
+ghost use Rattle.asm_state.specs.Signature.{count_of};
+ghost use Rattle.asm_syntax.specs.Views.{spec_of};
+ghost use Rattle.asm_check.specs.Shapes.{shape_of};
+ghost use Rattle.asm_explore.specs.Conditions.{IsSpecified};
+
+use crate::asking::asked_in;
+use crate::draft::{Draft, Numbers};
+use crate::drawing::Source;
+use asm_explore::{Asked, Specified};
+use asm_meaning::Choices;
+use asm_state::state::State;
+use std::alloc::{AllocError, Global};
+use std::collections::BTreeMap;
+
+/// The number that is drawn for a choice.
+fn drawn(source: Source, step: u64, asked: &Asked) -> u64 {
+    let many = asked.candidates.len() as u64;
+    source.candidate(step, asked.choice.path.as_slice(), many.max(1))
+}
+
+/// The numbers that are drawn for some choices, but for 0, which is taken without one.
+fn drawn_numbers(
+    alloc: Global,
+    source: Source,
+    step: u64,
+    asked: &[Asked],
+) -> Result<Numbers, AllocError> {
+    let mut numbers = BTreeMap::new(alloc);
+    for k in 0..asked.len() {
+        let number = drawn(source, step, &asked[k]);
+        if number != 0 {
+            let path = asked[k].choice.path.as_slice().to_vec(alloc)?;
+            numbers.insert(path, number)?;
+        }
+    }
+    Ok(numbers)
+}
+
+/// Whether each of some choices takes the number that is drawn for it.
+fn are_drawn(source: Source, step: u64, asked: &[Asked]) -> bool {
+    for k in 0..asked.len() {
+        if asked[k].choice.number != drawn(source, step, &asked[k]) {
+            return false;
+        }
+    }
+    true
+}
+
+/// Adds a step to a draft, with a number that is drawn for each choice that the step makes under
+/// these numbers. Answers whether it makes one.
+///
+/// Which choices are made depends on the numbers of those before them. So at first there is none,
+/// and all are drawn again until they are those that are taken: the number of the first choice is
+/// found at once, and that of each other one when those before it are.
+pub(crate) fn draw_step(
+    alloc: Global,
+    specified: &Specified<'_>,
+    source: Source,
+    state: &State,
+    draft: &mut Draft,
+) -> Result<bool, AllocError>
+    requires sound { IsSpecified specified.now }
+    requires whole { length state.now ≡ count_of (shape_of (spec_of specified.now.checked.now.spec)) }
+{
+    draft.steps.push(BTreeMap::new(alloc))?;
+    let step = draft.steps.len() as u64;
+    for _round in 0..u32::MAX {
+        let choices = Choices {
+            script: &*draft,
+            step,
+        };
+        let asked = asked_in(alloc, specified, &choices, state)?;
+        let settled = are_drawn(source, step, asked.as_slice());
+        let numbers = drawn_numbers(alloc, source, step, asked.as_slice())?;
+        draft.steps.pop();
+        draft.steps.push(numbers)?;
+        if settled {
+            return Ok(!asked.is_empty());
+        }
+    }
+    Ok(true)
+}

@@ -1,0 +1,80 @@
+//! What is found where a run goes wrong.
+ghost use Rattle.std.specs.Prelude.{◌≡◌, ◌≤◌, ℕ, IfOk, IfSome};
+ghost use Rattle.std.specs.String.{string_bytes};
+ghost use Rattle.asm_reader.specs.ScriptText.{IsScript};
+ghost use Rattle.asm_syntax.specs.Views.{spec_of};
+ghost use Rattle.asm_check.specs.Shapes.{shape_of};
+ghost use Rattle.asm_meaning.specs.Declarations.{specification_of};
+ghost use Rattle.asm_explore.specs.Conditions.{IsSpecified, holds_in};
+ghost use Rattle.asm_random.specs.RandomAnswers.{Claims, IsBadScript, IsWrongRun};
+
+use crate::answer::RandomFinding;
+use crate::replay::wrong_under;
+use crate::written::written;
+use crate::wrong_run::WrongRun;
+use asm_explore::{BadRun, Specified, Unwritten};
+use asm_reader::{Script, read_script};
+use asm_syntax::Refused;
+use std::alloc::{AllocError, Global};
+
+/// The text of the run's script, and what is read of it, unless it can't be written.
+fn script_of(alloc: Global, run: &WrongRun) -> Result<Option<(String, Script)>, AllocError>
+    ensures { IfOk result (λ found. IfSome found (λ it. IsScript (string_bytes it.0) it.1)) }
+{
+    let text = match written(alloc, run) {
+        Ok(text) => text,
+        Err(Refused::Memory) => return Err(AllocError),
+        Err(Refused::Named(_)) => return Ok(None),
+    };
+    let script = match read_script(alloc, text.as_bytes()) {
+        Ok(script) => script,
+        Err(Refused::Memory) => return Err(AllocError),
+        Err(Refused::Named(_)) => return Ok(None),
+    };
+    Ok(Some((text, script)))
+}
+
+/// The run under the text of its script, made once more.
+fn confirmed(
+    alloc: Global,
+    specified: &Specified<'_>,
+    run: &WrongRun,
+) -> Result<Option<BadRun>, AllocError>
+    requires { IsSpecified specified.now }
+    ensures { let s = spec_of specified.now.checked.now.spec in
+        (most : ℕ) → run.now.wrong.step ≤ most →
+        IfOk result (λ found. IfSome found (IsBadScript (specification_of s) specified.now.turns most (holds_in (shape_of s) specified.now.always.now))) }
+{
+    let Some((text, script)) = script_of(alloc, run)? else {
+        return Ok(None);
+    };
+    match wrong_under(alloc, specified, &script, run.wrong.step)? {
+        Some(wrong) => Ok(Some(BadRun {
+            script: text,
+            step: u64::from(wrong.step),
+            fault: wrong.fault,
+        })),
+        None => Ok(None),
+    }
+}
+
+/// What is found where the run with this number goes wrong.
+pub(crate) fn finding_of(
+    alloc: Global,
+    specified: &Specified<'_>,
+    number: u32,
+    run: &WrongRun,
+) -> Result<RandomFinding, AllocError>
+    requires { IsSpecified specified.now }
+    ensures { let s = spec_of specified.now.checked.now.spec in
+        (most : ℕ) → IsWrongRun (specification_of s) specified.now.turns most (holds_in (shape_of s) specified.now.always.now) run.now →
+        IfOk result (Claims (specification_of s) specified.now.turns most (holds_in (shape_of s) specified.now.always.now)) }
+{
+    match confirmed(alloc, specified, run)? {
+        Some(bad) => Ok(RandomFinding::Bad { run: number, bad }),
+        None => Ok(RandomFinding::Unwritten(Unwritten {
+            step: u64::from(run.wrong.step),
+            fault: run.wrong.fault,
+        })),
+    }
+}

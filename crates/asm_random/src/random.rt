@@ -1,0 +1,113 @@
+//! Random runs of a checked specification.
+ghost use Rattle.std.specs.Prelude.{◌≡◌, IfOk};
+ghost use Rattle.asm_syntax.specs.Views.{spec_of};
+ghost use Rattle.asm_check.specs.Shapes.{shape_of};
+ghost use Rattle.asm_meaning.specs.Declarations.{specification_of};
+ghost use Rattle.asm_explore.specs.Conditions.{IsSpecified, holds_in, term_holds};
+ghost use Rattle.asm_random.specs.RandomAnswers.{Claims};
+
+use crate::answer::{RandomAnswer, RandomFinding};
+use crate::drawing::Source;
+use crate::finding::finding_of;
+use crate::question::RandomQuestion;
+use crate::shortening::shorten;
+use crate::walk::random_run;
+use crate::wrong_run::wrong_run;
+use asm_check::Checked;
+use asm_eval::code::Code;
+use asm_eval::whole::resolve_main;
+use asm_explore::condition::condition_code;
+use asm_explore::{Machine, Specified};
+use asm_state::state::State;
+use std::alloc::{AllocError, Global};
+
+/// Makes runs until one goes wrong.
+fn runs_of(
+    alloc: Global,
+    specified: &Specified<'_>,
+    question: &RandomQuestion,
+) -> Result<RandomAnswer, AllocError>
+    requires { IsSpecified specified.now }
+    ensures { let s = spec_of specified.now.checked.now.spec in
+        IfOk result (λ answer. Claims (specification_of s) specified.now.turns question.now.steps (holds_in (shape_of s) specified.now.always.now) answer.finding) }
+{
+    let mut made = 0u64;
+    for number in 0..question.runs {
+        let source = Source {
+            seed: question.seed,
+            run: u64::from(number),
+        };
+        let walked = random_run(alloc, specified, source, question.steps)?;
+        made = made.saturating_add(u64::from(walked.steps));
+        if !walked.wrong {
+            continue;
+        }
+        if let Some(mut run) = wrong_run(alloc, specified, walked.draft, question.steps)? {
+            let shortest = shorten(alloc, specified, &mut run)?;
+            let finding = finding_of(alloc, specified, number, &run)?;
+            return Ok(RandomAnswer {
+                finding,
+                runs: number + 1,
+                steps: made,
+                shortest,
+            });
+        }
+    }
+    Ok(RandomAnswer {
+        finding: RandomFinding::Nothing,
+        runs: question.runs,
+        steps: made,
+        shortest: true,
+    })
+}
+
+/// Makes runs, unless the first state isn't right.
+fn answer_of(
+    alloc: Global,
+    specified: &Specified<'_>,
+    question: &RandomQuestion,
+) -> Result<RandomAnswer, AllocError>
+    requires { IsSpecified specified.now }
+    ensures { let s = spec_of specified.now.checked.now.spec in
+        IfOk result (λ answer. Claims (specification_of s) specified.now.turns question.now.steps (holds_in (shape_of s) specified.now.always.now) answer.finding) }
+{
+    let initial = State::initial(alloc, specified.checked.signature())?;
+    if !specified.is_right(alloc, &initial) {
+        return Ok(RandomAnswer {
+            finding: RandomFinding::WrongFirst,
+            runs: 0,
+            steps: 0,
+            shortest: true,
+        });
+    }
+    runs_of(alloc, specified, question)
+}
+
+/// Makes random runs of a specification, until one goes wrong: by a clash, by an update outside its
+/// domain, by an `iterate` that is exhausted, or in a state in which the condition isn't true. That
+/// one is made shorter.
+///
+/// Runs and steps depend on the seed alone, and are the same on every machine.
+pub fn random_runs(
+    alloc: Global,
+    checked: &Checked,
+    question: &RandomQuestion,
+) -> Result<RandomAnswer, AllocError>
+    ensures { let q = question.now in
+        IfOk result (λ answer. Claims (specification_of (spec_of checked.now.spec)) q.turns q.steps (term_holds checked.now q.always) answer.finding) }
+{
+    let code = resolve_main(alloc, checked)?;
+    let always = condition_code(alloc, checked, &question.always)?;
+    let nothing: Option<Code> = None;
+    let specified = Specified {
+        checked,
+        code: &code,
+        turns: question.turns,
+        limit: 0,
+        always: &always,
+        within: &nothing,
+        when_quiet: &nothing,
+    };
+    let answer = answer_of(alloc, &specified, question)?;
+    Ok(answer)
+}

@@ -1,0 +1,176 @@
+//! Runs that go wrong, made shorter.
+ghost use Rattle.std.specs.Prelude.{◌≡◌, ℕ, OnOk};
+ghost use Rattle.asm_syntax.specs.Views.{spec_of};
+ghost use Rattle.asm_check.specs.Shapes.{shape_of};
+ghost use Rattle.asm_meaning.specs.Declarations.{specification_of};
+ghost use Rattle.asm_explore.specs.Conditions.{IsSpecified, holds_in};
+ghost use Rattle.asm_random.specs.RandomAnswers.{IsWrongRun};
+
+use crate::omission::{Omission, draft_without};
+use crate::wrong_run::{WrongRun, wrong_run};
+use asm_explore::Specified;
+use std::alloc::{AllocError, Global};
+
+/// So many steps are made for shortening a run.
+const MOST_STEPS: u64 = 10_000_000;
+
+/// The run without something, in place of the run, if it goes wrong, and that in no later step.
+/// Counts the steps that may still be made.
+fn try_without(
+    alloc: Global,
+    specified: &Specified<'_>,
+    run: &mut WrongRun,
+    left: &mut u64,
+    omission: Omission,
+) -> Result<(), AllocError>
+    requires { IsSpecified specified.now }
+    ensures { let s = spec_of specified.now.checked.now.spec in
+        (most : ℕ) → IsWrongRun (specification_of s) specified.now.turns most (holds_in (shape_of s) specified.now.always.now) run.old →
+        OnOk result (IsWrongRun (specification_of s) specified.now.turns most (holds_in (shape_of s) specified.now.always.now) run.new) }
+{
+    let steps = run.wrong.step;
+    if *left < u64::from(steps) {
+        *left = 0;
+        return Ok(());
+    }
+    *left -= u64::from(steps);
+    let draft = draft_without(alloc, &run.draft, steps as usize, omission)?;
+    let most = match u32::try_from(draft.steps.len()) {
+        Ok(len) => len.min(steps),
+        Err(_) => steps,
+    };
+    if let Some(better) = wrong_run(alloc, specified, draft, most)? {
+        *run = better;
+    }
+    Ok(())
+}
+
+/// Whether one of some steps has a line.
+fn has_line(run: &WrongRun, from: usize, to: usize) -> bool {
+    let steps = run.draft.steps.as_slice();
+    for k in 0..steps.len() {
+        if from <= k && k < to && !steps[k].is_empty() {
+            return true;
+        }
+    }
+    false
+}
+
+/// Tries to leave out each so many steps, from the last ones, or else their lines.
+fn try_steps(
+    alloc: Global,
+    specified: &Specified<'_>,
+    run: &mut WrongRun,
+    left: &mut u64,
+    size: usize,
+) -> Result<(), AllocError>
+    requires { IsSpecified specified.now }
+    ensures { let s = spec_of specified.now.checked.now.spec in
+        (most : ℕ) → IsWrongRun (specification_of s) specified.now.turns most (holds_in (shape_of s) specified.now.always.now) run.old →
+        OnOk result (IsWrongRun (specification_of s) specified.now.turns most (holds_in (shape_of s) specified.now.always.now) run.new) }
+{
+    let mut to = run.wrong.step as usize;
+    for _block in 0..run.wrong.step {
+        if to == 0 {
+            break;
+        }
+        let from = to.saturating_sub(size);
+        try_without(alloc, specified, run, left, Omission::Steps { from, to })?;
+        if has_line(run, from, to) {
+            try_without(alloc, specified, run, left, Omission::Lines { from, to })?;
+        }
+        to = from.min(run.wrong.step as usize);
+    }
+    Ok(())
+}
+
+/// Tries to leave out each line of a step, from the last one.
+fn try_lines(
+    alloc: Global,
+    specified: &Specified<'_>,
+    run: &mut WrongRun,
+    left: &mut u64,
+    step: usize,
+) -> Result<(), AllocError>
+    requires { IsSpecified specified.now }
+    ensures { let s = spec_of specified.now.checked.now.spec in
+        (most : ℕ) → IsWrongRun (specification_of s) specified.now.turns most (holds_in (shape_of s) specified.now.always.now) run.old →
+        OnOk result (IsWrongRun (specification_of s) specified.now.turns most (holds_in (shape_of s) specified.now.always.now) run.new) }
+{
+    let count = lines_at(run, step);
+    for done in 0..count {
+        let line = count - 1 - done;
+        try_without(alloc, specified, run, left, Omission::Line { step, line })?;
+    }
+    Ok(())
+}
+
+/// How many lines a step has.
+fn lines_at(run: &WrongRun, step: usize) -> usize {
+    match run.draft.steps.as_slice().get(step) {
+        Some(numbers) => numbers.len(),
+        None => 0,
+    }
+}
+
+/// How many lines the steps up to the one that goes wrong have.
+fn lines_of(run: &WrongRun) -> usize {
+    let mut count = 0usize;
+    for step in 0..run.wrong.step {
+        count = count.saturating_add(lines_at(run, step as usize));
+    }
+    count
+}
+
+/// Tries to leave out what may be left out, once.
+fn shorten_once(
+    alloc: Global,
+    specified: &Specified<'_>,
+    run: &mut WrongRun,
+    left: &mut u64,
+) -> Result<(), AllocError>
+    requires { IsSpecified specified.now }
+    ensures { let s = spec_of specified.now.checked.now.spec in
+        (most : ℕ) → IsWrongRun (specification_of s) specified.now.turns most (holds_in (shape_of s) specified.now.always.now) run.old →
+        OnOk result (IsWrongRun (specification_of s) specified.now.turns most (holds_in (shape_of s) specified.now.always.now) run.new) }
+{
+    let steps = run.wrong.step as usize;
+    for halvings in 0..32u32 {
+        let size = steps >> halvings;
+        if size == 0 {
+            break;
+        }
+        try_steps(alloc, specified, run, left, size)?;
+    }
+    let count = run.wrong.step as usize;
+    for done in 0..count {
+        try_lines(alloc, specified, run, left, count - 1 - done)?;
+    }
+    Ok(())
+}
+
+/// Makes a run that goes wrong shorter, until no step and no line can go. Answers whether it came
+/// so far before too many steps were made.
+pub(crate) fn shorten(
+    alloc: Global,
+    specified: &Specified<'_>,
+    run: &mut WrongRun,
+) -> Result<bool, AllocError>
+    requires { IsSpecified specified.now }
+    ensures { let s = spec_of specified.now.checked.now.spec in
+        (most : ℕ) → IsWrongRun (specification_of s) specified.now.turns most (holds_in (shape_of s) specified.now.always.now) run.old →
+        OnOk result (IsWrongRun (specification_of s) specified.now.turns most (holds_in (shape_of s) specified.now.always.now) run.new) }
+{
+    let mut left = MOST_STEPS;
+    for _round in 0..u32::MAX {
+        let before = (run.wrong.step, lines_of(run));
+        shorten_once(alloc, specified, run, &mut left)?;
+        if left == 0 {
+            return Ok(false);
+        }
+        if before == (run.wrong.step, lines_of(run)) {
+            return Ok(true);
+        }
+    }
+    Ok(false)
+}

@@ -1,0 +1,132 @@
+//! A step, under the choices of a script.
+ghost use Rattle.std.specs.Prelude.{◌≡◌, [], length, IfErr, IfOk};
+ghost use Rattle.asm_state.specs.Signature.{count_of, state_of};
+ghost use Rattle.asm_syntax.specs.Views.{spec_of};
+ghost use Rattle.asm_check.specs.Faults.{inits};
+ghost use Rattle.asm_check.specs.Shapes.{shape_of};
+ghost use Rattle.asm_meaning.specs.Declarations.{main_rule, program_of, specification_of};
+ghost use Rattle.asm_meaning.specs.Does.{does};
+ghost use Rattle.asm_meaning.specs.Formed.{Follows, IsFormed};
+ghost use Rattle.asm_meaning.specs.Program.{nothing_bound};
+ghost use Rattle.asm_meaning.specs.Valued.{shown};
+ghost use Rattle.asm_eval.specs.Running.{Fits, shape_at, state_at};
+ghost use Rattle.asm_explore.specs.Conditions.{IsSpecified, holds_in};
+ghost use Rattle.asm_random.specs.Replay.{GoesWrong, IsStep};
+
+use asm_eval::form::form;
+use asm_eval::frame::Frame;
+use asm_eval::laws::resolving_laws;
+use asm_eval::regions::Plain;
+use asm_eval::running::Running;
+use asm_explore::{Fault, Machine, Specified};
+use asm_meaning::from_nothing::{nothing_formed, outcome_of};
+use asm_meaning::laws::from_nothing_laws;
+use asm_meaning::{Choices, Forming, Outcome, Stopped, View};
+use asm_reader::Picks;
+use asm_state::state::State;
+use asm_updates::summary::Summary;
+use std::alloc::{AllocError, Global};
+
+/// Forms what the main rule yields.
+fn form_main<P: Picks>(
+    alloc: Global,
+    specified: &Specified<'_>,
+    running: &Running<'_, '_, P>,
+    made: &mut Forming,
+) -> Result<(), Stopped>
+    requires sound { IsSpecified specified.now }
+    requires shaped { shape_at running.now ≡ shape_of (spec_of specified.now.checked.now.spec) }
+    requires fits { Fits running.now made.old }
+    ensures { let s = spec_of specified.now.checked.now.spec in
+        let o = does (program_of s) running.now.turns (P.script running.now.choices.now.script.now) running.now.choices.now.step (state_at running.now) nothing_bound made.old.path.items (main_rule s (inits s)) in
+        Follows (shape_at running.now) o made.old made.new result }
+{
+    resolving_laws();
+    form(
+        alloc,
+        &mut Plain,
+        running,
+        &Frame::Empty,
+        specified.code,
+        made,
+    )
+}
+
+/// What the step with these choices yields in what the view shows.
+fn step_outcome<P: Picks>(
+    alloc: Global,
+    specified: &Specified<'_>,
+    view: &View<'_>,
+    choices: &Choices<'_, P>,
+) -> Result<Outcome, AllocError>
+    requires sound { IsSpecified specified.now }
+    requires shaped { view.now.signature.now ≡ shape_of (spec_of specified.now.checked.now.spec) }
+    ensures { let s = spec_of specified.now.checked.now.spec in
+        IfOk result (IsFormed (shape_of s) (does (program_of s) specified.now.turns (P.script choices.now.script.now) choices.now.step (shown view.now) nothing_bound [] (main_rule s (inits s)))) }
+{
+    from_nothing_laws::<()>();
+    let mut made = nothing_formed(alloc, view.signature, &[])?;
+    let running = Running {
+        view,
+        choices,
+        turns: specified.turns,
+    };
+    let formed = form_main(alloc, specified, &running, &mut made);
+    outcome_of(made, formed)
+}
+
+/// The state that the step leads to, if it isn't faulty.
+fn next_from<P: Picks>(
+    alloc: Global,
+    specified: &Specified<'_>,
+    choices: &Choices<'_, P>,
+    state: &State,
+) -> Result<Result<State, Fault>, AllocError>
+    requires sound { IsSpecified specified.now }
+    requires whole { length state.now ≡ count_of (shape_of (spec_of specified.now.checked.now.spec)) }
+    ensures whole { IfOk result (λ ended. IfOk ended (λ B. length B ≡ count_of (shape_of (spec_of specified.now.checked.now.spec)))) }
+    ensures step { let s = spec_of specified.now.checked.now.spec in
+        IfOk result (λ ended. IfOk ended (λ B. IsStep (specification_of s) specified.now.turns (P.script choices.now.script.now) choices.now.step (state_of (shape_of s) state.now) (state_of (shape_of s) B))) }
+    ensures wrong { let s = spec_of specified.now.checked.now.spec in
+        IfOk result (λ ended. IfErr ended (GoesWrong (specification_of s) specified.now.turns (P.script choices.now.script.now) (holds_in (shape_of s) specified.now.always.now) choices.now.step (state_of (shape_of s) state.now))) }
+{
+    let signature = specified.checked.signature();
+    let nothing = Summary::new(alloc, signature.count());
+    let view = View::new(signature, state, &nothing);
+    let set = match step_outcome(alloc, specified, &view, choices)? {
+        Outcome::Set { set, .. } => set,
+        Outcome::Exhausted(_) => return Ok(Err(Fault::Exhausted)),
+    };
+    if set.first_fault(signature).is_some() {
+        return Ok(Err(Fault::Inconsistent));
+    }
+    let next = set.fire(alloc, signature, state)?;
+    Ok(Ok(next))
+}
+
+/// The state that the step leads to, if it isn't faulty and the state is right.
+pub(crate) fn step_from<P: Picks>(
+    alloc: Global,
+    specified: &Specified<'_>,
+    choices: &Choices<'_, P>,
+    state: &State,
+) -> Result<Result<State, Fault>, AllocError>
+    requires sound { IsSpecified specified.now }
+    requires whole { length state.now ≡ count_of (shape_of (spec_of specified.now.checked.now.spec)) }
+    ensures whole { IfOk result (λ ended. IfOk ended (λ B. length B ≡ count_of (shape_of (spec_of specified.now.checked.now.spec)))) }
+    ensures step { let s = spec_of specified.now.checked.now.spec in
+        IfOk result (λ ended. IfOk ended (λ B. IsStep (specification_of s) specified.now.turns (P.script choices.now.script.now) choices.now.step (state_of (shape_of s) state.now) (state_of (shape_of s) B))) }
+    ensures wrong { let s = spec_of specified.now.checked.now.spec in
+        IfOk result (λ ended. IfErr ended (GoesWrong (specification_of s) specified.now.turns (P.script choices.now.script.now) (holds_in (shape_of s) specified.now.always.now) choices.now.step (state_of (shape_of s) state.now))) }
+{
+    match next_from(alloc, specified, choices, state)? {
+        Err(fault) => Ok(Err(fault)),
+        Ok(next) => {
+            if specified.is_right(alloc, &next) {
+                Ok(Ok(next))
+            } else {
+                Ok(Err(Fault::Wrong))
+            }
+        }
+    }
+}
