@@ -2,3 +2,4 @@ pub mod Drafts
 pub mod Replay
 pub mod WrongRuns
 pub mod RandomAnswers
+pub mod Shorter

@@ -6,7 +6,8 @@ ghost use Rattle.asm_syntax.specs.Views.{spec_of};
 ghost use Rattle.asm_check.specs.Shapes.{shape_of};
 ghost use Rattle.asm_meaning.specs.Declarations.{specification_of};
 ghost use Rattle.asm_explore.specs.Conditions.{IsSpecified, holds_in};
-ghost use Rattle.asm_random.specs.RandomAnswers.{Claims, IsBadScript, IsWrongRun};
+ghost use Rattle.asm_random.specs.RandomAnswers.{Claims, IsBadScript};
+ghost use Rattle.asm_random.specs.Shorter.{IsWrongFor};
 
 use crate::answer::RandomFinding;
 use crate::replay::wrong_under;
@@ -67,7 +68,7 @@ pub(crate) fn finding_of(
 ) -> Result<RandomFinding, AllocError>
     requires { IsSpecified specified.now }
     ensures { let s = spec_of specified.now.checked.now.spec in
-        (most : ℕ) → IsWrongRun (specification_of s) specified.now.turns most (holds_in (shape_of s) specified.now.always.now) run.now →
+        (most : ℕ) → IsWrongFor specified.now most run.now →
         IfOk result (Claims (specification_of s) specified.now.turns most (holds_in (shape_of s) specified.now.always.now)) }
 {
     match confirmed(alloc, specified, run)? {

@@ -1,10 +1,7 @@
 //! Runs that go wrong, made shorter.
-ghost use Rattle.std.specs.Prelude.{◌≡◌, ℕ, OnOk};
-ghost use Rattle.asm_syntax.specs.Views.{spec_of};
-ghost use Rattle.asm_check.specs.Shapes.{shape_of};
-ghost use Rattle.asm_meaning.specs.Declarations.{specification_of};
-ghost use Rattle.asm_explore.specs.Conditions.{IsSpecified, holds_in};
-ghost use Rattle.asm_random.specs.RandomAnswers.{IsWrongRun};
+ghost use Rattle.std.specs.Prelude.{◌≡◌, OnOk};
+ghost use Rattle.asm_explore.specs.Conditions.{IsSpecified};
+ghost use Rattle.asm_random.specs.Shorter.{StaysWrong};
 
 use crate::omission::{Omission, draft_without};
 use crate::wrong_run::{WrongRun, wrong_run};
@@ -24,9 +21,7 @@ fn try_without(
     omission: Omission,
 ) -> Result<(), AllocError>
     requires { IsSpecified specified.now }
-    ensures { let s = spec_of specified.now.checked.now.spec in
-        (most : ℕ) → IsWrongRun (specification_of s) specified.now.turns most (holds_in (shape_of s) specified.now.always.now) run.old →
-        OnOk result (IsWrongRun (specification_of s) specified.now.turns most (holds_in (shape_of s) specified.now.always.now) run.new) }
+    ensures { OnOk result (StaysWrong specified.now run.old run.new) }
 {
     let steps = run.wrong.step;
     if *left < u64::from(steps) {
@@ -65,9 +60,7 @@ fn try_steps(
     size: usize,
 ) -> Result<(), AllocError>
     requires { IsSpecified specified.now }
-    ensures { let s = spec_of specified.now.checked.now.spec in
-        (most : ℕ) → IsWrongRun (specification_of s) specified.now.turns most (holds_in (shape_of s) specified.now.always.now) run.old →
-        OnOk result (IsWrongRun (specification_of s) specified.now.turns most (holds_in (shape_of s) specified.now.always.now) run.new) }
+    ensures { OnOk result (StaysWrong specified.now run.old run.new) }
 {
     let mut to = run.wrong.step as usize;
     for _block in 0..run.wrong.step {
@@ -93,9 +86,7 @@ fn try_lines(
     step: usize,
 ) -> Result<(), AllocError>
     requires { IsSpecified specified.now }
-    ensures { let s = spec_of specified.now.checked.now.spec in
-        (most : ℕ) → IsWrongRun (specification_of s) specified.now.turns most (holds_in (shape_of s) specified.now.always.now) run.old →
-        OnOk result (IsWrongRun (specification_of s) specified.now.turns most (holds_in (shape_of s) specified.now.always.now) run.new) }
+    ensures { OnOk result (StaysWrong specified.now run.old run.new) }
 {
     let count = lines_at(run, step);
     for done in 0..count {
@@ -130,9 +121,7 @@ fn shorten_once(
     left: &mut u64,
 ) -> Result<(), AllocError>
     requires { IsSpecified specified.now }
-    ensures { let s = spec_of specified.now.checked.now.spec in
-        (most : ℕ) → IsWrongRun (specification_of s) specified.now.turns most (holds_in (shape_of s) specified.now.always.now) run.old →
-        OnOk result (IsWrongRun (specification_of s) specified.now.turns most (holds_in (shape_of s) specified.now.always.now) run.new) }
+    ensures { OnOk result (StaysWrong specified.now run.old run.new) }
 {
     let steps = run.wrong.step as usize;
     for halvings in 0..32u32 {
@@ -157,9 +146,7 @@ pub(crate) fn shorten(
     run: &mut WrongRun,
 ) -> Result<bool, AllocError>
     requires { IsSpecified specified.now }
-    ensures { let s = spec_of specified.now.checked.now.spec in
-        (most : ℕ) → IsWrongRun (specification_of s) specified.now.turns most (holds_in (shape_of s) specified.now.always.now) run.old →
-        OnOk result (IsWrongRun (specification_of s) specified.now.turns most (holds_in (shape_of s) specified.now.always.now) run.new) }
+    ensures { OnOk result (StaysWrong specified.now run.old run.new) }
 {
     let mut left = MOST_STEPS;
     for _round in 0..u32::MAX {

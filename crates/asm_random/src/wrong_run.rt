@@ -1,10 +1,7 @@
 //! Runs that go wrong.
 ghost use Rattle.std.specs.Prelude.{◌≡◌, ◌≤◌, ℕ, IfOk, IfSome};
-ghost use Rattle.asm_syntax.specs.Views.{spec_of};
-ghost use Rattle.asm_check.specs.Shapes.{shape_of};
-ghost use Rattle.asm_meaning.specs.Declarations.{specification_of};
-ghost use Rattle.asm_explore.specs.Conditions.{IsSpecified, holds_in};
-ghost use Rattle.asm_random.specs.RandomAnswers.{IsWrongRun};
+ghost use Rattle.asm_explore.specs.Conditions.{IsSpecified};
+ghost use Rattle.asm_random.specs.Shorter.{IsWrongFor};
 
 use crate::draft::Draft;
 use crate::replay::{Wrong, wrong_under};
@@ -27,9 +24,7 @@ pub(crate) fn wrong_run(
     steps: u32,
 ) -> Result<Option<WrongRun>, AllocError>
     requires { IsSpecified specified.now }
-    ensures { let s = spec_of specified.now.checked.now.spec in
-        (most : ℕ) → steps ≤ most →
-        IfOk result (λ found. IfSome found (IsWrongRun (specification_of s) specified.now.turns most (holds_in (shape_of s) specified.now.always.now))) }
+    ensures { (most : ℕ) → steps ≤ most → IfOk result (λ found. IfSome found (IsWrongFor specified.now most)) }
 {
     match wrong_under(alloc, specified, &draft, steps)? {
         Some(wrong) => Ok(Some(WrongRun { draft, wrong })),

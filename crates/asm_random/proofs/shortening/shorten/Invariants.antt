@@ -1,0 +1,5 @@
+use Rattle.asm_random.specs.Shorter.{StaysWrong}
+use Rattle.asm_random.proofs.shortening.shorten.Given as goal
+
+abbrev pub invariant-loop-round : goal.invariant-loop-round
+invariant-loop-round l = StaysWrong l.specified l.fn.run l.run
