@@ -5,7 +5,7 @@ ghost use Rattle.asm_syntax.specs.Views.{spec_of};
 ghost use Rattle.asm_check.specs.Shapes.{shape_of};
 ghost use Rattle.asm_explore.specs.Conditions.{IsSpecified};
 
-use asm_explore::{Asked, Specified};
+use asm_explore::{Asked, Specified, choices_of_step};
 use asm_meaning::Choices;
 use asm_reader::Picks;
 use asm_state::state::State;
@@ -21,5 +21,12 @@ pub(crate) fn asked_in<P: Picks>(
     requires sound { IsSpecified specified.now }
     requires whole { length state.now ≡ count_of (shape_of (spec_of specified.now.checked.now.spec)) }
 {
-    Ok(Vec::new(alloc))
+    choices_of_step(
+        alloc,
+        specified.checked,
+        specified.code,
+        specified.turns,
+        choices,
+        state,
+    )
 }

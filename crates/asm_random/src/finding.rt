@@ -11,6 +11,7 @@ ghost use Rattle.asm_random.specs.Shorter.{IsWrongFor};
 
 use crate::answer::RandomFinding;
 use crate::replay::wrong_under;
+use crate::shortening::shorten;
 use crate::written::written;
 use crate::wrong_run::WrongRun;
 use asm_explore::{BadRun, Specified, Unwritten};
@@ -60,7 +61,7 @@ fn confirmed(
 }
 
 /// What is found where the run with this number goes wrong.
-pub(crate) fn finding_of(
+fn finding_of(
     alloc: Global,
     specified: &Specified<'_>,
     number: u32,
@@ -78,4 +79,30 @@ pub(crate) fn finding_of(
             fault: run.wrong.fault,
         })),
     }
+}
+
+/// What is found where a run goes wrong.
+#[derive(Drop)]
+pub(crate) struct Shown {
+    pub(crate) finding: RandomFinding,
+    /// Whether no line of the script can go, and no step.
+    pub(crate) shortest: bool,
+}
+
+/// What is found where the run with this number goes wrong, made shorter.
+pub(crate) fn short_finding(
+    alloc: Global,
+    specified: &Specified<'_>,
+    number: u32,
+    run: WrongRun,
+) -> Result<Shown, AllocError>
+    requires { IsSpecified specified.now }
+    ensures { let s = spec_of specified.now.checked.now.spec in
+        (most : ℕ) → IsWrongFor specified.now most run →
+        IfOk result (λ found. Claims (specification_of s) specified.now.turns most (holds_in (shape_of s) specified.now.always.now) found.finding) }
+{
+    let mut run = run;
+    let shortest = shorten(alloc, specified, &mut run)?;
+    let finding = finding_of(alloc, specified, number, &run)?;
+    Ok(Shown { finding, shortest })
 }

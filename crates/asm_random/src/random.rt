@@ -8,13 +8,11 @@ ghost use Rattle.asm_random.specs.RandomAnswers.{Claims};
 
 use crate::answer::{RandomAnswer, RandomFinding};
 use crate::drawing::Source;
-use crate::finding::finding_of;
+use crate::finding::{Shown, short_finding};
 use crate::question::RandomQuestion;
-use crate::shortening::shorten;
 use crate::walk::random_run;
 use crate::wrong_run::wrong_run;
 use asm_check::Checked;
-use asm_eval::code::Code;
 use asm_eval::whole::resolve_main;
 use asm_explore::condition::condition_code;
 use asm_explore::{Machine, Specified};
@@ -42,9 +40,8 @@ fn runs_of(
         if !walked.wrong {
             continue;
         }
-        if let Some(mut run) = wrong_run(alloc, specified, walked.draft, question.steps)? {
-            let shortest = shorten(alloc, specified, &mut run)?;
-            let finding = finding_of(alloc, specified, number, &run)?;
+        if let Some(run) = wrong_run(alloc, specified, walked.draft, question.steps)? {
+            let Shown { finding, shortest } = short_finding(alloc, specified, number, run)?;
             return Ok(RandomAnswer {
                 finding,
                 runs: number + 1,
@@ -96,17 +93,18 @@ pub fn random_runs(
     ensures { let q = question.now in
         IfOk result (λ answer. Claims (specification_of (spec_of checked.now.spec)) q.turns q.steps (term_holds checked.now q.always) answer.finding) }
 {
+    let turns = question.turns;
     let code = resolve_main(alloc, checked)?;
     let always = condition_code(alloc, checked, &question.always)?;
-    let nothing: Option<Code> = None;
+    // Runs are followed from each state, and no state is asked whether it is quiet.
     let specified = Specified {
         checked,
         code: &code,
-        turns: question.turns,
+        turns,
         limit: 0,
         always: &always,
-        within: &nothing,
-        when_quiet: &nothing,
+        within: &always,
+        when_quiet: &always,
     };
     let answer = answer_of(alloc, &specified, question)?;
     Ok(answer)

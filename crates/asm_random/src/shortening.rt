@@ -51,6 +51,38 @@ fn has_line(run: &WrongRun, from: usize, to: usize) -> bool {
     false
 }
 
+/// Tries to leave out some steps, or else their lines.
+fn try_block(
+    alloc: Global,
+    specified: &Specified<'_>,
+    run: &mut WrongRun,
+    left: &mut u64,
+    from: usize,
+    to: usize,
+) -> Result<(), AllocError>
+    requires { IsSpecified specified.now }
+    ensures { OnOk result (StaysWrong specified.now run.old run.new) }
+{
+    try_without(
+        alloc,
+        specified,
+        run,
+        left,
+        Omission::Steps { from, to },
+    )?;
+    if !has_line(run, from, to) {
+        return Ok(());
+    }
+    try_without(
+        alloc,
+        specified,
+        run,
+        left,
+        Omission::Lines { from, to },
+    )?;
+    Ok(())
+}
+
 /// Tries to leave out each so many steps, from the last ones, or else their lines.
 fn try_steps(
     alloc: Global,
@@ -68,10 +100,7 @@ fn try_steps(
             break;
         }
         let from = to.saturating_sub(size);
-        try_without(alloc, specified, run, left, Omission::Steps { from, to })?;
-        if has_line(run, from, to) {
-            try_without(alloc, specified, run, left, Omission::Lines { from, to })?;
-        }
+        try_block(alloc, specified, run, left, from, to)?;
         to = from.min(run.wrong.step as usize);
     }
     Ok(())
