@@ -15,4 +15,5 @@ pub struct RandomQuestion {
     pub runs: u32,
     /// What is drawn depends on it alone.
     pub seed: u64,
+    pub ghost turns_in_range: { turns < 2 ^ 32 },
 }

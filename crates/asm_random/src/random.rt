@@ -93,14 +93,13 @@ pub fn random_runs(
     ensures { let q = question.now in
         IfOk result (λ answer. Claims (specification_of (spec_of checked.now.spec)) q.turns q.steps (term_holds checked.now q.always) answer.finding) }
 {
-    let turns = question.turns;
     let code = resolve_main(alloc, checked)?;
     let always = condition_code(alloc, checked, &question.always)?;
     // Runs are followed from each state, and no state is asked whether it is quiet.
     let specified = Specified {
         checked,
         code: &code,
-        turns,
+        turns: question.turns,
         limit: 0,
         always: &always,
         within: &always,

@@ -63,23 +63,11 @@ fn try_block(
     requires { IsSpecified specified.now }
     ensures { OnOk result (StaysWrong specified.now run.old run.new) }
 {
-    try_without(
-        alloc,
-        specified,
-        run,
-        left,
-        Omission::Steps { from, to },
-    )?;
+    try_without(alloc, specified, run, left, Omission::Steps { from, to })?;
     if !has_line(run, from, to) {
         return Ok(());
     }
-    try_without(
-        alloc,
-        specified,
-        run,
-        left,
-        Omission::Lines { from, to },
-    )?;
+    try_without(alloc, specified, run, left, Omission::Lines { from, to })?;
     Ok(())
 }
 

@@ -4,6 +4,9 @@ use Rattle.asm_meaning.specs.Declarations.{specification_of}
 use Rattle.asm_random.specs.RandomAnswers.{Claims}
 use Rattle.asm_random.proofs.random.random_runs.Goals as goal
 
+pub invariant_of-specified : goal.invariant_of-specified
+invariant_of-specified c = record { turns_in_range = c.args.question.now.turns_in_range }
+
 pub answer_of-requires : goal.answer_of-requires
 answer_of-requires c = record {
   main = c.in_ok-code.ensures;

@@ -12,4 +12,4 @@ returns-in-Some c =
     let steps = c.args.question.now.steps in
     let all : steps ≤ steps = omega arith in
     let wrong = some c.in_ok-run.field-0 c.in-Some.run' (IsWrongFor m steps) c.in-Some.is (c.in_ok-run.ensures steps all) in
-    c.in_ok-Shown.ensures steps wrong
+    c.in_ok-finding.ensures steps wrong
