@@ -2,7 +2,7 @@
 --     written_all         with those that have number 0, these are all lines
 --     refused_within      what refuses the text of one line refuses that of all
 --     longer_already      the first entries with their comments are no longer than all of them with the last comments
-use Rattle.std.proofs.Common.{◌≡◌, ℕ, zero, suc, ◌+◌, ◌<◌, ◌≤◌, List, [], ◌∷◌, ◌++◌, length, take, get_or, inl, inr, ap, refl, arith, length-append}
+use Rattle.std.proofs.Common.{◌≡◌, ℕ, zero, suc, ◌<◌, ◌≤◌, List, [], ◌∷◌, ◌++◌, length, take, get_or, inl, inr, ap, refl, arith, length-append}
 use Rattle.std.proofs.lemmas.List.Folds.{length-flat_map-take}
 use Rattle.asm_reader.specs.ScriptLines.{Line}
 use Rattle.asm_reader.specs.ScriptText.{max_script}

@@ -1,6 +1,7 @@
 -- Texts of scripts with comments between their lines.
 --     entry_text entry                its comments, and its line behind them
---     commented entries last          the texts of the entries, and the last comments
+--     entries_text entries            the texts of the entries, one after the other
+--     commented entries last          the same, and the last comments behind it
 --     said_by entries                 what their lines say
 --     IsCommented entries last text   lines and comments, or the lines alone where both are more than a script may have
 use Rattle.std.specs.Prelude.{◌≡◌, ◌⊎◌, ◌<◌, ◌≤◌, ℕ, List, ◌++◌, length, map}

@@ -5,8 +5,7 @@ use Rattle.asm_meaning.specs.Scripts.{IsUnrepeated}
 use Rattle.asm_reader.specs.ExactLines.{exactly}
 use Rattle.asm_reader.specs.ScriptLines.{Line}
 use Rattle.asm_reader.specs.ScriptText.{IsScript}
-use Rattle.asm_explore.specs.declared.script_line.Zeros.TheVariants.{Written}
-use Rattle.asm_explore.specs.Written.{AreSteps, IsTextOf, IsTextRefusal, lines_said, lines_text, numbers_in, written}
+use Rattle.asm_explore.specs.Written.{AreSteps, IsTextOf, IsTextRefusal, lines_said, lines_text, numbers_in}
 use Rattle.asm_explore_tool.specs.Commented.{said_by}
 use Rattle.asm_explore_tool.proofs.WholeLines.{written_all}
 use Rattle.asm_explore_tool.proofs.commented.lines_alone.Goals as goal

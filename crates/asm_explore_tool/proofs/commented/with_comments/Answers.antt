@@ -1,9 +1,8 @@
-use Rattle.std.proofs.Common.{◌≡◌, ◌<◌, ◌++◌, ◌∷◌, [], List, ℕ, ◌+◌, length, take, get_or, ap, subst, arith, sym, ◌∙◌}
+use Rattle.std.proofs.Common.{◌≡◌, ◌++◌, length, take, get_or, ap, subst, arith, ◌∙◌}
 use Rattle.std.proofs.lemmas.Result.{err_from_is_err_and}
-use Rattle.asm_reader.specs.ScriptText.{max_script}
-use Rattle.asm_explore.specs.Written.{IsTextRefusal, line_said, line_text, lines_text, numbers_in, numbers_of_line}
+use Rattle.asm_explore.specs.Written.{IsTextRefusal, line_said, line_text, numbers_of_line}
 use Rattle.asm_explore_tool.specs.Comments.{lines_of}
-use Rattle.asm_explore_tool.specs.Commented.{commented, entries_text, entry_text, said_by}
+use Rattle.asm_explore_tool.specs.Commented.{entries_text, entry_text}
 use Rattle.asm_explore_tool.specs.declared.commented.Entry.{Entry}
 use Rattle.asm_explore_tool.proofs.WholeLines.{longer_already, refused_within}
 use Rattle.asm_explore_tool.proofs.commented.with_comments.Goals as goal
