@@ -12,6 +12,7 @@ mod ReadNumbers
 mod ReadTexts
 mod RunMore
 mod RunOptions
+mod RunRefused
 mod RunTold
 mod Skipped
 mod Spelled

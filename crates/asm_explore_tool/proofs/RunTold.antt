@@ -2,25 +2,31 @@
 --     never_twice          words that are taken never ask for the input twice
 --     choices_told         the status of a run that ends so
 --     clash_told           the status of a run that ends by these assignments
+--     printed_script       a script with comments is that of its lines
 --     length_lines         so many comments as lines
 --     comments_alone       comments are a script without lines
 use Rattle.std.proofs.Common.{Global, Vec, ◌≡◌, ◌⊎◌, ℕ, suc, codes, Bool, true, false, cond, List, [], ◌∷◌, Some, inl, inr, refl, sym, ap, subst, ◌∙◌, arith}
 use Rattle.std.specs.Prelude.{◌&&◌, length, map, option_map}
 use Rattle.clap.specs.Walk.{Text, first_of}
 use Rattle.asm_syntax.specs.SourceTree.{Spec}
-use Rattle.asm_reader.specs.ScriptLines.{Script, no_lines}
+use Rattle.asm_reader.specs.ExactLines.{exactly}
+use Rattle.asm_reader.specs.ScriptLines.{Line, Script, no_lines}
 use Rattle.asm_reader.specs.ScriptText.{AreFaultless, IsScript, is_bad, is_repeated, lines_of}
 use Rattle.asm_meaning.specs.Run.{AtExhausted, AtFault, AtLimit, End, Run}
+use Rattle.asm_meaning.specs.Scripts.{IsUnrepeated}
+use Rattle.asm_explore.specs.Written.{AreSteps}
 use Rattle.asm_run.specs.Headline.{IsAnswer}
 use Rattle.asm_run.specs.declared.end.End as shown
 use Rattle.asm_run.specs.declared.end.End.TheVariants.{Clash, Exhausted, Limit, Outside}
 use Rattle.asm_clash.specs.ClashOfRun.{EndsSo}
 use Rattle.asm_clash.specs.declared.clash.ClashOfRun.{ClashOfRun}
 use Rattle.asm_clash.specs.declared.clash.ClashOfRun.TheVariants as clash
+use Rattle.asm_explore_tool.specs.Commented.{said_by}
 use Rattle.asm_explore_tool.specs.Comments.{comments, lines_of as bytes_of}
 use Rattle.asm_explore_tool.specs.Report.{IsWholeOr}
 use Rattle.asm_explore_tool.specs.RunReport.{IsRunStatus, choices_status, clash_status, status_of_end}
 use Rattle.asm_explore_tool.specs.Said.{AreRunSaid, AreSaidBehind, are_both_input, is_input, reads_input_twice, reads_task_twice, run_rows}
+use Rattle.asm_explore_tool.specs.declared.commented.Entry.{Entry}
 use Rattle.asm_explore_tool.specs.declared.settings.RunSettings.{RunSettings}
 use Rattle.asm_explore_tool.specs.declared.settings.Task.{Task}
 use Rattle.asm_explore_tool.specs.declared.settings.Task.TheVariants as task
@@ -78,3 +84,13 @@ empty_script = record { fits = omega arith; faultless = no_faults; says = refl }
 
 pub comments_alone : (lines : List (List ℕ)) (text : List ℕ) → IsWholeOr (comments lines) [] text → IsScript text no_lines
 comments_alone lines text whole = printed_says lines [] text whole no_lines empty_script
+
+-- ---- a script with comments
+
+pub printed_script : (shown entries : List Entry) (lines : List Line) (text : List ℕ) → shown ≡ entries → said_by entries ≡ lines → AreSteps (said_by entries)
+    → (AreSteps (said_by shown) → IsUnrepeated (exactly (said_by shown)) → IsScript text (exactly (said_by shown)))
+    → IsUnrepeated (exactly lines) → IsScript text (exactly lines)
+printed_script shown entries lines text same said steps script apart =
+    let all : said_by shown ≡ lines = ap said_by same ∙ said in
+    subst (λ (ls : List Line). IsScript text (exactly ls)) all
+    (script (subst (λ (es : List Entry). AreSteps (said_by es)) (sym same) steps) (subst (λ (ls : List Line). IsUnrepeated (exactly ls)) (sym all) apart))
