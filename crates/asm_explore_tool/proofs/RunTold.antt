@@ -6,7 +6,7 @@
 --     length_lines         so many comments as lines
 --     comments_alone       comments are a script without lines
 use Rattle.std.proofs.Common.{Global, Vec, ◌≡◌, ◌⊎◌, ℕ, suc, codes, Bool, true, false, cond, List, [], ◌∷◌, Some, inl, inr, refl, sym, ap, subst, ◌∙◌, arith}
-use Rattle.std.specs.Prelude.{◌&&◌, length, map, option_map}
+use Rattle.std.specs.Prelude.{◌&&◌, ◌||◌, length, map, option_map}
 use Rattle.clap.specs.Walk.{Text, first_of}
 use Rattle.asm_syntax.specs.SourceTree.{Spec}
 use Rattle.asm_reader.specs.ExactLines.{exactly}
@@ -51,7 +51,7 @@ never_twice (command ∷ words) (task.Clash settings) said = once_said words set
 
 -- ---- statuses
 
-zero_or_six : (all_met : Bool) → (cond all_met 0 6 ≡ 0) ⊎ (cond all_met 0 6 ≡ 6)
+zero_or_six : (all_met : Bool) → IsRunStatus AtLimit (choices_status Limit all_met)
 zero_or_six true = inl refl
 zero_or_six false = inr refl
 
@@ -76,7 +76,7 @@ length_lines [] = refl
 length_lines (line ∷ lines) = ap suc (length_lines lines)
 
 no_faults : AreFaultless ([] ∷ [])
-no_faults [] after bytes parts = let is : bytes ≡ [] = cc in ap (λ line. is_bad line) is
+no_faults [] after bytes parts = let is : bytes ≡ [] = cc in ap (λ line. is_bad line || is_repeated [] line) is
 no_faults (line ∷ before) after bytes parts = absurd (omega (arith, ap length parts))
 
 pub empty_script : IsScript [] no_lines

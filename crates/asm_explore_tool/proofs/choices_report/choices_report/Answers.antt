@@ -27,9 +27,9 @@ returns g c =
       accepted = c.in_ok-checked.ensures;
       script = script;
       spelled = c.in_ok-script.ensures;
-      steps = choices_in c.in_ok-run.run;
+      steps = choices_in c.in_ok-run.run';
       choices = c.in_ok-run.ensures.choices;
       printed = c.in_ok-text.ensures made.unrepeated;
       again = made.again;
-      status = subst (λ k. IsRunStatus (book_run tree settings.turns script settings.steps).end k) (sym c.status_of.ensures) (choices_told _ _ _ answered);
+      status = subst (λ k. IsRunStatus (book_run tree settings.turns script settings.steps).end k) (sym c.status_of-status.ensures) (choices_told _ _ _ answered);
     }

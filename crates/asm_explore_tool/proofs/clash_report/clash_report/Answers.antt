@@ -31,5 +31,5 @@ returns g c =
       count = length_lines c.in_ok-others.others.items ∙ (c.in_ok-others.ensures ∙ ap length c.assignments.ensures);
       printed = whole;
       is_script = comments_alone (first ∷ others) text whole;
-      status = c.status_of.ensures ∙ clash_told tree settings.turns script (run (specification_of tree) settings.turns script settings.steps) ended c.in_ok-clash.ensures;
+      status = c.status_of-status.ensures ∙ clash_told tree settings.turns script (run (specification_of tree) settings.turns script settings.steps) ended c.in_ok-clash.ensures;
     }
