@@ -52,13 +52,7 @@ fn status_of(end: End, all_met: bool) -> u8
     ensures { result ≡ choices_status end all_met }
 {
     match end {
-        End::Limit => {
-            if all_met {
-                0
-            } else {
-                6
-            }
-        }
+        End::Limit => { if all_met { 0 } else { 6 } }
         End::Clash | End::Outside | End::Exhausted => 1,
     }
 }

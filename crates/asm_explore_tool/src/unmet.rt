@@ -68,11 +68,7 @@ fn remove_met(
 }
 
 /// Whether the key of a line is one of these.
-fn is_among(
-    alloc: Global,
-    keys: &BTreeSet<Vec<u64>>,
-    line: &[u8],
-) -> Result<bool, AllocError> {
+fn is_among(alloc: Global, keys: &BTreeSet<Vec<u64>>, line: &[u8]) -> Result<bool, AllocError> {
     match key_of(alloc, line)? {
         Some(key) => Ok(keys.contains(&key)),
         None => Ok(false),
