@@ -10,6 +10,7 @@ use std::alloc::{AllocError, Global};
 
 /// Says of the assignment at a path of the main rule where it stands in the text, at which location
 /// it puts which value, and which values the names have that are bound there, the innermost first.
+/// Where it is one to `result`, it puts it at this location.
 pub(crate) fn assignment_line(
     alloc: Global,
     text: &[u8],
@@ -18,6 +19,7 @@ pub(crate) fn assignment_line(
     arguments: &[Word],
     value: Word,
     bound: &[Word],
+    location: &[u8],
 ) -> Result<Vec<u8>, AllocError> {
     let mut line = Vec::new(alloc);
     let place = text_place(alloc, checked, path)?;
@@ -28,16 +30,32 @@ pub(crate) fn assignment_line(
     line.extend_from_slice(b"place ")?;
     push_path(alloc, &mut line, path)?;
     line.extend_from_slice(b": ")?;
-    if let Some(place) = &place {
-        line.extend_from_slice(place.name.text.as_bytes())?;
-    }
-    push_arguments(alloc, &mut line, checked, arguments)?;
+    push_location(alloc, &mut line, checked, &place, arguments, location)?;
     line.extend_from_slice(b" := ")?;
     push_value(alloc, &mut line, checked, value.value())?;
     if let Some(place) = &place {
         push_bound(alloc, &mut line, checked, place, bound)?;
     }
     Ok(line)
+}
+
+/// Adds the location that an assignment names: of `result` this one, and else by the arguments.
+fn push_location(
+    alloc: Global,
+    line: &mut Vec<u8>,
+    checked: &Checked,
+    place: &Option<TextPlace<'_>>,
+    arguments: &[Word],
+    location: &[u8],
+) -> Result<(), AllocError> {
+    if let Some(place) = place {
+        let name = place.name.text.as_bytes();
+        if name == b"result" {
+            return line.extend_from_slice(location);
+        }
+        line.extend_from_slice(name)?;
+    }
+    push_arguments(alloc, line, checked, arguments)
 }
 
 /// Adds arguments in brackets, if there are any.

@@ -35,12 +35,13 @@ fn assignments(clash: &ClashOfRun) -> &[Assignment]
     }
 }
 
-/// A line for each assignment.
+/// A line for each assignment. Those to `result` are at this location.
 fn assignment_lines(
     alloc: Global,
     text: &[u8],
     checked: &Checked,
     assignments: &[Assignment],
+    location: &[u8],
 ) -> Result<Vec<Vec<u8>>, AllocError>
     ensures { IfOk result (λ lines. length lines.items ≡ length assignments.now) }
 {
@@ -55,6 +56,7 @@ fn assignment_lines(
             one.arguments.as_slice(),
             one.value,
             one.bound.as_slice(),
+            location,
         )?)?;
     }
     Ok(lines)
@@ -75,7 +77,8 @@ pub(crate) fn clash_report<'w, R: Threads + Sync>(
     let clash = clash_of_run(alloc, &checked, settings.turns, &script, settings.steps)?;
     let ended = ended(rt, alloc, text, script_text, settings)?;
     let first = ended.line(alloc, settings.steps)?;
-    let others = assignment_lines(alloc, text, &checked, assignments(&clash))?;
+    let location = ended.location(alloc)?;
+    let others = assignment_lines(alloc, text, &checked, assignments(&clash), location)?;
     let text = with_comments(alloc, first.as_slice(), others.as_slice(), &[])?;
     let status = status_of(&clash);
     Ok(Report { text, status })

@@ -63,6 +63,11 @@ impl EndedRun {
         Ok(line)
     }
 
+    /// The location of the fault that the run ends by, as the trace shows it.
+    pub(crate) fn location(&self, alloc: Global) -> Result<&[u8], AllocError> {
+        Ok(before_values(behind_number(self.end_line(alloc)?)))
+    }
+
     /// What stands in the trace's line of the end behind the kind.
     fn end_line(&self, alloc: Global) -> Result<&[u8], AllocError> {
         let kind = kind_of(self.end);
@@ -95,6 +100,17 @@ fn behind_number(words: &[u8]) -> &[u8] {
         Some(space) => &words[space + 1..],
         None => words,
     }
+}
+
+/// What stands before the values of a clash.
+fn before_values(words: &[u8]) -> &[u8] {
+    let front = b" least ";
+    for at in 0..words.len() {
+        if words[at..].starts_with(front) {
+            return &words[..at];
+        }
+    }
+    words
 }
 
 /// The last line of a trace that begins so, without these words.
