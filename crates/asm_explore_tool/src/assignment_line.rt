@@ -50,7 +50,7 @@ fn push_location(
 ) -> Result<(), AllocError> {
     if let Some(place) = place {
         let name = place.name.text.as_bytes();
-        if name == b"result" {
+        if name == b"result".as_slice() {
             return line.extend_from_slice(location);
         }
         line.extend_from_slice(name)?;
