@@ -2,7 +2,6 @@ mod BetweenLines
 mod Decoding
 mod Fronts
 mod GivenNumbers
-mod InputOnce
 mod JoinedTerms
 mod LineParts
 mod Links

@@ -6,7 +6,7 @@
 --     length_lines         so many comments as lines
 --     comments_alone       comments are a script without lines
 use Rattle.std.proofs.Common.{Global, Vec, ◌≡◌, ◌⊎◌, ℕ, suc, codes, Bool, true, false, cond, List, [], ◌∷◌, Some, inl, inr, refl, sym, ap, subst, ◌∙◌, arith}
-use Rattle.std.specs.Prelude.{◌&&◌, ◌||◌, length, map, option_map}
+use Rattle.std.specs.Prelude.{◌&&◌, ◌||◌, ◌++◌, ◌<◌, length, map, option_map}
 use Rattle.clap.specs.Walk.{Text, first_of}
 use Rattle.asm_syntax.specs.SourceTree.{Spec}
 use Rattle.asm_reader.specs.ExactLines.{exactly}
@@ -75,9 +75,13 @@ pub length_lines : (lines : List (Vec ℕ Global)) → length (bytes_of lines) �
 length_lines [] = refl
 length_lines (line ∷ lines) = ap suc (length_lines lines)
 
+some_lines : (before after : List (List ℕ)) (line : List ℕ) → 0 < length (before ++ line ∷ after)
+some_lines [] after line = omega arith
+some_lines (b ∷ before) after line = omega arith
+
 no_faults : AreFaultless ([] ∷ [])
 no_faults [] after bytes parts = let is : bytes ≡ [] = cc in ap (λ line. is_bad line || is_repeated [] line) is
-no_faults (line ∷ before) after bytes parts = absurd (omega (arith, ap length parts))
+no_faults (line ∷ before) after bytes parts = absurd (omega (arith, ap length parts, some_lines before after bytes))
 
 pub empty_script : IsScript [] no_lines
 empty_script = record { fits = omega arith; faultless = no_faults; says = refl }

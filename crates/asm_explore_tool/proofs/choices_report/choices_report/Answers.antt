@@ -1,6 +1,4 @@
-use Rattle.std.proofs.Common.{◌≡◌, ◌∙◌, ap, sym, subst}
-use Rattle.asm_meaning.specs.Declarations.{specification_of}
-use Rattle.asm_meaning.specs.Run.{run}
+use Rattle.std.proofs.Common.{◌≡◌, sym, subst}
 use Rattle.asm_reader.specs.ScriptLines.{Script}
 use Rattle.asm_explore.specs.RunChoices.{choices_in}
 use Rattle.asm_syntax.specs.SourceTree.{Spec}

@@ -4,7 +4,7 @@ use Rattle.asm_explore_tool.proofs.RunTold.{never_twice}
 use Rattle.asm_explore_tool.proofs.status.answer.Goals as goal
 
 pub answer_task-requires : goal.answer_task-requires
-answer_task-requires g c = never_twice (map g.S.AsStr.text c.args.words.now) c.in-Ok.task c.in-Ok.ensures.said
+answer_task-requires g c = (search, never_twice (map g.S.AsStr.text c.args.words.now) c.in-Ok.task c.in-Ok.ensures.said)
 
 pub returns-in-Ok : goal.returns-in-Ok
 returns-in-Ok g c taken =
