@@ -76,8 +76,8 @@ impl Fault<'_> {
     {
         match self {
             Fault::Text(_) => 2,
-            Fault::Memory | Fault::File(_) | Fault::Write | Fault::Unconfirmed | Fault::Unwritten =>
-                3,
+            Fault::Memory | Fault::File(_) | Fault::Write => 3,
+            Fault::Unconfirmed | Fault::Unwritten => 3,
             Fault::Words(_) | Fault::NotText => 4,
         }
     }
