@@ -1,12 +1,14 @@
 -- What is asked of a specification, by the bytes of its text and of conditions, and what is found.
---     IsAsked        the specification of the text, and a question with the terms of the conditions
---     IsExplored     what the answer claims of the runs of the specification with this text
-use Rattle.std.specs.Prelude.{◌≡◌, ℕ, List, length, Some}
+--     AreAllAsked text asked checked t     the term is true just where each of the conditions with these texts is
+--     IsAsked                              the specification of the text, and a question with the terms of the conditions
+--     IsExplored                           what the answer claims of the runs of the specification with this text
+use Rattle.std.specs.Prelude.{◌≡◌, ℕ, List, length, Option, Some}
 use Rattle.std.specs.List.{list_all}
 use Rattle.asm_state.specs.Location.{State}
 use Rattle.asm_state.specs.declared.operation.Op.{Op}
 use Rattle.asm_syntax.specs.Views.{spec_of}
 use Rattle.asm_syntax.specs.declared.term.Term.{Term}
+use Rattle.asm_check.specs.declared.checked.Checked.{Checked}
 use Rattle.asm_meaning.specs.Declarations.{specification_of}
 use Rattle.asm_run.specs.Headline.{IsAccepted}
 use Rattle.asm_explore.specs.Answers.{IsAnswer}
@@ -18,13 +20,16 @@ use Rattle.asm_explore_tool.specs.declared.asked.Asked.{Asked}
 use Rattle.asm_explore_tool.specs.declared.conditions.Conditions.{Conditions}
 use Rattle.asm_explore_tool.specs.declared.settings.Settings.{Settings}
 
+pub record AreAllAsked (text : List ℕ) (asked : List (List ℕ)) (checked : Checked) (t : Option Term) : Type 0 where
+  pub links : List (Op × Term)
+  pub each : AreConditionsOf text (length checked.spec.items.items) asked links
+  pub joined : IsJoined links t
+  -- all of them hold just where the one that is asked holds
+  pub all : (A : State) → term_holds checked t A ≡ list_all (λ link. term_holds checked (Some link.1) A) links
+
 pub record IsAsked (text : List ℕ) (conditions : Conditions) (settings : Settings) (asked : Asked) : Type 0 where
   pub accepted : IsAccepted text (spec_of asked.checked.spec)
-  pub links : List (Op × Term)
-  pub always : AreConditionsOf text (length asked.checked.spec.items.items) (texts_of conditions.always.items) links
-  pub joined : IsJoined links asked.question.always
-  -- all of them hold just where the one that is asked holds
-  pub all : (A : State) → term_holds asked.checked asked.question.always A ≡ list_all (λ link. term_holds asked.checked (Some link.1) A) links
+  pub always : AreAllAsked text (texts_of conditions.always.items) asked.checked asked.question.always
   pub when_quiet : MayBeConditionOf text (length asked.checked.spec.items.items) (text_of conditions.when_quiet) asked.question.when_quiet
   pub within : MayBeConditionOf text (length asked.checked.spec.items.items) (text_of conditions.within) asked.question.within
   pub turns : asked.question.turns ≡ settings.turns

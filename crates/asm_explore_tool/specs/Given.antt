@@ -5,6 +5,8 @@
 --                                              the texts of the specification's file and of the script's, of which one may be the input;
 --                                              a script that isn't named has no bytes
 --     AreFronts contents names texts           the texts are those of the files with these names
+--     AreAlwaysGiven contents words names texts
+--                                              the texts are the words, and behind them those of the files with these names
 --     AreGiven contents settings conditions    the conditions are those that the settings give, and those of the files that they name
 use Rattle.std.specs.Prelude.{◌≡◌, ℕ, List, [], ◌∷◌, ◌++◌, Option, Some, None, cond, option_map, codes, ⊤}
 use Rattle.std.specs.Str.{bytes_eq}
@@ -43,9 +45,12 @@ module _ (contents : Text → Option (List ℕ)) where
   AreFronts (name ∷ names) [] = ⊥
   AreFronts (name ∷ names) (text ∷ more) = IsTextOfFile name text × AreFronts names more
 
-  pub record AreGiven (settings : Settings) (conditions : Conditions) : Type 0 where
+  pub record AreAlwaysGiven (words names : List Text) (asked : List (List ℕ)) : Type 0 where
     pub files : List (List ℕ)
-    pub are_files : AreFronts (texts settings.always_files.items) files
-    pub always : texts_of conditions.always.items ≡ texts settings.always.items ++ files
+    pub are_files : AreFronts names files
+    pub all : asked ≡ words ++ files
+
+  pub record AreGiven (settings : Settings) (conditions : Conditions) : Type 0 where
+    pub always : AreAlwaysGiven (texts settings.always.items) (texts settings.always_files.items) (texts_of conditions.always.items)
     pub when_quiet : text_of conditions.when_quiet ≡ option_map (λ text. text.now) settings.when_quiet
     pub within : text_of conditions.within ≡ option_map (λ text. text.now) settings.within

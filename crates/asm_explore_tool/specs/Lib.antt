@@ -9,8 +9,10 @@ pub mod Faults
 pub mod FirstLine
 pub mod Given
 pub mod Positions
+pub mod RandomReport
 pub mod Replay
 pub mod Report
 pub mod RunReport
 pub mod Said
+pub mod TraceLines
 pub mod Words

@@ -1,10 +1,13 @@
 -- What is printed of an answer.
 --     status_of finding             the status
---     script_of finding             the script that is found, if there is one
---     IsWholeOr front script text     the comments and the script, or the script alone where that is more than a script may have
---     IsReport                      comments, the first of which says what is found, and the script. The text spells the script that is found
+--     bad_of finding                the run that is found, if there is one
+--     script_in bad                 the script of the run that is found, if there is one
+--     IsWholeOr front script text   the comments and the script, or the script alone where that is more than a script may have
+--     IsPrinted                     comments, of which the first is this line, and the script; where the trace is asked for, the comments end
+--                                   with its lines. The text spells the script that is found
+--     IsReport                      the first comment says what is found
 --     IsReported                    what is printed says what is found of the specification with this text
-use Rattle.std.specs.Prelude.{◌≡◌, ◌⊎◌, ◌<◌, ◌≤◌, ℕ, List, [], ◌∷◌, ◌++◌, length}
+use Rattle.std.specs.Prelude.{◌≡◌, ◌⊎◌, ◌<◌, ◌≤◌, ℕ, Bool, cond, List, [], ◌∷◌, ◌++◌, length, Option, Some, None}
 use Rattle.std.specs.String.{string_bytes}
 use Rattle.asm_state.specs.declared.operation.Op.{Op}
 use Rattle.asm_syntax.specs.declared.term.Term.{Term}
@@ -12,11 +15,13 @@ use Rattle.asm_check.specs.declared.checked.Checked.{Checked}
 use Rattle.asm_reader.specs.ScriptLines.{Script}
 use Rattle.asm_reader.specs.ScriptText.{IsScript, max_script}
 use Rattle.asm_explore.specs.declared.answer.Answered.{Answered}
+use Rattle.asm_explore.specs.declared.answer.BadRun.{BadRun}
 use Rattle.asm_explore.specs.declared.answer.Finding.{Finding}
 use Rattle.asm_explore.specs.declared.answer.Finding.TheVariants as finding
 use Rattle.asm_explore_tool.specs.Asked.{IsExplored}
 use Rattle.asm_explore_tool.specs.Comments.{comments}
 use Rattle.asm_explore_tool.specs.FirstLine.{first_line}
+use Rattle.asm_explore_tool.specs.TraceLines.{MayShowTrace}
 use Rattle.asm_explore_tool.specs.Words.{WordsTell}
 use Rattle.asm_explore_tool.specs.declared.conditions.Conditions.{Conditions}
 use Rattle.asm_explore_tool.specs.declared.report.Report.{Report}
@@ -32,29 +37,39 @@ status_of (finding.TooManyStates depth) = 5
 status_of (finding.TooManyOutcomes depth crowd) = 5
 status_of (finding.NoMemory depth) = 5
 
-abbrev pub script_of : Finding → List ℕ
-script_of (finding.Bad bad) = string_bytes bad.script
-script_of finding.Closed = []
-script_of (finding.SafeTo depth) = []
-script_of finding.WrongFirst = []
-script_of (finding.TooManyStates depth) = []
-script_of (finding.TooManyOutcomes depth crowd) = []
-script_of (finding.NoMemory depth) = []
-script_of (finding.Unwritten unwritten) = []
+abbrev pub bad_of : Finding → Option BadRun
+bad_of (finding.Bad bad) = Some bad
+bad_of finding.Closed = None
+bad_of (finding.SafeTo depth) = None
+bad_of finding.WrongFirst = None
+bad_of (finding.TooManyStates depth) = None
+bad_of (finding.TooManyOutcomes depth crowd) = None
+bad_of (finding.NoMemory depth) = None
+bad_of (finding.Unwritten unwritten) = None
+
+abbrev pub script_in : Option BadRun → List ℕ
+script_in None = []
+script_in (Some bad) = string_bytes bad.script
 
 abbrev pub IsWholeOr : (front script text : List ℕ) → Type 0
 IsWholeOr front script text =
     ((text ≡ front ++ script) × (length text ≤ max_script)) ⊎ ((max_script < length (front ++ script)) × (text ≡ script))
 
-pub record IsReport (checked : Checked) (links : List (Op × Term)) (turns : ℕ) (finding : Finding) (text : List ℕ) : Type 0 where
-  pub words : List ℕ
-  pub tell : WordsTell checked links turns finding words
-  pub others : List (List ℕ)
-  pub is : IsWholeOr (comments (first_line finding words ∷ others)) (script_of finding) text
-  pub says : (script : Script) → IsScript (script_of finding) script → IsScript text script
+module _ (text : List ℕ) (turns : ℕ) (asks : Bool) where
+  pub record IsPrinted (first : List ℕ) (bad : Option BadRun) (printed : List ℕ) : Type 0 where
+    pub others : List (List ℕ)
+    pub traced : MayShowTrace text turns (cond asks bad None) others
+    pub is : IsWholeOr (comments (first ∷ others)) (script_in bad) printed
+    pub says : (script : Script) → IsScript (script_in bad) script → IsScript printed script
+
+  pub record IsReport (checked : Checked) (links : List (Op × Term)) (finding : Finding) (printed : List ℕ) : Type 0 where
+    pub words : List ℕ
+    pub tell : WordsTell checked links turns finding words
+    pub are_printed : IsPrinted (first_line finding words) (bad_of finding) printed
 
 pub record IsReported (text : List ℕ) (conditions : Conditions) (settings : Settings) (report : Report) : Type 0 where
   pub answer : Answered
   pub explored : IsExplored text conditions settings answer
   pub status : report.status ≡ status_of answer.finding
-  pub printed : IsReport explored.asked.checked explored.is_asked.links explored.asked.question.turns answer.finding report.text.items
+  pub printed :
+      IsReport text explored.asked.question.turns settings.trace explored.asked.checked explored.is_asked.always.links answer.finding report.text.items

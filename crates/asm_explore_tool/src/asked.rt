@@ -2,9 +2,10 @@
 ghost use Rattle.std.specs.Prelude.{IfOk};
 ghost use Rattle.asm_syntax.specs.Views.{spec_of};
 ghost use Rattle.asm_run.specs.Headline.{IsAccepted};
-ghost use Rattle.asm_explore_tool.specs.Asked.{IsAsked};
+ghost use Rattle.asm_explore_tool.specs.Asked.{AreAllAsked, IsAsked};
+ghost use Rattle.asm_explore_tool.specs.Conditions.{texts_of};
 
-use crate::conditions::{Conditions, joined, links, optional_term};
+use crate::conditions::{Condition, Conditions, joined, links, optional_term};
 use crate::fault::{Fault, RefusedText, Source, TextError};
 use crate::laws::joined_law;
 use crate::settings::Settings;
@@ -12,6 +13,7 @@ use asm_check::{Checked, check};
 use asm_explore::Question;
 use asm_reader::read;
 use asm_syntax::Refused;
+use asm_syntax::term::Term;
 use std::alloc::{AllocError, Global};
 
 /// A specification, and what is looked for in it.
@@ -60,6 +62,22 @@ pub(crate) fn checked<'w>(alloc: Global, text: &[u8], name: &'w str) -> Result<C
     }
 }
 
+/// The term that is true just where each of the conditions is, over the specification with this text.
+pub(crate) fn all_asked<'w>(
+    alloc: Global,
+    text: &[u8],
+    checked: &Checked,
+    conditions: &[Condition<'w>],
+) -> Result<Option<Term>, Fault<'w>>
+    ensures { IfOk result (AreAllAsked text.now (texts_of conditions.now) checked.now) }
+{
+    joined_law(checked);
+    let items = checked.spec.items.len();
+    let links = links(alloc, text, items, conditions)?;
+    let term = joined(alloc, links)?;
+    Ok(term)
+}
+
 /// What the settings ask of the specification with this text, by these conditions.
 pub fn ask<'w>(
     alloc: Global,
@@ -70,11 +88,9 @@ pub fn ask<'w>(
     ensures { IfOk result (IsAsked text.now conditions.now settings.now) }
 {
     let checked = checked(alloc, text, settings.spec)?;
-    joined_law(&checked);
     let items = checked.spec.items.len();
-    let links = links(alloc, text, items, conditions.always.as_slice())?;
     let question = Question {
-        always: joined(alloc, links)?,
+        always: all_asked(alloc, text, &checked, conditions.always.as_slice())?,
         within: optional_term(alloc, text, items, &conditions.within)?,
         when_quiet: optional_term(alloc, text, items, &conditions.when_quiet)?,
         turns: settings.turns,

@@ -1,5 +1,7 @@
 //! How a run that was found ends.
-ghost use Rattle.std.specs.Prelude.{◌≡◌};
+ghost use Rattle.std.specs.Prelude.{◌≡◌, IfOk};
+ghost use Rattle.std.specs.String.{string_bytes};
+ghost use Rattle.asm_explore_tool.specs.Ended.{IsTraceOf};
 ghost use Rattle.asm_explore_tool.specs.Words.{shown_after};
 
 use crate::ended::{EndedRun, ended_run};
@@ -30,13 +32,15 @@ fn shows(end: End, fault: StepFault) -> bool {
 }
 
 /// How the run under the script that was found ends. It ends as it was found to.
-fn confirmed<'w, R: Threads + Sync>(
+pub(crate) fn confirmed<'w, R: Threads + Sync>(
     rt: &R,
     alloc: Global,
     text: &[u8],
     turns: u32,
     bad: &BadRun,
-) -> Result<EndedRun, Fault<'w>> {
+) -> Result<EndedRun, Fault<'w>>
+    ensures { IfOk result (λ ended. IsTraceOf text.now (string_bytes bad.now.script) turns (shown_after bad.now.fault bad.now.step) ended.trace.items) }
+{
     let Ok(steps) = u32::try_from(steps_shown(bad.fault, bad.step)) else {
         return Err(Fault::Unconfirmed);
     };

@@ -1,6 +1,6 @@
 //! How the run under a script ends.
 ghost use Rattle.std.specs.Prelude.{IfOk};
-ghost use Rattle.asm_explore_tool.specs.Ended.{IsEndOf};
+ghost use Rattle.asm_explore_tool.specs.Ended.{IsEndOf, IsTraceOf};
 
 use asm_run::end::End;
 use asm_run::error::RunError;
@@ -14,7 +14,7 @@ use std::thread::Threads;
 #[derive(Drop)]
 pub(crate) struct EndedRun {
     pub end: End,
-    trace: Vec<u8>,
+    pub trace: Vec<u8>,
 }
 
 /// Makes the run of the specification with this text under the script with that one, of at most so
@@ -27,7 +27,8 @@ pub(crate) fn ended_run<R: Threads + Sync>(
     turns: u32,
     steps: u32,
 ) -> Result<EndedRun, RunError>
-    ensures { IfOk result (λ ended. IsEndOf text.now script.now turns steps ended.end) }
+    ensures end { IfOk result (λ ended. IsEndOf text.now script.now turns steps ended.end) }
+    ensures trace { IfOk result (λ ended. IsTraceOf text.now script.now turns steps ended.trace.items) }
 {
     let limits = Limits {
         steps,

@@ -5,14 +5,14 @@ use crate::place_text::{push_path, push_position};
 use crate::settings::Settings;
 use crate::text_place::text_place;
 use asm_check::Checked;
-use asm_explore::{Answered, Finding};
+use asm_explore::{Answered, BadRun, Finding};
 use std::alloc::{AllocError, Global};
 
 /// So many bytes of a condition are shown.
 const SHOWN: usize = 200;
 
 /// Adds a line.
-fn add(lines: &mut Vec<Vec<u8>>, line: String) -> Result<(), AllocError> {
+pub(crate) fn add(lines: &mut Vec<Vec<u8>>, line: String) -> Result<(), AllocError> {
     lines.push(line.into_bytes())?;
     Ok(())
 }
@@ -43,18 +43,27 @@ fn add_condition(
     Ok(())
 }
 
+/// Adds the conditions that are to be true in each state.
+pub(crate) fn add_always(
+    alloc: Global,
+    lines: &mut Vec<Vec<u8>>,
+    always: &[Condition<'_>],
+) -> Result<(), AllocError> {
+    for k in 0..always.len() {
+        let number = k + 1;
+        let name = format!(in alloc; "condition {number}")?;
+        add_condition(alloc, lines, name, &always[k])?;
+    }
+    Ok(())
+}
+
 /// Adds the conditions.
 fn add_conditions(
     alloc: Global,
     lines: &mut Vec<Vec<u8>>,
     conditions: &Conditions<'_>,
 ) -> Result<(), AllocError> {
-    let always = conditions.always.as_slice();
-    for k in 0..always.len() {
-        let number = k + 1;
-        let name = format!(in alloc; "condition {number}")?;
-        add_condition(alloc, lines, name, &always[k])?;
-    }
+    add_always(alloc, lines, conditions.always.as_slice())?;
     if let Some(condition) = &conditions.when_quiet {
         add_condition(
             alloc,
@@ -69,16 +78,22 @@ fn add_conditions(
     Ok(())
 }
 
+/// Which faults are looked for where there are so many conditions that are to be true in each state.
+pub(crate) fn looked_for(alloc: Global, conditions: usize) -> Result<String, AllocError> {
+    let mut line = String::from_str(alloc, "looked for: clash, outside, exhausted")?;
+    for number in 1..=conditions {
+        line.push_str(format!(in alloc; ", condition {number}")?.as_str())?;
+    }
+    Ok(line)
+}
+
 /// Adds the line that says which faults were looked for.
 fn add_looked_for(
     alloc: Global,
     lines: &mut Vec<Vec<u8>>,
     conditions: &Conditions<'_>,
 ) -> Result<(), AllocError> {
-    let mut line = String::from_str(alloc, "looked for: clash, outside, exhausted")?;
-    for number in 1..=conditions.always.len() {
-        line.push_str(format!(in alloc; ", condition {number}")?.as_str())?;
-    }
+    let mut line = looked_for(alloc, conditions.always.len())?;
     if conditions.when_quiet.is_some() {
         line.push_str(", deadlock")?;
     }
@@ -131,25 +146,23 @@ fn add_crowd(
     Ok(())
 }
 
-/// Adds the line that shows how the run under the script is made by `asm`.
-fn add_command(
+/// Adds the line that shows how the run under the script is made by `asm`, of a specification in the
+/// file of this name.
+pub(crate) fn add_command(
     alloc: Global,
     lines: &mut Vec<Vec<u8>>,
-    settings: &Settings<'_>,
-    finding: &Finding,
+    bad: &BadRun,
+    turns: u32,
+    spec: &str,
 ) -> Result<(), AllocError> {
-    let Finding::Bad(bad) = finding else {
-        return Ok(());
-    };
     let steps = steps_shown(bad.fault, bad.step);
     let mut line = format!(in alloc; "asm --steps {steps} --script THIS")?;
-    if settings.turns != 1000 {
-        let turns = settings.turns;
+    if turns != 1000 {
         line.push_str(format!(in alloc; " --turns {turns}")?.as_str())?;
     }
-    if settings.spec != "-" {
+    if spec != "-" {
         line.push_str(" ")?;
-        line.push_str(settings.spec)?;
+        line.push_str(spec)?;
     }
     add(lines, line)
 }
@@ -168,6 +181,8 @@ pub(crate) fn facts(
     add_conditions(alloc, &mut lines, conditions)?;
     add_looked_for(alloc, &mut lines, conditions)?;
     add_counts(alloc, &mut lines, answered)?;
-    add_command(alloc, &mut lines, settings, &answered.finding)?;
+    if let Finding::Bad(bad) = &answered.finding {
+        add_command(alloc, &mut lines, bad, settings.turns, settings.spec)?;
+    }
     Ok(lines)
 }

@@ -4,7 +4,7 @@ ghost use Rattle.std.specs.String.{string_bytes};
 ghost use Rattle.asm_state.specs.Signature.{count_of, state_of};
 ghost use Rattle.asm_state.specs.declared.operation.Op.{Op};
 ghost use Rattle.asm_syntax.specs.Views.{spec_of};
-ghost use Rattle.asm_syntax.specs.declared.term.Term.{Term};
+ghost use Rattle.asm_syntax.specs.declared.term.Term.{Term as Code};
 ghost use Rattle.asm_check.specs.Shapes.{shape_of};
 ghost use Rattle.asm_reader.specs.ScriptLines as lines;
 ghost use Rattle.asm_reader.specs.ScriptText.{IsScript};
@@ -13,35 +13,48 @@ ghost use Rattle.asm_explore_tool.specs.Conditions.{IsJoined};
 ghost use Rattle.asm_explore_tool.specs.Replay.{IsAfter};
 ghost use Rattle.asm_explore_tool.specs.Words.{BadTells, IsBroken, WordsTell, shown_after};
 
-use crate::asked::Asked;
 use crate::broken::broken_in;
 use crate::confirm::{end_words, steps_shown};
 use crate::fault::Fault;
 use crate::replay::state_after;
+use asm_check::Checked;
 use asm_explore::{BadRun, Fault as StepFault, Finding};
 use asm_reader::{one_script, read_script};
 use asm_state::state::State;
 use asm_syntax::Refused;
+use asm_syntax::term::Term;
 use std::alloc::Global;
 use std::thread::Threads;
 
+/// What is said when the script of a run that goes wrong can't be written.
+pub(crate) const UNWRITTEN: &[u8] = b"its script can't be written";
+
+/// What a run is looked at for: a specification, the condition that is to be true in each state, and
+/// how many turns exhaust an `iterate` or a `while`.
+#[derive(Clone, Copy)]
+pub(crate) struct Subject<'s> {
+    pub checked: &'s Checked,
+    pub always: &'s Option<Term>,
+    pub turns: u32,
+}
+
 /// The words for a state in which a condition isn't true.
-fn words_in<'w>(alloc: Global, asked: &Asked, state: &State) -> Result<Vec<u8>, Fault<'w>>
-    requires { length state.now ≡ count_of (shape_of (spec_of asked.now.checked.spec)) }
-    ensures { (links : List (Op × Term)) → IsJoined links asked.now.question.always →
-        IfOk result (λ words. IsBroken asked.now.checked links (state_of (shape_of (spec_of asked.now.checked.spec)) state.now) words.items) }
+fn words_in<'w>(alloc: Global, subject: &Subject<'_>, state: &State) -> Result<Vec<u8>, Fault<'w>>
+    requires { length state.now ≡ count_of (shape_of (spec_of subject.now.checked.now.spec)) }
+    ensures { (links : List (Op × Code)) → IsJoined links subject.now.always.now →
+        IfOk result (λ words. IsBroken subject.now.checked.now links (state_of (shape_of (spec_of subject.now.checked.now.spec)) state.now) words.items) }
 {
-    match broken_in(alloc, &asked.checked, &asked.question.always, state)? {
+    match broken_in(alloc, subject.checked, subject.always, state)? {
         Some(words) => Ok(words),
         None => Err(Fault::Unconfirmed),
     }
 }
 
 /// The last state of the run under the script that was found.
-fn last_state<'w>(alloc: Global, asked: &Asked, bad: &BadRun) -> Result<State, Fault<'w>>
-    ensures whole { IfOk result (λ s. length s ≡ count_of (shape_of (spec_of asked.now.checked.spec))) }
-    ensures after { let s = spec_of asked.now.checked.spec in (script : lines.Script) → IsScript (string_bytes bad.now.script) script →
-        IfOk result (λ A. IsAfter (specification_of s) asked.now.question.turns script (shown_after bad.now.fault bad.now.step) (state_of (shape_of s) A)) }
+fn last_state<'w>(alloc: Global, subject: &Subject<'_>, bad: &BadRun) -> Result<State, Fault<'w>>
+    ensures whole { IfOk result (λ s. length s ≡ count_of (shape_of (spec_of subject.now.checked.now.spec))) }
+    ensures after { let s = spec_of subject.now.checked.now.spec in (script : lines.Script) → IsScript (string_bytes bad.now.script) script →
+        IfOk result (λ A. IsAfter (specification_of s) subject.now.turns script (shown_after bad.now.fault bad.now.step) (state_of (shape_of s) A)) }
 {
     let Ok(steps) = u32::try_from(steps_shown(bad.fault, bad.step)) else {
         return Err(Fault::Unconfirmed);
@@ -52,29 +65,39 @@ fn last_state<'w>(alloc: Global, asked: &Asked, bad: &BadRun) -> Result<State, F
         Err(Refused::Memory) => return Err(Fault::Memory),
         Err(Refused::Named(_)) => return Err(Fault::Unconfirmed),
     };
-    match state_after(alloc, &asked.checked, asked.question.turns, &script, steps)? {
+    match state_after(alloc, subject.checked, subject.turns, &script, steps)? {
         Some(state) => Ok(state),
         None => Err(Fault::Unconfirmed),
     }
 }
 
+/// The words for a first state in which a condition isn't true.
+pub(crate) fn first_words<'w>(alloc: Global, subject: &Subject<'_>) -> Result<Vec<u8>, Fault<'w>>
+    ensures { (links : List (Op × Code)) → IsJoined links subject.now.always.now →
+        IfOk result (λ words. IsBroken subject.now.checked.now links (specification_of (spec_of subject.now.checked.now.spec)).initial words.items) }
+{
+    let first = State::initial(alloc, subject.checked.signature())?;
+    let words = words_in(alloc, subject, &first)?;
+    Ok(words)
+}
+
 /// The words for a run that goes wrong. The run is made again.
-fn bad_words<'w, R: Threads + Sync>(
+pub(crate) fn bad_words<'w, R: Threads + Sync>(
     rt: &R,
     alloc: Global,
     text: &[u8],
-    asked: &Asked,
+    subject: &Subject<'_>,
     bad: &BadRun,
 ) -> Result<Vec<u8>, Fault<'w>>
-    ensures { (links : List (Op × Term)) → IsJoined links asked.now.question.always →
-        IfOk result (λ words. BadTells asked.now.checked links asked.now.question.turns bad.now words.items) }
+    ensures { (links : List (Op × Code)) → IsJoined links subject.now.always.now →
+        IfOk result (λ words. BadTells subject.now.checked.now links subject.now.turns bad.now words.items) }
 {
-    let end = end_words(rt, alloc, text, asked.question.turns, bad)?;
+    let end = end_words(rt, alloc, text, subject.turns, bad)?;
     match bad.fault {
         StepFault::Exhausted | StepFault::Inconsistent => Ok(end),
         StepFault::Wrong => {
-            let last = last_state(alloc, asked, bad)?;
-            words_in(alloc, asked, &last)
+            let last = last_state(alloc, subject, bad)?;
+            words_in(alloc, subject, &last)
         }
         StepFault::Deadlock => Ok(Vec::from_slice(alloc, b"deadlock")?),
     }
@@ -85,19 +108,16 @@ pub(crate) fn fault_words<'w, R: Threads + Sync>(
     rt: &R,
     alloc: Global,
     text: &[u8],
-    asked: &Asked,
+    subject: &Subject<'_>,
     finding: &Finding,
 ) -> Result<Vec<u8>, Fault<'w>>
-    ensures { (links : List (Op × Term)) → IsJoined links asked.now.question.always →
-        IfOk result (λ words. WordsTell asked.now.checked links asked.now.question.turns finding.now words.items) }
+    ensures { (links : List (Op × Code)) → IsJoined links subject.now.always.now →
+        IfOk result (λ words. WordsTell subject.now.checked.now links subject.now.turns finding.now words.items) }
 {
     match finding {
-        Finding::Bad(bad) => bad_words(rt, alloc, text, asked, bad),
-        Finding::WrongFirst => {
-            let first = State::initial(alloc, asked.checked.signature())?;
-            words_in(alloc, asked, &first)
-        }
-        Finding::Unwritten(_) => Ok(Vec::from_slice(alloc, b"its script can't be written")?),
+        Finding::Bad(bad) => bad_words(rt, alloc, text, subject, bad),
+        Finding::WrongFirst => first_words(alloc, subject),
+        Finding::Unwritten(_) => Ok(Vec::from_slice(alloc, UNWRITTEN)?),
         Finding::Closed
         | Finding::SafeTo(_)
         | Finding::TooManyStates(_)

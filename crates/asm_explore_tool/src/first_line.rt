@@ -21,7 +21,12 @@ fn place(alloc: Global, fault: Fault, step: u64) -> Result<String, AllocError>
 }
 
 /// The line of a fault of a step, which these words describe.
-fn of_fault(alloc: Global, fault: Fault, step: u64, words: &[u8]) -> Result<Vec<u8>, AllocError>
+pub(crate) fn of_fault(
+    alloc: Global,
+    fault: Fault,
+    step: u64,
+    words: &[u8],
+) -> Result<Vec<u8>, AllocError>
     ensures { IfOk result (λ line. line.items ≡ fault_line fault step words.now) }
 {
     let place = place(alloc, fault, step)?;
@@ -31,7 +36,7 @@ fn of_fault(alloc: Global, fault: Fault, step: u64, words: &[u8]) -> Result<Vec<
 }
 
 /// The line of a first state in which a condition isn't true.
-fn of_first(alloc: Global, words: &[u8]) -> Result<Vec<u8>, AllocError>
+pub(crate) fn of_first(alloc: Global, words: &[u8]) -> Result<Vec<u8>, AllocError>
     ensures { IfOk result (λ line. line.items ≡ codes "fault after step 0: " ++ words.now) }
 {
     let mut line = Vec::from_slice(alloc, b"fault after step 0: ")?;

@@ -3,7 +3,7 @@ ghost use Rattle.std.specs.Prelude.{◌≡◌, ◌++◌, List, ℕ, map, option_
 ghost use Rattle.clap.specs.Walk.{texts};
 ghost use Rattle.asm_explore_tool.specs.Conditions.{text_of, texts_of};
 ghost use Rattle.asm_tool.specs.Statuses.{IsFront};
-ghost use Rattle.asm_explore_tool.specs.Given.{AreFronts, AreGiven, IsText, most_bytes};
+ghost use Rattle.asm_explore_tool.specs.Given.{AreAlwaysGiven, AreFronts, AreGiven, IsText, most_bytes};
 
 use crate::conditions::{Condition, Conditions};
 use crate::fault::{Fault, Source};
@@ -108,7 +108,22 @@ fn with_files<'w, F: Folder>(
     Ok(all)
 }
 
-/// The conditions that the settings give: first those of words, then those of files.
+/// The conditions that are to be true in each state: first those that words give, then those in the
+/// files of these names.
+pub(crate) fn always_given<'w, F: Folder>(
+    folder: &F,
+    alloc: Global,
+    words: &[&'w str],
+    names: &[&'w str],
+) -> Result<Vec<Condition<'w>>, Fault<'w>>
+    ensures { IfOk result (λ all. AreAlwaysGiven (F.contents folder.now) (texts words.now) (texts names.now) (texts_of all.items)) }
+{
+    let first = from_words(alloc, words)?;
+    let all = with_files(folder, alloc, names, first)?;
+    Ok(all)
+}
+
+/// The conditions that the settings give.
 pub(crate) fn conditions<'w, F: Folder>(
     folder: &F,
     alloc: Global,
@@ -116,8 +131,8 @@ pub(crate) fn conditions<'w, F: Folder>(
 ) -> Result<Conditions<'w>, Fault<'w>>
     ensures { IfOk result (AreGiven (F.contents folder.now) settings.now) }
 {
-    let words = from_words(alloc, settings.always.as_slice())?;
-    let always = with_files(folder, alloc, settings.always_files.as_slice(), words)?;
+    let words = settings.always.as_slice();
+    let always = always_given(folder, alloc, words, settings.always_files.as_slice())?;
     let when_quiet = maybe_given(alloc, Source::DeadlockUnless, settings.when_quiet)?;
     let within = maybe_given(alloc, Source::Within, settings.within)?;
     Ok(Conditions {

@@ -2,6 +2,7 @@
 //! its status.
 #![tactic(auto)]
 
+mod arguments;
 pub mod asked;
 mod assignment_line;
 mod broken;
@@ -27,6 +28,10 @@ mod help;
 pub mod laws;
 mod place_text;
 mod position;
+pub mod random_asked;
+mod random_facts;
+mod random_report;
+mod random_words;
 mod replay;
 pub mod report;
 mod run_texts;
@@ -36,6 +41,7 @@ pub mod settings;
 pub mod status;
 mod text_place;
 mod texts;
+mod trace_lines;
 mod unmet;
 mod value_text;
 pub mod words;

@@ -1,9 +1,9 @@
 //! What is printed of an answer.
-ghost use Rattle.std.specs.Prelude.{◌≡◌, ◌∷◌, List, IfOk};
+ghost use Rattle.std.specs.Prelude.{◌≡◌, ◌∷◌, List, None, cond, option_map, IfOk};
 ghost use Rattle.asm_state.specs.declared.operation.Op.{Op};
 ghost use Rattle.asm_syntax.specs.declared.term.Term.{Term};
 ghost use Rattle.asm_explore_tool.specs.Conditions.{IsJoined};
-ghost use Rattle.asm_explore_tool.specs.Report.{IsReport, IsWholeOr, script_of as found_script, status_of as found_status};
+ghost use Rattle.asm_explore_tool.specs.Report.{IsPrinted, IsReport, IsWholeOr, bad_of as found_bad, script_in, status_of as found_status};
 ghost use Rattle.asm_explore_tool.specs.Comments.{comments as comments_of, lines_of};
 
 use crate::asked::Asked;
@@ -11,10 +11,11 @@ use crate::comment::comments;
 use crate::conditions::Conditions;
 use crate::facts::facts;
 use crate::fault::Fault;
-use crate::fault_words::fault_words;
+use crate::fault_words::{Subject, fault_words};
 use crate::first_line::first_line;
 use crate::settings::Settings;
-use asm_explore::{Answered, Finding};
+use crate::trace_lines::add_trace;
+use asm_explore::{Answered, BadRun, Finding};
 use std::alloc::{AllocError, Global};
 use std::thread::Threads;
 
@@ -39,14 +40,31 @@ fn status_of(finding: &Finding) -> u8
     }
 }
 
-/// The script that is found, if there is one.
-fn script_of(finding: &Finding) -> &[u8]
-    ensures { result.now ≡ found_script finding.now }
+/// The run that is found, if there is one.
+fn bad_of(finding: &Finding) -> Option<&BadRun>
+    ensures { option_map (λ bad. bad.now) result ≡ found_bad finding.now }
 {
     match finding {
-        Finding::Bad(bad) => bad.script.as_bytes(),
-        _ => &[],
+        Finding::Bad(bad) => Some(bad),
+        _ => None,
     }
+}
+
+/// The script of the run that is found, if there is one.
+fn script_of(bad: Option<&BadRun>) -> &[u8]
+    ensures { result.now ≡ script_in (option_map (λ bad. bad.now) bad.entry) }
+{
+    match bad {
+        Some(bad) => bad.script.as_bytes(),
+        None => &[],
+    }
+}
+
+/// The run that is found, where its trace is asked for.
+fn shown(asks: bool, bad: Option<&BadRun>) -> Option<&BadRun>
+    ensures { option_map (λ bad. bad.now) result ≡ cond asks (option_map (λ bad. bad.now) bad.entry) None }
+{
+    if asks { bad } else { None }
 }
 
 /// A first comment and others, and behind them the script, unless that is more than a script may
@@ -67,6 +85,26 @@ pub(crate) fn with_comments(
     Ok(whole)
 }
 
+/// A first comment and others, and behind them the script of the run that is found, if there is one.
+/// Where its trace is asked for, the other comments end with the lines of it.
+pub(crate) fn printed<'w, R: Threads + Sync>(
+    rt: &R,
+    alloc: Global,
+    text: &[u8],
+    turns: u32,
+    asks: bool,
+    first: &[u8],
+    facts: Vec<Vec<u8>>,
+    bad: Option<&BadRun>,
+) -> Result<Vec<u8>, Fault<'w>>
+    ensures { IfOk result (λ whole. IsPrinted text.now turns asks first.now (option_map (λ bad. bad.now) bad.entry) whole.items) }
+{
+    let mut others = facts;
+    add_trace(rt, alloc, text, turns, shown(asks, bad), &mut others)?;
+    let whole = with_comments(alloc, first, others.as_slice(), script_of(bad))?;
+    Ok(whole)
+}
+
 /// What is printed of an answer to what was asked of the specification with this text.
 pub(crate) fn reported<'w, R: Threads + Sync>(
     rt: &R,
@@ -79,17 +117,27 @@ pub(crate) fn reported<'w, R: Threads + Sync>(
 ) -> Result<Report, Fault<'w>>
     ensures status { IfOk result (λ report. report.status ≡ found_status answered.now.finding) }
     ensures text { (links : List (Op × Term)) → IsJoined links asked.now.question.always →
-        IfOk result (λ report. IsReport asked.now.checked links asked.now.question.turns answered.now.finding report.text.items) }
+        IfOk result (λ report. IsReport text.now asked.now.question.turns settings.now.trace asked.now.checked links answered.now.finding report.text.items) }
 {
     let finding = &answered.finding;
-    let words = fault_words(rt, alloc, text, asked, finding)?;
+    let bad = bad_of(finding);
+    let subject = Subject {
+        checked: &asked.checked,
+        always: &asked.question.always,
+        turns: asked.question.turns,
+    };
+    let words = fault_words(rt, alloc, text, &subject, finding)?;
     let first = first_line(alloc, finding, words.as_slice())?;
     let facts = facts(alloc, text, &asked.checked, conditions, settings, answered)?;
-    let text = with_comments(
+    let text = printed(
+        rt,
         alloc,
+        text,
+        subject.turns,
+        settings.trace,
         first.as_slice(),
-        facts.as_slice(),
-        script_of(finding),
+        facts,
+        bad,
     )?;
     let status = status_of(finding);
     Ok(Report { text, status })

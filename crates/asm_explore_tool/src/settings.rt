@@ -7,6 +7,8 @@ ghost use Rattle.asm_explore_tool.specs.Said.{is_input};
 pub enum Task<'w> {
     /// To look at every run.
     All(Settings<'w>),
+    /// To look at random runs.
+    Random(RandomSettings<'w>),
     /// To show the choices of one run.
     Choices(RunSettings<'w>),
     /// To show the assignments by which one run ends.
@@ -34,6 +36,29 @@ pub struct Settings<'w> {
     pub when_quiet: Option<&'w str>,
     /// From states in which this condition isn't true no run is followed.
     pub within: Option<&'w str>,
+    /// Whether the trace of the run that is found is shown.
+    pub trace: bool,
+}
+
+/// What the words after `random` ask for.
+#[derive(Debug, Drop)]
+pub struct RandomSettings<'w> {
+    /// The name of the specification's file; `-` is standard input.
+    pub spec: &'w str,
+    /// Each run is of at most so many steps.
+    pub steps: u32,
+    /// So many turns exhaust an `iterate` or a `while`.
+    pub turns: u32,
+    /// The conditions that are to be true in each state, in the order of the words.
+    pub always: Vec<&'w str>,
+    /// The names of the files of further such conditions.
+    pub always_files: Vec<&'w str>,
+    /// So many runs are made, or fewer where one goes wrong.
+    pub runs: u32,
+    /// What is drawn depends on it alone.
+    pub seed: u64,
+    /// Whether the trace of the run that is found is shown.
+    pub trace: bool,
 }
 
 /// What the words after `choices` or `clash` ask for: of which run something is shown.

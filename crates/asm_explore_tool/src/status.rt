@@ -1,7 +1,7 @@
 //! The program over any reader and writers, and the status that it ends with.
 ghost use Rattle.std.specs.Prelude.{◌≡◌, ◌≢◌, false, map, IfOk, OnOk};
 ghost use Rattle.std.specs.Io.KnownBytes.{Appends};
-ghost use Rattle.asm_explore_tool.specs.Answered.{Answers, AnswersRun, AnswersTask, AreTaken, IsAnswered};
+ghost use Rattle.asm_explore_tool.specs.Answered.{Answers, AnswersRandom, AnswersRun, AnswersTask, AreTaken, IsAnswered};
 ghost use Rattle.asm_explore_tool.specs.Faults.{IsOfWords, status_of_fault};
 ghost use Rattle.asm_explore_tool.specs.Report.{IsReported};
 ghost use Rattle.asm_explore_tool.specs.RunReport.{AreChoicesReported, IsClashReported};
@@ -13,10 +13,11 @@ use crate::clash_report::clash_report;
 use crate::conditions::Conditions;
 use crate::explain::explain;
 use crate::fault::{Fault, Source};
-use crate::given::{conditions, text};
+use crate::given::{always_given, conditions, text};
+use crate::random_report::random_report;
 use crate::report::{Report, reported};
 use crate::run_texts::run_texts;
-use crate::settings::{RunSettings, Settings, Task};
+use crate::settings::{RandomSettings, RunSettings, Settings, Task};
 use crate::words::settings;
 use asm_explore::whole::explore_all;
 use asm_run::sink::Sink;
@@ -97,6 +98,7 @@ fn answer_task<'w, R: Threads + Sync, F: Folder, I: Read + Drop, O: Write>(
 {
     match task {
         Task::All(settings) => answer_settings(rt, folder, alloc, settings, input, out),
+        Task::Random(settings) => answer_random(rt, folder, alloc, settings, input, out),
         Task::Choices(settings) => answer_choices(rt, folder, alloc, settings, input, out),
         Task::Clash(settings) => answer_clash(rt, folder, alloc, settings, input, out),
     }
@@ -155,6 +157,26 @@ fn answer_settings<'w, R: Threads + Sync, F: Folder, I: Read + Drop, O: Write>(
     let text = text(folder, alloc, Source::Specification(spec), spec, input)?;
     let conditions = conditions(folder, alloc, settings)?;
     let report = explored(rt, alloc, text.as_slice(), &conditions, settings)?;
+    written(out, report.text.as_slice())?;
+    Ok(report.status)
+}
+
+/// Writes the answer to settings of `random`, and returns its status.
+fn answer_random<'w, R: Threads + Sync, F: Folder, I: Read + Drop, O: Write>(
+    rt: &R,
+    folder: &F,
+    alloc: Global,
+    settings: &RandomSettings<'w>,
+    input: I,
+    out: &mut O,
+) -> Result<u8, Fault<'w>>
+    ensures { IfOk result (AnswersRandom (F.contents folder.now) (I.remaining input) (O.contents out.old) (O.contents out.new) settings.now) }
+{
+    let spec = settings.spec;
+    let (words, names) = (settings.always.as_slice(), settings.always_files.as_slice());
+    let text = text(folder, alloc, Source::Specification(spec), spec, input)?;
+    let conditions = always_given(folder, alloc, words, names)?;
+    let report = random_report(rt, alloc, text.as_slice(), conditions.as_slice(), settings)?;
     written(out, report.text.as_slice())?;
     Ok(report.status)
 }

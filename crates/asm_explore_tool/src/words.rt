@@ -1,23 +1,22 @@
 //! The words that the program is called with.
-ghost use Rattle.std.specs.Prelude.{◌≡◌, ◌∷◌, [], Some, map, option_map, codes, pos, true, is_some, IsTrue, IfOk, IfErr};
-ghost use Rattle.std.specs.Str.Parse.{signed_digits_value};
+ghost use Rattle.std.specs.Prelude.{◌≡◌, ◌∷◌, [], Some, map, option_map, codes, true, is_some, IsTrue, IfOk, IfErr};
 ghost use Rattle.clap.specs.Kinds.{HasKind};
 ghost use Rattle.clap.specs.Values.{kind_of};
 ghost use Rattle.clap.specs.Walk.{texts};
-ghost use Rattle.clap.specs.Words.{app_of, first_value, found_of, rule_of, rows_of};
+ghost use Rattle.clap.specs.Words.{app_of, found_of, rows_of};
 ghost use Rattle.clap.specs.declared.error.kind.ErrorKind.TheVariants.{ArgumentConflict, OutOfMemory};
-ghost use Rattle.asm_tool.specs.CommandLine as tool;
-ghost use Rattle.asm_tool.specs.Said.{HasNumber};
 ghost use Rattle.asm_explore_tool.specs.CommandLine as line;
 ghost use Rattle.asm_explore_tool.specs.CommandLine.{refusals, run_refusals};
-ghost use Rattle.asm_explore_tool.specs.Said.{AreParsed, AreRunParsed, AreRunRead, AreRunSaid, AreSaid, AreSaidBehind, ExplainsBehind, ExplainsRun, IsFaultOf, all_of, are_in_range, are_run_in_range, is_task_in_range, run_rows};
+ghost use Rattle.asm_explore_tool.specs.Said.{AreParsed, AreRunParsed, AreRunRead, AreRunSaid, AreSaid, AreSaidBehind, ExplainsBehind, ExplainsRun, IsFaultOf, are_in_range, are_run_in_range, is_task_in_range, run_rows};
 
+use crate::arguments::{flag, is_set, number, number_of, text, texts, texts_of, word};
 use crate::fault::Fault;
 use crate::help;
+use crate::random_words::{of_random, random};
 use crate::settings::{RunSettings, Settings, Task, is_standard_input};
 use asm_run::limits::{Bounds, STEPS, TURNS};
 use clap::error::ErrorKind;
-use clap::{Arg, ArgAction, ArgMatches, Command, Error};
+use clap::{ArgMatches, Command, Error};
 use std::alloc::{AllocError, Global};
 use std::convert::AsStr;
 
@@ -33,8 +32,17 @@ pub const OUTCOMES: Bounds = Bounds {
     most: 1_000_000,
 };
 
+/// Of `RandomSettings::runs`.
+pub const RUNS: Bounds = Bounds {
+    least: 1,
+    most: 1_000_000,
+};
+
 /// The command that looks at every run.
 const ALL: &str = "all";
+
+/// The command that looks at random runs.
+const RANDOM: &str = "random";
 
 /// The command that shows the choices of one run.
 const CHOICES: &str = "choices";
@@ -70,6 +78,9 @@ pub fn settings<'w, S: AsStr>(alloc: Global, words: &'w [S]) -> Result<Task<'w>,
         Some((command, words)) if command.as_str() == ALL => {
             Ok(Task::All(of_all(alloc, words)?))
         }
+        Some((command, words)) if command.as_str() == RANDOM => {
+            Ok(Task::Random(of_random(alloc, words)?))
+        }
         Some((command, words)) if command.as_str() == CHOICES => Ok(Task::Choices(of_run(
             alloc,
             CALLED_CHOICES,
@@ -101,6 +112,7 @@ fn of_all<'w, S: AsStr>(alloc: Global, words: &'w [S]) -> Result<Settings<'w>, E
         always_files: texts_of(alloc, &given, "always-file")?,
         when_quiet: given.get_str("deadlock-unless"),
         within: given.get_str("within"),
+        trace: is_set(&given, "trace"),
     })
 }
 
@@ -137,7 +149,8 @@ fn all<'w>(alloc: Global) -> Result<Command<'w>, AllocError>
         .arg(text(alloc, "deadlock-unless", "COND", help::DEADLOCK_UNLESS))?
         .arg(text(alloc, "within", "COND", help::WITHIN))?
         .arg(states)?
-        .arg(outcomes)
+        .arg(outcomes)?
+        .arg(flag(alloc, "trace", help::TRACE))
 }
 
 /// The settings that the words behind `choices` or `clash` give.
@@ -227,66 +240,6 @@ fn run_command<'w>(
         .arg(text(alloc, "script", "FILE", help::SCRIPT))
 }
 
-/// A word of its own.
-fn word<'w>(alloc: Global, name: &'w str, shown: &'w str, help: &'w str) -> Arg<'w>
-    ensures { rule_of result ≡ tool.positional name.entry.now }
-{
-    Arg::new(alloc, name)
-        .value_name(shown)
-        .help(help)
-        .action(ArgAction::Set)
-}
-
-/// The word `--name`, with a text.
-fn text<'w>(alloc: Global, name: &'w str, shown: &'w str, help: &'w str) -> Arg<'w>
-    ensures { rule_of result ≡ tool.option name.entry.now }
-{
-    word(alloc, name, shown, help).long(name)
-}
-
-/// The same, which may be repeated.
-fn texts<'w>(alloc: Global, name: &'w str, shown: &'w str, help: &'w str) -> Arg<'w>
-    ensures { rule_of result ≡ line.repeated (tool.option name.entry.now) }
-{
-    text(alloc, name, shown, help).action(ArgAction::Append)
-}
-
-/// The word `--name`, with a number within these bounds.
-fn number<'w>(alloc: Global, name: &'w str, bounds: Bounds, help: &'w str) -> Arg<'w>
-    ensures { rule_of result ≡ tool.number bounds name.entry.now }
-{
-    Arg::new(alloc, name)
-        .long(name)
-        .value_name("N")
-        .help(help)
-        .action(ArgAction::Set)
-        .value_parser(clap::value_parser!(u32).range(
-            i64::from(bounds.least)..=i64::from(bounds.most),
-        ))
-}
-
-/// The number of an option that has one.
-fn number_of(given: &ArgMatches<'_>, name: &str) -> u32
-    requires { HasNumber (found_of given.now) name.now (record { least = 0; most = 4_294_967_295 }) }
-    ensures { (text : _) → first_value (found_of given.now) name.now ≡ Some text → signed_digits_value 10 text ≡ pos result }
-{
-    given.get_one::<u32>(name).unwrap()
-}
-
-/// The texts of an option, in the order of the words.
-fn texts_of<'w>(
-    alloc: Global,
-    given: &ArgMatches<'w>,
-    name: &str,
-) -> Result<Vec<&'w str>, AllocError>
-    ensures { IfOk result (λ found. texts found.items ≡ all_of name.now (rows_of (found_of given.now))) }
-{
-    match given.get_strs(name) {
-        Some(texts) => texts.to_vec(alloc),
-        None => Ok(Vec::new(alloc)),
-    }
-}
-
 /// What is to be said of words that don't begin with a command.
 fn without_command<'w, S: AsStr>(alloc: Global, words: &'w [S]) -> Result<Error, Error> {
     let mut commands = commands(alloc)?;
@@ -306,6 +259,7 @@ fn commands<'w>(alloc: Global) -> Result<Command<'w>, AllocError> {
         .no_binary_name(true)
         .subcommand_required(true)
         .subcommand(all(alloc)?.name(ALL))?
+        .subcommand(random(alloc)?.name(RANDOM))?
         .subcommand(run_command(alloc, CALLED_CHOICES, help::CHOICES)?.name(CHOICES))?
         .subcommand(run_command(alloc, CALLED_CLASH, help::CLASH)?.name(CLASH))
 }

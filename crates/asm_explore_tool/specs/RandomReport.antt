@@ -1,0 +1,82 @@
+-- What is asked of random runs, by the bytes of a specification's text and of conditions, and what is printed of them.
+--     IsRandomAsked              the specification of the text, and a question with the term of the conditions
+--     random_status finding      1 where a fault is found, and else 0
+--     random_bad finding         the run that is found, if there is one
+--     RandomTells                the words are of the fault that is found, as `WordsTell` says it
+--     random_line                what is found, in a line; these words describe the fault, where there is one
+--     IsRandomReport             comments, of which the first says what is found, and the script
+--     IsRandomReported           what is printed says what is found of the specification with this text
+use Rattle.std.specs.Prelude.{◌≡◌, ℕ, Bool, List, ◌++◌, Option, Some, None, codes, decimal, ⊤}
+use Rattle.asm_state.specs.declared.operation.Op.{Op}
+use Rattle.asm_syntax.specs.Views.{spec_of}
+use Rattle.asm_syntax.specs.declared.term.Term.{Term}
+use Rattle.asm_check.specs.declared.checked.Checked.{Checked}
+use Rattle.asm_meaning.specs.Declarations.{specification_of}
+use Rattle.asm_explore.specs.Conditions.{term_holds}
+use Rattle.asm_explore.specs.declared.answer.BadRun.{BadRun}
+use Rattle.asm_random.specs.RandomAnswers.{Claims}
+use Rattle.asm_random.specs.declared.answer.RandomAnswer.{RandomAnswer}
+use Rattle.asm_random.specs.declared.answer.RandomFinding.{RandomFinding}
+use Rattle.asm_random.specs.declared.answer.RandomFinding.TheVariants as random
+use Rattle.asm_run.specs.Headline.{IsAccepted}
+use Rattle.asm_explore_tool.specs.Asked.{AreAllAsked}
+use Rattle.asm_explore_tool.specs.Conditions.{texts_of}
+use Rattle.asm_explore_tool.specs.FirstLine.{fault_line}
+use Rattle.asm_explore_tool.specs.Report.{IsPrinted}
+use Rattle.asm_explore_tool.specs.Words.{BadTells, IsBroken}
+use Rattle.asm_explore_tool.specs.declared.conditions.Condition.{Condition}
+use Rattle.asm_explore_tool.specs.declared.random_asked.RandomAsked.{RandomAsked}
+use Rattle.asm_explore_tool.specs.declared.report.Report.{Report}
+use Rattle.asm_explore_tool.specs.declared.settings.RandomSettings.{RandomSettings}
+
+pub record IsRandomAsked (text : List ℕ) (conditions : List Condition) (settings : RandomSettings) (asked : RandomAsked) : Type 0 where
+  pub accepted : IsAccepted text (spec_of asked.checked.spec)
+  pub always : AreAllAsked text (texts_of conditions) asked.checked asked.question.always
+  pub turns : asked.question.turns ≡ settings.turns
+  pub steps : asked.question.steps ≡ settings.steps
+  pub runs : asked.question.runs ≡ settings.runs
+  pub seed : asked.question.seed ≡ settings.seed
+
+-- ---- what is printed
+
+abbrev pub random_status : RandomFinding → ℕ
+random_status random.Nothing = 0
+random_status (random.Bad number bad) = 1
+random_status random.WrongFirst = 1
+random_status (random.Unwritten unwritten) = 1
+
+abbrev pub random_bad : RandomFinding → Option BadRun
+random_bad random.Nothing = None
+random_bad (random.Bad number bad) = Some bad
+random_bad random.WrongFirst = None
+random_bad (random.Unwritten unwritten) = None
+
+abbrev pub RandomTells : Checked → List (Op × Term) → (turns : ℕ) → RandomFinding → (words : List ℕ) → Type 0
+RandomTells checked links turns random.Nothing words = ⊤
+RandomTells checked links turns (random.Bad number bad) words = BadTells checked links turns bad words
+RandomTells checked links turns random.WrongFirst words = IsBroken checked links (specification_of (spec_of checked.spec)).initial words
+RandomTells checked links turns (random.Unwritten unwritten) words = ⊤
+
+-- of so many runs that were made, of at most so many steps
+abbrev pub random_line : (runs steps : ℕ) → RandomFinding → (words : List ℕ) → List ℕ
+random_line runs steps random.Nothing words = codes "no fault in " ++ (decimal runs ++ (codes " runs of at most " ++ (decimal steps ++ codes " steps")))
+random_line runs steps (random.Bad number bad) words = fault_line bad.fault bad.step words
+random_line runs steps random.WrongFirst words = codes "fault after step 0: " ++ words
+random_line runs steps (random.Unwritten unwritten) words = fault_line unwritten.fault unwritten.step words
+
+pub record IsRandomReport (text : List ℕ) (asks : Bool) (asked : RandomAsked) (links : List (Op × Term)) (answer : RandomAnswer) (printed : List ℕ) : Type 0 where
+  pub words : List ℕ
+  pub tell : RandomTells asked.checked links asked.question.turns answer.finding words
+  pub are_printed :
+      IsPrinted text asked.question.turns asks (random_line answer.runs asked.question.steps answer.finding words) (random_bad answer.finding) printed
+
+pub record IsRandomReported (text : List ℕ) (conditions : List Condition) (settings : RandomSettings) (report : Report) : Type 0 where
+  pub asked : RandomAsked
+  pub is_asked : IsRandomAsked text conditions settings asked
+  pub answer : RandomAnswer
+  -- what the finding says of the runs of the specification with this text
+  pub claims :
+      let q = asked.question in
+      Claims (specification_of (spec_of asked.checked.spec)) q.turns q.steps (term_holds asked.checked q.always) answer.finding
+  pub status : report.status ≡ random_status answer.finding
+  pub printed : IsRandomReport text settings.trace asked is_asked.always.links answer report.text.items

@@ -1,0 +1,39 @@
+//! What is asked of random runs of a specification, from the texts.
+ghost use Rattle.std.specs.Prelude.{IfOk};
+ghost use Rattle.asm_explore_tool.specs.RandomReport.{IsRandomAsked};
+
+use crate::asked::{all_asked, checked};
+use crate::conditions::Condition;
+use crate::fault::Fault;
+use crate::settings::RandomSettings;
+use asm_check::Checked;
+use asm_random::RandomQuestion;
+use std::alloc::Global;
+
+/// A specification, and what is looked for in random runs of it.
+#[derive(Drop)]
+pub struct RandomAsked {
+    pub checked: Checked,
+    pub question: RandomQuestion,
+}
+
+/// What the settings ask of the specification with this text, by these conditions.
+pub fn ask_random<'w>(
+    alloc: Global,
+    text: &[u8],
+    conditions: &[Condition<'w>],
+    settings: &RandomSettings<'w>,
+) -> Result<RandomAsked, Fault<'w>>
+    ensures { IfOk result (IsRandomAsked text.now conditions.now settings.now) }
+{
+    let checked = checked(alloc, text, settings.spec)?;
+    let always = all_asked(alloc, text, &checked, conditions)?;
+    let question = RandomQuestion {
+        always,
+        turns: settings.turns,
+        steps: settings.steps,
+        runs: settings.runs,
+        seed: settings.seed,
+    };
+    Ok(RandomAsked { checked, question })
+}

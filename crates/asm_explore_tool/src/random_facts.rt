@@ -1,0 +1,52 @@
+//! What is printed of random runs behind the first line.
+use crate::conditions::Condition;
+use crate::facts::{add, add_always, add_command, looked_for};
+use crate::settings::RandomSettings;
+use asm_random::{RandomAnswer, RandomFinding};
+use std::alloc::{AllocError, Global};
+
+/// Adds what is drawn from, and how many runs and steps were made.
+fn add_counts(
+    alloc: Global,
+    lines: &mut Vec<Vec<u8>>,
+    seed: u64,
+    answer: &RandomAnswer,
+) -> Result<(), AllocError> {
+    let RandomAnswer { runs, steps, .. } = answer;
+    add(lines, format!(in alloc; "seed {seed}")?)?;
+    add(lines, format!(in alloc; "runs {runs}")?)?;
+    add(lines, format!(in alloc; "steps {steps}")?)
+}
+
+/// Adds which run was found, and how it is made by `asm`.
+fn add_run(
+    alloc: Global,
+    lines: &mut Vec<Vec<u8>>,
+    settings: &RandomSettings<'_>,
+    answer: &RandomAnswer,
+) -> Result<(), AllocError> {
+    let RandomFinding::Bad { run, bad } = &answer.finding else {
+        return Ok(());
+    };
+    add(lines, format!(in alloc; "run {run}")?)?;
+    if !answer.shortest {
+        let line = String::from_str(alloc, "it may be longer than it need be")?;
+        add(lines, line)?;
+    }
+    add_command(alloc, lines, bad, settings.turns, settings.spec)
+}
+
+/// What is said behind the first line.
+pub(crate) fn random_facts(
+    alloc: Global,
+    conditions: &[Condition<'_>],
+    settings: &RandomSettings<'_>,
+    answer: &RandomAnswer,
+) -> Result<Vec<Vec<u8>>, AllocError> {
+    let mut lines = Vec::new(alloc);
+    add_always(alloc, &mut lines, conditions)?;
+    add(&mut lines, looked_for(alloc, conditions.len())?)?;
+    add_counts(alloc, &mut lines, settings.seed, answer)?;
+    add_run(alloc, &mut lines, settings, answer)?;
+    Ok(lines)
+}

@@ -1,0 +1,135 @@
+//! What is printed of random runs.
+ghost use Rattle.std.specs.Prelude.{◌≡◌, List, option_map, IfOk};
+ghost use Rattle.asm_state.specs.declared.operation.Op.{Op};
+ghost use Rattle.asm_syntax.specs.declared.term.Term.{Term as Code};
+ghost use Rattle.asm_explore_tool.specs.Conditions.{IsJoined};
+ghost use Rattle.asm_explore_tool.specs.RandomReport.{IsRandomReport, IsRandomReported, RandomTells, random_bad, random_line, random_status};
+
+use crate::conditions::Condition;
+use crate::fault::Fault;
+use crate::fault_words::{Subject, UNWRITTEN, bad_words, first_words};
+use crate::first_line::{of_fault, of_first};
+use crate::random_asked::{RandomAsked, ask_random};
+use crate::random_facts::random_facts;
+use crate::report::{Report, printed};
+use crate::settings::RandomSettings;
+use asm_explore::BadRun;
+use asm_random::{RandomAnswer, RandomFinding, random_runs};
+use std::alloc::{AllocError, Global};
+use std::thread::Threads;
+
+/// The status of what is found.
+fn status_of(finding: &RandomFinding) -> u8
+    ensures { result ≡ random_status finding.now }
+{
+    match finding {
+        RandomFinding::Nothing => 0,
+        RandomFinding::Bad { .. } | RandomFinding::WrongFirst | RandomFinding::Unwritten(_) => 1,
+    }
+}
+
+/// The run that is found, if there is one.
+fn bad_of(finding: &RandomFinding) -> Option<&BadRun>
+    ensures { option_map (λ bad. bad.now) result ≡ random_bad finding.now }
+{
+    match finding {
+        RandomFinding::Bad { bad, .. } => Some(bad),
+        _ => None,
+    }
+}
+
+/// The words for the fault that is found, if there is one.
+fn words_of<'w, R: Threads + Sync>(
+    rt: &R,
+    alloc: Global,
+    text: &[u8],
+    subject: &Subject<'_>,
+    finding: &RandomFinding,
+) -> Result<Vec<u8>, Fault<'w>>
+    ensures { (links : List (Op × Code)) → IsJoined links subject.now.always.now →
+        IfOk result (λ words. RandomTells subject.now.checked.now links subject.now.turns finding.now words.items) }
+{
+    match finding {
+        RandomFinding::Nothing => Ok(Vec::new(alloc)),
+        RandomFinding::Bad { bad, .. } => bad_words(rt, alloc, text, subject, bad),
+        RandomFinding::WrongFirst => first_words(alloc, subject),
+        RandomFinding::Unwritten(_) => Ok(Vec::from_slice(alloc, UNWRITTEN)?),
+    }
+}
+
+/// What is found by so many runs of at most so many steps, in a line. These words describe the
+/// fault, where there is one.
+fn line_of(
+    alloc: Global,
+    runs: u32,
+    steps: u32,
+    finding: &RandomFinding,
+    words: &[u8],
+) -> Result<Vec<u8>, AllocError>
+    ensures { IfOk result (λ line. line.items ≡ random_line runs steps finding.now words.now) }
+{
+    match finding {
+        RandomFinding::Nothing => {
+            Ok(format!(in alloc; "no fault in {runs} runs of at most {steps} steps")?.into_bytes())
+        }
+        RandomFinding::Bad { bad, .. } => of_fault(alloc, bad.fault, bad.step, words),
+        RandomFinding::WrongFirst => of_first(alloc, words),
+        RandomFinding::Unwritten(unwritten) => {
+            of_fault(alloc, unwritten.fault, unwritten.step, words)
+        }
+    }
+}
+
+/// What is printed of an answer to what was asked of random runs.
+fn printed_of<'w, R: Threads + Sync>(
+    rt: &R,
+    alloc: Global,
+    text: &[u8],
+    asked: &RandomAsked,
+    conditions: &[Condition<'w>],
+    settings: &RandomSettings<'w>,
+    answer: &RandomAnswer,
+) -> Result<Vec<u8>, Fault<'w>>
+    ensures { (links : List (Op × Code)) → IsJoined links asked.now.question.always →
+        IfOk result (λ whole. IsRandomReport text.now settings.now.trace asked.now links answer.now whole.items) }
+{
+    let finding = &answer.finding;
+    let bad = bad_of(finding);
+    let subject = Subject {
+        checked: &asked.checked,
+        always: &asked.question.always,
+        turns: asked.question.turns,
+    };
+    let steps = asked.question.steps;
+    let words = words_of(rt, alloc, text, &subject, finding)?;
+    let first = line_of(alloc, answer.runs, steps, finding, words.as_slice())?;
+    let facts = random_facts(alloc, conditions, settings, answer)?;
+    let whole = printed(
+        rt,
+        alloc,
+        text,
+        subject.turns,
+        settings.trace,
+        first.as_slice(),
+        facts,
+        bad,
+    )?;
+    Ok(whole)
+}
+
+/// What is printed of random runs of the specification with this text, and the status of that.
+pub(crate) fn random_report<'w, R: Threads + Sync>(
+    rt: &R,
+    alloc: Global,
+    text: &[u8],
+    conditions: &[Condition<'w>],
+    settings: &RandomSettings<'w>,
+) -> Result<Report, Fault<'w>>
+    ensures { IfOk result (IsRandomReported text.now conditions.now settings.now) }
+{
+    let asked = ask_random(alloc, text, conditions, settings)?;
+    let answer = random_runs(alloc, &asked.checked, &asked.question)?;
+    let text = printed_of(rt, alloc, text, &asked, conditions, settings, &answer)?;
+    let status = status_of(&answer.finding);
+    Ok(Report { text, status })
+}

@@ -1,0 +1,47 @@
+//! The trace of the run that was found, line by line.
+ghost use Rattle.std.specs.Prelude.{◌≡◌, ◌++◌, option_map, OnOk};
+ghost use Rattle.asm_explore_tool.specs.Comments.{lines_of};
+ghost use Rattle.asm_explore_tool.specs.TraceLines.{MayShowTrace, text_lines};
+
+use crate::confirm::confirmed;
+use crate::fault::Fault;
+use asm_explore::BadRun;
+use std::alloc::{AllocError, Global};
+use std::thread::Threads;
+
+/// Adds the lines of a text, each without the line feed that ends it.
+fn add_lines(alloc: Global, lines: &mut Vec<Vec<u8>>, text: &[u8]) -> Result<(), AllocError>
+    ensures { OnOk result (lines_of lines.new.items ≡ lines_of lines.old.items ++ text_lines text.now) }
+{
+    let mut start = 0;
+    for end in 0..text.len() {
+        if text[end] == b'\n' {
+            lines.push(Vec::from_slice(alloc, &text[start..end])?)?;
+            start = end + 1;
+        }
+    }
+    if start < text.len() {
+        lines.push(Vec::from_slice(alloc, &text[start..])?)?;
+    }
+    Ok(())
+}
+
+/// Adds the lines of the trace of the run that was found, if one is to be shown. The run is made
+/// again.
+pub(crate) fn add_trace<'w, R: Threads + Sync>(
+    rt: &R,
+    alloc: Global,
+    text: &[u8],
+    turns: u32,
+    shown: Option<&BadRun>,
+    lines: &mut Vec<Vec<u8>>,
+) -> Result<(), Fault<'w>>
+    ensures { OnOk result (MayShowTrace text.now turns (option_map (λ bad. bad.now) shown.entry) (lines_of lines.new.items)) }
+{
+    let Some(bad) = shown else {
+        return Ok(());
+    };
+    let ended = confirmed(rt, alloc, text, turns, bad)?;
+    add_lines(alloc, lines, ended.trace.as_slice())?;
+    Ok(())
+}
