@@ -7,6 +7,7 @@ mod LineParts
 mod Links
 mod Options
 mod Printed
+mod RandomOptions
 mod ReadNumbers
 mod ReadTexts
 mod RunMore
@@ -16,5 +17,6 @@ mod RunTold
 mod Skipped
 mod Spelled
 mod Told
+mod TraceText
 mod Views
 mod WholeLines

@@ -1,12 +1,14 @@
 -- The numbers that are read of what a parse finds are those of its rows, and lie in the ranges that it looks at.
+--     read_unsigned      what is read of a text that passed as a number of 64 bits
 use Rattle.std.proofs.Common.{◌≡◌, ◌∙◌, ◌≤◌, ap, ℕ, ℤ, true, List, [], ◌∷◌, map, Option, Some, None, sym, subst, arith, refl}
-use Rattle.std.specs.Prelude.{◌≤ℤ◌, nat_le, pos, find, option_and_then, option_map, slice_get}
+use Rattle.std.specs.Prelude.{Err, Ok, Result, ◌≤ℤ◌, nat_le, pos, find, option_and_then, option_map, slice_get}
 use Rattle.std.specs.Borrow.{Bor}
 use Rattle.std.proofs.lemmas.Bool.{and_from, le-leb}
 use Rattle.std.specs.Str.{bytes_eq}
-use Rattle.std.specs.Str.Parse.{signed_digits_value}
+use Rattle.std.specs.Str.Parse.{ParsesUnsigned, digits_value, signed_digits_value, without_leading_plus}
 use Rattle.std.proofs.lemmas.Int.{ints}
-use Rattle.clap.specs.Matches.{first_value}
+use Rattle.clap.specs.Matches.{ReadsOne, first_value}
+use Rattle.clap.specs.Values.{IsUnsignedIn}
 use Rattle.clap.specs.Walk.{Row, Text, first_of, row_of, rows_of}
 use Rattle.clap.specs.Facts.{Entry}
 use Rattle.clap.proofs.WalkLemmas.{find_row}
@@ -15,6 +17,7 @@ use Rattle.clap.specs.declared.parser.matches.Found.{Found}
 use Rattle.asm_run.specs.Limits.{is_within}
 use Rattle.asm_run.specs.declared.limits.Bounds.{Bounds}
 use Rattle.asm_tool.specs.Said.{HasNumber, IsNumber}
+use Rattle.asm_explore_tool.specs.Said.{HasUnsigned, IsUnsigned}
 
 -- an entry within some bounds has a number within wider ones
 pub wider : (f : Found) (name : Text) (bounds : Bounds) → bounds.most ≤ 4_294_967_295 → HasNumber f name bounds
@@ -52,6 +55,21 @@ module _ (f : Found) (name : Text) (bounds : Bounds) (has : HasNumber f name bou
 
   pub is_number : (rows : List Row) → rows_of f ≡ rows → IsNumber rows name n
   is_number rows is = record {
+    text = has.text;
+    is_given = ap (first_of name) (sym is) ∙ (first_of_rows f name ∙ has.is_first);
+    is_read = read has.text has.is_first;
+  }
+
+pub read_unsigned : (E : Type 0) (G : List ℕ → Result ℕ E → Type 0) (most : ℕ) (t : List ℕ) (r : Option ℕ) → ReadsOne G t r
+    → ((u : List ℕ) (x : Result ℕ E) → G u x → ParsesUnsigned 64 10 u x) → IsUnsignedIn 0 most t
+    → (n : ℕ) × (r ≡ Some n) × (digits_value 10 (without_leading_plus t) ≡ n)
+read_unsigned E G most t (Some v) read only passed = (v, refl, sym (only t (Ok v) read).1)
+read_unsigned E G most t None read only passed = absurd (only t (Err read.0) read.1 (passed.0, passed.1))
+
+module _ (f : Found) (name : Text) (has : HasUnsigned f name) (n : ℕ)
+    (read : (text : Text) → first_value f name ≡ Some text → digits_value 10 (without_leading_plus text) ≡ n) where
+  pub is_unsigned : (rows : List Row) → rows_of f ≡ rows → IsUnsigned rows name n
+  is_unsigned rows is = record {
     text = has.text;
     is_given = ap (first_of name) (sym is) ∙ (first_of_rows f name ∙ has.is_first);
     is_read = read has.text has.is_first;

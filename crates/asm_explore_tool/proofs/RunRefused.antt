@@ -40,3 +40,10 @@ module _ (words : List Text) (error : Error) where
 pub other_commands : (command : Text) → command ≡ codes "all" → ¬ (IsOfRun command)
 other_commands command all (inl choices) = omega (arith, ap length (sym all ∙ choices))
 other_commands command all (inr clash) = omega (arith, ap length (sym all ∙ clash))
+
+pub not_random : (command : Text) → command ≡ codes "random" → ¬ (IsOfRun command)
+not_random command random (inl choices) = omega (arith, ap length (sym random ∙ choices))
+not_random command random (inr clash) = omega (arith, ap length (sym random ∙ clash))
+
+pub not_all : (command : Text) → command ≡ codes "all" → ¬ (command ≡ codes "random")
+not_all command all random = omega (arith, ap length (sym all ∙ random))

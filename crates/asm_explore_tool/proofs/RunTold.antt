@@ -46,6 +46,7 @@ once_said words settings said = twice_alike words settings said.1.spec said.1.sc
 pub never_twice : (words : List Text) (asked : Task) → AreSaidBehind words asked → reads_task_twice asked ≡ false
 never_twice [] asked said = absurd said
 never_twice (command ∷ words) (task.All settings) said = refl
+never_twice (command ∷ words) (task.Random settings) said = refl
 never_twice (command ∷ words) (task.Choices settings) said = once_said words settings said.1
 never_twice (command ∷ words) (task.Clash settings) said = once_said words settings said.1
 

@@ -62,7 +62,8 @@ pub(crate) fn checked<'w>(alloc: Global, text: &[u8], name: &'w str) -> Result<C
     }
 }
 
-/// The term that is true just where each of the conditions is, over the specification with this text.
+/// The term that is true just where each of the conditions is, over the specification with this
+/// text.
 pub(crate) fn all_asked<'w>(
     alloc: Global,
     text: &[u8],

@@ -86,8 +86,8 @@ A condition COND is a term, as in `--always 'stage(0) = critical or not busy'`, 
 derived function without parameters. If it begins with a minus, an equals sign stands before it, as
 in `--always='-x < 3'`. A condition whose value is neither true nor false isn't true.
 
-Runs are made until one has a fault. At each choose a candidate is drawn, each of which is as likely.
-The same words find the same on every machine, and other runs by another --seed.
+Runs are made until one has a fault. At each choose a candidate is drawn, and each is as likely. The
+same words find the same on every machine, and other runs by another --seed.
 
 What is written to standard output is a script: a line is `STEP PATH NUMBER`, or begins with `# `
 and says something. The first one says what was found:
@@ -99,10 +99,10 @@ and says something. The first one says what was found:
                                 before those of --always-file; N is 0 for the first state
   fault in step N: clash ..     step N fails as it does in asm; so do outside and exhausted
 If there is a fault, the script leads to it: steps and choices of the run that was drawn are left
-out where the rest has a fault, too. Further lines show the conditions, which faults were looked for,
-the seed, how many runs were made and how many steps in them, and where a script was found the number
-of its run, from 0. The last of them is a call of asm that makes the run, where THIS is a file that
-has the whole output. With --trace the trace of that run follows.
+out where the rest has a fault, too. Further lines show the conditions, which faults were looked
+for, the seed, how many runs were made and how many steps in them, and where a script was found the
+number of its run, from 0. The last of them is a call of asm that makes the run, where THIS is a
+file that has the whole output. With --trace the trace of that run follows.
 
 Status:
   0  no fault was found; or help or the version was asked for

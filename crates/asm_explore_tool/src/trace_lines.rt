@@ -1,5 +1,5 @@
 //! The trace of the run that was found, line by line.
-ghost use Rattle.std.specs.Prelude.{◌≡◌, ◌++◌, option_map, OnOk};
+ghost use Rattle.std.specs.Prelude.{◌≡◌, ◌≤◌, [], ◌∷◌, ◌++◌, length, option_map, slice_range, OnOk};
 ghost use Rattle.asm_explore_tool.specs.Comments.{lines_of};
 ghost use Rattle.asm_explore_tool.specs.TraceLines.{MayShowTrace, text_lines};
 
@@ -9,19 +9,36 @@ use asm_explore::BadRun;
 use std::alloc::{AllocError, Global};
 use std::thread::Threads;
 
+/// Adds a part of a text as a line.
+fn add_line(
+    alloc: Global,
+    lines: &mut Vec<Vec<u8>>,
+    text: &[u8],
+    from: usize,
+    to: usize,
+) -> Result<(), AllocError>
+    requires forward { from ≤ to }
+    requires within { to ≤ length text.now }
+    ensures { OnOk result (lines_of lines.new.items ≡ lines_of lines.old.items ++ slice_range text.now from to ∷ []) }
+{
+    let line = Vec::from_slice(alloc, &text[from..to])?;
+    lines.push(line)?;
+    Ok(())
+}
+
 /// Adds the lines of a text, each without the line feed that ends it.
 fn add_lines(alloc: Global, lines: &mut Vec<Vec<u8>>, text: &[u8]) -> Result<(), AllocError>
     ensures { OnOk result (lines_of lines.new.items ≡ lines_of lines.old.items ++ text_lines text.now) }
 {
     let mut start = 0;
-    for end in 0..text.len() {
-        if text[end] == b'\n' {
-            lines.push(Vec::from_slice(alloc, &text[start..end])?)?;
-            start = end + 1;
+    for at in 0..text.len() {
+        if text[at] == b'\n' {
+            add_line(alloc, lines, text, start, at)?;
+            start = at + 1;
         }
     }
     if start < text.len() {
-        lines.push(Vec::from_slice(alloc, &text[start..])?)?;
+        add_line(alloc, lines, text, start, text.len())?;
     }
     Ok(())
 }

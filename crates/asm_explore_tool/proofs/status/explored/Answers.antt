@@ -8,7 +8,7 @@ both (Err e) P Q R h k f = tt
 
 pub returns : goal.returns
 returns g c =
-    both c.reported.result _ _ _ c.reported.ensures.status (c.reported.ensures.text c.in_ok-asked.ensures.links c.in_ok-asked.ensures.joined)
+    both c.reported.result _ _ _ c.reported.ensures.status (c.reported.ensures.text c.in_ok-asked.ensures.always.links c.in_ok-asked.ensures.always.joined)
     (λ report status printed. record {
       answer = c.in_ok-answered.answered;
       explored = record { asked = c.in_ok-asked.asked; is_asked = c.in_ok-asked.ensures; claims = c.in_ok-answered.ensures };

@@ -3,7 +3,7 @@ use Rattle.std.specs.Prelude.{option_map}
 use Rattle.std.proofs.lemmas.Bool.{and_from}
 use Rattle.clap.specs.Matches.{found_of}
 use Rattle.clap.specs.Walk.{first_of}
-use Rattle.asm_explore_tool.specs.Said.{all_of}
+use Rattle.asm_explore_tool.specs.Said.{all_of, is_yes}
 use Rattle.asm_explore_tool.proofs.ReadNumbers.{wider, first_of_rows, is_in_range, is_number}
 use Rattle.asm_explore_tool.proofs.words.of_all.Goals as goal
 
@@ -43,4 +43,5 @@ returns-clause-said g c =
       always_files = c.in_ok-texts_of-2.ensures ∙ ap (all_of (codes "always-file")) p.rows;
       when_quiet = c.get_str-2.ensures ∙ (sym (first_of_rows f (codes "deadlock-unless")) ∙ ap (first_of (codes "deadlock-unless")) p.rows);
       within = c.get_str-3.ensures ∙ (sym (first_of_rows f (codes "within")) ∙ ap (first_of (codes "within")) p.rows);
+      trace = c.is_set.ensures ∙ ap is_yes (sym (first_of_rows f (codes "trace")) ∙ ap (first_of (codes "trace")) p.rows);
     }

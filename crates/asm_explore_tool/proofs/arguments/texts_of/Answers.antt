@@ -5,7 +5,7 @@ use Rattle.std.proofs.lemmas.Result.{IfOk-weaker}
 use Rattle.clap.specs.Matches.{found_of}
 use Rattle.clap.specs.Walk.{Text, texts}
 use Rattle.asm_explore_tool.proofs.ReadTexts.{texts_found}
-use Rattle.asm_explore_tool.proofs.words.texts_of.Goals as goal
+use Rattle.asm_explore_tool.proofs.arguments.texts_of.Goals as goal
 
 abbrev found : Option (Bor (List (Bor Text))) → Option (List Text)
 found o = option_map (λ s. texts s.now) o

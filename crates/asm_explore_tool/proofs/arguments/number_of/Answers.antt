@@ -3,7 +3,7 @@ use Rattle.std.specs.Prelude.{unwrap_or}
 use Rattle.std.specs.Str.Parse.{ExplainsUnsignedError, HasUnsignedDigitsIfOk, ParsesUnsigned, signed_digits_value}
 use Rattle.clap.specs.Lexer.{without_minus}
 use Rattle.asm_tool.proofs.SignedTexts.{read_number}
-use Rattle.asm_explore_tool.proofs.words.number_of.Goals as goal
+use Rattle.asm_explore_tool.proofs.arguments.number_of.Goals as goal
 
 pub unwrap-requires : goal.unwrap-requires
 unwrap-requires c =
