@@ -1,5 +1,5 @@
 //! The trace of the run that was found, line by line.
-ghost use Rattle.std.specs.Prelude.{◌≡◌, ◌≤◌, [], ◌∷◌, ◌++◌, length, option_map, slice_range, OnOk};
+ghost use Rattle.std.specs.Prelude.{◌≡◌, ◌==◌, ◌≤◌, [], ◌∷◌, ◌++◌, length, option_map, slice_range, OnOk};
 ghost use Rattle.asm_explore_tool.specs.Comments.{lines_of};
 ghost use Rattle.asm_explore_tool.specs.TraceLines.{MayShowTrace, text_lines};
 
@@ -8,6 +8,13 @@ use crate::fault::Fault;
 use asm_explore::BadRun;
 use std::alloc::{AllocError, Global};
 use std::thread::Threads;
+
+/// Whether the byte ends a line.
+fn ends_line(byte: u8) -> bool
+    ensures { result ≡ (byte == 10) }
+{
+    byte == b'\n'
+}
 
 /// Adds a part of a text as a line.
 fn add_line(
@@ -32,14 +39,17 @@ fn add_lines(alloc: Global, lines: &mut Vec<Vec<u8>>, text: &[u8]) -> Result<(),
 {
     let mut start = 0;
     for at in 0..text.len() {
-        if text[at] == b'\n' {
-            add_line(alloc, lines, text, start, at)?;
-            start = at + 1;
+        if !ends_line(text[at]) {
+            continue;
         }
+        add_line(alloc, lines, text, start, at)?;
+        start = at + 1;
     }
-    if start < text.len() {
-        add_line(alloc, lines, text, start, text.len())?;
+    let end = text.len();
+    if start >= end {
+        return Ok(());
     }
+    add_line(alloc, lines, text, start, end)?;
     Ok(())
 }
 
