@@ -4,7 +4,8 @@
 --     listed_count, listed_at        the outcomes of each
 --     each_mapped, each_between      what holds of all nodes holds of these
 --     same_node                      one node stands at a place
-use Rattle.std.proofs.Common.{◌≡◌, ℕ, zero, suc, ◌+◌, ◌-◌, ◌<◌, List, [], ◌∷◌, ◌++◌, map, take, drop, length, get_or, refl, sym, ap, subst, ◌∙◌, arith, Vec, Global}
+--     front_states, front_each, front_none, listed_front, listed_one     what holds of the first ones of them
+use Rattle.std.proofs.Common.{◌≡◌, ℕ, zero, suc, ◌+◌, ◌-◌, ◌<◌, ◌≤◌, List, [], ◌∷◌, ◌++◌, map, take, drop, length, get_or, refl, sym, ap, subst, ◌∙◌, arith, Vec, Global}
 use Rattle.std.specs.Prelude.{slice_get, Some, Result as Returned}
 use Rattle.std.proofs.lemmas.List.{take_more, length-drop}
 use Rattle.std.proofs.lemmas.Option.{get_or_from_slice_get, slice_get_within}
@@ -123,3 +124,47 @@ module _ (shape : Shape) (specification : Specification) (turns : ℕ) (makes : 
   listed_last A rs [] r listed is = (subst (AreListed shape specification turns makes limit (A ∷ [])) is listed).0
   listed_last A rs (q ∷ []) r listed is = absurd (subst (AreListed shape specification turns makes limit (A ∷ [])) is listed).1
   listed_last A rs (q ∷ p ∷ front) r listed is = absurd (subst (AreListed shape specification turns makes limit (A ∷ [])) is listed).1
+
+-- ---- the first ones
+
+pub front_states : (states : List (List Value)) (xs : List Node) (m : ℕ) → states ≡ map (λ (n : Node). n.state) (take (length states) xs)
+    → take m states ≡ map (λ (n : Node). n.state) (take (length (take m states)) xs)
+front_states states xs zero is = refl
+front_states [] xs (suc m) is = refl
+front_states (s ∷ ss) [] (suc m) is = absurd (omega (arith, ap length is))
+front_states (s ∷ ss) (x ∷ xs) (suc m) is =
+    let head : s ≡ x.state = cc in
+    let tail : ss ≡ map (λ (n : Node). n.state) (take (length ss) xs) = cc in
+    ap (λ y. y ∷ take m ss) head ∙ ap (λ ys. x.state ∷ ys) (front_states ss xs m tail)
+
+pub front_each : (P : Node → Type 0) (xs : List Node) (n m : ℕ) → m ≤ n → Each P (take n xs) → Each P (take m xs)
+front_each P xs n zero low h = tt
+front_each P xs zero (suc m) low h = absurd (omega (arith, low))
+front_each P [] (suc n) (suc m) low h = tt
+front_each P (x ∷ xs) (suc n) (suc m) low h = (h.0, front_each P xs n m (omega (arith, low)) h.1)
+
+pub front_few : {X : Type 0} (xs : List X) (m : ℕ) → length (take m xs) ≤ length xs
+front_few xs zero = omega arith
+front_few [] (suc m) = omega arith
+front_few (x ∷ xs) (suc m) = let few = front_few xs m in omega (arith, few)
+
+pub front_none : {X : Type 0} (xs : List X) (m : ℕ) → (0 < length xs → 0 < m) → take m xs ≡ [] → xs ≡ []
+front_none [] m some is = refl
+front_none (x ∷ xs) zero some is = absurd (omega (arith, some (omega arith)))
+front_none (x ∷ xs) (suc m) some is = absurd (omega (arith, ap length is))
+
+module _ (shape : Shape) (specification : Specification) (turns : ℕ) (makes : State → Situation → List Choice) (limit : ℕ) where
+  pub listed_front : (k : ℕ) (As : List (List Value)) (rs : List (Returned (Vec Found Global) Refusal)) → AreListed shape specification turns makes limit (take k As) rs
+      → AreListed shape specification turns makes limit (take (length rs) As) rs
+  listed_front zero As [] h = tt
+  listed_front zero As (r ∷ rs) h = absurd h
+  listed_front (suc k) As [] h = tt
+  listed_front (suc k) [] (r ∷ rs) h = absurd h
+  listed_front (suc k) (A ∷ As) (r ∷ rs) h = (h.0, listed_front k As rs h.1)
+
+  -- of one state
+  pub listed_one : (A : List Value) (rs : List (Returned (Vec Found Global) Refusal)) → 0 < length rs → AreListed shape specification turns makes limit (take (length rs) (A ∷ [])) rs
+      → AreListed shape specification turns makes limit (A ∷ []) rs
+  listed_one A [] some h = absurd (omega (arith, some))
+  listed_one A (r ∷ []) some h = (h.0, tt)
+  listed_one A (r ∷ q ∷ rs) some h = absurd h.1

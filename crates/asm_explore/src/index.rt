@@ -4,15 +4,23 @@ ghost use Rattle.std.specs.Prelude.{◌≡◌, ◌<◌, length};
 use asm_state::state::State;
 use std::alloc::Global;
 
-/// Numbers of nodes, from 1, each at or behind the place of its state's hash; 0 is a free place. No
-/// proof rests on what stands here: what is found is compared. And counts of outcomes.
+/// So many states are stepped from at once at least, if there are as many.
+pub(crate) const FEW: usize = 16;
+
+/// Numbers of nodes, from 1, each at or behind the place of its state's hash. No proof rests on what
+/// stands here: what is found is compared. And counts of outcomes and states.
 #[derive(Drop)]
 pub(crate) struct Index {
     pub slots: Vec<u32>,
+    /// For each place the tag of the hash of what stands there, or 0 where it is free. So most states
+    /// that are other ones aren't looked at.
+    pub tags: Vec<u8>,
     /// So many outcomes of steps were followed.
     pub outcomes: usize,
     /// The most outcomes of a step.
     pub widest: usize,
+    /// So many states were stepped from at once, the last time.
+    batch: usize,
 }
 
 impl Index {
@@ -20,8 +28,10 @@ impl Index {
     pub(crate) fn new(alloc: Global) -> Index {
         Index {
             slots: Vec::new(alloc),
+            tags: Vec::new(alloc),
             outcomes: 0,
             widest: 0,
+            batch: 0,
         }
     }
 
@@ -31,6 +41,19 @@ impl Index {
         if outcomes > self.widest {
             self.widest = outcomes;
         }
+    }
+
+    /// So many states are stepped from at once next, of at most so many: twice as many as the last
+    /// time. So one batch of states with many outcomes isn't followed by a longer one.
+    pub(crate) fn next_batch(&self, most: usize) -> usize
+        ensures { 0 < result }
+    {
+        self.batch.saturating_mul(2).min(most).max(FEW)
+    }
+
+    /// So many states were stepped from at once.
+    pub(crate) fn stepped(&mut self, states: usize) {
+        self.batch = states;
     }
 }
 
@@ -52,6 +75,11 @@ pub(crate) fn hash_of(state: &State, count: usize) -> u64
         hash = with_content(hash, state.content(n).code());
     }
     hash
+}
+
+/// The tag of a hash, which isn't 0.
+pub(crate) fn tag_of(hash: u64) -> u8 {
+    (hash >> 57) as u8 | 128
 }
 
 /// The place where the search for a hash begins.

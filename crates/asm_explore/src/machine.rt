@@ -1,5 +1,5 @@
 //! What is explored.
-ghost use Rattle.std.specs.Prelude.{◌≡◌, ℕ, Bool, List, length, IfOk};
+ghost use Rattle.std.specs.Prelude.{◌≡◌, ◌<◌, ℕ, Bool, List, length, take, IfOk};
 ghost use Rattle.asm_state.specs.Location.{State as Contents};
 ghost use Rattle.asm_state.specs.Signature.{Shape, count_of, state_of};
 ghost use Rattle.asm_meaning.specs.Run.{Specification};
@@ -46,12 +46,18 @@ pub trait Machine {
     fn signature(&self) -> &Signature
         ensures { result.now ≡ shape self.now };
 
-    /// What a step from each of these states yields, through all scripts. A choice is made at most
-    /// once in a step, at a path of its own.
+    /// So many states are best given to `outcomes` at once. The search gives fewer where there are no
+    /// more, and after batches of which fewer were stepped from.
+    fn batch(&self) -> usize;
+
+    /// What a step from each of the first of these states yields, through all scripts: from all of
+    /// them, or from fewer, where these have many outcomes, but from one at least. A choice is made
+    /// at most once in a step, at a path of its own.
     fn outcomes(&self, alloc: Global, states: &[State]) -> Result<Vec<Listed>, AllocError>
         requires sound { is_sound self.now }
         requires whole { Each (λ s. length s ≡ count_of (shape self.now)) states.now }
-        ensures { IfOk result (λ all. AreListed (shape self.now) (specification self.now) (turns self.now) (made self.now) (limit self.now) states.now all.items) };
+        ensures some { 0 < length states.now → IfOk result (λ all. 0 < length all.items) }
+        ensures listed { IfOk result (λ all. AreListed (shape self.now) (specification self.now) (turns self.now) (made self.now) (limit self.now) (take (length all.items) states.now) all.items) };
 
     /// Whether the state is right.
     fn is_right(&self, alloc: Global, state: &State) -> bool

@@ -20,16 +20,13 @@ use crate::explored::{Bad, Ended, Explored, Looked, cut_off};
 use crate::fault::Fault;
 use crate::found::{Answer, Choice, Found, add_choices};
 use crate::halt::{Halt, halted};
-use crate::index::{Index, first_place, hash_of, next_place};
+use crate::index::{Index, first_place, hash_of, next_place, tag_of};
 use crate::machine::{Listed, Machine};
 use crate::nodes::Nodes;
 use crate::quiet::rest;
 use crate::same::is_same_value;
 use asm_state::state::State;
 use std::alloc::{AllocError, Global};
-
-/// So many states are stepped from at once.
-const BATCH: usize = 16;
 
 /// Whether two states have the same contents.
 pub(crate) fn is_same_state(left: &State, right: &State, count: usize) -> bool
@@ -56,26 +53,41 @@ fn has_state(nodes: &Nodes, number: usize, state: &State, count: usize) -> bool
     nodes.has_state(number, state)
 }
 
+/// Whether the node that stands in a place has this state.
+fn stands_in(nodes: &Nodes, slot: u32, state: &State, count: usize) -> bool
+    requires nodes { Each (λ n. length n.state ≡ count) nodes.now }
+    requires state { length state.now ≡ count }
+    ensures { IsTrue result → AnyOf (λ n. n.state ≡ state.now) nodes.now }
+{
+    let number = slot as usize;
+    if number == 0 || number > nodes.len() {
+        return false;
+    }
+    has_state(nodes, number - 1, state, count)
+}
+
 /// Whether the index leads to a node that has this state.
 fn is_reached(nodes: &Nodes, index: &Index, state: &State, count: usize) -> bool
     requires nodes { Each (λ n. length n.state ≡ count) nodes.now }
     requires state { length state.now ≡ count }
     ensures { IsTrue result → AnyOf (λ n. n.state ≡ state.now) nodes.now }
 {
-    let slots = index.slots.as_slice();
-    if slots.len() == 0 {
+    let (slots, tags) = (index.slots.as_slice(), index.tags.as_slice());
+    if tags.len() == 0 || slots.len() != tags.len() {
         return false;
     }
-    let mut at = first_place(hash_of(state, count), slots.len());
-    for _ in 0..slots.len() {
-        let slot = slots[at] as usize;
-        if slot == 0 || slot > nodes.len() {
+    let hash = hash_of(state, count);
+    let tag = tag_of(hash);
+    let mut at = first_place(hash, tags.len());
+    for _ in 0..tags.len() {
+        let other = tags[at];
+        if other == 0 {
             return false;
         }
-        if has_state(nodes, slot - 1, state, count) {
+        if other == tag && stands_in(nodes, slots[at], state, count) {
             return true;
         }
-        at = next_place(at, slots.len());
+        at = next_place(at, tags.len());
     }
     false
 }
@@ -85,13 +97,15 @@ fn note(nodes: &Nodes, number: usize, index: &mut Index)
     requires number { number < length nodes.now }
     requires few { number < 4_294_967_295 }
 {
-    let places = index.slots.len();
-    if places == 0 {
+    let places = index.tags.len();
+    if places == 0 || index.slots.len() != places {
         return;
     }
-    let mut at = first_place(nodes.hash(number), places);
+    let hash = nodes.hash(number);
+    let mut at = first_place(hash, places);
     for _ in 0..places {
-        if index.slots[at] == 0 {
+        if index.tags[at] == 0 {
+            index.tags[at] = tag_of(hash);
             index.slots[at] = number as u32 + 1;
             return;
         }
@@ -104,15 +118,18 @@ fn note_last(alloc: Global, nodes: &Nodes, index: &mut Index) -> Result<(), Allo
     requires few { length nodes.now < 4_294_967_296 }
 {
     let wanted = nodes.len().saturating_add(nodes.len() / 3);
-    if wanted < index.slots.len() {
+    if wanted < index.tags.len() {
         if nodes.len() > 0 {
             note(nodes, nodes.len() - 1, index);
         }
         return Ok(());
     }
-    let mut slots = Vec::new(alloc);
-    slots.resize(wanted.saturating_mul(2).saturating_add(8), 0u32)?;
+    let places = wanted.saturating_mul(2).saturating_add(8);
+    let (mut slots, mut tags) = (Vec::new(alloc), Vec::new(alloc));
+    slots.resize(places, 0u32)?;
+    tags.resize(places, 0u8)?;
     index.slots = slots;
+    index.tags = tags;
     for number in 0..nodes.len() {
         note(nodes, number, index);
     }
@@ -365,9 +382,11 @@ fn next_states<M: Machine>(
     nodes: &Nodes,
     first: usize,
     steps: u32,
+    most: usize,
     like: &State,
 ) -> Result<Vec<State>, Halt>
     requires machine { M.is_sound machine.now }
+    requires most { 0 < most }
     requires first { first < length nodes.now }
     requires like { length like.now ≡ count_of (M.shape machine.now) }
     requires nodes { Each (λ n. length n.state ≡ count_of (M.shape machine.now)) nodes.now }
@@ -380,7 +399,7 @@ fn next_states<M: Machine>(
 {
     let mut states = Vec::new(alloc);
     for number in first..nodes.len() {
-        if states.len() >= BATCH || nodes.depth(number) >= steps {
+        if states.len() >= most || nodes.depth(number) >= steps {
             return Ok(states);
         }
         let state = nodes.state(alloc, number, like)?;
@@ -392,23 +411,62 @@ fn next_states<M: Machine>(
     Ok(states)
 }
 
-/// The outcomes of the steps from some states.
+/// The outcomes of the steps from the first of some states.
 fn listed<M: Machine>(alloc: Global, machine: &M, states: &[State]) -> Result<Vec<Listed>, Halt>
     requires machine { M.is_sound machine.now }
     requires whole { Each (λ s. length s ≡ count_of (M.shape machine.now)) states.now }
-    ensures listed { IfOk result (λ all. AreListed (M.shape machine.now) (M.specification machine.now) (M.turns machine.now) (M.made machine.now) (M.limit machine.now) states.now all.items) }
+    ensures some { 0 < length states.now → IfOk result (λ all. 0 < length all.items) }
+    ensures listed { IfOk result (λ all. AreListed (M.shape machine.now) (M.specification machine.now) (M.turns machine.now) (M.made machine.now) (M.limit machine.now) (take (length all.items) states.now) all.items) }
     ensures never { IfErr result (HaltsSo ⊥ (λ _. ⊥)) }
 {
     let lists = machine.outcomes(alloc, states)?;
     Ok(lists)
 }
 
-/// Expands the nodes from one on, which have these states.
+/// States that are stepped from at once, and the outcomes of each step.
+#[derive(Drop)]
+struct Batch {
+    states: Vec<State>,
+    lists: Vec<Listed>,
+}
+
+/// The next states that are stepped from at once, so many at most: those of a node and of some behind
+/// it, all of which are to be expanded. There are none if that node isn't.
+fn next_batch<M: Machine>(
+    alloc: Global,
+    machine: &M,
+    nodes: &Nodes,
+    first: usize,
+    steps: u32,
+    most: usize,
+    like: &State,
+) -> Result<Batch, Halt>
+    requires machine { M.is_sound machine.now }
+    requires most { 0 < most }
+    requires first { first < length nodes.now }
+    requires like { length like.now ≡ count_of (M.shape machine.now) }
+    requires nodes { Each (λ n. length n.state ≡ count_of (M.shape machine.now)) nodes.now }
+    ensures within { IfOk result (λ batch. first + length batch.states.items ≤ length nodes.now) }
+    ensures states { IfOk result (λ batch. batch.states.items ≡ map (λ n. n.state) (take (length batch.states.items) (drop first nodes.now))) }
+    ensures shallow { IfOk result (λ batch. Each (λ n. n.depth < steps) (take (length batch.states.items) (drop first nodes.now))) }
+    ensures inside { IfOk result (λ batch. Each (λ n. (M.within machine.now) (state_at (M.shape machine.now) n) ≡ true) (take (length batch.states.items) (drop first nodes.now))) }
+    ensures none { IfOk result (λ batch. batch.states.items ≡ [] → (n : Node) → slice_get nodes.now first ≡ Some n → n.depth < steps → (M.within machine.now) (state_at (M.shape machine.now) n) ≡ false) }
+    ensures listed { IfOk result (λ batch. AreListed (M.shape machine.now) (M.specification machine.now) (M.turns machine.now) (M.made machine.now) (M.limit machine.now) batch.states.items batch.lists.items) }
+    ensures never { IfErr result (HaltsSo ⊥ (λ _. ⊥)) }
+{
+    let mut states = next_states(alloc, machine, nodes, first, steps, most, like)?;
+    let lists = listed(alloc, machine, states.as_slice())?;
+    states.truncate(lists.len());
+    Ok(Batch { states, lists })
+}
+
+/// Expands the nodes from one on, which have these states, whose steps have these outcomes.
 fn expand_batch<M: Machine>(
     alloc: Global,
     machine: &M,
     first: usize,
     states: &[State],
+    lists: &[Listed],
     steps: u32,
     limit: u32,
     index: &mut Index,
@@ -418,6 +476,7 @@ fn expand_batch<M: Machine>(
     requires machine { M.is_sound machine.now }
     requires first { first + length states.now ≤ length nodes.old }
     requires states { states.now ≡ map (λ n. n.state) (take (length states.now) (drop first nodes.old)) }
+    requires listed { AreListed (M.shape machine.now) (M.specification machine.now) (M.turns machine.now) (M.made machine.now) (M.limit machine.now) states.now lists.now }
     requires shallow { Each (λ n. n.depth < steps) (take (length states.now) (drop first nodes.old)) }
     requires inside { Each (λ n. (M.within machine.now) (state_at (M.shape machine.now) n) ≡ true) (take (length states.now) (drop first nodes.old)) }
     requires room { length nodes.old ≤ limit }
@@ -432,15 +491,6 @@ fn expand_batch<M: Machine>(
     ensures rests { IfErr result (λ stopped. IsRested (M.shape machine.now) (M.specification machine.now) (M.turns machine.now) (M.rests machine.now) (M.within machine.now) steps stopped.expanded nodes.new quiet.new.items) }
     ensures stopped { IfErr result (λ stopped. IsStopped (M.shape machine.now) (M.specification machine.now) (M.turns machine.now) (IsCrowdOf (M.made machine.now) (M.limit machine.now)) (M.right machine.now) (M.rests machine.now) (M.within machine.now) steps limit nodes.new stopped) }
 {
-    let lists = match listed(alloc, machine, states) {
-        Ok(lists) => lists,
-        Err(halt) => {
-            return Err(Looked {
-                expanded: first,
-                ended: cut_off(halt),
-            });
-        }
-    };
     for k in 0..states.len() {
         let from = first + k;
         let (state, listed) = (&states[k], &lists[k]);
@@ -507,8 +557,9 @@ fn expand_next<M: Machine>(
     ensures rests { IfErr result (λ stopped. IsRested (M.shape machine.now) (M.specification machine.now) (M.turns machine.now) (M.rests machine.now) (M.within machine.now) steps stopped.expanded nodes.new quiet.new.items) }
     ensures stopped { IfErr result (λ stopped. IsStopped (M.shape machine.now) (M.specification machine.now) (M.turns machine.now) (IsCrowdOf (M.made machine.now) (M.limit machine.now)) (M.right machine.now) (M.rests machine.now) (M.within machine.now) steps limit nodes.new stopped) }
 {
-    let states = match next_states(alloc, machine, nodes, expanded, steps, like) {
-        Ok(states) => states,
+    let most = index.next_batch(machine.batch());
+    let batch = match next_batch(alloc, machine, nodes, expanded, steps, most, like) {
+        Ok(batch) => batch,
         Err(halt) => {
             return Err(Looked {
                 expanded,
@@ -516,12 +567,14 @@ fn expand_next<M: Machine>(
             });
         }
     };
-    let states = states.as_slice();
+    let states = batch.states.as_slice();
+    index.stepped(states.len());
     if states.len() == 0 {
         return Ok(expanded + 1);
     }
+    let lists = batch.lists.as_slice();
     expand_batch(
-        alloc, machine, expanded, states, steps, limit, index, nodes, quiet,
+        alloc, machine, expanded, states, lists, steps, limit, index, nodes, quiet,
     )?;
     Ok(expanded + states.len())
 }

@@ -13,6 +13,7 @@ ghost use Rattle.asm_explore.specs.Steps.{IsListed};
 
 use crate::exploration::Exploration;
 use crate::found::Found;
+use crate::index::FEW;
 use crate::machine::{Listed, Machine};
 use crate::outcomes::outcomes;
 use crate::refusal::Refusal;
@@ -39,7 +40,7 @@ fn holds_at(alloc: Global, signature: &Signature, state: &State, test: &Option<C
 }
 
 /// What the step from a state yields, through all scripts.
-fn step_outcomes(
+pub fn step_outcomes(
     alloc: Global,
     specified: &Specified<'_>,
     state: &State,
@@ -84,6 +85,10 @@ impl<'a> Machine for Specified<'a> {
 
     fn signature(&self) -> &Signature {
         self.checked.signature()
+    }
+
+    fn batch(&self) -> usize {
+        FEW
     }
 
     fn outcomes(&self, alloc: Global, states: &[State]) -> Result<Vec<Listed>, AllocError> {

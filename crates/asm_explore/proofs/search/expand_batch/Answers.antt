@@ -15,19 +15,11 @@ use Rattle.asm_explore.proofs.Reaching.{whole_nodes, looked_more, looked_same, l
 use Rattle.asm_explore.proofs.Resting.{rested_more, rested_same}
 use Rattle.asm_explore.proofs.search.expand_batch.Goals as goal
 
-pub listed-requires-clause-whole : goal.listed-requires-clause-whole
-listed-requires-clause-whole g c =
-    let a = c.args in
-    let shape = g.M.Machine.shape a.machine.now in
-    subst (Each (λ s. length s ≡ count_of shape)) (sym c.requires.states)
-    (each_mapped (λ s. length s ≡ count_of shape) _
-    (each_between (λ (n : Node). length n.state ≡ count_of shape) a.nodes.now a.first (length a.states.now) (whole_nodes shape (g.M.Machine.right a.machine.now) a.nodes.now c.requires.looked.good)))
-
 pub index-requires : goal.index-requires
 index-requires g c =
     let a = c.args in
-    let count = listed_count (g.M.Machine.shape a.machine.now) (g.M.Machine.specification a.machine.now) (g.M.Machine.turns a.machine.now) (g.M.Machine.made a.machine.now) (g.M.Machine.limit a.machine.now) a.states.now c.in-Ok.lists.items c.in-Ok.ensures.listed in
-    omega (arith, count, c.loop-k-test.true, c.in-Ok.lists.ok.0)
+    let count = listed_count (g.M.Machine.shape a.machine.now) (g.M.Machine.specification a.machine.now) (g.M.Machine.turns a.machine.now) (g.M.Machine.made a.machine.now) (g.M.Machine.limit a.machine.now) a.states.now a.lists.now c.requires.listed in
+    omega (arith, count, c.loop-k-test.true)
 
 pub expand_listed-requires-clause-shallow : goal.expand_listed-requires-clause-shallow
 expand_listed-requires-clause-shallow g c = λ m here.
@@ -64,8 +56,8 @@ expand_listed-requires-clause-here g c = λ m here.
 pub expand_listed-requires-clause-step : goal.expand_listed-requires-clause-step
 expand_listed-requires-clause-step g c =
     let a = c.args in
-    listed_at (g.M.Machine.shape a.machine.now) (g.M.Machine.specification a.machine.now) (g.M.Machine.turns a.machine.now) (g.M.Machine.made a.machine.now) (g.M.Machine.limit a.machine.now) a.states.now c.in-Ok.lists.items c.loop-k.k c.index-states-k.result c.index.result.now
-    c.in-Ok.ensures.listed c.loop-k-test.true c.index-states-k.is c.index.ensures
+    listed_at (g.M.Machine.shape a.machine.now) (g.M.Machine.specification a.machine.now) (g.M.Machine.turns a.machine.now) (g.M.Machine.made a.machine.now) (g.M.Machine.limit a.machine.now) a.states.now a.lists.now c.loop-k.k c.index-states-k.result c.index.result.now
+    c.requires.listed c.loop-k-test.true c.index-states-k.is c.index.ensures
 
 pub returns-in-Ok-Some-clause-more : goal.returns-in-Ok-Some-clause-more
 returns-in-Ok-Some-clause-more g c =

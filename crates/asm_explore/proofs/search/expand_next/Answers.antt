@@ -15,7 +15,7 @@ returns-then-states-eq0-clause-looked g c =
     let right = g.M.Machine.right a.machine.now in
     let within = g.M.Machine.within a.machine.now in
     let n = some_at a.nodes.now a.expanded c.requires.expanded in
-    let empty = no_items c.as_slice-states.result.now c.in-Ok.states.items c.as_slice-states.ensures.value c.if-states-eq0.true in
+    let empty = no_items c.as_slice-states.result.now c.in-Ok.batch.states.items c.as_slice-states.ensures.value c.if-states-eq0.true in
     let both = looked_more shape specification turns right within a.steps a.expanded n.0 (n.0.depth + 1) a.nodes.now a.nodes.now n.1 refl
     (extends_none shape specification turns right (n.0.depth + 1) a.nodes.now)
     (λ low inside. absurd (false≢true (sym (c.in-Ok.ensures.none empty n.0 n.1 low) ∙ inside)))
@@ -31,7 +31,7 @@ returns-then-states-eq0-clause-near g c =
     let right = g.M.Machine.right a.machine.now in
     let within = g.M.Machine.within a.machine.now in
     let n = some_at a.nodes.now a.expanded c.requires.expanded in
-    let empty = no_items c.as_slice-states.result.now c.in-Ok.states.items c.as_slice-states.ensures.value c.if-states-eq0.true in
+    let empty = no_items c.as_slice-states.result.now c.in-Ok.batch.states.items c.as_slice-states.ensures.value c.if-states-eq0.true in
     let both = looked_more shape specification turns right within a.steps a.expanded n.0 (n.0.depth + 1) a.nodes.now a.nodes.now n.1 refl
     (extends_none shape specification turns right (n.0.depth + 1) a.nodes.now)
     (λ low inside. absurd (false≢true (sym (c.in-Ok.ensures.none empty n.0 n.1 low) ∙ inside)))
@@ -42,6 +42,6 @@ pub returns-then-states-eq0-clause-rested : goal.returns-then-states-eq0-clause-
 returns-then-states-eq0-clause-rested g c =
     let a = c.args in
     let n = some_at a.nodes.now a.expanded c.requires.expanded in
-    let empty = no_items c.as_slice-states.result.now c.in-Ok.states.items c.as_slice-states.ensures.value c.if-states-eq0.true in
+    let empty = no_items c.as_slice-states.result.now c.in-Ok.batch.states.items c.as_slice-states.ensures.value c.if-states-eq0.true in
     rested_past (g.M.Machine.shape a.machine.now) (g.M.Machine.specification a.machine.now) (g.M.Machine.turns a.machine.now) (g.M.Machine.rests a.machine.now) (g.M.Machine.within a.machine.now) a.steps
     a.expanded n.0 a.nodes.now a.quiet.now.items n.1 (λ at. absurd (false≢true (sym (c.in-Ok.ensures.none empty n.0 n.1 at.0) ∙ at.1))) c.requires.rested

@@ -1,0 +1,69 @@
+//! Machines whose outcomes are listed by a function.
+ghost use Rattle.asm_state.specs.Signature.{count_of};
+ghost use Rattle.asm_explore.specs.Steps.{AreListed};
+ghost use Rattle.asm_explore_workers.specs.Lists.{ListsThem, TakesStates};
+
+use asm_explore::{Listed, Machine};
+use asm_state::signature::Signature;
+use asm_state::state::State;
+use std::alloc::{AllocError, Global};
+
+/// The outcomes of the steps from some states.
+type Lists = Vec<Listed>;
+
+/// They, if there is memory for them.
+type MaybeLists = Result<Lists, AllocError>;
+
+/// A machine, but its outcomes are listed by a function, which takes so many states at once. It may
+/// start threads.
+#[derive(Drop)]
+pub struct ListedBy<'a, M, F> {
+    pub machine: &'a M,
+    pub list: &'a F,
+    pub batch: usize,
+}
+
+impl<'a, M: Machine, F: Fn(Global, &[State]) -> MaybeLists> Machine for ListedBy<'a, M, F> {
+    ghost specification = { λ by. M.specification by.machine.now };
+
+    ghost turns = { λ by. M.turns by.machine.now };
+
+    ghost shape = { λ by. M.shape by.machine.now };
+
+    ghost made = { λ by. M.made by.machine.now };
+
+    ghost limit = { λ by. M.limit by.machine.now };
+
+    ghost right = { λ by. M.right by.machine.now };
+
+    ghost within = { λ by. M.within by.machine.now };
+
+    ghost rests = { λ by. M.rests by.machine.now };
+
+    ghost is_sound = { λ by. let m = by.machine.now in
+        M.is_sound m × TakesStates (count_of (M.shape m)) (F.pre by.list.now) × ListsThem (AreListed (M.shape m) (M.specification m) (M.turns m) (M.made m) (M.limit m)) (F.post by.list.now) };
+
+    fn signature(&self) -> &Signature {
+        self.machine.signature()
+    }
+
+    fn batch(&self) -> usize {
+        self.batch
+    }
+
+    fn outcomes(&self, alloc: Global, states: &[State]) -> Result<Vec<Listed>, AllocError> {
+        (self.list)(alloc, states)
+    }
+
+    fn is_right(&self, alloc: Global, state: &State) -> bool {
+        self.machine.is_right(alloc, state)
+    }
+
+    fn is_within(&self, alloc: Global, state: &State) -> bool {
+        self.machine.is_within(alloc, state)
+    }
+
+    fn may_rest(&self, alloc: Global, state: &State) -> bool {
+        self.machine.may_rest(alloc, state)
+    }
+}

@@ -1,0 +1,91 @@
+//! The exploration of a checked specification by several workers.
+ghost use Rattle.std.specs.Prelude.{◌≡◌, ◌<◌, ◌≤◌, IfOk, length, take};
+ghost use Rattle.asm_state.specs.Signature.{count_of};
+ghost use Rattle.asm_syntax.specs.Views.{spec_of};
+ghost use Rattle.asm_check.specs.Shapes.{shape_of};
+ghost use Rattle.asm_meaning.specs.Declarations.{specification_of};
+ghost use Rattle.asm_eval.specs.RuleViews.{rule_of};
+ghost use Rattle.asm_explore.specs.Answers.{IsAnswer};
+ghost use Rattle.asm_explore.specs.Conditions.{holds_in, term_holds, IsSpecified};
+ghost use Rattle.asm_explore.specs.Lists.{Each};
+ghost use Rattle.asm_explore.specs.MainRule.{IsCrowdedMain};
+ghost use Rattle.asm_explore_workers.specs.Batches.{AreListedOf};
+
+use crate::listed_by::ListedBy;
+use crate::listing::list_by;
+use asm_check::Checked;
+use asm_eval::whole::resolve_main;
+use asm_explore::answering::explore_machine;
+use asm_explore::condition::condition_code;
+use asm_explore::whole::explore_all;
+use asm_explore::{Answered, Listed, Question, Specified};
+use asm_state::state::State;
+use std::alloc::{AllocError, Global};
+use std::thread::Threads;
+
+/// So many states are stepped from at once for each worker.
+const EACH: usize = 256;
+
+/// Looks through the runs of a resolved specification, by so many workers.
+fn explore_specified_by<R: Threads + Sync>(
+    rt: &R,
+    alloc: Global,
+    specified: &Specified<'_>,
+    steps: u32,
+    states: u32,
+    workers: usize,
+) -> Result<Answered, AllocError>
+    requires sound { IsSpecified specified.now }
+    requires workers { (0 < workers) × (workers ≤ 32) }
+    ensures { let s = spec_of specified.now.checked.now.spec in
+        IfOk result (λ answer. IsAnswer (specification_of s) specified.now.turns (IsCrowdedMain specified.now.checked.now specified.now.turns specified.now.limit) steps states (holds_in (shape_of s) specified.now.always.now) (holds_in (shape_of s) specified.now.when_quiet.now) (holds_in (shape_of s) specified.now.within.now) answer) }
+{
+    let initial = State::initial(alloc, specified.checked.signature())?;
+    let list = |alloc: Global, states: &[State]| -> Result<Vec<Listed>, AllocError>
+        requires workers { (0 < workers) × (workers ≤ 32) }
+        requires sound { IsSpecified specified.now }
+        requires whole { Each (λ s. length s ≡ count_of (shape_of (spec_of specified.now.checked.now.spec))) states.now }
+        ensures some { 0 < length states.now → IfOk result (λ all. 0 < length all.items) }
+        ensures listed { IfOk result (λ all. AreListedOf specified.entry.now.checked.now (rule_of specified.entry.now.code.now) specified.entry.now.turns specified.entry.now.limit (take (length all.items) states.now) all.items) }
+    { list_by(rt, alloc, specified, workers, states) };
+    let machine = ListedBy {
+        machine: specified,
+        list: &list,
+        batch: workers * EACH,
+    };
+    explore_machine(alloc, &machine, &initial, steps, states)
+}
+
+/// Looks through all runs of a specification, as `explore_all` does, by so many workers. The answer
+/// is the same whatever their number. Each thread that was started has ended when the call returns.
+pub fn explore_all_by<R: Threads + Sync>(
+    rt: &R,
+    alloc: Global,
+    checked: &Checked,
+    question: &Question,
+    workers: usize,
+) -> Result<Answered, AllocError>
+    requires workers { (0 < workers) × (workers ≤ 32) }
+    ensures { let q = question.now in
+        IfOk result (λ answer. IsAnswer (specification_of (spec_of checked.now.spec)) q.turns (IsCrowdedMain checked.now q.turns q.outcomes) q.steps q.states (term_holds checked.now q.always) (term_holds checked.now q.when_quiet) (term_holds checked.now q.within) answer) }
+{
+    if workers == 1 {
+        return explore_all(alloc, checked, question);
+    }
+    let code = resolve_main(alloc, checked)?;
+    let always = condition_code(alloc, checked, &question.always)?;
+    let within = condition_code(alloc, checked, &question.within)?;
+    let when_quiet = condition_code(alloc, checked, &question.when_quiet)?;
+    let specified = Specified {
+        checked,
+        code: &code,
+        turns: question.turns,
+        limit: question.outcomes,
+        always: &always,
+        within: &within,
+        when_quiet: &when_quiet,
+    };
+    let (steps, states) = (question.steps, question.states);
+    let answered = explore_specified_by(rt, alloc, &specified, steps, states, workers)?;
+    Ok(answered)
+}
