@@ -1,0 +1,5 @@
+pub mod Paired
+pub mod Growing
+pub mod Outcomes
+pub mod Arriving
+pub mod Others
