@@ -1,11 +1,11 @@
 -- Lists, and two lists side by side.
 --     each_*, any_weaker     what holds of each, or of some, of a list's elements
---     slice_first, take_next what stands in a list stands in it with more behind it
+--     some_at, slice_first, slice_last, take_next    what stands in a list stands in it with more behind it
 --     pairs_*                of two lists side by side
 use Rattle.std.proofs.Common.{◌≡◌, ℕ, zero, suc, ◌+◌, ◌<◌, List, [], ◌∷◌, ◌++◌, length, take, get_or, ◌⊎◌, inl, inr, refl, ap, subst, ◌∙◌, arith}
 use Rattle.std.specs.Prelude.{slice_get, Some}
 use Rattle.std.proofs.lemmas.List.{take_more, take-append-le}
-use Rattle.std.proofs.lemmas.Option.{get_or_from_slice_get, slice_get_within}
+use Rattle.std.proofs.lemmas.Option.{get_or_from_slice_get, slice_get-get_or, slice_get_within}
 use Rattle.asm_explore.specs.Elements.{Each, AnyOf}
 use Rattle.asm_graph.specs.Graphs.{Pairs}
 
@@ -27,6 +27,10 @@ module _ {X : Type 0} (P : X → Type 0) where
   any_weaker Q f [] h = absurd h
   any_weaker Q f (x ∷ xs) (inl h) = inl (f x h)
   any_weaker Q f (x ∷ xs) (inr h) = inr (any_weaker Q f xs h)
+
+pub some_at : {X : Type 0} (xs : List X) (i : ℕ) → i < length xs → (x : X) × (slice_get xs i ≡ Some x)
+some_at [] i low = absurd (omega (arith, low))
+some_at (x ∷ xs) i low = (get_or (x ∷ xs) i x, slice_get-get_or (x ∷ xs) i x low)
 
 pub slice_first : {X : Type 0} (xs ys : List X) (i : ℕ) (x : X) → slice_get xs i ≡ Some x → slice_get (xs ++ ys) i ≡ Some x
 slice_first [] ys i x is = cc

@@ -1,5 +1,5 @@
 //! What an outcome leads to.
-ghost use Rattle.std.specs.Prelude.{◌≡◌, ◌≢◌, IfErr, IfOk};
+ghost use Rattle.std.specs.Prelude.{◌≡◌, IfErr, IfOk};
 ghost use Rattle.asm_state.specs.Contents.{IsStateOf};
 ghost use Rattle.asm_state.specs.Signature.{Shape, count_of, state_of};
 ghost use Rattle.asm_updates.specs.Faults.{fault_of};
@@ -58,16 +58,25 @@ fn copy_path(alloc: Global, path: &Path) -> Result<Path, AllocError>
     Ok(Path::new(numbers))
 }
 
+/// The same choice again.
+fn copy_choice(alloc: Global, choice: &Choice) -> Result<Choice, AllocError>
+    ensures { IfOk result (λ c. c ≡ choice.now) }
+{
+    let path = copy_path(alloc, &choice.path)?;
+    Ok(Choice {
+        path,
+        number: choice.number,
+    })
+}
+
 /// The same choices again.
 pub(crate) fn copy_choices(alloc: Global, choices: &[Choice]) -> Result<Vec<Choice>, AllocError>
     ensures { IfOk result (λ copied. copied.items ≡ choices.now) }
 {
     let mut copied = Vec::new(alloc);
-    for k in 0..choices.len() {
-        let choice = &choices[k];
-        let path = copy_path(alloc, &choice.path)?;
-        let number = choice.number;
-        copied.push(Choice { path, number })?;
+    for i in 0..choices.len() {
+        let choice = copy_choice(alloc, &choices[i])?;
+        copied.push(choice)?;
     }
     Ok(copied)
 }

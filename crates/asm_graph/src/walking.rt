@@ -181,8 +181,9 @@ fn step_from<M: Machine>(
     ensures grows { OnOk result (Grows (M.shape machine.now) (M.specification machine.now) (M.turns machine.now) (M.within machine.now) (M.right machine.now) (M.rests machine.now) most nodes.old.items nodes.new.items) }
     ensures shown { IfOk result (λ step. (n : Node) → slice_get nodes.old.items number ≡ Some n → IsShown (M.shape machine.now) (M.specification machine.now) (M.turns machine.now) (M.within machine.now) (IsCrowdOf (M.made machine.now) (M.limit machine.now)) steps nodes.new.items n step) }
 {
-    let depth = nodes[number].depth;
-    let Some(state) = state_to_follow(alloc, machine, &nodes[number], steps)? else {
+    let node = &nodes[number];
+    let depth = node.depth;
+    let Some(state) = state_to_follow(alloc, machine, node, steps)? else {
         return Ok(Step::Cut);
     };
     match listed_from(alloc, machine, &state)? {
