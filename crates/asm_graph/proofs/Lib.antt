@@ -3,3 +3,4 @@ pub mod Growing
 pub mod Outcomes
 pub mod Arriving
 pub mod Others
+pub mod Returning

@@ -10,6 +10,8 @@
 --     IsShown n step       what is shown of the step from a node
 --     IsNode n             a run of at most so many steps as the node is deep comes to its state, and its marks are right
 --     IsGraph graph        what is said of a graph
+--     LeadBack i step      each edge leads back to the node with this number
+--     QuietLaw             a node whose edges lead back to it has a quiet state
 use Rattle.std.specs.Prelude.{◌≡◌, ◌≤◌, ◌<◌, ◌⊎◌, ℕ, Bool, true, false, List, [], ◌∷◌, length, slice_get, Some}
 use Rattle.asm_state.specs.Location.{State}
 use Rattle.asm_state.specs.Signature.{Shape, count_of, state_of}
@@ -21,7 +23,7 @@ use Rattle.asm_explore.specs.Answers.{IsReachedBy}
 use Rattle.asm_explore.specs.Lists.{Situation, AreTaken, Each, AnyOf}
 use Rattle.asm_explore.specs.Placed.{AreApart}
 use Rattle.asm_explore.specs.Reached.{steps_from}
-use Rattle.asm_explore.specs.Search.{LeadsOn}
+use Rattle.asm_explore.specs.Search.{LeadsOn, IsQuiet}
 use Rattle.asm_graph.specs.declared.graph.Edge.{Edge}
 use Rattle.asm_graph.specs.declared.graph.Graph.{Graph}
 use Rattle.asm_graph.specs.declared.graph.Node.{Node}
@@ -97,3 +99,17 @@ module _ (shape : Shape) (specification : Specification) (turns : ℕ) (within :
     -- what its text asks for
     pub whole : Each (λ (n : Node). length n.state ≡ count_of shape) graph.nodes.items
     pub paired : length graph.steps.items ≡ length graph.nodes.items
+
+-- ---- quiet states
+
+abbrev pub LeadBack : ℕ → Step → Type 0
+LeadBack i step.Cut = ⊥
+LeadBack i step.Crowded = ⊥
+LeadBack i (step.Edges es) = Each (λ (e : Edge). e.to ≡ target.Node i) es.items
+
+abbrev pub QuietLaw : Type 0
+QuietLaw =
+    (shape : Shape) (specification : Specification) (turns : ℕ) (within : State → Bool) (crowds : State → Crowd → Type 0) (steps most : ℕ) (right rests : State → Bool) (graph : Graph)
+    → IsGraph shape specification turns within crowds steps most right rests graph
+    → (i : ℕ) (n : Node) (s : Step) → slice_get graph.nodes.items i ≡ Some n → slice_get graph.steps.items i ≡ Some s → LeadBack i s
+    → IsQuiet specification turns (state_at shape n)

@@ -8,7 +8,8 @@ ghost use Rattle.asm_graph.specs.declared.graph.Node.{Node};
 
 use crate::escaped::{add_escaped, add_number};
 use crate::graph::{Edge, Graph, Node, Step, StepFault, Target};
-use crate::labels::{add_choices, add_node_label, is_quiet};
+use crate::labels::{add_choices, add_node_label};
+use crate::quiet::is_quiet;
 use asm_check::Checked;
 use std::alloc::{AllocError, Global};
 

@@ -1,11 +1,11 @@
 //! What stands in nodes and at edges.
-ghost use Rattle.std.specs.Prelude.{◌≡◌, ◌↔◌, IsTrue, length};
+ghost use Rattle.std.specs.Prelude.{◌≡◌, length};
 ghost use Rattle.asm_state.specs.Signature.{count_of};
 ghost use Rattle.asm_syntax.specs.Views.{spec_of};
 ghost use Rattle.asm_check.specs.Shapes.{shape_of};
 
 use crate::escaped::add_number;
-use crate::graph::{Node, Step, Target};
+use crate::graph::{Node, Step};
 use crate::places::{add_content, is_shown};
 use asm_check::Checked;
 use asm_explore::Choice;
@@ -87,12 +87,4 @@ pub(crate) fn add_choices(
         before = "\\n";
     }
     Ok(())
-}
-
-/// Whether each edge leads back to the node that it begins in, as it does where the state is quiet.
-pub(crate) fn is_quiet(step: &Step, number: usize) -> bool {
-    match step {
-        Step::Edges(edges) => edges.iter().all(|edge| edge.to == Target::Node(number)),
-        Step::Cut | Step::Crowded => false,
-    }
 }
