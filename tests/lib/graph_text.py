@@ -75,9 +75,9 @@ def parsed(text):
     """The graph of a text. An error says where it has another form, or names what it doesn't have."""
     lines = text.split("\n")
     head = HEAD.fullmatch(lines.pop(0))
-    if not head or lines[-2:] != ["}", ""]:
-        raise ValueError("the first or the last line")
-    del lines[-2:]
+    if not head or lines[:1] != ["  node [shape=box];"] or lines[-2:] != ["}", ""]:
+        raise ValueError("the first lines or the last one")
+    lines = lines[1:-2]
     nodes = in_order(lines, NODE, node_of)
     faults = in_order(lines, FAULT, lambda found, _: found[1])
     edges = in_order(lines, EDGE, lambda found, _: edge_of(found))

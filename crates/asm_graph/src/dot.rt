@@ -134,7 +134,7 @@ pub fn dot_text(alloc: Global, checked: &Checked, graph: &Graph) -> Result<Strin
 {
     let mut text = String::from_str(alloc, "digraph \"")?;
     add_escaped(&mut text, checked.spec.name.text.as_bytes())?;
-    text.push_str("\" {\n")?;
+    text.push_str("\" {\n  node [shape=box];\n")?;
     let (nodes, steps) = (graph.nodes.as_slice(), graph.steps.as_slice());
     for number in 0..nodes.len() {
         add_node(
