@@ -1,0 +1,6 @@
+pub mod Paired
+pub mod Growing
+pub mod Outcomes
+pub mod Arriving
+pub mod Others
+pub mod Returning

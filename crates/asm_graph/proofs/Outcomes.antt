@@ -1,0 +1,143 @@
+-- The outcomes of a step, and what they lead to.
+--     set_leads, set_fails, path_fails      what an outcome leads to, or its fault
+--     leads_on, fails_on                    the same of a signature that is the shape
+--     some_situation                        a situation takes the choices of an outcome
+--     goes_known, led_on                    the state that it leads to stands in a node, and choices lead to it
+--     outcome_at, edges_are                 the outcomes of a step, and edges that follow them
+--     listed_last                           the outcomes of one state alone
+use Rattle.std.proofs.Common.{◌≡◌, ℕ, suc, ◌+◌, Bool, true, List, [], ◌∷◌, ◌++◌, length, refl, sym, ap, subst, ◌∙◌, arith, Vec, Global}
+use Rattle.std.specs.Prelude.{slice_get, Some, Result as Returned}
+use Rattle.asm_state.specs.declared.value.Value.{Value}
+use Rattle.asm_state.specs.Contents.{IsStateOf}
+use Rattle.asm_state.specs.Location.{State}
+use Rattle.asm_state.specs.Signature.{Shape, count_of, state_of}
+use Rattle.asm_state.specs.Updates.{UpdateSet, Fault, IsConsistent, IsFirstFault, fire}
+use Rattle.asm_updates.specs.Stands.{Stands}
+use Rattle.asm_reader.specs.ExactLines.{exactly}
+use Rattle.asm_meaning.specs.Run.{Specification}
+use Rattle.asm_meaning.specs.Yields.{Path, Result, Gives, Exhausted}
+use Rattle.asm_explore.specs.declared.found.Answer.TheVariants as answer
+use Rattle.asm_explore.specs.declared.found.Choice.{Choice}
+use Rattle.asm_explore.specs.declared.found.Found.{Found}
+use Rattle.asm_explore.specs.declared.refusal.Refusal.{Refusal}
+use Rattle.asm_explore.specs.declared.updates.Updates.{Updates}
+use Rattle.asm_explore.specs.Lists.{Situation, AreTaken, Each, IsCounted, IsSound, Shows}
+use Rattle.asm_explore.specs.Placed.{AreApart}
+use Rattle.asm_explore.specs.Reached.{LeadBetween, MakesAll, steps_from}
+use Rattle.asm_explore.specs.ScriptTo.{lines_of}
+use Rattle.asm_explore.specs.Search.{LeadsOn}
+use Rattle.asm_explore.specs.Steps.{AreListed, IsListed, IsStep}
+use Rattle.asm_graph.specs.declared.graph.Edge.{Edge}
+use Rattle.asm_graph.specs.declared.graph.Node.{Node}
+use Rattle.asm_graph.specs.declared.graph.StepFault.{StepFault}
+use Rattle.asm_graph.specs.declared.graph.StepFault.TheVariants as kind
+use Rattle.asm_graph.specs.Graphs.{AreEdges, GoesTo, HasFault, IsEdge, IsKind, Pairs, StandsAt}
+use Rattle.asm_graph.specs.Walked.{FailsSo, HasContents, IsFollowed, IsLed, IsOutcome, Leads}
+use Rattle.asm_graph.proofs.Paired.{each_got, pairs_any, pairs_each}
+
+-- ---- one outcome
+
+pub set_leads : (shape : Shape) (set : Updates) (one : Found) (from next : List Value) → one.answer ≡ answer.Set set
+    → ((U : UpdateSet) → Stands shape set.set U → IsConsistent U)
+    → ((U : UpdateSet) → Stands shape set.set U → IsConsistent U → state_of shape next ≡ fire (state_of shape from) U)
+    → ((U : UpdateSet) → Stands shape set.set U → IsConsistent U → IsStateOf shape from → IsStateOf shape next)
+    → IsStateOf shape from → Leads shape (state_of shape from) one next
+set_leads shape set one from next is consistent fired kept whole = record {
+  kept = λ r shows. by_kept r (subst (λ a. Shows shape a r) is shows);
+  leads = λ r shows. by_led r (subst (λ a. Shows shape a r) is shows);
+}
+  where
+    by_kept : (r : Result) → Shows shape (answer.Set set) r → IsStateOf shape next
+    by_kept (Gives U) stands = kept U stands (consistent U stands) whole
+    by_kept (Exhausted q) stands = absurd stands
+
+    by_led : (r : Result) → Shows shape (answer.Set set) r → LeadsOn r (state_of shape from) (λ B. B ≡ state_of shape next)
+    by_led (Gives U) stands = record {
+      set = U;
+      gives = refl;
+      consistent = consistent U stands;
+      leads = sym (fired U stands (consistent U stands));
+    }
+    by_led (Exhausted q) stands = absurd stands
+
+pub set_fails : (shape : Shape) (set : Updates) (one : Found) (f : StepFault) (fault : Fault) → one.answer ≡ answer.Set set
+    → ((U : UpdateSet) → Stands shape set.set U → IsFirstFault U fault) → IsKind f fault → FailsSo shape one f
+set_fails shape set one f fault is first same = λ r shows. by_result r (subst (λ a. Shows shape a r) is shows)
+  where
+    by_result : (r : Result) → Shows shape (answer.Set set) r → HasFault f r
+    by_result (Gives U) stands = (fault, first U stands, same)
+    by_result (Exhausted q) stands = absurd stands
+
+pub path_fails : (shape : Shape) (p : Path) (one : Found) → one.answer ≡ answer.Exhausted p → FailsSo shape one kind.Exhausted
+path_fails shape p one is = λ r shows. by_result r (subst (λ a. Shows shape a r) is shows)
+  where
+    by_result : (r : Result) → Shows shape (answer.Exhausted p) r → HasFault kind.Exhausted r
+    by_result (Gives U) h = absurd h
+    by_result (Exhausted q) h = refl
+
+pub leads_on : (signature shape : Shape) (from next : List Value) (one : Found) → signature ≡ shape → Leads signature (state_of signature from) one next → Leads shape (state_of shape from) one next
+leads_on signature shape from next one is h = subst (λ sh. Leads sh (state_of sh from) one next) is h
+
+-- ---- an outcome of a step
+
+-- a situation takes the choices of an outcome
+pub some_situation : ((back : List (List Choice)) → Each AreApart back → MakesAll (exactly (lines_of back)) back) → (cs : List Choice) → AreApart cs → (s : Situation) × AreTaken s cs
+some_situation makes cs apart = (record { script = exactly (lines_of (cs ∷ [])); step = 1 }, (makes (cs ∷ []) (apart, tt)).0)
+
+module _ (shape : Shape) (specification : Specification) (turns : ℕ) (A : State) (one : Found) (next : List Value)
+    (outcome : IsOutcome shape specification turns A one) (leads : Leads shape A one next) where
+  pub between : LeadBetween specification turns A (state_of shape next) one.choices.items
+  between = record { apart = outcome.apart; leads = λ s taken. leads.leads (steps_from specification turns A s) (outcome.sound s taken) }
+
+  pub led_on : (within : State → Bool) (depth : ℕ) → within A ≡ true → IsLed specification turns within depth A → IsLed specification turns within (depth + 1) (state_of shape next)
+  led_on within depth inside led = (one.choices.items ∷ led.0, omega (arith, led.1), (A, led.2, inside, between))
+
+  pub whole_next : ((back : List (List Choice)) → Each AreApart back → MakesAll (exactly (lines_of back)) back) → IsStateOf shape next
+  whole_next makes =
+      let s = some_situation makes one.choices.items outcome.apart in
+      leads.kept (steps_from specification turns A s.0) (outcome.sound s.0 s.1)
+
+-- the state that it leads to stands in a node
+pub goes_known : (shape : Shape) (A : State) (one : Found) (next : List Value) (nodes : List Node) (k : ℕ) → Leads shape A one next → HasContents nodes k next
+    → (r : Result) → Shows shape one.answer r → LeadsOn r A (StandsAt shape nodes k)
+goes_known shape A one next nodes k leads there r shows =
+    let so = leads.leads r shows in
+    record { set = so.set; gives = so.gives; consistent = so.consistent; leads = (there.0, there.1, ap (state_of shape) there.2 ∙ sym so.leads) }
+
+-- ---- the outcomes of a step
+
+module _ (shape : Shape) (specification : Specification) (turns : ℕ) (A : State) (outcomes : List Found) (step : IsStep shape specification turns A outcomes) where
+  pub outcome_at : (k : ℕ) (one : Found) → slice_get outcomes k ≡ Some one → IsOutcome shape specification turns A one
+  outcome_at k one there = record {
+    counted = each_got (λ (f : Found). IsCounted (count_of shape) f.answer) outcomes k one step.lists.counted there;
+    sound = each_got (IsSound shape (steps_from specification turns A)) outcomes k one step.lists.sound there;
+    apart = each_got (λ (f : Found). AreApart f.choices.items) outcomes k one step.apart there;
+  }
+
+  module _ (nodes : List Node) (edges : List Edge) (follow : Pairs (IsFollowed shape nodes A) outcomes edges) where
+    pub edges_are : AreEdges shape specification turns nodes A edges
+    edges_are = record {
+      each = pairs_each (IsFollowed shape nodes A) (λ (f : Found). AreApart f.choices.items × IsSound shape (steps_from specification turns A) f) (IsEdge shape specification turns nodes A)
+          (λ f e followed fine. record {
+            apart = subst AreApart (sym followed.choices) fine.0;
+            goes = λ s taken. followed.goes (steps_from specification turns A s) (fine.1 s (subst (AreTaken s) followed.choices taken));
+          }) outcomes edges follow (both outcomes step.apart step.lists.sound);
+      all = λ s.
+          let r = steps_from specification turns A s in
+          pairs_any (IsFollowed shape nodes A) (λ (f : Found). Shows shape f.answer r) (λ (e : Edge). GoesTo shape nodes A r e.to) (λ f e followed shows. followed.goes r shows) outcomes edges follow
+          (step.lists.complete s);
+    }
+      where
+        both : (fs : List Found) → Each (λ (f : Found). AreApart f.choices.items) fs → Each (IsSound shape (steps_from specification turns A)) fs
+            → Each (λ (f : Found). AreApart f.choices.items × IsSound shape (steps_from specification turns A) f) fs
+        both [] h g = tt
+        both (f ∷ fs) h g = ((h.0, g.0), both fs h.1 g.1)
+
+-- ---- the outcomes of one state alone
+
+module _ (shape : Shape) (specification : Specification) (turns : ℕ) (makes : State → Situation → List Choice) (limit : ℕ) where
+  pub listed_last : (A : List Value) (rs front : List (Returned (Vec Found Global) Refusal)) (r : Returned (Vec Found Global) Refusal)
+      → AreListed shape specification turns makes limit (A ∷ []) rs → rs ≡ front ++ r ∷ [] → IsListed shape specification turns makes limit (state_of shape A) r
+  listed_last A rs [] r listed is = (subst (AreListed shape specification turns makes limit (A ∷ [])) is listed).0
+  listed_last A rs (q ∷ []) r listed is = absurd (subst (AreListed shape specification turns makes limit (A ∷ [])) is listed).1
+  listed_last A rs (q ∷ p ∷ front) r listed is = absurd (subst (AreListed shape specification turns makes limit (A ∷ [])) is listed).1

@@ -1,0 +1,5 @@
+use Rattle.asm_graph.proofs.Returning.{quiet_law}
+use Rattle.asm_graph.proofs.laws.quiet_law.Goals as goal
+
+pub returns : goal.returns
+returns c = quiet_law

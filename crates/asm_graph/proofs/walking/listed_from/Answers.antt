@@ -1,0 +1,17 @@
+use Rattle.std.proofs.Common.{◌≡◌, ◌++◌, ◌∷◌, [], ◌∙◌, ap, subst}
+use Rattle.asm_explore.specs.Steps.{AreListed}
+use Rattle.asm_graph.proofs.Outcomes.{listed_last}
+use Rattle.asm_graph.proofs.walking.listed_from.Goals as goal
+
+pub returns-in-Some : goal.returns-in-Some
+returns-in-Some g c =
+    let a = c.args in
+    let shape = g.M.Machine.shape a.machine.now in
+    let specification = g.M.Machine.specification a.machine.now in
+    let turns = g.M.Machine.turns a.machine.now in
+    let makes = g.M.Machine.made a.machine.now in
+    let limit = g.M.Machine.limit a.machine.now in
+    let states : c.as_slice.result.now ≡ a.from.now ∷ [] =
+    c.as_slice.ensures.value ∙ c.in_ok-push.ensures.items ∙ ap (λ xs. xs ++ c.in_ok-state.state ∷ []) c.new-states.ensures.items ∙ ap (λ x. x ∷ []) c.in_ok-state.ensures in
+    listed_last shape specification turns makes limit a.from.now c.in_ok-all.all.items c.pop.new.self.items c.in-Some.listed
+    (subst (λ As. AreListed shape specification turns makes limit As c.in_ok-all.all.items) states c.in_ok-all.ensures) c.in-Some.ensures.items

@@ -1,0 +1,16 @@
+use Rattle.std.proofs.Common.{◌≤◌, ◌-◌, length, take}
+use Rattle.asm_explore.specs.Steps.{IsCrowdOf}
+use Rattle.asm_graph.specs.Graphs.{IsShown, Pairs}
+use Rattle.asm_graph.specs.Walked.{Grows}
+use Rattle.asm_graph.proofs.walking.steps_from_all.Given as goal
+
+-- the steps so far are those from the first nodes
+abbrev pub invariant-loop-made : goal.invariant-loop-made
+invariant-loop-made g l = record {
+  some : length l.made.items ≤ length l.nodes.items;
+  grows : Grows (g.M.Machine.shape l.machine) (g.M.Machine.specification l.machine) (g.M.Machine.turns l.machine) (g.M.Machine.within l.machine) (g.M.Machine.right l.machine) (g.M.Machine.rests l.machine) l.most l.initial.nodes.items l.nodes.items;
+  shown : Pairs (IsShown (g.M.Machine.shape l.machine) (g.M.Machine.specification l.machine) (g.M.Machine.turns l.machine) (g.M.Machine.within l.machine) (IsCrowdOf (g.M.Machine.made l.machine) (g.M.Machine.limit l.machine)) l.steps l.nodes.items) (take (length l.made.items) l.nodes.items) l.made.items;
+}
+
+abbrev pub decreases-loop-made : goal.decreases-loop-made
+decreases-loop-made g l = l.most - length l.made.items
