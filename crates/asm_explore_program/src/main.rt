@@ -1,8 +1,8 @@
 //! The program `asm-explore`: reads a specification and looks for faults in its runs.
 #![tactic(auto)]
 
+use asm_explore_tool::files::SystemFiles;
 use asm_explore_tool::status::{fault_of_words, refusal, status};
-use asm_tool::folder::Disk;
 use asm_tool::input::words;
 use asm_tool::output::Through;
 use std::process::ExitCode;
@@ -11,8 +11,8 @@ fn main(rt: HostRuntime) -> ExitCode {
     let mut err = Through::new(rt.stderr());
     let status = match words(&rt) {
         Ok(words) => {
-            let (disk, input, mut out) = (Disk::new(&rt), rt.stdin(), rt.stdout());
-            status(&rt, &disk, words.as_slice(), input, &mut out, &mut err)
+            let (files, input, mut out) = (SystemFiles::new(&rt), rt.stdin(), rt.stdout());
+            status(&rt, &files, words.as_slice(), input, &mut out, &mut err)
         }
         Err(fault) => refusal(&fault_of_words(&fault), &mut err),
     };

@@ -7,7 +7,7 @@ use Rattle.clap.specs.Simple.{app_of, is_simple}
 use Rattle.clap.specs.Walk.{Rule, Text}
 use Rattle.clap.specs.declared.builder.command.Command.{Command}
 use Rattle.clap.specs.declared.parser.matches.ArgMatches.{ArgMatches}
-use Rattle.asm_run.specs.declared.limits.TheConstants.{STEPS, TURNS}
+use Rattle.asm_run.specs.declared.limits.TheConstants.{STEPS, TURNS, WORKERS}
 use Rattle.asm_explore_tool.specs.declared.words.TheConstants.{STATES, OUTCOMES}
 use Rattle.asm_explore_tool.specs.CommandLine.{command}
 use Rattle.asm_tool.specs.CommandLine.{positional}
@@ -62,3 +62,9 @@ module _ (c : Command) (m : ArgMatches) (p : IsParsedFrom c m) (is : app_of c 鈮
   outcomes = has_number c m p command is unrelated 8 (codes "outcomes") OUTCOMES no_rule refl
       (record { id = refl; set = refl; parser = refl; range = refl; stands = inr (omega arith) }) (apart (codes "outcomes") [] (位 e. omega arith)) (apart (codes "outcomes") (codes "help") (位 e. omega arith))
       (apart (codes "outcomes") (codes "version") (位 e. omega arith))
+
+  pub workers : HasNumber (found_of m) (codes "workers") WORKERS
+  unfolding command
+  workers = has_number c m p command is unrelated 9 (codes "workers") WORKERS no_rule refl
+      (record { id = refl; set = refl; parser = refl; range = refl; stands = inr (omega arith) }) (apart (codes "workers") [] (位 e. omega arith)) (apart (codes "workers") (codes "help") (位 e. omega arith))
+      (apart (codes "workers") (codes "version") (位 e. omega arith))

@@ -11,7 +11,7 @@ use Rattle.clap.specs.Simple.{App, new_rule, new_shape}
 use Rattle.clap.specs.Walk.{Rule, Text}
 use Rattle.clap.specs.declared.builder.action.ArgAction.TheVariants.{Append, SetTrue}
 use Rattle.clap.specs.declared.builder.value_parser.ValueParser.TheVariants.{Unsigned}
-use Rattle.asm_run.specs.declared.limits.TheConstants.{STEPS, TURNS}
+use Rattle.asm_run.specs.declared.limits.TheConstants.{STEPS, TURNS, WORKERS}
 use Rattle.asm_tool.specs.CommandLine.{positional, option, number, required, or_else}
 use Rattle.asm_explore_tool.specs.declared.words.TheConstants.{STATES, OUTCOMES, RUNS}
 
@@ -44,6 +44,8 @@ command = record {
         ∷ option (codes "within")
         ∷ or_else (codes "1000000") (number STATES (codes "states"))
         ∷ or_else (codes "10000") (number OUTCOMES (codes "outcomes"))
+        ∷ or_else (codes "1") (number WORKERS (codes "workers"))
+        ∷ option (codes "dot")
         ∷ flag (codes "trace")
         ∷ [];
   };

@@ -12,6 +12,7 @@ status_of_fault (fault.Text refused) = 2
 status_of_fault fault.Memory = 3
 status_of_fault (fault.File source) = 3
 status_of_fault fault.Write = 3
+status_of_fault (fault.Graph name) = 3
 status_of_fault fault.Unconfirmed = 3
 status_of_fault fault.Unwritten = 3
 
@@ -23,5 +24,6 @@ IsOfWords (fault.Text refused) = ⊥
 IsOfWords fault.Memory = ⊥
 IsOfWords (fault.File source) = ⊥
 IsOfWords fault.Write = ⊥
+IsOfWords (fault.Graph name) = ⊥
 IsOfWords fault.Unconfirmed = ⊥
 IsOfWords fault.Unwritten = ⊥

@@ -20,7 +20,7 @@ use Rattle.clap.specs.declared.error.Error.{Error}
 use Rattle.clap.specs.declared.error.kind.ErrorKind.TheVariants.{ArgumentConflict, OutOfMemory}
 use Rattle.clap.specs.declared.parser.matches.ArgMatches.{ArgMatches}
 use Rattle.clap.specs.declared.parser.matches.Found.{Found}
-use Rattle.asm_run.specs.declared.limits.TheConstants.{STEPS, TURNS}
+use Rattle.asm_run.specs.declared.limits.TheConstants.{STEPS, TURNS, WORKERS}
 use Rattle.asm_run.specs.Limits.{is_within}
 use Rattle.asm_tool.specs.Said.{HasNumber, IsNumber}
 use Rattle.asm_explore_tool.specs.CommandLine.{command, most_unsigned, refusals, random_command, random_refusals, run_command, run_refusals}
@@ -35,7 +35,7 @@ use Rattle.asm_explore_tool.specs.declared.words.TheConstants.{STATES, OUTCOMES,
 
 -- each number is within its bounds
 abbrev pub are_in_range : Settings → Bool
-are_in_range s = is_within STEPS s.steps && is_within TURNS s.turns && is_within STATES s.states && is_within OUTCOMES s.outcomes
+are_in_range s = is_within STEPS s.steps && is_within TURNS s.turns && is_within STATES s.states && is_within OUTCOMES s.outcomes && is_within WORKERS s.workers
 
 -- each seed of 64 bits is one
 abbrev pub are_random_in_range : RandomSettings → Bool
@@ -65,6 +65,7 @@ pub record AreParsed (words : List Text) (matches : ArgMatches) : Type 0 where
   pub turns : HasNumber (found_of matches) (codes "turns") TURNS
   pub states : HasNumber (found_of matches) (codes "states") STATES
   pub outcomes : HasNumber (found_of matches) (codes "outcomes") OUTCOMES
+  pub workers : HasNumber (found_of matches) (codes "workers") WORKERS
 
 pub record AreRandomParsed (words : List Text) (matches : ArgMatches) : Type 0 where
   pub rows : rows_of (found_of matches) ≡ matches_of random_command words
@@ -111,6 +112,8 @@ pub record AreRead (rows : List Row) (settings : Settings) : Type 0 where
   pub always_files : texts settings.always_files.items ≡ all_of (codes "always-file") rows
   pub when_quiet : option_map (λ text. text.now) settings.when_quiet ≡ first_of (codes "deadlock-unless") rows
   pub within : option_map (λ text. text.now) settings.within ≡ first_of (codes "within") rows
+  pub workers : IsNumber rows (codes "workers") settings.workers
+  pub dot : option_map (λ text. text.now) settings.dot ≡ first_of (codes "dot") rows
   pub trace : settings.trace ≡ is_yes (first_of (codes "trace") rows)
 
 abbrev pub AreSaid : List Text → Settings → Type 0

@@ -22,6 +22,7 @@ fn message<W: Write>(fault: &Fault<'_>, out: &mut W) -> fmt::Result {
         Fault::Memory => out.write_str("asm-explore: out of memory\n"),
         Fault::File(source) => unreadable(*source, out),
         Fault::Write => out.write_str("asm-explore: the answer can't be written\n"),
+        Fault::Graph(name) => writeln!(out, "asm-explore: {name}: the graph can't be written"),
         Fault::Unconfirmed => {
             out.write_str("asm-explore: an error of this program: the script leads to no fault\n")
         }

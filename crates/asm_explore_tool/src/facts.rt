@@ -1,6 +1,7 @@
 //! What is printed behind the first line of an answer.
 use crate::conditions::{Condition, Conditions};
 use crate::confirm::steps_shown;
+use crate::drawing::Drawing;
 use crate::place_text::{push_path, push_position};
 use crate::settings::Settings;
 use crate::text_place::text_place;
@@ -167,6 +168,21 @@ pub(crate) fn add_command(
     add(lines, line)
 }
 
+/// Adds a line where the graph of states isn't written.
+fn add_drawing(
+    alloc: Global,
+    lines: &mut Vec<Vec<u8>>,
+    drawing: Drawing,
+) -> Result<(), AllocError> {
+    match drawing {
+        Drawing::NotAsked | Drawing::Written => Ok(()),
+        Drawing::TooMany => add(
+            lines,
+            String::from_str(alloc, "no graph is written: more than 2000 states")?,
+        ),
+    }
+}
+
 /// What is said behind the first line.
 pub(crate) fn facts(
     alloc: Global,
@@ -175,12 +191,14 @@ pub(crate) fn facts(
     conditions: &Conditions<'_>,
     settings: &Settings<'_>,
     answered: &Answered,
+    drawing: Drawing,
 ) -> Result<Vec<Vec<u8>>, AllocError> {
     let mut lines = Vec::new(alloc);
     add_crowd(alloc, &mut lines, text, checked, &answered.finding)?;
     add_conditions(alloc, &mut lines, conditions)?;
     add_looked_for(alloc, &mut lines, conditions)?;
     add_counts(alloc, &mut lines, answered)?;
+    add_drawing(alloc, &mut lines, drawing)?;
     if let Finding::Bad(bad) = &answered.finding {
         add_command(alloc, &mut lines, bad, settings.turns, settings.spec)?;
     }

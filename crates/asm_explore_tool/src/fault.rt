@@ -62,6 +62,8 @@ pub enum Fault<'w> {
     File(Source<'w>),
     /// The answer can't be written.
     Write,
+    /// The graph of states can't be written to the file of this name.
+    Graph(&'w str),
     /// The run under the script that was found ends otherwise than it was found to.
     Unconfirmed,
     /// The choices of the run have no script that isn't too long, and has no number of more than
@@ -76,7 +78,7 @@ impl Fault<'_> {
     {
         match self {
             Fault::Text(_) => 2,
-            Fault::Memory | Fault::File(_) | Fault::Write => 3,
+            Fault::Memory | Fault::File(_) | Fault::Write | Fault::Graph(_) => 3,
             Fault::Unconfirmed | Fault::Unwritten => 3,
             Fault::Words(_) | Fault::NotText => 4,
         }

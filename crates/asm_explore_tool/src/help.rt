@@ -48,6 +48,11 @@ pub const RUNS: &str = "At most so many runs are made: 1 to 1000000";
 
 pub const SEED: &str = "What is drawn depends on it alone: 0 to 18446744073709551615";
 
+pub const WORKERS: &str =
+    "So many workers list outcomes; what is written is the same for all: 1 to 32";
+
+pub const DOT: &str = "Writes the graph of at most 2000 states to this file, for Graphviz";
+
 pub const TRACE: &str = "Shows the trace of the run to a fault, before its script";
 
 /// What stands below the commands.

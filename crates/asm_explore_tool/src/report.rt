@@ -9,6 +9,7 @@ ghost use Rattle.asm_explore_tool.specs.Comments.{comments as comments_of, lines
 use crate::asked::Asked;
 use crate::comment::comments;
 use crate::conditions::Conditions;
+use crate::drawing::Drawing;
 use crate::facts::facts;
 use crate::fault::Fault;
 use crate::fault_words::{Subject, fault_words};
@@ -114,6 +115,7 @@ pub(crate) fn reported<'w, R: Threads + Sync>(
     conditions: &Conditions<'w>,
     settings: &Settings<'w>,
     answered: &Answered,
+    drawing: Drawing,
 ) -> Result<Report, Fault<'w>>
     ensures status { IfOk result (λ report. report.status ≡ found_status answered.now.finding) }
     ensures text { (links : List (Op × Term)) → IsJoined links asked.now.question.always →
@@ -128,7 +130,15 @@ pub(crate) fn reported<'w, R: Threads + Sync>(
     };
     let words = fault_words(rt, alloc, text, &subject, finding)?;
     let first = first_line(alloc, finding, words.as_slice())?;
-    let facts = facts(alloc, text, &asked.checked, conditions, settings, answered)?;
+    let facts = facts(
+        alloc,
+        text,
+        &asked.checked,
+        conditions,
+        settings,
+        answered,
+        drawing,
+    )?;
     let text = printed(
         rt,
         alloc,

@@ -36,6 +36,10 @@ pub struct Settings<'w> {
     pub when_quiet: Option<&'w str>,
     /// From states in which this condition isn't true no run is followed.
     pub within: Option<&'w str>,
+    /// So many workers list outcomes. Their number shows in nothing that is written.
+    pub workers: u32,
+    /// The name of the file to which the graph of states is written, where there is one.
+    pub dot: Option<&'w str>,
     /// Whether the trace of the run that is found is shown.
     pub trace: bool,
 }

@@ -1,5 +1,5 @@
 //! The program over any reader and writers, and the status that it ends with.
-ghost use Rattle.std.specs.Prelude.{◌≡◌, ◌≢◌, false, map, IfOk, OnOk};
+ghost use Rattle.std.specs.Prelude.{◌≡◌, ◌≢◌, ◌<◌, ◌≤◌, false, map, IfOk, OnOk};
 ghost use Rattle.std.specs.Io.KnownBytes.{Appends};
 ghost use Rattle.asm_explore_tool.specs.Answered.{Answers, AnswersRandom, AnswersRun, AnswersTask, AreTaken, IsAnswered};
 ghost use Rattle.asm_explore_tool.specs.Faults.{IsOfWords, status_of_fault};
@@ -11,15 +11,18 @@ use crate::asked::ask;
 use crate::choices_report::choices_report;
 use crate::clash_report::clash_report;
 use crate::conditions::Conditions;
+use crate::drawing::draw;
 use crate::explain::explain;
 use crate::fault::{Fault, Source};
+use crate::files::NewFiles;
 use crate::given::{always_given, conditions, text};
 use crate::random_report::random_report;
 use crate::report::{Report, reported};
 use crate::run_texts::run_texts;
 use crate::settings::{RandomSettings, RunSettings, Settings, Task};
 use crate::words::settings;
-use asm_explore::whole::explore_all;
+use asm_explore_workers::explore_all_by;
+use asm_run::limits::WORKERS;
 use asm_run::sink::Sink;
 use asm_tool::fault::Fault as ToolFault;
 use asm_tool::folder::Folder;
@@ -34,7 +37,7 @@ use std::thread::Threads;
 /// words are those behind the program's name.
 pub fn status<
     R: Threads + Sync + AllocGlobal,
-    F: Folder,
+    F: Folder + NewFiles,
     S: AsStr,
     I: Read + Drop,
     O: Write,
@@ -68,13 +71,14 @@ pub fn refusal<E: Sink>(fault: &Fault<'_>, err: &mut E) -> u8
 }
 
 /// Writes the answer to the words, and returns its status.
-fn answer<'w, R: Threads + Sync + AllocGlobal, F: Folder, S: AsStr, I: Read + Drop, O: Write>(
-    rt: &R,
-    folder: &F,
-    words: &'w [S],
-    input: I,
-    out: &mut O,
-) -> Result<u8, Fault<'w>>
+fn answer<
+    'w,
+    R: Threads + Sync + AllocGlobal,
+    F: Folder + NewFiles,
+    S: AsStr,
+    I: Read + Drop,
+    O: Write,
+>(rt: &R, folder: &F, words: &'w [S], input: I, out: &mut O) -> Result<u8, Fault<'w>>
     ensures { AreTaken (map S.text words.entry.now) →
         IfOk result (IsAnswered (F.contents folder.now) (I.remaining input) (O.contents out.old) (O.contents out.new) (map S.text words.entry.now)) }
 {
@@ -85,7 +89,7 @@ fn answer<'w, R: Threads + Sync + AllocGlobal, F: Folder, S: AsStr, I: Read + Dr
 }
 
 /// Writes the answer to a command with its settings, and returns its status.
-fn answer_task<'w, R: Threads + Sync, F: Folder, I: Read + Drop, O: Write>(
+fn answer_task<'w, R: Threads + Sync, F: Folder + NewFiles, I: Read + Drop, O: Write>(
     rt: &R,
     folder: &F,
     alloc: Global,
@@ -143,7 +147,7 @@ fn answer_clash<'w, R: Threads + Sync, F: Folder, I: Read + Drop, O: Write>(
 }
 
 /// Writes the answer to settings of `all`, and returns its status.
-fn answer_settings<'w, R: Threads + Sync, F: Folder, I: Read + Drop, O: Write>(
+fn answer_settings<'w, R: Threads + Sync, F: Folder + NewFiles, I: Read + Drop, O: Write>(
     rt: &R,
     folder: &F,
     alloc: Global,
@@ -156,7 +160,7 @@ fn answer_settings<'w, R: Threads + Sync, F: Folder, I: Read + Drop, O: Write>(
     let spec = settings.spec;
     let text = text(folder, alloc, Source::Specification(spec), spec, input)?;
     let conditions = conditions(folder, alloc, settings)?;
-    let report = explored(rt, alloc, text.as_slice(), &conditions, settings)?;
+    let report = explored(rt, folder, alloc, text.as_slice(), &conditions, settings)?;
     written(out, report.text.as_slice())?;
     Ok(report.status)
 }
@@ -228,9 +232,21 @@ fn written<'w, O: Write>(out: &mut O, text: &[u8]) -> Result<(), Fault<'w>>
     }
 }
 
+/// So many workers as the settings ask for, or as near to it as there may be.
+fn workers_of(settings: &Settings<'_>) -> usize
+    ensures { (0 < result) × (result ≤ 32) }
+{
+    match settings.workers {
+        0 => 1,
+        workers if workers > WORKERS.most => WORKERS.most as usize,
+        workers => workers as usize,
+    }
+}
+
 /// What is printed of the specification with this text, and the status of that.
-fn explored<'w, R: Threads + Sync>(
+fn explored<'w, R: Threads + Sync, F: NewFiles>(
     rt: &R,
+    files: &F,
     alloc: Global,
     text: &[u8],
     conditions: &Conditions<'w>,
@@ -239,6 +255,10 @@ fn explored<'w, R: Threads + Sync>(
     ensures { IfOk result (IsReported text.now conditions.now settings.now) }
 {
     let asked = ask(alloc, text, conditions, settings)?;
-    let answered = explore_all(alloc, &asked.checked, &asked.question)?;
-    reported(rt, alloc, text, &asked, conditions, settings, &answered)
+    let workers = workers_of(settings);
+    let answered = explore_all_by(rt, alloc, &asked.checked, &asked.question, workers)?;
+    let drawing = draw(files, alloc, &asked, settings.dot)?;
+    reported(
+        rt, alloc, text, &asked, conditions, settings, &answered, drawing,
+    )
 }

@@ -14,7 +14,7 @@ use crate::fault::Fault;
 use crate::help;
 use crate::random_words::{of_random, random};
 use crate::settings::{RunSettings, Settings, Task, is_standard_input};
-use asm_run::limits::{Bounds, STEPS, TURNS};
+use asm_run::limits::{Bounds, STEPS, TURNS, WORKERS};
 use clap::error::ErrorKind;
 use clap::{ArgMatches, Command, Error};
 use std::alloc::{AllocError, Global};
@@ -112,6 +112,8 @@ fn of_all<'w, S: AsStr>(alloc: Global, words: &'w [S]) -> Result<Settings<'w>, E
         always_files: texts_of(alloc, &given, "always-file")?,
         when_quiet: given.get_str("deadlock-unless"),
         within: given.get_str("within"),
+        workers: number_of(&given, "workers"),
+        dot: given.get_str("dot"),
         trace: is_set(&given, "trace"),
     })
 }
@@ -135,6 +137,7 @@ fn all<'w>(alloc: Global) -> Result<Command<'w>, AllocError>
     let turns = number(alloc, "turns", TURNS, help::TURNS).default_value("1000");
     let states = number(alloc, "states", STATES, help::STATES).default_value("1000000");
     let outcomes = number(alloc, "outcomes", OUTCOMES, help::OUTCOMES).default_value("10000");
+    let workers = number(alloc, "workers", WORKERS, help::WORKERS).default_value("1");
     Command::new(alloc, "asm-explore all")
         .display_name(help::NAME)?
         .version(help::VERSION)
@@ -150,6 +153,8 @@ fn all<'w>(alloc: Global) -> Result<Command<'w>, AllocError>
         .arg(text(alloc, "within", "COND", help::WITHIN))?
         .arg(states)?
         .arg(outcomes)?
+        .arg(workers)?
+        .arg(text(alloc, "dot", "FILE", help::DOT))?
         .arg(flag(alloc, "trace", help::TRACE))
 }
 

@@ -2,7 +2,7 @@ use Rattle.std.proofs.Common.{◌≡◌, ◌∙◌, true, ap, codes, refl}
 use Rattle.std.proofs.lemmas.Result.{IfOk-weaker}
 use Rattle.clap.specs.Simple.{App, app_of, app_of_fields, new_app, on_top}
 use Rattle.clap.specs.Walk.{rule_of}
-use Rattle.asm_run.specs.declared.limits.TheConstants.{STEPS, TURNS}
+use Rattle.asm_run.specs.declared.limits.TheConstants.{STEPS, TURNS, WORKERS}
 use Rattle.asm_explore_tool.specs.declared.words.TheConstants.{STATES, OUTCOMES}
 use Rattle.asm_explore_tool.specs.CommandLine.{command, flag, repeated}
 use Rattle.asm_tool.specs.CommandLine.{option, number, positional, required, or_else}
@@ -31,4 +31,6 @@ returns c =
     let seven = grown _ _ _ _ (option (codes "within")) c.in_ok-arg-7.ensures six c.text-2.ensures refl in
     let eight = grown _ _ _ _ (or_else (codes "1000000") (number STATES (codes "states"))) c.in_ok-arg-8.ensures seven (ap rule_of c.default_value-states.ensures ∙ ap (or_else (codes "1000000")) c.number-3.ensures) refl in
     let nine = grown _ _ _ _ (or_else (codes "10000") (number OUTCOMES (codes "outcomes"))) c.in_ok-arg-9.ensures eight (ap rule_of c.default_value-outcomes.ensures ∙ ap (or_else (codes "10000")) c.number-4.ensures) refl in
-    IfOk-weaker c.arg-10.result _ _ (λ m added. grown _ m _ _ (flag (codes "trace")) added nine c.flag.ensures refl) c.arg-10.ensures
+    let ten = grown _ _ _ _ (or_else (codes "1") (number WORKERS (codes "workers"))) c.in_ok-arg-10.ensures nine (ap rule_of c.default_value-workers.ensures ∙ ap (or_else (codes "1")) c.number-5.ensures) refl in
+    let eleven = grown _ _ _ _ (option (codes "dot")) c.in_ok-arg-11.ensures ten c.text-3.ensures refl in
+    IfOk-weaker c.arg-12.result _ _ (λ m added. grown _ m _ _ (flag (codes "trace")) added eleven c.flag.ensures refl) c.arg-12.ensures

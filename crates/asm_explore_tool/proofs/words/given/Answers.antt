@@ -5,7 +5,7 @@ use Rattle.clap.specs.Kinds.{HasKind}
 use Rattle.clap.specs.Simple.{App, is_simple, matches_of}
 use Rattle.clap.specs.declared.error.Error.{Error}
 use Rattle.asm_explore_tool.specs.CommandLine.{refusals}
-use Rattle.asm_explore_tool.proofs.Options.{is_free, is_plain, spec, steps, turns, states, outcomes}
+use Rattle.asm_explore_tool.proofs.Options.{is_free, is_plain, spec, steps, turns, states, outcomes, workers}
 use Rattle.asm_explore_tool.proofs.words.given.Goals as goal
 
 pub returns-in_err-given-clause-refused : goal.returns-in_err-given-clause-refused
@@ -36,4 +36,5 @@ returns-clause-parsed g c =
       turns = turns c.in_ok-command.command m p is;
       states = states c.in_ok-command.command m p is;
       outcomes = outcomes c.in_ok-command.command m p is;
+      workers = workers c.in_ok-command.command m p is;
     }

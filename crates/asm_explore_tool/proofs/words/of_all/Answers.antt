@@ -19,6 +19,9 @@ number_of-requires-3 g c = wider (found_of c.in_ok-given.given) _ _ (omega arith
 pub number_of-requires-4 : goal.number_of-requires-4
 number_of-requires-4 g c = wider (found_of c.in_ok-given.given) _ _ (omega arith) c.in_ok-given.ensures.parsed.outcomes
 
+pub number_of-requires-5 : goal.number_of-requires-5
+number_of-requires-5 g c = wider (found_of c.in_ok-given.given) _ _ (omega arith) c.in_ok-given.ensures.parsed.workers
+
 pub returns-clause-in_range : goal.returns-clause-in_range
 returns-clause-in_range g c =
     let f = found_of c.in_ok-given.given in
@@ -27,7 +30,8 @@ returns-clause-in_range g c =
     let turns = is_in_range f _ _ p.turns c.number_of-2.result c.number_of-2.ensures in
     let states = is_in_range f _ _ p.states c.number_of-3.result c.number_of-3.ensures in
     let outcomes = is_in_range f _ _ p.outcomes c.number_of-4.result c.number_of-4.ensures in
-    and_from _ _ (and_from _ _ (and_from _ _ steps turns) states) outcomes
+    let workers = is_in_range f _ _ p.workers c.number_of-5.result c.number_of-5.ensures in
+    and_from _ _ (and_from _ _ (and_from _ _ (and_from _ _ steps turns) states) outcomes) workers
 
 pub returns-clause-said : goal.returns-clause-said
 returns-clause-said g c =
@@ -43,5 +47,7 @@ returns-clause-said g c =
       always_files = c.in_ok-texts_of-2.ensures ∙ ap (all_of (codes "always-file")) p.rows;
       when_quiet = c.get_str-2.ensures ∙ (sym (first_of_rows f (codes "deadlock-unless")) ∙ ap (first_of (codes "deadlock-unless")) p.rows);
       within = c.get_str-3.ensures ∙ (sym (first_of_rows f (codes "within")) ∙ ap (first_of (codes "within")) p.rows);
+      workers = is_number f _ _ p.workers c.number_of-5.result c.number_of-5.ensures _ p.rows;
+      dot = c.get_str-4.ensures ∙ (sym (first_of_rows f (codes "dot")) ∙ ap (first_of (codes "dot")) p.rows);
       trace = c.is_set.ensures ∙ ap is_yes (sym (first_of_rows f (codes "trace")) ∙ ap (first_of (codes "trace")) p.rows);
     }

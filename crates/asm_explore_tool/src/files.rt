@@ -1,0 +1,47 @@
+//! Files that are read, and files that are made.
+ghost use Rattle.std.specs.Prelude.{None};
+
+use asm_tool::folder::Folder;
+use std::io::Write;
+use std::rt::Files;
+use std::{fs, io};
+
+/// Makes files.
+pub trait NewFiles {
+    /// A file that is made.
+    type New: Write + Drop;
+
+    /// An empty file of this name. What a file of this name had is gone.
+    fn create(&self, name: &str) -> io::Result<Self::New>;
+}
+
+/// The files of the system, of which nothing is known.
+#[derive(Drop)]
+pub struct SystemFiles<'a, R> {
+    rt: &'a R,
+}
+
+impl<'a, R> SystemFiles<'a, R> {
+    /// The files that this runtime opens and makes.
+    pub fn new(rt: &'a R) -> SystemFiles<'a, R> {
+        SystemFiles { rt }
+    }
+}
+
+impl<R: Files> Folder for SystemFiles<'_, R> {
+    type File = R::File;
+
+    ghost contents = { λ _ _. None };
+
+    fn open(&self, name: &str) -> io::Result<R::File> {
+        fs::open(self.rt, name)
+    }
+}
+
+impl<R: Files> NewFiles for SystemFiles<'_, R> {
+    type New = R::File;
+
+    fn create(&self, name: &str) -> io::Result<R::File> {
+        fs::create(self.rt, name)
+    }
+}
