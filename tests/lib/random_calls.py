@@ -120,6 +120,12 @@ function controlled x initially 0
 rule M = choose u in U do choose v in U with v > u and v < u + 100 do x := v - u endchoose endchoose
 """
 
+# Paths with numbers of several digits.
+FAR = """universe U = 0 .. 1199
+function controlled f : U
+rule M = forall u in U with u mod 300 = 299 do choose v in U with v mod 400 = 3 do f(u) := v endchoose endforall
+"""
+
 EATING = "not (exists p in Philosopher with meals(p) = 2)"
 WAITING = "(exists s in Seat with holder(s) != s)"
 
@@ -165,6 +171,7 @@ CALLS = [
     of(OUTSIDE, "--always", "at != 2", "--steps", "9"),
     of(MANY, "--always", "x != 99", "--steps", "50", "--runs", "20"),
     of(MANY, "--always", "x < 80", "--steps", "4", "--runs", "20"),
+    of(FAR, "--always", "f(299) = undef or f(299) = f(1199) or f(599) != f(899)", "--steps", "4", "--runs", "20"),
     of("rule M = skip\n", "--runs", "20000", "--steps", "1000000"),
 ]
 
