@@ -1,6 +1,7 @@
 # Completion of the words of asm-explore, for bash: source it, or let ./install put it where bash looks for it.
 _asm_explore() {
-    local current="${COMP_WORDS[COMP_CWORD]}" before="${COMP_WORDS[COMP_CWORD - 1]}"
+    local current="${COMP_WORDS[COMP_CWORD]}" before="${COMP_WORDS[COMP_CWORD - 1]}" command="${COMP_WORDS[1]}"
+    local commands=$'all\nrandom\nchoices\nclash\nhelp' options=$'--steps\n--turns\n--help\n--version'
     COMPREPLY=()
     # A name with spaces stays one word.
     local IFS=$'\n'
@@ -12,20 +13,31 @@ _asm_explore() {
         before="${COMP_WORDS[COMP_CWORD - 2]}"
     fi
     if [ "$COMP_CWORD" = 1 ]; then
-        COMPREPLY=($(compgen -W $'all\nhelp\n--help\n--version' -- "$current"))
+        COMPREPLY=($(compgen -W "$commands"$'\n--help\n--version' -- "$current"))
         return
     fi
+    case "$command" in
+        all) options+=$'\n--always\n--always-file\n--deadlock-unless\n--within\n--states\n--outcomes\n--trace' ;;
+        random) options+=$'\n--always\n--always-file\n--runs\n--seed\n--trace' ;;
+        choices | clash) options+=$'\n--script' ;;
+        help)
+            COMPREPLY=($(compgen -W "$commands" -- "$current"))
+            return
+            ;;
+    esac
     case "$before" in
         --always-file)
             COMPREPLY=($(compgen -f -- "$current") $(compgen -d -- "$current"))
             return
             ;;
-        --steps | --turns | --states | --outcomes | --always | --deadlock-unless | --within) return ;;
+        --script)
+            COMPREPLY=($(compgen -f -X '!*.script' -- "$current") $(compgen -d -- "$current"))
+            return
+            ;;
+        --steps | --turns | --states | --outcomes | --runs | --seed | --always | --deadlock-unless | --within) return ;;
     esac
     case "$current" in
-        -*)
-            COMPREPLY=($(compgen -W $'--always\n--always-file\n--deadlock-unless\n--within\n--steps\n--states\n--outcomes\n--turns\n--help\n--version' -- "$current"))
-            ;;
+        -*) COMPREPLY=($(compgen -W "$options" -- "$current")) ;;
         *) COMPREPLY=($(compgen -f -X '!*.asm' -- "$current") $(compgen -d -- "$current")) ;;
     esac
 }
