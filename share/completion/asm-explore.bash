@@ -17,7 +17,7 @@ _asm_explore() {
         return
     fi
     case "$command" in
-        all) options+=$'\n--always\n--always-file\n--deadlock-unless\n--within\n--states\n--outcomes\n--trace' ;;
+        all) options+=$'\n--always\n--always-file\n--deadlock-unless\n--within\n--states\n--outcomes\n--workers\n--dot\n--trace' ;;
         random) options+=$'\n--always\n--always-file\n--runs\n--seed\n--trace' ;;
         choices | clash) options+=$'\n--script' ;;
         help)
@@ -26,7 +26,7 @@ _asm_explore() {
             ;;
     esac
     case "$before" in
-        --always-file)
+        --always-file | --dot)
             COMPREPLY=($(compgen -f -- "$current") $(compgen -d -- "$current"))
             return
             ;;
@@ -34,7 +34,7 @@ _asm_explore() {
             COMPREPLY=($(compgen -f -X '!*.script' -- "$current") $(compgen -d -- "$current"))
             return
             ;;
-        --steps | --turns | --states | --outcomes | --runs | --seed | --always | --deadlock-unless | --within) return ;;
+        --steps | --turns | --states | --outcomes | --workers | --runs | --seed | --always | --deadlock-unless | --within) return ;;
     esac
     case "$current" in
         -*) COMPREPLY=($(compgen -W "$options" -- "$current")) ;;
