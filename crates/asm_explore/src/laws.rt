@@ -1,17 +1,28 @@
 //! Laws of what is listed, and of what is claimed.
-ghost use Rattle.std.specs.Prelude.{◌≡◌, ℕ, Bool, true, List};
+ghost use Rattle.std.specs.Prelude.{◌≡◌, ℕ, Bool, true, List, []};
 ghost use Rattle.asm_state.specs.Location.{State};
 ghost use Rattle.asm_state.specs.Signature.{Shape};
 ghost use Rattle.asm_reader.specs.ExactLines.{exactly};
 ghost use Rattle.asm_reader.specs.ScriptLines.{Line, Script, pick};
+ghost use Rattle.asm_syntax.specs.Views.{spec_of};
+ghost use Rattle.asm_check.specs.Faults.{inits};
+ghost use Rattle.asm_check.specs.Shapes.{shape_of};
+ghost use Rattle.asm_check.specs.declared.checked.Checked.{Checked};
+ghost use Rattle.asm_meaning.specs.Declarations.{main_rule, specification_of};
 ghost use Rattle.asm_meaning.specs.Run.{Specification};
 ghost use Rattle.asm_meaning.specs.Scripts.{IsUnrepeated};
 ghost use Rattle.asm_meaning.specs.Value.{Reading};
 ghost use Rattle.asm_meaning.specs.Yields.{Path};
 ghost use Rattle.asm_eval.specs.RuleMeaning.{Locations};
+ghost use Rattle.asm_eval.specs.RuleScopes.{resolved_rule_in};
 ghost use Rattle.asm_eval.specs.RuleTree.{RuleCode};
+ghost use Rattle.asm_explore.specs.declared.answer.Answered.{Answered};
 ghost use Rattle.asm_explore.specs.declared.found.Choice.{Choice};
+ghost use Rattle.asm_explore.specs.Answers.{IsAnswer};
 ghost use Rattle.asm_explore.specs.Elements.{Each};
+ghost use Rattle.asm_explore.specs.Made.{made_in};
+ghost use Rattle.asm_explore.specs.MainRule.{IsCrowdedMain};
+ghost use Rattle.asm_explore.specs.Steps.{IsCrowdOf};
 ghost use Rattle.asm_explore.specs.Placed.{AreApart};
 ghost use Rattle.asm_explore.specs.ChoiceLaws.{ChoiceLaws};
 ghost use Rattle.asm_explore.specs.MadeLaws.{MakingLaws};
@@ -51,6 +62,17 @@ pub fn zeros_law()
 /// Where each line is written, all are.
 pub fn written_law()
     ensures { (lines : List Line) → written Written lines ≡ lines }
+{}
+
+/// What an answer says of some conditions it says of others that are true in the same states, and
+/// what it says of too many outcomes of the main rule's code, it says of the main rule.
+pub fn same_answer()
+    ensures { (checked : Checked) (P : RuleCode) (turns outcomes steps states : ℕ) (right rests within also rested inside : State → Bool) (answer : Answered) →
+        let s = spec_of checked.spec in
+        resolved_rule_in s [] (main_rule s (inits s)) P →
+        ((A : State) → right A ≡ also A) → ((A : State) → rests A ≡ rested A) → ((A : State) → within A ≡ inside A) →
+        IsAnswer (specification_of s) turns (IsCrowdOf (made_in (shape_of s) turns P) outcomes) steps states right rests within answer →
+        IsAnswer (specification_of s) turns (IsCrowdedMain checked turns outcomes) steps states also rested inside answer }
 {}
 
 /// A rule makes each of its choices at a path of its own, at or below that of the rule. Who chooses

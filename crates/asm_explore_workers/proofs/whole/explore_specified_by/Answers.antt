@@ -1,4 +1,5 @@
 use Rattle.std.proofs.Common.{◌≡◌, refl, subst}
+use Rattle.std.proofs.lemmas.Result.{IfOk-weaker}
 use Rattle.asm_state.specs.Signature.{initial_state, state_of}
 use Rattle.asm_syntax.specs.Views.{spec_of}
 use Rattle.asm_check.specs.Shapes.{shape_of}
@@ -9,7 +10,6 @@ use Rattle.asm_explore.specs.Conditions.{holds_in}
 use Rattle.asm_explore.specs.MainRule.{IsCrowdedMain}
 use Rattle.asm_explore.specs.Made.{made_in}
 use Rattle.asm_explore.specs.Steps.{IsCrowdOf}
-use Rattle.asm_explore.proofs.Endings.{errs_or}
 use Rattle.asm_explore.proofs.Specifications.{same_answer}
 use Rattle.asm_explore_workers.proofs.whole.explore_specified_by.Goals as goal
 
@@ -24,7 +24,7 @@ returns g c =
     let right = holds_in (shape_of s) m.always.now in
     let rests = holds_in (shape_of s) m.when_quiet.now in
     let within = holds_in (shape_of s) m.within.now in
-    errs_or (IsAnswer (specification_of s) m.turns (IsCrowdOf (made_in (shape_of s) m.turns (rule_of m.code.now)) m.limit) c.args.steps c.args.states right rests within)
-    (IsAnswer (specification_of s) m.turns (IsCrowdedMain m.checked.now m.turns m.limit) c.args.steps c.args.states right rests within) c.explore_machine.result
+    IfOk-weaker c.explore_machine.result (IsAnswer (specification_of s) m.turns (IsCrowdOf (made_in (shape_of s) m.turns (rule_of m.code.now)) m.limit) c.args.steps c.args.states right rests within)
+    (IsAnswer (specification_of s) m.turns (IsCrowdedMain m.checked.now m.turns m.limit) c.args.steps c.args.states right rests within)
     (λ answer. same_answer (specification_of s) m.turns (IsCrowdOf (made_in (shape_of s) m.turns (rule_of m.code.now)) m.limit) (IsCrowdedMain m.checked.now m.turns m.limit)
     (λ A crowd so. (rule_of m.code.now, c.requires.sound.main, so)) c.args.steps c.args.states right rests within right rests within answer (λ A. refl) (λ A. refl) (λ A. refl)) c.explore_machine.ensures
