@@ -39,7 +39,7 @@ fn tallies(alloc: Global, workers: usize) -> Result<Vec<Tally>, AllocError>
 
 /// The lists of the first tasks, up to the first one that lists nothing.
 fn first_lists(alloc: Global, outs: Vec<Option<Listed>>) -> Result<Vec<Listed>, AllocError>
-    ensures { IfOk result (λ lists. lists.items ≡ firsts outs.entry.items) }
+    ensures { IfOk result (λ lists. lists.items ≡ firsts outs.items) }
 {
     let mut lists = Vec::with_capacity(alloc, outs.len())?;
     for out in outs {

@@ -15,8 +15,8 @@ use Rattle.asm_explore.proofs.Reaching.{whole_nodes, looked_more, looked_same, l
 use Rattle.asm_explore.proofs.Resting.{rested_more, rested_same}
 use Rattle.asm_explore.proofs.search.expand_batch.Goals as goal
 
-pub index-requires : goal.index-requires
-index-requires g c =
+pub bounds-lists-k : goal.bounds-lists-k
+bounds-lists-k g c =
     let a = c.args in
     let count = listed_count (g.M.Machine.shape a.machine.now) (g.M.Machine.specification a.machine.now) (g.M.Machine.turns a.machine.now) (g.M.Machine.made a.machine.now) (g.M.Machine.limit a.machine.now) a.states.now a.lists.now c.requires.listed in
     omega (arith, count, c.loop-k-test.true)
@@ -56,8 +56,8 @@ expand_listed-requires-clause-here g c = λ m here.
 pub expand_listed-requires-clause-step : goal.expand_listed-requires-clause-step
 expand_listed-requires-clause-step g c =
     let a = c.args in
-    listed_at (g.M.Machine.shape a.machine.now) (g.M.Machine.specification a.machine.now) (g.M.Machine.turns a.machine.now) (g.M.Machine.made a.machine.now) (g.M.Machine.limit a.machine.now) a.states.now a.lists.now c.loop-k.k c.index-states-k.result c.index.result.now
-    c.requires.listed c.loop-k-test.true c.index-states-k.is c.index.ensures
+    listed_at (g.M.Machine.shape a.machine.now) (g.M.Machine.specification a.machine.now) (g.M.Machine.turns a.machine.now) (g.M.Machine.made a.machine.now) (g.M.Machine.limit a.machine.now) a.states.now a.lists.now c.loop-k.k c.index-states-k.result c.index-lists-k.result
+    c.requires.listed c.loop-k-test.true c.index-states-k.is c.index-lists-k.is
 
 pub returns-in-Ok-Some-clause-more : goal.returns-in-Ok-Some-clause-more
 returns-in-Ok-Some-clause-more g c =
@@ -75,8 +75,8 @@ returns-in-Ok-Some-clause-more g c =
     let longer = long_more shape specification turns right (n.0.depth + 1) l.nodes c.expand_listed.new.nodes (c.in-Ok-Some.ensures.extends n.0 there) in
     omega (arith, longer, l.invariant.more)
 
-pub returns-in-Err-expand_listed-clause-more : goal.returns-in-Err-expand_listed-clause-more
-returns-in-Err-expand_listed-clause-more g c =
+pub returns-in-Err-clause-more : goal.returns-in-Err-clause-more
+returns-in-Err-clause-more g c =
     let a = c.args in
     let l = c.loop-k in
     let shape = g.M.Machine.shape a.machine.now in
@@ -88,7 +88,7 @@ returns-in-Err-expand_listed-clause-more g c =
     let i = a.first + l.k in
     let n = some_at a.nodes.now i (omega (arith, c.requires.first, c.loop-k-test.true)) in
     let there = l.invariant.same i n.0 n.1 in
-    let longer = long_more shape specification turns right (n.0.depth + 1) l.nodes c.expand_listed.new.nodes (c.in-Err-expand_listed.ensures.extends n.0 there) in
+    let longer = long_more shape specification turns right (n.0.depth + 1) l.nodes c.expand_listed.new.nodes (c.in-Err.ensures.extends n.0 there) in
     omega (arith, longer, l.invariant.more)
 
 pub returns-in-Ok-Some-clause-stopped : goal.returns-in-Ok-Some-clause-stopped
@@ -134,8 +134,8 @@ returns-in-Ok-Some-clause-stopped g c =
       crowded = tt;
     }
 
-pub returns-in-Err-expand_listed-clause-stopped : goal.returns-in-Err-expand_listed-clause-stopped
-returns-in-Err-expand_listed-clause-stopped g c =
+pub returns-in-Err-clause-stopped : goal.returns-in-Err-clause-stopped
+returns-in-Err-clause-stopped g c =
     let a = c.args in
     let l = c.loop-k in
     let shape = g.M.Machine.shape a.machine.now in
@@ -148,9 +148,9 @@ returns-in-Err-expand_listed-clause-stopped g c =
     let n = some_at a.nodes.now i (omega (arith, c.requires.first, c.loop-k-test.true)) in
     let there = l.invariant.same i n.0 n.1 in
     let inside = shallow_at (λ (n : Node). within (state_at shape n) ≡ true) a.nodes.now a.first (length a.states.now) l.k n.0 c.requires.inside c.loop-k-test.true n.1 in
-    let extends = c.in-Err-expand_listed.ensures.extends n.0 there in
+    let extends = c.in-Err.ensures.extends n.0 there in
     let longer = long_more shape specification turns right (n.0.depth + 1) l.nodes c.expand_listed.new.nodes extends in
-    let refused = c.cut_off-in-Err-expand_listed.ensures.refused in
+    let refused = c.cut_off.ensures.refused in
     let makes = g.M.Machine.made a.machine.now in
     let limit = g.M.Machine.limit a.machine.now in
     let A = state_of shape c.index-states-k.result in
@@ -159,19 +159,19 @@ returns-in-Err-expand_listed-clause-stopped g c =
     sym (batch_at a.nodes.now a.first l.k a.states.now n.0 c.index-states-k.result c.requires.states c.loop-k-test.true n.1) ∙ sym c.index-states-k.is in
     record {
       some = omega (arith, longer, l.invariant.more, c.requires.first, c.loop-k-test.true);
-      so_far = looked_same shape specification turns right within a.steps i n.0 (n.0.depth + 1) l.nodes c.expand_listed.new.nodes there refl extends (λ j k past here. (c.in-Err-expand_listed.ensures.begun j k past here, inside)) l.invariant.near l.invariant.looked;
-      all = λ done. absurd (refused_done c.cut_off-in-Err-expand_listed.result refused done);
-      closed = λ closed. absurd (refused_closed c.cut_off-in-Err-expand_listed.result refused closed);
-      wrong = refused_bad _ c.cut_off-in-Err-expand_listed.result refused;
-      full = λ full. halts_full (a.limit ≤ length c.expand_listed.new.nodes) (IsCrowdOf makes limit A) c.in-Err-expand_listed.halt (c.cut_off-in-Err-expand_listed.ensures.states full) c.in-Err-expand_listed.ensures.full;
+      so_far = looked_same shape specification turns right within a.steps i n.0 (n.0.depth + 1) l.nodes c.expand_listed.new.nodes there refl extends (λ j k past here. (c.in-Err.ensures.begun j k past here, inside)) l.invariant.near l.invariant.looked;
+      all = λ done. absurd (refused_done c.cut_off.result refused done);
+      closed = λ closed. absurd (refused_closed c.cut_off.result refused closed);
+      wrong = refused_bad _ c.cut_off.result refused;
+      full = λ full. halts_full (a.limit ≤ length c.expand_listed.new.nodes) (IsCrowdOf makes limit A) c.in-Err.halt (c.cut_off.ensures.states full) c.in-Err.ensures.full;
       crowded = ends_crowded (a.limit ≤ length c.expand_listed.new.nodes) (IsCrowdOf makes limit A) (λ crowd. (m : Node) × (slice_get c.expand_listed.new.nodes i ≡ Some m) × (m.depth < a.steps) × IsCrowdOf makes limit (state_at shape m) crowd)
-          c.cut_off-in-Err-expand_listed.result c.in-Err-expand_listed.halt c.cut_off-in-Err-expand_listed.ensures.crowd
+          c.cut_off.result c.in-Err.halt c.cut_off.ensures.crowd
           (λ crowd so. (
             n.0,
             at_more shape specification turns right (n.0.depth + 1) l.nodes c.expand_listed.new.nodes extends i n.0 there,
             deep,
             subst (λ xs. IsCrowdOf makes limit (state_of shape xs) crowd) (sym here) so,
-          )) c.in-Err-expand_listed.ensures.full;
+          )) c.in-Err.ensures.full;
     }
 
 pub loop-k-preserved : goal.loop-k-preserved
@@ -227,8 +227,8 @@ returns-in-Ok-Some-clause-rests g c =
     (omega (arith, slice_get_within l.nodes i n.0 there)) extends.is
     (subst (λ o. IfSome o (λ (_ : Bad). c.expand_listed.new.quiet.items ≡ l.quiet.items)) c.in-Ok-Some.field-0-is c.in-Ok-Some.ensures.listed) l.invariant.rested
 
-pub returns-in-Err-expand_listed-clause-rests : goal.returns-in-Err-expand_listed-clause-rests
-returns-in-Err-expand_listed-clause-rests g c =
+pub returns-in-Err-clause-rests : goal.returns-in-Err-clause-rests
+returns-in-Err-clause-rests g c =
     let a = c.args in
     let l = c.loop-k in
     let shape = g.M.Machine.shape a.machine.now in
@@ -239,6 +239,6 @@ returns-in-Err-expand_listed-clause-rests g c =
     let i = a.first + l.k in
     let n = some_at a.nodes.now i (omega (arith, c.requires.first, c.loop-k-test.true)) in
     let there = l.invariant.same i n.0 n.1 in
-    let extends = c.in-Err-expand_listed.ensures.extends n.0 there in
+    let extends = c.in-Err.ensures.extends n.0 there in
     rested_same shape specification turns rests within a.steps i l.nodes c.expand_listed.new.nodes extends.more l.quiet.items c.expand_listed.new.quiet.items
-    (omega (arith, slice_get_within l.nodes i n.0 there)) extends.is c.in-Err-expand_listed.ensures.unlisted l.invariant.rested
+    (omega (arith, slice_get_within l.nodes i n.0 there)) extends.is c.in-Err.ensures.unlisted l.invariant.rested

@@ -21,7 +21,8 @@ returns-clause-within g c =
     let shape = g.M.Machine.shape a.machine.now in
     let all = c.in_ok-states.states.items in
     let n = length c.in_ok-lists.lists.items in
-    let front : c.truncate.new.self.items ≡ take n all = c.truncate.ensures.items in
+    let same : c.len.result ≡ n = omega (arith, c.len.ensures, c.in_ok-lists.lists.ok.0) in
+    let front : c.truncate.new.self.items ≡ take n all = c.truncate.ensures.items ∙ ap (λ k. take k all) same in
     let few = front_few all n in
     let size = ap length front in
     omega (arith, c.in_ok-states.ensures.within, few, size)
@@ -32,7 +33,8 @@ returns-clause-states g c =
     let shape = g.M.Machine.shape a.machine.now in
     let all = c.in_ok-states.states.items in
     let n = length c.in_ok-lists.lists.items in
-    let front : c.truncate.new.self.items ≡ take n all = c.truncate.ensures.items in
+    let same : c.len.result ≡ n = omega (arith, c.len.ensures, c.in_ok-lists.lists.ok.0) in
+    let front : c.truncate.new.self.items ≡ take n all = c.truncate.ensures.items ∙ ap (λ k. take k all) same in
     subst (λ xs. xs ≡ map (λ (m : Node). m.state) (take (length xs) (drop a.first a.nodes.now))) (sym front)
     (front_states all (drop a.first a.nodes.now) n c.in_ok-states.ensures.states)
 
@@ -42,7 +44,8 @@ returns-clause-shallow g c =
     let shape = g.M.Machine.shape a.machine.now in
     let all = c.in_ok-states.states.items in
     let n = length c.in_ok-lists.lists.items in
-    let front : c.truncate.new.self.items ≡ take n all = c.truncate.ensures.items in
+    let same : c.len.result ≡ n = omega (arith, c.len.ensures, c.in_ok-lists.lists.ok.0) in
+    let front : c.truncate.new.self.items ≡ take n all = c.truncate.ensures.items ∙ ap (λ k. take k all) same in
     front_each (λ (m : Node). m.depth < a.steps) (drop a.first a.nodes.now) (length all) (length c.truncate.new.self.items)
     (let few = front_few all n in let size = ap length front in omega (arith, few, size)) c.in_ok-states.ensures.shallow
 
@@ -52,7 +55,8 @@ returns-clause-inside g c =
     let shape = g.M.Machine.shape a.machine.now in
     let all = c.in_ok-states.states.items in
     let n = length c.in_ok-lists.lists.items in
-    let front : c.truncate.new.self.items ≡ take n all = c.truncate.ensures.items in
+    let same : c.len.result ≡ n = omega (arith, c.len.ensures, c.in_ok-lists.lists.ok.0) in
+    let front : c.truncate.new.self.items ≡ take n all = c.truncate.ensures.items ∙ ap (λ k. take k all) same in
     front_each (λ (m : Node). g.M.Machine.within a.machine.now (state_at shape m) ≡ true) (drop a.first a.nodes.now) (length all) (length c.truncate.new.self.items)
     (let few = front_few all n in let size = ap length front in omega (arith, few, size)) c.in_ok-states.ensures.inside
 
@@ -62,7 +66,8 @@ returns-clause-none g c = λ empty.
     let shape = g.M.Machine.shape a.machine.now in
     let all = c.in_ok-states.states.items in
     let n = length c.in_ok-lists.lists.items in
-    let front : c.truncate.new.self.items ≡ take n all = c.truncate.ensures.items in
+    let same : c.len.result ≡ n = omega (arith, c.len.ensures, c.in_ok-lists.lists.ok.0) in
+    let front : c.truncate.new.self.items ≡ take n all = c.truncate.ensures.items ∙ ap (λ k. take k all) same in
     let listed : 0 < length all → 0 < n = λ some. c.in_ok-lists.ensures.some (omega (arith, some, ap length c.as_slice.ensures.value)) in
     c.in_ok-states.ensures.none (front_none all n listed (sym front ∙ empty))
 
@@ -72,7 +77,8 @@ returns-clause-listed g c =
     let shape = g.M.Machine.shape a.machine.now in
     let all = c.in_ok-states.states.items in
     let n = length c.in_ok-lists.lists.items in
-    let front : c.truncate.new.self.items ≡ take n all = c.truncate.ensures.items in
+    let same : c.len.result ≡ n = omega (arith, c.len.ensures, c.in_ok-lists.lists.ok.0) in
+    let front : c.truncate.new.self.items ≡ take n all = c.truncate.ensures.items ∙ ap (λ k. take k all) same in
     subst (λ As. AreListed shape (g.M.Machine.specification a.machine.now) (g.M.Machine.turns a.machine.now) (g.M.Machine.made a.machine.now) (g.M.Machine.limit a.machine.now) As c.in_ok-lists.lists.items) (sym front)
     (subst (λ As. AreListed shape (g.M.Machine.specification a.machine.now) (g.M.Machine.turns a.machine.now) (g.M.Machine.made a.machine.now) (g.M.Machine.limit a.machine.now) (take n As) c.in_ok-lists.lists.items) c.as_slice.ensures.value
     c.in_ok-lists.ensures.listed)
