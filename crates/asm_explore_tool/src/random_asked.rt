@@ -28,9 +28,10 @@ pub fn ask_random<'w>(
 {
     let checked = checked(alloc, text, settings.spec)?;
     let always = all_asked(alloc, text, &checked, conditions)?;
+    let turns = settings.turns;
     let question = RandomQuestion {
         always,
-        turns: settings.turns,
+        turns,
         steps: settings.steps,
         runs: settings.runs,
         seed: settings.seed,
