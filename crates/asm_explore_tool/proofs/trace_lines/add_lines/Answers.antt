@@ -30,4 +30,4 @@ returns c =
     let before = c.loop-at.invariant in
     let all : length c.args.text.now ≡ c.loop-at.at = omega arith in
     c.in_ok-add_line-2.ensures ∙ (ap (λ n. lines_of c.loop-at.lines.items ++ slice_range c.args.text.now c.loop-at.start n ∷ []) all
-        ∙ last_line c.args.text.now c.loop-at.start c.loop-at.at before.0 (omega arith) (omega arith) (lines_of c.loop-at.lines.items) _ (omega arith) before.1)
+    ∙ last_line c.args.text.now c.loop-at.start c.loop-at.at before.0 (omega arith) (omega arith) (lines_of c.loop-at.lines.items) _ (omega arith) before.1)
