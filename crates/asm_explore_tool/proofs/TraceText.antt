@@ -9,38 +9,38 @@ use Rattle.std.proofs.lemmas.List.{drop_more, take_more, get_or-drop, length-tak
 use Rattle.asm_explore_tool.specs.TraceLines.{lines_behind, rest_lines}
 
 module _ (text : List ℕ) (start k byte : ℕ) (low : k < length text) where
-  line : List ℕ
-  line = slice_range text start k
+  abbrev pub part : List ℕ
+  part = slice_range text start k
 
-  parted : lines_behind (drop k text) line
-      ≡ cond (get_or text k byte == 10) (line ∷ lines_behind (drop (k + 1) text) []) (lines_behind (drop (k + 1) text) (line ++ get_or text k byte ∷ []))
-  parted = ap (λ bytes. lines_behind bytes line) (drop_more text k byte low)
+  parted : lines_behind (drop k text) part
+      ≡ cond (get_or text k byte == 10) (part ∷ lines_behind (drop (k + 1) text) []) (lines_behind (drop (k + 1) text) (part ++ get_or text k byte ∷ []))
+  parted = ap (λ bytes. lines_behind bytes part) (drop_more text k byte low)
 
   nothing : slice_range text (k + 1) (k + 1) ≡ []
   nothing = let none : (k + 1) - (k + 1) ≡ 0 = omega arith in ap (λ n. take n (drop (k + 1) text)) none
 
-  grown : start ≤ k → slice_range text start (k + 1) ≡ line ++ get_or text k byte ∷ []
+  grown : start ≤ k → slice_range text start (k + 1) ≡ part ++ get_or text k byte ∷ []
   grown before =
       let more : (k + 1) - start ≡ (k - start) + 1 = omega arith in
       let at : start + (k - start) ≡ k = omega arith in
       let fits : k - start < length (drop start text) = omega (arith, length-drop start text) in
       ap (λ n. take n (drop start text)) more ∙ (take_more (drop start text) (k - start) byte fits
-      ∙ ap (λ b. line ++ b ∷ []) (get_or-drop start text (k - start) byte ∙ ap (λ n. get_or text n byte) at))
+      ∙ ap (λ b. part ++ b ∷ []) (get_or-drop start text (k - start) byte ∙ ap (λ n. get_or text n byte) at))
 
-  pub line_ends : (known now all : List (List ℕ)) → (get_or text k byte == 10) ≡ true → known ++ lines_behind (drop k text) line ≡ all
-      → now ≡ known ++ line ∷ [] → now ++ lines_behind (drop (k + 1) text) (slice_range text (k + 1) (k + 1)) ≡ all
+  pub line_ends : (known now all : List (List ℕ)) → (get_or text k byte == 10) ≡ true → known ++ lines_behind (drop k text) part ≡ all
+      → now ≡ known ++ part ∷ [] → now ++ lines_behind (drop (k + 1) text) (slice_range text (k + 1) (k + 1)) ≡ all
   line_ends known now all feed before is =
       let rest = lines_behind (drop (k + 1) text) [] in
-      let here : lines_behind (drop k text) line ≡ line ∷ rest =
-      parted ∙ ap (λ b. cond b (line ∷ rest) (lines_behind (drop (k + 1) text) (line ++ get_or text k byte ∷ []))) feed in
+      let here : lines_behind (drop k text) part ≡ part ∷ rest =
+      parted ∙ ap (λ b. cond b (part ∷ rest) (lines_behind (drop (k + 1) text) (part ++ get_or text k byte ∷ []))) feed in
       ap (λ l. now ++ lines_behind (drop (k + 1) text) l) nothing
-      ∙ (ap (λ n. n ++ rest) is ∙ (append_assoc known (line ∷ []) rest ∙ (ap (λ ls. known ++ ls) (sym here) ∙ before)))
+      ∙ (ap (λ n. n ++ rest) is ∙ (append_assoc known (part ∷ []) rest ∙ (ap (λ ls. known ++ ls) (sym here) ∙ before)))
 
-  pub line_goes_on : (known all : List (List ℕ)) → start ≤ k → (get_or text k byte == 10) ≡ false → known ++ lines_behind (drop k text) line ≡ all
+  pub line_goes_on : (known all : List (List ℕ)) → start ≤ k → (get_or text k byte == 10) ≡ false → known ++ lines_behind (drop k text) part ≡ all
       → known ++ lines_behind (drop (k + 1) text) (slice_range text start (k + 1)) ≡ all
   line_goes_on known all begun other before =
-      let here : lines_behind (drop k text) line ≡ lines_behind (drop (k + 1) text) (line ++ get_or text k byte ∷ []) =
-      parted ∙ ap (λ b. cond b (line ∷ lines_behind (drop (k + 1) text) []) (lines_behind (drop (k + 1) text) (line ++ get_or text k byte ∷ []))) other in
+      let here : lines_behind (drop k text) part ≡ lines_behind (drop (k + 1) text) (part ++ get_or text k byte ∷ []) =
+      parted ∙ ap (λ b. cond b (part ∷ lines_behind (drop (k + 1) text) []) (lines_behind (drop (k + 1) text) (part ++ get_or text k byte ∷ []))) other in
       ap (λ l. known ++ lines_behind (drop (k + 1) text) l) (grown begun) ∙ (ap (λ ls. known ++ ls) (sym here) ∙ before)
 
 some_rest : (line : List ℕ) → 0 < length line → rest_lines line ≡ line ∷ []

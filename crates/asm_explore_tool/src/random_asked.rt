@@ -1,5 +1,5 @@
 //! What is asked of random runs of a specification, from the texts.
-ghost use Rattle.std.specs.Prelude.{IfOk};
+ghost use Rattle.std.specs.Prelude.{◌≡◌, IfOk};
 ghost use Rattle.asm_explore_tool.specs.RandomReport.{IsRandomAsked};
 
 use crate::asked::{all_asked, checked};
@@ -8,6 +8,7 @@ use crate::fault::Fault;
 use crate::settings::RandomSettings;
 use asm_check::Checked;
 use asm_random::RandomQuestion;
+use asm_syntax::term::Term;
 use std::alloc::Global;
 
 /// A specification, and what is looked for in random runs of it.
@@ -15,6 +16,23 @@ use std::alloc::Global;
 pub struct RandomAsked {
     pub checked: Checked,
     pub question: RandomQuestion,
+}
+
+/// What is looked for where this is to hold in each state, by the settings, which have so many turns.
+fn question_of(always: Option<Term>, turns: u32, settings: &RandomSettings<'_>) -> RandomQuestion
+    ensures always { result.always ≡ always }
+    ensures turns { result.turns ≡ turns }
+    ensures steps { result.steps ≡ settings.now.steps }
+    ensures runs { result.runs ≡ settings.now.runs }
+    ensures seed { result.seed ≡ settings.now.seed }
+{
+    RandomQuestion {
+        always,
+        turns,
+        steps: settings.steps,
+        runs: settings.runs,
+        seed: settings.seed,
+    }
 }
 
 /// What the settings ask of the specification with this text, by these conditions.
@@ -28,12 +46,6 @@ pub fn ask_random<'w>(
 {
     let checked = checked(alloc, text, settings.spec)?;
     let always = all_asked(alloc, text, &checked, conditions)?;
-    let question = RandomQuestion {
-        always,
-        turns: settings.turns,
-        steps: settings.steps,
-        runs: settings.runs,
-        seed: settings.seed,
-    };
+    let question = question_of(always, settings.turns, settings);
     Ok(RandomAsked { checked, question })
 }
