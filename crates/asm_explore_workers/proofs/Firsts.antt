@@ -35,8 +35,8 @@ module _ (checked : Checked) (R : RuleCode) (turns limit : ℕ) where
     task_at : (n : ℕ) (o : Option Outcomes) → slice_get outs n ≡ Some o → ListsTask checked R turns limit As n o
     task_at n o there =
         let low : n < length outs = slice_get_within outs n o there in
-        let run = (ran n (omega (arith, low, same))).1.1 in
-        subst (ListsTask checked R turns limit As n) (same_out outs n run.0 o run.1.0 there) run.1.1.1.1
+        let run = (ran n (omega (arith, low, same))).2 in
+        subst (ListsTask checked R turns limit As n) (same_out outs n run.0 o run.1 there) run.2.2
 
     pub firsts_listed : AreListedOf checked R turns limit (take (length (firsts outs)) As) (firsts outs)
     firsts_listed = firsts_of As outs same (λ n r there A at. task_at n (Some r) there A at)
