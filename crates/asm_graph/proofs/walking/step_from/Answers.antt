@@ -2,8 +2,8 @@ use Rattle.std.proofs.Common.{◌≡◌, ◌≤◌, ◌<◌, ◌⊎◌, ◌∙�
 use Rattle.std.specs.Prelude.{Some, IfNone, IfSome, slice_get}
 use Rattle.std.proofs.lemmas.Option.{slice_get-get_or}
 use Rattle.asm_state.specs.Contents.{IsStateOf}
-use Rattle.asm_state.specs.Signature.{count_of, state_of}
-use Rattle.asm_explore.specs.Steps.{IsCrowdOf, IsListed, IsStep}
+use Rattle.asm_state.specs.Signature.{state_of}
+use Rattle.asm_explore.specs.Steps.{IsListed, IsStep}
 use Rattle.asm_graph.specs.declared.graph.Node.{Node}
 use Rattle.asm_graph.specs.Graphs.{AreEdges, state_at}
 use Rattle.asm_graph.specs.Walked.{IsKept, IsLed}
