@@ -2,16 +2,16 @@
 --     comes_on        a run that comes to a state goes on from there
 --     trail_run       a run under a script that makes the choices of the steps that lead to a state comes to it, and stays within before
 --     led_reached     so that a run comes to each state that choices lead to
-use Rattle.std.proofs.Common.{◌≡◌, ℕ, zero, suc, ◌+◌, ◌<◌, ◌≤◌, Bool, true, cond, List, [], ◌∷◌, length, inl, inr, refl, sym, ap, subst, ◌∙◌, arith}
+use Rattle.std.proofs.Common.{◌≡◌, ℕ, zero, suc, ◌+◌, ◌<◌, Bool, true, cond, List, [], ◌∷◌, length, inl, inr, sym, ap, subst, ◌∙◌, arith}
 use Rattle.std.proofs.lemmas.Bool.{cases_lt}
 use Rattle.asm_state.specs.Location.{State}
-use Rattle.asm_state.specs.Updates.{UpdateSet, IsConsistent, is_consistent, fire}
+use Rattle.asm_state.specs.Updates.{UpdateSet, IsConsistent, fire}
 use Rattle.asm_state.proofs.Updates.{test_laws}
 use Rattle.asm_reader.specs.ExactLines.{exactly}
 use Rattle.asm_reader.specs.ScriptLines.{Script}
 use Rattle.asm_meaning.specs.Does.{Outcome, does}
 use Rattle.asm_meaning.specs.Program.{nothing_bound}
-use Rattle.asm_meaning.specs.Run.{Run, AtLimit, AtFault, Specification, run, run_from, step_and, fired, ended}
+use Rattle.asm_meaning.specs.Run.{Run, AtLimit, AtFault, Specification, run_from, step_and, fired, ended}
 use Rattle.asm_meaning.specs.Yields.{Result, Gives}
 use Rattle.asm_explore.specs.declared.found.Choice.{Choice}
 use Rattle.asm_explore.specs.Answers.{IsReachedBy}

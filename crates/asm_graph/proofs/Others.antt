@@ -1,7 +1,7 @@
 -- A graph, by conditions that are the same.
 --     kept_nodes        nodes that choices lead to are nodes of a graph
 --     same_graph        what is said of a graph by some conditions is said of it by others that are the same, and of too many outcomes otherwise
-use Rattle.std.proofs.Common.{◌≡◌, ◌≤◌, ℕ, Bool, List, length, subst}
+use Rattle.std.proofs.Common.{◌≡◌, ℕ, Bool, List, length, subst}
 use Rattle.asm_reader.specs.ExactLines.{exactly}
 use Rattle.asm_state.specs.Location.{State}
 use Rattle.asm_state.specs.Signature.{Shape, count_of}

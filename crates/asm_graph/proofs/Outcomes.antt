@@ -5,7 +5,7 @@
 --     goes_known, led_on                    the state that it leads to stands in a node, and choices lead to it
 --     outcome_at, edges_are                 the outcomes of a step, and edges that follow them
 --     listed_last                           the outcomes of one state alone
-use Rattle.std.proofs.Common.{◌≡◌, ℕ, suc, ◌+◌, Bool, true, List, [], ◌∷◌, ◌++◌, length, refl, sym, ap, subst, ◌∙◌, arith, Vec, Global}
+use Rattle.std.proofs.Common.{◌≡◌, ℕ, ◌+◌, Bool, true, List, [], ◌∷◌, ◌++◌, refl, sym, ap, subst, ◌∙◌, arith, Vec, Global}
 use Rattle.std.specs.Prelude.{slice_get, Some, Result as Returned}
 use Rattle.asm_state.specs.declared.value.Value.{Value}
 use Rattle.asm_state.specs.Contents.{IsStateOf}

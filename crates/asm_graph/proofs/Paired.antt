@@ -2,7 +2,7 @@
 --     each_*, any_weaker     what holds of each, or of some, of a list's elements
 --     some_at, slice_first, slice_last, take_next    what stands in a list stands in it with more behind it
 --     pairs_*                of two lists side by side
-use Rattle.std.proofs.Common.{◌≡◌, ℕ, zero, suc, ◌+◌, ◌<◌, List, [], ◌∷◌, ◌++◌, length, take, get_or, ◌⊎◌, inl, inr, refl, sym, ap, subst, ◌∙◌, arith}
+use Rattle.std.proofs.Common.{◌≡◌, ℕ, zero, suc, ◌+◌, ◌<◌, List, [], ◌∷◌, ◌++◌, length, take, get_or, inl, inr, refl, sym, ap, subst, ◌∙◌, arith}
 use Rattle.std.specs.Prelude.{slice_get, Some}
 use Rattle.std.proofs.lemmas.List.{take_more, take-append-le}
 use Rattle.std.proofs.lemmas.Option.{get_or_from_slice_get, slice_get-get_or, slice_get_within}
@@ -67,15 +67,6 @@ module _ {X Y : Type 0} (P : X → Y → Type 0) where
   pairs_weaker Q f [] (y ∷ ys) h = absurd h
   pairs_weaker Q f (x ∷ xs) [] h = absurd h
   pairs_weaker Q f (x ∷ xs) (y ∷ ys) h = (f x y h.0, pairs_weaker Q f xs ys h.1)
-
-  pub pairs_got : (xs : List X) (ys : List Y) (i : ℕ) (x : X) (y : Y) → Pairs P xs ys → slice_get xs i ≡ Some x → slice_get ys i ≡ Some y → P x y
-  pairs_got [] ys i x y h here there = cc
-  pairs_got (w ∷ xs) [] i x y h here there = cc
-  pairs_got (w ∷ xs) (z ∷ ys) zero x y h here there =
-      let one : w ≡ x = cc in
-      let other : z ≡ y = cc in
-      subst (λ v. P v y) one (subst (P w) other h.0)
-  pairs_got (w ∷ xs) (z ∷ ys) (suc i) x y h here there = pairs_got xs ys i x y h.1 here there
 
   pub pairs_length : (xs : List X) (ys : List Y) → Pairs P xs ys → length ys ≡ length xs
   pairs_length [] [] h = refl

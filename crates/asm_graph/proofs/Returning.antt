@@ -1,24 +1,20 @@
 -- Nodes whose edges lead back to them.
 --     quiet_law      their states are quiet
-use Rattle.std.proofs.Common.{◌≡◌, ℕ, Bool, List, [], ◌∷◌, inl, inr, sym, ap, subst, ◌∙◌}
+use Rattle.std.proofs.Common.{◌≡◌, ℕ, List, [], ◌∷◌, inl, inr, sym, ap, subst, ◌∙◌}
 use Rattle.std.specs.Prelude.{slice_get, Some}
 use Rattle.asm_state.specs.Location.{State}
 use Rattle.asm_state.specs.Signature.{Shape}
 use Rattle.asm_state.specs.Updates.{fire}
 use Rattle.asm_meaning.specs.Run.{Specification}
 use Rattle.asm_meaning.specs.Yields.{Result}
-use Rattle.asm_explore.specs.declared.refusal.Crowd.{Crowd}
 use Rattle.asm_explore.specs.Lists.{Situation, Each, AnyOf}
 use Rattle.asm_explore.specs.Reached.{steps_from}
 use Rattle.asm_explore.specs.Search.{LeadsOn, IsQuiet}
 use Rattle.asm_graph.specs.declared.graph.Edge.{Edge}
 use Rattle.asm_graph.specs.declared.graph.Node.{Node}
-use Rattle.asm_graph.specs.declared.graph.Step.{Step}
-use Rattle.asm_graph.specs.declared.graph.Step.TheVariants as step
 use Rattle.asm_graph.specs.declared.graph.Target.{Target}
 use Rattle.asm_graph.specs.declared.graph.Target.TheVariants as target
-use Rattle.asm_graph.specs.Graphs.{GoesTo, IsShown, LeadBack, QuietLaw, StandsAt, state_at}
-use Rattle.asm_graph.proofs.Paired.{pairs_got}
+use Rattle.asm_graph.specs.Graphs.{AreEdges, GoesTo, QuietLaw, StandsAt, state_at}
 
 -- what holds of the target of some edge holds of the one that all have
 of_target : (P : Target → Type 0) (t : Target) (es : List Edge) → Each (λ (e : Edge). e.to ≡ t) es → AnyOf (λ (e : Edge). P e.to) es → P t
@@ -33,16 +29,11 @@ module _ (shape : Shape) (specification : Specification) (turns : ℕ) (nodes : 
   goes_back : (r : Result) → GoesTo shape nodes (state_at shape n) r (target.Node i) → LeadsOn r (state_at shape n) (λ B. B ≡ state_at shape n)
   goes_back r h = record { set = h.set; gives = h.gives; consistent = h.consistent; leads = stands_there (fire (state_at shape n) h.set) h.leads }
 
-  is_back : (within : State → Bool) (crowds : State → Crowd → Type 0) (steps : ℕ) (s : Step) → IsShown shape specification turns within crowds steps nodes n s → LeadBack i s
-      → IsQuiet specification turns (state_at shape n)
-  is_back within crowds steps step.Cut shown back = absurd back
-  is_back within crowds steps step.Crowded shown back = absurd back
-  is_back within crowds steps (step.Edges es) shown back = λ script number.
+  is_back : (es : List Edge) → AreEdges shape specification turns nodes (state_at shape n) es → Each (λ (e : Edge). e.to ≡ target.Node i) es → IsQuiet specification turns (state_at shape n)
+  is_back es edges back = λ script number.
       let s : Situation = record { script = script; step = number } in
       let r = steps_from specification turns (state_at shape n) s in
-      goes_back r (of_target (GoesTo shape nodes (state_at shape n) r) (target.Node i) es.items back (shown.2.all s))
+      goes_back r (of_target (GoesTo shape nodes (state_at shape n) r) (target.Node i) es back (edges.all s))
 
 pub quiet_law : QuietLaw
-quiet_law shape specification turns within crowds steps most right rests graph is i n s here there back =
-    is_back shape specification turns graph.nodes.items i n here within crowds steps s
-    (pairs_got (IsShown shape specification turns within crowds steps graph.nodes.items) graph.nodes.items graph.steps.items i n s is.onward here there) back
+quiet_law shape specification turns nodes i n es there edges back = is_back shape specification turns nodes i n there es edges back

@@ -109,7 +109,5 @@ LeadBack i (step.Edges es) = Each (λ (e : Edge). e.to ≡ target.Node i) es.ite
 
 abbrev pub QuietLaw : Type 0
 QuietLaw =
-    (shape : Shape) (specification : Specification) (turns : ℕ) (within : State → Bool) (crowds : State → Crowd → Type 0) (steps most : ℕ) (right rests : State → Bool) (graph : Graph)
-    → IsGraph shape specification turns within crowds steps most right rests graph
-    → (i : ℕ) (n : Node) (s : Step) → slice_get graph.nodes.items i ≡ Some n → slice_get graph.steps.items i ≡ Some s → LeadBack i s
-    → IsQuiet specification turns (state_at shape n)
+    (shape : Shape) (specification : Specification) (turns : ℕ) (nodes : List Node) (i : ℕ) (n : Node) (es : List Edge) → slice_get nodes i ≡ Some n
+    → AreEdges shape specification turns nodes (state_at shape n) es → Each (λ (e : Edge). e.to ≡ target.Node i) es → IsQuiet specification turns (state_at shape n)

@@ -17,7 +17,7 @@ use Rattle.asm_meaning.specs.Run.{Specification}
 use Rattle.asm_meaning.specs.Yields.{Result}
 use Rattle.asm_explore.specs.declared.found.Choice.{Choice}
 use Rattle.asm_explore.specs.declared.found.Found.{Found}
-use Rattle.asm_explore.specs.Lists.{Situation, Each, IsCounted, IsSound, Shows}
+use Rattle.asm_explore.specs.Lists.{Each, IsCounted, IsSound, Shows}
 use Rattle.asm_explore.specs.Placed.{AreApart}
 use Rattle.asm_explore.specs.Reached.{LeadTo, steps_from}
 use Rattle.asm_explore.specs.Search.{LeadsOn}

@@ -13,8 +13,8 @@ use crate::quiet::is_quiet;
 use asm_check::Checked;
 use std::alloc::{AllocError, Global};
 
-/// What there is beside the label of a node: a double border round the first one, a dashed one where
-/// no edges are shown, red where what is to hold doesn't, and grey where it is quiet.
+/// Adds what stands behind the label of a node: a double border round the first one, a dashed one
+/// where no edges are shown, red where what is to hold doesn't, and grey where it is quiet.
 fn add_marks(text: &mut String, number: usize, node: &Node, step: &Step) -> Result<(), AllocError> {
     let quiet = is_quiet(step, number);
     if number == 0 {

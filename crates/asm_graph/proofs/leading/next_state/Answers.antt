@@ -11,9 +11,9 @@ returns-in-Some-clause-fault c =
     set_fails signature c.in-Set.updates c.args.one.now c.kind_of.result (fault_of signature c.in-Some.fault) c.in-Set.is
     (λ U stands. c.in-Some.ensures.first U stands) (c.kind_of.ensures signature)
 
-pub returns-clause-leads : goal.returns-clause-leads
-returns-clause-leads c =
+pub returns-in_ok-next-in-None-clause-leads : goal.returns-in_ok-next-in-None-clause-leads
+returns-in_ok-next-in-None-clause-leads c =
     let a = c.args in
-    set_leads a.signature.now c.in-Set.updates a.one.now a.from.now c.in_ok-next.next c.in-Set.is
-    (λ U stands. c.in-None.ensures.consistent U stands) (λ U stands fine. c.in_ok-next.ensures.fired U stands fine)
-    (λ U stands fine whole. c.in_ok-next.ensures.state U stands fine whole) c.requires.from
+    set_leads a.signature.now c.in-Set.updates a.one.now a.from.now c.in_ok-next-in-None.next c.in-Set.is
+    (λ U stands. c.in-None.ensures.consistent U stands) (λ U stands fine. c.in_ok-next-in-None.ensures.fired U stands fine)
+    (λ U stands fine whole. c.in_ok-next-in-None.ensures.state U stands fine whole) c.requires.from

@@ -1,4 +1,5 @@
-use Rattle.std.proofs.Common.{sym, subst, ap}
+use Rattle.std.proofs.Common.{sym, subst}
+use Rattle.std.specs.Prelude.{IfErr, IfOk}
 use Rattle.asm_state.specs.Contents.{IsStateOf}
 use Rattle.asm_state.specs.Signature.{count_of, state_of}
 use Rattle.asm_explore.specs.Lists.{IsCounted}
@@ -23,7 +24,9 @@ reach-requires-clause-kept g c =
     let right = g.M.Machine.right a.machine.now in
     let rests = g.M.Machine.rests a.machine.now in
     let A = state_of shape a.from.now in
-    let leads = leads_on c.signature.result.now shape a.from.now c.in-Ok.next a.one.now c.signature.ensures c.in-Ok.ensures.leads in
+    let signature = c.signature.result.now in
+    let leads = leads_on signature shape a.from.now c.in-Ok.next a.one.now c.signature.ensures
+    (subst (λ led. IfOk led (λ next. Leads signature (state_of signature a.from.now) a.one.now next)) c.in-Ok.is c.in_ok-next.ensures.leads) in
     whole_next shape specification turns A a.one.now c.in-Ok.next c.requires.one leads c.script_law.ensures.makes
 
 pub reach-requires-clause-led : goal.reach-requires-clause-led
@@ -36,11 +39,13 @@ reach-requires-clause-led g c =
     let right = g.M.Machine.right a.machine.now in
     let rests = g.M.Machine.rests a.machine.now in
     let A = state_of shape a.from.now in
-    let leads = leads_on c.signature.result.now shape a.from.now c.in-Ok.next a.one.now c.signature.ensures c.in-Ok.ensures.leads in
+    let signature = c.signature.result.now in
+    let leads = leads_on signature shape a.from.now c.in-Ok.next a.one.now c.signature.ensures
+    (subst (λ led. IfOk led (λ next. Leads signature (state_of signature a.from.now) a.one.now next)) c.in-Ok.is c.in_ok-next.ensures.leads) in
     led_on shape specification turns A a.one.now c.in-Ok.next c.requires.one leads within a.depth c.requires.inside c.requires.led
 
-pub returns-in-Ok-clause-goes : goal.returns-in-Ok-clause-goes
-returns-in-Ok-clause-goes g c =
+pub returns-in_ok-number-in-Ok-clause-goes : goal.returns-in_ok-number-in-Ok-clause-goes
+returns-in_ok-number-in-Ok-clause-goes g c =
     let a = c.args in
     let shape = g.M.Machine.shape a.machine.now in
     let specification = g.M.Machine.specification a.machine.now in
@@ -49,11 +54,13 @@ returns-in-Ok-clause-goes g c =
     let right = g.M.Machine.right a.machine.now in
     let rests = g.M.Machine.rests a.machine.now in
     let A = state_of shape a.from.now in
-    let leads = leads_on c.signature.result.now shape a.from.now c.in-Ok.next a.one.now c.signature.ensures c.in-Ok.ensures.leads in
-    goes_known shape A a.one.now c.in-Ok.next c.reach.new.nodes.items c.in_ok-number.number leads c.in_ok-number.ensures.number
+    let signature = c.signature.result.now in
+    let leads = leads_on signature shape a.from.now c.in-Ok.next a.one.now c.signature.ensures
+    (subst (λ led. IfOk led (λ next. Leads signature (state_of signature a.from.now) a.one.now next)) c.in-Ok.is c.in_ok-next.ensures.leads) in
+    goes_known shape A a.one.now c.in-Ok.next c.reach.new.nodes.items c.in_ok-number-in-Ok.number leads c.in_ok-number-in-Ok.ensures.number
 
-pub returns-clause-grows : goal.returns-clause-grows
-returns-clause-grows g c =
+pub returns-in-Err-clause-grows : goal.returns-in-Err-clause-grows
+returns-in-Err-clause-grows g c =
     let a = c.args in
     let shape = g.M.Machine.shape a.machine.now in
     let specification = g.M.Machine.specification a.machine.now in
@@ -63,5 +70,7 @@ returns-clause-grows g c =
     let rests = g.M.Machine.rests a.machine.now in
     grows_none shape specification turns within right rests a.most a.nodes.now.items c.requires.nodes
 
-pub returns-clause-goes : goal.returns-clause-goes
-returns-clause-goes g c = subst (λ s. FailsSo s c.args.one.now c.in-Err.fault) c.signature.ensures c.in-Err.ensures.fault
+pub returns-in-Err-clause-goes : goal.returns-in-Err-clause-goes
+returns-in-Err-clause-goes g c =
+    subst (λ s. FailsSo s c.args.one.now c.in-Err.fault) c.signature.ensures
+    (subst (λ led. IfErr led (FailsSo c.signature.result.now c.args.one.now)) c.in-Err.is c.in_ok-next.ensures.fault)

@@ -3,8 +3,8 @@ use Rattle.asm_explore.specs.Steps.{AreListed}
 use Rattle.asm_graph.proofs.Outcomes.{listed_last}
 use Rattle.asm_graph.proofs.walking.listed_from.Goals as goal
 
-pub returns-in-Some : goal.returns-in-Some
-returns-in-Some g c =
+pub returns : goal.returns
+returns g c =
     let a = c.args in
     let shape = g.M.Machine.shape a.machine.now in
     let specification = g.M.Machine.specification a.machine.now in

@@ -1,6 +1,7 @@
-use Rattle.std.proofs.Common.{◌≡◌, ◌≤◌, ◌∙◌, ◌++◌, ◌∷◌, [], length, ap, sym, subst, arith}
+use Rattle.std.proofs.Common.{◌≡◌, ◌+◌, ◌∙◌, ◌++◌, ◌∷◌, [], length, ap, sym, subst, arith}
 use Rattle.std.specs.Prelude.{Some, slice_get}
 use Rattle.std.proofs.lemmas.List.{length_push}
+use Rattle.asm_state.specs.Signature.{count_of}
 use Rattle.asm_explore.specs.Lists.{Each}
 use Rattle.asm_graph.specs.declared.graph.Node.{Node}
 use Rattle.asm_graph.specs.Walked.{HasContents, IsKept}
@@ -17,10 +18,10 @@ known-requires-clause-nodes g c =
     let within = g.M.Machine.within a.machine.now in
     let right = g.M.Machine.right a.machine.now in
     let rests = g.M.Machine.rests a.machine.now in
-    let count = c.count.result in
+    let count = c.count-count.result in
     subst (Each (λ (n : Node). length n.state ≡ count)) (sym c.as_slice.ensures.value)
     (each_weaker (IsKept shape specification turns within right rests) (λ (n : Node). length n.state ≡ count)
-    (λ n h. h.kept.whole ∙ sym (c.count.ensures.count ∙ ap count_of c.signature.ensures)) a.nodes.now.items c.requires.nodes.each)
+    (λ n h. h.kept.whole ∙ sym (c.count-count.ensures.count ∙ ap count_of c.signature.ensures)) a.nodes.now.items c.requires.nodes.each)
 
 pub returns-in-Some-clause-grows : goal.returns-in-Some-clause-grows
 returns-in-Some-clause-grows g c =
@@ -54,4 +55,5 @@ pub returns-clause-number : goal.returns-clause-number
 returns-clause-number g c =
     let old = c.args.nodes.now.items in
     let node = c.new_node-node.result in
-    (node, subst (λ ns. slice_get ns c.len-number.result ≡ Some node) (sym c.in_ok-push.ensures.items) (ap (slice_get (old ++ node ∷ [])) c.len-number.ensures ∙ slice_last old node), c.new_node-node.ensures.state)
+    let at : c.len-number.result ≡ length old = omega (arith, c.len-number.ensures, c.args.nodes.now.ok.0) in
+    (node, subst (λ ns. slice_get ns c.len-number.result ≡ Some node) (sym c.in_ok-push.ensures.items) (ap (slice_get (old ++ node ∷ [])) at ∙ slice_last old node), c.new_node-node.ensures.state)

@@ -2,8 +2,8 @@ use Rattle.std.proofs.Common.{◌≡◌, ◌≤◌, ◌<◌, ◌⊎◌, ◌∙�
 use Rattle.std.specs.Prelude.{Some, IfNone, IfSome, slice_get}
 use Rattle.std.proofs.lemmas.Option.{slice_get-get_or}
 use Rattle.asm_state.specs.Contents.{IsStateOf}
-use Rattle.asm_state.specs.Signature.{count_of, state_of}
-use Rattle.asm_explore.specs.Steps.{IsCrowdOf, IsListed}
+use Rattle.asm_state.specs.Signature.{state_of}
+use Rattle.asm_explore.specs.Steps.{IsListed, IsStep}
 use Rattle.asm_graph.specs.declared.graph.Node.{Node}
 use Rattle.asm_graph.specs.Graphs.{AreEdges, state_at}
 use Rattle.asm_graph.specs.Walked.{IsKept, IsLed}
@@ -20,8 +20,8 @@ state_to_follow-requires-clause-whole g c =
     let within = g.M.Machine.within a.machine.now in
     let right = g.M.Machine.right a.machine.now in
     let rests = g.M.Machine.rests a.machine.now in
-    let n = c.index-nodes-number.result in
-    let there : slice_get a.nodes.now.items a.number ≡ Some n = slice_get-get_or a.nodes.now.items a.number n c.requires.number ∙ ap Some (sym c.index-nodes-number.is) in
+    let n = c.index-node.result.now in
+    let there : slice_get a.nodes.now.items a.number ≡ Some n = slice_get-get_or a.nodes.now.items a.number n c.requires.number ∙ ap Some (sym c.index-node.ensures) in
     let kept = each_got (IsKept shape specification turns within right rests) a.nodes.now.items a.number n c.requires.nodes.each there in
     kept.kept.whole
 
@@ -45,8 +45,8 @@ returns-in_default-clause-shown g c = λ m here.
     let within = g.M.Machine.within a.machine.now in
     let right = g.M.Machine.right a.machine.now in
     let rests = g.M.Machine.rests a.machine.now in
-    let n = c.index-nodes-number.result in
-    let there : slice_get a.nodes.now.items a.number ≡ Some n = slice_get-get_or a.nodes.now.items a.number n c.requires.number ∙ ap Some (sym c.index-nodes-number.is) in
+    let n = c.index-node.result.now in
+    let there : slice_get a.nodes.now.items a.number ≡ Some n = slice_get-get_or a.nodes.now.items a.number n c.requires.number ∙ ap Some (sym c.index-node.ensures) in
     let same : n ≡ m = cc in
     subst (λ (x : Node). (a.steps ≤ x.depth) ⊎ (within (state_at shape x) ≡ false)) same
     (subst (λ o. IfNone o ((a.steps ≤ n.depth) ⊎ (within (state_at shape n) ≡ false))) c.in_default.is c.in_ok-state.ensures.none)
@@ -60,8 +60,8 @@ listed_from-requires-clause-whole g c =
     let within = g.M.Machine.within a.machine.now in
     let right = g.M.Machine.right a.machine.now in
     let rests = g.M.Machine.rests a.machine.now in
-    let n = c.index-nodes-number.result in
-    let there : slice_get a.nodes.now.items a.number ≡ Some n = slice_get-get_or a.nodes.now.items a.number n c.requires.number ∙ ap Some (sym c.index-nodes-number.is) in
+    let n = c.index-node.result.now in
+    let there : slice_get a.nodes.now.items a.number ≡ Some n = slice_get-get_or a.nodes.now.items a.number n c.requires.number ∙ ap Some (sym c.index-node.ensures) in
     let kept = each_got (IsKept shape specification turns within right rests) a.nodes.now.items a.number n c.requires.nodes.each there in
     let some = subst (λ o. IfSome o (λ state. (state ≡ n.state) × (n.depth < a.steps) × (within (state_at shape n) ≡ true))) c.in-Some.is c.in_ok-state.ensures.some in
     ap length some.0 ∙ kept.kept.whole
@@ -75,8 +75,8 @@ edges_from-requires-clause-from g c =
     let within = g.M.Machine.within a.machine.now in
     let right = g.M.Machine.right a.machine.now in
     let rests = g.M.Machine.rests a.machine.now in
-    let n = c.index-nodes-number.result in
-    let there : slice_get a.nodes.now.items a.number ≡ Some n = slice_get-get_or a.nodes.now.items a.number n c.requires.number ∙ ap Some (sym c.index-nodes-number.is) in
+    let n = c.index-node.result.now in
+    let there : slice_get a.nodes.now.items a.number ≡ Some n = slice_get-get_or a.nodes.now.items a.number n c.requires.number ∙ ap Some (sym c.index-node.ensures) in
     let kept = each_got (IsKept shape specification turns within right rests) a.nodes.now.items a.number n c.requires.nodes.each there in
     let some = subst (λ o. IfSome o (λ state. (state ≡ n.state) × (n.depth < a.steps) × (within (state_at shape n) ≡ true))) c.in-Some.is c.in_ok-state.ensures.some in
     subst (IsStateOf shape) (sym some.0) kept.kept
@@ -90,8 +90,8 @@ edges_from-requires-clause-led g c =
     let within = g.M.Machine.within a.machine.now in
     let right = g.M.Machine.right a.machine.now in
     let rests = g.M.Machine.rests a.machine.now in
-    let n = c.index-nodes-number.result in
-    let there : slice_get a.nodes.now.items a.number ≡ Some n = slice_get-get_or a.nodes.now.items a.number n c.requires.number ∙ ap Some (sym c.index-nodes-number.is) in
+    let n = c.index-node.result.now in
+    let there : slice_get a.nodes.now.items a.number ≡ Some n = slice_get-get_or a.nodes.now.items a.number n c.requires.number ∙ ap Some (sym c.index-node.ensures) in
     let kept = each_got (IsKept shape specification turns within right rests) a.nodes.now.items a.number n c.requires.nodes.each there in
     let some = subst (λ o. IfSome o (λ state. (state ≡ n.state) × (n.depth < a.steps) × (within (state_at shape n) ≡ true))) c.in-Some.is c.in_ok-state.ensures.some in
     subst (λ xs. IsLed specification turns within n.depth (state_of shape xs)) (sym some.0) kept.led
@@ -105,8 +105,8 @@ edges_from-requires-clause-inside g c =
     let within = g.M.Machine.within a.machine.now in
     let right = g.M.Machine.right a.machine.now in
     let rests = g.M.Machine.rests a.machine.now in
-    let n = c.index-nodes-number.result in
-    let there : slice_get a.nodes.now.items a.number ≡ Some n = slice_get-get_or a.nodes.now.items a.number n c.requires.number ∙ ap Some (sym c.index-nodes-number.is) in
+    let n = c.index-node.result.now in
+    let there : slice_get a.nodes.now.items a.number ≡ Some n = slice_get-get_or a.nodes.now.items a.number n c.requires.number ∙ ap Some (sym c.index-node.ensures) in
     let some = subst (λ o. IfSome o (λ state. (state ≡ n.state) × (n.depth < a.steps) × (within (state_at shape n) ≡ true))) c.in-Some.is c.in_ok-state.ensures.some in
     ap (λ xs. within (state_of shape xs)) some.0 ∙ some.2
 
@@ -119,8 +119,8 @@ edges_from-requires-clause-shallow g c =
     let within = g.M.Machine.within a.machine.now in
     let right = g.M.Machine.right a.machine.now in
     let rests = g.M.Machine.rests a.machine.now in
-    let n = c.index-nodes-number.result in
-    let there : slice_get a.nodes.now.items a.number ≡ Some n = slice_get-get_or a.nodes.now.items a.number n c.requires.number ∙ ap Some (sym c.index-nodes-number.is) in
+    let n = c.index-node.result.now in
+    let there : slice_get a.nodes.now.items a.number ≡ Some n = slice_get-get_or a.nodes.now.items a.number n c.requires.number ∙ ap Some (sym c.index-node.ensures) in
     let some = subst (λ o. IfSome o (λ state. (state ≡ n.state) × (n.depth < a.steps) × (within (state_at shape n) ≡ true))) c.in-Some.is c.in_ok-state.ensures.some in
     omega (arith, some.1, c.ranges.steps)
 
@@ -135,7 +135,8 @@ edges_from-requires-clause-step g c =
     let rests = g.M.Machine.rests a.machine.now in
     let makes = g.M.Machine.made a.machine.now in
     let limit = g.M.Machine.limit a.machine.now in
-    (subst (IsListed shape specification turns makes limit (state_of shape c.in-Some.state)) c.in-Ok.is c.in_ok-listed_from.ensures).step
+    subst (IsStep shape specification turns (state_of shape c.in-Some.state)) (sym c.as_slice-found.ensures.value)
+    (subst (IsListed shape specification turns makes limit (state_of shape c.in-Some.state)) c.in-Ok.is c.in_ok-outcomes.ensures).step
 
 pub returns-in-Ok-clause-shown : goal.returns-in-Ok-clause-shown
 returns-in-Ok-clause-shown g c = λ m here.
@@ -146,43 +147,11 @@ returns-in-Ok-clause-shown g c = λ m here.
     let within = g.M.Machine.within a.machine.now in
     let right = g.M.Machine.right a.machine.now in
     let rests = g.M.Machine.rests a.machine.now in
-    let n = c.index-nodes-number.result in
-    let there : slice_get a.nodes.now.items a.number ≡ Some n = slice_get-get_or a.nodes.now.items a.number n c.requires.number ∙ ap Some (sym c.index-nodes-number.is) in
+    let n = c.index-node.result.now in
+    let there : slice_get a.nodes.now.items a.number ≡ Some n = slice_get-get_or a.nodes.now.items a.number n c.requires.number ∙ ap Some (sym c.index-node.ensures) in
     let some = subst (λ o. IfSome o (λ state. (state ≡ n.state) × (n.depth < a.steps) × (within (state_at shape n) ≡ true))) c.in-Some.is c.in_ok-state.ensures.some in
     let same : n ≡ m = cc in
     let new = c.edges_from.new.nodes.items in
-    let es = c.in_ok-edges.edges.items in
+    let es = c.in_ok-edges-in-Ok.edges.items in
     subst (λ (x : Node). (x.depth < a.steps) × (within (state_at shape x) ≡ true) × AreEdges shape specification turns new (state_at shape x) es) same
-    (some.1, some.2, subst (λ xs. AreEdges shape specification turns new (state_of shape xs) es) some.0 c.in_ok-edges.ensures.edges)
-
-pub returns-clause-grows : goal.returns-clause-grows
-returns-clause-grows g c =
-    let a = c.args in
-    let shape = g.M.Machine.shape a.machine.now in
-    let specification = g.M.Machine.specification a.machine.now in
-    let turns = g.M.Machine.turns a.machine.now in
-    let within = g.M.Machine.within a.machine.now in
-    let right = g.M.Machine.right a.machine.now in
-    let rests = g.M.Machine.rests a.machine.now in
-    grows_none shape specification turns within right rests a.most a.nodes.now.items c.requires.nodes
-
-pub returns-clause-shown : goal.returns-clause-shown
-returns-clause-shown g c = λ m here.
-    let a = c.args in
-    let shape = g.M.Machine.shape a.machine.now in
-    let specification = g.M.Machine.specification a.machine.now in
-    let turns = g.M.Machine.turns a.machine.now in
-    let within = g.M.Machine.within a.machine.now in
-    let right = g.M.Machine.right a.machine.now in
-    let rests = g.M.Machine.rests a.machine.now in
-    let makes = g.M.Machine.made a.machine.now in
-    let limit = g.M.Machine.limit a.machine.now in
-    let n = c.index-nodes-number.result in
-    let there : slice_get a.nodes.now.items a.number ≡ Some n = slice_get-get_or a.nodes.now.items a.number n c.requires.number ∙ ap Some (sym c.index-nodes-number.is) in
-    let some = subst (λ o. IfSome o (λ state. (state ≡ n.state) × (n.depth < a.steps) × (within (state_at shape n) ≡ true))) c.in-Some.is c.in_ok-state.ensures.some in
-    let same : n ≡ m = cc in
-    let listed = subst (IsListed shape specification turns makes limit (state_of shape c.in-Some.state)) c.in-Err.is c.in_ok-listed_from.ensures in (
-      c.in-Err-TooMany.field-0,
-      subst (λ (x : Node). IsCrowdOf makes limit (state_at shape x) c.in-Err-TooMany.field-0) same
-          (subst (λ xs. IsCrowdOf makes limit (state_of shape xs) c.in-Err-TooMany.field-0) some.0 listed.refuses),
-    )
+    (some.1, some.2, subst (λ xs. AreEdges shape specification turns new (state_of shape xs) es) some.0 c.in_ok-edges-in-Ok.ensures.edges)

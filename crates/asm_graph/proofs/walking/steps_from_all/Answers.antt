@@ -1,4 +1,4 @@
-use Rattle.std.proofs.Common.{◌≡◌, ◌+◌, ◌≤◌, ◌<◌, ◌∙◌, ◌++◌, ◌∷◌, [], length, take, ap, sym, subst, arith}
+use Rattle.std.proofs.Common.{◌≡◌, ◌+◌, ◌<◌, ◌∙◌, ◌++◌, ◌∷◌, [], length, take, ap, sym, subst, arith}
 use Rattle.std.specs.Prelude.{Some, slice_get}
 use Rattle.std.proofs.lemmas.List.{length-append, length_push, take_all}
 use Rattle.asm_explore.specs.Steps.{IsCrowdOf}
@@ -7,8 +7,8 @@ use Rattle.asm_graph.proofs.Growing.{grows_both, grows_none, shown_more}
 use Rattle.asm_graph.proofs.Paired.{pairs_push, pairs_weaker, some_at, take_next}
 use Rattle.asm_graph.proofs.walking.steps_from_all.Goals as goal
 
-pub loop-made-init : goal.loop-made-init
-loop-made-init g c =
+pub loop-alloc-init : goal.loop-alloc-init
+loop-alloc-init g c =
     let a = c.args in
     let shape = g.M.Machine.shape a.machine.now in
     let specification = g.M.Machine.specification a.machine.now in
@@ -23,8 +23,8 @@ loop-made-init g c =
       shown = subst (λ made. Pairs shown (take (length made) a.nodes.now.items) made) (sym c.requires.none) tt;
     }
 
-pub loop-made-preserved : goal.loop-made-preserved
-loop-made-preserved g c =
+pub loop-alloc-preserved : goal.loop-alloc-preserved
+loop-alloc-preserved g c =
     let a = c.args in
     let shape = g.M.Machine.shape a.machine.now in
     let specification = g.M.Machine.specification a.machine.now in
@@ -33,16 +33,17 @@ loop-made-preserved g c =
     let right = g.M.Machine.right a.machine.now in
     let rests = g.M.Machine.rests a.machine.now in
     let crowds = IsCrowdOf (g.M.Machine.made a.machine.now) (g.M.Machine.limit a.machine.now) in
-    let l = c.loop-made in
+    let l = c.loop-alloc in
     let old = l.nodes.items in
     let made = l.made.items in
     let k = length made in
     let step = c.in_ok-step.step in
     let grows = c.in_ok-step.ensures.grows in
     let new = c.step_from.new.nodes.items in
-    let low : k < length old = omega (arith, c.loop-made-test.true, c.len.ensures, c.len-2.ensures) in
+    let low : k < length old = omega (arith, c.loop-alloc-test.true, c.len.ensures, c.len-in-loop-alloc.ensures) in
     let n = some_at old k low in
-    let there : slice_get old c.len-3.result ≡ Some n.0 = ap (slice_get old) c.len-3.ensures ∙ n.1 in
+    let at : c.len-in-loop-alloc-2.result ≡ k = omega (arith, c.len-in-loop-alloc-2.ensures, l.made.ok.0) in
+    let there : slice_get old c.len-in-loop-alloc-2.result ≡ Some n.0 = ap (slice_get old) at ∙ n.1 in
     let size : length new ≡ length old + length grows.more = ap length grows.is ∙ length-append old grows.more in
     let shown = IsShown shape specification turns within crowds a.steps in
     record {
@@ -65,6 +66,6 @@ returns-clause-shown g c =
     let within = g.M.Machine.within a.machine.now in
     let right = g.M.Machine.right a.machine.now in
     let rests = g.M.Machine.rests a.machine.now in
-    let l = c.loop-made in
+    let l = c.loop-alloc in
     let shown = IsShown shape specification turns within (IsCrowdOf (g.M.Machine.made a.machine.now) (g.M.Machine.limit a.machine.now)) a.steps l.nodes.items in
-    subst (λ ns. Pairs shown ns l.made.items) (take_all (length l.made.items) l.nodes.items (omega (arith, c.loop-made-test.false, c.len.ensures, c.len-2.ensures))) l.invariant.shown
+    subst (λ ns. Pairs shown ns l.made.items) (take_all (length l.made.items) l.nodes.items (omega (arith, c.loop-alloc-test.false, c.len.ensures, c.len-in-loop-alloc.ensures))) l.invariant.shown

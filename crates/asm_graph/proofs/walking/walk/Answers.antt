@@ -1,5 +1,5 @@
-use Rattle.std.proofs.Common.{◌≡◌, ◌≤◌, ◌∙◌, ◌++◌, ◌∷◌, [], length, refl, ap, sym, subst, arith}
-use Rattle.std.specs.Prelude.{Some, slice_get}
+use Rattle.std.proofs.Common.{◌≡◌, ◌∙◌, ◌++◌, ◌∷◌, [], length, refl, ap, sym, subst, arith}
+use Rattle.std.specs.Prelude.{slice_get}
 use Rattle.asm_state.specs.Signature.{state_of}
 use Rattle.asm_explore.specs.Lists.{Each}
 use Rattle.asm_explore.specs.Steps.{IsCrowdOf}
@@ -24,7 +24,7 @@ steps_from_all-requires-clause-nodes g c =
     let items : c.push.new.self.items ≡ c.new_node-first.result ∷ [] = c.in_ok-push.ensures.items ∙ ap (λ xs. xs ++ c.new_node-first.result ∷ []) c.new-nodes.ensures.items in
     record {
       each = subst (Each (IsKept shape specification turns within right rests)) (sym items) (c.new_node-first.ensures.kept, tt);
-      few = omega (arith, ap length items, c.if-most.false);
+      few = omega (arith, ap length items, c.if-most-eq0.false);
     }
 
 pub returns : goal.returns
