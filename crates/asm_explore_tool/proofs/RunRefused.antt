@@ -1,7 +1,7 @@
 -- Why words behind `choices` or `clash` are refused.
 --     memory_explains, refused_explains, conflict_explains     memory ran out, the library refuses them, or they ask for the input twice
 --     other_commands                                           a word names one command at most
-use Rattle.std.proofs.Common.{◌≡◌, ◌⊎◌, ◌∙◌, true, List, length, inl, inr, codes, sym, ap, arith}
+use Rattle.std.proofs.Common.{◌≡◌, ◌∙◌, true, List, length, inl, inr, codes, sym, ap, arith}
 use Rattle.clap.specs.Kinds.{HasKind}
 use Rattle.clap.specs.Values.{kind_of}
 use Rattle.clap.specs.Walk.{Text}
@@ -40,10 +40,3 @@ module _ (words : List Text) (error : Error) where
 pub other_commands : (command : Text) → command ≡ codes "all" → ¬ (IsOfRun command)
 other_commands command all (inl choices) = omega (arith, ap length (sym all ∙ choices))
 other_commands command all (inr clash) = omega (arith, ap length (sym all ∙ clash))
-
-pub not_random : (command : Text) → command ≡ codes "random" → ¬ (IsOfRun command)
-not_random command random (inl choices) = omega (arith, ap length (sym random ∙ choices))
-not_random command random (inr clash) = omega (arith, ap length (sym random ∙ clash))
-
-pub not_all : (command : Text) → command ≡ codes "all" → ¬ (command ≡ codes "random")
-not_all command all random = omega (arith, ap length (sym all ∙ random))

@@ -5,13 +5,13 @@
 --     printed_script       a script with comments is that of its lines
 --     length_lines         so many comments as lines
 --     comments_alone       comments are a script without lines
-use Rattle.std.proofs.Common.{Global, Vec, ◌≡◌, ◌⊎◌, ℕ, suc, codes, Bool, true, false, cond, List, [], ◌∷◌, Some, inl, inr, refl, sym, ap, subst, ◌∙◌, arith}
-use Rattle.std.specs.Prelude.{◌&&◌, ◌||◌, ◌++◌, ◌<◌, length, map, option_map}
+use Rattle.std.proofs.Common.{Global, Vec, ◌≡◌, ℕ, suc, codes, Bool, true, false, List, [], ◌∷◌, Some, inl, inr, refl, sym, ap, subst, ◌∙◌, arith}
+use Rattle.std.specs.Prelude.{◌&&◌, ◌||◌, ◌++◌, ◌<◌, length, option_map}
 use Rattle.clap.specs.Walk.{Text, first_of}
 use Rattle.asm_syntax.specs.SourceTree.{Spec}
 use Rattle.asm_reader.specs.ExactLines.{exactly}
 use Rattle.asm_reader.specs.ScriptLines.{Line, Script, no_lines}
-use Rattle.asm_reader.specs.ScriptText.{AreFaultless, IsScript, is_bad, is_repeated, lines_of}
+use Rattle.asm_reader.specs.ScriptText.{AreFaultless, IsScript, is_bad, is_repeated}
 use Rattle.asm_meaning.specs.Run.{AtExhausted, AtFault, AtLimit, End, Run}
 use Rattle.asm_meaning.specs.Scripts.{IsUnrepeated}
 use Rattle.asm_explore.specs.Written.{AreSteps}

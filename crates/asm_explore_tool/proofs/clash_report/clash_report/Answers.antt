@@ -4,7 +4,6 @@ use Rattle.asm_meaning.specs.Declarations.{specification_of}
 use Rattle.asm_meaning.specs.Run.{run}
 use Rattle.asm_explore_tool.specs.Comments.{comments, lines_of}
 use Rattle.asm_explore_tool.specs.Report.{IsWholeOr}
-use Rattle.asm_explore_tool.specs.RunReport.{assignments_in}
 use Rattle.asm_explore_tool.proofs.RunTold.{clash_told, comments_alone, length_lines}
 use Rattle.asm_explore_tool.proofs.clash_report.clash_report.Goals as goal
 

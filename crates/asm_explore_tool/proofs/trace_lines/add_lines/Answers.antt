@@ -1,4 +1,4 @@
-use Rattle.std.proofs.Common.{◌≡◌, ◌==◌, ◌∙◌, Bool, true, false, length, get_or, sym, ap, arith}
+use Rattle.std.proofs.Common.{◌≡◌, ◌==◌, ◌∙◌, true, false, length, get_or, sym, ap, arith}
 use Rattle.std.specs.Prelude.{◌∷◌, ◌++◌, [], slice_range}
 use Rattle.asm_explore_tool.specs.Comments.{lines_of}
 use Rattle.asm_explore_tool.proofs.TraceText.{line_ends, line_goes_on, last_line, no_last_line}
