@@ -56,8 +56,39 @@ fn explore_specified_by<R: Threads + Sync>(
     explore_machine(alloc, &machine, &initial, steps, states)
 }
 
-/// Looks through all runs of a specification, as `explore_all` does, by so many workers. The answer
-/// is the same whatever their number. Each thread that was started has ended when the call returns.
+/// Looks through the runs of a specification, in which so many turns exhaust an `iterate`.
+fn explore_turns_by<R: Threads + Sync>(
+    rt: &R,
+    alloc: Global,
+    checked: &Checked,
+    question: &Question,
+    turns: u32,
+    workers: usize,
+) -> Result<Answered, AllocError>
+    requires workers { (0 < workers) × (workers ≤ 32) }
+    ensures { let q = question.now in
+        IfOk result (λ answer. IsAnswer (specification_of (spec_of checked.now.spec)) turns (IsCrowdedMain checked.now turns q.outcomes) q.steps q.states (term_holds checked.now q.always) (term_holds checked.now q.when_quiet) (term_holds checked.now q.within) answer) }
+{
+    let code = resolve_main(alloc, checked)?;
+    let always = condition_code(alloc, checked, &question.always)?;
+    let within = condition_code(alloc, checked, &question.within)?;
+    let when_quiet = condition_code(alloc, checked, &question.when_quiet)?;
+    let specified = Specified {
+        checked,
+        code: &code,
+        turns,
+        limit: question.outcomes,
+        always: &always,
+        within: &within,
+        when_quiet: &when_quiet,
+    };
+    let (steps, states) = (question.steps, question.states);
+    let answered = explore_specified_by(rt, alloc, &specified, steps, states, workers)?;
+    Ok(answered)
+}
+
+/// Looks through all runs of a specification, as `explore_all` does, by so many workers. Each thread
+/// that was started has ended when the call returns.
 pub fn explore_all_by<R: Threads + Sync>(
     rt: &R,
     alloc: Global,
@@ -69,23 +100,10 @@ pub fn explore_all_by<R: Threads + Sync>(
     ensures { let q = question.now in
         IfOk result (λ answer. IsAnswer (specification_of (spec_of checked.now.spec)) q.turns (IsCrowdedMain checked.now q.turns q.outcomes) q.steps q.states (term_holds checked.now q.always) (term_holds checked.now q.when_quiet) (term_holds checked.now q.within) answer) }
 {
-    if workers == 1 {
-        return explore_all(alloc, checked, question);
-    }
-    let code = resolve_main(alloc, checked)?;
-    let always = condition_code(alloc, checked, &question.always)?;
-    let within = condition_code(alloc, checked, &question.within)?;
-    let when_quiet = condition_code(alloc, checked, &question.when_quiet)?;
-    let specified = Specified {
-        checked,
-        code: &code,
-        turns: question.turns,
-        limit: question.outcomes,
-        always: &always,
-        within: &within,
-        when_quiet: &when_quiet,
+    let answered = if workers == 1 {
+        explore_all(alloc, checked, question)?
+    } else {
+        explore_turns_by(rt, alloc, checked, question, question.turns, workers)?
     };
-    let (steps, states) = (question.steps, question.states);
-    let answered = explore_specified_by(rt, alloc, &specified, steps, states, workers)?;
     Ok(answered)
 }
