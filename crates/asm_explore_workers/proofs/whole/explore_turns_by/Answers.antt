@@ -7,7 +7,7 @@ use Rattle.asm_explore.proofs.Specifications.{same_answer}
 use Rattle.asm_explore_workers.proofs.whole.explore_turns_by.Goals as goal
 
 pub explore_specified_by-requires-clause-sound : goal.explore_specified_by-requires-clause-sound
-explore_specified_by-requires-clause-sound g c =
+explore_specified_by-requires-clause-sound g c κs inside =
     record {
       main = c.in_ok-code.ensures;
       always = c.in_ok-always.ensures.sound;
