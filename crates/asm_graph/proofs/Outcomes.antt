@@ -4,8 +4,8 @@
 --     some_situation                        a situation takes the choices of an outcome
 --     goes_known, led_on                    the state that it leads to stands in a node, and choices lead to it
 --     outcome_at, edges_are                 the outcomes of a step, and edges that follow them
---     listed_last                           the outcomes of one state alone
-use Rattle.std.proofs.Common.{◌≡◌, ℕ, ◌+◌, Bool, true, List, [], ◌∷◌, ◌++◌, refl, sym, ap, subst, ◌∙◌, arith, Vec, Global}
+--     listed_last, listed_one               the outcomes of one state alone
+use Rattle.std.proofs.Common.{◌≡◌, ℕ, ◌+◌, ◌<◌, Bool, true, List, [], ◌∷◌, ◌++◌, take, length, refl, sym, ap, subst, ◌∙◌, arith, Vec, Global}
 use Rattle.std.specs.Prelude.{slice_get, Some, Result as Returned}
 use Rattle.asm_state.specs.declared.value.Value.{Value}
 use Rattle.asm_state.specs.Contents.{IsStateOf}
@@ -141,3 +141,10 @@ module _ (shape : Shape) (specification : Specification) (turns : ℕ) (makes : 
   listed_last A rs [] r listed is = (subst (AreListed shape specification turns makes limit (A ∷ [])) is listed).0
   listed_last A rs (q ∷ []) r listed is = absurd (subst (AreListed shape specification turns makes limit (A ∷ [])) is listed).1
   listed_last A rs (q ∷ p ∷ front) r listed is = absurd (subst (AreListed shape specification turns makes limit (A ∷ [])) is listed).1
+
+  -- of the first of one state, and of one at least
+  pub listed_one : (A : List Value) (rs : List (Returned (Vec Found Global) Refusal)) → 0 < length rs → AreListed shape specification turns makes limit (take (length rs) (A ∷ [])) rs
+      → AreListed shape specification turns makes limit (A ∷ []) rs
+  listed_one A [] some h = absurd (omega (arith, some))
+  listed_one A (r ∷ []) some h = (h.0, tt)
+  listed_one A (r ∷ q ∷ rs) some h = absurd h.1
