@@ -12,7 +12,6 @@ mod ReadNumbers
 mod ReadTexts
 mod RunMore
 mod RunOptions
-mod RunRefused
 mod RunTold
 mod Skipped
 mod Spelled
