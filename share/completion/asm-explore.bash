@@ -17,8 +17,8 @@ _asm_explore() {
         return
     fi
     case "$command" in
-        all) options+=$'\n--always\n--always-file\n--deadlock-unless\n--within\n--states\n--outcomes\n--workers\n--dot\n--trace' ;;
-        random) options+=$'\n--always\n--always-file\n--runs\n--seed\n--trace' ;;
+        all) options+=$'\n--always\n--always-file\n--deadlock-unless\n--within\n--states\n--outcomes\n--workers\n--dot\n--trace\n--progress' ;;
+        random) options+=$'\n--always\n--always-file\n--runs\n--seed\n--trace\n--progress' ;;
         choices | clash) options+=$'\n--script' ;;
         help)
             COMPREPLY=($(compgen -W "$commands" -- "$current"))

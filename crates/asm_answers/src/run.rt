@@ -4,8 +4,8 @@
 //! then a colon and the name of the case.
 use crate::parts::Parts;
 use crate::refusal;
+use asm_limits::limits::Limits;
 use asm_run::end::End;
-use asm_run::limits::Limits;
 use asm_run::run::run;
 use asm_run::through::Through;
 use std::alloc::{AllocError, Global};

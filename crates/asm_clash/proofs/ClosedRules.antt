@@ -15,27 +15,27 @@ use Rattle.asm_meaning.specs.Value.{Reading}
 use Rattle.asm_meaning.specs.Yields.{Path}
 use Rattle.asm_meaning.specs.declared.part.Part.{Part}
 use Rattle.asm_meaning.specs.declared.part.Part.TheVariants as part
-use Rattle.asm_eval.specs.CodeViews.{code_of}
+use Rattle.asm_code.specs.CodeViews.{code_of}
+use Rattle.asm_code.specs.Readings.{reading, universe_at}
+use Rattle.asm_code.specs.RuleMeaning.{IsSoundRule, AreSoundRules, Locations, place_location, rule_size, rule_sizes}
+use Rattle.asm_code.specs.RuleTree as tree
+use Rattle.asm_code.specs.RuleViews.{place_of, rule_of, rule_step, rules_of}
+use Rattle.asm_code.specs.declared.code.Code.{Code}
+use Rattle.asm_code.specs.declared.rule_code.Place.{Place}
+use Rattle.asm_code.specs.declared.rule_code.RuleCode.{RuleCode, roll-out-RuleCode}
+use Rattle.asm_code.specs.declared.rule_code.RuleCode.TheOpen.{RuleCode-F}
+use Rattle.asm_code.specs.declared.rule_code.RuleCode.TheOpen as opened_code
+use Rattle.asm_code.specs.declared.rule_code.RuleCode.TheViews.{roll-RuleCode, out-RuleCode}
+use Rattle.asm_code.specs.declared.rule_code.RuleCode.TheVariants as code
+use Rattle.asm_code.specs.declared.rule_code.RuleCode.TheFolds.{fold-roll-RuleCode}
 use Rattle.asm_eval.specs.Frames.{readings_of}
 use Rattle.asm_eval.specs.OpenedPieces.{Gives, Opens, OpeningLaws, is_closed, is_closed_part, pieces_in, works_in}
 use Rattle.asm_eval.specs.Opening.{part_opened, work_of}
 use Rattle.asm_eval.specs.Pieces.{IsPiece, piece_yields, positions}
-use Rattle.asm_eval.specs.Readings.{reading, universe_at}
-use Rattle.asm_eval.specs.RuleMeaning.{IsSoundRule, AreSoundRules, Locations, place_location, rule_size, rule_sizes}
-use Rattle.asm_eval.specs.RuleTree as tree
-use Rattle.asm_eval.specs.RuleViews.{place_of, rule_of, rule_step, rules_of}
 use Rattle.asm_eval.specs.Running.{chosen_at, places_of, shape_at, state_at}
-use Rattle.asm_eval.specs.declared.code.Code.{Code}
 use Rattle.asm_eval.specs.declared.open.Opened.{Opened}
 use Rattle.asm_eval.specs.declared.open.Opened.TheVariants as opening
 use Rattle.asm_eval.specs.declared.piece.Piece.{Piece}
-use Rattle.asm_eval.specs.declared.rule_code.Place.{Place}
-use Rattle.asm_eval.specs.declared.rule_code.RuleCode.{RuleCode, roll-out-RuleCode}
-use Rattle.asm_eval.specs.declared.rule_code.RuleCode.TheOpen.{RuleCode-F}
-use Rattle.asm_eval.specs.declared.rule_code.RuleCode.TheOpen as opened_code
-use Rattle.asm_eval.specs.declared.rule_code.RuleCode.TheViews.{roll-RuleCode, out-RuleCode}
-use Rattle.asm_eval.specs.declared.rule_code.RuleCode.TheVariants as code
-use Rattle.asm_eval.specs.declared.rule_code.RuleCode.TheFolds.{fold-roll-RuleCode}
 use Rattle.asm_eval.specs.declared.running.Running.{Running}
 use Rattle.asm_clash.specs.Standing.{Assigned, assigned_at, order_stands, parts_of, standing}
 use Rattle.asm_clash.specs.Walks.{IsLong, stands_at}

@@ -15,11 +15,11 @@ use Rattle.asm_meaning.specs.Value.{Reading, is_true}
 use Rattle.asm_meaning.specs.Yields.{Path, at}
 use Rattle.asm_meaning.specs.declared.part.Part.TheVariants as part
 use Rattle.asm_meaning.proofs.Intervals.{interval_laws-all as between_all}
-use Rattle.asm_eval.specs.CodeTree.{Code}
+use Rattle.asm_code.specs.CodeTree.{Code}
+use Rattle.asm_code.specs.Readings.{always, reading, universe_at}
+use Rattle.asm_code.specs.RuleMeaning.{Locations, passes, passing, rule_size, rule_sizes}
+use Rattle.asm_code.specs.RuleTree.{RuleCode, Skip, Assign, Par, Seq, If, Let, Forall, Choose, Iterate, Call, RuleCodes, no_rules, rule_then}
 use Rattle.asm_eval.specs.Opening.{Work, all_of, body_works, choice_works, counted_works, one_work, part_of, part_works, rule_works, span_works, spans}
-use Rattle.asm_eval.specs.Readings.{always, reading, universe_at}
-use Rattle.asm_eval.specs.RuleMeaning.{Locations, passes, passing, rule_size, rule_sizes}
-use Rattle.asm_eval.specs.RuleTree.{RuleCode, Skip, Assign, Par, Seq, If, Let, Forall, Choose, Iterate, Call, RuleCodes, no_rules, rule_then}
 use Rattle.asm_clash.specs.Walks.{IsLong}
 use Rattle.asm_clash.specs.Standing.{Assigned, each_stands, one_stands, parts_of, parts_stand, standing}
 

@@ -21,10 +21,10 @@ use Rattle.asm_meaning.specs.Value.{Reading}
 use Rattle.asm_meaning.specs.Yields.{Path, Result, Gives, Exhausted, at}
 use Rattle.asm_meaning.specs.declared.part_set.PartSet.{PartSet}
 use Rattle.asm_meaning.specs.declared.part_set.PartSet.TheVariants as part_set
-use Rattle.asm_eval.specs.RuleMeaning.{Locations, meaning}
-use Rattle.asm_eval.specs.RuleTree as tree
-use Rattle.asm_eval.specs.RuleViews.{rule_of, rules_of}
-use Rattle.asm_eval.specs.declared.rule_code.RuleCode.{RuleCode}
+use Rattle.asm_code.specs.RuleMeaning.{Locations, meaning}
+use Rattle.asm_code.specs.RuleTree as tree
+use Rattle.asm_code.specs.RuleViews.{rule_of, rules_of}
+use Rattle.asm_code.specs.declared.rule_code.RuleCode.{RuleCode}
 use Rattle.asm_clash.specs.Standing.{Assigned, Part, after_part, after_turn, later, order_stands, parts_of, standing, turns_stand}
 
 -- ---- later ones

@@ -9,9 +9,9 @@ use Rattle.asm_meaning.specs.Does.{Outcome, parts, in_order}
 use Rattle.asm_meaning.specs.Program.{nothing_bound}
 use Rattle.asm_meaning.specs.Value.{Reading, is_true}
 use Rattle.asm_meaning.specs.Yields.{Path, at}
-use Rattle.asm_eval.specs.Readings.{always, reading, universe_at}
-use Rattle.asm_eval.specs.RuleMeaning.{Locations, meaning, meanings, passes, passing, place_location, located_at, named_readings, answer_readings, answer_locations}
-use Rattle.asm_eval.specs.RuleTree.{RuleCode, Skip, Assign, Par, Seq, If, Let, Forall, Choose, Iterate, Call, RuleCodes, no_rules, rule_then}
+use Rattle.asm_code.specs.Readings.{always, reading, universe_at}
+use Rattle.asm_code.specs.RuleMeaning.{Locations, meaning, meanings, passes, passing, place_location, located_at, named_readings, answer_readings, answer_locations}
+use Rattle.asm_code.specs.RuleTree.{RuleCode, Skip, Assign, Par, Seq, If, Let, Forall, Choose, Iterate, Call, RuleCodes, no_rules, rule_then}
 use Rattle.asm_clash.specs.Standing.{Assigned, standing, parts_of, parts_stand, order_stands}
 use Rattle.asm_clash.specs.StandingLaws.{StandingLaws}
 use Rattle.asm_clash.proofs.StandingSets.{Shows, none_shown, assigned_shown, beside_shown, elements_shown, one_shown, part_shown, turns_shown}

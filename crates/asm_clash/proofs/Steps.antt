@@ -22,11 +22,11 @@ use Rattle.asm_meaning.specs.Does.{Outcome, does}
 use Rattle.asm_meaning.specs.Program.{nothing_bound}
 use Rattle.asm_meaning.specs.Run.{AtExhausted, AtFault, Run, Specification, run}
 use Rattle.asm_meaning.specs.Yields.{Path, Result, Gives, Exhausted}
+use Rattle.asm_code.specs.RuleMeaning.{meaning}
+use Rattle.asm_code.specs.RuleTree.{RuleCode}
+use Rattle.asm_resolve.specs.ResolvingLaws.{ResolvingLaws}
+use Rattle.asm_resolve.specs.RuleScopes.{resolved_rule_in}
 use Rattle.asm_eval.specs.Frames.{readings_of}
-use Rattle.asm_eval.specs.ResolvingLaws.{ResolvingLaws}
-use Rattle.asm_eval.specs.RuleMeaning.{meaning}
-use Rattle.asm_eval.specs.RuleScopes.{resolved_rule_in}
-use Rattle.asm_eval.specs.RuleTree.{RuleCode}
 use Rattle.asm_eval.specs.Running.{places_of}
 use Rattle.asm_eval.specs.declared.frame.Frame.{Frame}
 use Rattle.asm_eval.specs.declared.frame.Frame.TheVariants as bare

@@ -11,9 +11,9 @@ use Rattle.asm_meaning.specs.Formed.{IsSet}
 use Rattle.asm_meaning.specs.PartSets.{IsPartSet}
 use Rattle.asm_meaning.specs.Yields.{Path, Exhausted}
 use Rattle.asm_meaning.specs.declared.part_set.PartSet.{PartSet}
+use Rattle.asm_code.specs.RuleMeaning.{meaning}
+use Rattle.asm_code.specs.RuleTree.{RuleCode}
 use Rattle.asm_eval.specs.Frames.{readings_of}
-use Rattle.asm_eval.specs.RuleMeaning.{meaning}
-use Rattle.asm_eval.specs.RuleTree.{RuleCode}
 use Rattle.asm_eval.specs.Running.{places_of}
 use Rattle.asm_eval.specs.declared.frame.Frame.{Frame}
 use Rattle.asm_clash.specs.Standing.{Assigned, later, standing}

@@ -12,10 +12,10 @@ use Rattle.asm_meaning.specs.PartSets.{ends_parts, ends_turns}
 use Rattle.asm_meaning.specs.Value.{Reading}
 use Rattle.asm_meaning.specs.Yields.{Path, Result, at}
 use Rattle.asm_meaning.specs.declared.part_set.PartSet.{PartSet}
-use Rattle.asm_eval.specs.RuleMeaning.{Locations, meaning}
-use Rattle.asm_eval.specs.RuleTree as tree
-use Rattle.asm_eval.specs.RuleViews.{rule_of}
-use Rattle.asm_eval.specs.declared.rule_code.RuleCode.{RuleCode}
+use Rattle.asm_code.specs.RuleMeaning.{Locations, meaning}
+use Rattle.asm_code.specs.RuleTree as tree
+use Rattle.asm_code.specs.RuleViews.{rule_of}
+use Rattle.asm_code.specs.declared.rule_code.RuleCode.{RuleCode}
 use Rattle.asm_clash.specs.Standing.{Assigned, later, standing}
 use Rattle.asm_clash.specs.Walks.{IsNext, all_assigned}
 use Rattle.asm_clash.specs.declared.assignment.Assignment.{Assignment}

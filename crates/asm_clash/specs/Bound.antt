@@ -6,11 +6,11 @@ use Rattle.std.specs.Prelude.{◌++◌, List, [], ◌∷◌, map}
 use Rattle.asm_state.specs.declared.value.Value.{Value}
 use Rattle.asm_state.specs.Words.{value_of_code}
 use Rattle.asm_meaning.specs.declared.view.View.{View}
+use Rattle.asm_code.specs.declared.rule_code.Place.{Place}
+use Rattle.asm_code.specs.declared.rule_code.Place.TheVariants as place
 use Rattle.asm_eval.specs.Frames.{code_value}
 use Rattle.asm_eval.specs.declared.frame.Frame.{Frame}
 use Rattle.asm_eval.specs.declared.frame.Frame.TheVariants as frame
-use Rattle.asm_eval.specs.declared.rule_code.Place.{Place}
-use Rattle.asm_eval.specs.declared.rule_code.Place.TheVariants as place
 
 abbrev pub arguments_in : View → Frame → Place → List Value
 arguments_in view f (place.Answer i) = []

@@ -21,9 +21,9 @@ use Rattle.asm_check.specs.Shapes.{shape_of}
 use Rattle.asm_meaning.specs.Declarations.{main_rule}
 use Rattle.asm_meaning.specs.Run.{AtLimit, AtExhausted, AtFault, Run}
 use Rattle.asm_meaning.specs.Yields.{Path, Result, Gives, Exhausted}
-use Rattle.asm_eval.specs.RuleMeaning.{meaning}
-use Rattle.asm_eval.specs.RuleScopes.{resolved_rule_in}
-use Rattle.asm_eval.specs.RuleTree.{RuleCode}
+use Rattle.asm_code.specs.RuleMeaning.{meaning}
+use Rattle.asm_code.specs.RuleTree.{RuleCode}
+use Rattle.asm_resolve.specs.RuleScopes.{resolved_rule_in}
 use Rattle.asm_clash.specs.Standing.{Assigned, AreValuesAt, standing}
 use Rattle.asm_clash.specs.Walks.{all_assigned}
 use Rattle.asm_clash.specs.declared.assignment.Assignment.{Assignment}

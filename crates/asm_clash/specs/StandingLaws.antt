@@ -6,8 +6,8 @@ use Rattle.asm_state.specs.Signature.{Shape}
 use Rattle.asm_state.specs.Updates.{UpdateSet}
 use Rattle.asm_meaning.specs.Value.{Reading}
 use Rattle.asm_meaning.specs.Yields.{Path, Gives}
-use Rattle.asm_eval.specs.RuleMeaning.{Locations, meaning}
-use Rattle.asm_eval.specs.RuleTree.{RuleCode}
+use Rattle.asm_code.specs.RuleMeaning.{Locations, meaning}
+use Rattle.asm_code.specs.RuleTree.{RuleCode}
 use Rattle.asm_clash.specs.Standing.{AreValuesAt, standing}
 
 pub record StandingLaws : Type 0 where

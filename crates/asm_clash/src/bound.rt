@@ -1,14 +1,14 @@
 //! What an assignment reads beside its value.
 ghost use Rattle.std.specs.Prelude.{◌≡◌, ◌++◌, IfOk, OnOk, map};
+ghost use Rattle.asm_code.specs.RuleMeaning.{IsSoundPlace};
+ghost use Rattle.asm_code.specs.RuleViews.{place_of};
 ghost use Rattle.asm_eval.specs.Frames.{AllSound, IsSoundFrame, code_value};
-ghost use Rattle.asm_eval.specs.RuleMeaning.{IsSoundPlace};
-ghost use Rattle.asm_eval.specs.RuleViews.{place_of};
 ghost use Rattle.asm_clash.specs.Bound.{arguments_in, bound_in};
 
-use asm_eval::code::Code;
+use asm_code::code::Code;
+use asm_code::rule_code::Place;
 use asm_eval::frame::Frame;
 use asm_eval::laws::member_laws;
-use asm_eval::rule_code::Place;
 use asm_eval::value::value;
 use asm_meaning::View;
 use asm_state::word::Word;

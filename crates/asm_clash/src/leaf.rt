@@ -1,21 +1,21 @@
 //! Whether an assignment's update is at a location.
 ghost use Rattle.std.specs.Prelude.{◌≡◌, ◌<◌, IfOk};
 ghost use Rattle.asm_state.specs.Signature.{count_of, location_at};
-ghost use Rattle.asm_eval.specs.CodeViews.{code_of};
+ghost use Rattle.asm_code.specs.CodeViews.{code_of};
+ghost use Rattle.asm_code.specs.RuleMeaning.{IsSoundPlace};
+ghost use Rattle.asm_code.specs.RuleViews.{place_of};
+ghost use Rattle.asm_code.specs.Sound.{IsSound};
 ghost use Rattle.asm_eval.specs.Frames.{IsSoundFrame, code_value};
-ghost use Rattle.asm_eval.specs.RuleMeaning.{IsSoundPlace};
-ghost use Rattle.asm_eval.specs.RuleViews.{place_of};
 ghost use Rattle.asm_eval.specs.Running.{place_in};
-ghost use Rattle.asm_eval.specs.Sound.{IsSound};
 ghost use Rattle.asm_clash.specs.Standing.{assigned_at};
 ghost use Rattle.asm_clash.specs.Walks.{all_assigned};
 
 use crate::assignment::Assignment;
 use crate::bound::{arguments_at, values_bound};
-use asm_eval::code::Code;
+use asm_code::code::Code;
+use asm_code::rule_code::Place;
 use asm_eval::frame::Frame;
 use asm_eval::place::place_number;
-use asm_eval::rule_code::Place;
 use asm_eval::value::value;
 use asm_meaning::{Path, View};
 use std::alloc::{AllocError, Global};

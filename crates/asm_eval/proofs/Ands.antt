@@ -8,12 +8,12 @@ use Rattle.asm_state.specs.declared.value.Value.TheVariants.{Undef, Truth, Numbe
 use Rattle.asm_state.specs.Location.{State}
 use Rattle.asm_state.specs.Operation.{op}
 use Rattle.asm_state.specs.Signature.{Shape}
+use Rattle.asm_code.specs.CodeTree as tree
+use Rattle.asm_code.specs.CodeViews.{code_of, link_of, links_of}
+use Rattle.asm_code.specs.Readings.{chained, reading}
 use Rattle.asm_eval.specs.Ands.{is_and, is_and_operation, is_false}
-use Rattle.asm_eval.specs.CodeTree as tree
-use Rattle.asm_eval.specs.CodeViews.{code_of, link_of, links_of}
-use Rattle.asm_eval.specs.Readings.{chained, reading}
 use Rattle.asm_meaning.specs.Value.{Reading, is_true}
-use Rattle.asm_eval.specs.declared.code.Code.{Code}
+use Rattle.asm_code.specs.declared.code.Code.{Code}
 
 -- `and` has the value true where both operands have
 pub and_true : (v w : Value) → is_true (op And v w) ≡ (is_true v && is_true w)

@@ -2,7 +2,7 @@
 use Rattle.std.proofs.Common.{◌≡◌, List, [], ◌∷◌, ◌++◌, length, map, refl, ap, ◌∙◌, arith}
 use Rattle.asm_state.specs.declared.value.Value.{Value}
 use Rattle.asm_meaning.specs.Value.{Reading}
-use Rattle.asm_eval.specs.Readings.{always}
+use Rattle.asm_code.specs.Readings.{always}
 
 module _ {X : Type 0} (f : X → Value) (more : List Reading) where
   pub values_are : (xs : List X) → map always (map f xs) ++ more ≡ map (λ (x : X). always (f x)) xs ++ more

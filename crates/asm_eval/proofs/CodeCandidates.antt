@@ -3,9 +3,9 @@ use Rattle.std.proofs.Common.{◌≡◌, ℕ, true, false, List, [], ◌∷◌, 
 use Rattle.std.specs.Prelude.{slice_get}
 use Rattle.asm_state.specs.declared.value.Value.{Value}
 use Rattle.asm_meaning.specs.declared.view.View.{View}
-use Rattle.asm_eval.proofs.RuleForms.{universe_here}
+use Rattle.asm_code.specs.declared.code.Code.{Code}
+use Rattle.asm_eval.proofs.RuleYields.{universe_here}
 use Rattle.asm_eval.specs.Running.{is_passing, passing_in}
-use Rattle.asm_eval.specs.declared.code.Code.{Code}
 use Rattle.asm_eval.specs.declared.frame.Frame.{Frame}
 
 all_pass : {X : Type 0} (xs : List X) → filter (λ x. true) xs ≡ xs

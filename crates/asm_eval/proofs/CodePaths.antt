@@ -13,9 +13,9 @@ use Rattle.asm_meaning.proofs.ExhaustedPaths.{nested_paths-first as first_beside
 use Rattle.asm_eval.proofs.Lists.{by_test}
 use Rattle.asm_meaning.specs.Nested.{Within, AllNest}
 use Rattle.asm_meaning.proofs.NestedPaths.{nested_paths-behind_is_within as behind_is_within, nested_paths-descent_is_within as descent_is_within, nested_paths-parts as parts_behind, nested_paths-in_order as in_order_within, nested_paths-turns as turns_within, nested_paths-elements as each_behind, nested_paths-one_of as one_within}
-use Rattle.asm_eval.specs.Readings.{always, reading, universe_at}
-use Rattle.asm_eval.specs.RuleMeaning.{Locations, meaning, meanings, passes, passing, located_at, named_readings, answer_readings, answer_locations}
-use Rattle.asm_eval.specs.RuleTree.{RuleCode, Skip, Assign, Par, Seq, If, Let, Forall, Choose, Iterate, Call, RuleCodes, no_rules, rule_then}
+use Rattle.asm_code.specs.Readings.{always, reading, universe_at}
+use Rattle.asm_code.specs.RuleMeaning.{Locations, meaning, meanings, passes, passing, located_at, named_readings, answer_readings, answer_locations}
+use Rattle.asm_code.specs.RuleTree.{RuleCode, Skip, Assign, Par, Seq, If, Let, Forall, Choose, Iterate, Call, RuleCodes, no_rules, rule_then}
 
 module _ (shape : Shape) (turns : ℕ) (chosen : Path → ℕ) where
   abbrev means : RuleCode → List Reading → Locations → State → Path → Outcome

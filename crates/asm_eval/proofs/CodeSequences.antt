@@ -20,10 +20,10 @@ use Rattle.asm_meaning.specs.declared.part_set.PartSet.{PartSet}
 use Rattle.asm_meaning.specs.declared.stopped.Stopped.{Stopped}
 use Rattle.asm_meaning.specs.Underway.{IsUnderway}
 use Rattle.asm_meaning.proofs.Sequences.{sequence_laws-goes_on as goes_on, sequence_laws-ends as ends, sequence_laws-ends_with as ends_with, sequence_laws-ends_at as ends_at, part_laws-good_part as good_part, part_laws-faulty_part as faulty_part, part_laws-exhausted_part as exhausted_part, part_laws-good_turn as good_turn, part_laws-last_turn as last_turn, part_laws-exhausted_turn as exhausted_turn, stopping_laws-handed_on as stopped_on}
-use Rattle.asm_eval.specs.RuleMeaning.{Locations, meaning, meanings}
-use Rattle.asm_eval.specs.RuleTree as tree
-use Rattle.asm_eval.specs.RuleViews.{rule_of, rules_of}
-use Rattle.asm_eval.specs.declared.rule_code.RuleCode.{RuleCode}
+use Rattle.asm_code.specs.RuleMeaning.{Locations, meaning, meanings}
+use Rattle.asm_code.specs.RuleTree as tree
+use Rattle.asm_code.specs.RuleViews.{rule_of, rules_of}
+use Rattle.asm_code.specs.declared.rule_code.RuleCode.{RuleCode}
 
 module _ (shape : Shape) (turns : ℕ) (chosen : Path → ℕ) (rs : List Reading) (ls : Locations) (p : Path) where
   abbrev in_order_from : ℕ → List RuleCode → State → Outcome

@@ -3,7 +3,7 @@ use Rattle.std.proofs.Common.{◌≡◌, ℕ, zero, suc, ◌-◌, ◌<◌, ◌�
 use Rattle.std.specs.Prelude.{slice_index_or}
 use Rattle.asm_state.specs.declared.value.Value.{Value}
 use Rattle.asm_meaning.specs.Value.{Reading}
-use Rattle.asm_eval.specs.Readings.{always, at_position}
+use Rattle.asm_code.specs.Readings.{always, at_position}
 
 pub within_values : (vs : List Value) (rs : List Reading) (i : ℕ) (v : Value) → i < length vs → v ≡ get_or vs i v → always v ≡ at_position (map always vs ++ rs) i
 within_values [] rs i v below is = absurd (omega (arith, below))

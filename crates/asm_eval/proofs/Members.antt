@@ -4,12 +4,12 @@ use Rattle.asm_state.specs.declared.operation.Op.{Op}
 use Rattle.asm_state.specs.Location.{State}
 use Rattle.asm_state.specs.Signature.{Shape}
 use Rattle.asm_meaning.specs.Value.{Reading}
-use Rattle.asm_eval.specs.CodeViews.{code_of, codes_of, link_of, links_of}
-use Rattle.asm_eval.specs.Readings.{reading, readings}
-use Rattle.asm_eval.specs.Sizes.{size, sizes, link_sizes}
-use Rattle.asm_eval.specs.Sound.{IsSound, AreSound, AreSoundLinks, count}
-use Rattle.asm_eval.specs.CodeTree as tree
-use Rattle.asm_eval.specs.declared.code.Code.{Code}
+use Rattle.asm_code.specs.CodeViews.{code_of, codes_of, link_of, links_of}
+use Rattle.asm_code.specs.Readings.{reading, readings}
+use Rattle.asm_code.specs.Sizes.{size, sizes, link_sizes}
+use Rattle.asm_code.specs.Sound.{IsSound, AreSound, AreSoundLinks}
+use Rattle.asm_code.specs.CodeTree as tree
+use Rattle.asm_code.specs.declared.code.Code.{Code}
 
 -- what the codes of a list are worth
 pub readings_map : (shape : Shape) (rs : List Reading) (A : State) (ts : List Code)
@@ -37,10 +37,6 @@ pub link_sound_within : (shape : Shape) (links : List (Op × Code)) (i : ℕ) (l
 link_sound_within shape [] i l below is sound = absurd (omega (arith, below))
 link_sound_within shape (k ∷ links) zero l below is sound = subst (λ (l : Op × Code). IsSound shape (code_of l.1)) (sym is) sound.0
 link_sound_within shape (k ∷ links) (suc i) l below is sound = link_sound_within shape links i l (omega (arith, below)) is sound.1
-
-pub count_of_codes : (ts : List Code) → count (codes_of (map code_of ts)) ≡ length ts
-count_of_codes [] = refl
-count_of_codes (t ∷ ts) = let rest = count_of_codes ts in omega (arith, rest)
 
 -- each code has a node
 pub size_some : (t : tree.Code) → 1 ≤ size t

@@ -16,16 +16,16 @@ use Rattle.asm_meaning.specs.Intervals.{between}
 use Rattle.asm_meaning.specs.Value.{Reading}
 use Rattle.asm_meaning.specs.Yields.{Path, at}
 use Rattle.asm_meaning.specs.declared.part.Part.TheVariants as part
-use Rattle.asm_eval.specs.CodeTree as codes
+use Rattle.asm_code.specs.CodeTree as codes
+use Rattle.asm_code.specs.Readings.{always, universe_at}
+use Rattle.asm_code.specs.RuleMeaning.{Locations, passes}
+use Rattle.asm_code.specs.RuleTree as tree
+use Rattle.asm_code.specs.RuleViews.{rule_of, rules_of}
+use Rattle.asm_code.specs.declared.rule_code.RuleCode.{RuleCode}
 use Rattle.asm_eval.specs.OpenedPieces.{OpensTo}
 use Rattle.asm_eval.specs.Opening.{Work, all_of, body_works, counted_works, part_of, part_opened, part_works, span_works, spans}
 use Rattle.asm_eval.specs.Pieces.{IsPartOf}
-use Rattle.asm_eval.specs.Readings.{always, universe_at}
-use Rattle.asm_eval.specs.RuleMeaning.{Locations, passes}
-use Rattle.asm_eval.specs.RuleTree as tree
-use Rattle.asm_eval.specs.RuleViews.{rule_of, rules_of}
 use Rattle.asm_eval.specs.declared.open.Opened.{Opened}
-use Rattle.asm_eval.specs.declared.rule_code.RuleCode.{RuleCode}
 use Rattle.asm_eval.specs.declared.running.Running.{Running}
 
 -- ---- a list that grows

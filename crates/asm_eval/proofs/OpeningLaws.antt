@@ -22,17 +22,17 @@ use Rattle.asm_meaning.specs.declared.part.Part.{Part}
 use Rattle.asm_meaning.specs.declared.part.Part.TheVariants as part
 use Rattle.asm_meaning.proofs.Groups.{group_laws-counting_none as counting_none, group_laws-one as one_alone}
 use Rattle.asm_meaning.proofs.Intervals.{interval_laws-all as between_all, interval_laws-cut as each_cut, interval_laws-none as each_none}
+use Rattle.asm_code.specs.CodeTree.{Code}
+use Rattle.asm_code.specs.Readings.{always, reading, universe_at}
+use Rattle.asm_code.specs.RuleMeaning.{Locations, meaning, meanings, passes, passing}
+use Rattle.asm_code.specs.RuleTree.{RuleCode, Skip, Assign, Par, Seq, If, Let, Forall, Choose, Iterate, Call, RuleCodes, no_rules, rule_then}
+use Rattle.asm_code.specs.RuleViews.{rule_of}
 use Rattle.asm_eval.proofs.Lists.{by_test}
 use Rattle.asm_eval.proofs.OpenedRules.{before_end}
-use Rattle.asm_eval.specs.CodeTree.{Code}
 use Rattle.asm_eval.specs.Frames.{readings_of}
 use Rattle.asm_eval.specs.OpenedPieces.{Gives, IsCut, Opens, OpeningLaws, is_closed, is_closed_part, pieces_in, pieces_yield, works_in}
 use Rattle.asm_eval.specs.Opening.{Work, all_of, body_works, choice_works, one_work, opened, part_of, part_opened, part_works, rule_works, span_works, spans, work_of}
 use Rattle.asm_eval.specs.Pieces.{IsPartOf, IsPiece, part_yields, piece_yields}
-use Rattle.asm_eval.specs.Readings.{always, reading, universe_at}
-use Rattle.asm_eval.specs.RuleMeaning.{Locations, meaning, meanings, passes, passing}
-use Rattle.asm_eval.specs.RuleTree.{RuleCode, Skip, Assign, Par, Seq, If, Let, Forall, Choose, Iterate, Call, RuleCodes, no_rules, rule_then}
-use Rattle.asm_eval.specs.RuleViews.{rule_of}
 use Rattle.asm_eval.specs.Running.{chosen_at, places_of, shape_at, state_at}
 use Rattle.asm_eval.specs.declared.frame.Frame.{Frame}
 use Rattle.asm_eval.specs.declared.open.Opened.{Opened}

@@ -10,8 +10,8 @@ use Rattle.asm_state.specs.declared.value.Value.TheVariants.{Truth}
 use Rattle.asm_state.specs.Location.{State}
 use Rattle.asm_state.specs.Signature.{Shape}
 use Rattle.asm_meaning.specs.Value.{Reading, is_true}
-use Rattle.asm_eval.specs.CodeTree.{Code, Exists, Every}
-use Rattle.asm_eval.specs.Readings.{always, reading}
+use Rattle.asm_code.specs.CodeTree.{Code, Exists, Every}
+use Rattle.asm_code.specs.Readings.{always, reading}
 
 any_here : {X : Type 0} (p : X → Bool) (xs : List X) (i : ℕ) (x : X) → slice_get xs i ≡ Some x → p x ≡ true → list_any p xs ≡ true
 any_here p xs i x at here = list_any_at p xs i x (slice_get_within xs i x at) (ap p (get_or_from_slice_get xs i x x at) ∙ here)

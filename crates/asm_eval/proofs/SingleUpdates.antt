@@ -20,9 +20,9 @@ use Rattle.asm_meaning.specs.declared.stopped.Stopped.{Stopped}
 use Rattle.asm_meaning.specs.declared.view.View.{View}
 use Rattle.asm_meaning.proofs.Sequences.{sequence_laws-goes_by as goes_by}
 use Rattle.asm_reader.specs.declared.picks.Picks.{Ghosts}
+use Rattle.asm_code.specs.RuleMeaning.{meaning}
+use Rattle.asm_code.specs.RuleTree.{RuleCode}
 use Rattle.asm_eval.specs.Frames.{readings_of}
-use Rattle.asm_eval.specs.RuleMeaning.{meaning}
-use Rattle.asm_eval.specs.RuleTree.{RuleCode}
 use Rattle.asm_eval.specs.Running.{shape_at, state_at, chosen_at, places_of, rule_in, rule_upon}
 use Rattle.asm_eval.specs.Singles.{IsSingle, YieldsSingle}
 use Rattle.asm_eval.specs.declared.frame.Frame.{Frame}

@@ -4,18 +4,19 @@ use Rattle.std.specs.Arc.{arc_value}
 use Rattle.std.specs.declared.sync.Arc.{Arc}
 use Rattle.asm_state.specs.declared.operation.Op.{Op}
 use Rattle.asm_state.specs.Signature.{Shape}
-use Rattle.asm_eval.specs.CodeViews.{code_of, codes_of, link_of, links_of}
-use Rattle.asm_eval.specs.RuleMeaning.{AreSoundRules, IsSoundRule, rule_size, rule_sizes}
-use Rattle.asm_eval.specs.RuleViews.{rule_of, rules_of}
-use Rattle.asm_eval.specs.Sizes.{size, sizes, link_sizes}
-use Rattle.asm_eval.specs.Sound.{AreSound, AreSoundLinks, IsSound}
-use Rattle.asm_eval.specs.declared.code.Code.{Code}
-use Rattle.asm_eval.specs.declared.code.Code.TheVariants as code
-use Rattle.asm_eval.specs.declared.rule_code.RuleCode.{RuleCode}
-use Rattle.asm_eval.specs.declared.rule_code.RuleCode.TheVariants as rule
-use Rattle.asm_eval.proofs.CodeForms.{chain_form, derived_form, held_form}
+use Rattle.asm_code.specs.CodeViews.{code_of, codes_of, link_of, links_of}
+use Rattle.asm_code.specs.RuleMeaning.{AreSoundRules, IsSoundRule, rule_size, rule_sizes}
+use Rattle.asm_code.specs.RuleViews.{rule_of, rules_of}
+use Rattle.asm_code.specs.Sizes.{size, sizes, link_sizes}
+use Rattle.asm_code.specs.Sound.{AreSound, AreSoundLinks, IsSound}
+use Rattle.asm_code.specs.declared.code.Code.{Code}
+use Rattle.asm_code.specs.declared.code.Code.TheVariants as code
+use Rattle.asm_code.specs.declared.rule_code.RuleCode.{RuleCode}
+use Rattle.asm_code.specs.declared.rule_code.RuleCode.TheVariants as rule
+use Rattle.asm_code.proofs.CodeForms.{code_laws-chain_form as chain_form, code_laws-derived_form as derived_form, code_laws-held_form as held_form}
+use Rattle.asm_code.proofs.RuleForms.{rule_laws-par_form as par_form, rule_laws-seq_form as seq_form}
 use Rattle.asm_eval.proofs.Members.{sound_within, size_within, link_sound_within, link_size_within}
-use Rattle.asm_eval.proofs.RuleForms.{par_form, seq_form, sound_part, size_of_part}
+use Rattle.asm_eval.proofs.RuleYields.{sound_part, size_of_part}
 
 module _ (shape : Shape) where
   pub member_laws-codes : (ts : List Code) (i : ℕ) (t : Code) → i < length ts → t ≡ get_or ts i t → AreSound shape (codes_of (map code_of ts)) → IsSound shape (code_of t)

@@ -4,7 +4,7 @@ use Rattle.asm_state.specs.declared.value.Value.{Value}
 use Rattle.asm_state.specs.declared.value.Value.TheVariants.{Truth}
 use Rattle.asm_state.specs.declared.operation.Op.{Op}
 use Rattle.asm_state.specs.declared.operation.Op.TheVariants.{And}
-use Rattle.asm_eval.specs.declared.code.Code.{Code}
+use Rattle.asm_code.specs.declared.code.Code.{Code}
 
 -- whether a value is the truth value false
 abbrev pub is_false : Value → Bool

@@ -3,11 +3,11 @@ use Rattle.std.specs.Prelude.{◌<◌, ◌+◌, ℕ}
 use Rattle.asm_state.specs.declared.value.Value.TheVariants.{Undef}
 use Rattle.asm_state.specs.Signature.{Shape, count_of}
 use Rattle.asm_meaning.specs.Value.{Reading}
-use Rattle.asm_eval.specs.CodeViews.{code_of}
+use Rattle.asm_code.specs.CodeViews.{code_of}
+use Rattle.asm_code.specs.Readings.{always, content, reading}
+use Rattle.asm_code.specs.Sizes.{size}
+use Rattle.asm_code.specs.Sound.{IsSound}
 use Rattle.asm_eval.specs.Frames.{IsSoundFrame, load, readings_of}
-use Rattle.asm_eval.specs.Readings.{always, content, reading}
-use Rattle.asm_eval.specs.Sizes.{size}
-use Rattle.asm_eval.specs.Sound.{IsSound}
 use Rattle.asm_eval.specs.declared.find.Found.{Found}
 use Rattle.asm_eval.specs.declared.find.Found.TheVariants as found
 

@@ -9,12 +9,12 @@ use Rattle.asm_meaning.specs.Valued.{shown}
 use Rattle.asm_meaning.specs.declared.view.View.{View}
 use Rattle.asm_state.specs.declared.value.Value.{Value}
 use Rattle.asm_state.specs.Words.{value_of_code}
-use Rattle.asm_eval.specs.CodeTree as tree
-use Rattle.asm_eval.specs.CodeViews.{code_of, codes_of}
-use Rattle.asm_eval.specs.Readings.{always, at_position, content, reading}
-use Rattle.asm_eval.specs.Sizes.{sizes}
-use Rattle.asm_eval.specs.Sound.{AreSound}
-use Rattle.asm_eval.specs.declared.code.Code.{Code}
+use Rattle.asm_code.specs.CodeTree as tree
+use Rattle.asm_code.specs.CodeViews.{code_of, codes_of}
+use Rattle.asm_code.specs.Readings.{always, at_position, content, reading}
+use Rattle.asm_code.specs.Sizes.{sizes}
+use Rattle.asm_code.specs.Sound.{AreSound}
+use Rattle.asm_code.specs.declared.code.Code.{Code}
 use Rattle.asm_eval.specs.declared.frame.Frame.{Frame}
 use Rattle.asm_eval.specs.declared.frame.Frame.TheVariants as frame
 

@@ -15,12 +15,12 @@ use Rattle.asm_meaning.specs.Value.{Reading, is_true}
 use Rattle.asm_meaning.specs.Yields.{Path, at}
 use Rattle.asm_meaning.specs.declared.part.Part.{Part}
 use Rattle.asm_meaning.specs.declared.part.Part.TheVariants as part
-use Rattle.asm_eval.specs.CodeTree.{Code}
+use Rattle.asm_code.specs.CodeTree.{Code}
+use Rattle.asm_code.specs.Readings.{always, reading, universe_at}
+use Rattle.asm_code.specs.RuleMeaning.{Locations, answer_locations, answer_readings, located_at, named_readings, passes, passing}
+use Rattle.asm_code.specs.RuleTree.{RuleCode, Skip, Assign, Par, Seq, If, Let, Forall, Choose, Iterate, Call, RuleCodes, no_rules, rule_then}
+use Rattle.asm_code.specs.RuleViews.{rule_of}
 use Rattle.asm_eval.specs.Frames.{readings_of}
-use Rattle.asm_eval.specs.Readings.{always, reading, universe_at}
-use Rattle.asm_eval.specs.RuleMeaning.{Locations, answer_locations, answer_readings, located_at, named_readings, passes, passing}
-use Rattle.asm_eval.specs.RuleTree.{RuleCode, Skip, Assign, Par, Seq, If, Let, Forall, Choose, Iterate, Call, RuleCodes, no_rules, rule_then}
-use Rattle.asm_eval.specs.RuleViews.{rule_of}
 use Rattle.asm_eval.specs.Running.{places_of}
 use Rattle.asm_eval.specs.declared.piece.Piece.{Piece}
 

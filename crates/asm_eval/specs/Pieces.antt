@@ -10,11 +10,11 @@ use Rattle.asm_meaning.specs.Does.{Outcome, nothing}
 use Rattle.asm_meaning.specs.Yields.{Path}
 use Rattle.asm_meaning.specs.declared.part.Part.{Part}
 use Rattle.asm_meaning.specs.declared.part.Part.TheVariants as part
+use Rattle.asm_code.specs.Readings.{universe_at}
+use Rattle.asm_code.specs.RuleMeaning.{IsSoundRule}
+use Rattle.asm_code.specs.RuleTree.{RuleCode, Forall}
+use Rattle.asm_code.specs.RuleViews.{rule_of}
 use Rattle.asm_eval.specs.Frames.{IsSoundFrame}
-use Rattle.asm_eval.specs.Readings.{universe_at}
-use Rattle.asm_eval.specs.RuleMeaning.{IsSoundRule}
-use Rattle.asm_eval.specs.RuleTree.{RuleCode, Forall}
-use Rattle.asm_eval.specs.RuleViews.{rule_of}
 use Rattle.asm_eval.specs.Running.{rule_at, span_at}
 use Rattle.asm_eval.specs.declared.frame.Frame.{Frame}
 use Rattle.asm_eval.specs.declared.piece.Piece.{Piece}

@@ -12,14 +12,14 @@ use Rattle.asm_meaning.specs.declared.choices.Choices.{Choices}
 use Rattle.asm_meaning.specs.declared.outcome.Forming.{Forming}
 use Rattle.asm_meaning.specs.declared.stopped.Stopped.{Stopped}
 use Rattle.asm_meaning.specs.declared.view.View.{View}
+use Rattle.asm_code.specs.RuleMeaning.{IsSoundRule}
+use Rattle.asm_code.specs.RuleViews.{rule_of}
+use Rattle.asm_code.specs.declared.rule_code.RuleCode.{RuleCode}
 use Rattle.asm_eval.specs.Frames.{IsSoundFrame}
-use Rattle.asm_eval.specs.RuleMeaning.{IsSoundRule}
-use Rattle.asm_eval.specs.RuleViews.{rule_of}
 use Rattle.asm_eval.specs.Running.{rule_shown}
 use Rattle.asm_eval.specs.declared.frame.Frame.{Frame}
 use Rattle.asm_eval.specs.declared.regions.Region.{Region}
 use Rattle.asm_eval.specs.declared.regions.Region.TheVariants as region
-use Rattle.asm_eval.specs.declared.rule_code.RuleCode.{RuleCode}
 
 abbrev pub IsTaken : Shape → Outcome → (old new : Forming) → Result Region Stopped → Type 0
 IsTaken shape o old new (Ok region.Formed) = Follows {T = Region} shape o old new (Ok region.Formed)

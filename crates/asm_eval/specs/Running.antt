@@ -21,13 +21,13 @@ use Rattle.asm_meaning.specs.Yields as yields
 use Rattle.asm_meaning.specs.declared.choices.Choices.{Choices}
 use Rattle.asm_meaning.specs.declared.outcome.Forming.{Forming}
 use Rattle.asm_meaning.specs.declared.view.View.{View}
-use Rattle.asm_eval.specs.CodeTree as codes
-use Rattle.asm_eval.specs.CodeViews.{code_of}
+use Rattle.asm_code.specs.CodeTree as codes
+use Rattle.asm_code.specs.CodeViews.{code_of}
+use Rattle.asm_code.specs.Readings.{always, reading, universe_at}
+use Rattle.asm_code.specs.RuleMeaning.{Locations, answer_locations, meaning, meanings, passes, passing, place_location, located_at}
+use Rattle.asm_code.specs.RuleTree.{Place, RuleCode, RuleCodes}
+use Rattle.asm_code.specs.declared.code.Code.{Code}
 use Rattle.asm_eval.specs.Frames.{readings_of}
-use Rattle.asm_eval.specs.Readings.{always, reading, universe_at}
-use Rattle.asm_eval.specs.RuleMeaning.{Locations, answer_locations, meaning, meanings, passes, passing, place_location, located_at}
-use Rattle.asm_eval.specs.RuleTree.{Place, RuleCode, RuleCodes}
-use Rattle.asm_eval.specs.declared.code.Code.{Code}
 use Rattle.asm_eval.specs.declared.frame.Frame.{Frame}
 use Rattle.asm_eval.specs.declared.frame.Frame.TheVariants as frame
 use Rattle.asm_eval.specs.declared.running.Running.{Running}

@@ -10,9 +10,9 @@ use Rattle.asm_meaning.specs.Does.{Outcome, nothing}
 use Rattle.asm_meaning.specs.Valued.{shown}
 use Rattle.asm_meaning.specs.Yields.{Path, Gives}
 use Rattle.asm_meaning.specs.declared.view.View.{View}
+use Rattle.asm_code.specs.RuleMeaning.{meaning}
+use Rattle.asm_code.specs.RuleTree.{RuleCode}
 use Rattle.asm_eval.specs.Frames.{readings_of}
-use Rattle.asm_eval.specs.RuleMeaning.{meaning}
-use Rattle.asm_eval.specs.RuleTree.{RuleCode}
 use Rattle.asm_eval.specs.Running.{places_of}
 use Rattle.asm_eval.specs.declared.frame.Frame.{Frame}
 use Rattle.asm_eval.specs.declared.single.Single.{Single}

@@ -8,8 +8,8 @@ ghost use Rattle.asm_meaning.specs.Value.{is_true};
 ghost use Rattle.asm_state.specs.declared.operation.Op.TheVariants.{Add, Remainder, Equal};
 ghost use Rattle.asm_state.specs.declared.value.Value.TheVariants.{Number as Whole};
 
-use crate::code::Code;
-use crate::modulus::Modulus;
+use asm_code::code::Code;
+use asm_code::modulus::Modulus;
 use asm_state::number::Number;
 use asm_state::operation::{Op, apply};
 use asm_state::value::Value;

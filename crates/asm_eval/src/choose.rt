@@ -2,16 +2,16 @@
 ghost use Rattle.std.specs.Prelude.{◌≡◌, option_map};
 ghost use Rattle.asm_reader.specs.ScriptLines.{pick};
 ghost use Rattle.asm_meaning.specs.Taken.{taken, walk_to};
-ghost use Rattle.asm_eval.specs.CodeViews.{code_of};
+ghost use Rattle.asm_code.specs.CodeViews.{code_of};
+ghost use Rattle.asm_code.specs.RuleMeaning.{IsSoundTest};
+ghost use Rattle.asm_code.specs.Sound.{IsUniverseNumber};
 ghost use Rattle.asm_eval.specs.Frames.{IsSoundFrame};
-ghost use Rattle.asm_eval.specs.RuleMeaning.{IsSoundTest};
 ghost use Rattle.asm_eval.specs.Running.{passes_in, passing_in};
-ghost use Rattle.asm_eval.specs.Sound.{IsUniverseNumber};
 
-use crate::code::Code;
 use crate::frame::Frame;
 use crate::running::Running;
 use crate::value::holds;
+use asm_code::code::Code;
 use asm_meaning::View;
 use asm_meaning::walk::{Walk, element_at};
 use asm_reader::Picks;

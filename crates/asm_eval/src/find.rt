@@ -1,12 +1,12 @@
 //! What a position stands for in a frame.
 ghost use Rattle.std.specs.Prelude.{◌≡◌, ◌≤◌};
 ghost use Rattle.asm_state.specs.Signature.{Shape};
+ghost use Rattle.asm_code.specs.Readings.{at_position};
 ghost use Rattle.asm_eval.specs.Founds.{found_reading, found_load, IsSoundFound};
 ghost use Rattle.asm_eval.specs.Frames.{AllSound, IsAnswer, IsSoundFrame, by_name, load, readings_of, terms_load, terms_readings};
-ghost use Rattle.asm_eval.specs.Readings.{at_position};
 
-use crate::code::Code;
 use crate::frame::Frame;
+use asm_code::code::Code;
 use asm_state::word::Word;
 
 /// What a position stands for.

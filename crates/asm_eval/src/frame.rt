@@ -1,5 +1,5 @@
 //! What the positions of a code stand for while it is evaluated.
-use crate::code::Code;
+use asm_code::code::Code;
 use asm_state::code::Code as Kept;
 use asm_state::word::Word;
 

@@ -6,13 +6,13 @@ ghost use Rattle.asm_state.specs.Signature.{count_of, functions_of};
 ghost use Rattle.asm_meaning.specs.Declarations.{function_at};
 ghost use Rattle.asm_meaning.specs.Valued.{shown, held};
 ghost use Rattle.asm_meaning.specs.Value as spec;
+ghost use Rattle.asm_code.specs.Readings as reading;
+ghost use Rattle.asm_code.specs.Readings.{place_in, content};
+ghost use Rattle.asm_code.specs.RuleMeaning.{number_from};
+ghost use Rattle.asm_code.specs.Sound.{IsCell, AreCells};
 ghost use Rattle.asm_eval.specs.Ands as conditions;
-ghost use Rattle.asm_eval.specs.Readings as reading;
-ghost use Rattle.asm_eval.specs.Readings.{place_in, content};
-ghost use Rattle.asm_eval.specs.RuleMeaning.{number_from};
-ghost use Rattle.asm_eval.specs.Sound.{IsCell, AreCells};
 
-use crate::code::{Grid, Span};
+use asm_code::code::{Grid, Span};
 use asm_meaning::View;
 use asm_state::function::FunctionKind;
 use asm_state::word::Word;

@@ -1,29 +1,22 @@
-//! Laws of resolved rules, and of their pieces.
+//! Laws of pieces of rules, and of parts of sound codes.
 ghost use Rattle.std.specs.Prelude.{◌≡◌, ◌<◌, ℕ, List, length, map, get_or};
 ghost use Rattle.std.proofs.Common.{Box, Vec, Global};
 ghost use Rattle.std.specs.declared.sync.Arc.{Arc};
 ghost use Rattle.asm_state.specs.Signature.{Shape};
 ghost use Rattle.asm_state.specs.declared.operation.Op.{Op};
-ghost use Rattle.asm_eval.specs.CodeViews.{code_of, codes_of};
+ghost use Rattle.asm_code.specs.CodeViews.{code_of, codes_of};
+ghost use Rattle.asm_code.specs.RuleMeaning.{IsSoundRule, rule_size};
+ghost use Rattle.asm_code.specs.RuleViews.{rule_of};
+ghost use Rattle.asm_code.specs.Sizes.{size};
+ghost use Rattle.asm_code.specs.Sound.{AreSound, IsSound};
+ghost use Rattle.asm_code.specs.declared.code.Code.{Code};
+ghost use Rattle.asm_code.specs.declared.code.Code.TheVariants as code;
+ghost use Rattle.asm_code.specs.declared.rule_code.RuleCode.{RuleCode};
+ghost use Rattle.asm_code.specs.declared.rule_code.RuleCode.TheVariants as rule;
 ghost use Rattle.asm_eval.specs.OpenedPieces.{OpeningLaws};
-ghost use Rattle.asm_eval.specs.ResolvingLaws.{ResolvingLaws};
-ghost use Rattle.asm_eval.specs.RuleMeaning.{IsSoundRule, rule_size};
-ghost use Rattle.asm_eval.specs.RuleViews.{rule_of};
-ghost use Rattle.asm_eval.specs.Sizes.{size};
-ghost use Rattle.asm_eval.specs.Sound.{AreSound, IsSound};
-ghost use Rattle.asm_eval.specs.declared.code.Code.{Code};
-ghost use Rattle.asm_eval.specs.declared.code.Code.TheVariants as code;
-ghost use Rattle.asm_eval.specs.declared.rule_code.RuleCode.{RuleCode};
-ghost use Rattle.asm_eval.specs.declared.rule_code.RuleCode.TheVariants as rule;
 ghost use Rattle.asm_eval.specs.declared.running.Running.{Running};
 
 use asm_reader::Picks;
-
-/// A rule that is resolved where no name is bound yields what the rule does, in each state, at each
-/// path and under each script.
-pub fn resolving_laws()
-    ensures { ResolvingLaws }
-{}
 
 /// Opening a piece by a cut that isn't 0 loses nothing: the pieces that it is opened to yield
 /// together what it yields, with the elements that were counted in opening it, and no span has more

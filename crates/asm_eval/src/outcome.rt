@@ -1,16 +1,16 @@
 //! The outcome of a resolved rule.
 ghost use Rattle.std.specs.Prelude.{IfOk};
 ghost use Rattle.asm_meaning.specs.Formed.{IsFormed};
+ghost use Rattle.asm_code.specs.RuleMeaning.{IsSoundRule};
+ghost use Rattle.asm_code.specs.RuleViews.{rule_of};
 ghost use Rattle.asm_eval.specs.Frames.{IsSoundFrame};
-ghost use Rattle.asm_eval.specs.RuleMeaning.{IsSoundRule};
-ghost use Rattle.asm_eval.specs.RuleViews.{rule_of};
 ghost use Rattle.asm_eval.specs.Running.{rule_at, shape_at};
 
 use crate::form::form;
 use crate::frame::Frame;
 use crate::regions::{Plain, Regions};
-use crate::rule_code::RuleCode;
 use crate::running::Running;
+use asm_code::rule_code::RuleCode;
 use asm_meaning::Outcome;
 use asm_meaning::from_nothing::{nothing_formed, outcome_of};
 use asm_reader::Picks;

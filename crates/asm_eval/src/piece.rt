@@ -2,17 +2,17 @@
 ghost use Rattle.std.specs.Prelude.{◌≡◌, OnOk, IfOk, IfErr};
 ghost use Rattle.asm_meaning.specs.Formed.{Follows, Forms, IsFormed, IsStoppedAt};
 ghost use Rattle.asm_meaning.specs.declared.part.Part.TheVariants as part;
+ghost use Rattle.asm_code.specs.RuleMeaning.{IsSoundRule};
+ghost use Rattle.asm_code.specs.RuleViews.{rule_of};
 ghost use Rattle.asm_eval.specs.Frames.{IsSoundFrame};
 ghost use Rattle.asm_eval.specs.Pieces.{IsPartOf, IsPiece, part_yields, piece_yields};
-ghost use Rattle.asm_eval.specs.RuleMeaning.{IsSoundRule};
-ghost use Rattle.asm_eval.specs.RuleViews.{rule_of};
 ghost use Rattle.asm_eval.specs.Running.{Fits, shape_at};
 
 use crate::form::{form, form_span};
 use crate::frame::Frame;
 use crate::regions::Plain;
-use crate::rule_code::RuleCode;
 use crate::running::Running;
+use asm_code::rule_code::RuleCode;
 use asm_meaning::from_nothing::{nothing_formed, outcome_of};
 use asm_meaning::{Forming, Outcome, Part, Path, Stopped};
 use asm_reader::Picks;

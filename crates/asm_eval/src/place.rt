@@ -3,19 +3,19 @@ ghost use Rattle.std.specs.Prelude.{◌≡◌, ◌<◌, ◌+◌, ◌*◌, None, 
 ghost use Rattle.asm_state.specs.declared.function.FunctionKind.TheVariants.{Controlled};
 ghost use Rattle.asm_state.specs.Signature.{Shape, HasKind, count_of, domain_of, location_at};
 ghost use Rattle.asm_state.specs.Tables.{location_in};
-ghost use Rattle.asm_eval.specs.CodeViews.{code_of};
+ghost use Rattle.asm_code.specs.CodeViews.{code_of};
+ghost use Rattle.asm_code.specs.RuleMeaning.{IsSoundAnswer, IsSoundPlace};
+ghost use Rattle.asm_code.specs.RuleTree as tree;
+ghost use Rattle.asm_code.specs.RuleViews.{place_of};
+ghost use Rattle.asm_code.specs.Sound.{IsLocationNumber, IsSound};
 ghost use Rattle.asm_eval.specs.Frames.{AllSound, IsSoundFrame, code_value};
-ghost use Rattle.asm_eval.specs.RuleMeaning.{IsSoundAnswer, IsSoundPlace};
-ghost use Rattle.asm_eval.specs.RuleTree as tree;
-ghost use Rattle.asm_eval.specs.RuleViews.{place_of};
 ghost use Rattle.asm_eval.specs.Running.{answer_in, location_numbered, place_in, places_of};
-ghost use Rattle.asm_eval.specs.Sound.{IsLocationNumber, IsSound};
 
-use crate::code::{Code, Grid, Span};
 use crate::frame::Frame;
 use crate::held::{number_in_grid, number_in_row};
-use crate::rule_code::Place;
 use crate::value::{operand, value};
+use asm_code::code::{Code, Grid, Span};
+use asm_code::rule_code::Place;
 use asm_meaning::View;
 use asm_state::word::Word;
 use std::alloc::{AllocError, Global};

@@ -3,7 +3,7 @@ ghost use Rattle.std.specs.Prelude.{◌≡◌};
 ghost use Rattle.asm_eval.specs.Pieces.{IsPiece, positions_in};
 
 use crate::piece::Piece;
-use crate::rule_code::RuleCode;
+use asm_code::rule_code::RuleCode;
 use asm_meaning::Part;
 use asm_state::signature::Signature;
 

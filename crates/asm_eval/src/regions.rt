@@ -1,14 +1,14 @@
 //! Who forms regions.
 ghost use Rattle.std.specs.Prelude.{◌≡◌};
+ghost use Rattle.asm_code.specs.RuleMeaning.{IsSoundRule};
+ghost use Rattle.asm_code.specs.RuleViews.{rule_of};
 ghost use Rattle.asm_eval.specs.Frames.{IsSoundFrame};
 ghost use Rattle.asm_eval.specs.Regions.{IsTaken, TakesRegions, TakesThem};
-ghost use Rattle.asm_eval.specs.RuleMeaning.{IsSoundRule};
-ghost use Rattle.asm_eval.specs.RuleViews.{rule_of};
 ghost use Rattle.asm_eval.specs.Running.{Fits, rule_at, shape_at};
 
 use crate::frame::Frame;
-use crate::rule_code::RuleCode;
 use crate::running::Running;
+use asm_code::rule_code::RuleCode;
 use asm_meaning::{Choices, Forming, Stopped, View};
 use asm_reader::Picks;
 use std::alloc::Global;

@@ -1,9 +1,9 @@
 //! Resolved rules, frames and pieces for several threads.
 ghost use denote.Ref.{NamedLft};
 ghost use denote.Param.Send.{IsSend, IsSync};
+ghost use Rattle.asm_code.specs.contracts.rule_code.RuleCode as rule;
 ghost use Rattle.asm_eval.specs.contracts.frame.Frame as frame;
 ghost use Rattle.asm_eval.specs.contracts.piece.Piece as piece;
-ghost use Rattle.asm_eval.specs.contracts.rule_code.RuleCode as rule;
 ghost use Rattle.asm_meaning.specs.contracts.view.View as view;
 
 use asm_meaning::shared::{paths_and_parts_cross, views_are_shared};

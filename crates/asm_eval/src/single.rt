@@ -1,20 +1,20 @@
 //! Rules that have one update at most, with which a sequence goes on at once: an assignment, and an
 //! `if` between such.
 ghost use Rattle.std.specs.Prelude.{IfOk};
-ghost use Rattle.asm_eval.specs.CodeViews.{code_of};
+ghost use Rattle.asm_code.specs.CodeViews.{code_of};
+ghost use Rattle.asm_code.specs.RuleMeaning.{IsSoundPlace, IsSoundRule};
+ghost use Rattle.asm_code.specs.RuleTree as tree;
+ghost use Rattle.asm_code.specs.RuleViews.{place_of, rule_of};
+ghost use Rattle.asm_code.specs.Sound.{IsSound};
 ghost use Rattle.asm_eval.specs.Frames.{IsSoundFrame};
-ghost use Rattle.asm_eval.specs.RuleMeaning.{IsSoundPlace, IsSoundRule};
-ghost use Rattle.asm_eval.specs.RuleTree as tree;
-ghost use Rattle.asm_eval.specs.RuleViews.{place_of, rule_of};
 ghost use Rattle.asm_eval.specs.Running.{assigned};
 ghost use Rattle.asm_eval.specs.Singles.{IsSingle, YieldsSingle};
-ghost use Rattle.asm_eval.specs.Sound.{IsSound};
 
-use crate::code::Code;
 use crate::frame::Frame;
 use crate::place::place_number;
-use crate::rule_code::{Place, RuleCode};
 use crate::value::{holds, value};
+use asm_code::code::Code;
+use asm_code::rule_code::{Place, RuleCode};
 use asm_meaning::View;
 use asm_state::word::Word;
 use std::alloc::{AllocError, Global};

@@ -8,19 +8,19 @@ ghost use Rattle.asm_eval.specs.Ands as conditions;
 ghost use Rattle.asm_eval.specs.Ands.{is_and};
 ghost use Rattle.asm_meaning.specs.Value as spec;
 ghost use Rattle.asm_meaning.specs.Valued.{shown};
-ghost use Rattle.asm_eval.specs.CodeTree as tree;
-ghost use Rattle.asm_eval.specs.CodeViews.{code_of, codes_of, link_of, links_of};
+ghost use Rattle.asm_code.specs.CodeTree as tree;
+ghost use Rattle.asm_code.specs.CodeViews.{code_of, codes_of, link_of, links_of};
+ghost use Rattle.asm_code.specs.Sound.{AreCells, AreSoundLinks, IsSound, IsUniverseNumber};
 ghost use Rattle.asm_eval.specs.Frames.{IsSoundFrame, bound_value, code_value, position_value, tree_value, AllSound};
-ghost use Rattle.asm_eval.specs.Sound.{AreCells, AreSoundLinks, IsSound, IsUniverseNumber};
 
 use crate::applied::{added, applied, are_ands, equal_to, far_applied, is_so, remainder_by};
-use crate::code::{Code, Grid, Span};
 use crate::find::{Found, find};
 use crate::frame::Frame;
 use crate::held::{
     far_cell, function_value, in_grid, in_row, is_false, is_true, is_truth, located,
 };
-use crate::modulus::Modulus;
+use asm_code::code::{Code, Grid, Span};
+use asm_code::modulus::Modulus;
 use asm_meaning::View;
 use asm_state::number::Number;
 use asm_state::operation::Op;

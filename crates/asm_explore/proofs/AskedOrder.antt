@@ -24,12 +24,12 @@ use Rattle.asm_meaning.specs.PartSets.{IsPartSet, ends_parts, ends_turns}
 use Rattle.asm_meaning.specs.Yields.{Path, Result, Gives, Exhausted, at}
 use Rattle.asm_meaning.specs.declared.part_set.PartSet.{PartSet}
 use Rattle.asm_meaning.proofs.Sequences.{part_laws-consistent_part as consistent_part, part_laws-ending_part as ending_part, part_laws-some_turn as some_turn, part_laws-consistent_turn as consistent_turn, part_laws-ending_turn as ending_turn}
-use Rattle.asm_eval.specs.CodeTree as codes
-use Rattle.asm_eval.specs.RuleTree as tree
-use Rattle.asm_eval.specs.RuleViews.{rule_of, rules_of}
+use Rattle.asm_code.specs.CodeTree as codes
+use Rattle.asm_code.specs.RuleTree as tree
+use Rattle.asm_code.specs.RuleViews.{rule_of, rules_of}
+use Rattle.asm_code.specs.declared.rule_code.RuleCode.{RuleCode}
 use Rattle.asm_eval.specs.Running.{rule_in, shape_at, state_at}
 use Rattle.asm_eval.specs.declared.frame.Frame.{Frame}
-use Rattle.asm_eval.specs.declared.rule_code.RuleCode.{RuleCode}
 use Rattle.asm_eval.specs.declared.running.Running.{Running}
 use Rattle.asm_explore.specs.Asks.{Asking, asks, asking_parts, after_set, after_turn_set}
 use Rattle.asm_explore.specs.AskedPieces.{asks_at, order_asked, turns_asked, IsUpon}

@@ -15,13 +15,13 @@ use Rattle.asm_meaning.specs.Value.{Reading, is_true}
 use Rattle.asm_meaning.specs.Yields.{Path, at}
 use Rattle.asm_meaning.specs.declared.part.Part.TheVariants as part
 use Rattle.asm_meaning.proofs.Intervals.{interval_laws-all as between_all}
-use Rattle.asm_eval.specs.CodeTree.{Code}
+use Rattle.asm_code.specs.CodeTree.{Code}
+use Rattle.asm_code.specs.Readings.{always, reading, universe_at}
+use Rattle.asm_code.specs.RuleMeaning.{Locations, passes, passing, rule_size, rule_sizes}
+use Rattle.asm_code.specs.RuleTree.{RuleCode, Skip, Assign, Par, Seq, If, Let, Forall, Choose, Iterate, Call, RuleCodes, no_rules, rule_then}
 use Rattle.asm_eval.specs.OpenedPieces.{is_closed}
 use Rattle.asm_eval.specs.Opening.{Work, all_of, one_work, choice_works, part_works, part_of, body_works, counted_works, spans, span_works, rule_works}
 use Rattle.asm_eval.specs.Pieces.{all_positions}
-use Rattle.asm_eval.specs.Readings.{always, reading, universe_at}
-use Rattle.asm_eval.specs.RuleMeaning.{Locations, passes, passing, rule_size, rule_sizes}
-use Rattle.asm_eval.specs.RuleTree.{RuleCode, Skip, Assign, Par, Seq, If, Let, Forall, Choose, Iterate, Call, RuleCodes, no_rules, rule_then}
 use Rattle.asm_explore.specs.Asks.{Asking, asks, asking_parts, parts_ask, each_asks, one_asks}
 use Rattle.asm_explore.specs.AskedPieces.{HasAtMost, own_asks, own_choice}
 use Rattle.asm_explore.specs.Elements.{Each}

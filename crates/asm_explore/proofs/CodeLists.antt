@@ -11,13 +11,13 @@ use Rattle.asm_state.specs.declared.value.Value.{Value}
 use Rattle.asm_state.specs.Location.{State}
 use Rattle.asm_state.specs.Signature.{Shape}
 use Rattle.asm_meaning.specs.Value.{Reading}
-use Rattle.asm_eval.specs.CodeViews.{code_of, codes_of}
-use Rattle.asm_eval.specs.Readings.{reading, readings}
-use Rattle.asm_eval.specs.RuleMeaning.{IsSoundRule, AreSoundRules, rule_size, rule_sizes}
-use Rattle.asm_eval.specs.RuleViews.{rule_of, rules_of}
-use Rattle.asm_eval.specs.Sound.{IsSound, AreSound}
-use Rattle.asm_eval.specs.declared.code.Code.{Code}
-use Rattle.asm_eval.specs.declared.rule_code.RuleCode.{RuleCode}
+use Rattle.asm_code.specs.CodeViews.{code_of, codes_of}
+use Rattle.asm_code.specs.Readings.{reading, readings}
+use Rattle.asm_code.specs.RuleMeaning.{IsSoundRule, AreSoundRules, rule_size, rule_sizes}
+use Rattle.asm_code.specs.RuleViews.{rule_of, rules_of}
+use Rattle.asm_code.specs.Sound.{IsSound, AreSound}
+use Rattle.asm_code.specs.declared.code.Code.{Code}
+use Rattle.asm_code.specs.declared.rule_code.RuleCode.{RuleCode}
 
 pub none_within : {L : Type 0} (vs : List Value) (ls : List (Option L)) (i : ℕ) → i < length vs → None ≡ slice_index_or (map (λ (v : Value). None) vs ++ ls) i None
 none_within [] ls i below = absurd (omega (arith, below))

@@ -19,20 +19,20 @@ use Rattle.asm_meaning.specs.Value.{Reading, is_true}
 use Rattle.asm_meaning.specs.Yields.{Path, Gives, at}
 use Rattle.asm_meaning.proofs.Candidates.{candidate_laws-some as some_taken, candidate_laws-none as none_taken}
 use Rattle.asm_meaning.proofs.Intervals.{interval_laws-all as between_all, interval_laws-next as each_next, interval_laws-none as each_none}
-use Rattle.asm_eval.specs.CodeViews.{code_of, codes_of}
-use Rattle.asm_eval.specs.CodeTree as codes
+use Rattle.asm_code.specs.CodeViews.{code_of, codes_of}
+use Rattle.asm_code.specs.CodeTree as codes
+use Rattle.asm_code.specs.Readings.{always, reading, universe_at}
+use Rattle.asm_code.specs.RuleMeaning.{Locations, meaning, meanings, named_readings, passes, passing, located_at, answer_readings, answer_locations}
+use Rattle.asm_code.specs.RuleTree as tree
+use Rattle.asm_code.specs.RuleViews.{place_of, rule_of, rule_step, rules_of}
+use Rattle.asm_code.specs.declared.code.Code.{Code}
+use Rattle.asm_code.specs.declared.rule_code.Place.{Place}
+use Rattle.asm_code.specs.declared.rule_code.RuleCode.{RuleCode}
+use Rattle.asm_code.specs.declared.rule_code.RuleCode.TheOpen as opened_code
+use Rattle.asm_code.specs.declared.rule_code.RuleCode.TheVariants as code
+use Rattle.asm_code.specs.declared.rule_code.RuleCode.TheFolds.{fold-roll-RuleCode}
 use Rattle.asm_eval.specs.Frames.{answer_contents, by_name}
-use Rattle.asm_eval.specs.Readings.{always, reading, universe_at}
-use Rattle.asm_eval.specs.RuleMeaning.{Locations, meaning, meanings, named_readings, passes, passing, located_at, answer_readings, answer_locations}
-use Rattle.asm_eval.specs.RuleTree as tree
-use Rattle.asm_eval.specs.RuleViews.{place_of, rule_of, rule_step, rules_of}
 use Rattle.asm_eval.specs.Running.{location_numbered}
-use Rattle.asm_eval.specs.declared.code.Code.{Code}
-use Rattle.asm_eval.specs.declared.rule_code.Place.{Place}
-use Rattle.asm_eval.specs.declared.rule_code.RuleCode.{RuleCode}
-use Rattle.asm_eval.specs.declared.rule_code.RuleCode.TheOpen as opened_code
-use Rattle.asm_eval.specs.declared.rule_code.RuleCode.TheVariants as code
-use Rattle.asm_eval.specs.declared.rule_code.RuleCode.TheFolds.{fold-roll-RuleCode}
 
 pub skip_form : (P : RuleCode) → P ≡ code.Skip → rule_of P ≡ tree.Skip
 skip_form P is = ap rule_of is ∙ ap rule_of (sym code.rolls-Skip) ∙ fold-roll-RuleCode tree.RuleCode rule_step opened_code.Skip

@@ -12,9 +12,9 @@ use Rattle.asm_meaning.specs.Does.{Outcome, both, counted, following, part_and, 
 use Rattle.asm_meaning.specs.Program.{nothing_bound}
 use Rattle.asm_meaning.specs.Value.{Reading, is_true}
 use Rattle.asm_meaning.specs.Yields.{Path, Result, Gives, Exhausted, at}
-use Rattle.asm_eval.specs.Readings.{always, reading, universe_at}
-use Rattle.asm_eval.specs.RuleMeaning.{Locations, meaning, meanings, passes, passing, located_at, named_readings, answer_readings, answer_locations}
-use Rattle.asm_eval.specs.RuleTree.{RuleCode, Skip, Assign, Par, Seq, If, Let, Forall, Choose, Iterate, Call, RuleCodes, no_rules, rule_then}
+use Rattle.asm_code.specs.Readings.{always, reading, universe_at}
+use Rattle.asm_code.specs.RuleMeaning.{Locations, meaning, meanings, passes, passing, located_at, named_readings, answer_readings, answer_locations}
+use Rattle.asm_code.specs.RuleTree.{RuleCode, Skip, Assign, Par, Seq, If, Let, Forall, Choose, Iterate, Call, RuleCodes, no_rules, rule_then}
 use Rattle.asm_explore.specs.declared.found.Choice.{Choice}
 use Rattle.asm_explore.specs.Made.{made, parts_of, parts_make, order_makes, each_makes, one_makes, turns_make, after_part, after_turn}
 use Rattle.asm_explore.specs.MadeLaws.{Takes, MakingLaws}

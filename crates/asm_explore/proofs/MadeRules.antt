@@ -16,17 +16,17 @@ use Rattle.asm_meaning.specs.Intervals.{between}
 use Rattle.asm_meaning.specs.Value.{Reading, is_true}
 use Rattle.asm_meaning.specs.Yields.{Path, Result, Gives, Exhausted, at}
 use Rattle.asm_meaning.proofs.Intervals.{interval_laws-all as between_all}
-use Rattle.asm_eval.specs.CodeViews.{code_of, codes_of}
-use Rattle.asm_eval.specs.CodeTree as codes
+use Rattle.asm_code.specs.CodeViews.{code_of, codes_of}
+use Rattle.asm_code.specs.CodeTree as codes
+use Rattle.asm_code.specs.Readings.{always, reading, universe_at}
+use Rattle.asm_code.specs.RuleMeaning.{Locations, meaning, passes, passing, located_at, answer_readings, answer_locations}
+use Rattle.asm_code.specs.RuleTree as tree
+use Rattle.asm_code.specs.RuleViews.{place_of, rule_of, rules_of}
+use Rattle.asm_code.specs.declared.code.Code.{Code}
+use Rattle.asm_code.specs.declared.rule_code.Place.{Place}
+use Rattle.asm_code.specs.declared.rule_code.RuleCode.{RuleCode}
 use Rattle.asm_eval.specs.Frames.{answer_contents, by_name}
-use Rattle.asm_eval.specs.Readings.{always, reading, universe_at}
-use Rattle.asm_eval.specs.RuleMeaning.{Locations, meaning, passes, passing, located_at, answer_readings, answer_locations}
-use Rattle.asm_eval.specs.RuleTree as tree
-use Rattle.asm_eval.specs.RuleViews.{place_of, rule_of, rules_of}
 use Rattle.asm_eval.specs.Running.{location_numbered}
-use Rattle.asm_eval.specs.declared.code.Code.{Code}
-use Rattle.asm_eval.specs.declared.rule_code.Place.{Place}
-use Rattle.asm_eval.specs.declared.rule_code.RuleCode.{RuleCode}
 use Rattle.asm_explore.specs.declared.found.Choice.{Choice}
 use Rattle.asm_explore.specs.Made.{Part, made, parts_of, parts_make, order_makes, each_makes, one_makes, turns_make, after_part, after_turn}
 use Rattle.asm_explore.specs.MadeSoFar.{made_after}

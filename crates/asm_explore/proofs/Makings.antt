@@ -10,17 +10,17 @@ use Rattle.asm_state.specs.Location.{State}
 use Rattle.asm_state.specs.Updates.{fire}
 use Rattle.asm_meaning.specs.Value.{Reading, is_true}
 use Rattle.asm_meaning.specs.Yields.{Path, at}
-use Rattle.asm_eval.specs.CodeViews.{code_of, codes_of}
+use Rattle.asm_code.specs.CodeViews.{code_of, codes_of}
+use Rattle.asm_code.specs.Readings.{always, reading, universe_at}
+use Rattle.asm_code.specs.RuleMeaning.{Locations, answer_locations, passes}
+use Rattle.asm_code.specs.RuleTree as tree
+use Rattle.asm_code.specs.RuleViews.{place_of, rule_of, rules_of}
+use Rattle.asm_code.specs.declared.code.Code.{Code}
+use Rattle.asm_code.specs.declared.rule_code.Place.{Place}
+use Rattle.asm_code.specs.declared.rule_code.RuleCode.{RuleCode}
 use Rattle.asm_eval.specs.Frames.{readings_of, answer_contents, by_name}
-use Rattle.asm_eval.specs.Readings.{always, reading, universe_at}
-use Rattle.asm_eval.specs.RuleMeaning.{Locations, answer_locations, passes}
-use Rattle.asm_eval.specs.RuleTree as tree
-use Rattle.asm_eval.specs.RuleViews.{place_of, rule_of, rules_of}
 use Rattle.asm_eval.specs.Running.{places_of, passing_in, answer_in, location_numbered}
-use Rattle.asm_eval.specs.declared.code.Code.{Code}
 use Rattle.asm_eval.specs.declared.frame.Frame.{Frame}
-use Rattle.asm_eval.specs.declared.rule_code.Place.{Place}
-use Rattle.asm_eval.specs.declared.rule_code.RuleCode.{RuleCode}
 use Rattle.asm_explore.specs.declared.exploration.Exploration.{Exploration}
 use Rattle.asm_explore.specs.declared.found.Choice.{Choice}
 use Rattle.asm_explore.specs.declared.found.Found.{Found}

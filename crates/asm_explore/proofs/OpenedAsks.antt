@@ -16,13 +16,13 @@ use Rattle.asm_meaning.specs.Yields.{Path}
 use Rattle.asm_meaning.specs.declared.outcome.Outcome.{Outcome}
 use Rattle.asm_meaning.specs.declared.outcome.Outcome.TheVariants as outcome
 use Rattle.asm_meaning.specs.declared.part.Part.TheVariants as part
+use Rattle.asm_code.specs.RuleMeaning.{Locations, rule_size}
+use Rattle.asm_code.specs.RuleTree.{RuleCode, Skip, Assign, Par, Seq, If, Let, Forall, Choose, Iterate, Call}
+use Rattle.asm_code.specs.RuleViews.{rule_of}
 use Rattle.asm_eval.specs.Frames.{readings_of}
 use Rattle.asm_eval.specs.OpenedPieces.{Opens, is_closed, pieces_in, works_in}
 use Rattle.asm_eval.specs.Opening.{Work, work_of, part_opened, rule_works}
 use Rattle.asm_eval.specs.Pieces.{IsPiece, all_positions}
-use Rattle.asm_eval.specs.RuleMeaning.{Locations, rule_size}
-use Rattle.asm_eval.specs.RuleTree.{RuleCode, Skip, Assign, Par, Seq, If, Let, Forall, Choose, Iterate, Call}
-use Rattle.asm_eval.specs.RuleViews.{rule_of}
 use Rattle.asm_eval.specs.Running.{chosen_at, places_of, shape_at, state_at}
 use Rattle.asm_eval.specs.declared.open.Opened.{Opened}
 use Rattle.asm_eval.specs.declared.open.Opened.TheVariants as opening

@@ -3,7 +3,7 @@
 --     all_apart           the choices of each step lie at paths of their own
 --     makes_the_run       a script with a line for each choice makes the run
 --     choices_are         the choices of what is asked in each step
-use Rattle.std.proofs.Common.{◌++◌, ◌≡◌, ◌∙◌, ◌+◌, ℕ, zero, suc, Bool, true, false, cond, List, [], ◌∷◌, length, map, refl, sym, ap, subst, append_assoc, append-nil}
+use Rattle.std.proofs.Common.{◌++◌, ◌≡◌, ◌∙◌, ℕ, zero, suc, Bool, true, false, cond, List, [], ◌∷◌, length, map, refl, sym, ap, subst, append_assoc, append-nil}
 use Rattle.asm_state.specs.Location.{State}
 use Rattle.asm_state.specs.Signature.{Shape}
 use Rattle.asm_state.specs.Updates.{UpdateSet, is_consistent, fire}
@@ -16,9 +16,9 @@ use Rattle.asm_meaning.specs.Does.{Outcome, does}
 use Rattle.asm_meaning.specs.Program.{nothing_bound}
 use Rattle.asm_meaning.specs.Run.{Run, Specification, run_from, step_and, fired, ended, AtFault}
 use Rattle.asm_meaning.specs.Yields.{Result, Gives, Exhausted}
-use Rattle.asm_eval.specs.ResolvingLaws.{ResolvingLaws}
-use Rattle.asm_eval.specs.RuleScopes.{resolved_rule_in}
-use Rattle.asm_eval.specs.RuleTree.{RuleCode}
+use Rattle.asm_code.specs.RuleTree.{RuleCode}
+use Rattle.asm_resolve.specs.ResolvingLaws.{ResolvingLaws}
+use Rattle.asm_resolve.specs.RuleScopes.{resolved_rule_in}
 use Rattle.asm_explore.specs.declared.found.Choice.{Choice}
 use Rattle.asm_explore.specs.Asks.{Asking, after_set, asks_in, choices_of}
 use Rattle.asm_explore.specs.Lists.{Situation, Each, AreTaken, picked}

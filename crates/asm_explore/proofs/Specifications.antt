@@ -16,7 +16,7 @@ use Rattle.asm_updates.specs.Stands.{Stands}
 use Rattle.asm_meaning.specs.Program.{Program, nothing_bound}
 use Rattle.asm_meaning.specs.Run.{Specification}
 use Rattle.asm_meaning.specs.Value.{Reading}
-use Rattle.asm_eval.specs.Resolved.{Agrees}
+use Rattle.asm_resolve.specs.Resolved.{Agrees}
 use Rattle.asm_explore.specs.Answers.{Claims, IsAnswer}
 use Rattle.asm_explore.specs.declared.answer.Answered.{Answered}
 use Rattle.asm_explore.specs.declared.answer.Finding.{Finding}

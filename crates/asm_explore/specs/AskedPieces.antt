@@ -21,10 +21,10 @@ use Rattle.asm_meaning.specs.Yields.{Path, Result, Gives, Exhausted}
 use Rattle.asm_meaning.specs.declared.outcome.Outcome.{Outcome}
 use Rattle.asm_meaning.specs.declared.outcome.Outcome.TheVariants as outcome
 use Rattle.asm_meaning.specs.declared.part_set.PartSet.{PartSet}
+use Rattle.asm_code.specs.RuleMeaning.{passing}
+use Rattle.asm_code.specs.RuleTree.{RuleCode, Skip, Assign, Par, Seq, If, Let, Forall, Choose, Iterate, Call, RuleCodes}
+use Rattle.asm_code.specs.RuleViews.{rule_of}
 use Rattle.asm_eval.specs.Frames.{readings_of}
-use Rattle.asm_eval.specs.RuleMeaning.{passing}
-use Rattle.asm_eval.specs.RuleTree.{RuleCode, Skip, Assign, Par, Seq, If, Let, Forall, Choose, Iterate, Call, RuleCodes}
-use Rattle.asm_eval.specs.RuleViews.{rule_of}
 use Rattle.asm_eval.specs.Running.{chosen_at, places_of, rule_in, shape_at, state_at}
 use Rattle.asm_eval.specs.declared.frame.Frame.{Frame}
 use Rattle.asm_eval.specs.declared.piece.Piece.{Piece}

@@ -14,11 +14,11 @@ use Rattle.asm_meaning.specs.Declarations.{main_rule}
 use Rattle.asm_meaning.specs.Program.{nothing_bound}
 use Rattle.asm_meaning.specs.Value.{holds}
 use Rattle.asm_meaning.specs.Valued.{condition, program}
-use Rattle.asm_eval.specs.CodeViews.{code_of}
-use Rattle.asm_eval.specs.RuleMeaning.{IsSoundTest, passes}
-use Rattle.asm_eval.specs.RuleScopes.{resolved_rule_in}
-use Rattle.asm_eval.specs.RuleViews.{rule_of}
-use Rattle.asm_eval.specs.declared.code.Code.{Code}
+use Rattle.asm_code.specs.CodeViews.{code_of}
+use Rattle.asm_code.specs.RuleMeaning.{IsSoundTest, passes}
+use Rattle.asm_code.specs.RuleViews.{rule_of}
+use Rattle.asm_code.specs.declared.code.Code.{Code}
+use Rattle.asm_resolve.specs.RuleScopes.{resolved_rule_in}
 use Rattle.asm_explore.specs.declared.specified.Specified.{Specified}
 
 abbrev pub holds_in : Shape → Option Code → State → Bool

@@ -12,9 +12,9 @@ use Rattle.asm_meaning.specs.Does.{Outcome, parts, in_order, turns_of}
 use Rattle.asm_meaning.specs.Program.{nothing_bound}
 use Rattle.asm_meaning.specs.Valued.{shown}
 use Rattle.asm_meaning.specs.Yields.{Path, Result}
+use Rattle.asm_code.specs.RuleMeaning.{meaning, meanings}
+use Rattle.asm_code.specs.RuleTree.{RuleCode, RuleCodes}
 use Rattle.asm_eval.specs.Frames.{readings_of}
-use Rattle.asm_eval.specs.RuleMeaning.{meaning, meanings}
-use Rattle.asm_eval.specs.RuleTree.{RuleCode, RuleCodes}
 use Rattle.asm_eval.specs.Running.{places_of}
 use Rattle.asm_eval.specs.declared.frame.Frame.{Frame}
 use Rattle.asm_explore.specs.declared.exploration.Exploration.{Exploration}

@@ -6,8 +6,8 @@ use Rattle.asm_state.specs.Location.{State}
 use Rattle.asm_state.specs.Signature.{Shape}
 use Rattle.asm_meaning.specs.Value.{Reading}
 use Rattle.asm_meaning.specs.Yields.{Path}
-use Rattle.asm_eval.specs.RuleMeaning.{Locations, meaning}
-use Rattle.asm_eval.specs.RuleTree.{RuleCode}
+use Rattle.asm_code.specs.RuleMeaning.{Locations, meaning}
+use Rattle.asm_code.specs.RuleTree.{RuleCode}
 use Rattle.asm_explore.specs.declared.found.Choice.{Choice}
 use Rattle.asm_explore.specs.Elements.{Each}
 use Rattle.asm_explore.specs.Made.{made}

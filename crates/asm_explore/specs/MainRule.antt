@@ -7,8 +7,8 @@ use Rattle.asm_check.specs.Faults.{inits}
 use Rattle.asm_check.specs.Shapes.{shape_of}
 use Rattle.asm_check.specs.declared.checked.Checked.{Checked}
 use Rattle.asm_meaning.specs.Declarations.{main_rule}
-use Rattle.asm_eval.specs.RuleScopes.{resolved_rule_in}
-use Rattle.asm_eval.specs.RuleTree.{RuleCode}
+use Rattle.asm_code.specs.RuleTree.{RuleCode}
+use Rattle.asm_resolve.specs.RuleScopes.{resolved_rule_in}
 use Rattle.asm_explore.specs.declared.refusal.Crowd.{Crowd}
 use Rattle.asm_explore.specs.Made.{made_in}
 use Rattle.asm_explore.specs.Steps.{IsCrowdOf}

@@ -18,8 +18,8 @@ use Rattle.asm_reader.specs.ScriptLines.{Line, Script}
 use Rattle.asm_meaning.specs.Declarations.{specification_of}
 use Rattle.asm_meaning.specs.Run.{Specification, run}
 use Rattle.asm_meaning.specs.Scripts.{IsUnrepeated}
-use Rattle.asm_eval.specs.RuleScopes.{resolved_rule_in}
-use Rattle.asm_eval.specs.RuleTree.{RuleCode}
+use Rattle.asm_code.specs.RuleTree.{RuleCode}
+use Rattle.asm_resolve.specs.RuleScopes.{resolved_rule_in}
 use Rattle.asm_explore.specs.declared.asked.Asked.{Asked}
 use Rattle.asm_explore.specs.declared.found.Choice.{Choice}
 use Rattle.asm_explore.specs.declared.run_choices.RunChoices.{RunChoices}

@@ -20,6 +20,7 @@ use crate::machine::Machine;
 use crate::nodes::Nodes;
 use crate::search::explore;
 use crate::trail::trail_to;
+use crate::watch::{Progress, Watch};
 use asm_state::state::State;
 use asm_syntax::Refused;
 use std::alloc::{AllocError, Global};
@@ -123,12 +124,13 @@ fn quiet_run<M: Machine>(
 }
 
 /// Looks through all runs of so many steps, of at most so many states.
-pub fn explore_machine<M: Machine>(
+pub fn explore_machine<M: Machine, W: Watch<Progress>>(
     alloc: Global,
     machine: &M,
     initial: &State,
     steps: u32,
     limit: u32,
+    watch: &mut W,
 ) -> Result<Answered, AllocError>
     requires machine { M.is_sound machine.now }
     requires kept { IsStateOf (M.shape machine.now) initial.now }
@@ -154,7 +156,7 @@ pub fn explore_machine<M: Machine>(
         widest,
         quiet,
         ..
-    } = explore(alloc, machine, initial, steps, limit)?;
+    } = explore(alloc, machine, initial, steps, limit, watch)?;
     let finding = match ended {
         Ended::Closed => Finding::Closed,
         Ended::AtLimit => Finding::SafeTo(whole),

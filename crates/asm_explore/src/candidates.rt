@@ -1,13 +1,13 @@
 //! The candidates of a `choose`.
 ghost use Rattle.std.specs.Prelude.{◌≡◌, ◌<◌, Some, IfOk, length, option_map, slice_get};
-ghost use Rattle.asm_eval.specs.CodeViews.{code_of};
+ghost use Rattle.asm_code.specs.CodeViews.{code_of};
+ghost use Rattle.asm_code.specs.RuleMeaning.{IsSoundTest};
+ghost use Rattle.asm_code.specs.Sound.{IsUniverseNumber};
 ghost use Rattle.asm_eval.specs.Frames.{IsSoundFrame};
-ghost use Rattle.asm_eval.specs.RuleMeaning.{IsSoundTest};
 ghost use Rattle.asm_eval.specs.Running.{passing_in};
-ghost use Rattle.asm_eval.specs.Sound.{IsUniverseNumber};
 
+use asm_code::code::Code;
 use asm_eval::choose::passes;
-use asm_eval::code::Code;
 use asm_eval::frame::Frame;
 use asm_meaning::View;
 use asm_state::word::Word;

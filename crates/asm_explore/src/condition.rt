@@ -3,10 +3,10 @@ ghost use Rattle.std.specs.Prelude.{IfOk};
 ghost use Rattle.asm_explore.specs.Conditions.{IsCondition};
 
 use asm_check::Checked;
-use asm_eval::bodies::Bodies;
-use asm_eval::code::Code;
-use asm_eval::resolve::resolve;
-use asm_eval::scope::Scope;
+use asm_code::code::Code;
+use asm_resolve::bodies::Bodies;
+use asm_resolve::resolve::resolve;
+use asm_resolve::scope::Scope;
 use asm_syntax::term::Term;
 use std::alloc::{AllocError, Global};
 

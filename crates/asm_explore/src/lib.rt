@@ -38,6 +38,7 @@ pub mod specification;
 pub mod specified;
 mod trail;
 pub mod updates;
+pub mod watch;
 pub mod whole;
 pub mod writing;
 pub mod writing_error;
@@ -56,6 +57,7 @@ pub use run_choices::{RunChoices, choices_of_run, choices_of_step, lines_of_run}
 pub use script_line::{ScriptLine, Zeros};
 pub use specified::Specified;
 pub use updates::Updates;
+pub use watch::{Progress, Unwatched, Watch};
 pub use whole::Question;
 pub use writing::script_text;
 pub use writing_error::WritingError;

@@ -63,6 +63,16 @@ impl Nodes {
         self.links.len()
     }
 
+    /// So many bytes of memory they take.
+    pub(crate) fn bytes(&self) -> usize {
+        let words = self.words.capacity().saturating_mul(size_of::<Word>());
+        let links = self.links.capacity().saturating_mul(size_of::<Link>());
+        self.bytes
+            .capacity()
+            .saturating_add(words)
+            .saturating_add(links)
+    }
+
     /// The number of the node that the step to it began in.
     pub fn from(&self, number: usize) -> usize
         requires { number < length self.now }

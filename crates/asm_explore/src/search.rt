@@ -25,6 +25,7 @@ use crate::machine::{Listed, Machine};
 use crate::nodes::Nodes;
 use crate::quiet::rest;
 use crate::same::is_same_value;
+use crate::watch::{Progress, Watch};
 use asm_state::state::State;
 use std::alloc::{AllocError, Global};
 
@@ -579,8 +580,24 @@ fn expand_next<M: Machine>(
     Ok(expanded + states.len())
 }
 
+/// How far the search is, where so many nodes are done with.
+fn progress(nodes: &Nodes, done: usize) -> Progress
+    requires { done ≤ length nodes.now }
+{
+    let depth = match done {
+        0 => 0,
+        _ => nodes.depth(done - 1),
+    };
+    Progress {
+        states: nodes.len(),
+        done,
+        depth,
+        bytes: nodes.bytes(),
+    }
+}
+
 /// Expands all nodes, and those that come of them.
-fn expand_all<M: Machine>(
+fn expand_all<M: Machine, W: Watch<Progress>>(
     alloc: Global,
     machine: &M,
     like: &State,
@@ -589,6 +606,7 @@ fn expand_all<M: Machine>(
     index: &mut Index,
     nodes: &mut Nodes,
     quiet: &mut Vec<u32>,
+    watch: &mut W,
 ) -> Looked
     requires machine { M.is_sound machine.now }
     requires like { length like.now ≡ count_of (M.shape machine.now) }
@@ -604,7 +622,10 @@ fn expand_all<M: Machine>(
         match expand_next(
             alloc, machine, expanded, like, steps, limit, index, nodes, quiet,
         ) {
-            Ok(done) => expanded = done,
+            Ok(done) => {
+                expanded = done;
+                watch.tell(progress(nodes, done));
+            }
             Err(stopped) => return stopped,
         }
     }
@@ -634,12 +655,13 @@ fn whole_depth(nodes: &Nodes, expanded: usize, steps: u32) -> u32
 /// run of however many steps; where a bad step was found, each script that makes its choices and
 /// those that lead to it has a run that goes wrong in this step. The quiet states are listed, of
 /// those that runs are followed from. The first state is to be right.
-pub fn explore<M: Machine>(
+pub fn explore<M: Machine, W: Watch<Progress>>(
     alloc: Global,
     machine: &M,
     initial: &State,
     steps: u32,
     limit: u32,
+    watch: &mut W,
 ) -> Result<Explored, AllocError>
     requires machine { M.is_sound machine.now }
     requires kept { IsStateOf (M.shape machine.now) initial.now }
@@ -669,7 +691,7 @@ pub fn explore<M: Machine>(
     let room = limit.max(1);
     let mut quiet = Vec::new(alloc);
     let looked = expand_all(
-        alloc, machine, initial, steps, room, &mut index, &mut nodes, &mut quiet,
+        alloc, machine, initial, steps, room, &mut index, &mut nodes, &mut quiet, watch,
     );
     let whole = whole_depth(&nodes, looked.expanded, steps);
     Ok(Explored {

@@ -2,8 +2,8 @@
 ghost use Rattle.std.specs.Prelude.{◌<◌, ◌^◌};
 
 use asm_check::Checked;
-use asm_eval::code::Code;
-use asm_eval::rule_code::RuleCode;
+use asm_code::code::Code;
+use asm_code::rule_code::RuleCode;
 
 /// What is looked for in a checked specification, whose main rule is resolved.
 #[derive(Clone, Copy)]

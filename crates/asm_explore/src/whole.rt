@@ -11,8 +11,9 @@ use crate::answer::Answered;
 use crate::answering::explore_machine;
 use crate::condition::condition_code;
 use crate::specified::Specified;
+use crate::watch::{Progress, Watch};
 use asm_check::Checked;
-use asm_eval::whole::resolve_main;
+use asm_resolve::whole::resolve_main;
 use asm_state::state::State;
 use asm_syntax::term::Term;
 use std::alloc::{AllocError, Global};
@@ -36,29 +37,31 @@ pub struct Question {
 }
 
 /// Looks through the runs of a resolved specification.
-fn explore_specified(
+fn explore_specified<W: Watch<Progress>>(
     alloc: Global,
     specified: &Specified<'_>,
     steps: u32,
     states: u32,
+    watch: &mut W,
 ) -> Result<Answered, AllocError>
     requires { IsSpecified specified.now }
     ensures { let s = spec_of specified.now.checked.now.spec in
         IfOk result (λ answer. IsAnswer (specification_of s) specified.now.turns (IsCrowdedMain specified.now.checked.now specified.now.turns specified.now.limit) steps states (holds_in (shape_of s) specified.now.always.now) (holds_in (shape_of s) specified.now.when_quiet.now) (holds_in (shape_of s) specified.now.within.now) answer) }
 {
     let initial = State::initial(alloc, specified.checked.signature())?;
-    explore_machine(alloc, specified, &initial, steps, states)
+    explore_machine(alloc, specified, &initial, steps, states, watch)
 }
 
-/// Looks through all runs of a specification for a step that goes wrong, or leads to a state in
-/// which the condition isn't true.
-pub fn explore_all(
+/// Looks through the runs of a specification, in which so many turns exhaust an `iterate`.
+fn explore_turns<W: Watch<Progress>>(
     alloc: Global,
     checked: &Checked,
     question: &Question,
+    turns: u32,
+    watch: &mut W,
 ) -> Result<Answered, AllocError>
     ensures { let q = question.now in
-        IfOk result (λ answer. IsAnswer (specification_of (spec_of checked.now.spec)) q.turns (IsCrowdedMain checked.now q.turns q.outcomes) q.steps q.states (term_holds checked.now q.always) (term_holds checked.now q.when_quiet) (term_holds checked.now q.within) answer) }
+        IfOk result (λ answer. IsAnswer (specification_of (spec_of checked.now.spec)) turns (IsCrowdedMain checked.now turns q.outcomes) q.steps q.states (term_holds checked.now q.always) (term_holds checked.now q.when_quiet) (term_holds checked.now q.within) answer) }
 {
     let code = resolve_main(alloc, checked)?;
     let always = condition_code(alloc, checked, &question.always)?;
@@ -67,12 +70,28 @@ pub fn explore_all(
     let specified = Specified {
         checked,
         code: &code,
-        turns: question.turns,
+        turns,
         limit: question.outcomes,
         always: &always,
         within: &within,
         when_quiet: &when_quiet,
     };
-    let answered = explore_specified(alloc, &specified, question.steps, question.states)?;
+    let (steps, states) = (question.steps, question.states);
+    let answered = explore_specified(alloc, &specified, steps, states, watch)?;
+    Ok(answered)
+}
+
+/// Looks through all runs of a specification for a step that goes wrong, or leads to a state in
+/// which the condition isn't true. Now and then the watch is told how far that is.
+pub fn explore_all<W: Watch<Progress>>(
+    alloc: Global,
+    checked: &Checked,
+    question: &Question,
+    watch: &mut W,
+) -> Result<Answered, AllocError>
+    ensures { let q = question.now in
+        IfOk result (λ answer. IsAnswer (specification_of (spec_of checked.now.spec)) q.turns (IsCrowdedMain checked.now q.turns q.outcomes) q.steps q.states (term_holds checked.now q.always) (term_holds checked.now q.when_quiet) (term_holds checked.now q.within) answer) }
+{
+    let answered = explore_turns(alloc, checked, question, question.turns, watch)?;
     Ok(answered)
 }

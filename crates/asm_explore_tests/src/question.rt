@@ -1,7 +1,7 @@
 //! Questions about texts.
 use crate::told::{Told, told_by};
 use asm_explore::whole::explore_all;
-use asm_explore::{Answered, Question};
+use asm_explore::{Answered, Question, Unwatched};
 use asm_reader::read;
 use asm_syntax::spec::Item;
 use asm_syntax::term::Term;
@@ -85,7 +85,7 @@ pub fn question_of(alloc: Global, asked: &Asked) -> Result<Question, Unchecked> 
 pub fn answer_to(alloc: Global, text: &str, asked: &Asked) -> Result<Answered, Fail> {
     let checked = checked_of(alloc, text.as_bytes())?;
     let question = question_of(alloc, asked)?;
-    let answered = explore_all(alloc, &checked, &question)?;
+    let answered = explore_all(alloc, &checked, &question, &mut Unwatched)?;
     Ok(answered)
 }
 

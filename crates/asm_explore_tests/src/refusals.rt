@@ -4,7 +4,7 @@ use crate::question::{ANY, Asked, question_of};
 use crate::told::{Told, Verdict, told_by};
 use asm_check::Checked;
 use asm_explore::whole::explore_all;
-use asm_explore::{Answered, Fault, Finding};
+use asm_explore::{Answered, Fault, Finding, Unwatched};
 use asm_tests::text::{Unchecked, checked_of};
 use std::alloc::{AllocError, Global};
 use std::test::Fail;
@@ -82,7 +82,7 @@ fn answer(alloc: Global, text: &str, asked: &Asked) -> Result<Option<Answered>, 
     let Ok(question) = question_of(alloc, asked) else {
         return Err(AllocError);
     };
-    match explore_all(alloc, &checked, &question) {
+    match explore_all(alloc, &checked, &question, &mut Unwatched) {
         Ok(answered) => Ok(Some(answered)),
         Err(AllocError) => Ok(None),
     }

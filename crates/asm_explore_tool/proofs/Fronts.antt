@@ -5,9 +5,9 @@ use Rattle.std.specs.Borrow.{Bor}
 use Rattle.std.proofs.lemmas.List.{append_assoc, map-append, take_more}
 use Rattle.clap.specs.Walk.{Text, texts}
 use Rattle.asm_tool.specs.Statuses.{IsFront}
-use Rattle.asm_explore_tool.specs.Conditions.{texts_of}
+use Rattle.asm_explore_texts.specs.Conditions.{texts_of}
 use Rattle.asm_explore_tool.specs.Given.{AreFronts, most_bytes}
-use Rattle.asm_explore_tool.specs.declared.conditions.Condition.{Condition}
+use Rattle.asm_explore_texts.specs.declared.conditions.Condition.{Condition}
 
 snoc : (contents : Text → Option (List ℕ)) (names : List Text) (files : List (List ℕ)) (name : Text) (text : List ℕ) → AreFronts contents names files
     → IsFront (contents name) most_bytes text → AreFronts contents (names ++ name ∷ []) (files ++ text ∷ [])

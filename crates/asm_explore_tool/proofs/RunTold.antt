@@ -25,11 +25,11 @@ use Rattle.asm_explore_tool.specs.Commented.{said_by}
 use Rattle.asm_explore_tool.specs.Comments.{comments, lines_of as bytes_of}
 use Rattle.asm_explore_tool.specs.Report.{IsWholeOr}
 use Rattle.asm_explore_tool.specs.RunReport.{IsRunStatus, choices_status, clash_status, status_of_end}
-use Rattle.asm_explore_tool.specs.Said.{AreRunSaid, AreSaidBehind, are_both_input, is_input, reads_input_twice, reads_task_twice, run_rows}
+use Rattle.asm_explore_words.specs.Said.{AreRunSaid, AreSaidBehind, are_both_input, is_input, reads_input_twice, reads_task_twice, run_rows}
 use Rattle.asm_explore_tool.specs.declared.commented.Entry.{Entry}
-use Rattle.asm_explore_tool.specs.declared.settings.RunSettings.{RunSettings}
-use Rattle.asm_explore_tool.specs.declared.settings.Task.{Task}
-use Rattle.asm_explore_tool.specs.declared.settings.Task.TheVariants as task
+use Rattle.asm_explore_words.specs.declared.settings.RunSettings.{RunSettings}
+use Rattle.asm_explore_words.specs.declared.settings.Task.{Task}
+use Rattle.asm_explore_words.specs.declared.settings.Task.TheVariants as task
 use Rattle.asm_explore_tool.proofs.Printed.{printed_says}
 
 -- ---- the input

@@ -9,21 +9,21 @@
 use Rattle.std.specs.Prelude.{◌≡◌, ◌⊎◌, ℕ, List, [], ◌∷◌, Option, codes}
 use Rattle.std.specs.Io.KnownBytes.{Appends}
 use Rattle.clap.specs.Walk.{Text, texts}
-use Rattle.asm_explore_tool.specs.CommandLine.{random_refusals, refusals}
-use Rattle.asm_explore_tool.specs.Conditions.{texts_of}
+use Rattle.asm_explore_words.specs.CommandLine.{random_refusals, refusals}
+use Rattle.asm_explore_texts.specs.Conditions.{texts_of}
 use Rattle.asm_explore_tool.specs.Given.{AreAlwaysGiven, AreGiven, AreRunTexts, IsText}
 use Rattle.asm_explore_tool.specs.RandomReport.{IsRandomReported}
 use Rattle.asm_explore_tool.specs.Report.{IsReported}
 use Rattle.asm_explore_tool.specs.RunReport.{AreChoicesReported, IsClashReported}
-use Rattle.asm_explore_tool.specs.Said.{AreRunTaken, AreSaidBehind, IsOfRun}
-use Rattle.asm_explore_tool.specs.declared.conditions.Condition.{Condition}
-use Rattle.asm_explore_tool.specs.declared.conditions.Conditions.{Conditions}
+use Rattle.asm_explore_words.specs.Said.{AreRunTaken, AreSaidBehind, IsOfRun}
+use Rattle.asm_explore_texts.specs.declared.conditions.Condition.{Condition}
+use Rattle.asm_explore_texts.specs.declared.conditions.Conditions.{Conditions}
 use Rattle.asm_explore_tool.specs.declared.report.Report.{Report}
-use Rattle.asm_explore_tool.specs.declared.settings.RandomSettings.{RandomSettings}
-use Rattle.asm_explore_tool.specs.declared.settings.RunSettings.{RunSettings}
-use Rattle.asm_explore_tool.specs.declared.settings.Settings.{Settings}
-use Rattle.asm_explore_tool.specs.declared.settings.Task.{Task}
-use Rattle.asm_explore_tool.specs.declared.settings.Task.TheVariants.{All, Random, Choices, Clash}
+use Rattle.asm_explore_words.specs.declared.settings.RandomSettings.{RandomSettings}
+use Rattle.asm_explore_words.specs.declared.settings.RunSettings.{RunSettings}
+use Rattle.asm_explore_words.specs.declared.settings.Settings.{Settings}
+use Rattle.asm_explore_words.specs.declared.settings.Task.{Task}
+use Rattle.asm_explore_words.specs.declared.settings.Task.TheVariants.{All, Random, Choices, Clash}
 
 abbrev pub AreTaken : List Text → Type 0
 AreTaken [] = ⊥

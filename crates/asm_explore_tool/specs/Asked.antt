@@ -15,10 +15,10 @@ use Rattle.asm_explore.specs.Answers.{IsAnswer}
 use Rattle.asm_explore.specs.Conditions.{term_holds}
 use Rattle.asm_explore.specs.MainRule.{IsCrowdedMain}
 use Rattle.asm_explore.specs.declared.answer.Answered.{Answered}
-use Rattle.asm_explore_tool.specs.Conditions.{AreConditionsOf, IsJoined, MayBeConditionOf, text_of, texts_of}
+use Rattle.asm_explore_texts.specs.Conditions.{AreConditionsOf, IsJoined, MayBeConditionOf, text_of, texts_of}
 use Rattle.asm_explore_tool.specs.declared.asked.Asked.{Asked}
-use Rattle.asm_explore_tool.specs.declared.conditions.Conditions.{Conditions}
-use Rattle.asm_explore_tool.specs.declared.settings.Settings.{Settings}
+use Rattle.asm_explore_texts.specs.declared.conditions.Conditions.{Conditions}
+use Rattle.asm_explore_words.specs.declared.settings.Settings.{Settings}
 
 pub record AreAllAsked (text : List ℕ) (asked : List (List ℕ)) (checked : Checked) (t : Option Term) : Type 0 where
   pub links : List (Op × Term)

@@ -12,10 +12,10 @@ use Rattle.std.specs.Prelude.{◌≡◌, ℕ, List, [], ◌∷◌, ◌++◌, Opt
 use Rattle.std.specs.Str.{bytes_eq}
 use Rattle.clap.specs.Walk.{Text, texts}
 use Rattle.asm_tool.specs.Statuses.{IsFront, bytes_of}
-use Rattle.asm_explore_tool.specs.Conditions.{text_of, texts_of}
-use Rattle.asm_explore_tool.specs.declared.conditions.Conditions.{Conditions}
-use Rattle.asm_explore_tool.specs.declared.settings.RunSettings.{RunSettings}
-use Rattle.asm_explore_tool.specs.declared.settings.Settings.{Settings}
+use Rattle.asm_explore_texts.specs.Conditions.{text_of, texts_of}
+use Rattle.asm_explore_texts.specs.declared.conditions.Conditions.{Conditions}
+use Rattle.asm_explore_words.specs.declared.settings.RunSettings.{RunSettings}
+use Rattle.asm_explore_words.specs.declared.settings.Settings.{Settings}
 
 -- reading goes no further: what is of this length is too long
 abbrev pub most_bytes : ℕ

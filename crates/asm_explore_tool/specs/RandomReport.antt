@@ -20,14 +20,14 @@ use Rattle.asm_random.specs.declared.answer.RandomFinding.{RandomFinding}
 use Rattle.asm_random.specs.declared.answer.RandomFinding.TheVariants as random
 use Rattle.asm_run.specs.Headline.{IsAccepted}
 use Rattle.asm_explore_tool.specs.Asked.{AreAllAsked}
-use Rattle.asm_explore_tool.specs.Conditions.{texts_of}
+use Rattle.asm_explore_texts.specs.Conditions.{texts_of}
 use Rattle.asm_explore_tool.specs.FirstLine.{fault_line}
 use Rattle.asm_explore_tool.specs.Report.{IsPrinted}
 use Rattle.asm_explore_tool.specs.Words.{BadTells, IsBroken}
-use Rattle.asm_explore_tool.specs.declared.conditions.Condition.{Condition}
+use Rattle.asm_explore_texts.specs.declared.conditions.Condition.{Condition}
 use Rattle.asm_explore_tool.specs.declared.random_asked.RandomAsked.{RandomAsked}
 use Rattle.asm_explore_tool.specs.declared.report.Report.{Report}
-use Rattle.asm_explore_tool.specs.declared.settings.RandomSettings.{RandomSettings}
+use Rattle.asm_explore_words.specs.declared.settings.RandomSettings.{RandomSettings}
 
 pub record IsRandomAsked (text : List ℕ) (conditions : List Condition) (settings : RandomSettings) (asked : RandomAsked) : Type 0 where
   pub accepted : IsAccepted text (spec_of asked.checked.spec)

@@ -23,9 +23,9 @@ use Rattle.asm_explore_tool.specs.Comments.{comments}
 use Rattle.asm_explore_tool.specs.FirstLine.{first_line}
 use Rattle.asm_explore_tool.specs.TraceLines.{MayShowTrace}
 use Rattle.asm_explore_tool.specs.Words.{WordsTell}
-use Rattle.asm_explore_tool.specs.declared.conditions.Conditions.{Conditions}
+use Rattle.asm_explore_texts.specs.declared.conditions.Conditions.{Conditions}
 use Rattle.asm_explore_tool.specs.declared.report.Report.{Report}
-use Rattle.asm_explore_tool.specs.declared.settings.Settings.{Settings}
+use Rattle.asm_explore_words.specs.declared.settings.Settings.{Settings}
 
 abbrev pub status_of : Finding → ℕ
 status_of finding.Closed = 0

@@ -23,7 +23,7 @@ use Rattle.asm_clash.specs.declared.clash.ClashOfRun.TheVariants as clash
 use Rattle.asm_explore_tool.specs.Comments.{comments}
 use Rattle.asm_explore_tool.specs.Report.{IsWholeOr}
 use Rattle.asm_explore_tool.specs.declared.report.Report.{Report}
-use Rattle.asm_explore_tool.specs.declared.settings.RunSettings.{RunSettings}
+use Rattle.asm_explore_words.specs.declared.settings.RunSettings.{RunSettings}
 
 -- the run that settings ask for
 abbrev pub run_asked : Spec → RunSettings → Script → Run

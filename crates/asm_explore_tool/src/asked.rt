@@ -3,14 +3,14 @@ ghost use Rattle.std.specs.Prelude.{IfOk};
 ghost use Rattle.asm_syntax.specs.Views.{spec_of};
 ghost use Rattle.asm_run.specs.Headline.{IsAccepted};
 ghost use Rattle.asm_explore_tool.specs.Asked.{AreAllAsked, IsAsked};
-ghost use Rattle.asm_explore_tool.specs.Conditions.{texts_of};
+ghost use Rattle.asm_explore_texts.specs.Conditions.{texts_of};
 
-use crate::conditions::{Condition, Conditions, joined, links, optional_term};
-use crate::fault::{Fault, RefusedText, Source, TextError};
 use crate::laws::joined_law;
-use crate::settings::Settings;
 use asm_check::{Checked, check};
 use asm_explore::Question;
+use asm_explore_texts::conditions::{Condition, Conditions, joined, links, optional_term};
+use asm_explore_words::fault::{Fault, RefusedText, Source, TextError};
+use asm_explore_words::settings::Settings;
 use asm_reader::read;
 use asm_syntax::Refused;
 use asm_syntax::term::Term;

@@ -1,9 +1,9 @@
 //! What is said of an assignment.
 use crate::choose_line::push_values;
-use crate::place_text::{push_path, push_position};
-use crate::text_place::{TextPlace, text_place};
 use crate::value_text::push_value;
 use asm_check::Checked;
+use asm_explore_texts::place_text::{push_path, push_position};
+use asm_explore_texts::text_place::{TextPlace, text_place};
 use asm_state::word::Word;
 use asm_syntax::name::Name;
 use std::alloc::{AllocError, Global};

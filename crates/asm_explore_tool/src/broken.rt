@@ -6,13 +6,13 @@ ghost use Rattle.asm_syntax.specs.Views.{spec_of};
 ghost use Rattle.asm_syntax.specs.declared.term.Term.{Term as Code};
 ghost use Rattle.asm_check.specs.Shapes.{shape_of};
 ghost use Rattle.asm_meaning.specs.Value.{is_true};
-ghost use Rattle.asm_explore_tool.specs.Conditions.{IsJoined};
+ghost use Rattle.asm_explore_texts.specs.Conditions.{IsJoined};
 ghost use Rattle.asm_explore_tool.specs.Words.{IsBroken, broken_words, value_in};
 
-use crate::conditions::parts;
 use crate::value_text::push_value;
+use asm_by_code::whole::value_by_code;
 use asm_check::Checked;
-use asm_eval::whole::value_by_code;
+use asm_explore_texts::conditions::parts;
 use asm_meaning::View;
 use asm_state::state::State;
 use asm_state::value::Value;

@@ -1,8 +1,8 @@
 //! The comment for a choice.
-use crate::place_text::{push_path, push_position};
-use crate::text_place::text_place;
 use crate::value_text::push_value;
 use asm_check::Checked;
+use asm_explore_texts::place_text::{push_path, push_position};
+use asm_explore_texts::text_place::text_place;
 use asm_state::word::Word;
 use asm_syntax::rule::Rule;
 use std::alloc::{AllocError, Global};

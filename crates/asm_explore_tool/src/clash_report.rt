@@ -5,13 +5,13 @@ ghost use Rattle.asm_explore_tool.specs.RunReport.{IsClashReported, assignments_
 use crate::asked::checked;
 use crate::assignment_line::assignment_line;
 use crate::choices_report::ended;
-use crate::fault::Fault;
 use crate::report::{Report, with_comments};
-use crate::script_given::script_given;
-use crate::settings::RunSettings;
 use asm_check::Checked;
 use asm_clash::assignment::Assignment;
 use asm_clash::clash::{ClashOfRun, clash_of_run};
+use asm_explore_texts::script_given::script_given;
+use asm_explore_words::fault::Fault;
+use asm_explore_words::settings::RunSettings;
 use std::alloc::{AllocError, Global};
 use std::thread::Threads;
 

@@ -5,8 +5,8 @@ ghost use Rattle.asm_explore_tool.specs.Ended.{IsTraceOf};
 ghost use Rattle.asm_explore_tool.specs.Words.{shown_after};
 
 use crate::ended::{EndedRun, ended_run};
-use crate::fault::Fault;
 use asm_explore::{BadRun, Fault as StepFault};
+use asm_explore_words::fault::Fault;
 use asm_run::end::End;
 use asm_run::error::RunError;
 use std::alloc::Global;

@@ -1,7 +1,7 @@
 //! The graph of states, written to a file.
 use crate::asked::Asked;
-use crate::fault::Fault;
 use crate::files::NewFiles;
+use asm_explore_words::fault::Fault;
 use asm_graph::{GraphRefused, dot_text, state_graph};
 use std::alloc::Global;
 use std::io::Write;

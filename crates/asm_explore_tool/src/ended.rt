@@ -2,9 +2,9 @@
 ghost use Rattle.std.specs.Prelude.{IfOk};
 ghost use Rattle.asm_explore_tool.specs.Ended.{IsEndOf, IsTraceOf};
 
+use asm_limits::limits::Limits;
 use asm_run::end::End;
 use asm_run::error::RunError;
-use asm_run::limits::Limits;
 use asm_run::run::run;
 use asm_run::through::Through;
 use std::alloc::{AllocError, Global};

@@ -1,11 +1,11 @@
 //! The message on standard error.
-use crate::excerpt::excerpt;
-use crate::fault::{Fault, RefusedText, Source};
-use crate::position::{Line, Position};
 use crate::texts::Texts;
+use asm_explore_texts::excerpt::excerpt;
+use asm_explore_texts::position::{Line, Position};
+use asm_explore_words::fault::{Fault, RefusedText, Source};
 use asm_run::sink::Sink;
 use std::fmt;
-use std::fmt::{Display, Formatter, Write};
+use std::fmt::Write;
 
 /// Says why the program ends without an answer. Where even this can't be written, the status alone
 /// tells.
@@ -52,18 +52,4 @@ fn refusal<W: Write>(refused: &RefusedText<'_>, out: &mut W) -> fmt::Result {
     let Position { line, column } = Position::of(text, at);
     writeln!(out, "{source}:{line}:{column}: {error}")?;
     excerpt(&Line::with(text, at), out)
-}
-
-impl Display for Source<'_> {
-    fn fmt<W: Write>(&self, f: &mut Formatter<W>) -> fmt::Result {
-        match *self {
-            Source::Specification("-") | Source::Script("-") => f.write_str("standard input"),
-            Source::Specification(name) | Source::Script(name) | Source::AlwaysFile(name) => {
-                f.write_str(name)
-            }
-            Source::Always(number) => write!(f, "condition {number}"),
-            Source::DeadlockUnless => f.write_str("--deadlock-unless"),
-            Source::Within => f.write_str("--within"),
-        }
-    }
 }

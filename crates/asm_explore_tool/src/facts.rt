@@ -1,12 +1,12 @@
 //! What is printed behind the first line of an answer.
-use crate::conditions::{Condition, Conditions};
 use crate::confirm::steps_shown;
 use crate::drawing::Drawing;
-use crate::place_text::{push_path, push_position};
-use crate::settings::Settings;
-use crate::text_place::text_place;
 use asm_check::Checked;
 use asm_explore::{Answered, BadRun, Finding};
+use asm_explore_texts::conditions::{Condition, Conditions};
+use asm_explore_texts::place_text::{push_path, push_position};
+use asm_explore_texts::text_place::text_place;
+use asm_explore_words::settings::Settings;
 use std::alloc::{AllocError, Global};
 
 /// So many bytes of a condition are shown.

@@ -9,16 +9,16 @@ ghost use Rattle.asm_check.specs.Shapes.{shape_of};
 ghost use Rattle.asm_reader.specs.ScriptLines as lines;
 ghost use Rattle.asm_reader.specs.ScriptText.{IsScript};
 ghost use Rattle.asm_meaning.specs.Declarations.{specification_of};
-ghost use Rattle.asm_explore_tool.specs.Conditions.{IsJoined};
+ghost use Rattle.asm_explore_texts.specs.Conditions.{IsJoined};
 ghost use Rattle.asm_explore_tool.specs.Replay.{IsAfter};
 ghost use Rattle.asm_explore_tool.specs.Words.{BadTells, IsBroken, WordsTell, shown_after};
 
 use crate::broken::broken_in;
 use crate::confirm::{end_words, steps_shown};
-use crate::fault::Fault;
 use crate::replay::state_after;
 use asm_check::Checked;
 use asm_explore::{BadRun, Fault as StepFault, Finding};
+use asm_explore_words::fault::Fault;
 use asm_reader::{one_script, read_script};
 use asm_state::state::State;
 use asm_syntax::Refused;

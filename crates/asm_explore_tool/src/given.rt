@@ -1,13 +1,13 @@
 //! What is read for settings: the text of the specification, and those of the conditions.
 ghost use Rattle.std.specs.Prelude.{◌≡◌, ◌++◌, List, ℕ, map, option_map, IfOk};
 ghost use Rattle.clap.specs.Walk.{texts};
-ghost use Rattle.asm_explore_tool.specs.Conditions.{text_of, texts_of};
+ghost use Rattle.asm_explore_texts.specs.Conditions.{text_of, texts_of};
 ghost use Rattle.asm_tool.specs.Statuses.{IsFront};
 ghost use Rattle.asm_explore_tool.specs.Given.{AreAlwaysGiven, AreFronts, AreGiven, IsText, most_bytes};
 
-use crate::conditions::{Condition, Conditions};
-use crate::fault::{Fault, Source};
-use crate::settings::Settings;
+use asm_explore_texts::conditions::{Condition, Conditions};
+use asm_explore_words::fault::{Fault, Source};
+use asm_explore_words::settings::Settings;
 use asm_tool::fault::Fault as ToolFault;
 use asm_tool::folder::Folder;
 use asm_tool::input;

@@ -5,7 +5,7 @@ ghost use Rattle.asm_state.specs.Location.{State};
 ghost use Rattle.asm_state.specs.declared.operation.Op.{Op};
 ghost use Rattle.asm_syntax.specs.declared.term.Term.{Term};
 ghost use Rattle.asm_explore.specs.Conditions.{term_holds};
-ghost use Rattle.asm_explore_tool.specs.Conditions.{AreAnds, IsJoined};
+ghost use Rattle.asm_explore_texts.specs.Conditions.{AreAnds, IsJoined};
 
 use asm_check::Checked;
 use asm_meaning::laws::{declared_ranks, plain_terms, valued_by_cases};

@@ -3,10 +3,10 @@ ghost use Rattle.std.specs.Prelude.{◌≡◌, IfOk};
 ghost use Rattle.asm_explore_tool.specs.RandomReport.{IsRandomAsked};
 
 use crate::asked::{all_asked, checked};
-use crate::conditions::Condition;
-use crate::fault::Fault;
-use crate::settings::RandomSettings;
 use asm_check::Checked;
+use asm_explore_texts::conditions::Condition;
+use asm_explore_words::fault::Fault;
+use asm_explore_words::settings::RandomSettings;
 use asm_random::RandomQuestion;
 use asm_syntax::term::Term;
 use std::alloc::Global;

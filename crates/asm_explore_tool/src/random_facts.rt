@@ -1,7 +1,7 @@
 //! What is printed of random runs behind the first line.
-use crate::conditions::Condition;
 use crate::facts::{add, add_always, add_command, looked_for};
-use crate::settings::RandomSettings;
+use asm_explore_texts::conditions::Condition;
+use asm_explore_words::settings::RandomSettings;
 use asm_random::{RandomAnswer, RandomFinding};
 use std::alloc::{AllocError, Global};
 

@@ -2,19 +2,19 @@
 ghost use Rattle.std.specs.Prelude.{◌≡◌, List, option_map, IfOk};
 ghost use Rattle.asm_state.specs.declared.operation.Op.{Op};
 ghost use Rattle.asm_syntax.specs.declared.term.Term.{Term as Code};
-ghost use Rattle.asm_explore_tool.specs.Conditions.{IsJoined};
+ghost use Rattle.asm_explore_texts.specs.Conditions.{IsJoined};
 ghost use Rattle.asm_explore_tool.specs.RandomReport.{IsRandomReport, IsRandomReported, RandomTells, random_bad, random_line, random_status};
 
-use crate::conditions::Condition;
-use crate::fault::Fault;
 use crate::fault_words::{Subject, UNWRITTEN, bad_words, first_words};
 use crate::first_line::{of_fault, of_first};
 use crate::random_asked::{RandomAsked, ask_random};
 use crate::random_facts::random_facts;
 use crate::report::{Report, printed};
-use crate::settings::RandomSettings;
-use asm_explore::BadRun;
-use asm_random::{RandomAnswer, RandomFinding, random_runs};
+use asm_explore::{BadRun, Watch};
+use asm_explore_texts::conditions::Condition;
+use asm_explore_words::fault::Fault;
+use asm_explore_words::settings::RandomSettings;
+use asm_random::{RandomAnswer, RandomFinding, RandomProgress, random_runs};
 use std::alloc::{AllocError, Global};
 use std::thread::Threads;
 
@@ -118,17 +118,18 @@ fn printed_of<'w, R: Threads + Sync>(
 }
 
 /// What is printed of random runs of the specification with this text, and the status of that.
-pub(crate) fn random_report<'w, R: Threads + Sync>(
+pub(crate) fn random_report<'w, R: Threads + Sync, W: Watch<RandomProgress>>(
     rt: &R,
     alloc: Global,
     text: &[u8],
     conditions: &[Condition<'w>],
     settings: &RandomSettings<'w>,
+    watch: &mut W,
 ) -> Result<Report, Fault<'w>>
     ensures { IfOk result (IsRandomReported text.now conditions.now settings.now) }
 {
     let asked = ask_random(alloc, text, conditions, settings)?;
-    let answer = random_runs(alloc, &asked.checked, &asked.question)?;
+    let answer = random_runs(alloc, &asked.checked, &asked.question, watch)?;
     let text = printed_of(rt, alloc, text, &asked, conditions, settings, &answer)?;
     let status = status_of(&answer.finding);
     Ok(Report { text, status })

@@ -11,9 +11,9 @@ ghost use Rattle.asm_meaning.specs.Program.{nothing_bound};
 ghost use Rattle.asm_meaning.specs.Valued.{program, shown};
 ghost use Rattle.asm_explore_tool.specs.Replay.{IsAfter, IsStep};
 
+use asm_by_code::whole::outcome_by_code;
 use asm_check::Checked;
 use asm_eval::running::Running;
-use asm_eval::whole::outcome_by_code;
 use asm_meaning::from_nothing::{nothing_formed, outcome_of};
 use asm_meaning::laws::from_nothing_laws;
 use asm_meaning::{Choices, Outcome, View};

@@ -2,21 +2,21 @@
 ghost use Rattle.std.specs.Prelude.{◌≡◌, ◌∷◌, List, None, cond, option_map, IfOk};
 ghost use Rattle.asm_state.specs.declared.operation.Op.{Op};
 ghost use Rattle.asm_syntax.specs.declared.term.Term.{Term};
-ghost use Rattle.asm_explore_tool.specs.Conditions.{IsJoined};
+ghost use Rattle.asm_explore_texts.specs.Conditions.{IsJoined};
 ghost use Rattle.asm_explore_tool.specs.Report.{IsPrinted, IsReport, IsWholeOr, bad_of as found_bad, script_in, status_of as found_status};
 ghost use Rattle.asm_explore_tool.specs.Comments.{comments as comments_of, lines_of};
 
 use crate::asked::Asked;
 use crate::comment::comments;
-use crate::conditions::Conditions;
 use crate::drawing::Drawing;
 use crate::facts::facts;
-use crate::fault::Fault;
 use crate::fault_words::{Subject, fault_words};
 use crate::first_line::first_line;
-use crate::settings::Settings;
 use crate::trace_lines::add_trace;
 use asm_explore::{Answered, BadRun, Finding};
+use asm_explore_texts::conditions::Conditions;
+use asm_explore_words::fault::Fault;
+use asm_explore_words::settings::Settings;
 use std::alloc::{AllocError, Global};
 use std::thread::Threads;
 

@@ -1,11 +1,11 @@
 //! What is read for one run: the texts of the specification and of the script.
 ghost use Rattle.std.specs.Prelude.{◌≡◌, false, IfOk};
 ghost use Rattle.asm_explore_tool.specs.Given.{AreRunTexts, IsText, IsTextOfFile};
-ghost use Rattle.asm_explore_tool.specs.Said.{reads_input_twice};
+ghost use Rattle.asm_explore_words.specs.Said.{reads_input_twice};
 
-use crate::fault::{Fault, Source};
 use crate::given::{MOST_BYTES, of_file, text as text_of};
-use crate::settings::RunSettings;
+use asm_explore_words::fault::{Fault, Source};
+use asm_explore_words::settings::RunSettings;
 use asm_tool::folder::Folder;
 use asm_tool::input;
 use std::alloc::Global;

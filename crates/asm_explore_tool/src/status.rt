@@ -2,27 +2,30 @@
 ghost use Rattle.std.specs.Prelude.{◌≡◌, ◌≢◌, ◌<◌, ◌≤◌, false, map, IfOk, OnOk};
 ghost use Rattle.std.specs.Io.KnownBytes.{Appends};
 ghost use Rattle.asm_explore_tool.specs.Answered.{Answers, AnswersRandom, AnswersRun, AnswersTask, AreTaken, IsAnswered};
-ghost use Rattle.asm_explore_tool.specs.Faults.{IsOfWords, status_of_fault};
+ghost use Rattle.asm_explore_words.specs.Faults.{IsOfWords, status_of_fault};
 ghost use Rattle.asm_explore_tool.specs.Report.{IsReported};
 ghost use Rattle.asm_explore_tool.specs.RunReport.{AreChoicesReported, IsClashReported};
-ghost use Rattle.asm_explore_tool.specs.Said.{reads_input_twice, reads_task_twice};
+ghost use Rattle.asm_explore_words.specs.Said.{reads_input_twice, reads_task_twice};
 
 use crate::asked::ask;
 use crate::choices_report::choices_report;
 use crate::clash_report::clash_report;
-use crate::conditions::Conditions;
 use crate::drawing::draw;
 use crate::explain::explain;
-use crate::fault::{Fault, Source};
 use crate::files::NewFiles;
 use crate::given::{always_given, conditions, text};
+use crate::progress_lines::ProgressLines;
 use crate::random_report::random_report;
 use crate::report::{Report, reported};
 use crate::run_texts::run_texts;
-use crate::settings::{RandomSettings, RunSettings, Settings, Task};
-use crate::words::settings;
+use asm_explore::{Progress, Watch};
+use asm_explore_texts::conditions::Conditions;
+use asm_explore_words::fault::{Fault, Source};
+use asm_explore_words::settings::{RandomSettings, RunSettings, Settings, Task};
+use asm_explore_words::words::settings;
 use asm_explore_workers::explore_all_by;
-use asm_run::limits::WORKERS;
+use asm_limits::limits::WORKERS;
+use asm_random::RandomProgress;
 use asm_run::sink::Sink;
 use asm_tool::fault::Fault as ToolFault;
 use asm_tool::folder::Folder;
@@ -32,23 +35,26 @@ use std::alloc::Global;
 use std::convert::AsStr;
 use std::io::{Read, Write};
 use std::thread::Threads;
+use std::time::Clock;
 
 /// Does what the words ask for, and writes the answer to `out` or the line of a fault to `err`. The
-/// words are those behind the program's name.
+/// words are those behind the program's name. Lines that tell how far a search is go to `err` too,
+/// where they are asked for or it is a terminal.
 pub fn status<
-    R: Threads + Sync + AllocGlobal,
+    R: Threads + Clock + Sync + AllocGlobal,
     F: Folder + NewFiles,
     S: AsStr,
     I: Read + Drop,
     O: Write,
     E: Sink,
->(rt: &R, folder: &F, words: &[S], input: I, out: &mut O, err: &mut E) -> u8
+>(rt: &R, folder: &F, words: &[S], input: I, out: &mut O, err: &mut E, is_terminal: bool) -> u8
     // Words that are taken have an answer, unless a fault with the status 2, 3 or 4 says why there
     // is none.
     ensures { AreTaken (map S.text words.entry.now) → result ≢ 2 → result ≢ 3 → result ≢ 4 →
         IsAnswered (F.contents folder.now) (I.remaining input) (O.contents out.old) (O.contents out.new) (map S.text words.entry.now) result }
 {
-    match answer(rt, folder, words, input, out) {
+    let mut lines = ProgressLines::new(rt, &mut *err, is_terminal);
+    match answer(rt, folder, words, input, out, &mut lines) {
         Ok(status) => status,
         Err(fault) => refusal(&fault, err),
     }
@@ -73,36 +79,58 @@ pub fn refusal<E: Sink>(fault: &Fault<'_>, err: &mut E) -> u8
 /// Writes the answer to the words, and returns its status.
 fn answer<
     'w,
-    R: Threads + Sync + AllocGlobal,
+    R: Threads + Clock + Sync + AllocGlobal,
     F: Folder + NewFiles,
     S: AsStr,
     I: Read + Drop,
     O: Write,
->(rt: &R, folder: &F, words: &'w [S], input: I, out: &mut O) -> Result<u8, Fault<'w>>
+    E: Sink,
+>(
+    rt: &R,
+    folder: &F,
+    words: &'w [S],
+    input: I,
+    out: &mut O,
+    lines: &mut ProgressLines<'_, R, E>,
+) -> Result<u8, Fault<'w>>
     ensures { AreTaken (map S.text words.entry.now) →
         IfOk result (IsAnswered (F.contents folder.now) (I.remaining input) (O.contents out.old) (O.contents out.new) (map S.text words.entry.now)) }
 {
     match settings(rt.alloc(), words) {
-        Ok(task) => answer_task(rt, folder, rt.alloc(), &task, input, out),
+        Ok(task) => answer_task(rt, folder, rt.alloc(), &task, input, out, lines),
         Err(fault) => told(out, fault),
     }
 }
 
 /// Writes the answer to a command with its settings, and returns its status.
-fn answer_task<'w, R: Threads + Sync, F: Folder + NewFiles, I: Read + Drop, O: Write>(
+fn answer_task<
+    'w,
+    R: Threads + Clock + Sync,
+    F: Folder + NewFiles,
+    I: Read + Drop,
+    O: Write,
+    E: Sink,
+>(
     rt: &R,
     folder: &F,
     alloc: Global,
     task: &Task<'w>,
     input: I,
     out: &mut O,
+    lines: &mut ProgressLines<'_, R, E>,
 ) -> Result<u8, Fault<'w>>
     requires { reads_task_twice task.now ≡ false }
     ensures { IfOk result (AnswersTask (F.contents folder.now) (I.remaining input) (O.contents out.old) (O.contents out.new) task.now) }
 {
     match task {
-        Task::All(settings) => answer_settings(rt, folder, alloc, settings, input, out),
-        Task::Random(settings) => answer_random(rt, folder, alloc, settings, input, out),
+        Task::All(settings) => {
+            lines.begin(settings.progress);
+            answer_settings(rt, folder, alloc, settings, input, out, lines)
+        }
+        Task::Random(settings) => {
+            lines.begin(settings.progress);
+            answer_random(rt, folder, alloc, settings, input, out, lines)
+        }
         Task::Choices(settings) => answer_choices(rt, folder, alloc, settings, input, out),
         Task::Clash(settings) => answer_clash(rt, folder, alloc, settings, input, out),
     }
@@ -147,32 +175,56 @@ fn answer_clash<'w, R: Threads + Sync, F: Folder, I: Read + Drop, O: Write>(
 }
 
 /// Writes the answer to settings of `all`, and returns its status.
-fn answer_settings<'w, R: Threads + Sync, F: Folder + NewFiles, I: Read + Drop, O: Write>(
+fn answer_settings<
+    'w,
+    R: Threads + Sync,
+    F: Folder + NewFiles,
+    I: Read + Drop,
+    O: Write,
+    W: Watch<Progress>,
+>(
     rt: &R,
     folder: &F,
     alloc: Global,
     settings: &Settings<'w>,
     input: I,
     out: &mut O,
+    watch: &mut W,
 ) -> Result<u8, Fault<'w>>
     ensures { IfOk result (Answers (F.contents folder.now) (I.remaining input) (O.contents out.old) (O.contents out.new) settings.now) }
 {
     let spec = settings.spec;
     let text = text(folder, alloc, Source::Specification(spec), spec, input)?;
     let conditions = conditions(folder, alloc, settings)?;
-    let report = explored(rt, folder, alloc, text.as_slice(), &conditions, settings)?;
+    let report = explored(
+        rt,
+        folder,
+        alloc,
+        text.as_slice(),
+        &conditions,
+        settings,
+        watch,
+    )?;
     written(out, report.text.as_slice())?;
     Ok(report.status)
 }
 
 /// Writes the answer to settings of `random`, and returns its status.
-fn answer_random<'w, R: Threads + Sync, F: Folder, I: Read + Drop, O: Write>(
+fn answer_random<
+    'w,
+    R: Threads + Sync,
+    F: Folder,
+    I: Read + Drop,
+    O: Write,
+    W: Watch<RandomProgress>,
+>(
     rt: &R,
     folder: &F,
     alloc: Global,
     settings: &RandomSettings<'w>,
     input: I,
     out: &mut O,
+    watch: &mut W,
 ) -> Result<u8, Fault<'w>>
     ensures { IfOk result (AnswersRandom (F.contents folder.now) (I.remaining input) (O.contents out.old) (O.contents out.new) settings.now) }
 {
@@ -180,7 +232,8 @@ fn answer_random<'w, R: Threads + Sync, F: Folder, I: Read + Drop, O: Write>(
     let (words, names) = (settings.always.as_slice(), settings.always_files.as_slice());
     let text = text(folder, alloc, Source::Specification(spec), spec, input)?;
     let conditions = always_given(folder, alloc, words, names)?;
-    let report = random_report(rt, alloc, text.as_slice(), conditions.as_slice(), settings)?;
+    let (text, conditions) = (text.as_slice(), conditions.as_slice());
+    let report = random_report(rt, alloc, text, conditions, settings, watch)?;
     written(out, report.text.as_slice())?;
     Ok(report.status)
 }
@@ -244,19 +297,21 @@ fn workers_of(settings: &Settings<'_>) -> usize
 }
 
 /// What is printed of the specification with this text, and the status of that.
-fn explored<'w, R: Threads + Sync, F: NewFiles>(
+fn explored<'w, R: Threads + Sync, F: NewFiles, W: Watch<Progress>>(
     rt: &R,
     files: &F,
     alloc: Global,
     text: &[u8],
     conditions: &Conditions<'w>,
     settings: &Settings<'w>,
+    watch: &mut W,
 ) -> Result<Report, Fault<'w>>
     ensures { IfOk result (IsReported text.now conditions.now settings.now) }
 {
     let asked = ask(alloc, text, conditions, settings)?;
     let workers = workers_of(settings);
-    let answered = explore_all_by(rt, alloc, &asked.checked, &asked.question, workers)?;
+    let (checked, question) = (&asked.checked, &asked.question);
+    let answered = explore_all_by(rt, alloc, checked, question, workers, watch)?;
     let drawing = draw(files, alloc, &asked, settings.dot)?;
     reported(
         rt, alloc, text, &asked, conditions, settings, &answered, drawing,

@@ -4,8 +4,8 @@ ghost use Rattle.asm_explore_tool.specs.Comments.{lines_of};
 ghost use Rattle.asm_explore_tool.specs.TraceLines.{MayShowTrace, text_lines};
 
 use crate::confirm::confirmed;
-use crate::fault::Fault;
 use asm_explore::BadRun;
+use asm_explore_words::fault::Fault;
 use std::alloc::{AllocError, Global};
 use std::thread::Threads;
 

@@ -5,7 +5,7 @@ use denote.Param.SendFields.{declared_sync}
 use Rattle.std.proofs.Crossing.{crosses}
 use Rattle.asm_state.specs.contracts.state.State as State
 use Rattle.asm_check.specs.contracts.checked.Checked as Checked
-use Rattle.asm_eval.specs.contracts.rule_code.RuleCode as RuleCode
+use Rattle.asm_code.specs.contracts.rule_code.RuleCode as RuleCode
 use Rattle.asm_explore_workers.specs.contracts.job.StepsJob as StepsJob
 
 module _ (a s : NamedLft) where

@@ -2,12 +2,12 @@
 --     task_at            what a task lists
 --     firsts_listed      the lists of the first tasks are those of the first states
 --     firsts_some        the first task lists something
-use Rattle.std.proofs.Common.{◌≡◌, ℕ, zero, suc, ◌<◌, List, [], ◌∷◌, length, take, refl, ap, sym, subst, arith}
+use Rattle.std.proofs.Common.{◌≡◌, ℕ, suc, ◌<◌, List, [], ◌∷◌, length, take, refl, subst, arith}
 use Rattle.std.specs.Prelude.{Option, Some, None, slice_get}
 use Rattle.std.proofs.lemmas.Option.{slice_get_within}
 use Rattle.asm_state.specs.declared.value.Value.{Value}
 use Rattle.asm_check.specs.declared.checked.Checked.{Checked}
-use Rattle.asm_eval.specs.RuleTree.{RuleCode}
+use Rattle.asm_code.specs.RuleTree.{RuleCode}
 use Rattle.asm_pool.specs.Pool.{RunsTask}
 use Rattle.asm_explore_workers.specs.Batches.{Outcomes, AreListedOf, IsListedOf, ListsTask, firsts}
 use Rattle.asm_explore_workers.specs.declared.job.Tally.{Tally}

@@ -2,12 +2,12 @@
 ghost use Rattle.std.specs.Prelude.{◌≡◌, ◌<◌, ◌^◌, length};
 ghost use Rattle.asm_syntax.specs.Views.{spec_of};
 ghost use Rattle.asm_check.specs.Shapes.{shape_of};
-ghost use Rattle.asm_eval.specs.RuleViews.{rule_of};
+ghost use Rattle.asm_code.specs.RuleViews.{rule_of};
 ghost use Rattle.asm_state.specs.Signature.{count_of};
 ghost use Rattle.asm_explore_workers.specs.Batches.{IsListedOf, IsMainCode, IsTask, ListsTask};
 
 use asm_check::Checked;
-use asm_eval::rule_code::RuleCode;
+use asm_code::rule_code::RuleCode;
 use asm_explore::specification::step_outcomes;
 use asm_explore::{Listed, Specified};
 use asm_pool::Job;

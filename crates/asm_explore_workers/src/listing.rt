@@ -4,7 +4,7 @@ ghost use Rattle.std.specs.Prelude.{◌≡◌, ◌<◌, ◌≤◌, IfOk, length,
 ghost use Rattle.asm_state.specs.Signature.{count_of};
 ghost use Rattle.asm_syntax.specs.Views.{spec_of};
 ghost use Rattle.asm_check.specs.Shapes.{shape_of};
-ghost use Rattle.asm_eval.specs.RuleViews.{rule_of};
+ghost use Rattle.asm_code.specs.RuleViews.{rule_of};
 ghost use Rattle.asm_explore.specs.Conditions.{IsSpecified};
 ghost use Rattle.asm_explore.specs.Lists.{Each};
 ghost use Rattle.asm_explore_workers.specs.Batches.{AreListedOf, firsts};

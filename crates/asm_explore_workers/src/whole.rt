@@ -4,7 +4,7 @@ ghost use Rattle.asm_state.specs.Signature.{count_of};
 ghost use Rattle.asm_syntax.specs.Views.{spec_of};
 ghost use Rattle.asm_check.specs.Shapes.{shape_of};
 ghost use Rattle.asm_meaning.specs.Declarations.{specification_of};
-ghost use Rattle.asm_eval.specs.RuleViews.{rule_of};
+ghost use Rattle.asm_code.specs.RuleViews.{rule_of};
 ghost use Rattle.asm_explore.specs.Answers.{IsAnswer};
 ghost use Rattle.asm_explore.specs.Conditions.{holds_in, term_holds, IsSpecified};
 ghost use Rattle.asm_explore.specs.Lists.{Each};
@@ -14,11 +14,11 @@ ghost use Rattle.asm_explore_workers.specs.Batches.{AreListedOf};
 use crate::listed_by::ListedBy;
 use crate::listing::list_by;
 use asm_check::Checked;
-use asm_eval::whole::resolve_main;
 use asm_explore::answering::explore_machine;
 use asm_explore::condition::condition_code;
 use asm_explore::whole::explore_all;
-use asm_explore::{Answered, Listed, Question, Specified};
+use asm_explore::{Answered, Listed, Progress, Question, Specified, Watch};
+use asm_resolve::whole::resolve_main;
 use asm_state::state::State;
 use std::alloc::{AllocError, Global};
 use std::thread::Threads;
@@ -27,13 +27,14 @@ use std::thread::Threads;
 const EACH: usize = 256;
 
 /// Looks through the runs of a resolved specification, by so many workers.
-fn explore_specified_by<R: Threads + Sync>(
+fn explore_specified_by<R: Threads + Sync, W: Watch<Progress>>(
     rt: &R,
     alloc: Global,
     specified: &Specified<'_>,
     steps: u32,
     states: u32,
     workers: usize,
+    watch: &mut W,
 ) -> Result<Answered, AllocError>
     requires sound { IsSpecified specified.now }
     requires workers { (0 < workers) × (workers ≤ 32) }
@@ -53,17 +54,18 @@ fn explore_specified_by<R: Threads + Sync>(
         list: &list,
         batch: workers * EACH,
     };
-    explore_machine(alloc, &machine, &initial, steps, states)
+    explore_machine(alloc, &machine, &initial, steps, states, watch)
 }
 
 /// Looks through the runs of a specification, in which so many turns exhaust an `iterate`.
-fn explore_turns_by<R: Threads + Sync>(
+fn explore_turns_by<R: Threads + Sync, W: Watch<Progress>>(
     rt: &R,
     alloc: Global,
     checked: &Checked,
     question: &Question,
     turns: u32,
     workers: usize,
+    watch: &mut W,
 ) -> Result<Answered, AllocError>
     requires workers { (0 < workers) × (workers ≤ 32) }
     ensures { let q = question.now in
@@ -83,27 +85,28 @@ fn explore_turns_by<R: Threads + Sync>(
         when_quiet: &when_quiet,
     };
     let (steps, states) = (question.steps, question.states);
-    let answered = explore_specified_by(rt, alloc, &specified, steps, states, workers)?;
+    let answered = explore_specified_by(rt, alloc, &specified, steps, states, workers, watch)?;
     Ok(answered)
 }
 
 /// Looks through all runs of a specification, as `explore_all` does, by so many workers. Each thread
 /// that was started has ended when the call returns.
-pub fn explore_all_by<R: Threads + Sync>(
+pub fn explore_all_by<R: Threads + Sync, W: Watch<Progress>>(
     rt: &R,
     alloc: Global,
     checked: &Checked,
     question: &Question,
     workers: usize,
+    watch: &mut W,
 ) -> Result<Answered, AllocError>
     requires workers { (0 < workers) × (workers ≤ 32) }
     ensures { let q = question.now in
         IfOk result (λ answer. IsAnswer (specification_of (spec_of checked.now.spec)) q.turns (IsCrowdedMain checked.now q.turns q.outcomes) q.steps q.states (term_holds checked.now q.always) (term_holds checked.now q.when_quiet) (term_holds checked.now q.within) answer) }
 {
     let answered = if workers == 1 {
-        explore_all(alloc, checked, question)?
+        explore_all(alloc, checked, question, watch)?
     } else {
-        explore_turns_by(rt, alloc, checked, question, question.turns, workers)?
+        explore_turns_by(rt, alloc, checked, question, question.turns, workers, watch)?
     };
     Ok(answered)
 }

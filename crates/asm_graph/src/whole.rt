@@ -11,9 +11,9 @@ use crate::graph::Graph;
 use crate::refused::GraphRefused;
 use crate::walking::walk;
 use asm_check::Checked;
-use asm_eval::whole::resolve_main;
 use asm_explore::condition::condition_code;
 use asm_explore::{Question, Specified};
+use asm_resolve::whole::resolve_main;
 use asm_state::state::State;
 use std::alloc::Global;
 

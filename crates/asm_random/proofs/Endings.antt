@@ -1,19 +1,19 @@
 -- How a run ends, by its last step.
 --     after_more     the state after one step more
 --     ends_wrong     a run of one step more goes wrong where that step does
-use Rattle.std.proofs.Common.{◌≡◌, ℕ, zero, suc, ◌+◌, Bool, true, false, cond, [], refl, ap, sym, subst, ◌∙◌, arith}
+use Rattle.std.proofs.Common.{◌≡◌, ℕ, zero, suc, ◌+◌, Bool, true, false, cond, [], ap, sym, subst, ◌∙◌, arith}
 use Rattle.asm_state.specs.Location.{State}
 use Rattle.asm_state.specs.Updates.{UpdateSet, IsConsistent, is_consistent, fire}
 use Rattle.asm_reader.specs.ScriptLines.{Script}
 use Rattle.asm_syntax.specs.Tree.{Rule}
 use Rattle.asm_meaning.specs.Does.{Outcome, does}
 use Rattle.asm_meaning.specs.Program.{Program, nothing_bound}
-use Rattle.asm_meaning.specs.Run.{Run, AtLimit, AtFault, AtExhausted, Specification, run, run_from, step_and, fired, ended}
-use Rattle.asm_meaning.specs.Yields.{Path, Result, Gives, Exhausted}
+use Rattle.asm_meaning.specs.Run.{Run, AtLimit, AtFault, Specification, run, run_from, step_and, fired, ended}
+use Rattle.asm_meaning.specs.Yields.{Result, Gives, Exhausted}
 use Rattle.asm_explore.specs.declared.fault.Fault.{Fault}
 use Rattle.asm_explore.specs.declared.fault.Fault.TheVariants as fault
 use Rattle.asm_explore.specs.Search.{EndsSo}
-use Rattle.asm_random.specs.Replay.{GoesWrong, IsAfter, IsStep, yields}
+use Rattle.asm_random.specs.Replay.{GoesWrong, IsAfter, IsStep}
 
 -- runs that end alike, in one state
 abbrev Alike : Run → Run → Type 0

@@ -8,6 +8,7 @@ mod drawing;
 mod drawn_step;
 mod finding;
 mod omission;
+pub mod progress;
 pub mod question;
 pub mod random;
 mod replay;
@@ -18,5 +19,6 @@ mod written;
 mod wrong_run;
 
 pub use answer::{RandomAnswer, RandomFinding};
+pub use progress::RandomProgress;
 pub use question::RandomQuestion;
 pub use random::random_runs;

@@ -9,21 +9,23 @@ ghost use Rattle.asm_random.specs.RandomAnswers.{Claims};
 use crate::answer::{RandomAnswer, RandomFinding};
 use crate::drawing::Source;
 use crate::finding::{Shown, short_finding};
+use crate::progress::RandomProgress;
 use crate::question::RandomQuestion;
 use crate::walk::random_run;
 use crate::wrong_run::wrong_run;
 use asm_check::Checked;
-use asm_eval::whole::resolve_main;
 use asm_explore::condition::condition_code;
-use asm_explore::{Machine, Specified};
+use asm_explore::{Machine, Specified, Watch};
+use asm_resolve::whole::resolve_main;
 use asm_state::state::State;
 use std::alloc::{AllocError, Global};
 
 /// Makes runs until one goes wrong.
-fn runs_of(
+fn runs_of<W: Watch<RandomProgress>>(
     alloc: Global,
     specified: &Specified<'_>,
     question: &RandomQuestion,
+    watch: &mut W,
 ) -> Result<RandomAnswer, AllocError>
     requires { IsSpecified specified.now }
     ensures { let s = spec_of specified.now.checked.now.spec in
@@ -37,6 +39,10 @@ fn runs_of(
         };
         let walked = random_run(alloc, specified, source, question.steps)?;
         made = made.saturating_add(u64::from(walked.steps));
+        watch.tell(RandomProgress {
+            runs: number + 1,
+            steps: made,
+        });
         if !walked.wrong {
             continue;
         }
@@ -59,10 +65,11 @@ fn runs_of(
 }
 
 /// Makes runs, unless the first state isn't right.
-fn answer_of(
+fn answer_of<W: Watch<RandomProgress>>(
     alloc: Global,
     specified: &Specified<'_>,
     question: &RandomQuestion,
+    watch: &mut W,
 ) -> Result<RandomAnswer, AllocError>
     requires { IsSpecified specified.now }
     ensures { let s = spec_of specified.now.checked.now.spec in
@@ -77,18 +84,20 @@ fn answer_of(
             shortest: true,
         });
     }
-    runs_of(alloc, specified, question)
+    runs_of(alloc, specified, question, watch)
 }
 
 /// Makes random runs of a specification, until one goes wrong: by a clash, by an update outside its
 /// domain, by an `iterate` that is exhausted, or in a state in which the condition isn't true. That
 /// one is made shorter.
 ///
-/// Runs and steps depend on the seed alone, and are the same on every machine.
-pub fn random_runs(
+/// Runs and steps depend on the seed alone, and are the same on every machine. After each run the
+/// watch is told how many there were.
+pub fn random_runs<W: Watch<RandomProgress>>(
     alloc: Global,
     checked: &Checked,
     question: &RandomQuestion,
+    watch: &mut W,
 ) -> Result<RandomAnswer, AllocError>
     ensures { let q = question.now in
         IfOk result (λ answer. Claims (specification_of (spec_of checked.now.spec)) q.turns q.steps (term_holds checked.now q.always) answer.finding) }
@@ -105,6 +114,6 @@ pub fn random_runs(
         within: &always,
         when_quiet: &always,
     };
-    let answer = answer_of(alloc, &specified, question)?;
+    let answer = answer_of(alloc, &specified, question, watch)?;
     Ok(answer)
 }

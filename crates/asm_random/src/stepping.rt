@@ -15,7 +15,6 @@ ghost use Rattle.asm_random.specs.Replay.{GoesWrong, IsStep};
 
 use asm_eval::form::form;
 use asm_eval::frame::Frame;
-use asm_eval::laws::resolving_laws;
 use asm_eval::regions::Plain;
 use asm_eval::running::Running;
 use asm_explore::{Fault, Machine, Specified};
@@ -23,6 +22,7 @@ use asm_meaning::from_nothing::{nothing_formed, outcome_of};
 use asm_meaning::laws::from_nothing_laws;
 use asm_meaning::{Choices, Forming, Outcome, Stopped, View};
 use asm_reader::Picks;
+use asm_resolve::laws::resolving_laws;
 use asm_state::state::State;
 use asm_updates::summary::Summary;
 use std::alloc::{AllocError, Global};

@@ -8,7 +8,7 @@ use Rattle.asm_run.specs.Headline.{IsAnswer, IsDone}
 use Rattle.asm_run.specs.declared.end.End.{End}
 use Rattle.asm_run.specs.declared.end.End.TheVariants as end
 use Rattle.asm_run.specs.declared.error.RunError.TheVariants as error
-use Rattle.asm_run.specs.declared.limits.Limits.{Limits}
+use Rattle.asm_limits.specs.declared.limits.Limits.{Limits}
 
 at_limit : (r : run.End) → IsAnswer r end.Limit → r ≡ AtLimit
 at_limit AtLimit is = refl

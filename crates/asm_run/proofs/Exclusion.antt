@@ -14,7 +14,7 @@ use Rattle.asm_check.specs.Errors.{number_of}
 use Rattle.asm_check.specs.Faults.{IsWellFormed, IsLeastFault}
 use Rattle.asm_check.specs.Laws.{LeastIsOnly}
 use Rattle.asm_run.specs.declared.error.RunError.TheVariants as error
-use Rattle.asm_run.specs.Limits.{are_in_range}
+use Rattle.asm_limits.specs.Limits.{are_in_range}
 use Rattle.asm_run.specs.Headline.{IsAccepted, IsFaulty}
 use Rattle.asm_run.specs.Exclusion.{OneNamedRefusal, NoRunBesideARefusal}
 

@@ -20,10 +20,10 @@ use Rattle.asm_run.specs.declared.end.End.{End}
 use Rattle.asm_run.specs.declared.end.End.TheVariants as end
 use Rattle.asm_run.specs.declared.error.RunError.{RunError}
 use Rattle.asm_run.specs.declared.error.RunError.TheVariants as error
-use Rattle.asm_run.specs.declared.limits.Limits.{Limits}
+use Rattle.asm_limits.specs.declared.limits.Limits.{Limits}
 use Rattle.asm_run.specs.Exclusion.{IsNamed}
 use Rattle.asm_run.specs.Headline.{IsAccepted, IsAnswer, IsDone, Explains, book_run}
-use Rattle.asm_run.specs.Limits.{are_in_range}
+use Rattle.asm_limits.specs.Limits.{are_in_range}
 use Rattle.asm_run.specs.Trace.{Names, IsEndText}
 use Rattle.asm_run.specs.Written.{names_in}
 use Rattle.asm_run.proofs.Traces.{some_trace}

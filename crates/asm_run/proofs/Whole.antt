@@ -16,8 +16,8 @@ use Rattle.asm_reader.specs.ScriptText.{IsScript}
 use Rattle.asm_run.specs.declared.end.End.{End}
 use Rattle.asm_run.specs.declared.error.RunError.{RunError}
 use Rattle.asm_run.specs.declared.error.RunError.TheVariants as error
-use Rattle.asm_run.specs.declared.limits.Limits.{Limits}
-use Rattle.asm_run.specs.Limits.{are_in_range}
+use Rattle.asm_limits.specs.declared.limits.Limits.{Limits}
+use Rattle.asm_limits.specs.Limits.{are_in_range}
 use Rattle.asm_run.specs.Refusal.{read_answer, check_answer, script_answer}
 use Rattle.asm_run.specs.Written.{names_in, locations_in}
 use Rattle.asm_run.specs.Headline.{IsAccepted, IsDone, Explains, book_run}

@@ -7,12 +7,12 @@ use Rattle.std.specs.Prelude.{◌≡◌, ◌⊎◌, ℕ, true, List, [], Option,
 use Rattle.asm_syntax.specs.SourceTree.{Spec}
 use Rattle.asm_reader.specs.ScriptLines.{Script}
 use Rattle.asm_reader.specs.ScriptText.{IsScript}
-use Rattle.asm_run.specs.Limits.{are_in_range}
+use Rattle.asm_limits.specs.Limits.{are_in_range}
 use Rattle.asm_run.specs.Headline.{IsAccepted, IsDone, Explains}
 use Rattle.asm_run.specs.declared.end.End.{End}
 use Rattle.asm_run.specs.declared.error.RunError.{RunError}
 use Rattle.asm_run.specs.declared.error.RunError.TheVariants as error
-use Rattle.asm_run.specs.declared.limits.Limits.{Limits}
+use Rattle.asm_limits.specs.declared.limits.Limits.{Limits}
 
 abbrev pub IsNamed : RunError → Type 0
 IsNamed (error.Read e) = Unit {0}

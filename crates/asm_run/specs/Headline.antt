@@ -19,14 +19,14 @@ use Rattle.asm_reader.specs.ScriptLines.{Script}
 use Rattle.asm_reader.specs.ScriptText.{IsScript, IsScriptRefusal}
 use Rattle.asm_meaning.specs.Run as run
 use Rattle.asm_meaning.specs.Run.{Run, AtLimit, AtExhausted, AtFault}
-use Rattle.asm_run.specs.Limits.{are_in_range}
+use Rattle.asm_limits.specs.Limits.{are_in_range}
 use Rattle.asm_run.specs.Trace.{Names, IsTrace, steps_text}
 use Rattle.asm_run.specs.Written.{names_in, locations_in}
 use Rattle.asm_run.specs.declared.end.End.{End}
 use Rattle.asm_run.specs.declared.end.End.TheVariants as end
 use Rattle.asm_run.specs.declared.error.RunError.{RunError}
 use Rattle.asm_run.specs.declared.error.RunError.TheVariants as error
-use Rattle.asm_run.specs.declared.limits.Limits.{Limits}
+use Rattle.asm_limits.specs.declared.limits.Limits.{Limits}
 
 pub record IsAccepted (text : List ℕ) (s : Spec) : Type 0 where
   pub spelled : IsSpecification text s

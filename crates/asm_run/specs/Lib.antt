@@ -1,6 +1,5 @@
 pub mod Sink
 pub mod Through
-pub mod Limits
 pub mod RangeLaws
 pub mod Refusal
 pub mod Trace

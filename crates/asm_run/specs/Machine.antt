@@ -4,8 +4,8 @@ use Rattle.std.specs.Prelude.{[]}
 use Rattle.asm_syntax.specs.Views.{spec_of}
 use Rattle.asm_check.specs.Faults.{inits}
 use Rattle.asm_meaning.specs.Declarations.{main_rule}
-use Rattle.asm_eval.specs.RuleScopes.{resolved_rule_in}
-use Rattle.asm_eval.specs.RuleViews.{rule_of}
+use Rattle.asm_code.specs.RuleViews.{rule_of}
+use Rattle.asm_resolve.specs.RuleScopes.{resolved_rule_in}
 use Rattle.asm_run.specs.declared.machine.Machine.{Machine}
 
 abbrev pub HasMainRule : Machine → Type 0

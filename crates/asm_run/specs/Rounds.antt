@@ -26,9 +26,9 @@ use Rattle.asm_meaning.specs.Formed.{greatest_count}
 use Rattle.asm_meaning.specs.Grouped.{counting}
 use Rattle.asm_meaning.specs.Yields.{Path, Gives, Exhausted, first_path}
 use Rattle.asm_meaning.specs.Yields as yields
+use Rattle.asm_code.specs.RuleViews.{rule_of}
 use Rattle.asm_eval.specs.OpenedPieces.{IsCut, is_closed_part, pieces_yield}
 use Rattle.asm_eval.specs.Pieces.{IsPiece, piece_yields, positions_in}
-use Rattle.asm_eval.specs.RuleViews.{rule_of}
 use Rattle.asm_eval.specs.declared.piece.Piece.{Piece}
 use Rattle.asm_eval.specs.declared.running.Running.{Running}
 use Rattle.asm_run.specs.declared.hand.RegionHand.{RegionHand}

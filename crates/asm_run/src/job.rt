@@ -3,9 +3,9 @@ ghost use Rattle.std.specs.Prelude.{◌≡◌, ◌<◌, IfErr, IfOk, IfSome, Non
 ghost use Rattle.asm_state.specs.Signature.{count_of};
 ghost use Rattle.asm_state.specs.Updates.{none};
 ghost use Rattle.asm_updates.specs.Stands.{Stands};
+ghost use Rattle.asm_code.specs.RuleViews.{rule_of};
 ghost use Rattle.asm_eval.specs.OpenedPieces.{Gives, is_closed_part};
 ghost use Rattle.asm_eval.specs.Pieces.{IsPiece, piece_yields};
-ghost use Rattle.asm_eval.specs.RuleViews.{rule_of};
 ghost use Rattle.asm_eval.specs.Running.{shape_at};
 ghost use Rattle.asm_run.specs.Hands.{Grows, TakesHand};
 ghost use Rattle.asm_run.specs.Rounds.{IsTask, IsWorked, Leaves, RunsPiece, is_short};

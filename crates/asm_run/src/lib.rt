@@ -8,7 +8,6 @@ mod finish;
 pub mod hand;
 pub mod job;
 pub mod laws;
-pub mod limits;
 mod line;
 mod location_texts;
 mod locations;

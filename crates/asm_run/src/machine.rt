@@ -2,7 +2,7 @@
 ghost use Rattle.std.specs.Prelude.{◌<◌, ◌^◌};
 
 use asm_check::Checked;
-use asm_eval::rule_code::RuleCode;
+use asm_code::rule_code::RuleCode;
 
 /// A specification with the code of its main rule, and the limit of turns.
 #[derive(Clone, Copy)]

@@ -5,7 +5,7 @@ ghost use Rattle.asm_meaning.specs.Does as does;
 ghost use Rattle.asm_eval.specs.OpenedPieces.{pieces_yield};
 ghost use Rattle.asm_eval.specs.Pieces.{IsPiece};
 ghost use Rattle.asm_eval.specs.Running.{shape_at};
-ghost use Rattle.asm_run.specs.declared.limits.TheConstants.{WORKERS};
+ghost use Rattle.asm_limits.specs.declared.limits.TheConstants.{WORKERS};
 ghost use Rattle.asm_run.specs.Hands.{TakesHand, parts_of};
 ghost use Rattle.asm_run.specs.Rounds.{Holds, IsRound, answers, first_of, least, news, tally};
 

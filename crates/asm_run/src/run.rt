@@ -8,16 +8,16 @@ ghost use Rattle.asm_run.specs.declared.error.RunError.TheVariants.{Read, Memory
 
 use crate::end::End;
 use crate::error::RunError;
-use crate::limits::Limits;
 use crate::machine::Machine;
 use crate::pooled::Pooled;
 use crate::sink::Sink;
 use crate::steps::run_steps;
 use asm_check::check;
-use asm_eval::laws::resolving_laws;
-use asm_eval::whole::resolve_main;
+use asm_limits::limits::Limits;
 use asm_pool::{Gate, NoGate};
 use asm_reader::{read, read_script};
+use asm_resolve::laws::resolving_laws;
+use asm_resolve::whole::resolve_main;
 use std::alloc::Global;
 use std::thread::Threads;
 

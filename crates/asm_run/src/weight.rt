@@ -1,15 +1,15 @@
 //! How much work pieces are, and how many workers that is worth: a guess from the code alone, on
 //! which no trace depends.
 ghost use Rattle.std.specs.Prelude.{◌<◌, All, map, option_map};
-ghost use Rattle.asm_eval.specs.CodeViews.{code_of, codes_of};
+ghost use Rattle.asm_code.specs.CodeViews.{code_of, codes_of};
+ghost use Rattle.asm_code.specs.RuleMeaning.{IsSoundPlace, IsSoundRule, IsSoundTest};
+ghost use Rattle.asm_code.specs.RuleViews.{place_of, rule_of};
+ghost use Rattle.asm_code.specs.Sound.{AreSound, IsSound, IsUniverseNumber};
 ghost use Rattle.asm_eval.specs.Pieces.{IsPiece};
-ghost use Rattle.asm_eval.specs.RuleMeaning.{IsSoundPlace, IsSoundRule, IsSoundTest};
-ghost use Rattle.asm_eval.specs.RuleViews.{place_of, rule_of};
-ghost use Rattle.asm_eval.specs.Sound.{AreSound, IsSound, IsUniverseNumber};
 
-use asm_eval::code::Code;
+use asm_code::code::Code;
+use asm_code::rule_code::{Place, RuleCode};
 use asm_eval::piece::Piece;
-use asm_eval::rule_code::{Place, RuleCode};
 use asm_meaning::Part;
 use asm_state::signature::Signature;
 

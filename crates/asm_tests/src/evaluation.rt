@@ -9,9 +9,9 @@ ghost use Rattle.std.specs.Prelude.{◌≡◌};
 ghost use Rattle.asm_syntax.specs.Views.{spec_of};
 ghost use Rattle.asm_check.specs.Shapes.{shape_of};
 
+use asm_by_code::whole::outcome_by_code;
 use asm_check::Checked;
 use asm_eval::running::Running;
-use asm_eval::whole::outcome_by_code;
 use asm_meaning::from_nothing::{nothing_formed, outcome_of};
 use asm_meaning::{Choices, Outcome, View};
 use asm_reader::Picks;

@@ -19,10 +19,10 @@ use Rattle.clap.proofs.CallerLemmas.{default_present, present_has_entry, require
 use Rattle.clap.proofs.SimpleLemmas.{is_false, is_nil}
 use Rattle.clap.proofs.TakesLemmas.{each_rule}
 use Rattle.clap.proofs.WalkLemmas.{both}
-use Rattle.asm_run.specs.declared.limits.Bounds.{Bounds}
-use Rattle.asm_tool.specs.Said.{HasNumber}
-use Rattle.asm_tool.proofs.GivenValues.{is_found, is_read}
-use Rattle.asm_tool.proofs.Rules.{alone, is_alone, index_low, plain_arg, undelimited, unconditional, rule_at}
+use Rattle.asm_limits.specs.declared.limits.Bounds.{Bounds}
+use Rattle.asm_arguments.specs.Numbers.{HasNumber}
+use Rattle.asm_arguments.proofs.GivenValues.{is_found, is_read}
+use Rattle.asm_arguments.proofs.Rules.{alone, is_alone, index_low, plain_arg, undelimited, unconditional, rule_at}
 
 -- no argument has anything to do with another, and no setting changes how words are read
 pub record IsUnrelated (app : App) : Type 0 where

@@ -1,10 +1,7 @@
 pub mod Appending
 pub mod GivenNumbers
-pub mod GivenValues
 pub mod Options
 pub mod ReadNumbers
-pub mod Rules
 pub mod Shown
-pub mod SignedTexts
 pub mod Told
 pub mod WorkedWords

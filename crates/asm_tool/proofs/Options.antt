@@ -7,9 +7,10 @@ use Rattle.clap.specs.Simple.{app_of, is_simple}
 use Rattle.clap.specs.Walk.{Rule, Text}
 use Rattle.clap.specs.declared.builder.command.Command.{Command}
 use Rattle.clap.specs.declared.parser.matches.ArgMatches.{ArgMatches}
-use Rattle.asm_run.specs.declared.limits.TheConstants.{STEPS, TURNS, WORKERS, CUT, ROUNDS}
-use Rattle.asm_tool.specs.CommandLine.{command, positional}
-use Rattle.asm_tool.specs.Said.{HasNumber}
+use Rattle.asm_limits.specs.declared.limits.TheConstants.{STEPS, TURNS, WORKERS, CUT, ROUNDS}
+use Rattle.asm_arguments.specs.Arguments.{positional}
+use Rattle.asm_tool.specs.CommandLine.{command}
+use Rattle.asm_arguments.specs.Numbers.{HasNumber}
 use Rattle.asm_tool.proofs.GivenNumbers.{IsUnrelated, has_number}
 
 pub is_plain : is_simple command ≡ true

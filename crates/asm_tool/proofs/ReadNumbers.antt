@@ -12,9 +12,9 @@ use Rattle.clap.specs.Facts.{Entry}
 use Rattle.clap.proofs.WalkLemmas.{find_row}
 use Rattle.clap.specs.declared.parser.matches.MatchedArg.{MatchedArg}
 use Rattle.clap.specs.declared.parser.matches.Found.{Found}
-use Rattle.asm_run.specs.Limits.{is_within}
-use Rattle.asm_run.specs.declared.limits.Bounds.{Bounds}
-use Rattle.asm_tool.specs.Said.{HasNumber, IsNumber}
+use Rattle.asm_limits.specs.Limits.{is_within}
+use Rattle.asm_limits.specs.declared.limits.Bounds.{Bounds}
+use Rattle.asm_arguments.specs.Numbers.{HasNumber, IsNumber}
 
 -- an entry within some bounds has a number within wider ones
 pub wider : (f : Found) (name : Text) (bounds : Bounds) → bounds.most ≤ 4_294_967_295 → HasNumber f name bounds

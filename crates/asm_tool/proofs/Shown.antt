@@ -18,16 +18,17 @@ use Rattle.asm_reader.specs.declared.script_error.ScriptError.TheVariants as scr
 use Rattle.asm_meaning.specs.Run.{Run}
 use Rattle.asm_run.specs.Headline as run
 use Rattle.asm_run.specs.Headline.{AreWholeSteps, IsAccepted, IsBegun, IsCut, IsDone, IsFaulty, IsUnwritten, IsWritten, book_run}
-use Rattle.asm_run.specs.Limits.{are_in_range}
+use Rattle.asm_limits.specs.Limits.{are_in_range}
 use Rattle.asm_run.specs.Written.{names_in, locations_in}
 use Rattle.asm_run.specs.declared.end.End.{End}
 use Rattle.asm_run.specs.declared.end.End.TheVariants.{Limit, Clash, Outside, Exhausted}
 use Rattle.asm_run.specs.declared.error.RunError.{RunError}
 use Rattle.asm_run.specs.declared.error.RunError.TheVariants as error
-use Rattle.asm_run.specs.declared.limits.Limits.{Limits}
+use Rattle.asm_limits.specs.declared.limits.Limits.{Limits}
 use Rattle.asm_tool.proofs.Told.{holds_of_words, most_bytes, whole, whole_text}
 use Rattle.asm_tool.specs.CommandLine.{command}
-use Rattle.asm_tool.specs.Said.{AreSaid, IsNumber}
+use Rattle.asm_arguments.specs.Numbers.{IsNumber}
+use Rattle.asm_tool.specs.Said.{AreSaid}
 use Rattle.asm_tool.specs.Shown.{Explains, ExplainsOfWords, HasRun, IsWholeTrace, LeavesUnwritten}
 use Rattle.asm_tool.specs.Statuses.{IsFront, IsReadFault, OfWords, bytes_of, run_fault, settings_fault, status_at, status_of}
 use Rattle.asm_tool.specs.declared.fault.Fault.{Fault}

@@ -25,10 +25,11 @@ use Rattle.asm_run.specs.declared.end.End.{End}
 use Rattle.asm_run.specs.declared.end.End.TheVariants.{Limit, Clash, Outside, Exhausted}
 use Rattle.asm_run.specs.declared.error.RunError.{RunError}
 use Rattle.asm_run.specs.declared.error.RunError.TheVariants as error
-use Rattle.asm_run.specs.declared.limits.Limits.{Limits}
+use Rattle.asm_limits.specs.declared.limits.Limits.{Limits}
 use Rattle.asm_tool.specs.Statuses.{IsFront, OfWords, Tells, TellsOfWords, bytes_of, run_fault, status_at, status_of}
 use Rattle.asm_tool.specs.CommandLine.{command}
-use Rattle.asm_tool.specs.Said.{AreSaid, IsNumber}
+use Rattle.asm_arguments.specs.Numbers.{IsNumber}
+use Rattle.asm_tool.specs.Said.{AreSaid}
 use Rattle.asm_tool.specs.declared.settings.Settings.{Settings}
 
 module _ (text script_text : List ℕ) (limits : Limits) where

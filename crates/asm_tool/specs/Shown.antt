@@ -23,7 +23,7 @@ use Rattle.asm_run.specs.Headline.{AreWholeSteps, IsAccepted, IsCut, IsFaulty, I
 use Rattle.asm_run.specs.Sink.{AppendsFront}
 use Rattle.asm_run.specs.Trace.{line_end}
 use Rattle.asm_run.specs.Written.{names_in, locations_in}
-use Rattle.asm_run.specs.declared.limits.Limits.{Limits}
+use Rattle.asm_limits.specs.declared.limits.Limits.{Limits}
 use Rattle.asm_tool.specs.Statuses.{OfWords, status_of}
 use Rattle.asm_tool.specs.declared.fault.Fault.{Fault}
 use Rattle.asm_tool.specs.declared.fault.Fault.TheVariants.{Words, NotText, Read, Check, Script, Memory, File, Write}

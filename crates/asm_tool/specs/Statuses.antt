@@ -15,9 +15,9 @@ use Rattle.asm_run.specs.declared.end.End.{End}
 use Rattle.asm_run.specs.declared.end.End.TheVariants.{Limit, Clash, Outside, Exhausted}
 use Rattle.asm_run.specs.declared.error.RunError.{RunError}
 use Rattle.asm_run.specs.declared.error.RunError.TheVariants as run
-use Rattle.asm_run.specs.declared.limits.Limits.{Limits}
+use Rattle.asm_limits.specs.declared.limits.Limits.{Limits}
 use Rattle.asm_tool.specs.CommandLine.{command, refusals}
-use Rattle.asm_tool.specs.Said.{IsNumber}
+use Rattle.asm_arguments.specs.Numbers.{IsNumber}
 use Rattle.asm_tool.specs.declared.fault.Fault.{Fault}
 use Rattle.asm_tool.specs.declared.fault.Fault.TheVariants.{Words, NotText, Read, Check, Script, Memory, File, Write}
 use Rattle.asm_tool.specs.declared.settings.WordFault.{WordFault}

@@ -3,7 +3,7 @@ ghost use Rattle.std.specs.Prelude.{◌≡◌};
 ghost use Rattle.asm_tool.specs.Said.{IsFaultOf};
 ghost use Rattle.asm_tool.specs.declared.settings.WordFault.TheVariants.{Memory};
 
-use asm_run::limits::Limits;
+use asm_limits::limits::Limits;
 use clap::Error;
 use clap::error::ErrorKind;
 use std::alloc::AllocError;

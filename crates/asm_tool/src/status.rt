@@ -1,6 +1,6 @@
 //! The program over any reader and writers, and the status that it ends with.
 ghost use Rattle.std.specs.Prelude.{◌≡◌, ◌≢◌, ◌≤◌, ◌⊎◌, [], map, false, IsTrue, IfOk, IfErr};
-ghost use Rattle.asm_run.specs.Limits.{are_in_range};
+ghost use Rattle.asm_limits.specs.Limits.{are_in_range};
 ghost use Rattle.asm_tool.specs.CommandLine.{refusals};
 ghost use Rattle.std.specs.Io.KnownBytes.{Keeps};
 ghost use Rattle.asm_tool.specs.Shown.{Explains, ExplainsOfWords, IsExplained, IsSaid, IsWholeTrace, LeavesUnwritten, line_of};
@@ -12,10 +12,10 @@ use crate::input;
 use crate::line::say;
 use crate::output::Finish;
 use crate::words::settings;
+use asm_limits::limits::Limits;
 use asm_run::end::End;
 use asm_run::error::RunError;
 use asm_run::laws::answers_tell;
-use asm_run::limits::Limits;
 use asm_run::run::run;
 use asm_run::sink::Sink;
 use std::alloc::Global;

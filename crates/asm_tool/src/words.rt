@@ -2,14 +2,16 @@
 ghost use Rattle.std.specs.Prelude.{◌≡◌, [], Some, map, codes, pos, IsTrue, IfOk, IfErr};
 ghost use Rattle.std.specs.Str.Parse.{signed_digits_value};
 ghost use Rattle.clap.specs.Words.{app_of, first_value, found_of, rule_of};
-ghost use Rattle.asm_run.specs.Limits.{are_in_range};
+ghost use Rattle.asm_limits.specs.Limits.{are_in_range};
 ghost use Rattle.asm_tool.specs.CommandLine as line;
 ghost use Rattle.asm_tool.specs.CommandLine.{refusals};
-ghost use Rattle.asm_tool.specs.Said.{AreParsed, AreSaid, Explains, HasNumber};
+ghost use Rattle.asm_arguments.specs.Arguments as arguments;
+ghost use Rattle.asm_arguments.specs.Numbers.{HasNumber};
+ghost use Rattle.asm_tool.specs.Said.{AreParsed, AreSaid, Explains};
 
 use crate::help;
 use crate::settings::{Settings, WordFault};
-use asm_run::limits::{Bounds, CUT, Limits, ROUNDS, STEPS, TURNS, WORKERS};
+use asm_limits::limits::{Bounds, CUT, Limits, ROUNDS, STEPS, TURNS, WORKERS};
 use clap::{Arg, ArgAction, ArgMatches, Command};
 use std::alloc::{AllocError, Global};
 use std::convert::AsStr;
@@ -72,7 +74,7 @@ fn command<'w>(alloc: Global) -> Result<Command<'w>, AllocError>
 
 /// A file's name, as a word of its own.
 fn file<'w>(alloc: Global, name: &'w str, shown: &'w str, help: &'w str) -> Arg<'w>
-    ensures { rule_of result ≡ line.positional name.entry.now }
+    ensures { rule_of result ≡ arguments.positional name.entry.now }
 {
     Arg::new(alloc, name)
         .value_name(shown)
@@ -82,7 +84,7 @@ fn file<'w>(alloc: Global, name: &'w str, shown: &'w str, help: &'w str) -> Arg<
 
 /// The word `--name`, with a number within these bounds.
 fn number<'w>(alloc: Global, name: &'w str, bounds: Bounds, help: &'w str) -> Arg<'w>
-    ensures { rule_of result ≡ line.number bounds name.entry.now }
+    ensures { rule_of result ≡ arguments.number bounds name.entry.now }
 {
     Arg::new(alloc, name)
         .long(name)

@@ -1,5 +1,5 @@
 //! The settings that words give, and words that can't be had.
-use asm_run::limits::Limits;
+use asm_limits::limits::Limits;
 use asm_tool::fault::Fault;
 use asm_tool::output::Through;
 use asm_tool::settings::{Settings, WordFault};

@@ -1,7 +1,7 @@
 //! Worked rows at many numbers of workers, cuts and rounds.
+use asm_limits::limits::Limits;
 use asm_run::end::End;
 use asm_run::error::RunError;
-use asm_run::limits::Limits;
 use asm_run::run::run;
 use asm_run::through::Through;
 use std::test::Fail;

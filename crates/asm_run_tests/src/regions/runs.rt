@@ -1,8 +1,8 @@
 //! Two workers make one step of a run.
+use asm_limits::limits::Limits;
 use asm_pool::Gate;
 use asm_run::end::End;
 use asm_run::error::RunError;
-use asm_run::limits::Limits;
 use asm_run::run::run_gated;
 use asm_run::through::Through;
 use std::sync::atomic::{AtomicBool, AtomicU64, Ordering};

@@ -1,7 +1,7 @@
 //! When the text of a step reaches the sink.
 use super::LIMITS;
+use asm_limits::limits::Limits;
 use asm_run::error::RunError;
-use asm_run::limits::Limits;
 use asm_run::run::run;
 use asm_run::through::Through;
 use std::io;

@@ -3,24 +3,24 @@ ghost use Rattle.std.specs.Prelude.{◌≡◌};
 ghost use Rattle.asm_state.specs.Signature.{Shape};
 ghost use Rattle.asm_syntax.specs.Views.{spec_of};
 ghost use Rattle.asm_check.specs.Shapes.{shape_of};
+ghost use Rattle.asm_code.specs.RuleMeaning.{IsSoundRule};
+ghost use Rattle.asm_code.specs.RuleViews.{rule_of};
 ghost use Rattle.asm_eval.specs.Pieces.{IsPiece};
-ghost use Rattle.asm_eval.specs.RuleMeaning.{IsSoundRule};
-ghost use Rattle.asm_eval.specs.RuleViews.{rule_of};
 ghost use Rattle.asm_eval.specs.Running.{shape_at};
 
 use crate::beginning::Beginning;
 use crate::plain::{Entry, ONE, TWO};
 use crate::rules::{Counting, is_set, specification};
 use asm_check::Checked;
+use asm_code::rule_code::RuleCode;
 use asm_eval::frame::Frame;
 use asm_eval::open::{Opened, open_piece};
 use asm_eval::outcome::whole;
 use asm_eval::piece::{Piece, whole_piece};
 use asm_eval::positions::positions_of;
-use asm_eval::rule_code::RuleCode;
 use asm_eval::running::Running;
-use asm_eval::whole::resolve_main;
 use asm_meaning::{Choices, Outcome, Part, Path};
+use asm_resolve::whole::resolve_main;
 use std::alloc::{AllocError, Global};
 use std::test::Fail;
 

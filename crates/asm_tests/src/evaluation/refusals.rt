@@ -6,8 +6,8 @@ use crate::plain::{Entry, FIVE, TWO};
 use crate::rules::{Counting, is_set};
 use crate::text::{Unchecked, checked_of};
 use asm_check::Checked;
-use asm_eval::whole::resolve_main;
 use asm_meaning::{Choices, Outcome};
+use asm_resolve::whole::resolve_main;
 use std::alloc::{AllocError, Global};
 use std::test::Fail;
 

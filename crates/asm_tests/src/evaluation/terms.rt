@@ -2,8 +2,8 @@
 use crate::beginning::{Beginning, main_of};
 use crate::plain::{FOUR, ONE, Plain, THREE, TWO, value};
 use crate::text::checked_of_both;
+use asm_by_code::whole::value_by_code;
 use asm_check::Checked;
-use asm_eval::whole::value_by_code;
 use asm_state::word::Word;
 use asm_syntax::rule::Rule;
 use std::alloc::{AllocError, Global};

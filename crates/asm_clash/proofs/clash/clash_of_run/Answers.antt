@@ -4,8 +4,8 @@ use Rattle.asm_reader.specs.ScriptLines.{pick}
 use Rattle.asm_syntax.specs.Views.{spec_of}
 use Rattle.asm_check.specs.Shapes.{shape_of}
 use Rattle.asm_meaning.specs.Declarations.{specification_of}
-use Rattle.asm_eval.specs.RuleMeaning.{IsSoundRule}
-use Rattle.asm_eval.specs.RuleViews.{rule_of}
+use Rattle.asm_code.specs.RuleMeaning.{IsSoundRule}
+use Rattle.asm_code.specs.RuleViews.{rule_of}
 use Rattle.asm_clash.specs.ClashOfRun.{IsMade}
 use Rattle.asm_clash.specs.declared.step.Made.TheVariants as made
 use Rattle.asm_clash.proofs.Runs.{rest_begin}

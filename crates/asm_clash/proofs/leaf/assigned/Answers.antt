@@ -1,6 +1,6 @@
 use Rattle.std.proofs.Common.{◌∙◌, ◌++◌, ◌∷◌, [], List, ap, arith}
+use Rattle.asm_code.specs.RuleViews.{place_of}
 use Rattle.asm_eval.specs.Frames.{code_value}
-use Rattle.asm_eval.specs.RuleViews.{place_of}
 use Rattle.asm_eval.specs.Running.{place_in}
 use Rattle.asm_clash.specs.Walks.{all_assigned}
 use Rattle.asm_clash.specs.declared.assignment.Assignment.{Assignment}

@@ -5,10 +5,10 @@ use Rattle.asm_state.specs.Updates.{fire}
 use Rattle.asm_meaning.specs.Formed.{IsFormed}
 use Rattle.asm_meaning.specs.Valued.{shown}
 use Rattle.asm_meaning.specs.Yields.{at}
+use Rattle.asm_code.specs.RuleMeaning.{meaning}
+use Rattle.asm_code.specs.RuleViews.{rule_of}
 use Rattle.asm_eval.specs.Frames.{readings_of}
 use Rattle.asm_eval.specs.Opening.{work_of}
-use Rattle.asm_eval.specs.RuleMeaning.{meaning}
-use Rattle.asm_eval.specs.RuleViews.{rule_of}
 use Rattle.asm_eval.specs.Running.{chosen_at, places_of, shape_at, state_at}
 use Rattle.asm_clash.specs.Walks.{all_assigned}
 use Rattle.asm_clash.specs.declared.assignment.Assignment.{Assignment}

@@ -1,10 +1,10 @@
 use Rattle.std.proofs.Common.{◌≡◌, ◌+◌, ◌*◌, ◌++◌, map, drop}
 use Rattle.asm_state.specs.Signature.{count_of, location_at}
+use Rattle.asm_code.specs.RuleMeaning.{rule_size, rule_sizes}
+use Rattle.asm_code.specs.RuleTree as tree
+use Rattle.asm_code.specs.RuleViews.{rule_of, rules_of}
 use Rattle.asm_eval.specs.Frames.{readings_of}
 use Rattle.asm_eval.specs.Opening.{work_of}
-use Rattle.asm_eval.specs.RuleMeaning.{rule_size, rule_sizes}
-use Rattle.asm_eval.specs.RuleTree as tree
-use Rattle.asm_eval.specs.RuleViews.{rule_of, rules_of}
 use Rattle.asm_eval.specs.Running.{chosen_at, places_of, shape_at, state_at}
 use Rattle.asm_clash.specs.Walks.{all_assigned, order_in, stands_at}
 use Rattle.asm_clash.proofs.OpenedRules.{works_stand}

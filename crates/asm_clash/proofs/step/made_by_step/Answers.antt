@@ -3,7 +3,7 @@ use Rattle.asm_reader.specs.ScriptLines.{pick}
 use Rattle.asm_state.specs.Location.{State}
 use Rattle.asm_state.specs.Signature.{Shape, state_of}
 use Rattle.asm_meaning.specs.Valued.{shown}
-use Rattle.asm_eval.specs.RuleViews.{rule_of}
+use Rattle.asm_code.specs.RuleViews.{rule_of}
 use Rattle.asm_clash.specs.ClashOfRun.{IsMade}
 use Rattle.asm_clash.proofs.Steps.{nothing_over}
 use Rattle.asm_clash.proofs.step.made_by_step.Goals as goal

@@ -4,9 +4,9 @@ use Rattle.asm_meaning.specs.Does.{Outcome}
 use Rattle.asm_meaning.specs.Formed.{IsFormed, IsSet}
 use Rattle.asm_meaning.specs.Valued.{shown}
 use Rattle.asm_meaning.specs.Yields.{Gives}
+use Rattle.asm_code.specs.RuleMeaning.{meaning}
+use Rattle.asm_code.specs.RuleViews.{rule_of}
 use Rattle.asm_eval.specs.Frames.{readings_of}
-use Rattle.asm_eval.specs.RuleMeaning.{meaning}
-use Rattle.asm_eval.specs.RuleViews.{rule_of}
 use Rattle.asm_eval.specs.Running.{places_of}
 use Rattle.asm_state.specs.Signature.{location_at}
 use Rattle.asm_clash.specs.Walks.{all_assigned}

@@ -1,6 +1,6 @@
 use Rattle.std.proofs.Common.{sym, ap, subst, ◌∙◌, arith}
+use Rattle.asm_code.specs.Readings.{at_position}
 use Rattle.asm_eval.specs.Frames.{IsSoundFrame, load, readings_of}
-use Rattle.asm_eval.specs.Readings.{at_position}
 use Rattle.asm_eval.proofs.Cases.{later}
 use Rattle.asm_eval.proofs.FramePositions.{behind_values}
 use Rattle.asm_eval.proofs.find.find.Goals as goal

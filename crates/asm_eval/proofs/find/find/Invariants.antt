@@ -1,7 +1,7 @@
 use Rattle.std.proofs.Common.{◌≡◌, ◌≤◌}
 use Rattle.asm_state.specs.Signature.{Shape}
+use Rattle.asm_code.specs.Readings.{at_position}
 use Rattle.asm_eval.specs.Frames.{IsSoundFrame, load, readings_of}
-use Rattle.asm_eval.specs.Readings.{at_position}
 use Rattle.asm_eval.proofs.find.find.Given as goal
 
 abbrev pub invariant-loop-rest : goal.invariant-loop-rest

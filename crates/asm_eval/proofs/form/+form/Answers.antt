@@ -12,22 +12,22 @@ use Rattle.asm_meaning.specs.declared.outcome.Forming.{Forming}
 use Rattle.asm_meaning.specs.Yields.{Path, at, Exhausted}
 use Rattle.asm_meaning.proofs.Following.{following_laws-same as follows_same, following_laws-nothing as follows_nothing, following_laws-both as follows_both, following_laws-counted as follows_counted, following_laws-stopped as follows_stopped, following_laws-forms_same as forms_same}
 use Rattle.asm_meaning.proofs.Sequences.{sequence_laws-begins as begins, sequence_laws-goes_upon as goes_upon, part_laws-consistent_part as consistent_part, part_laws-ending_part as ending_part, part_laws-some_turn as some_turn, part_laws-consistent_turn as consistent_turn, part_laws-ending_turn as ending_turn, stopping_laws-memory as stopped_for_memory}
-use Rattle.asm_eval.specs.CodeViews.{code_of}
+use Rattle.asm_code.specs.CodeViews.{code_of}
 use Rattle.asm_eval.specs.Frames.{readings_of}
 use Rattle.asm_reader.specs.declared.picks.Picks.{Ghosts}
 use Rattle.asm_state.specs.declared.value.Value.{Value}
+use Rattle.asm_code.specs.declared.rule_code.RuleCode.{RuleCode}
+use Rattle.asm_code.specs.Readings.{always, universe_at}
+use Rattle.asm_code.specs.RuleMeaning.{meaning}
+use Rattle.asm_code.specs.RuleTree as tree
+use Rattle.asm_code.specs.RuleViews.{rule_of}
 use Rattle.asm_eval.specs.declared.frame.Frame.{Frame}
 use Rattle.asm_eval.specs.declared.running.Running.{Running}
-use Rattle.asm_eval.specs.declared.rule_code.RuleCode.{RuleCode}
-use Rattle.asm_eval.specs.Readings.{always, universe_at}
 use Rattle.asm_eval.specs.Regions.{IsTaken}
 use Rattle.asm_eval.specs.declared.regions.Region.{Region}
 use Rattle.asm_eval.specs.declared.regions.Region.TheVariants as regions
-use Rattle.asm_eval.specs.RuleMeaning.{meaning}
-use Rattle.asm_eval.specs.RuleTree as tree
-use Rattle.asm_eval.specs.RuleViews.{rule_of}
 use Rattle.asm_eval.specs.Running.{shape_at, state_at, chosen_at, places_of, rule_at, rule_in, rule_upon, passing_in}
-use Rattle.asm_eval.proofs.RuleForms.{skip_yields, assign_yields, par_yields, seq_yields, if_is, if_yes, if_no, if_left_out, let_is, let_with, choose_is, choose_some, choose_none, call_is, call_with, iterate_yields, forall_yields, next_yields, none_yields, exhausted_yields, element_yields, passed_yields, exhausted_element_yields, no_element_yields, value_here, size_here, sound_part, size_of_part}
+use Rattle.asm_eval.proofs.RuleYields.{skip_yields, assign_yields, par_yields, seq_yields, if_is, if_yes, if_no, if_left_out, let_is, let_with, choose_is, choose_some, choose_none, call_is, call_with, iterate_yields, forall_yields, next_yields, none_yields, exhausted_yields, element_yields, passed_yields, exhausted_element_yields, no_element_yields, value_here, size_here, sound_part, size_of_part}
 use Rattle.asm_eval.proofs.CodeSequences.{parts_left, turns_left, part_goes_on, part_ends, part_stops, parts_end, turn_goes_on, turn_ends, turn_stops, turns_stop, iterate_yields_turns}
 use Rattle.asm_eval.proofs.SingleUpdates.{single_shown, single_upon, goes_by_none, goes_by_one}
 use Rattle.asm_eval.specs.declared.single.Single.TheVariants as single

@@ -5,15 +5,15 @@ use Rattle.asm_meaning.specs.declared.outcome.Forming.{Forming}
 use Rattle.asm_meaning.specs.declared.stopped.Stopped.{Stopped}
 use Rattle.asm_meaning.specs.Formed.{Follows}
 use Rattle.asm_meaning.specs.Underway.{IsUnderway}
-use Rattle.asm_eval.specs.CodeViews.{code_of}
+use Rattle.asm_code.specs.CodeViews.{code_of}
+use Rattle.asm_code.specs.Readings.{universe_at}
+use Rattle.asm_code.specs.RuleMeaning.{rule_size, rule_sizes}
+use Rattle.asm_code.specs.RuleTree as tree
+use Rattle.asm_code.specs.RuleViews.{rule_of, rules_of}
 use Rattle.asm_eval.specs.Frames.{readings_of}
-use Rattle.asm_eval.specs.Readings.{universe_at}
-use Rattle.asm_eval.specs.RuleMeaning.{rule_size, rule_sizes}
-use Rattle.asm_eval.specs.RuleTree as tree
-use Rattle.asm_eval.specs.RuleViews.{rule_of, rules_of}
 use Rattle.asm_eval.specs.Running.{shape_at, state_at, chosen_at, places_of, parts_at, in_order_at, rule_at}
 use Rattle.asm_eval.proofs.CodeSequences.{parts_left, turns_left}
-use Rattle.asm_eval.proofs.RuleForms.{span_yields}
+use Rattle.asm_eval.proofs.RuleYields.{span_yields}
 use Rattle.asm_eval.proofs.form.+form.Given as goal
 
 -- ---- that it ends: each goes by the rule that it forms

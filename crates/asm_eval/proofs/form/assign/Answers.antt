@@ -1,11 +1,11 @@
 use Rattle.std.proofs.Common.{refl, sym, ap, subst, ◌∙◌, arith, rules}
 use Rattle.asm_updates.specs.Stands.{Stands}
 use Rattle.asm_meaning.proofs.Following.{following_laws-nothing as follows_nothing}
-use Rattle.asm_eval.specs.CodeViews.{code_of}
+use Rattle.asm_code.specs.CodeViews.{code_of}
+use Rattle.asm_code.specs.RuleViews.{place_of}
 use Rattle.asm_eval.specs.Frames.{tree_value}
-use Rattle.asm_eval.specs.RuleViews.{place_of}
 use Rattle.asm_eval.specs.Running.{location_numbered, place_in}
-use Rattle.asm_eval.proofs.RuleForms.{assign_forms, no_place}
+use Rattle.asm_eval.proofs.RuleYields.{assign_forms, no_place}
 use Rattle.asm_eval.proofs.form.assign.Goals as goal
 
 pub returns : goal.returns

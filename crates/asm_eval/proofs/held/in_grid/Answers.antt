@@ -3,10 +3,10 @@ use Rattle.asm_state.specs.Codes.{code_of}
 use Rattle.asm_state.specs.Signature.{Shape}
 use Rattle.asm_state.specs.declared.value.Value.{Value}
 use Rattle.asm_meaning.specs.Valued.{shown}
-use Rattle.asm_eval.specs.Readings as reading
-use Rattle.asm_eval.specs.Readings.{place_in}
-use Rattle.asm_eval.specs.Sound.{AreCells, IsCell}
-use Rattle.asm_eval.specs.declared.code.Grid.{Grid as GridPlace}
+use Rattle.asm_code.specs.Readings as reading
+use Rattle.asm_code.specs.Readings.{place_in}
+use Rattle.asm_code.specs.Sound.{AreCells, IsCell}
+use Rattle.asm_code.specs.declared.code.Grid.{Grid as GridPlace}
 use Rattle.asm_eval.proofs.SpanLaws.{place_within}
 use Rattle.asm_eval.proofs.held.in_grid.Goals as goal
 

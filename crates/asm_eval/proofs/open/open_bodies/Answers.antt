@@ -3,15 +3,15 @@ use Rattle.std.specs.Prelude.{option_map}
 use Rattle.std.proofs.lemmas.List.{length-map, length_push}
 use Rattle.std.proofs.lemmas.List.Elements.{All-nil}
 use Rattle.asm_state.specs.Words.{value_of_code}
+use Rattle.asm_code.specs.CodeViews.{code_of}
+use Rattle.asm_code.specs.Readings.{always, universe_at}
+use Rattle.asm_code.specs.RuleViews.{rule_of}
 use Rattle.asm_eval.proofs.Lists.{all_more}
 use Rattle.asm_eval.proofs.OpenedRules.{bodies_from, body_more, body_passed, given, no_bodies, none_left, none_yet, one_more}
-use Rattle.asm_eval.proofs.RuleForms.{value_here}
-use Rattle.asm_eval.specs.CodeViews.{code_of}
+use Rattle.asm_eval.proofs.RuleYields.{value_here}
 use Rattle.asm_eval.specs.Frames.{readings_of}
 use Rattle.asm_eval.specs.Opening.{all_of, counted_works, work_of}
 use Rattle.asm_eval.specs.Pieces.{IsPiece}
-use Rattle.asm_eval.specs.Readings.{always, universe_at}
-use Rattle.asm_eval.specs.RuleViews.{rule_of}
 use Rattle.asm_eval.specs.Running.{places_of, shape_at, state_at}
 use Rattle.asm_eval.proofs.open.open_bodies.Goals as goal
 use Rattle.asm_eval.proofs.open.open_bodies.Goals.{then-passes+in_ok-below+in_ok-push, else-passes}

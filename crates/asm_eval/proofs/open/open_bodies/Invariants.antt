@@ -1,12 +1,12 @@
 use Rattle.std.proofs.Common.{◌≡◌, ◌≤◌, ◌++◌, length, map, All}
 use Rattle.std.specs.Prelude.{option_map}
+use Rattle.asm_code.specs.CodeViews.{code_of}
+use Rattle.asm_code.specs.Readings.{universe_at}
+use Rattle.asm_code.specs.RuleViews.{rule_of}
 use Rattle.asm_eval.proofs.OpenedRules.{bodies_from}
-use Rattle.asm_eval.specs.CodeViews.{code_of}
 use Rattle.asm_eval.specs.Frames.{readings_of}
 use Rattle.asm_eval.specs.Opening.{work_of}
 use Rattle.asm_eval.specs.Pieces.{IsPiece}
-use Rattle.asm_eval.specs.Readings.{universe_at}
-use Rattle.asm_eval.specs.RuleViews.{rule_of}
 use Rattle.asm_eval.specs.Running.{places_of, shape_at, state_at}
 use Rattle.asm_eval.proofs.open.open_bodies.Given as goal
 

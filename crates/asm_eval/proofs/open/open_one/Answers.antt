@@ -1,10 +1,10 @@
 use Rattle.std.proofs.Common.{ap, ◌∙◌, ◌∷◌, []}
+use Rattle.asm_code.specs.RuleViews.{rule_of}
 use Rattle.asm_eval.proofs.Lists.{all_alone}
 use Rattle.asm_eval.proofs.OpenedRules.{given, one_alone}
 use Rattle.asm_eval.specs.Frames.{readings_of}
 use Rattle.asm_eval.specs.Opening.{all_of, work_of}
 use Rattle.asm_eval.specs.Pieces.{IsPiece}
-use Rattle.asm_eval.specs.RuleViews.{rule_of}
 use Rattle.asm_eval.specs.Running.{places_of, shape_at}
 use Rattle.asm_eval.proofs.open.open_one.Goals as goal
 

@@ -1,12 +1,12 @@
 use Rattle.std.proofs.Common.{◌∙◌, ◌∷◌, ◌++◌, ◌+◌, drop, map, ap, sym, subst, All, arith}
 use Rattle.std.proofs.lemmas.List.Elements.{All-nil}
+use Rattle.asm_code.specs.RuleViews.{rule_of}
 use Rattle.asm_eval.proofs.Lists.{all_more}
 use Rattle.asm_eval.proofs.OpenedRules.{given, no_parts, none_left, none_yet, one_more, parts_from, parts_more}
-use Rattle.asm_eval.proofs.RuleForms.{sound_part}
+use Rattle.asm_eval.proofs.RuleYields.{sound_part}
 use Rattle.asm_eval.specs.Frames.{readings_of}
 use Rattle.asm_eval.specs.Opening.{all_of, work_of}
 use Rattle.asm_eval.specs.Pieces.{IsPiece}
-use Rattle.asm_eval.specs.RuleViews.{rule_of}
 use Rattle.asm_eval.specs.Running.{places_of, shape_at}
 use Rattle.asm_eval.proofs.open.open_parts.Goals as goal
 

@@ -3,17 +3,18 @@ use Rattle.std.specs.Prelude.{option_map}
 use Rattle.asm_state.specs.Words.{value_of_code}
 use Rattle.asm_meaning.specs.Taken.{taken}
 use Rattle.asm_meaning.specs.declared.part.Part.TheVariants as part
+use Rattle.asm_code.proofs.RuleForms.{rule_laws-par_form as par_form, rule_laws-if_form as if_form, rule_laws-let_form as let_form, rule_laws-forall_form as forall_form, rule_laws-choose_form as choose_form, rule_laws-call_form as call_form}
+use Rattle.asm_code.specs.CodeViews.{code_of, codes_of}
+use Rattle.asm_code.specs.Readings.{always}
+use Rattle.asm_code.specs.RuleMeaning.{answer_locations, answer_readings, located_at, named_readings, passing}
+use Rattle.asm_code.specs.RuleTree as tree
 use Rattle.asm_eval.proofs.OpenedRules.{given, opens_same}
-use Rattle.asm_eval.proofs.RuleForms.{par_form, if_form, let_form, forall_form, choose_form, call_form, contents_are, named_are, size_here}
-use Rattle.asm_eval.specs.CodeViews.{code_of, codes_of}
+use Rattle.asm_eval.proofs.RuleYields.{contents_are, named_are, size_here}
 use Rattle.asm_eval.specs.Frames.{answer_contents, by_name, readings_of}
 use Rattle.asm_eval.specs.Opening.{choice_works, one_work, part_opened, part_works, rule_works}
 use Rattle.asm_eval.specs.Pieces.{IsPartOf}
-use Rattle.asm_eval.specs.Readings.{always}
-use Rattle.asm_eval.specs.RuleMeaning.{answer_locations, answer_readings, located_at, named_readings, passing}
-use Rattle.asm_eval.specs.RuleTree as tree
 use Rattle.std.specs.Arc.{arc_value}
-use Rattle.asm_eval.specs.RuleViews.{place_of, rule_of, rules_of}
+use Rattle.asm_code.specs.RuleViews.{place_of, rule_of, rules_of}
 use Rattle.asm_eval.specs.Running.{chosen_at, location_numbered, places_of, shape_at, state_at}
 use Rattle.asm_eval.proofs.open.open_rule.Goals as goal
 

@@ -2,16 +2,16 @@ use Rattle.std.proofs.Common.{◌∙◌, ap, sym, arith}
 use Rattle.std.specs.Prelude.{option_map}
 use Rattle.asm_meaning.specs.Intervals.{between}
 use Rattle.asm_meaning.specs.declared.part.Part.TheVariants as part
+use Rattle.asm_code.proofs.RuleForms.{rule_laws-forall_form as forall_form}
+use Rattle.asm_code.specs.CodeViews.{code_of}
+use Rattle.asm_code.specs.Readings.{universe_at}
+use Rattle.asm_code.specs.RuleTree as tree
+use Rattle.asm_code.specs.RuleViews.{rule_of}
+use Rattle.asm_code.specs.declared.rule_code.RuleCode.{RuleCode}
 use Rattle.asm_eval.proofs.OpenedRules.{bodies_opened, opens_same}
-use Rattle.asm_eval.proofs.RuleForms.{forall_form}
-use Rattle.asm_eval.specs.CodeViews.{code_of}
 use Rattle.asm_eval.specs.Frames.{readings_of}
 use Rattle.asm_eval.specs.Opening.{body_works, counted_works, part_opened}
-use Rattle.asm_eval.specs.Readings.{universe_at}
-use Rattle.asm_eval.specs.RuleTree as tree
-use Rattle.asm_eval.specs.RuleViews.{rule_of}
 use Rattle.asm_eval.specs.Running.{chosen_at, places_of, shape_at, state_at}
-use Rattle.asm_eval.specs.declared.rule_code.RuleCode.{RuleCode}
 use Rattle.asm_eval.proofs.open.open_span.Goals as goal
 
 pub returns : goal.returns

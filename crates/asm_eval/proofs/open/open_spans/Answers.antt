@@ -2,12 +2,12 @@ use Rattle.std.proofs.Common.{◌+◌, ◌-◌, ◌≤◌, ◌≡◌, ◌∙◌,
 use Rattle.std.specs.Prelude.{min}
 use Rattle.std.proofs.lemmas.List.Elements.{All-nil}
 use Rattle.asm_meaning.specs.declared.part.Part.TheVariants as part
+use Rattle.asm_code.specs.RuleViews.{rule_of}
 use Rattle.asm_eval.proofs.Lists.{all_more}
 use Rattle.asm_eval.proofs.OpenedRules.{given, no_spans, none_left, none_yet, one_more, part_of_part, span_next, spans_from, spans_opened}
 use Rattle.asm_eval.specs.Frames.{readings_of}
 use Rattle.asm_eval.specs.Opening.{part_of, work_of}
 use Rattle.asm_eval.specs.Pieces.{IsPiece}
-use Rattle.asm_eval.specs.RuleViews.{rule_of}
 use Rattle.asm_eval.specs.Running.{chosen_at, places_of, shape_at, state_at}
 use Rattle.asm_eval.proofs.open.open_spans.Goals as goal
 

@@ -2,8 +2,8 @@ use Rattle.std.proofs.Common.{map, Some, sym, ap, ◌∙◌}
 use Rattle.asm_state.specs.Signature.{domain_of}
 use Rattle.asm_state.specs.Tables.{location_in}
 use Rattle.asm_meaning.specs.Valued.{shown}
+use Rattle.asm_code.specs.RuleViews.{place_of}
 use Rattle.asm_eval.specs.Frames.{code_value, readings_of}
-use Rattle.asm_eval.specs.RuleViews.{place_of}
 use Rattle.asm_eval.specs.Running.{place_in}
 use Rattle.asm_eval.proofs.Members.{readings_map}
 use Rattle.asm_eval.proofs.place.place_number.Goals as goal

@@ -1,7 +1,8 @@
 use Rattle.std.proofs.Common.{sym, ap, ◌∙◌, Some}
+use Rattle.asm_code.specs.RuleViews.{rule_of}
+use Rattle.asm_code.proofs.RuleForms.{rule_laws-forall_form as forall_form}
 use Rattle.asm_eval.specs.Pieces.{all_positions, positions}
-use Rattle.asm_eval.specs.RuleViews.{rule_of}
-use Rattle.asm_eval.proofs.RuleForms.{forall_form, size_here}
+use Rattle.asm_eval.proofs.RuleYields.{size_here}
 use Rattle.asm_eval.proofs.positions.positions_of.Goals as goal
 
 pub returns-in-Whole-Forall : goal.returns-in-Whole-Forall

@@ -1,4 +1,5 @@
-use Rattle.asm_eval.proofs.SharedCodes.{rule_shared, frame_shared, piece_shared, piece_sent}
+use Rattle.asm_code.proofs.SharedCodes.{sharing_laws-rules as rule_shared}
+use Rattle.asm_eval.proofs.SharedPieces.{frame_shared, piece_shared, piece_sent}
 use Rattle.asm_eval.proofs.shared.views_and_pieces_are_shared.Goals as goal
 
 pub returns : goal.returns

@@ -4,7 +4,7 @@ use Rattle.asm_meaning.specs.Valued.{shown}
 use Rattle.asm_eval.specs.Frames.{readings_of}
 use Rattle.asm_eval.specs.Running.{places_of}
 use Rattle.asm_eval.specs.Singles.{IsSingle}
-use Rattle.asm_eval.proofs.RuleForms.{skip_yields, assign_yields}
+use Rattle.asm_eval.proofs.RuleYields.{skip_yields, assign_yields}
 use Rattle.asm_eval.proofs.single.update_alone.Goals as goal
 
 pub returns-in-Skip : goal.returns-in-Skip

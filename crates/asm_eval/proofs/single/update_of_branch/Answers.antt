@@ -5,7 +5,7 @@ use Rattle.asm_meaning.specs.Yields.{at}
 use Rattle.asm_eval.specs.Frames.{readings_of}
 use Rattle.asm_eval.specs.Running.{places_of}
 use Rattle.asm_eval.specs.Singles.{IsSingle}
-use Rattle.asm_eval.proofs.RuleForms.{if_yes, if_no}
+use Rattle.asm_eval.proofs.RuleYields.{if_yes, if_no}
 use Rattle.asm_eval.proofs.single.update_of_branch.Goals as goal
 
 pub returns-then-holds : goal.returns-then-holds

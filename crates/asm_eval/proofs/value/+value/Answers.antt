@@ -6,25 +6,25 @@ use Rattle.asm_state.specs.declared.operation.Op.TheVariants.{Add, Remainder, Eq
 use Rattle.asm_state.specs.declared.value.Value.TheVariants.{Number}
 use Rattle.asm_state.specs.Words.{value_of_code}
 use Rattle.asm_meaning.specs.Valued.{shown}
-use Rattle.asm_eval.specs.CodeViews.{code_of}
+use Rattle.asm_code.specs.CodeViews.{code_of}
+use Rattle.asm_code.specs.Readings.{at_position, reading}
+use Rattle.asm_code.specs.Sizes.{size, sizes}
+use Rattle.asm_code.specs.Sound.{IsSound, AreSound, count}
+use Rattle.asm_code.specs.CodeViews.{codes_of, link_of, links_of}
+use Rattle.asm_code.specs.declared.code.Code.{Code}
 use Rattle.asm_eval.specs.Founds.{found_load, IsSoundFound}
 use Rattle.asm_eval.specs.Frames.{AllSound, bound_value, code_value, load, readings_of}
-use Rattle.asm_eval.specs.Readings.{at_position, reading}
-use Rattle.asm_eval.specs.Sizes.{size, sizes}
-use Rattle.asm_eval.specs.Sound.{IsSound, AreSound, count}
-use Rattle.asm_eval.specs.CodeViews.{codes_of, link_of, links_of}
-use Rattle.asm_eval.specs.declared.code.Code.{Code}
 use Rattle.std.specs.List.{list_all}
 use Rattle.std.proofs.lemmas.Grind.{common_steps}
 use Rattle.std.proofs.lemmas.List.{append-nil, take_all}
 use Rattle.std.proofs.lemmas.List.Folds.{list_all_at}
-use Rattle.asm_eval.specs.CodeTree as tree
+use Rattle.asm_code.specs.CodeTree as tree
+use Rattle.asm_code.proofs.CodeForms.{code_laws-count_of_codes as count_of_codes, code_laws-every_form as every_form, code_laws-exists_form as exists_form, code_laws-held_form as held_form}
 use Rattle.asm_eval.proofs.Ands.{not_holds, not_of, both_or, or_false, or_neither, or_true, both_and, chain_true, holds_in}
 use Rattle.asm_eval.proofs.Arguments.{all_valued}
 use Rattle.asm_eval.proofs.Cases.{of_constant, of_local, of_cell, with_is, turned_is, one_is, two_is, both_is, row_is, grid_is, chain_begins, chain_ends, chain_goes_on, of_held, of_derived}
-use Rattle.asm_eval.proofs.CodeForms.{every_form, exists_form, held_form}
 use Rattle.asm_eval.specs.Ands.{is_false}
-use Rattle.asm_eval.proofs.Members.{size_within, sound_within, link_size_within, link_sound_within, count_of_codes, sizes_some, sizes_parts, sound_parts}
+use Rattle.asm_eval.proofs.Members.{size_within, sound_within, link_size_within, link_sound_within, sizes_some, sizes_parts, sound_parts}
 use Rattle.asm_eval.proofs.BoundValues.{alone_bound, lasts_bound, values_are}
 use Rattle.asm_eval.proofs.FramePositions.{within_values}
 use Rattle.asm_eval.proofs.Quantified.{passes, none_more, all_more, exists_at, fails_at, exists_past, every_past}

@@ -3,11 +3,11 @@ use Rattle.std.specs.List.{list_any, list_all}
 use Rattle.std.specs.Prelude.{false, true, ◌∷◌}
 use Rattle.asm_meaning.specs.Valued.{shown}
 use Rattle.asm_meaning.specs.Value.{is_true}
-use Rattle.asm_eval.specs.CodeViews.{code_of, codes_of, link_of, links_of}
+use Rattle.asm_code.specs.CodeViews.{code_of, codes_of, link_of, links_of}
+use Rattle.asm_code.specs.CodeTree as tree
+use Rattle.asm_code.specs.Readings.{always, chained, reading}
+use Rattle.asm_code.specs.Sizes.{size, sizes, link_sizes}
 use Rattle.asm_eval.specs.Frames.{code_value, load, readings_of, tree_value}
-use Rattle.asm_eval.specs.CodeTree as tree
-use Rattle.asm_eval.specs.Readings.{always, chained, reading}
-use Rattle.asm_eval.specs.Sizes.{size, sizes, link_sizes}
 use Rattle.asm_eval.proofs.Ands.{holds_in}
 use Rattle.asm_eval.proofs.value.+value.Given as goal
 

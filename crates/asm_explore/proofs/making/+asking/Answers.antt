@@ -6,8 +6,8 @@ use Rattle.asm_state.specs.Signature.{count_of}
 use Rattle.asm_state.specs.Updates.{fire}
 use Rattle.asm_meaning.specs.Formed.{IsFormed, IsSet}
 use Rattle.asm_meaning.specs.Yields.{at}
-use Rattle.asm_eval.specs.CodeViews.{code_of}
-use Rattle.asm_eval.specs.RuleViews.{place_of, rule_of}
+use Rattle.asm_code.specs.CodeViews.{code_of}
+use Rattle.asm_code.specs.RuleViews.{place_of, rule_of}
 use Rattle.asm_eval.specs.Running.{rule_in, rule_upon, shape_at, state_at}
 use Rattle.asm_explore.specs.Asks.{after_turn_set}
 use Rattle.asm_explore.specs.AskedPieces.{HasCount, IsUpon, all_said, asks_at, own_at, piece_asks}

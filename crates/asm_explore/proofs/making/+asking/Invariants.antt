@@ -1,9 +1,9 @@
 use Rattle.std.proofs.Common.{◌≡◌, ◌+◌, ◌*◌, ◌-◌, ◌++◌, map, take}
 use Rattle.std.specs.List.{flat_map}
 use Rattle.asm_state.specs.Signature.{count_of}
-use Rattle.asm_eval.specs.RuleMeaning.{rule_size, rule_sizes}
-use Rattle.asm_eval.specs.RuleTree as tree
-use Rattle.asm_eval.specs.RuleViews.{rule_of, rules_of}
+use Rattle.asm_code.specs.RuleMeaning.{rule_size, rule_sizes}
+use Rattle.asm_code.specs.RuleTree as tree
+use Rattle.asm_code.specs.RuleViews.{rule_of, rules_of}
 use Rattle.asm_eval.specs.Running.{shape_at, state_at}
 use Rattle.asm_explore.specs.AskedPieces.{all_said, asks_at, own_at, piece_asks}
 use Rattle.asm_explore.proofs.AskedOrder.{IsAsking, parts_left, turns_left}

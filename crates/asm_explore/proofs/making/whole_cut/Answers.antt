@@ -1,6 +1,6 @@
 use Rattle.std.proofs.Common.{◌≡◌, sym, ap, subst, length, arith}
+use Rattle.asm_code.specs.Readings.{universe_at}
 use Rattle.asm_eval.specs.Pieces.{all_positions}
-use Rattle.asm_eval.specs.Readings.{universe_at}
 use Rattle.asm_explore.specs.AskedPieces.{HasAtMost}
 use Rattle.asm_explore.proofs.CodeLists.{universe_here}
 use Rattle.asm_explore.proofs.CodeRules.{forall_form}

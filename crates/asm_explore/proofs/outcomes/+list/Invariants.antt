@@ -1,9 +1,9 @@
 use Rattle.std.proofs.Common.{◌+◌, ◌*◌, ◌-◌, ◌≤◌, List, [], ◌++◌, length, map, take, drop}
 use Rattle.asm_state.specs.Location.{State}
 use Rattle.asm_meaning.specs.Yields.{at}
-use Rattle.asm_eval.specs.RuleMeaning.{rule_size, rule_sizes}
-use Rattle.asm_eval.specs.RuleTree as tree
-use Rattle.asm_eval.specs.RuleViews.{rule_of, rules_of}
+use Rattle.asm_code.specs.RuleMeaning.{rule_size, rule_sizes}
+use Rattle.asm_code.specs.RuleTree as tree
+use Rattle.asm_code.specs.RuleViews.{rule_of, rules_of}
 use Rattle.asm_explore.specs.declared.found.Choice.{Choice}
 use Rattle.asm_explore.specs.Explored.{shape_on, state_on, yields_on, in_order_on, here_on, made_on, makes_on, order_made_on}
 use Rattle.asm_explore.specs.Lists.{Situation, HaveChoices, Lists}

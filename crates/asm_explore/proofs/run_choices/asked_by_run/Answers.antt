@@ -5,7 +5,7 @@ use Rattle.asm_state.specs.declared.value.Value.{Value}
 use Rattle.asm_syntax.specs.Views.{spec_of}
 use Rattle.asm_check.specs.Shapes.{shape_of}
 use Rattle.asm_meaning.specs.Declarations.{specification_of}
-use Rattle.asm_eval.specs.RuleViews.{rule_of}
+use Rattle.asm_code.specs.RuleViews.{rule_of}
 use Rattle.asm_explore.specs.declared.asked.Asked.{Asked}
 use Rattle.asm_explore.specs.Asks.{asks_in}
 use Rattle.asm_explore.specs.AskedPieces.{all_said}

@@ -3,7 +3,7 @@ use Rattle.asm_state.specs.Signature.{count_of, state_of}
 use Rattle.asm_syntax.specs.Views.{spec_of}
 use Rattle.asm_check.specs.Shapes.{shape_of}
 use Rattle.asm_meaning.specs.Declarations.{specification_of}
-use Rattle.asm_eval.specs.RuleViews.{rule_of}
+use Rattle.asm_code.specs.RuleViews.{rule_of}
 use Rattle.asm_explore.specs.Asks.{asks_in}
 use Rattle.asm_explore.specs.AskedPieces.{all_said}
 use Rattle.asm_explore.specs.RunChoices.{from_step, of_run}

@@ -11,8 +11,8 @@ use Rattle.asm_meaning.specs.Formed.{IsFormed, IsSet}
 use Rattle.asm_meaning.specs.Program.{nothing_bound}
 use Rattle.asm_meaning.specs.Valued.{shown}
 use Rattle.asm_meaning.specs.Yields.{Exhausted}
-use Rattle.asm_eval.specs.RuleMeaning.{meaning}
-use Rattle.asm_eval.specs.RuleViews.{rule_of}
+use Rattle.asm_code.specs.RuleMeaning.{meaning}
+use Rattle.asm_code.specs.RuleViews.{rule_of}
 use Rattle.asm_explore.specs.Asks.{asks}
 use Rattle.asm_explore.specs.AskedPieces.{all_said}
 use Rattle.asm_explore.proofs.Specifications.{nothing_over}

@@ -1,17 +1,16 @@
 use Rattle.std.proofs.Common.{◌≡◌, ◌≤◌, ◌+◌, ◌<◌, ◌∙◌, length, true, refl, ap, sym, subst, arith}
 use Rattle.std.specs.Prelude.{Some, IfNone, IfSome, slice_get}
 use Rattle.std.proofs.lemmas.Option.{slice_get_within}
-use Rattle.asm_state.specs.Signature.{count_of, state_of}
+use Rattle.asm_state.specs.Signature.{state_of}
 use Rattle.asm_explore.specs.declared.explored.Bad.{Bad}
 use Rattle.asm_explore.specs.Kept.{Node}
-use Rattle.asm_explore.specs.Lists.{Each}
 use Rattle.asm_explore.specs.Placed.{AreApart}
 use Rattle.asm_explore.specs.Quiet.{IsRested, RestsSo}
 use Rattle.asm_explore.specs.Reached.{Expanded, IsBad, IsBadStep, IsLooked, IsNear, state_at}
 use Rattle.asm_explore.specs.Steps.{IsCrowdOf}
-use Rattle.asm_explore.proofs.Batches.{each_mapped, each_between, batch_at, shallow_at, listed_count, listed_at, same_node}
+use Rattle.asm_explore.proofs.Batches.{batch_at, shallow_at, listed_count, listed_at, same_node}
 use Rattle.asm_explore.proofs.Endings.{refused_done, refused_closed, refused_bad, halts_full, ends_crowded}
-use Rattle.asm_explore.proofs.Reaching.{whole_nodes, looked_more, looked_same, long_more, at_more, some_at}
+use Rattle.asm_explore.proofs.Reaching.{looked_more, looked_same, long_more, at_more, some_at}
 use Rattle.asm_explore.proofs.Resting.{rested_more, rested_same}
 use Rattle.asm_explore.proofs.search.expand_batch.Goals as goal
 

@@ -1,4 +1,4 @@
-use Rattle.std.proofs.Common.{◌≡◌, ◌<◌, ◌≤◌, ◌∙◌, [], map, take, drop, length, true, ap, sym, subst, arith}
+use Rattle.std.proofs.Common.{◌≡◌, ◌<◌, ◌∙◌, map, take, drop, length, true, ap, sym, subst, arith}
 use Rattle.asm_state.specs.Signature.{count_of}
 use Rattle.asm_explore.specs.Kept.{Node}
 use Rattle.asm_explore.specs.Lists.{Each}

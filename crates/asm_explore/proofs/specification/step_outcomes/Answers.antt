@@ -7,8 +7,8 @@ use Rattle.asm_meaning.specs.Declarations.{main_rule, program_of, specification_
 use Rattle.asm_meaning.specs.Does.{Outcome, does}
 use Rattle.asm_meaning.specs.Program.{nothing_bound}
 use Rattle.asm_meaning.specs.Valued.{shown}
-use Rattle.asm_eval.specs.RuleMeaning.{IsSoundRule, meaning}
-use Rattle.asm_eval.specs.RuleViews.{rule_of}
+use Rattle.asm_code.specs.RuleMeaning.{IsSoundRule, meaning}
+use Rattle.asm_code.specs.RuleViews.{rule_of}
 use Rattle.asm_explore.specs.Lists.{picked, Lists}
 use Rattle.asm_explore.specs.Made.{made_in}
 use Rattle.asm_explore.specs.Placed.{AreApart, IsPlaced}

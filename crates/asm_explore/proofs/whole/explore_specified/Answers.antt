@@ -2,7 +2,7 @@ use Rattle.std.proofs.Common.{◌≡◌, refl, subst}
 use Rattle.asm_syntax.specs.Views.{spec_of}
 use Rattle.asm_check.specs.Shapes.{shape_of}
 use Rattle.asm_meaning.specs.Declarations.{specification_of}
-use Rattle.asm_eval.specs.RuleViews.{rule_of}
+use Rattle.asm_code.specs.RuleViews.{rule_of}
 use Rattle.asm_explore.specs.Answers.{IsAnswer}
 use Rattle.asm_explore.specs.Conditions.{holds_in}
 use Rattle.asm_explore.specs.MainRule.{IsCrowdedMain}
@@ -14,11 +14,11 @@ use Rattle.asm_state.specs.Signature.{initial_state, state_of}
 use Rattle.asm_explore.proofs.whole.explore_specified.Goals as goal
 
 pub explore_machine-requires-clause-initial : goal.explore_machine-requires-clause-initial
-explore_machine-requires-clause-initial c =
+explore_machine-requires-clause-initial g c =
     subst (λ shape. state_of shape c.in_ok-initial.initial ≡ initial_state shape) c.signature.ensures c.in_ok-initial.ensures.initial
 
 pub returns : goal.returns
-returns c =
+returns g c =
     let m = c.args.specified.now in
     let s = spec_of m.checked.now.spec in
     let right = holds_in (shape_of s) m.always.now in

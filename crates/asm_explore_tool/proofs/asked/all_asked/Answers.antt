@@ -1,6 +1,6 @@
 use Rattle.std.proofs.Common.{◌≡◌, length, ℕ, subst, arith}
-use Rattle.asm_explore_tool.specs.Conditions.{AreConditionsOf, texts_of}
-use Rattle.asm_explore_tool.proofs.Links.{ands_of}
+use Rattle.asm_explore_texts.specs.Conditions.{AreConditionsOf, texts_of}
+use Rattle.asm_explore_tool.proofs.AndLinks.{ands_of}
 use Rattle.asm_explore_tool.proofs.asked.all_asked.Goals as goal
 
 pub returns : goal.returns

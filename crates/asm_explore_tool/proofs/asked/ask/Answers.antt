@@ -1,6 +1,6 @@
 use Rattle.std.proofs.Common.{◌≡◌, length, ℕ, refl, subst, arith}
 use Rattle.asm_explore_tool.specs.Asked.{AreAllAsked}
-use Rattle.asm_explore_tool.specs.Conditions.{MayBeConditionOf, text_of, texts_of}
+use Rattle.asm_explore_texts.specs.Conditions.{MayBeConditionOf, text_of, texts_of}
 use Rattle.asm_explore_tool.proofs.asked.ask.Goals as goal
 
 pub returns : goal.returns

@@ -1,6 +1,6 @@
 use Rattle.std.proofs.Common.{subst}
 use Rattle.clap.specs.Walk.{texts}
-use Rattle.asm_explore_tool.specs.Conditions.{texts_of}
+use Rattle.asm_explore_texts.specs.Conditions.{texts_of}
 use Rattle.asm_explore_tool.specs.Given.{AreAlwaysGiven}
 use Rattle.asm_explore_tool.proofs.given.conditions.Goals as goal
 

@@ -1,4 +1,4 @@
-use Rattle.asm_explore_tool.specs.Conditions.{texts_of}
+use Rattle.asm_explore_texts.specs.Conditions.{texts_of}
 use Rattle.asm_explore_tool.proofs.Fronts.{front_more}
 use Rattle.asm_explore_tool.proofs.given.with_files.Goals as goal
 

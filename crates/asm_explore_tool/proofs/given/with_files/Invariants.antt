@@ -1,6 +1,6 @@
 use Rattle.std.proofs.Common.{◌≡◌, ◌++◌, List, ℕ, take}
 use Rattle.clap.specs.Walk.{texts}
-use Rattle.asm_explore_tool.specs.Conditions.{texts_of}
+use Rattle.asm_explore_texts.specs.Conditions.{texts_of}
 use Rattle.asm_explore_tool.specs.Given.{AreFronts}
 use Rattle.asm_explore_tool.proofs.given.with_files.Given as goal
 

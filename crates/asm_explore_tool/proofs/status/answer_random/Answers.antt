@@ -1,7 +1,7 @@
 use Rattle.std.proofs.Common.{refl, subst}
 use Rattle.std.specs.Io.KnownBytes.{Appends}
 use Rattle.clap.specs.Walk.{texts}
-use Rattle.asm_explore_tool.specs.Conditions.{texts_of}
+use Rattle.asm_explore_texts.specs.Conditions.{texts_of}
 use Rattle.asm_explore_tool.specs.Given.{AreAlwaysGiven}
 use Rattle.asm_explore_tool.specs.RandomReport.{IsRandomReported}
 use Rattle.asm_explore_tool.proofs.status.answer_random.Goals as goal
@@ -20,8 +20,8 @@ returns g c =
       given = subst (λ names. AreAlwaysGiven contents (texts settings.always.items) (texts names) (texts_of conditions)) c.as_slice-names.ensures.value
           (subst (λ words. AreAlwaysGiven contents (texts words) (texts c.as_slice-names.result.now) (texts_of conditions)) c.as_slice-words.ensures.value c.in_ok-conditions.ensures);
       report = report;
-      reported = subst (λ cs. IsRandomReported text cs settings report) c.as_slice-2.ensures.value
-          (subst (λ t. IsRandomReported t c.as_slice-2.result.now settings report) c.as_slice.ensures.value c.in_ok-report.ensures);
+      reported = subst (λ cs. IsRandomReported text cs settings report) c.as_slice-conditions.ensures.value
+          (subst (λ t. IsRandomReported t c.as_slice-conditions.result.now settings report) c.as_slice-text.ensures.value c.in_ok-report.ensures);
       status_is = refl;
-      appended = subst (λ t. Appends (g.O.Write.contents c.args.out.now) (g.O.Write.contents c.written.new.out) t) c.as_slice-3.ensures.value c.in_ok-written.ensures;
+      appended = subst (λ t. Appends (g.O.Write.contents c.args.out.now) (g.O.Write.contents c.written.new.out) t) c.as_slice.ensures.value c.in_ok-written.ensures;
     }

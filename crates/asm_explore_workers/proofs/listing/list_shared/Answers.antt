@@ -1,7 +1,7 @@
 use mir.Syntax.{erased}
 use Rattle.std.proofs.Common.{◌≡◌, ◌<◌, length, take, sym, subst, arith}
 use Rattle.std.proofs.lemmas.Result.{IfOk-weaker}
-use Rattle.asm_eval.specs.RuleViews.{rule_of}
+use Rattle.asm_code.specs.RuleViews.{rule_of}
 use Rattle.asm_explore_workers.specs.Batches.{AreListedOf}
 use Rattle.asm_explore_workers.specs.declared.job.Tally.{Tally}
 use Rattle.asm_explore_workers.proofs.Crossing.{job_shared}

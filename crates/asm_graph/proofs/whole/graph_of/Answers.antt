@@ -3,7 +3,7 @@ use Rattle.asm_state.specs.Signature.{initial_state, state_of}
 use Rattle.asm_syntax.specs.Views.{spec_of}
 use Rattle.asm_check.specs.Shapes.{shape_of}
 use Rattle.asm_meaning.specs.Declarations.{specification_of}
-use Rattle.asm_eval.specs.RuleViews.{rule_of}
+use Rattle.asm_code.specs.RuleViews.{rule_of}
 use Rattle.asm_explore.specs.Conditions.{holds_in}
 use Rattle.asm_explore.specs.MainRule.{IsCrowdedMain}
 use Rattle.asm_explore.specs.Made.{made_in}

@@ -1,4 +1,4 @@
-use Rattle.std.proofs.Common.{◌≡◌, ℕ, None, Some, unwrap_or, sym, ap, ◌∙◌}
+use Rattle.std.proofs.Common.{unwrap_or, sym, ap, ◌∙◌}
 use Rattle.asm_random.proofs.DraftLines.{picked_in}
 use Rattle.asm_random.proofs.draft.number_at.Goals as goal
 

@@ -7,7 +7,7 @@ some : {X : Type 0} (o : Option X) (x : X) (P : X → Type 0) → o ≡ Some x �
 some o x P is h = subst (λ it. IfSome it P) is h
 
 pub returns-in-Some : goal.returns-in-Some
-returns-in-Some c =
+returns-in-Some g c =
     let m = c.args.specified.now in
     let steps = c.args.question.now.steps in
     let all : steps ≤ steps = omega arith in

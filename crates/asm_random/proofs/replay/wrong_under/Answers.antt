@@ -1,8 +1,8 @@
-use Rattle.std.proofs.Common.{◌≡◌, ◌∙◌, ◌+◌, length, ℕ, refl, sym, ap, subst, true, false, Ok, Err, arith}
+use Rattle.std.proofs.Common.{◌≡◌, ◌∙◌, ◌+◌, length, ℕ, refl, sym, ap, subst, Ok, Err, arith}
 use Rattle.std.specs.Prelude.{IfOk, IfErr, Result}
 use Rattle.std.proofs.lemmas.Bool.{false_from_ne_true}
 use Rattle.asm_state.specs.Signature.{Shape, count_of, initial_state, state_of}
-use Rattle.asm_state.specs.Updates.{UpdateSet, IsConsistent, is_consistent}
+use Rattle.asm_state.specs.Updates.{is_consistent}
 use Rattle.asm_syntax.specs.Views.{spec_of}
 use Rattle.asm_check.specs.Shapes.{shape_of}
 use Rattle.asm_meaning.specs.Declarations.{specification_of}

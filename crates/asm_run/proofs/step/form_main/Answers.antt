@@ -10,8 +10,8 @@ use Rattle.asm_meaning.specs.Formed.{Forms}
 use Rattle.asm_meaning.specs.Program.{nothing_bound}
 use Rattle.asm_meaning.specs.Valued.{shown}
 use Rattle.asm_meaning.proofs.Following.{following_laws-same as follows_same}
-use Rattle.asm_eval.specs.RuleMeaning.{IsSoundRule, meaning}
-use Rattle.asm_eval.specs.RuleViews.{rule_of}
+use Rattle.asm_code.specs.RuleMeaning.{IsSoundRule, meaning}
+use Rattle.asm_code.specs.RuleViews.{rule_of}
 use Rattle.asm_run.proofs.FormedSet.{formed_alone, outcome_alone, stopped_alone}
 use Rattle.asm_run.proofs.step.form_main.Goals as goal
 

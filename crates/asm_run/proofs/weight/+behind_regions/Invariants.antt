@@ -1,5 +1,5 @@
-use Rattle.asm_eval.specs.RuleMeaning.{rule_size}
-use Rattle.asm_eval.specs.RuleViews.{rule_of}
+use Rattle.asm_code.specs.RuleMeaning.{rule_size}
+use Rattle.asm_code.specs.RuleViews.{rule_of}
 use Rattle.asm_run.proofs.weight.+behind_regions.Given as goal
 
 abbrev pub decreases-behind_regions : goal.decreases-behind_regions

@@ -2,9 +2,10 @@ use Rattle.std.proofs.Common.{◌≡◌, ◌∙◌, true, ap, Some, codes, refl}
 use Rattle.std.proofs.lemmas.Result.{IfOk-weaker}
 use Rattle.clap.specs.Simple.{App, app_of, app_of_fields, new_app, on_top}
 use Rattle.clap.specs.Walk.{Rule, rule_of}
-use Rattle.asm_run.specs.declared.limits.TheConstants.{STEPS, TURNS, WORKERS, CUT, ROUNDS}
-use Rattle.asm_tool.specs.CommandLine.{command, option, number, required, or_else}
-use Rattle.asm_tool.proofs.Rules.{grown}
+use Rattle.asm_limits.specs.declared.limits.TheConstants.{STEPS, TURNS, WORKERS, CUT, ROUNDS}
+use Rattle.asm_arguments.specs.Arguments.{option, number, required, or_else}
+use Rattle.asm_tool.specs.CommandLine.{command}
+use Rattle.asm_arguments.proofs.Rules.{grown}
 use Rattle.asm_tool.proofs.words.command.Goals as goal
 
 abbrev without_name : App → App

@@ -2,7 +2,7 @@ use Rattle.std.proofs.Common.{◌≡◌, ◌∙◌, ap, Some, refl, sym, arith, 
 use Rattle.std.specs.Prelude.{unwrap_or}
 use Rattle.std.specs.Str.Parse.{ExplainsUnsignedError, HasUnsignedDigitsIfOk, ParsesUnsigned, signed_digits_value}
 use Rattle.clap.specs.Lexer.{without_minus}
-use Rattle.asm_tool.proofs.SignedTexts.{read_number}
+use Rattle.asm_arguments.proofs.SignedTexts.{read_number}
 use Rattle.asm_tool.proofs.words.number_of.Goals as goal
 
 pub unwrap-requires : goal.unwrap-requires

@@ -3,10 +3,10 @@ use Rattle.std.proofs.Common.{◌≡◌, ◌++◌, cond, sym, ap, subst, ◌∙�
 use Rattle.std.specs.Prelude.{option_map}
 use Rattle.asm_state.specs.Words.{value_of_code}
 use Rattle.asm_meaning.specs.Yields.{at}
-use Rattle.asm_eval.specs.CodeViews.{code_of}
-use Rattle.asm_eval.specs.Readings.{universe_at}
-use Rattle.asm_eval.specs.RuleTree as tree
-use Rattle.asm_eval.specs.RuleViews.{rule_of, rules_of}
+use Rattle.asm_code.specs.CodeViews.{code_of}
+use Rattle.asm_code.specs.Readings.{universe_at}
+use Rattle.asm_code.specs.RuleTree as tree
+use Rattle.asm_code.specs.RuleViews.{rule_of, rules_of}
 use Rattle.asm_explore.specs.Explored.{shape_on, state_on, here_on, made_on, makes_on, order_made_on}
 use Rattle.std.specs.Prelude.{IfOk}
 use Rattle.asm_explore.specs.Lists.{HaveChoices}

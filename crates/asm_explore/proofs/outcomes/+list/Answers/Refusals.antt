@@ -3,9 +3,9 @@ use Rattle.std.proofs.Common.{◌≡◌, ◌<◌, ◌++◌, drop, ◌-◌, ◌+�
 use Rattle.std.specs.Prelude.{IfErr}
 use Rattle.asm_state.specs.Words.{value_of_code}
 use Rattle.asm_meaning.specs.Yields.{at}
-use Rattle.asm_eval.specs.Readings.{universe_at}
-use Rattle.asm_eval.specs.RuleTree as tree
-use Rattle.asm_eval.specs.RuleViews.{rule_of, rules_of}
+use Rattle.asm_code.specs.Readings.{universe_at}
+use Rattle.asm_code.specs.RuleTree as tree
+use Rattle.asm_code.specs.RuleViews.{rule_of, rules_of}
 use Rattle.asm_eval.specs.Running.{passes_in}
 use Rattle.asm_explore.specs.Explored.{shape_on, state_on, here_on, made_on, makes_on, parts_made_on, order_made_on}
 use Rattle.asm_explore.specs.Lists.{HaveChoices}

@@ -2,7 +2,7 @@ use Rattle.std.proofs.Common.{take}
 use Rattle.asm_syntax.specs.Views.{spec_of}
 use Rattle.asm_check.specs.Shapes.{shape_of}
 use Rattle.asm_meaning.specs.Declarations.{specification_of}
-use Rattle.asm_eval.specs.RuleViews.{rule_of}
+use Rattle.asm_code.specs.RuleViews.{rule_of}
 use Rattle.asm_explore.specs.Made.{made_in}
 use Rattle.asm_explore.specs.Steps.{AreListed}
 use Rattle.asm_explore.proofs.specification.SpecifiedMachine.outcomes.Given as goal

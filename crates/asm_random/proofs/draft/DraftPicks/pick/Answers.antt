@@ -1,8 +1,8 @@
-use Rattle.std.proofs.Common.{◌≡◌, ℕ, ◌+◌, ◌-◌, ◌<◌, ◌≤◌, None, Some, length, unwrap_or, refl, sym, ap, ◌∙◌, arith, slice_get, subst, List, Vec, Global}
+use Rattle.std.proofs.Common.{◌≡◌, ℕ, ◌+◌, ◌-◌, ◌<◌, ◌≤◌, None, Some, length, unwrap_or, sym, ap, ◌∙◌, arith, slice_get, subst, List, Vec, Global}
 use Rattle.std.specs.BTreeMap.{BTreeMap}
 use Rattle.std.specs.Option.{option_or}
 use Rattle.asm_reader.specs.ScriptLines.{exact_choice}
-use Rattle.asm_random.specs.Drafts.{draft_lines, lines_from, lines_in}
+use Rattle.asm_random.specs.Drafts.{lines_from}
 use Rattle.asm_random.proofs.DraftLines.{picked_before, picked_behind, picked_from, or_nothing, indexed}
 use Rattle.asm_random.proofs.draft.DraftPicks.pick.Goals as goal
 

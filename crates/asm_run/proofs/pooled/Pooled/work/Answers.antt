@@ -3,8 +3,8 @@ use Rattle.asm_meaning.specs.declared.part.Part.TheVariants as part
 use Rattle.asm_meaning.specs.Does.{Outcome}
 use Rattle.asm_meaning.specs.Formed.{IsFormed}
 use Rattle.asm_meaning.proofs.Beside.{beside_laws}
+use Rattle.asm_code.specs.RuleViews.{rule_of}
 use Rattle.asm_eval.specs.OpenedPieces.{pieces_yield}
-use Rattle.asm_eval.specs.RuleViews.{rule_of}
 use Rattle.asm_eval.specs.Running.{rule_at, shape_at}
 use Rattle.asm_eval.specs.declared.piece.Piece.{Piece}
 use Rattle.asm_run.proofs.pooled.Pooled.work.Goals as goal

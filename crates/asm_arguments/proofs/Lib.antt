@@ -1,0 +1,3 @@
+pub mod GivenValues
+pub mod Rules
+pub mod SignedTexts

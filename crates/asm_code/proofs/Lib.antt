@@ -1,0 +1,3 @@
+pub mod CodeForms
+pub mod RuleForms
+pub mod SharedCodes

@@ -1,0 +1,10 @@
+pub mod Powers
+pub mod CodeTree
+pub mod CodeViews
+pub mod Readings
+pub mod Sizes
+pub mod Sound
+pub mod RuleTree
+pub mod RuleViews
+pub mod RuleMeaning
+pub mod Spans

@@ -1,0 +1,4 @@
+mod Decoding
+mod LineParts
+mod Links
+mod Spelled

@@ -1,0 +1,12 @@
+use Rattle.std.proofs.Common.{ap, ◌∙◌, rules}
+use Rattle.std.proofs.lemmas.List.Sorted.{answers_always}
+use borrow.Author.Tests.{tests}
+use Rattle.asm_explore_texts.specs.Positions.{is_line_feed}
+use Rattle.asm_explore_texts.proofs.LineParts.{last_part}
+use Rattle.asm_explore_texts.proofs.position.last_line.Goals as goal
+
+pub returns : goal.returns
+returns c =
+    ap (λ t. t.now) c.unwrap_or.ensures
+    ∙ last_part is_line_feed c.args.text c.next.result _ _ _ _ _ _ _ _ c.rsplit.ensures.done c.rsplit.ensures.rest
+    (answers_always _ _ _ (λ f a r g call. search (rules, tests))) c.next.ensures.steps

@@ -1,0 +1,12 @@
+//! The texts that `asm-explore` is given: conditions as terms, scripts, and places in a text.
+#![tactic(auto)]
+
+mod characters;
+pub mod condition;
+pub mod conditions;
+pub mod excerpt;
+mod first_name;
+pub mod place_text;
+pub mod position;
+pub mod script_given;
+pub mod text_place;

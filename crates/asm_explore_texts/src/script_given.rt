@@ -1,0 +1,58 @@
+//! The script that is given.
+ghost use Rattle.std.specs.Prelude.{IfOk};
+ghost use Rattle.asm_reader.specs.ScriptText.{IsScript};
+
+use asm_explore_words::fault::{Fault, RefusedText, Source, TextError};
+use asm_explore_words::settings::RunSettings;
+use asm_reader::{Script, ScriptError, read_script};
+use asm_syntax::Refused;
+use std::alloc::{AllocError, Global};
+
+/// The script with this text.
+pub fn script_given<'w>(
+    alloc: Global,
+    text: &[u8],
+    settings: &RunSettings<'w>,
+) -> Result<Script, Fault<'w>>
+    ensures { IfOk result (λ script. IsScript text.now script) }
+{
+    match read_script(alloc, text) {
+        Ok(script) => Ok(script),
+        Err(Refused::Memory) => Err(Fault::Memory),
+        Err(Refused::Named(error)) => Err(refused(alloc, text, settings, error)?),
+    }
+}
+
+/// The fault of a script's text that is refused.
+fn refused<'w>(
+    alloc: Global,
+    text: &[u8],
+    settings: &RunSettings<'w>,
+    error: ScriptError,
+) -> Result<Fault<'w>, AllocError> {
+    let at = match error.line() {
+        Some(number) => Some(start_of_line(text, number)),
+        None => None,
+    };
+    let text = Vec::from_slice(alloc, text)?;
+    Ok(Fault::Text(RefusedText {
+        source: Source::Script(settings.script.unwrap_or("-")),
+        text,
+        error: TextError::Script(error),
+        at,
+    }))
+}
+
+/// Where the line with this number begins; lines count from 1.
+fn start_of_line(text: &[u8], number: usize) -> usize {
+    let mut before = number.saturating_sub(1);
+    for at in 0..text.len() {
+        if before == 0 {
+            return at;
+        }
+        if text[at] == b'\n' {
+            before -= 1;
+        }
+    }
+    text.len()
+}

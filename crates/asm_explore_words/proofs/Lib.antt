@@ -1,0 +1,6 @@
+mod GivenNumbers
+mod Options
+mod RandomOptions
+mod ReadNumbers
+mod ReadTexts
+mod RunOptions

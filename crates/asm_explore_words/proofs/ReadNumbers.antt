@@ -1,0 +1,76 @@
+-- The numbers that are read of what a parse finds are those of its rows, and lie in the ranges that it looks at.
+--     read_unsigned      what is read of a text that passed as a number of 64 bits
+use Rattle.std.proofs.Common.{◌≡◌, ◌∙◌, ◌≤◌, ap, ℕ, ℤ, true, List, [], ◌∷◌, map, Option, Some, None, sym, subst, arith, refl}
+use Rattle.std.specs.Prelude.{Err, Ok, Result, ◌≤ℤ◌, nat_le, pos, find, option_and_then, option_map, slice_get}
+use Rattle.std.specs.Borrow.{Bor}
+use Rattle.std.proofs.lemmas.Bool.{and_from, le-leb}
+use Rattle.std.specs.Str.{bytes_eq}
+use Rattle.std.specs.Str.Parse.{ParsesUnsigned, digits_value, signed_digits_value, without_leading_plus}
+use Rattle.std.proofs.lemmas.Int.{ints}
+use Rattle.clap.specs.Matches.{ReadsOne, first_value}
+use Rattle.clap.specs.Values.{IsUnsignedIn}
+use Rattle.clap.specs.Walk.{Row, Text, first_of, row_of, rows_of}
+use Rattle.clap.specs.Facts.{Entry}
+use Rattle.clap.proofs.WalkLemmas.{find_row}
+use Rattle.clap.specs.declared.parser.matches.MatchedArg.{MatchedArg}
+use Rattle.clap.specs.declared.parser.matches.Found.{Found}
+use Rattle.asm_limits.specs.Limits.{is_within}
+use Rattle.asm_limits.specs.declared.limits.Bounds.{Bounds}
+use Rattle.asm_arguments.specs.Numbers.{HasNumber, IsNumber}
+use Rattle.asm_explore_words.specs.Said.{HasUnsigned, IsUnsigned}
+
+-- an entry within some bounds has a number within wider ones
+pub wider : (f : Found) (name : Text) (bounds : Bounds) → bounds.most ≤ 4_294_967_295 → HasNumber f name bounds
+    → HasNumber f name (record { least = 0; most = 4_294_967_295 })
+wider f name bounds low has = record {
+  text = has.text;
+  is_first = has.is_first;
+  is_handed = has.is_handed;
+  is_within = (has.is_within.0, has.is_within.1, omega (arith, ints), let most = has.is_within.3 in omega (arith, ints));
+}
+
+first_text : (xs : List (Bor Text)) → slice_get (map (λ s. s.now) xs) 0 ≡ option_map (λ s. s.now) (slice_get xs 0)
+first_text [] = refl
+first_text (x ∷ xs) = refl
+
+-- the first text of an argument is that of its row
+pub first_of_rows : (f : Found) (name : Text) → first_of name (rows_of f) ≡ first_value f name
+first_of_rows f name =
+    ap (λ o. option_and_then (λ (r : Row). slice_get r.values 0) o) (find_row f.entries.items name)
+    ∙ go (find (λ e. bytes_eq e.0.now name) f.entries.items)
+  where
+    go : (o : Option Entry) → option_and_then (λ (r : Row). slice_get r.values 0) (option_map row_of o)
+        ≡ option_and_then (λ (a : MatchedArg). option_map (λ s. s.now) (slice_get a.vals.items 0)) (option_map (λ e. e.1) o)
+    go None = refl
+    go (Some e) = first_text e.1.vals.items
+
+module _ (f : Found) (name : Text) (bounds : Bounds) (has : HasNumber f name bounds) (n : ℕ)
+    (read : (text : Text) → first_value f name ≡ Some text → signed_digits_value 10 text ≡ pos n) where
+  pub is_in_range : is_within bounds n ≡ true
+  is_in_range =
+      let is = read has.text has.is_first in
+      let low = subst (λ (i : ℤ). pos bounds.least ≤ℤ i) is has.is_within.2 in
+      let high = subst (λ (i : ℤ). i ≤ℤ pos bounds.most) is has.is_within.3 in
+      and_from (nat_le bounds.least n) (nat_le n bounds.most) (le-leb bounds.least n (omega (arith, ints))) (le-leb n bounds.most (omega (arith, ints)))
+
+  pub is_number : (rows : List Row) → rows_of f ≡ rows → IsNumber rows name n
+  is_number rows is = record {
+    text = has.text;
+    is_given = ap (first_of name) (sym is) ∙ (first_of_rows f name ∙ has.is_first);
+    is_read = read has.text has.is_first;
+  }
+
+pub read_unsigned : (E : Type 0) (G : List ℕ → Result ℕ E → Type 0) (most : ℕ) (t : List ℕ) (r : Option ℕ) → ReadsOne G t r
+    → ((u : List ℕ) (x : Result ℕ E) → G u x → ParsesUnsigned 64 10 u x) → IsUnsignedIn 0 most t
+    → (n : ℕ) × (r ≡ Some n) × (digits_value 10 (without_leading_plus t) ≡ n)
+read_unsigned E G most t (Some v) read only passed = (v, refl, sym (only t (Ok v) read).1)
+read_unsigned E G most t None read only passed = absurd (only t (Err read.0) read.1 (passed.0, passed.1))
+
+module _ (f : Found) (name : Text) (has : HasUnsigned f name) (n : ℕ)
+    (read : (text : Text) → first_value f name ≡ Some text → digits_value 10 (without_leading_plus text) ≡ n) where
+  pub is_unsigned : (rows : List Row) → rows_of f ≡ rows → IsUnsigned rows name n
+  is_unsigned rows is = record {
+    text = has.text;
+    is_given = ap (first_of name) (sym is) ∙ (first_of_rows f name ∙ has.is_first);
+    is_read = read has.text has.is_first;
+  }

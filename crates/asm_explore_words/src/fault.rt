@@ -1,0 +1,114 @@
+//! Why the program ends without an answer.
+ghost use Rattle.std.specs.Prelude.{◌≡◌};
+ghost use Rattle.asm_explore_words.specs.Faults.{status_of_fault};
+
+use asm_check::CheckError;
+use asm_reader::{ReadError, ScriptError};
+use std::alloc::{AllocError, AllocFailed};
+use std::fmt;
+use std::fmt::{Display, Formatter, Write};
+
+/// Where a text came from.
+#[derive(Clone, Copy, Debug, PartialEq, Eq)]
+pub enum Source<'w> {
+    /// The specification's file; `-` is standard input.
+    Specification(&'w str),
+    /// The script's file; `-` is standard input.
+    Script(&'w str),
+    /// A condition's file.
+    AlwaysFile(&'w str),
+    /// The value of this `--always`, from 1.
+    Always(usize),
+    /// The value of `--deadlock-unless`.
+    DeadlockUnless,
+    /// The value of `--within`.
+    Within,
+}
+
+/// What is wrong with a text.
+#[derive(Clone, Copy, Debug, PartialEq, Eq)]
+pub enum TextError {
+    /// It can't be read.
+    Read(ReadError),
+    /// It can be read, and breaks a rule of the language.
+    Check(CheckError),
+    /// It is no script.
+    Script(ScriptError),
+    /// It is to be a condition, and is more than one term.
+    MoreThanATerm,
+}
+
+/// A text that is refused.
+#[derive(Debug, Drop)]
+pub struct RefusedText<'w> {
+    pub source: Source<'w>,
+    pub text: Vec<u8>,
+    /// What is wrong. Of a condition its offsets aren't those of the text, but `at` is.
+    pub error: TextError,
+    /// Where it is wrong: an offset of this text, or its length.
+    pub at: Option<usize>,
+}
+
+/// What ends the program early.
+#[derive(Debug, Drop)]
+pub enum Fault<'w> {
+    /// The words ask for help or the version, or can't be understood.
+    Words(clap::Error),
+    /// A word isn't text.
+    NotText,
+    /// The specification, the script or a condition is refused.
+    Text(RefusedText<'w>),
+    /// Memory ran out.
+    Memory,
+    /// A file can't be read.
+    File(Source<'w>),
+    /// The answer can't be written.
+    Write,
+    /// The graph of states can't be written to the file of this name.
+    Graph(&'w str),
+    /// The run under the script that was found ends otherwise than it was found to.
+    Unconfirmed,
+    /// The choices of the run have no script that isn't too long, and has no number of more than
+    /// nine digits.
+    Unwritten,
+}
+
+impl Fault<'_> {
+    /// The program's status.
+    pub fn status(&self) -> u8
+        ensures { result ≡ status_of_fault self.now }
+    {
+        match self {
+            Fault::Text(_) => 2,
+            Fault::Memory | Fault::File(_) | Fault::Write | Fault::Graph(_) => 3,
+            Fault::Unconfirmed | Fault::Unwritten => 3,
+            Fault::Words(_) | Fault::NotText => 4,
+        }
+    }
+}
+
+impl<'w> From<AllocError> for Fault<'w> {
+    fn from(_error: AllocError) -> Fault<'w> {
+        Fault::Memory
+    }
+}
+
+impl<'w, T: Drop> From<AllocFailed<T>> for Fault<'w> {
+    fn from(_error: AllocFailed<T>) -> Fault<'w> {
+        Fault::Memory
+    }
+}
+
+impl Display for Source<'_> {
+    fn fmt<W: Write>(&self, f: &mut Formatter<W>) -> fmt::Result {
+        match *self {
+            Source::Specification("-") | Source::Script("-") => f.write_str("standard input"),
+            Source::Specification(name) | Source::Script(name) | Source::AlwaysFile(name) => {
+                f.write_str(name)
+            }
+            Source::Always(number) => write!(f, "condition {number}"),
+            Source::DeadlockUnless => f.write_str("--deadlock-unless"),
+            Source::Within => f.write_str("--within"),
+        }
+    }
+}

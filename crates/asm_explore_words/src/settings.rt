@@ -1,0 +1,93 @@
+//! What the program is asked to do.
+ghost use Rattle.std.specs.Prelude.{◌≡◌, option_map};
+ghost use Rattle.asm_explore_words.specs.Said.{is_input};
+
+/// What the words ask for: a command, with its settings.
+#[derive(Debug, Drop)]
+pub enum Task<'w> {
+    /// To look at every run.
+    All(Settings<'w>),
+    /// To look at random runs.
+    Random(RandomSettings<'w>),
+    /// To show the choices of one run.
+    Choices(RunSettings<'w>),
+    /// To show the assignments by which one run ends.
+    Clash(RunSettings<'w>),
+}
+
+/// What the words after `all` ask for.
+#[derive(Debug, Drop)]
+pub struct Settings<'w> {
+    /// The name of the specification's file; `-` is standard input.
+    pub spec: &'w str,
+    /// Runs are looked at of at most so many steps.
+    pub steps: u32,
+    /// So many turns exhaust an `iterate` or a `while`.
+    pub turns: u32,
+    /// So many states may be reached.
+    pub states: u32,
+    /// So many outcomes may be listed at once.
+    pub outcomes: u32,
+    /// The conditions that are to be true in each state, in the order of the words.
+    pub always: Vec<&'w str>,
+    /// The names of the files of further such conditions.
+    pub always_files: Vec<&'w str>,
+    /// The condition that is to be true in each quiet state.
+    pub when_quiet: Option<&'w str>,
+    /// From states in which this condition isn't true no run is followed.
+    pub within: Option<&'w str>,
+    /// So many workers list outcomes. Their number shows in nothing that is written.
+    pub workers: u32,
+    /// The name of the file to which the graph of states is written, where there is one.
+    pub dot: Option<&'w str>,
+    /// Whether the trace of the run that is found is shown.
+    pub trace: bool,
+    /// Whether lines tell how far it is, on standard error.
+    pub progress: bool,
+}
+
+/// What the words after `random` ask for.
+#[derive(Debug, Drop)]
+pub struct RandomSettings<'w> {
+    /// The name of the specification's file; `-` is standard input.
+    pub spec: &'w str,
+    /// Each run is of at most so many steps.
+    pub steps: u32,
+    /// So many turns exhaust an `iterate` or a `while`.
+    pub turns: u32,
+    /// The conditions that are to be true in each state, in the order of the words.
+    pub always: Vec<&'w str>,
+    /// The names of the files of further such conditions.
+    pub always_files: Vec<&'w str>,
+    /// So many runs are made, or fewer where one goes wrong.
+    pub runs: u32,
+    /// What is drawn depends on it alone.
+    pub seed: u64,
+    /// Whether the trace of the run that is found is shown.
+    pub trace: bool,
+    /// Whether lines tell how far it is, on standard error.
+    pub progress: bool,
+}
+
+/// What the words after `choices` or `clash` ask for: of which run something is shown.
+#[derive(Clone, Copy, Debug, PartialEq, Eq)]
+pub struct RunSettings<'w> {
+    /// The name of the specification's file; `-` is standard input.
+    pub spec: &'w str,
+    /// The run has at most so many steps.
+    pub steps: u32,
+    /// So many turns exhaust an `iterate` or a `while`.
+    pub turns: u32,
+    /// The name of the script's file, where there is one; `-` is standard input.
+    pub script: Option<&'w str>,
+}
+
+/// Whether the file with this name is standard input.
+pub(crate) fn is_standard_input(name: Option<&str>) -> bool
+    ensures { result ≡ is_input (option_map (λ text. text.now) name.entry) }
+{
+    match name {
+        Some(name) => name == "-",
+        None => false,
+    }
+}

@@ -1,0 +1,14 @@
+use Rattle.std.proofs.Common.{[], ◌∷◌, ◌++◌, ap, ◌∙◌, arith}
+use Rattle.asm_resolve.proofs.FunctionReads.{row_read, listed_read}
+use Rattle.asm_resolve.proofs.functions.make_row.Goals as goal
+
+pub returns-in-Some : goal.returns-in-Some
+returns-in-Some c =
+    let is = c.in-Some.ensures in
+    row_read c.args.signature.now c.args.f c.requires.fits is.universe is.domain is.values is.at
+    c.in-Some.first is.begins c.in-Some.over is.span c.in_ok-new.field-0 c.args.argument c.in_ok-new.ensures.ok
+
+pub returns : goal.returns
+returns c =
+    let items = c.in_ok-push.ensures.items ∙ ap (λ ts. ts ++ c.args.argument ∷ []) c.in_ok-arguments.ensures.items in
+    listed_read c.args.signature.now c.args.f c.push.new.self _ c.requires.known (omega arith) items

@@ -1,0 +1,6 @@
+use Rattle.asm_syntax.specs.Views.{spec_of}
+use Rattle.asm_resolve.specs.RuleScopes.{AreKnown}
+use Rattle.asm_resolve.proofs.used.resolve_used.Given as goal
+
+abbrev pub invariant-loop-turn : goal.invariant-loop-turn
+invariant-loop-turn l = AreKnown (spec_of l.checked.spec) l.known
