@@ -81,6 +81,16 @@ def closing(tokens, at):
     return len(tokens) - 1
 
 
+def opening(tokens, at):
+    """Returns the place of the token that opens what closes here."""
+    depth = 0
+    for place in range(at, -1, -1):
+        depth += (tokens[place] in CLOSING) - (tokens[place] in OPENING)
+        if not depth:
+            return place
+    return 0
+
+
 def body_of(tokens, at):
     """Returns where the body of the function whose `fn` stands here opens, and where it ends.
 
@@ -142,11 +152,58 @@ def impl_names(header):
     return head_name(behind), []
 
 
+def without_head(tokens):
+    """Returns the tokens without what belongs to the item behind them: attributes and `pub`."""
+    end = len(tokens)
+    while end:
+        if tokens[end - 1] in ("]", ")"):
+            start = opening(tokens, end - 1) - 1
+            if start < 0 or tokens[start] not in ("#", "pub"):
+                break
+        elif tokens[end - 1] in ("pub", "const", "unsafe"):
+            start = end - 1
+        else:
+            break
+        end = start
+    return tokens[:end]
+
+
+def is_public(tokens):
+    """Returns whether the function whose `fn` stands behind these tokens is public."""
+    end = len(tokens)
+    while end and tokens[end - 1] in ("const", "unsafe"):
+        end -= 1
+    return end > 0 and tokens[end - 1] == "pub"
+
+
+def without_unused(tokens):
+    """Returns the tokens without the names that a `ghost use` brings and none of them uses."""
+    parts, at = [], 0
+    while at < len(tokens):
+        end = at + 1
+        if tokens[at : at + 2] == ["ghost", "use"]:
+            end = tokens.index(";", at) + 1
+        parts.append(tokens[at:end])
+        at = end
+    used = {token for part in parts if len(part) == 1 for token in part}
+    kept = []
+    for part in parts:
+        brace = part.index("{") if len(part) > 1 and "{" in part else len(part)
+        names = " ".join(part[brace + 1 : -2]).split(" , ")
+        names = [name for name in names if not used.isdisjoint(name.split())]
+        kept += part[:brace] if brace == len(part) else [*part[:brace], *names] * bool(names)
+    return kept
+
+
 class Source:
     """The functions of a file, and its tokens with each body left out."""
 
     def __init__(self, file, text):
         self.file, self.functions, self.around = file, [], []
+        # The same as around it, but also without the functions that other crates can't call.
+        self.shown = []
+        # Whether the items that are read are a trait's, which are as public as it is.
+        self.in_trait = False
         self.tokens = tokens_of(text)
         parts = file.split("/")[1:]
         parts[-1] = parts[-1].partition(".")[0]
@@ -155,6 +212,10 @@ class Source:
         cycles = [it.cycle for it in self.functions]
         for function in self.functions:
             function.shares_cycle = bool(function.cycle) and cycles.count(function.cycle) > 1
+
+    def seen_above(self):
+        """Returns the tokens that the crates above can see, as far as they matter to these."""
+        return without_unused(self.shown)
 
     def read_items(self, at, end, module, owner, trait):
         """Reads the items between two places."""
@@ -174,8 +235,13 @@ class Source:
                 continue
             elif token == "{":
                 last = closing(self.tokens, at)
-            self.around += self.tokens[at : last + 1]
+            self.pass_on(self.tokens[at : last + 1])
             at = last + 1
+
+    def pass_on(self, tokens):
+        """Takes over tokens that aren't a body's."""
+        self.around += tokens
+        self.shown += tokens
 
     def opens_items(self, at):
         """Returns whether the word here begins an item that holds others."""
@@ -189,23 +255,31 @@ class Source:
         while self.tokens[brace] != "{":
             brace += 1
         end, header = closing(self.tokens, brace), self.tokens[at + 1 : brace]
-        self.around += self.tokens[at : brace + 1]
+        self.pass_on(self.tokens[at : brace + 1])
         if self.tokens[at] == "mod":
             self.read_items(brace + 1, end, [*module, str(header[0])], "", [])
         elif self.tokens[at] == "trait":
+            self.in_trait = True
             self.read_items(brace + 1, end, module, str(header[0]), [])
         else:
-            self.read_items(brace + 1, end, module, *impl_names(header))
-        self.around.append(self.tokens[end])
+            owner, trait = impl_names(header)
+            self.in_trait = bool(trait)
+            self.read_items(brace + 1, end, module, owner, trait)
+        self.in_trait = False
+        self.pass_on([self.tokens[end]])
         return end + 1
 
     def read_function(self, at, module, owner, trait, cycle):
         """Reads the function whose `fn` stands here, and returns the place behind it."""
         brace, end = body_of(self.tokens, at)
         if brace is None:
-            self.around += self.tokens[at : end + 1]
+            self.pass_on(self.tokens[at : end + 1])
             return end + 1
         self.around += [*self.tokens[at:brace], BODY]
+        if self.in_trait or is_public(self.shown):
+            self.shown += [*self.tokens[at:brace], BODY]
+        else:
+            self.shown = without_head(self.shown)
         made = Function(self.file, module, owner, trait, str(self.tokens[at + 1]), cycle)
         made.first_line, made.last_line = self.tokens[at].line, self.tokens[end].line
         made.body = self.tokens[brace + 1 : end]

@@ -6,6 +6,7 @@ import tempfile
 
 from .edits import ASIDE, RECORD, names_in, read
 from .failure import Failure
+from .rattle_text import Source
 
 HEAD = """\
 # Which goal refuses each wrong body of {crate}: the body and its digest, the function that isn't
@@ -44,9 +45,9 @@ class Tree:
                     left.append(name)
         return sorted(found)
 
-    def own_digest(self, crate):
-        """Returns the digest of a crate's sources and definitions and of its line in crates.txt."""
-        if crate not in self.digests:
+    def digest_of_one(self, crate, only_shown):
+        """Returns the digest of a crate's files and of its line in crates.txt."""
+        if (crate, only_shown) not in self.digests:
             made = hashlib.sha256(self.lines[crate].encode())
             folder = f"{self.root}/crates/{crate}"
             for part in ("src", "specs"):
@@ -54,14 +55,18 @@ class Tree:
                     folders.sort()
                     for name in sorted(names):
                         path = os.path.relpath(f"{at}/{name}", folder)
-                        made.update(f"\n{path} {digest_of(f'{at}/{name}')}".encode())
-            self.digests[crate] = made.hexdigest()
-        return self.digests[crate]
+                        made.update(f"\n{path} {digest_of(f'{at}/{name}', only_shown)}".encode())
+            self.digests[crate, only_shown] = made.hexdigest()
+        return self.digests[crate, only_shown]
 
     def digest(self, crate):
-        """Returns the digest of all that decides what a wrong body of the crate means."""
+        """Returns the digest of all that decides what a wrong body of the crate means.
+
+        These are its own sources and definitions, and what the crates below show to it.
+        """
         parts = [read(f"{self.root}/HANDLES", "HANDLES")]
-        parts += [self.own_digest(it) for it in [*self.below(crate), crate]]
+        parts += [self.digest_of_one(it, only_shown=True) for it in self.below(crate)]
+        parts.append(self.digest_of_one(crate, only_shown=False))
         return hashlib.sha256("\n".join(parts).encode()).hexdigest()
 
     def is_still(self, crate, digest):
@@ -69,8 +74,14 @@ class Tree:
         return Tree(self.root).digest(crate) == digest
 
 
-def digest_of(path):
-    """Returns the digest of a file."""
+def digest_of(path, only_shown):
+    """Returns the digest of a file, or of what it shows to the crates above.
+
+    A check of a library reads of a source below it neither a body nor a function that isn't public.
+    """
+    if only_shown and path.endswith(".rt"):
+        made = "\n".join(Source(path, read(path, path)).seen_above()).encode()
+        return hashlib.sha256(made).hexdigest()
     try:
         with open(path, "rb") as file:
             return hashlib.sha256(file.read()).hexdigest()

@@ -149,6 +149,57 @@ def records(test):
     test.expect_run("a changed source makes it stale", ["--stale"], 1, "sources or definitions")
 
 
+# A source of a crate below, and what changes in it.
+BELOW = """\
+ghost use Rattle.std.specs.Prelude.{◌≡◌, ◌+◌};
+
+/// Twice.
+pub fn twice(n: u64) -> u64
+    ensures { result ≡ n + n }
+{
+    sum(n, n)
+}
+
+/// The sum.
+#[inline(always)]
+pub(crate) fn sum(n: u64, m: u64) -> u64 { n + m }
+
+impl Pair { fn left(&self) -> u64 { self.0 } }
+"""
+HIDDEN = {
+    "a comment": ("/// Twice.", "/// Two times."),
+    "a body": ("sum(n, n)", "n + n"),
+    "a function that isn't public": ("m: u64", "k: u64"),
+    "a method that isn't public": ("fn left", "fn first"),
+    "a name that no clause uses": ("◌+◌", "◌+◌, ◌≤◌"),
+}
+SHOWN = {
+    "a name that a clause uses": ("◌+◌", "◌-◌"),
+    "a clause": ("n + n }", "n + n + n }"),
+    "a public function": ("twice(n: u64)", "twice(n: u32)"),
+    "a function that is made public": ("pub(crate) fn", "pub fn"),
+    "a method of a trait": ("impl Pair {", "impl Left for Pair {"),
+}
+
+
+def crates_below(test):
+    """What a crate below doesn't show makes no record stale, and all else does."""
+    test.write("crates.txt", f"{CRATE}:\nabove: {CRATE}\n")
+    os.makedirs(f"{test.root}/crates/above")
+    source = f"crates/{CRATE}/src/state.rt"
+
+    def digest(text):
+        test.write(source, text)
+        return Tree(test.root).digest("above")
+
+    first = digest(BELOW)
+    for changes, stays in ((HIDDEN, True), (SHOWN, False)):
+        for what, (old, new) in changes.items():
+            is_same = digest(BELOW.replace(old, new)) == first
+            said = "doesn't make" if stays else "makes"
+            test.expect(f"{what} of a crate below {said} a record stale", is_same == stays)
+
+
 def run(root):
     """Runs the tests, and returns the exit status."""
     with tempfile.TemporaryDirectory(prefix=f"{toolchain.ROOMS}{os.getpid()}-") as room:
@@ -156,5 +207,6 @@ def run(root):
         bad_input(test)
         harmless_edit(test)
         records(test)
+        crates_below(test)
     print(f"wrong-bodies --self-test: {test.failed} failed")
     return 1 if test.failed else 0
