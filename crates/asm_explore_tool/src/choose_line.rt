@@ -4,6 +4,7 @@ use asm_check::Checked;
 use asm_explore_texts::place_text::{push_path, push_position};
 use asm_explore_texts::text_place::text_place;
 use asm_state::word::Word;
+use asm_syntax::name::Name;
 use asm_syntax::rule::Rule;
 use std::alloc::{AllocError, Global};
 
@@ -34,16 +35,27 @@ fn push_choose(
     checked: &Checked,
     path: &[u64],
 ) -> Result<(), AllocError> {
-    if let Some(place) = text_place(alloc, checked, path)? {
-        if let Rule::Choose { name, .. } = place.rule {
-            push_position(alloc, line, text, name.at)?;
-            line.extend_from_slice(b": choose ")?;
-            return line.extend_from_slice(name.text.as_bytes());
-        }
-    }
-    line.extend_from_slice(b"place ")?;
-    push_path(alloc, line, path)?;
-    line.extend_from_slice(b": choose")
+    let Some(name) = variable(alloc, checked, path)? else {
+        line.extend_from_slice(b"place ")?;
+        push_path(alloc, line, path)?;
+        return line.extend_from_slice(b": choose");
+    };
+    push_position(alloc, line, text, name.at)?;
+    line.extend_from_slice(b": choose ")?;
+    line.extend_from_slice(name.text.as_bytes())
+}
+
+/// The variable of the `choose` at a path of the main rule, if the text has one there.
+fn variable<'c>(
+    alloc: Global,
+    checked: &'c Checked,
+    path: &[u64],
+) -> Result<Option<&'c Name>, AllocError> {
+    let place = text_place(alloc, checked, path)?;
+    Ok(place.and_then(|place| match place.rule {
+        Rule::Choose { name, .. } => Some(name),
+        _ => None,
+    }))
 }
 
 /// Adds the first candidates, and how many more there are.

@@ -164,12 +164,13 @@ fn resolve_choose<'e>(
     ensures resolved { IfOk result (choose_resolved checked.now scope.now name.now.text over.now.text test.now body.now none.now) }
     ensures known { OnOk result (AreKnown (spec_of checked.now.spec) known.new) }
 {
-    let none = resolve_other(alloc, checked, known, scope, none)?;
+    let other = resolve_other(alloc, checked, known, scope, none)?;
+    let none = Box::new(alloc, other)?;
     let Some(over) = universe_numbered(checked, over) else {
         return Ok(RuleCode::If {
             test: Code::Constant(Word::truth(false)),
             yes: Box::new(alloc, RuleCode::Skip)?,
-            no: Box::new(alloc, none)?,
+            no: none,
         });
     };
     let inner = Scope::Within { name, outer: scope };
@@ -179,7 +180,7 @@ fn resolve_choose<'e>(
         over,
         test,
         body,
-        none: Box::new(alloc, none)?,
+        none,
     })
 }
 

@@ -53,23 +53,18 @@ fn given<'w, S: AsStr>(alloc: Global, words: &'w [S]) -> Result<ArgMatches<'w>, 
 fn command<'w>(alloc: Global) -> Result<Command<'w>, AllocError>
     ensures { IfOk result (λ c. app_of c ≡ line.command) }
 {
-    let steps = number(alloc, "steps", STEPS, help::STEPS).required(true);
-    let turns = number(alloc, "turns", TURNS, help::TURNS).default_value("1000");
-    let workers = number(alloc, "workers", WORKERS, help::WORKERS).default_value("1");
-    let cut = number(alloc, "cut", CUT, help::CUT).default_value("64");
-    let rounds = number(alloc, "rounds", ROUNDS, help::ROUNDS).default_value("4");
     Command::new(alloc, "asm")
         .version(help::VERSION)
         .about(help::ABOUT)
         .after_help(help::AFTER)
         .no_binary_name(true)
         .arg(file(alloc, "spec", "SPEC", help::SPEC))?
-        .arg(steps)?
+        .arg(number(alloc, "steps", STEPS, help::STEPS).required(true))?
         .arg(file(alloc, "script", "FILE", help::SCRIPT).long("script"))?
-        .arg(turns)?
-        .arg(workers)?
-        .arg(cut)?
-        .arg(rounds)
+        .arg(number(alloc, "turns", TURNS, help::TURNS).default_value("1000"))?
+        .arg(number(alloc, "workers", WORKERS, help::WORKERS).default_value("1"))?
+        .arg(number(alloc, "cut", CUT, help::CUT).default_value("64"))?
+        .arg(number(alloc, "rounds", ROUNDS, help::ROUNDS).default_value("4"))
 }
 
 /// A file's name, as a word of its own.

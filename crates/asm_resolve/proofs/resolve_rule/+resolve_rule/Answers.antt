@@ -182,13 +182,13 @@ resolve_choose-resolve_boxed-requires t c = (omega (arith, c.decreases), c.in_ok
 pub resolve_choose-returns-in_default-clause-resolved : goal.resolve_choose-returns-in_default-clause-resolved
 resolve_choose-returns-in_default-clause-resolved t c =
     let a = c.args in
-    choose_none_here (spec_of a.checked.now.spec) a.checked.now.well_formed (slots_of a.scope.now) a.name.now.text a.over.now.text a.test.now a.body.now a.none.now c.in_ok-none.none c.in_ok-none.ensures.resolved
-    c.in_ok-new-2.field-0 c.in_ok-new-2.ensures.ok c.in_default.ensures.none c.in_ok-new.field-0 c.in_ok-new.ensures.ok c.truth.result c.truth.ensures
+    choose_none_here (spec_of a.checked.now.spec) a.checked.now.well_formed (slots_of a.scope.now) a.name.now.text a.over.now.text a.test.now a.body.now a.none.now c.in_ok-other.other c.in_ok-other.ensures.resolved
+    c.in_ok-none.none c.in_ok-none.ensures.ok c.in_default.ensures.none c.in_ok-new.field-0 c.in_ok-new.ensures.ok c.truth.result c.truth.ensures
 
 pub resolve_choose-returns-clause-resolved : goal.resolve_choose-returns-clause-resolved
 resolve_choose-returns-clause-resolved t c =
     let a = c.args in
-    choose_here (spec_of a.checked.now.spec) a.checked.now.well_formed (slots_of a.scope.now) a.name.now.text a.over.now.text a.test.now a.body.now a.none.now c.in_ok-none.none c.in_ok-none.ensures.resolved c.in_ok-new-3.field-0 c.in_ok-new-3.ensures.ok
+    choose_here (spec_of a.checked.now.spec) a.checked.now.well_formed (slots_of a.scope.now) a.name.now.text a.over.now.text a.test.now a.body.now a.none.now c.in_ok-other.other c.in_ok-other.ensures.resolved c.in_ok-none.none c.in_ok-none.ensures.ok
     c.in-Some.over c.in-Some.ensures.number c.in-Some.ensures.known
     (value_slot a.name.now.text ∷ slots_of a.scope.now) refl
     c.in_ok-test.test c.in_ok-test.ensures.resolved c.in_ok-body.body c.in_ok-body.ensures.resolved
