@@ -1,24 +1,16 @@
 -- The nodes that are expanded at once.
 --     next_in, map_last              one more of the nodes from a place on
 --     batch_at, shallow_at           what holds of each of their states
---     listed_count, listed_at        the outcomes of each
 --     each_mapped, each_between      what holds of all nodes holds of these
 --     same_node                      one node stands at a place
---     front_states, front_each, front_none, listed_front, listed_one     what holds of the first ones of them
-use Rattle.std.proofs.Common.{◌≡◌, ℕ, zero, suc, ◌+◌, ◌-◌, ◌<◌, ◌≤◌, List, [], ◌∷◌, ◌++◌, map, take, drop, length, get_or, refl, sym, ap, subst, ◌∙◌, arith, Vec, Global}
-use Rattle.std.specs.Prelude.{slice_get, Some, Result as Returned}
+--     front_states, front_each, front_few, front_none     what holds of the first ones of them
+use Rattle.std.proofs.Common.{◌≡◌, ℕ, zero, suc, ◌+◌, ◌-◌, ◌<◌, ◌≤◌, List, [], ◌∷◌, ◌++◌, map, take, drop, length, get_or, refl, sym, ap, subst, ◌∙◌, arith}
+use Rattle.std.specs.Prelude.{slice_get, Some}
 use Rattle.std.proofs.lemmas.List.{take_more, length-drop}
 use Rattle.std.proofs.lemmas.Option.{get_or_from_slice_get, slice_get_within}
-use Rattle.asm_state.specs.Location.{State}
-use Rattle.asm_state.specs.Signature.{Shape, state_of}
 use Rattle.asm_state.specs.declared.value.Value.{Value}
-use Rattle.asm_meaning.specs.Run.{Specification}
-use Rattle.asm_explore.specs.declared.found.Choice.{Choice}
-use Rattle.asm_explore.specs.declared.found.Found.{Found}
-use Rattle.asm_explore.specs.declared.refusal.Refusal.{Refusal}
 use Rattle.asm_explore.specs.Kept.{Node}
-use Rattle.asm_explore.specs.Lists.{Situation, Each}
-use Rattle.asm_explore.specs.Steps.{IsListed, AreListed}
+use Rattle.asm_explore.specs.Lists.{Each}
 use Rattle.asm_explore.proofs.Kept.{get_or_drop}
 
 pub next_in : (nodes : List Node) (first i number : ℕ) (n : Node) → first + i ≡ number → slice_get nodes number ≡ Some n
@@ -85,45 +77,12 @@ each_between P (n ∷ nodes) zero zero h = tt
 each_between P (n ∷ nodes) zero (suc m) h = (h.0, each_between P nodes zero m h.1)
 each_between P (n ∷ nodes) (suc first) m h = each_between P nodes first m h.1
 
-module _ (shape : Shape) (specification : Specification) (turns : ℕ) (makes : State → Situation → List Choice) (limit : ℕ) where
-  pub listed_count : (As : List (List Value)) (rs : List (Returned (Vec Found Global) Refusal)) → AreListed shape specification turns makes limit As rs → length rs ≡ length As
-  listed_count [] [] h = refl
-  listed_count [] (r ∷ rs) h = absurd h
-  listed_count (A ∷ As) [] h = absurd h
-  listed_count (A ∷ As) (r ∷ rs) h = ap suc (listed_count As rs h.1)
-
-  pub listed_at : (As : List (List Value)) (rs : List (Returned (Vec Found Global) Refusal)) (k : ℕ) (A : List Value) (r : Returned (Vec Found Global) Refusal)
-      → AreListed shape specification turns makes limit As rs → k < length As → A ≡ get_or As k A → r ≡ get_or rs k r → IsListed shape specification turns makes limit (state_of shape A) r
-  listed_at [] rs k A r h low is listed = absurd (omega (arith, low))
-  listed_at (B ∷ As) [] k A r h low is listed = absurd h
-  listed_at (B ∷ As) (q ∷ rs) zero A r h low is listed =
-      subst (IsListed shape specification turns makes limit (state_of shape A)) (sym listed)
-      (subst (λ C. IsListed shape specification turns makes limit (state_of shape C) q) (sym is) h.0)
-  listed_at (B ∷ As) (q ∷ rs) (suc k) A r h low is listed = listed_at As rs k A r h.1 (omega (arith, low)) is listed
-
 pub same_node : (nodes : List Node) (i : ℕ) (n m : Node) → slice_get nodes i ≡ Some n → slice_get nodes i ≡ Some m → n ≡ m
 same_node nodes i n m there here = cc
 
 pub no_items : {X : Type 0} (xs ys : List X) → xs ≡ ys → length xs ≡ 0 → ys ≡ []
 no_items xs [] is none = refl
 no_items xs (y ∷ ys) is none = absurd (omega (arith, none, ap length is))
-
-module _ (shape : Shape) (specification : Specification) (turns : ℕ) (makes : State → Situation → List Choice) (limit : ℕ) where
-  -- those of one more state
-  pub listed_push : (As : List (List Value)) (rs : List (Returned (Vec Found Global) Refusal)) (A : List Value) (r : Returned (Vec Found Global) Refusal)
-      → AreListed shape specification turns makes limit As rs → IsListed shape specification turns makes limit (state_of shape A) r
-      → AreListed shape specification turns makes limit (As ++ A ∷ []) (rs ++ r ∷ [])
-  listed_push [] [] A r listed here = (here, tt)
-  listed_push [] (q ∷ rs) A r listed here = absurd listed
-  listed_push (B ∷ As) [] A r listed here = absurd listed
-  listed_push (B ∷ As) (q ∷ rs) A r listed here = (listed.0, listed_push As rs A r listed.1 here)
-
-  -- the outcomes of one state alone
-  pub listed_last : (A : List Value) (rs front : List (Returned (Vec Found Global) Refusal)) (r : Returned (Vec Found Global) Refusal)
-      → AreListed shape specification turns makes limit (A ∷ []) rs → rs ≡ front ++ r ∷ [] → IsListed shape specification turns makes limit (state_of shape A) r
-  listed_last A rs [] r listed is = (subst (AreListed shape specification turns makes limit (A ∷ [])) is listed).0
-  listed_last A rs (q ∷ []) r listed is = absurd (subst (AreListed shape specification turns makes limit (A ∷ [])) is listed).1
-  listed_last A rs (q ∷ p ∷ front) r listed is = absurd (subst (AreListed shape specification turns makes limit (A ∷ [])) is listed).1
 
 -- ---- the first ones
 
@@ -152,19 +111,3 @@ pub front_none : {X : Type 0} (xs : List X) (m : ℕ) → (0 < length xs → 0 <
 front_none [] m some is = refl
 front_none (x ∷ xs) zero some is = absurd (omega (arith, some (omega arith)))
 front_none (x ∷ xs) (suc m) some is = absurd (omega (arith, ap length is))
-
-module _ (shape : Shape) (specification : Specification) (turns : ℕ) (makes : State → Situation → List Choice) (limit : ℕ) where
-  pub listed_front : (k : ℕ) (As : List (List Value)) (rs : List (Returned (Vec Found Global) Refusal)) → AreListed shape specification turns makes limit (take k As) rs
-      → AreListed shape specification turns makes limit (take (length rs) As) rs
-  listed_front zero As [] h = tt
-  listed_front zero As (r ∷ rs) h = absurd h
-  listed_front (suc k) As [] h = tt
-  listed_front (suc k) [] (r ∷ rs) h = absurd h
-  listed_front (suc k) (A ∷ As) (r ∷ rs) h = (h.0, listed_front k As rs h.1)
-
-  -- of one state
-  pub listed_one : (A : List Value) (rs : List (Returned (Vec Found Global) Refusal)) → 0 < length rs → AreListed shape specification turns makes limit (take (length rs) (A ∷ [])) rs
-      → AreListed shape specification turns makes limit (A ∷ []) rs
-  listed_one A [] some h = absurd (omega (arith, some))
-  listed_one A (r ∷ []) some h = (h.0, tt)
-  listed_one A (r ∷ q ∷ rs) some h = absurd h.1

@@ -1,12 +1,13 @@
 -- How searches end.
 --     refused_*       one that was refused isn't done, nor closed, and nothing is said of a bad step
+--     none_*          where nothing is wrong something holds
 --     halts_*         why a search is cut off, said otherwise
 --     done_bad        where all nodes are expanded, nothing is said of a bad step
 use Rattle.std.proofs.Common.{◌≡◌, ◌≢◌, ℕ, List, sym, subst}
 use Rattle.asm_explore.specs.declared.explored.Bad.{Bad}
 use Rattle.asm_explore.specs.declared.explored.Ended.{Ended}
 use Rattle.asm_explore.specs.declared.explored.Ended.TheVariants as ended
-use Rattle.std.specs.Prelude.{Option, Some, None, IfSome, Result as Returned, Ok, Err, IfOk, IfErr, IsErrAnd}
+use Rattle.std.specs.Prelude.{Option, Some, None, IfSome, IfNone, Result as Returned, Ok, Err, IfOk, IfErr, IsErrAnd}
 use Rattle.asm_explore.specs.declared.halt.Halt.{Halt}
 use Rattle.asm_explore.specs.declared.halt.Halt.TheVariants as halt
 use Rattle.asm_explore.specs.declared.found.Choice.{Choice}
@@ -81,6 +82,17 @@ pub found_weaker : {T E : Type 0} (P Q : T → Type 0) (r : Returned (Option T) 
 found_weaker P Q (Ok None) f h = tt
 found_weaker P Q (Ok (Some x)) f h = f x h
 found_weaker P Q (Err e) f h = tt
+
+-- where nothing is wrong something holds, also of less
+pub none_any : {X E : Type 0} (r : Returned (Option X) E) (P : Type 0) → P → IfOk r (λ o. IfNone o P)
+none_any (Ok None) P p = p
+none_any (Ok (Some x)) P p = tt
+none_any (Err e) P p = tt
+
+pub none_weaker : {X E : Type 0} (r : Returned (Option X) E) (P Q : Type 0) → (P → Q) → IfOk r (λ o. IfNone o P) → IfOk r (λ o. IfNone o Q)
+none_weaker (Ok None) P Q f h = f h
+none_weaker (Ok (Some x)) P Q f h = tt
+none_weaker (Err e) P Q f h = tt
 
 -- ---- why a search is cut off
 

@@ -5,6 +5,7 @@ pub mod Placing
 pub mod Ways
 pub mod Differing
 pub mod ListLemmas
+pub mod LookedAhead
 pub mod Growing
 pub mod ReadBack
 pub mod LeftOut

@@ -17,6 +17,7 @@ pub mod Reached
 pub mod Steps
 pub mod Quiet
 pub mod ScriptTo
+pub mod Ahead
 pub mod Answers
 pub mod Conditions
 pub mod MainRule

@@ -1,15 +1,13 @@
--- The outcomes of the steps from some states.
+-- The outcomes of the step from a state.
 --     IsStep A fs            a list has what the step from a state yields, with choices at paths of their own
 --     IsCrowdOf A crowd      more lists of choices than the limit says, each two of which take different candidates of some choose at the path
 --                            that is named or below it, are made by the step from a state, each in each situation that takes it
 --     IsListed A r           of a state there is such a list, or none: then there are more lists of choices than the limit says, each two take
 --                            different candidates of some choose, and each is made in each situation that takes it
---     AreListed As rs        so it is of each state
-use Rattle.std.specs.Prelude.{ℕ, List, [], ◌∷◌, Result as Returned, IfOk, IfErr}
+use Rattle.std.specs.Prelude.{ℕ, List, Result as Returned, IfOk, IfErr}
 use Rattle.std.proofs.Common.{Vec, Global}
 use Rattle.asm_state.specs.Location.{State}
-use Rattle.asm_state.specs.Signature.{Shape, state_of}
-use Rattle.asm_state.specs.declared.value.Value.{Value}
+use Rattle.asm_state.specs.Signature.{Shape}
 use Rattle.asm_meaning.specs.Run.{Specification}
 use Rattle.asm_explore.specs.declared.found.Choice.{Choice}
 use Rattle.asm_explore.specs.declared.found.Found.{Found}
@@ -34,9 +32,3 @@ module _ (shape : Shape) (specification : Specification) (turns : ℕ) where
     pub record IsListed (A : State) (r : Returned (Vec Found Global) Refusal) : Type 0 where
       pub step : IfOk r (λ fs. IsStep A fs.items)
       pub refuses : IfErr r (Refuses limit (λ p cs. AreApart cs × AreMade (makes A) cs))
-
-    abbrev pub AreListed : List (List Value) → List (Returned (Vec Found Global) Refusal) → Type 0
-    AreListed [] [] = Unit {0}
-    AreListed (A ∷ As) (r ∷ rs) = IsListed (state_of shape A) r × AreListed As rs
-    AreListed [] (r ∷ rs) = ⊥
-    AreListed (A ∷ As) [] = ⊥

@@ -10,15 +10,15 @@ pub(crate) const FEW: usize = 16;
 /// Numbers of nodes, from 1, each at or behind the place of its state's hash. No proof rests on what
 /// stands here: what is found is compared. And counts of outcomes and states.
 #[derive(Drop)]
-pub(crate) struct Index {
-    pub slots: Vec<u32>,
+pub struct Index {
+    pub(crate) slots: Vec<u32>,
     /// For each place the tag of the hash of what stands there, or 0 where it is free. So most states
     /// that are other ones aren't looked at.
-    pub tags: Vec<u8>,
+    pub(crate) tags: Vec<u8>,
     /// So many outcomes of steps were followed.
-    pub outcomes: usize,
+    pub(crate) outcomes: usize,
     /// The most outcomes of a step.
-    pub widest: usize,
+    pub(crate) widest: usize,
     /// So many states were stepped from at once, the last time.
     batch: usize,
 }
@@ -41,6 +41,11 @@ impl Index {
         if outcomes > self.widest {
             self.widest = outcomes;
         }
+    }
+
+    /// Takes the outcomes of a step back, which are to be counted again.
+    pub(crate) fn uncount(&mut self, outcomes: usize) {
+        self.outcomes = self.outcomes.saturating_sub(outcomes);
     }
 
     /// So many states are stepped from at once next, of at most so many: twice as many as the last

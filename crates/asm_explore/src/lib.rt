@@ -2,9 +2,11 @@
 //! that come of them.
 #![tactic(auto)]
 
+pub mod ahead;
 pub mod answer;
 pub mod answering;
 pub mod asked;
+mod batch;
 mod beside;
 mod byte;
 mod candidates;
@@ -15,11 +17,13 @@ pub mod explored;
 pub mod fault;
 pub mod found;
 pub mod halt;
-mod index;
+pub mod index;
 pub mod laws;
 mod leading;
 mod leaf;
 mod listing;
+mod looking;
+mod lookup;
 pub mod machine;
 mod making;
 pub mod nodes;
@@ -43,6 +47,7 @@ pub mod whole;
 pub mod writing;
 pub mod writing_error;
 
+pub use ahead::Ahead;
 pub use answer::{Answered, BadRun, Finding, QuietRun, Unwritten};
 pub use asked::Asked;
 pub use exploration::Exploration;
@@ -50,6 +55,7 @@ pub use explored::{Bad, Ended, Explored};
 pub use fault::Fault;
 pub use found::{Answer, Choice, Found};
 pub use halt::Halt;
+pub use index::Index;
 pub use machine::{Listed, Machine};
 pub use nodes::Nodes;
 pub use refusal::{Crowd, Refusal};

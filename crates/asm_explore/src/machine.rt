@@ -1,13 +1,18 @@
 //! What is explored.
 ghost use Rattle.std.specs.Prelude.{◌≡◌, ◌<◌, ℕ, Bool, List, length, take, IfOk};
+ghost use Rattle.asm_state.specs.Contents.{IsStateOf};
 ghost use Rattle.asm_state.specs.Location.{State as Contents};
 ghost use Rattle.asm_state.specs.Signature.{Shape, count_of, state_of};
 ghost use Rattle.asm_meaning.specs.Run.{Specification};
 ghost use Rattle.asm_explore.specs.declared.found.Choice.{Choice};
 ghost use Rattle.asm_explore.specs.Lists.{Situation, Each};
-ghost use Rattle.asm_explore.specs.Steps.{AreListed};
+ghost use Rattle.asm_explore.specs.Ahead.{AreAhead};
+ghost use Rattle.asm_explore.specs.Steps.{IsListed};
 
+use crate::ahead::Ahead;
 use crate::found::Found;
+use crate::index::Index;
+use crate::nodes::Nodes;
 use crate::refusal::Refusal;
 use asm_state::signature::Signature;
 use asm_state::state::State;
@@ -46,18 +51,32 @@ pub trait Machine {
     fn signature(&self) -> &Signature
         ensures { result.now ≡ shape self.now };
 
-    /// So many states are best given to `outcomes` at once. The search gives fewer where there are no
+    /// So many states are best given to `ahead` at once. The search gives fewer where there are no
     /// more, and after batches of which fewer were stepped from.
     fn batch(&self) -> usize;
 
-    /// What a step from each of the first of these states yields, through all scripts: from all of
-    /// them, or from fewer, where these have many outcomes, but from one at least. A choice is made
-    /// at most once in a step, at a path of its own.
-    fn outcomes(&self, alloc: Global, states: &[State]) -> Result<Vec<Listed>, AllocError>
+    /// What a step from the state yields, through all scripts. A choice is made at most once in a
+    /// step, at a path of its own.
+    fn outcomes(&self, alloc: Global, state: &State) -> Listed
         requires sound { is_sound self.now }
-        requires whole { Each (λ s. length s ≡ count_of (shape self.now)) states.now }
+        requires whole { length state.now ≡ count_of (shape self.now) }
+        ensures { IsListed (shape self.now) (specification self.now) (turns self.now) (made self.now) (limit self.now) (state_of (shape self.now) state.now) result };
+
+    /// What the steps from the first of these states lead to, where these nodes are reached and stand
+    /// in this index: from all of them, or from fewer, where these have many outcomes, but from one
+    /// at least. Where a step may not be looked at ahead, or may go wrong, there is `None`.
+    fn ahead(
+        &self,
+        alloc: Global,
+        states: &[State],
+        nodes: &Nodes,
+        index: &Index,
+    ) -> Result<Vec<Option<Ahead>>, AllocError>
+        requires sound { is_sound self.now }
+        requires states { Each (IsStateOf (shape self.now)) states.now }
+        requires nodes { Each (λ n. length n.state ≡ count_of (shape self.now)) nodes.now }
         ensures some { 0 < length states.now → IfOk result (λ all. 0 < length all.items) }
-        ensures listed { IfOk result (λ all. AreListed (shape self.now) (specification self.now) (turns self.now) (made self.now) (limit self.now) (take (length all.items) states.now) all.items) };
+        ensures ahead { IfOk result (λ all. AreAhead (shape self.now) (specification self.now) (turns self.now) nodes.now (take (length all.items) states.now) all.items) };
 
     /// Whether the state is right.
     fn is_right(&self, alloc: Global, state: &State) -> bool

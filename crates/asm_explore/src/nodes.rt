@@ -55,6 +55,21 @@ impl Nodes {
         }
     }
 
+    /// No state, with room for so many with so many contents each, if they are bytes.
+    pub(crate) fn with_capacity(
+        alloc: Global,
+        states: usize,
+        count: usize,
+    ) -> Result<Nodes, AllocError>
+        ensures { IfOk result (λ nodes. nodes ≡ []) }
+    {
+        Ok(Nodes {
+            bytes: Vec::with_capacity(alloc, states.saturating_mul(count))?,
+            words: Vec::new(alloc),
+            links: Vec::with_capacity(alloc, states)?,
+        })
+    }
+
     /// How many there are.
     #[inline(always)]
     pub fn len(&self) -> usize
@@ -109,6 +124,17 @@ impl Nodes {
     {
         let (bytes, words) = self.contents(number);
         are_contents(bytes, words, state)
+    }
+
+    /// Whether a node has the same state as one of others.
+    pub(crate) fn is_same(&self, number: usize, others: &Nodes, other: usize) -> bool
+        requires number { number < length self.now }
+        requires other { other < length others.now }
+        ensures { IsTrue result → (n m : Node) → slice_get self.now number ≡ Some n → slice_get others.now other ≡ Some m → n.state ≡ m.state }
+    {
+        let (bytes, words) = self.contents(number);
+        let (other_bytes, other_words) = others.contents(other);
+        bytes == other_bytes && are_same(words, other_words)
     }
 
     /// The hash of its contents.
@@ -197,6 +223,21 @@ fn are_contents(bytes: &[u8], words: &[Word], state: &State) -> bool
     }
     for i in 0..words.len() {
         if !is_same_value(words[i], state.content(bytes.len() + i)) {
+            return false;
+        }
+    }
+    true
+}
+
+/// Whether the words are the same.
+fn are_same(left: &[Word], right: &[Word]) -> bool
+    ensures { IsTrue result → left.now ≡ right.now }
+{
+    if left.len() != right.len() {
+        return false;
+    }
+    for i in 0..left.len() {
+        if !is_same_value(left[i], right[i]) {
             return false;
         }
     }

@@ -18,7 +18,7 @@ use asm_state::state::State;
 use std::alloc::{AllocError, Global};
 
 /// Whether each outcome of the step from a state leaves it as it is.
-fn is_quiet<M: Machine>(
+pub(crate) fn is_quiet<M: Machine>(
     alloc: Global,
     machine: &M,
     state: &State,
@@ -38,20 +38,20 @@ fn is_quiet<M: Machine>(
     Ok(true)
 }
 
-/// Lists the number of a node if its state is quiet. Answers what is wrong with it where a run may
-/// not rest in it.
+/// Lists the number of a node if its state is quiet, as is told. Answers what is wrong with it where
+/// a run may not rest in it.
 pub(crate) fn rest<M: Machine>(
     alloc: Global,
     machine: &M,
     from: usize,
     state: &State,
-    outcomes: &[Found],
+    is_quiet: bool,
     quiet: &mut Vec<u32>,
 ) -> Result<Option<Bad>, Halt>
     requires machine { M.is_sound machine.now }
     requires from { from < 4_294_967_296 }
     requires state { IsStateOf (M.shape machine.now) state.now }
-    requires step { IsStep (M.shape machine.now) (M.specification machine.now) (M.turns machine.now) (state_of (M.shape machine.now) state.now) outcomes.now }
+    requires quiet { IsTrue is_quiet ↔ IsQuiet (M.specification machine.now) (M.turns machine.now) (state_of (M.shape machine.now) state.now) }
     ensures rests { IfOk result (λ bad. IfNone bad (RestsSo (M.specification machine.now) (M.turns machine.now) (M.rests machine.now) (state_of (M.shape machine.now) state.now) from quiet.old.items quiet.new.items)) }
     ensures wrong { IfOk result (λ bad. IfSome bad (λ b. (b.from ≡ from) × (b.choices.items ≡ []) × (b.fault ≡ fault.Deadlock)
         × IsDeadlock (M.specification machine.now) (M.turns machine.now) (M.rests machine.now) (state_of (M.shape machine.now) state.now))) }
@@ -59,7 +59,7 @@ pub(crate) fn rest<M: Machine>(
     ensures unlisted { IfErr result (λ _. quiet.new.items ≡ quiet.old.items) }
     ensures never { IfErr result (HaltsSo ⊥ (λ _. ⊥)) }
 {
-    if !is_quiet(alloc, machine, state, outcomes)? {
+    if !is_quiet {
         return Ok(None);
     }
     if !machine.may_rest(alloc, state) {

@@ -1,29 +1,32 @@
 //! The search through all states.
-ghost use Rattle.std.specs.Prelude.{◌≡◌, ◌≢◌, ◌+◌, ◌<◌, ◌≤◌, [], true, false, IsTrue, IfSome, IfNone, IfErr, IfOk, Some, length, slice_get, map, take, drop};
+ghost use Rattle.std.specs.Prelude.{◌≡◌, ◌+◌, ◌<◌, ◌≤◌, [], true, false, IsTrue, IfSome, IfNone, IfErr, IfOk, Some, length, slice_get, map, take, drop};
 ghost use Rattle.asm_state.specs.Contents.{IsStateOf};
-ghost use Rattle.asm_state.specs.Location.{State as Contents};
 ghost use Rattle.asm_state.specs.Signature.{Shape, count_of, state_of};
 ghost use Rattle.asm_meaning.specs.Yields.{Result as Yielded};
+ghost use Rattle.asm_explore.specs.Ahead.{AreAhead, IsAhead};
 ghost use Rattle.asm_explore.specs.declared.explored.Ended.TheVariants.{Closed, AtLimit, TooManyStates};
 ghost use Rattle.asm_explore.specs.declared.halt.Halt.TheVariants as halt;
 ghost use Rattle.asm_explore.specs.declared.found.Found.{Found};
 ghost use Rattle.asm_explore.specs.Kept.{Node};
 ghost use Rattle.asm_explore.specs.Ends.{HaltsSo, IfBad, IfCrowd, IsDone};
-ghost use Rattle.asm_explore.specs.Lists.{Situation, Each, AnyOf, Shows, HaveChoices, AreCounted, IsCounted, Lists};
+ghost use Rattle.asm_explore.specs.Lists.{Each, Shows, HaveChoices, AreCounted, IsCounted};
 ghost use Rattle.asm_explore.specs.Placed.{AreApart};
-ghost use Rattle.asm_explore.specs.Reached.{AreBegun, AreInside, AtNode, Known, IsNear, IsGood, Extends, Follows, Expanded, IsLinked, IsLooked, IsOutcome, IsBadStep, IsBad, IsStopped, LeadsTo, Rises, GoesWrongSo, steps_from, state_at};
+ghost use Rattle.asm_explore.specs.Reached.{AreBegun, AreInside, AtNode, Known, IsNear, IsGood, Extends, Follows, Expanded, IsLinked, IsLooked, IsOutcome, IsBadStep, IsStopped, LeadsTo, Rises, GoesWrongSo, state_at};
 ghost use Rattle.asm_explore.specs.Quiet.{IsFirstQuiet, IsRested, RestsSo};
 ghost use Rattle.asm_explore.specs.Search.{LeadsOn, IsQuiet, IsDeadlock, IsSafeUpTo, IsSafe, HoldsBefore, HoldsAlways};
-ghost use Rattle.asm_explore.specs.Steps.{AreListed, IsCrowdOf, IsListed, IsStep};
+ghost use Rattle.asm_explore.specs.Steps.{IsCrowdOf, IsStep};
 
+use crate::ahead::Ahead;
+use crate::batch::next_batch;
 use crate::explored::{Bad, Ended, Explored, Looked, cut_off};
 use crate::fault::Fault;
 use crate::found::{Answer, Choice, Found, add_choices};
 use crate::halt::{Halt, halted};
-use crate::index::{Index, first_place, hash_of, next_place, tag_of};
-use crate::machine::{Listed, Machine};
+use crate::index::{Index, hash_of};
+use crate::lookup::{is_reached, is_there, note_last};
+use crate::machine::Machine;
 use crate::nodes::Nodes;
-use crate::quiet::rest;
+use crate::quiet::{is_quiet, rest};
 use crate::same::is_same_value;
 use crate::watch::{Progress, Watch};
 use asm_state::state::State;
@@ -44,104 +47,13 @@ pub(crate) fn is_same_state(left: &State, right: &State, count: usize) -> bool
     true
 }
 
-/// Whether a node has this state.
-fn has_state(nodes: &Nodes, number: usize, state: &State, count: usize) -> bool
-    requires number { number < length nodes.now }
-    requires nodes { Each (λ n. length n.state ≡ count) nodes.now }
-    requires state { length state.now ≡ count }
-    ensures { IsTrue result → AnyOf (λ n. n.state ≡ state.now) nodes.now }
-{
-    nodes.has_state(number, state)
-}
-
-/// Whether the node that stands in a place has this state.
-fn stands_in(nodes: &Nodes, slot: u32, state: &State, count: usize) -> bool
-    requires nodes { Each (λ n. length n.state ≡ count) nodes.now }
-    requires state { length state.now ≡ count }
-    ensures { IsTrue result → AnyOf (λ n. n.state ≡ state.now) nodes.now }
-{
-    let number = slot as usize;
-    if number == 0 || number > nodes.len() {
-        return false;
-    }
-    has_state(nodes, number - 1, state, count)
-}
-
-/// Whether the index leads to a node that has this state.
-fn is_reached(nodes: &Nodes, index: &Index, state: &State, count: usize) -> bool
-    requires nodes { Each (λ n. length n.state ≡ count) nodes.now }
-    requires state { length state.now ≡ count }
-    ensures { IsTrue result → AnyOf (λ n. n.state ≡ state.now) nodes.now }
-{
-    let (slots, tags) = (index.slots.as_slice(), index.tags.as_slice());
-    if tags.len() == 0 || slots.len() != tags.len() {
-        return false;
-    }
-    let hash = hash_of(state, count);
-    let tag = tag_of(hash);
-    let mut at = first_place(hash, tags.len());
-    for _ in 0..tags.len() {
-        let other = tags[at];
-        if other == 0 {
-            return false;
-        }
-        if other == tag && stands_in(nodes, slots[at], state, count) {
-            return true;
-        }
-        at = next_place(at, tags.len());
-    }
-    false
-}
-
-/// Notes where a node stands.
-fn note(nodes: &Nodes, number: usize, index: &mut Index)
-    requires number { number < length nodes.now }
-    requires few { number < 4_294_967_295 }
-{
-    let places = index.tags.len();
-    if places == 0 || index.slots.len() != places {
-        return;
-    }
-    let hash = nodes.hash(number);
-    let mut at = first_place(hash, places);
-    for _ in 0..places {
-        if index.tags[at] == 0 {
-            index.tags[at] = tag_of(hash);
-            index.slots[at] = number as u32 + 1;
-            return;
-        }
-        at = next_place(at, places);
-    }
-}
-
-/// Notes where the last node stands, in more room where three quarters of it are used.
-fn note_last(alloc: Global, nodes: &Nodes, index: &mut Index) -> Result<(), AllocError>
-    requires few { length nodes.now < 4_294_967_296 }
-{
-    let wanted = nodes.len().saturating_add(nodes.len() / 3);
-    if wanted < index.tags.len() {
-        if nodes.len() > 0 {
-            note(nodes, nodes.len() - 1, index);
-        }
-        return Ok(());
-    }
-    let places = wanted.saturating_mul(2).saturating_add(8);
-    let (mut slots, mut tags) = (Vec::new(alloc), Vec::new(alloc));
-    slots.resize(places, 0u32)?;
-    tags.resize(places, 0u8)?;
-    index.slots = slots;
-    index.tags = tags;
-    for number in 0..nodes.len() {
-        note(nodes, number, index);
-    }
-    Ok(())
-}
-
-/// Makes a state known that a step from a node leads to. Answers whether it is right.
+/// Makes a state known, which has this hash, that a step from a node leads to. Answers whether it is
+/// right.
 fn reach<M: Machine>(
     alloc: Global,
     machine: &M,
     state: &State,
+    hash: u64,
     from: usize,
     below: u32,
     limit: u32,
@@ -163,7 +75,7 @@ fn reach<M: Machine>(
     ensures full { IfErr result (HaltsSo (limit ≤ length nodes.new) (λ _. ⊥)) }
 {
     let count = machine.signature().count();
-    if is_reached(nodes, index, state, count) {
+    if is_reached(nodes, index, hash, state, count) {
         return Ok(true);
     }
     if !machine.is_right(alloc, state) {
@@ -173,7 +85,7 @@ fn reach<M: Machine>(
         return Err(Halt::States);
     }
     nodes.push(state, count, from as u32, below)?;
-    note_last(alloc, nodes, index)?;
+    note_last(alloc, nodes, hash, index)?;
     Ok(true)
 }
 
@@ -217,7 +129,10 @@ fn follow<M: Machine>(
         return Ok(Some(Fault::Inconsistent));
     }
     let next = updates.set.fire(alloc, signature, state)?;
-    let fine = reach(alloc, machine, &next, from, below, limit, index, nodes)?;
+    let hash = hash_of(&next, signature.count());
+    let fine = reach(
+        alloc, machine, &next, hash, from, below, limit, index, nodes,
+    )?;
     if fine {
         Ok(None)
     } else {
@@ -330,14 +245,13 @@ fn expand<M: Machine>(
     }
 }
 
-/// Expands a node, whose step has these outcomes, and lists it if its state is quiet. Answers what
-/// is wrong with the step, if anything is.
+/// Expands a node by the outcomes of its step, and lists it if its state is quiet. Answers what is
+/// wrong with the step, if anything is.
 fn expand_listed<M: Machine>(
     alloc: Global,
     machine: &M,
     from: usize,
     state: &State,
-    listed: &Listed,
     limit: u32,
     index: &mut Index,
     nodes: &mut Nodes,
@@ -350,7 +264,6 @@ fn expand_listed<M: Machine>(
     requires room { length nodes.old ≤ limit }
     requires nodes { Each (IsGood (M.shape machine.now) (M.right machine.now)) nodes.old }
     requires near { IsNear nodes.old from }
-    requires step { IsListed (M.shape machine.now) (M.specification machine.now) (M.turns machine.now) (M.made machine.now) (M.limit machine.now) (state_of (M.shape machine.now) state.now) listed.now }
     ensures extends { (n : Node) → slice_get nodes.old from ≡ Some n → Extends (M.shape machine.now) (M.specification machine.now) (M.turns machine.now) (M.right machine.now) (n.depth + 1) nodes.old nodes.new }
     ensures begun { AreBegun from nodes.old nodes.new }
     ensures room { length nodes.new ≤ limit }
@@ -363,111 +276,193 @@ fn expand_listed<M: Machine>(
     ensures unlisted { IfErr result (λ _. quiet.new.items ≡ quiet.old.items) }
     ensures full { IfErr result (HaltsSo (limit ≤ length nodes.new) (IsCrowdOf (M.made machine.now) (M.limit machine.now) (state_of (M.shape machine.now) state.now))) }
 {
-    match listed {
+    match machine.outcomes(alloc, state) {
         Ok(outcomes) => {
             let outcomes = outcomes.as_slice();
             match expand(alloc, machine, from, state, outcomes, limit, index, nodes)? {
-                None => rest(alloc, machine, from, state, outcomes, quiet),
+                None => {
+                    let is_quiet = is_quiet(alloc, machine, state, outcomes)?;
+                    rest(alloc, machine, from, state, is_quiet, quiet)
+                }
                 Some(bad) => Ok(Some(bad)),
             }
         }
-        Err(refusal) => Err(halted(alloc, refusal)),
+        Err(refusal) => Err(halted(alloc, &refusal)),
     }
 }
 
-/// The states of a node and of those behind it, as long as they are to be expanded, and so many at
-/// most.
-fn next_states<M: Machine>(
+/// Makes the state of one of some nodes known, which has this hash and which a step from a node leads
+/// to. Answers whether it is right.
+fn reach_next<M: Machine>(
     alloc: Global,
     machine: &M,
-    nodes: &Nodes,
-    first: usize,
-    steps: u32,
-    most: usize,
+    from: usize,
     like: &State,
-) -> Result<Vec<State>, Halt>
+    states: &Nodes,
+    hash: u64,
+    number: usize,
+    below: u32,
+    limit: u32,
+    index: &mut Index,
+    nodes: &mut Nodes,
+) -> Result<bool, Halt>
     requires machine { M.is_sound machine.now }
-    requires most { 0 < most }
-    requires first { first < length nodes.now }
     requires like { length like.now ≡ count_of (M.shape machine.now) }
-    requires nodes { Each (λ n. length n.state ≡ count_of (M.shape machine.now)) nodes.now }
-    ensures within { IfOk result (λ states. first + length states.items ≤ length nodes.now) }
-    ensures states { IfOk result (λ states. states.items ≡ map (λ n. n.state) (take (length states.items) (drop first nodes.now))) }
-    ensures shallow { IfOk result (λ states. Each (λ n. n.depth < steps) (take (length states.items) (drop first nodes.now))) }
-    ensures inside { IfOk result (λ states. Each (λ n. (M.within machine.now) (state_at (M.shape machine.now) n) ≡ true) (take (length states.items) (drop first nodes.now))) }
-    ensures none { IfOk result (λ states. states.items ≡ [] → (n : Node) → slice_get nodes.now first ≡ Some n → n.depth < steps → (M.within machine.now) (state_at (M.shape machine.now) n) ≡ false) }
-    ensures never { IfErr result (HaltsSo ⊥ (λ _. ⊥)) }
+    requires number { number < length states.now }
+    requires from { from < length nodes.old }
+    requires room { length nodes.old ≤ limit }
+    requires nodes { Each (IsGood (M.shape machine.now) (M.right machine.now)) nodes.old }
+    requires near { Each (λ n. n.depth ≤ below) nodes.old }
+    requires kept { Each (λ m. IsStateOf (M.shape machine.now) m.state) states.now }
+    requires leads { Each (λ m. LeadsTo (M.shape machine.now) (M.specification machine.now) (M.turns machine.now) nodes.old from below (state_at (M.shape machine.now) m)) states.now }
+    ensures extends { Extends (M.shape machine.now) (M.specification machine.now) (M.turns machine.now) (M.right machine.now) below nodes.old nodes.new }
+    ensures begun { AreBegun from nodes.old nodes.new }
+    ensures room { length nodes.new ≤ limit }
+    ensures known { IfOk result (λ fine. IsTrue fine → (m : Node) → slice_get states.now number ≡ Some m → Known (M.shape machine.now) nodes.new below (state_at (M.shape machine.now) m)) }
+    ensures full { IfErr result (HaltsSo (limit ≤ length nodes.new) (λ _. ⊥)) }
 {
-    let mut states = Vec::new(alloc);
-    for number in first..nodes.len() {
-        if states.len() >= most || nodes.depth(number) >= steps {
-            return Ok(states);
-        }
-        let state = nodes.state(alloc, number, like)?;
-        if !machine.is_within(alloc, &state) {
-            return Ok(states);
-        }
-        states.push(state)?;
+    if is_there(nodes, index, hash, states, number) {
+        return Ok(true);
     }
-    Ok(states)
+    let state = states.state(alloc, number, like)?;
+    reach(
+        alloc, machine, &state, hash, from, below, limit, index, nodes,
+    )
 }
 
-/// The outcomes of the steps from the first of some states.
-fn listed<M: Machine>(alloc: Global, machine: &M, states: &[State]) -> Result<Vec<Listed>, Halt>
-    requires machine { M.is_sound machine.now }
-    requires whole { Each (λ s. length s ≡ count_of (M.shape machine.now)) states.now }
-    ensures some { 0 < length states.now → IfOk result (λ all. 0 < length all.items) }
-    ensures listed { IfOk result (λ all. AreListed (M.shape machine.now) (M.specification machine.now) (M.turns machine.now) (M.made machine.now) (M.limit machine.now) (take (length all.items) states.now) all.items) }
-    ensures never { IfErr result (HaltsSo ⊥ (λ _. ⊥)) }
-{
-    let lists = machine.outcomes(alloc, states)?;
-    Ok(lists)
-}
-
-/// States that are stepped from at once, and the outcomes of each step.
-#[derive(Drop)]
-struct Batch {
-    states: Vec<State>,
-    lists: Vec<Listed>,
-}
-
-/// The next states that are stepped from at once, so many at most: those of a node and of some behind
-/// it, all of which are to be expanded. There are none if that node isn't.
-fn next_batch<M: Machine>(
+/// Makes states known, which have these hashes, that a step from a node leads to. Answers whether all
+/// are right.
+fn reach_all<M: Machine>(
     alloc: Global,
     machine: &M,
-    nodes: &Nodes,
-    first: usize,
-    steps: u32,
-    most: usize,
+    from: usize,
     like: &State,
-) -> Result<Batch, Halt>
+    states: &Nodes,
+    hashes: &[u64],
+    below: u32,
+    limit: u32,
+    index: &mut Index,
+    nodes: &mut Nodes,
+) -> Result<bool, Halt>
     requires machine { M.is_sound machine.now }
-    requires most { 0 < most }
-    requires first { first < length nodes.now }
     requires like { length like.now ≡ count_of (M.shape machine.now) }
-    requires nodes { Each (λ n. length n.state ≡ count_of (M.shape machine.now)) nodes.now }
-    ensures within { IfOk result (λ batch. first + length batch.states.items ≤ length nodes.now) }
-    ensures states { IfOk result (λ batch. batch.states.items ≡ map (λ n. n.state) (take (length batch.states.items) (drop first nodes.now))) }
-    ensures shallow { IfOk result (λ batch. Each (λ n. n.depth < steps) (take (length batch.states.items) (drop first nodes.now))) }
-    ensures inside { IfOk result (λ batch. Each (λ n. (M.within machine.now) (state_at (M.shape machine.now) n) ≡ true) (take (length batch.states.items) (drop first nodes.now))) }
-    ensures none { IfOk result (λ batch. batch.states.items ≡ [] → (n : Node) → slice_get nodes.now first ≡ Some n → n.depth < steps → (M.within machine.now) (state_at (M.shape machine.now) n) ≡ false) }
-    ensures listed { IfOk result (λ batch. AreListed (M.shape machine.now) (M.specification machine.now) (M.turns machine.now) (M.made machine.now) (M.limit machine.now) batch.states.items batch.lists.items) }
-    ensures never { IfErr result (HaltsSo ⊥ (λ _. ⊥)) }
+    requires from { from < length nodes.old }
+    requires room { length nodes.old ≤ limit }
+    requires nodes { Each (IsGood (M.shape machine.now) (M.right machine.now)) nodes.old }
+    requires near { Each (λ n. n.depth ≤ below) nodes.old }
+    requires kept { Each (λ m. IsStateOf (M.shape machine.now) m.state) states.now }
+    requires leads { Each (λ m. LeadsTo (M.shape machine.now) (M.specification machine.now) (M.turns machine.now) nodes.old from below (state_at (M.shape machine.now) m)) states.now }
+    ensures extends { Extends (M.shape machine.now) (M.specification machine.now) (M.turns machine.now) (M.right machine.now) below nodes.old nodes.new }
+    ensures begun { AreBegun from nodes.old nodes.new }
+    ensures room { length nodes.new ≤ limit }
+    ensures known { IfOk result (λ fine. IsTrue fine → Each (λ m. Known (M.shape machine.now) nodes.new below (state_at (M.shape machine.now) m)) states.now) }
+    ensures full { IfErr result (HaltsSo (limit ≤ length nodes.new) (λ _. ⊥)) }
 {
-    let mut states = next_states(alloc, machine, nodes, first, steps, most, like)?;
-    let lists = listed(alloc, machine, states.as_slice())?;
-    states.truncate(lists.len());
-    Ok(Batch { states, lists })
+    for k in 0..states.len() {
+        let hash = hashes.get(k).copied().unwrap_or(0);
+        if !reach_next(
+            alloc, machine, from, like, states, hash, k, below, limit, index, nodes,
+        )? {
+            return Ok(false);
+        }
+    }
+    Ok(true)
 }
 
-/// Expands the nodes from one on, which have these states, whose steps have these outcomes.
+/// Expands a node, of whose step it is known what it leads to, and lists it if its state is quiet.
+/// Answers what is wrong with the step, if anything is.
+fn expand_ahead<M: Machine>(
+    alloc: Global,
+    machine: &M,
+    from: usize,
+    state: &State,
+    ahead: &Ahead,
+    limit: u32,
+    index: &mut Index,
+    nodes: &mut Nodes,
+    quiet: &mut Vec<u32>,
+) -> Result<Option<Bad>, Halt>
+    requires machine { M.is_sound machine.now }
+    requires from { from < length nodes.old }
+    requires shallow { (n : Node) → slice_get nodes.old from ≡ Some n → n.depth < 4_294_967_295 }
+    requires here { (n : Node) → slice_get nodes.old from ≡ Some n → n.state ≡ state.now }
+    requires room { length nodes.old ≤ limit }
+    requires nodes { Each (IsGood (M.shape machine.now) (M.right machine.now)) nodes.old }
+    requires near { IsNear nodes.old from }
+    requires ahead { IsAhead (M.shape machine.now) (M.specification machine.now) (M.turns machine.now) nodes.old (state_of (M.shape machine.now) state.now) ahead.now }
+    ensures extends { (n : Node) → slice_get nodes.old from ≡ Some n → Extends (M.shape machine.now) (M.specification machine.now) (M.turns machine.now) (M.right machine.now) (n.depth + 1) nodes.old nodes.new }
+    ensures begun { AreBegun from nodes.old nodes.new }
+    ensures room { length nodes.new ≤ limit }
+    ensures expanded { IfOk result (λ bad. IfNone bad ((n : Node) → slice_get nodes.old from ≡ Some n → Expanded (M.shape machine.now) (M.specification machine.now) (M.turns machine.now) nodes.new n)) }
+    ensures wrong { IfOk result (λ bad. IfSome bad (λ b. (b.from ≡ from) ×
+        IsBadStep (M.shape machine.now) (M.specification machine.now) (M.turns machine.now) (M.right machine.now) (M.rests machine.now) nodes.old from b.choices.items b.fault)) }
+    ensures apart { IfOk result (λ bad. IfSome bad (λ b. AreApart b.choices.items)) }
+    ensures rests { IfOk result (λ bad. IfNone bad (RestsSo (M.specification machine.now) (M.turns machine.now) (M.rests machine.now) (state_of (M.shape machine.now) state.now) from quiet.old.items quiet.new.items)) }
+    ensures listed { IfOk result (λ bad. IfSome bad (λ _. quiet.new.items ≡ quiet.old.items)) }
+    ensures unlisted { IfErr result (λ _. quiet.new.items ≡ quiet.old.items) }
+    ensures full { IfErr result (HaltsSo (limit ≤ length nodes.new) (IsCrowdOf (M.made machine.now) (M.limit machine.now) (state_of (M.shape machine.now) state.now))) }
+{
+    let below = nodes.depth(from) + 1;
+    let (states, hashes) = (&ahead.states, ahead.hashes.as_slice());
+    index.count(ahead.outcomes);
+    if reach_all(
+        alloc, machine, from, state, states, hashes, below, limit, index, nodes,
+    )? {
+        rest(alloc, machine, from, state, ahead.is_quiet, quiet)
+    } else {
+        index.uncount(ahead.outcomes);
+        expand_listed(alloc, machine, from, state, limit, index, nodes, quiet)
+    }
+}
+
+/// Expands a node, and lists it if its state is quiet. Answers what is wrong with its step, if
+/// anything is.
+fn expand_step<M: Machine>(
+    alloc: Global,
+    machine: &M,
+    from: usize,
+    state: &State,
+    ahead: &Option<Ahead>,
+    limit: u32,
+    index: &mut Index,
+    nodes: &mut Nodes,
+    quiet: &mut Vec<u32>,
+) -> Result<Option<Bad>, Halt>
+    requires machine { M.is_sound machine.now }
+    requires from { from < length nodes.old }
+    requires shallow { (n : Node) → slice_get nodes.old from ≡ Some n → n.depth < 4_294_967_295 }
+    requires here { (n : Node) → slice_get nodes.old from ≡ Some n → n.state ≡ state.now }
+    requires room { length nodes.old ≤ limit }
+    requires nodes { Each (IsGood (M.shape machine.now) (M.right machine.now)) nodes.old }
+    requires near { IsNear nodes.old from }
+    requires ahead { IfSome ahead.now (IsAhead (M.shape machine.now) (M.specification machine.now) (M.turns machine.now) nodes.old (state_of (M.shape machine.now) state.now)) }
+    ensures extends { (n : Node) → slice_get nodes.old from ≡ Some n → Extends (M.shape machine.now) (M.specification machine.now) (M.turns machine.now) (M.right machine.now) (n.depth + 1) nodes.old nodes.new }
+    ensures begun { AreBegun from nodes.old nodes.new }
+    ensures room { length nodes.new ≤ limit }
+    ensures expanded { IfOk result (λ bad. IfNone bad ((n : Node) → slice_get nodes.old from ≡ Some n → Expanded (M.shape machine.now) (M.specification machine.now) (M.turns machine.now) nodes.new n)) }
+    ensures wrong { IfOk result (λ bad. IfSome bad (λ b. (b.from ≡ from) ×
+        IsBadStep (M.shape machine.now) (M.specification machine.now) (M.turns machine.now) (M.right machine.now) (M.rests machine.now) nodes.old from b.choices.items b.fault)) }
+    ensures apart { IfOk result (λ bad. IfSome bad (λ b. AreApart b.choices.items)) }
+    ensures rests { IfOk result (λ bad. IfNone bad (RestsSo (M.specification machine.now) (M.turns machine.now) (M.rests machine.now) (state_of (M.shape machine.now) state.now) from quiet.old.items quiet.new.items)) }
+    ensures listed { IfOk result (λ bad. IfSome bad (λ _. quiet.new.items ≡ quiet.old.items)) }
+    ensures unlisted { IfErr result (λ _. quiet.new.items ≡ quiet.old.items) }
+    ensures full { IfErr result (HaltsSo (limit ≤ length nodes.new) (IsCrowdOf (M.made machine.now) (M.limit machine.now) (state_of (M.shape machine.now) state.now))) }
+{
+    match ahead {
+        Some(ahead) => expand_ahead(
+            alloc, machine, from, state, ahead, limit, index, nodes, quiet,
+        ),
+        None => expand_listed(alloc, machine, from, state, limit, index, nodes, quiet),
+    }
+}
+
+/// Expands the nodes from one on, which have these states, of whose steps this is known.
 fn expand_batch<M: Machine>(
     alloc: Global,
     machine: &M,
     first: usize,
     states: &[State],
-    lists: &[Listed],
+    ahead: &[Option<Ahead>],
     steps: u32,
     limit: u32,
     index: &mut Index,
@@ -477,7 +472,7 @@ fn expand_batch<M: Machine>(
     requires machine { M.is_sound machine.now }
     requires first { first + length states.now ≤ length nodes.old }
     requires states { states.now ≡ map (λ n. n.state) (take (length states.now) (drop first nodes.old)) }
-    requires listed { AreListed (M.shape machine.now) (M.specification machine.now) (M.turns machine.now) (M.made machine.now) (M.limit machine.now) states.now lists.now }
+    requires ahead { AreAhead (M.shape machine.now) (M.specification machine.now) (M.turns machine.now) nodes.old states.now ahead.now }
     requires shallow { Each (λ n. n.depth < steps) (take (length states.now) (drop first nodes.old)) }
     requires inside { Each (λ n. (M.within machine.now) (state_at (M.shape machine.now) n) ≡ true) (take (length states.now) (drop first nodes.old)) }
     requires room { length nodes.old ≤ limit }
@@ -494,9 +489,9 @@ fn expand_batch<M: Machine>(
 {
     for k in 0..states.len() {
         let from = first + k;
-        let (state, listed) = (&states[k], &lists[k]);
-        match expand_listed(
-            alloc, machine, from, state, listed, limit, index, nodes, quiet,
+        let (state, step) = (&states[k], &ahead[k]);
+        match expand_step(
+            alloc, machine, from, state, step, limit, index, nodes, quiet,
         ) {
             Ok(None) => {}
             Ok(Some(bad)) => {
@@ -559,7 +554,7 @@ fn expand_next<M: Machine>(
     ensures stopped { IfErr result (λ stopped. IsStopped (M.shape machine.now) (M.specification machine.now) (M.turns machine.now) (IsCrowdOf (M.made machine.now) (M.limit machine.now)) (M.right machine.now) (M.rests machine.now) (M.within machine.now) steps limit nodes.new stopped) }
 {
     let most = index.next_batch(machine.batch());
-    let batch = match next_batch(alloc, machine, nodes, expanded, steps, most, like) {
+    let batch = match next_batch(alloc, machine, nodes, index, expanded, steps, most, like) {
         Ok(batch) => batch,
         Err(halt) => {
             return Err(Looked {
@@ -573,9 +568,9 @@ fn expand_next<M: Machine>(
     if states.len() == 0 {
         return Ok(expanded + 1);
     }
-    let lists = batch.lists.as_slice();
+    let ahead = batch.ahead.as_slice();
     expand_batch(
-        alloc, machine, expanded, states, lists, steps, limit, index, nodes, quiet,
+        alloc, machine, expanded, states, ahead, steps, limit, index, nodes, quiet,
     )?;
     Ok(expanded + states.len())
 }
@@ -687,7 +682,7 @@ pub fn explore<M: Machine, W: Watch<Progress>>(
     let mut nodes = Nodes::new(alloc);
     nodes.push(initial, count, 0, 0)?;
     let mut index = Index::new(alloc);
-    note_last(alloc, &nodes, &mut index)?;
+    note_last(alloc, &nodes, hash_of(initial, count), &mut index)?;
     let room = limit.max(1);
     let mut quiet = Vec::new(alloc);
     let looked = expand_all(

@@ -1,5 +1,6 @@
 //! Specifications are machines.
-ghost use Rattle.std.specs.Prelude.{◌≡◌, ◌<◌, length, option_map};
+ghost use Rattle.std.specs.Prelude.{◌≡◌, ◌<◌, length, option_map, IfSome};
+ghost use Rattle.asm_state.specs.Contents.{IsStateOf};
 ghost use Rattle.asm_state.specs.Signature.{count_of, state_of};
 ghost use Rattle.asm_syntax.specs.Views.{spec_of};
 ghost use Rattle.asm_check.specs.Shapes.{shape_of};
@@ -7,14 +8,19 @@ ghost use Rattle.asm_meaning.specs.Declarations.{specification_of};
 ghost use Rattle.asm_code.specs.CodeViews.{code_of};
 ghost use Rattle.asm_code.specs.RuleMeaning.{IsSoundTest};
 ghost use Rattle.asm_code.specs.RuleViews.{rule_of};
+ghost use Rattle.asm_explore.specs.Ahead.{IsAhead};
 ghost use Rattle.asm_explore.specs.Conditions.{holds_in, IsSpecified};
+ghost use Rattle.asm_explore.specs.Lists.{Each};
 ghost use Rattle.asm_explore.specs.Made.{made_in};
 ghost use Rattle.asm_explore.specs.Steps.{IsListed};
 
+use crate::ahead::Ahead;
 use crate::exploration::Exploration;
 use crate::found::Found;
-use crate::index::FEW;
+use crate::index::{FEW, Index};
+use crate::looking::look_ahead;
 use crate::machine::{Listed, Machine};
+use crate::nodes::Nodes;
 use crate::outcomes::outcomes;
 use crate::refusal::Refusal;
 use crate::specified::Specified;
@@ -64,6 +70,31 @@ pub fn step_outcomes(
     Ok(found)
 }
 
+/// What the step from a state leads to, where these nodes are reached and stand in this index, if
+/// each of its outcomes leads on and there is memory for it.
+pub fn step_ahead(
+    alloc: Global,
+    specified: &Specified<'_>,
+    state: &State,
+    nodes: &Nodes,
+    index: &Index,
+) -> Option<Ahead>
+    requires sound { IsSpecified specified.now }
+    requires state { IsStateOf (shape_of (spec_of specified.now.checked.now.spec)) state.now }
+    requires nodes { Each (λ n. length n.state ≡ count_of (shape_of (spec_of specified.now.checked.now.spec))) nodes.now }
+    ensures { let s = spec_of specified.now.checked.now.spec in
+        IfSome result (IsAhead (shape_of s) (specification_of s) specified.now.turns nodes.now (state_of (shape_of s) state.now)) }
+{
+    let outcomes = match step_outcomes(alloc, specified, state) {
+        Ok(outcomes) => outcomes,
+        Err(_) => return None,
+    };
+    match look_ahead(alloc, specified, state, outcomes.as_slice(), nodes, index) {
+        Ok(ahead) => ahead,
+        Err(_) => None,
+    }
+}
+
 impl<'a> Machine for Specified<'a> {
     ghost specification = { λ m. specification_of (spec_of m.checked.now.spec) };
 
@@ -91,11 +122,21 @@ impl<'a> Machine for Specified<'a> {
         FEW
     }
 
-    fn outcomes(&self, alloc: Global, states: &[State]) -> Result<Vec<Listed>, AllocError> {
+    fn outcomes(&self, alloc: Global, state: &State) -> Listed {
+        step_outcomes(alloc, self, state)
+    }
+
+    /// Looks at nothing ahead.
+    fn ahead(
+        &self,
+        alloc: Global,
+        states: &[State],
+        _nodes: &Nodes,
+        _index: &Index,
+    ) -> Result<Vec<Option<Ahead>>, AllocError> {
         let mut all = Vec::new(alloc);
-        for k in 0..states.len() {
-            let listed = step_outcomes(alloc, self, &states[k]);
-            all.push(listed)?;
+        for _state in 0..states.len() {
+            all.push(None)?;
         }
         Ok(all)
     }

@@ -5,8 +5,8 @@ ghost use Rattle.asm_state.specs.Signature.{count_of, state_of};
 ghost use Rattle.asm_meaning.specs.Yields.{Result as Yielded};
 ghost use Rattle.asm_explore.specs.Ends.{HaltsSo};
 ghost use Rattle.asm_explore.specs.Kept.{Node};
-ghost use Rattle.asm_explore.specs.Lists.{Situation, Each, IsCounted, Shows};
-ghost use Rattle.asm_explore.specs.Reached.{AreInside, AtNode, IsGood, IsLinked, LeadBetween, LeadTo, MayLead, state_at, steps_from};
+ghost use Rattle.asm_explore.specs.Lists.{Each, IsCounted, Shows};
+ghost use Rattle.asm_explore.specs.Reached.{AreInside, AtNode, IsGood, IsLinked, LeadBetween, LeadTo, MayLead, state_at};
 ghost use Rattle.asm_explore.specs.Search.{LeadsOn};
 ghost use Rattle.asm_explore.specs.Steps.{IsCrowdOf, IsStep};
 
@@ -51,14 +51,9 @@ fn outcomes_from<M: Machine>(alloc: Global, machine: &M, from: &State) -> Result
     ensures step { IfOk result (λ fs. IsStep (M.shape machine.now) (M.specification machine.now) (M.turns machine.now) (state_of (M.shape machine.now) from.now) fs.items) }
     ensures crowded { IfErr result (HaltsSo ⊥ (IsCrowdOf (M.made machine.now) (M.limit machine.now) (state_of (M.shape machine.now) from.now))) }
 {
-    let state = from.copy(alloc)?;
-    let mut states = Vec::new(alloc);
-    states.push(state)?;
-    let mut all = machine.outcomes(alloc, states.as_slice())?;
-    match all.pop() {
-        Some(Ok(outcomes)) => Ok(outcomes),
-        Some(Err(refusal)) => Err(halted(alloc, &refusal)),
-        None => unreachable!(),
+    match machine.outcomes(alloc, from) {
+        Ok(outcomes) => Ok(outcomes),
+        Err(refusal) => Err(halted(alloc, &refusal)),
     }
 }
 

@@ -56,10 +56,6 @@ fn random_given<'w, S: AsStr>(alloc: Global, words: &'w [S]) -> Result<ArgMatche
 pub(crate) fn random<'w>(alloc: Global) -> Result<Command<'w>, AllocError>
     ensures { IfOk result (λ c. app_of c ≡ line.random_command) }
 {
-    let steps = number(alloc, "steps", STEPS, help::RANDOM_STEPS).default_value("1000");
-    let turns = number(alloc, "turns", TURNS, help::TURNS).default_value("1000");
-    let runs = number(alloc, "runs", RUNS, help::RUNS).default_value("1000");
-    let seed = unsigned(alloc, "seed", help::SEED).default_value("0");
     Command::new(alloc, "asm-explore random")
         .display_name(help::NAME)?
         .version(help::VERSION)
@@ -67,12 +63,12 @@ pub(crate) fn random<'w>(alloc: Global) -> Result<Command<'w>, AllocError>
         .after_help(help::AFTER_RANDOM)
         .no_binary_name(true)
         .arg(word(alloc, "spec", "SPEC", help::SPEC).required(true))?
-        .arg(steps)?
-        .arg(turns)?
+        .arg(number(alloc, "steps", STEPS, help::RANDOM_STEPS).default_value("1000"))?
+        .arg(number(alloc, "turns", TURNS, help::TURNS).default_value("1000"))?
         .arg(texts(alloc, "always", "COND", help::ALWAYS))?
         .arg(texts(alloc, "always-file", "FILE", help::ALWAYS_FILE))?
-        .arg(runs)?
-        .arg(seed)?
+        .arg(number(alloc, "runs", RUNS, help::RUNS).default_value("1000"))?
+        .arg(unsigned(alloc, "seed", help::SEED).default_value("0"))?
         .arg(flag(alloc, "trace", help::TRACE))?
         .arg(flag(alloc, "progress", help::PROGRESS))
 }

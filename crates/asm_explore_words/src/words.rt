@@ -134,11 +134,6 @@ fn given<'w, S: AsStr>(alloc: Global, words: &'w [S]) -> Result<ArgMatches<'w>, 
 fn all<'w>(alloc: Global) -> Result<Command<'w>, AllocError>
     ensures { IfOk result (λ c. app_of c ≡ line.command) }
 {
-    let steps = number(alloc, "steps", STEPS, help::STEPS).default_value("1000000");
-    let turns = number(alloc, "turns", TURNS, help::TURNS).default_value("1000");
-    let states = number(alloc, "states", STATES, help::STATES).default_value("1000000");
-    let outcomes = number(alloc, "outcomes", OUTCOMES, help::OUTCOMES).default_value("10000");
-    let workers = number(alloc, "workers", WORKERS, help::WORKERS).default_value("1");
     Command::new(alloc, "asm-explore all")
         .display_name(help::NAME)?
         .version(help::VERSION)
@@ -146,15 +141,15 @@ fn all<'w>(alloc: Global) -> Result<Command<'w>, AllocError>
         .after_help(help::AFTER_ALL)
         .no_binary_name(true)
         .arg(word(alloc, "spec", "SPEC", help::SPEC).required(true))?
-        .arg(steps)?
-        .arg(turns)?
+        .arg(number(alloc, "steps", STEPS, help::STEPS).default_value("1000000"))?
+        .arg(number(alloc, "turns", TURNS, help::TURNS).default_value("1000"))?
         .arg(texts(alloc, "always", "COND", help::ALWAYS))?
         .arg(texts(alloc, "always-file", "FILE", help::ALWAYS_FILE))?
         .arg(text(alloc, "deadlock-unless", "COND", help::DEADLOCK_UNLESS))?
         .arg(text(alloc, "within", "COND", help::WITHIN))?
-        .arg(states)?
-        .arg(outcomes)?
-        .arg(workers)?
+        .arg(number(alloc, "states", STATES, help::STATES).default_value("1000000"))?
+        .arg(number(alloc, "outcomes", OUTCOMES, help::OUTCOMES).default_value("10000"))?
+        .arg(number(alloc, "workers", WORKERS, help::WORKERS).default_value("1"))?
         .arg(text(alloc, "dot", "FILE", help::DOT))?
         .arg(flag(alloc, "trace", help::TRACE))?
         .arg(flag(alloc, "progress", help::PROGRESS))
@@ -233,8 +228,6 @@ fn run_command<'w>(
 ) -> Result<Command<'w>, AllocError>
     ensures { IfOk result (λ c. app_of c ≡ line.run_command) }
 {
-    let steps = number(alloc, "steps", STEPS, help::RUN_STEPS).default_value("1000");
-    let turns = number(alloc, "turns", TURNS, help::TURNS).default_value("1000");
     Command::new(alloc, help::NAME)
         .bin_name(called)?
         .version(help::VERSION)
@@ -242,8 +235,8 @@ fn run_command<'w>(
         .after_help(help::AFTER_RUN)
         .no_binary_name(true)
         .arg(word(alloc, "spec", "SPEC", help::SPEC).required(true))?
-        .arg(steps)?
-        .arg(turns)?
+        .arg(number(alloc, "steps", STEPS, help::RUN_STEPS).default_value("1000"))?
+        .arg(number(alloc, "turns", TURNS, help::TURNS).default_value("1000"))?
         .arg(text(alloc, "script", "FILE", help::SCRIPT))
 }
 
@@ -258,15 +251,26 @@ fn without_command<'w, S: AsStr>(alloc: Global, words: &'w [S]) -> Result<Error,
 
 /// The commands.
 fn commands<'w>(alloc: Global) -> Result<Command<'w>, AllocError> {
-    Command::new(alloc, help::NAME)
+    let commands = Command::new(alloc, help::NAME)
         .bin_name(help::NAME)?
         .version(help::VERSION)
         .about(help::ABOUT)
         .after_help(help::AFTER)
         .no_binary_name(true)
-        .subcommand_required(true)
-        .subcommand(all(alloc)?.name(ALL))?
-        .subcommand(random(alloc)?.name(RANDOM))?
-        .subcommand(run_command(alloc, CALLED_CHOICES, help::CHOICES)?.name(CHOICES))?
-        .subcommand(run_command(alloc, CALLED_CLASH, help::CLASH)?.name(CLASH))
+        .subcommand_required(true);
+    let commands = with(commands, ALL, all(alloc))?;
+    let commands = with(commands, RANDOM, random(alloc))?;
+    let choices = run_command(alloc, CALLED_CHOICES, help::CHOICES);
+    let commands = with(commands, CHOICES, choices)?;
+    let clash = run_command(alloc, CALLED_CLASH, help::CLASH);
+    with(commands, CLASH, clash)
+}
+
+/// The commands and one more, which has this name.
+fn with<'w>(
+    commands: Command<'w>,
+    name: &'w str,
+    command: Result<Command<'w>, AllocError>,
+) -> Result<Command<'w>, AllocError> {
+    commands.subcommand(command?.name(name))
 }

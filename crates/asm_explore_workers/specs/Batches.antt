@@ -1,12 +1,13 @@
--- What the workers list of a batch of states.
+-- What the workers find of a batch of states.
 --     IsMainCode checked R          the code is that of the main rule
---     IsListedOf .. A r             the list of a state has what the step from it yields, or there are too many outcomes
---     AreListedOf .. As rs          so do the lists of some states
---     IsTask                        each state has its task, and all are states of the specification
---     ListsTask .. As n out         the task of the first state lists what its step yields, and any other one does so, or nothing
---     firsts outs                   the lists of the first tasks, up to the first one that lists nothing
-use Rattle.std.specs.Prelude.{◌≡◌, ℕ, ◌<◌, List, [], ◌∷◌, Option, Some, None, Result as Returned, MatchOption, length, slice_get}
-use Rattle.std.proofs.Common.{Vec, Global}
+--     IsAheadOf .. nodes A r        what is known of the step from a state, where these nodes are reached, is so
+--     AreAheadOf .. nodes As rs     so it is of some states
+--     IsTask                        each state has its task, and all are states of the specification, those of the nodes too
+--     LooksAhead .. nodes As n out  the task of the first state finds something, or nothing that is known of its step, and any other one does so, or is
+--                                   left out
+--     firsts outs                   what the first tasks found, up to the first one that was left out
+use Rattle.std.specs.Prelude.{◌≡◌, ℕ, ◌<◌, List, [], ◌∷◌, Option, Some, None, IfSome, MatchOption, length, slice_get}
+use Rattle.asm_state.specs.Contents.{IsStateOf}
 use Rattle.asm_state.specs.Signature.{count_of, state_of}
 use Rattle.asm_state.specs.declared.value.Value.{Value}
 use Rattle.asm_syntax.specs.Views.{spec_of}
@@ -16,32 +17,28 @@ use Rattle.asm_check.specs.declared.checked.Checked.{Checked}
 use Rattle.asm_meaning.specs.Declarations.{main_rule, specification_of}
 use Rattle.asm_code.specs.RuleTree.{RuleCode}
 use Rattle.asm_resolve.specs.RuleScopes.{resolved_rule_in}
-use Rattle.asm_explore.specs.declared.found.Found.{Found}
-use Rattle.asm_explore.specs.declared.refusal.Refusal.{Refusal}
+use Rattle.asm_explore.specs.Ahead.{IsAhead, AreAhead}
+use Rattle.asm_explore.specs.declared.ahead.Ahead.{Ahead}
+use Rattle.asm_explore.specs.Kept.{Node}
 use Rattle.asm_explore.specs.Lists.{Each}
-use Rattle.asm_explore.specs.Made.{made_in}
-use Rattle.asm_explore.specs.Steps.{IsListed, AreListed}
-
--- the outcomes of a step, or why they weren't listed
-abbrev pub Outcomes : Type 0
-Outcomes = Returned (Vec Found Global) Refusal
 
 abbrev pub IsMainCode : Checked → RuleCode → Type 0
 IsMainCode checked R = let s = spec_of checked.spec in resolved_rule_in s [] (main_rule s (inits s)) R
 
-module _ (checked : Checked) (R : RuleCode) where
-  abbrev pub IsTask : List (List Value) → ℕ → Type 0
-  IsTask As n = (n < length As) × IsMainCode checked R × Each (λ A. length A ≡ count_of (shape_of (spec_of checked.spec))) As
+module _ (checked : Checked) where
+  abbrev pub IsTask : RuleCode → List Node → List (List Value) → ℕ → Type 0
+  IsTask R nodes As n = let shape = shape_of (spec_of checked.spec) in
+      (n < length As) × IsMainCode checked R × Each (IsStateOf shape) As × Each (λ m. length m.state ≡ count_of shape) nodes
 
-  module _ (turns limit : ℕ) where
-    abbrev pub IsListedOf : List Value → Outcomes → Type 0
-    IsListedOf A r = let s = spec_of checked.spec in IsListed (shape_of s) (specification_of s) turns (made_in (shape_of s) turns R) limit (state_of (shape_of s) A) r
+  module _ (turns : ℕ) where
+    abbrev pub IsAheadOf : List Node → List Value → Option Ahead → Type 0
+    IsAheadOf nodes A r = let s = spec_of checked.spec in IfSome r (IsAhead (shape_of s) (specification_of s) turns nodes (state_of (shape_of s) A))
 
-    abbrev pub AreListedOf : List (List Value) → List Outcomes → Type 0
-    AreListedOf As rs = let s = spec_of checked.spec in AreListed (shape_of s) (specification_of s) turns (made_in (shape_of s) turns R) limit As rs
+    abbrev pub AreAheadOf : List Node → List (List Value) → List (Option Ahead) → Type 0
+    AreAheadOf nodes As rs = let s = spec_of checked.spec in AreAhead (shape_of s) (specification_of s) turns nodes As rs
 
-    abbrev pub ListsTask : List (List Value) → ℕ → Option Outcomes → Type 0
-    ListsTask As n out = MatchOption out (0 < n) (λ r. (A : List Value) → slice_get As n ≡ Some A → IsListedOf A r)
+    abbrev pub LooksAhead : List Node → List (List Value) → ℕ → Option (Option Ahead) → Type 0
+    LooksAhead nodes As n out = MatchOption out (0 < n) (λ r. (A : List Value) → slice_get As n ≡ Some A → IsAheadOf nodes A r)
 
 abbrev pub firsts : {X : Type 0} → List (Option X) → List X
 firsts [] = []

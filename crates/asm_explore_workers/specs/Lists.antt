@@ -1,17 +1,24 @@
--- What is asked of a function that lists outcomes in place of a machine.
---     TakesStates count pre         it may be called with all states of so many contents
---     ListsThem listed post         each of its calls lists the outcomes of the first states, of one of them at least
-use Rattle.std.specs.Prelude.{◌≡◌, ℕ, ◌<◌, List, Result as Returned, IfOk, length, take}
+-- What is asked of a function that looks ahead in place of a machine.
+--     TakesStates shape pre         it may be called with all states, where the nodes have states of as many contents
+--     LooksAtThem ahead post        each of its calls tells what is known of the steps from the first states, of one of them at least
+use Rattle.std.specs.Prelude.{◌≡◌, ◌<◌, List, Option, Result as Returned, IfOk, length, take}
 use Rattle.std.specs.declared.alloc.AllocError.{AllocError}
 use Rattle.std.proofs.Common.{Bor, Vec, Global}
+use Rattle.asm_state.specs.Contents.{IsStateOf}
+use Rattle.asm_state.specs.Signature.{Shape, count_of}
 use Rattle.asm_state.specs.declared.value.Value.{Value}
+use Rattle.asm_explore.specs.declared.ahead.Ahead.{Ahead}
+use Rattle.asm_explore.specs.declared.index.Index.{Index}
+use Rattle.asm_explore.specs.Kept.{Node}
 use Rattle.asm_explore.specs.Lists.{Each}
-use Rattle.asm_explore_workers.specs.Batches.{Outcomes}
 
-abbrev pub TakesStates : (count : ℕ) → (Global → Bor (List (List Value)) → Type 0) → Type 0
-TakesStates count pre = (alloc : Global) (states : Bor (List (List Value))) → Each (λ A. length A ≡ count) states.now → pre alloc states
+abbrev pub TakesStates : Shape → (Global → Bor (List (List Value)) → Bor (List Node) → Bor Index → Type 0) → Type 0
+TakesStates shape pre = (alloc : Global) (states : Bor (List (List Value))) (nodes : Bor (List Node)) (index : Bor Index) → Each (IsStateOf shape) states.now
+    → Each (λ n. length n.state ≡ count_of shape) nodes.now → pre alloc states nodes index
 
--- the states and their lists
-abbrev pub ListsThem : (List (List Value) → List Outcomes → Type 0) → (Global → Bor (List (List Value)) → Returned (Vec Outcomes Global) AllocError → Type 0) → Type 0
-ListsThem listed post = (alloc : Global) (states : Bor (List (List Value))) (result : Returned (Vec Outcomes Global) AllocError) → post alloc states result
-    → (0 < length states.now → IfOk result (λ all. 0 < length all.items)) × IfOk result (λ all. listed (take (length all.items) states.now) all.items)
+-- the nodes, the states and what is known of their steps
+abbrev pub LooksAtThem : (List Node → List (List Value) → List (Option Ahead) → Type 0)
+    → (Global → Bor (List (List Value)) → Bor (List Node) → Bor Index → Returned (Vec (Option Ahead) Global) AllocError → Type 0) → Type 0
+LooksAtThem ahead post = (alloc : Global) (states : Bor (List (List Value))) (nodes : Bor (List Node)) (index : Bor Index) (result : Returned (Vec (Option Ahead) Global) AllocError)
+    → post alloc states nodes index result
+    → (0 < length states.now → IfOk result (λ all. 0 < length all.items)) × IfOk result (λ all. ahead nodes.now (take (length all.items) states.now) all.items)

@@ -1,33 +1,35 @@
-//! The outcomes of the steps from some states, as a job of a pool.
+//! What the steps from some states lead to, as a job of a pool.
 ghost use Rattle.std.specs.Prelude.{◌≡◌, ◌<◌, ◌^◌, length};
 ghost use Rattle.asm_syntax.specs.Views.{spec_of};
 ghost use Rattle.asm_check.specs.Shapes.{shape_of};
 ghost use Rattle.asm_code.specs.RuleViews.{rule_of};
+ghost use Rattle.asm_state.specs.Contents.{IsStateOf};
 ghost use Rattle.asm_state.specs.Signature.{count_of};
-ghost use Rattle.asm_explore_workers.specs.Batches.{IsListedOf, IsMainCode, IsTask, ListsTask};
+ghost use Rattle.asm_explore.specs.Lists.{Each};
+ghost use Rattle.asm_explore_workers.specs.Batches.{IsAheadOf, IsMainCode, IsTask, LooksAhead};
 
 use asm_check::Checked;
 use asm_code::rule_code::RuleCode;
-use asm_explore::specification::step_outcomes;
-use asm_explore::{Listed, Specified};
+use asm_explore::specification::step_ahead;
+use asm_explore::{Ahead, Index, Nodes, Specified};
 use asm_pool::Job;
 use asm_state::state::State;
 use std::alloc::Global;
 
-/// How many outcomes a worker has listed.
+/// How many states a worker has kept.
 #[derive(Clone, Copy, Debug)]
 pub struct Tally {
-    pub outcomes: usize,
+    pub states: usize,
 }
 
 impl Tally {
-    /// Counts the outcomes of one more step.
-    fn count(&mut self, listed: &Listed) {
-        let more = match listed {
-            Ok(found) => found.len(),
-            Err(_) => 0,
+    /// Counts the states of one more step.
+    fn count(&mut self, ahead: &Option<Ahead>) {
+        let more = match ahead {
+            Some(ahead) => ahead.states.len(),
+            None => 0,
         };
-        self.outcomes = self.outcomes.saturating_add(more);
+        self.states = self.states.saturating_add(more);
     }
 }
 
@@ -42,16 +44,21 @@ pub struct StepsJob<'a, 's> {
     /// How many outcomes of a step may be listed.
     pub limit: usize,
     pub states: &'s [State],
-    /// A worker that has listed so many outcomes lists those of the first state alone.
+    /// What is reached.
+    pub nodes: &'s Nodes,
+    /// Where the nodes stand.
+    pub index: &'s Index,
+    /// A worker that has kept so many states looks at the first step alone.
     pub room: usize,
     pub ghost turns_in_range: { turns < 2 ^ 32 },
 }
 
-/// What the step from a state yields.
-fn list_state(job: &StepsJob<'_, '_>, state: &State) -> Listed
+/// What the step from a state leads to.
+fn look_from(job: &StepsJob<'_, '_>, state: &State) -> Option<Ahead>
     requires main { IsMainCode job.now.checked.now (rule_of job.now.code.now) }
-    requires whole { length state.now ≡ count_of (shape_of (spec_of job.now.checked.now.spec)) }
-    ensures { IsListedOf job.now.checked.now (rule_of job.now.code.now) job.now.turns job.now.limit state.now result }
+    requires state { IsStateOf (shape_of (spec_of job.now.checked.now.spec)) state.now }
+    requires nodes { Each (λ n. length n.state ≡ count_of (shape_of (spec_of job.now.checked.now.spec))) job.now.nodes.now }
+    ensures { IsAheadOf job.now.checked.now job.now.turns job.now.nodes.now state.now result }
 {
     let nothing = None;
     let specified = Specified {
@@ -63,28 +70,28 @@ fn list_state(job: &StepsJob<'_, '_>, state: &State) -> Listed
         within: &nothing,
         when_quiet: &nothing,
     };
-    step_outcomes(job.alloc, &specified, state)
+    step_ahead(job.alloc, &specified, state, job.nodes, job.index)
 }
 
 impl<'a, 's> Job for StepsJob<'a, 's> {
     type Hand = Tally;
 
-    /// What the step yields, or nothing: the worker has listed enough.
-    type Out = Option<Listed>;
+    /// What is known of the step, or nothing: the worker has kept enough.
+    type Out = Option<Option<Ahead>>;
 
-    ghost has_task = { λ job n. IsTask job.checked.now (rule_of job.code.now) job.states.now n };
+    ghost has_task = { λ job n. IsTask job.checked.now (rule_of job.code.now) job.nodes.now job.states.now n };
 
     ghost takes_hand = { λ job hand. Unit {0} };
 
-    ghost runs = { λ job n before out after. ListsTask job.checked.now (rule_of job.code.now) job.turns job.limit job.states.now n out };
+    ghost runs = { λ job n before out after. LooksAhead job.checked.now job.turns job.nodes.now job.states.now n out };
 
-    fn run(&self, n: usize, hand: &mut Tally) -> Option<Listed> {
-        if n > 0 && hand.outcomes >= self.room {
+    fn run(&self, n: usize, hand: &mut Tally) -> Option<Option<Ahead>> {
+        if n > 0 && hand.states >= self.room {
             return None;
         }
         let states = self.states;
-        let listed = list_state(self, &states[n]);
-        hand.count(&listed);
-        Some(listed)
+        let ahead = look_from(self, &states[n]);
+        hand.count(&ahead);
+        Some(ahead)
     }
 }

@@ -1,21 +1,20 @@
-//! Machines whose outcomes are listed by a function.
-ghost use Rattle.asm_state.specs.Signature.{count_of};
-ghost use Rattle.asm_explore.specs.Steps.{AreListed};
-ghost use Rattle.asm_explore_workers.specs.Lists.{ListsThem, TakesStates};
+//! Machines whose steps are looked at ahead by a function.
+ghost use Rattle.asm_explore.specs.Ahead.{AreAhead};
+ghost use Rattle.asm_explore_workers.specs.Lists.{LooksAtThem, TakesStates};
 
-use asm_explore::{Listed, Machine};
+use asm_explore::{Ahead, Index, Listed, Machine, Nodes};
 use asm_state::signature::Signature;
 use asm_state::state::State;
 use std::alloc::{AllocError, Global};
 
-/// The outcomes of the steps from some states.
-type Lists = Vec<Listed>;
+/// What is known of the steps from some states.
+type Steps = Vec<Option<Ahead>>;
 
-/// They, if there is memory for them.
-type MaybeLists = Result<Lists, AllocError>;
+/// It, if there is memory for it.
+type MaybeSteps = Result<Steps, AllocError>;
 
-/// A machine, but its outcomes are listed by a function, which takes so many states at once. It may
-/// start threads.
+/// A machine, but its steps are looked at ahead by a function, which takes so many states at once.
+/// It may start threads.
 #[derive(Drop)]
 pub struct ListedBy<'a, M, F> {
     pub machine: &'a M,
@@ -23,7 +22,8 @@ pub struct ListedBy<'a, M, F> {
     pub batch: usize,
 }
 
-impl<'a, M: Machine, F: Fn(Global, &[State]) -> MaybeLists> Machine for ListedBy<'a, M, F> {
+impl<'a, M: Machine, F: Fn(Global, &[State], &Nodes, &Index) -> MaybeSteps> Machine
+    for ListedBy<'a, M, F> {
     ghost specification = { λ by. M.specification by.machine.now };
 
     ghost turns = { λ by. M.turns by.machine.now };
@@ -41,7 +41,7 @@ impl<'a, M: Machine, F: Fn(Global, &[State]) -> MaybeLists> Machine for ListedBy
     ghost rests = { λ by. M.rests by.machine.now };
 
     ghost is_sound = { λ by. let m = by.machine.now in
-        M.is_sound m × TakesStates (count_of (M.shape m)) (F.pre by.list.now) × ListsThem (AreListed (M.shape m) (M.specification m) (M.turns m) (M.made m) (M.limit m)) (F.post by.list.now) };
+        M.is_sound m × TakesStates (M.shape m) (F.pre by.list.now) × LooksAtThem (AreAhead (M.shape m) (M.specification m) (M.turns m)) (F.post by.list.now) };
 
     fn signature(&self) -> &Signature {
         self.machine.signature()
@@ -51,8 +51,18 @@ impl<'a, M: Machine, F: Fn(Global, &[State]) -> MaybeLists> Machine for ListedBy
         self.batch
     }
 
-    fn outcomes(&self, alloc: Global, states: &[State]) -> Result<Vec<Listed>, AllocError> {
-        (self.list)(alloc, states)
+    fn outcomes(&self, alloc: Global, state: &State) -> Listed {
+        self.machine.outcomes(alloc, state)
+    }
+
+    fn ahead(
+        &self,
+        alloc: Global,
+        states: &[State],
+        nodes: &Nodes,
+        index: &Index,
+    ) -> Result<Vec<Option<Ahead>>, AllocError> {
+        (self.list)(alloc, states, nodes, index)
     }
 
     fn is_right(&self, alloc: Global, state: &State) -> bool {

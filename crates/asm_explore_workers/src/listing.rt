@@ -1,18 +1,18 @@
-//! Lists the outcomes of the steps from some states, by workers.
+//! Looks ahead at the steps from some states, by workers.
 ghost use denote.Param.Send.{IsSync};
 ghost use Rattle.std.specs.Prelude.{◌≡◌, ◌<◌, ◌≤◌, IfOk, length, take, vec_len};
+ghost use Rattle.asm_state.specs.Contents.{IsStateOf};
 ghost use Rattle.asm_state.specs.Signature.{count_of};
 ghost use Rattle.asm_syntax.specs.Views.{spec_of};
 ghost use Rattle.asm_check.specs.Shapes.{shape_of};
-ghost use Rattle.asm_code.specs.RuleViews.{rule_of};
 ghost use Rattle.asm_explore.specs.Conditions.{IsSpecified};
 ghost use Rattle.asm_explore.specs.Lists.{Each};
-ghost use Rattle.asm_explore_workers.specs.Batches.{AreListedOf, firsts};
+ghost use Rattle.asm_explore_workers.specs.Batches.{AreAheadOf, firsts};
 
 use crate::job::{StepsJob, Tally};
 use asm_check::shared::checked_is_shared;
 use asm_eval::shared::views_and_pieces_are_shared;
-use asm_explore::{Listed, Machine, Specified};
+use asm_explore::{Ahead, Index, Machine, Nodes, Specified};
 use asm_pool::{NoGate, PoolError, work};
 use asm_state::state::State;
 use std::alloc::{AllocError, Global};
@@ -21,7 +21,7 @@ use std::thread::Threads;
 /// So many states for each worker are worth a thread.
 const WORTH: usize = 64;
 
-/// The workers list so many outcomes at once, or one more step's each.
+/// The workers keep so many states at once, or one more step's each.
 const ROOM: usize = 65_536;
 
 /// Threads may share a value of this type.
@@ -29,46 +29,54 @@ fn is_shared<T: Sync>()
     ensures { IsSync T.row }
 {}
 
-/// A tally for each worker, which has listed nothing.
+/// A tally for each worker, which has kept nothing.
 fn tallies(alloc: Global, workers: usize) -> Result<Vec<Tally>, AllocError>
     ensures { IfOk result (λ all. vec_len all ≡ workers) }
 {
-    let tallies = vec![in alloc; Tally { outcomes: 0 }; workers]?;
+    let tallies = vec![in alloc; Tally { states: 0 }; workers]?;
     Ok(tallies)
 }
 
-/// The lists of the first tasks, up to the first one that lists nothing.
-fn first_lists(alloc: Global, outs: Vec<Option<Listed>>) -> Result<Vec<Listed>, AllocError>
-    ensures { IfOk result (λ lists. lists.items ≡ firsts outs.items) }
+/// What the first tasks found, up to the first one that was left out.
+fn first_outs(
+    alloc: Global,
+    outs: Vec<Option<Option<Ahead>>>,
+) -> Result<Vec<Option<Ahead>>, AllocError>
+    ensures { IfOk result (λ all. all.items ≡ firsts outs.items) }
 {
-    let mut lists = Vec::with_capacity(alloc, outs.len())?;
+    let mut all = Vec::with_capacity(alloc, outs.len())?;
     for out in outs {
-        let Some(listed) = out else {
-            return Ok(lists);
+        let Some(ahead) = out else {
+            return Ok(all);
         };
-        lists.push(listed)?;
+        all.push(ahead)?;
     }
-    Ok(lists)
+    Ok(all)
 }
 
-/// What a step from each of these states yields, by so many workers, or from the first of them where
-/// that is a lot.
-fn list_shared<'a, 's, R: Threads + Sync>(
+/// What the step from each of these states leads to, by so many workers, or from the first of them
+/// where that is a lot.
+fn look_shared<'a, 's, R: Threads + Sync>(
     rt: &R,
     alloc: Global,
     specified: &Specified<'a>,
     workers: usize,
     states: &'s [State],
-) -> Result<Vec<Listed>, AllocError>
+    nodes: &'s Nodes,
+    index: &'s Index,
+) -> Result<Vec<Option<Ahead>>, AllocError>
     requires workers { (0 < workers) × (workers ≤ 32) }
     requires sound { IsSpecified specified.now }
-    requires whole { Each (λ s. length s ≡ count_of (shape_of (spec_of specified.now.checked.now.spec))) states.now }
+    requires states { Each (IsStateOf (shape_of (spec_of specified.now.checked.now.spec))) states.now }
+    requires nodes { Each (λ n. length n.state ≡ count_of (shape_of (spec_of specified.now.checked.now.spec))) nodes.now }
     ensures some { 0 < length states.now → IfOk result (λ all. 0 < length all.items) }
-    ensures listed { IfOk result (λ all. AreListedOf specified.now.checked.now (rule_of specified.now.code.now) specified.now.turns specified.now.limit (take (length all.items) states.now) all.items) }
+    ensures ahead { IfOk result (λ all. AreAheadOf specified.now.checked.now specified.now.turns nodes.now (take (length all.items) states.now) all.items) }
 {
     checked_is_shared();
     views_and_pieces_are_shared();
     is_shared::<State>();
+    is_shared::<Nodes>();
+    is_shared::<Index>();
     let job = StepsJob {
         alloc,
         checked: specified.checked,
@@ -76,35 +84,40 @@ fn list_shared<'a, 's, R: Threads + Sync>(
         turns: specified.turns,
         limit: specified.limit,
         states,
+        nodes,
+        index,
         room: ROOM / workers,
     };
     let tallies = tallies(alloc, workers)?;
     match work(rt, alloc, workers, states.len(), &job, tallies, &NoGate) {
-        Ok(worked) => first_lists(alloc, worked.outs),
+        Ok(worked) => first_outs(alloc, worked.outs),
         Err(PoolError::Memory) => Err(AllocError),
     }
 }
 
-/// What a step from each of the first of these states yields, by at most so many workers. Where there
-/// are so few states that no thread is worth it, this thread lists all.
-pub(crate) fn list_by<'a, 's, R: Threads + Sync>(
+/// What the step from each of the first of these states leads to, by at most so many workers. Where
+/// there are so few states that no thread is worth it, none is looked at ahead.
+pub(crate) fn look_by<'a, 's, R: Threads + Sync>(
     rt: &R,
     alloc: Global,
     specified: &Specified<'a>,
     workers: usize,
     states: &'s [State],
-) -> Result<Vec<Listed>, AllocError>
+    nodes: &'s Nodes,
+    index: &'s Index,
+) -> Result<Vec<Option<Ahead>>, AllocError>
     requires workers { (0 < workers) × (workers ≤ 32) }
     requires sound { IsSpecified specified.now }
-    requires whole { Each (λ s. length s ≡ count_of (shape_of (spec_of specified.now.checked.now.spec))) states.now }
+    requires states { Each (IsStateOf (shape_of (spec_of specified.now.checked.now.spec))) states.now }
+    requires nodes { Each (λ n. length n.state ≡ count_of (shape_of (spec_of specified.now.checked.now.spec))) nodes.now }
     ensures some { 0 < length states.now → IfOk result (λ all. 0 < length all.items) }
-    ensures listed { IfOk result (λ all. AreListedOf specified.now.checked.now (rule_of specified.now.code.now) specified.now.turns specified.now.limit (take (length all.items) states.now) all.items) }
+    ensures ahead { IfOk result (λ all. AreAheadOf specified.now.checked.now specified.now.turns nodes.now (take (length all.items) states.now) all.items) }
 {
     let workers = workers.min(states.len() / WORTH);
-    let lists = if workers > 1 {
-        list_shared(rt, alloc, specified, workers, states)?
+    let all = if workers > 1 {
+        look_shared(rt, alloc, specified, workers, states, nodes, index)?
     } else {
-        specified.outcomes(alloc, states)?
+        specified.ahead(alloc, states, nodes, index)?
     };
-    Ok(lists)
+    Ok(all)
 }

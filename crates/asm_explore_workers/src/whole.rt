@@ -1,23 +1,23 @@
 //! The exploration of a checked specification by several workers.
 ghost use Rattle.std.specs.Prelude.{◌≡◌, ◌<◌, ◌≤◌, IfOk, length, take};
+ghost use Rattle.asm_state.specs.Contents.{IsStateOf};
 ghost use Rattle.asm_state.specs.Signature.{count_of};
 ghost use Rattle.asm_syntax.specs.Views.{spec_of};
 ghost use Rattle.asm_check.specs.Shapes.{shape_of};
 ghost use Rattle.asm_meaning.specs.Declarations.{specification_of};
-ghost use Rattle.asm_code.specs.RuleViews.{rule_of};
 ghost use Rattle.asm_explore.specs.Answers.{IsAnswer};
 ghost use Rattle.asm_explore.specs.Conditions.{holds_in, term_holds, IsSpecified};
 ghost use Rattle.asm_explore.specs.Lists.{Each};
 ghost use Rattle.asm_explore.specs.MainRule.{IsCrowdedMain};
-ghost use Rattle.asm_explore_workers.specs.Batches.{AreListedOf};
+ghost use Rattle.asm_explore_workers.specs.Batches.{AreAheadOf};
 
 use crate::listed_by::ListedBy;
-use crate::listing::list_by;
+use crate::listing::look_by;
 use asm_check::Checked;
 use asm_explore::answering::explore_machine;
 use asm_explore::condition::condition_code;
 use asm_explore::whole::explore_all;
-use asm_explore::{Answered, Listed, Progress, Question, Specified, Watch};
+use asm_explore::{Ahead, Answered, Index, Nodes, Progress, Question, Specified, Watch};
 use asm_resolve::whole::resolve_main;
 use asm_state::state::State;
 use std::alloc::{AllocError, Global};
@@ -42,13 +42,17 @@ fn explore_specified_by<R: Threads + Sync, W: Watch<Progress>>(
         IfOk result (λ answer. IsAnswer (specification_of s) specified.now.turns (IsCrowdedMain specified.now.checked.now specified.now.turns specified.now.limit) steps states (holds_in (shape_of s) specified.now.always.now) (holds_in (shape_of s) specified.now.when_quiet.now) (holds_in (shape_of s) specified.now.within.now) answer) }
 {
     let initial = State::initial(alloc, specified.checked.signature())?;
-    let list = |alloc: Global, states: &[State]| -> Result<Vec<Listed>, AllocError>
+    let list = |alloc: Global, states: &[State], nodes: &Nodes, index: &Index| -> Result<
+        Vec<Option<Ahead>>,
+        AllocError,
+    >
         requires workers { (0 < workers) × (workers ≤ 32) }
         requires sound { IsSpecified specified.now }
-        requires whole { Each (λ s. length s ≡ count_of (shape_of (spec_of specified.now.checked.now.spec))) states.now }
+        requires states { Each (IsStateOf (shape_of (spec_of specified.now.checked.now.spec))) states.now }
+        requires nodes { Each (λ n. length n.state ≡ count_of (shape_of (spec_of specified.now.checked.now.spec))) nodes.now }
         ensures some { 0 < length states.now → IfOk result (λ all. 0 < length all.items) }
-        ensures listed { IfOk result (λ all. AreListedOf specified.entry.now.checked.now (rule_of specified.entry.now.code.now) specified.entry.now.turns specified.entry.now.limit (take (length all.items) states.now) all.items) }
-    { list_by(rt, alloc, specified, workers, states) };
+        ensures ahead { IfOk result (λ all. AreAheadOf specified.entry.now.checked.now specified.entry.now.turns nodes.now (take (length all.items) states.now) all.items) }
+    { look_by(rt, alloc, specified, workers, states, nodes, index) };
     let machine = ListedBy {
         machine: specified,
         list: &list,

@@ -4,9 +4,8 @@
 --     some_situation                        a situation takes the choices of an outcome
 --     goes_known, led_on                    the state that it leads to stands in a node, and choices lead to it
 --     outcome_at, edges_are                 the outcomes of a step, and edges that follow them
---     listed_last, listed_one               the outcomes of one state alone
-use Rattle.std.proofs.Common.{◌≡◌, ℕ, ◌+◌, ◌<◌, Bool, true, List, [], ◌∷◌, ◌++◌, take, length, refl, sym, ap, subst, ◌∙◌, arith, Vec, Global}
-use Rattle.std.specs.Prelude.{slice_get, Some, Result as Returned}
+use Rattle.std.proofs.Common.{◌≡◌, ℕ, ◌+◌, Bool, true, List, [], ◌∷◌, refl, sym, ap, subst, ◌∙◌, arith}
+use Rattle.std.specs.Prelude.{slice_get, Some}
 use Rattle.asm_state.specs.declared.value.Value.{Value}
 use Rattle.asm_state.specs.Contents.{IsStateOf}
 use Rattle.asm_state.specs.Location.{State}
@@ -19,14 +18,13 @@ use Rattle.asm_meaning.specs.Yields.{Path, Result, Gives, Exhausted}
 use Rattle.asm_explore.specs.declared.found.Answer.TheVariants as answer
 use Rattle.asm_explore.specs.declared.found.Choice.{Choice}
 use Rattle.asm_explore.specs.declared.found.Found.{Found}
-use Rattle.asm_explore.specs.declared.refusal.Refusal.{Refusal}
 use Rattle.asm_explore.specs.declared.updates.Updates.{Updates}
 use Rattle.asm_explore.specs.Lists.{Situation, AreTaken, Each, IsCounted, IsSound, Shows}
 use Rattle.asm_explore.specs.Placed.{AreApart}
 use Rattle.asm_explore.specs.Reached.{LeadBetween, MakesAll, steps_from}
 use Rattle.asm_explore.specs.ScriptTo.{lines_of}
 use Rattle.asm_explore.specs.Search.{LeadsOn}
-use Rattle.asm_explore.specs.Steps.{AreListed, IsListed, IsStep}
+use Rattle.asm_explore.specs.Steps.{IsStep}
 use Rattle.asm_graph.specs.declared.graph.Edge.{Edge}
 use Rattle.asm_graph.specs.declared.graph.Node.{Node}
 use Rattle.asm_graph.specs.declared.graph.StepFault.{StepFault}
@@ -132,19 +130,3 @@ module _ (shape : Shape) (specification : Specification) (turns : ℕ) (A : Stat
             → Each (λ (f : Found). AreApart f.choices.items × IsSound shape (steps_from specification turns A) f) fs
         both [] h g = tt
         both (f ∷ fs) h g = ((h.0, g.0), both fs h.1 g.1)
-
--- ---- the outcomes of one state alone
-
-module _ (shape : Shape) (specification : Specification) (turns : ℕ) (makes : State → Situation → List Choice) (limit : ℕ) where
-  pub listed_last : (A : List Value) (rs front : List (Returned (Vec Found Global) Refusal)) (r : Returned (Vec Found Global) Refusal)
-      → AreListed shape specification turns makes limit (A ∷ []) rs → rs ≡ front ++ r ∷ [] → IsListed shape specification turns makes limit (state_of shape A) r
-  listed_last A rs [] r listed is = (subst (AreListed shape specification turns makes limit (A ∷ [])) is listed).0
-  listed_last A rs (q ∷ []) r listed is = absurd (subst (AreListed shape specification turns makes limit (A ∷ [])) is listed).1
-  listed_last A rs (q ∷ p ∷ front) r listed is = absurd (subst (AreListed shape specification turns makes limit (A ∷ [])) is listed).1
-
-  -- of the first of one state, and of one at least
-  pub listed_one : (A : List Value) (rs : List (Returned (Vec Found Global) Refusal)) → 0 < length rs → AreListed shape specification turns makes limit (take (length rs) (A ∷ [])) rs
-      → AreListed shape specification turns makes limit (A ∷ []) rs
-  listed_one A [] some h = absurd (omega (arith, some))
-  listed_one A (r ∷ []) some h = (h.0, tt)
-  listed_one A (r ∷ q ∷ rs) some h = absurd h.1

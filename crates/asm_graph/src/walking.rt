@@ -1,10 +1,10 @@
 //! The walk through the states, breadth first.
-ghost use Rattle.std.specs.Prelude.{◌≡◌, ◌<◌, ◌≤◌, ◌⊎◌, [], ◌++◌, ◌∷◌, false, true, length, slice_get, Some, IfOk, IfNone, IfSome, OnOk};
+ghost use Rattle.std.specs.Prelude.{◌≡◌, ◌<◌, ◌≤◌, ◌⊎◌, [], false, true, length, slice_get, Some, IfOk, IfNone, IfSome, OnOk};
 ghost use Rattle.asm_state.specs.Contents.{IsStateOf};
 ghost use Rattle.asm_state.specs.Signature.{count_of, state_of};
 ghost use Rattle.asm_meaning.specs.Yields.{Result as Yielded};
 ghost use Rattle.asm_explore.specs.Lists.{Shows};
-ghost use Rattle.asm_explore.specs.Steps.{IsCrowdOf, IsListed, IsStep};
+ghost use Rattle.asm_explore.specs.Steps.{IsCrowdOf, IsStep};
 ghost use Rattle.asm_graph.specs.Graphs.{AreEdges, GoesTo, IsGraph, IsShown, Pairs, state_at};
 ghost use Rattle.asm_graph.specs.Walked.{AreKept, Grows, HasContents, IsKept, IsLed, IsOutcome};
 ghost use Rattle.asm_graph.specs.declared.graph.Node.{Node};
@@ -14,7 +14,7 @@ use crate::known::{hash_of, known};
 use crate::leading::{copy_choices, next_state};
 use crate::refused::GraphRefused;
 use asm_explore::laws::script_law;
-use asm_explore::{Found, Listed, Machine, Refusal};
+use asm_explore::{Found, Machine, Refusal};
 use asm_state::state::State;
 use std::alloc::{AllocError, Global};
 
@@ -130,22 +130,6 @@ fn edges_from<M: Machine>(
     Ok(edges)
 }
 
-/// The outcomes of the step from a state.
-fn listed_from<M: Machine>(alloc: Global, machine: &M, from: &State) -> Result<Listed, AllocError>
-    requires machine { M.is_sound machine.now }
-    requires whole { length from.now ≡ count_of (M.shape machine.now) }
-    ensures { IfOk result (IsListed (M.shape machine.now) (M.specification machine.now) (M.turns machine.now) (M.made machine.now) (M.limit machine.now) (state_of (M.shape machine.now) from.now)) }
-{
-    let state = from.copy(alloc)?;
-    let mut states = Vec::new(alloc);
-    states.push(state)?;
-    let mut all = machine.outcomes(alloc, states.as_slice())?;
-    match all.pop() {
-        Some(listed) => Ok(listed),
-        None => unreachable!(),
-    }
-}
-
 /// The state of a node, if runs are followed from it.
 fn state_to_follow<M: Machine>(
     alloc: Global,
@@ -186,7 +170,7 @@ fn step_from<M: Machine>(
     let Some(state) = state_to_follow(alloc, machine, node, steps)? else {
         return Ok(Step::Cut);
     };
-    match listed_from(alloc, machine, &state)? {
+    match machine.outcomes(alloc, &state) {
         Ok(outcomes) => {
             let found = outcomes.as_slice();
             let edges = edges_from(alloc, machine, &state, depth, found, most, nodes)?;

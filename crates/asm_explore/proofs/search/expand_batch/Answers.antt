@@ -8,20 +8,21 @@ use Rattle.asm_explore.specs.Placed.{AreApart}
 use Rattle.asm_explore.specs.Quiet.{IsRested, RestsSo}
 use Rattle.asm_explore.specs.Reached.{Expanded, IsBad, IsBadStep, IsLooked, IsNear, state_at}
 use Rattle.asm_explore.specs.Steps.{IsCrowdOf}
-use Rattle.asm_explore.proofs.Batches.{batch_at, shallow_at, listed_count, listed_at, same_node}
+use Rattle.asm_explore.proofs.Batches.{batch_at, shallow_at, same_node}
 use Rattle.asm_explore.proofs.Endings.{refused_done, refused_closed, refused_bad, halts_full, ends_crowded}
+use Rattle.asm_explore.proofs.LookedAhead.{ahead_at, ahead_count, ahead_more}
 use Rattle.asm_explore.proofs.Reaching.{looked_more, looked_same, long_more, at_more, some_at}
 use Rattle.asm_explore.proofs.Resting.{rested_more, rested_same}
 use Rattle.asm_explore.proofs.search.expand_batch.Goals as goal
 
-pub bounds-lists-k : goal.bounds-lists-k
-bounds-lists-k g c =
+pub bounds-ahead-k : goal.bounds-ahead-k
+bounds-ahead-k g c =
     let a = c.args in
-    let count = listed_count (g.M.Machine.shape a.machine.now) (g.M.Machine.specification a.machine.now) (g.M.Machine.turns a.machine.now) (g.M.Machine.made a.machine.now) (g.M.Machine.limit a.machine.now) a.states.now a.lists.now c.requires.listed in
+    let count = ahead_count (g.M.Machine.shape a.machine.now) (g.M.Machine.specification a.machine.now) (g.M.Machine.turns a.machine.now) a.nodes.now a.states.now a.ahead.now c.requires.ahead in
     omega (arith, count, c.loop-k-test.true)
 
-pub expand_listed-requires-clause-shallow : goal.expand_listed-requires-clause-shallow
-expand_listed-requires-clause-shallow g c = λ m here.
+pub expand_step-requires-clause-shallow : goal.expand_step-requires-clause-shallow
+expand_step-requires-clause-shallow g c = λ m here.
     let a = c.args in
     let l = c.loop-k in
     let shape = g.M.Machine.shape a.machine.now in
@@ -36,8 +37,8 @@ expand_listed-requires-clause-shallow g c = λ m here.
     let deep = shallow_at (λ (n : Node). n.depth < a.steps) a.nodes.now a.first (length a.states.now) l.k n.0 c.requires.shallow c.loop-k-test.true n.1 in
     omega (arith, deep, c.ranges.steps.fits, ap (λ (n : Node). n.depth) (same_node l.nodes i n.0 m there here))
 
-pub expand_listed-requires-clause-here : goal.expand_listed-requires-clause-here
-expand_listed-requires-clause-here g c = λ m here.
+pub expand_step-requires-clause-here : goal.expand_step-requires-clause-here
+expand_step-requires-clause-here g c = λ m here.
     let a = c.args in
     let l = c.loop-k in
     let shape = g.M.Machine.shape a.machine.now in
@@ -52,11 +53,16 @@ expand_listed-requires-clause-here g c = λ m here.
     ap (λ (n : Node). n.state) (sym (same_node l.nodes i n.0 m there here))
     ∙ sym (batch_at a.nodes.now a.first l.k a.states.now n.0 c.index-states-k.result c.requires.states c.loop-k-test.true n.1) ∙ sym c.index-states-k.is
 
-pub expand_listed-requires-clause-step : goal.expand_listed-requires-clause-step
-expand_listed-requires-clause-step g c =
+pub expand_step-requires-clause-ahead : goal.expand_step-requires-clause-ahead
+expand_step-requires-clause-ahead g c =
     let a = c.args in
-    listed_at (g.M.Machine.shape a.machine.now) (g.M.Machine.specification a.machine.now) (g.M.Machine.turns a.machine.now) (g.M.Machine.made a.machine.now) (g.M.Machine.limit a.machine.now) a.states.now a.lists.now c.loop-k.k c.index-states-k.result c.index-lists-k.result
-    c.requires.listed c.loop-k-test.true c.index-states-k.is c.index-lists-k.is
+    let l = c.loop-k in
+    let shape = g.M.Machine.shape a.machine.now in
+    let specification = g.M.Machine.specification a.machine.now in
+    let turns = g.M.Machine.turns a.machine.now in
+    ahead_more shape specification turns a.nodes.now l.nodes (state_of shape c.index-states-k.result) c.index-ahead-k.result l.invariant.same
+    (ahead_at shape specification turns a.nodes.now a.states.now a.ahead.now l.k c.index-states-k.result c.index-ahead-k.result
+    c.requires.ahead c.loop-k-test.true c.index-states-k.is c.index-ahead-k.is)
 
 pub returns-in-Ok-Some-clause-more : goal.returns-in-Ok-Some-clause-more
 returns-in-Ok-Some-clause-more g c =
@@ -71,7 +77,7 @@ returns-in-Ok-Some-clause-more g c =
     let i = a.first + l.k in
     let n = some_at a.nodes.now i (omega (arith, c.requires.first, c.loop-k-test.true)) in
     let there = l.invariant.same i n.0 n.1 in
-    let longer = long_more shape specification turns right (n.0.depth + 1) l.nodes c.expand_listed.new.nodes (c.in-Ok-Some.ensures.extends n.0 there) in
+    let longer = long_more shape specification turns right (n.0.depth + 1) l.nodes c.expand_step.new.nodes (c.in-Ok-Some.ensures.extends n.0 there) in
     omega (arith, longer, l.invariant.more)
 
 pub returns-in-Err-clause-more : goal.returns-in-Err-clause-more
@@ -87,7 +93,7 @@ returns-in-Err-clause-more g c =
     let i = a.first + l.k in
     let n = some_at a.nodes.now i (omega (arith, c.requires.first, c.loop-k-test.true)) in
     let there = l.invariant.same i n.0 n.1 in
-    let longer = long_more shape specification turns right (n.0.depth + 1) l.nodes c.expand_listed.new.nodes (c.in-Err.ensures.extends n.0 there) in
+    let longer = long_more shape specification turns right (n.0.depth + 1) l.nodes c.expand_step.new.nodes (c.in-Err.ensures.extends n.0 there) in
     omega (arith, longer, l.invariant.more)
 
 pub returns-in-Ok-Some-clause-stopped : goal.returns-in-Ok-Some-clause-stopped
@@ -105,13 +111,13 @@ returns-in-Ok-Some-clause-stopped g c =
     let there = l.invariant.same i n.0 n.1 in
     let inside = shallow_at (λ (n : Node). within (state_at shape n) ≡ true) a.nodes.now a.first (length a.states.now) l.k n.0 c.requires.inside c.loop-k-test.true n.1 in
     let extends = c.in-Ok-Some.ensures.extends n.0 there in
-    let longer = long_more shape specification turns right (n.0.depth + 1) l.nodes c.expand_listed.new.nodes extends in
+    let longer = long_more shape specification turns right (n.0.depth + 1) l.nodes c.expand_step.new.nodes extends in
     let wrong : (c.in-Ok-Some.bad.from ≡ i) × IsBadStep shape specification turns right rests l.nodes i c.in-Ok-Some.bad.choices.items c.in-Ok-Some.bad.fault =
     subst (λ o. IfSome o (λ (b : Bad). (b.from ≡ i) × IsBadStep shape specification turns right rests l.nodes i b.choices.items b.fault)) c.in-Ok-Some.field-0-is c.in-Ok-Some.ensures.wrong in
-    let at : slice_get c.expand_listed.new.nodes c.in-Ok-Some.bad.from ≡ Some n.0 =
-    ap (slice_get c.expand_listed.new.nodes) wrong.0 ∙ at_more shape specification turns right (n.0.depth + 1) l.nodes c.expand_listed.new.nodes extends i n.0 there in
+    let at : slice_get c.expand_step.new.nodes c.in-Ok-Some.bad.from ≡ Some n.0 =
+    ap (slice_get c.expand_step.new.nodes) wrong.0 ∙ at_more shape specification turns right (n.0.depth + 1) l.nodes c.expand_step.new.nodes extends i n.0 there in
     let deep = shallow_at (λ (n : Node). n.depth < a.steps) a.nodes.now a.first (length a.states.now) l.k n.0 c.requires.shallow c.loop-k-test.true n.1 in
-    let bad : IsBad shape specification turns right rests c.expand_listed.new.nodes c.in-Ok-Some.bad = record {
+    let bad : IsBad shape specification turns right rests c.expand_step.new.nodes c.in-Ok-Some.bad = record {
       from = n.0;
       there = at;
       apart = subst (λ o. IfSome o (λ (b : Bad). AreApart b.choices.items)) c.in-Ok-Some.field-0-is c.in-Ok-Some.ensures.apart;
@@ -119,14 +125,14 @@ returns-in-Ok-Some-clause-stopped g c =
     } in
     record {
       some = omega (arith, longer, l.invariant.more, c.requires.first, c.loop-k-test.true);
-      so_far = looked_same shape specification turns right within a.steps i n.0 (n.0.depth + 1) l.nodes c.expand_listed.new.nodes there refl extends (λ j k past here. (c.in-Ok-Some.ensures.begun j k past here, inside)) l.invariant.near l.invariant.looked;
+      so_far = looked_same shape specification turns right within a.steps i n.0 (n.0.depth + 1) l.nodes c.expand_step.new.nodes there refl extends (λ j k past here. (c.in-Ok-Some.ensures.begun j k past here, inside)) l.invariant.near l.invariant.looked;
       all = λ done. absurd done;
       closed = λ closed. cc;
       wrong = (
         bad,
         wrong.0,
         λ m here.
-            let same = same_node c.expand_listed.new.nodes c.in-Ok-Some.bad.from n.0 m at here in
+            let same = same_node c.expand_step.new.nodes c.in-Ok-Some.bad.from n.0 m at here in
             (omega (arith, deep, ap (λ (n : Node). n.depth) same), subst (λ (x : Node). within (state_at shape x) ≡ true) same inside),
       );
       full = λ full. cc;
@@ -148,7 +154,7 @@ returns-in-Err-clause-stopped g c =
     let there = l.invariant.same i n.0 n.1 in
     let inside = shallow_at (λ (n : Node). within (state_at shape n) ≡ true) a.nodes.now a.first (length a.states.now) l.k n.0 c.requires.inside c.loop-k-test.true n.1 in
     let extends = c.in-Err.ensures.extends n.0 there in
-    let longer = long_more shape specification turns right (n.0.depth + 1) l.nodes c.expand_listed.new.nodes extends in
+    let longer = long_more shape specification turns right (n.0.depth + 1) l.nodes c.expand_step.new.nodes extends in
     let refused = c.cut_off.ensures.refused in
     let makes = g.M.Machine.made a.machine.now in
     let limit = g.M.Machine.limit a.machine.now in
@@ -158,16 +164,16 @@ returns-in-Err-clause-stopped g c =
     sym (batch_at a.nodes.now a.first l.k a.states.now n.0 c.index-states-k.result c.requires.states c.loop-k-test.true n.1) ∙ sym c.index-states-k.is in
     record {
       some = omega (arith, longer, l.invariant.more, c.requires.first, c.loop-k-test.true);
-      so_far = looked_same shape specification turns right within a.steps i n.0 (n.0.depth + 1) l.nodes c.expand_listed.new.nodes there refl extends (λ j k past here. (c.in-Err.ensures.begun j k past here, inside)) l.invariant.near l.invariant.looked;
+      so_far = looked_same shape specification turns right within a.steps i n.0 (n.0.depth + 1) l.nodes c.expand_step.new.nodes there refl extends (λ j k past here. (c.in-Err.ensures.begun j k past here, inside)) l.invariant.near l.invariant.looked;
       all = λ done. absurd (refused_done c.cut_off.result refused done);
       closed = λ closed. absurd (refused_closed c.cut_off.result refused closed);
       wrong = refused_bad _ c.cut_off.result refused;
-      full = λ full. halts_full (a.limit ≤ length c.expand_listed.new.nodes) (IsCrowdOf makes limit A) c.in-Err.halt (c.cut_off.ensures.states full) c.in-Err.ensures.full;
-      crowded = ends_crowded (a.limit ≤ length c.expand_listed.new.nodes) (IsCrowdOf makes limit A) (λ crowd. (m : Node) × (slice_get c.expand_listed.new.nodes i ≡ Some m) × (m.depth < a.steps) × IsCrowdOf makes limit (state_at shape m) crowd)
+      full = λ full. halts_full (a.limit ≤ length c.expand_step.new.nodes) (IsCrowdOf makes limit A) c.in-Err.halt (c.cut_off.ensures.states full) c.in-Err.ensures.full;
+      crowded = ends_crowded (a.limit ≤ length c.expand_step.new.nodes) (IsCrowdOf makes limit A) (λ crowd. (m : Node) × (slice_get c.expand_step.new.nodes i ≡ Some m) × (m.depth < a.steps) × IsCrowdOf makes limit (state_at shape m) crowd)
           c.cut_off.result c.in-Err.halt c.cut_off.ensures.crowd
           (λ crowd so. (
             n.0,
-            at_more shape specification turns right (n.0.depth + 1) l.nodes c.expand_listed.new.nodes extends i n.0 there,
+            at_more shape specification turns right (n.0.depth + 1) l.nodes c.expand_step.new.nodes extends i n.0 there,
             deep,
             subst (λ xs. IsCrowdOf makes limit (state_of shape xs) crowd) (sym here) so,
           )) c.in-Err.ensures.full;
@@ -188,25 +194,25 @@ loop-k-preserved g c =
     let there = l.invariant.same i n.0 n.1 in
     let inside = shallow_at (λ (n : Node). within (state_at shape n) ≡ true) a.nodes.now a.first (length a.states.now) l.k n.0 c.requires.inside c.loop-k-test.true n.1 in
     let extends = c.in-Ok-None.ensures.extends n.0 there in
-    let longer = long_more shape specification turns right (n.0.depth + 1) l.nodes c.expand_listed.new.nodes extends in
-    let expanded : Expanded shape specification turns c.expand_listed.new.nodes n.0 =
-    subst (λ o. IfNone o ((n : Node) → slice_get l.nodes i ≡ Some n → Expanded shape specification turns c.expand_listed.new.nodes n)) c.in-Ok-None.field-0-is c.in-Ok-None.ensures.expanded n.0 there in
+    let longer = long_more shape specification turns right (n.0.depth + 1) l.nodes c.expand_step.new.nodes extends in
+    let expanded : Expanded shape specification turns c.expand_step.new.nodes n.0 =
+    subst (λ o. IfNone o ((n : Node) → slice_get l.nodes i ≡ Some n → Expanded shape specification turns c.expand_step.new.nodes n)) c.in-Ok-None.field-0-is c.in-Ok-None.ensures.expanded n.0 there in
     let next : i + 1 ≡ a.first + (l.k + 1) = omega arith in
     let deep = shallow_at (λ (n : Node). n.depth < a.steps) a.nodes.now a.first (length a.states.now) l.k n.0 c.requires.shallow c.loop-k-test.true n.1 in
     let here : n.0.state ≡ c.index-states-k.result =
     sym (batch_at a.nodes.now a.first l.k a.states.now n.0 c.index-states-k.result c.requires.states c.loop-k-test.true n.1) ∙ sym c.index-states-k.is in
-    let so : RestsSo specification turns rests (state_at shape n.0) i l.quiet.items c.expand_listed.new.quiet.items =
-    subst (λ xs. RestsSo specification turns rests (state_of shape xs) i l.quiet.items c.expand_listed.new.quiet.items) (sym here)
-    (subst (λ o. IfNone o (RestsSo specification turns rests (state_of shape c.index-states-k.result) i l.quiet.items c.expand_listed.new.quiet.items)) c.in-Ok-None.field-0-is c.in-Ok-None.ensures.rests) in
-    let both = looked_more shape specification turns right within a.steps i n.0 (n.0.depth + 1) l.nodes c.expand_listed.new.nodes there refl extends (λ low there. expanded) (λ j k past here. (c.in-Ok-None.ensures.begun j k past here, inside)) l.invariant.near l.invariant.looked in
+    let so : RestsSo specification turns rests (state_at shape n.0) i l.quiet.items c.expand_step.new.quiet.items =
+    subst (λ xs. RestsSo specification turns rests (state_of shape xs) i l.quiet.items c.expand_step.new.quiet.items) (sym here)
+    (subst (λ o. IfNone o (RestsSo specification turns rests (state_of shape c.index-states-k.result) i l.quiet.items c.expand_step.new.quiet.items)) c.in-Ok-None.field-0-is c.in-Ok-None.ensures.rests) in
+    let both = looked_more shape specification turns right within a.steps i n.0 (n.0.depth + 1) l.nodes c.expand_step.new.nodes there refl extends (λ low there. expanded) (λ j k past here. (c.in-Ok-None.ensures.begun j k past here, inside)) l.invariant.near l.invariant.looked in
     record {
       room = c.in-Ok-None.ensures.room;
       more = omega (arith, longer, l.invariant.more);
-      same = λ j m here. at_more shape specification turns right (n.0.depth + 1) l.nodes c.expand_listed.new.nodes extends j m (l.invariant.same j m here);
-      looked = subst (λ j. IsLooked shape specification turns right within a.steps j c.expand_listed.new.nodes) next both.0;
-      near = subst (λ j. IsNear c.expand_listed.new.nodes j) next both.1;
-      rested = subst (λ j. IsRested shape specification turns rests within a.steps j c.expand_listed.new.nodes c.expand_listed.new.quiet.items) next
-          (rested_more shape specification turns rests within a.steps i n.0 l.nodes c.expand_listed.new.nodes extends.more l.quiet.items c.expand_listed.new.quiet.items there extends.is (deep, inside) so l.invariant.rested);
+      same = λ j m here. at_more shape specification turns right (n.0.depth + 1) l.nodes c.expand_step.new.nodes extends j m (l.invariant.same j m here);
+      looked = subst (λ j. IsLooked shape specification turns right within a.steps j c.expand_step.new.nodes) next both.0;
+      near = subst (λ j. IsNear c.expand_step.new.nodes j) next both.1;
+      rested = subst (λ j. IsRested shape specification turns rests within a.steps j c.expand_step.new.nodes c.expand_step.new.quiet.items) next
+          (rested_more shape specification turns rests within a.steps i n.0 l.nodes c.expand_step.new.nodes extends.more l.quiet.items c.expand_step.new.quiet.items there extends.is (deep, inside) so l.invariant.rested);
     }
 
 pub returns-in-Ok-Some-clause-rests : goal.returns-in-Ok-Some-clause-rests
@@ -222,9 +228,9 @@ returns-in-Ok-Some-clause-rests g c =
     let n = some_at a.nodes.now i (omega (arith, c.requires.first, c.loop-k-test.true)) in
     let there = l.invariant.same i n.0 n.1 in
     let extends = c.in-Ok-Some.ensures.extends n.0 there in
-    rested_same shape specification turns rests within a.steps i l.nodes c.expand_listed.new.nodes extends.more l.quiet.items c.expand_listed.new.quiet.items
+    rested_same shape specification turns rests within a.steps i l.nodes c.expand_step.new.nodes extends.more l.quiet.items c.expand_step.new.quiet.items
     (omega (arith, slice_get_within l.nodes i n.0 there)) extends.is
-    (subst (λ o. IfSome o (λ (_ : Bad). c.expand_listed.new.quiet.items ≡ l.quiet.items)) c.in-Ok-Some.field-0-is c.in-Ok-Some.ensures.listed) l.invariant.rested
+    (subst (λ o. IfSome o (λ (_ : Bad). c.expand_step.new.quiet.items ≡ l.quiet.items)) c.in-Ok-Some.field-0-is c.in-Ok-Some.ensures.listed) l.invariant.rested
 
 pub returns-in-Err-clause-rests : goal.returns-in-Err-clause-rests
 returns-in-Err-clause-rests g c =
@@ -239,5 +245,5 @@ returns-in-Err-clause-rests g c =
     let n = some_at a.nodes.now i (omega (arith, c.requires.first, c.loop-k-test.true)) in
     let there = l.invariant.same i n.0 n.1 in
     let extends = c.in-Err.ensures.extends n.0 there in
-    rested_same shape specification turns rests within a.steps i l.nodes c.expand_listed.new.nodes extends.more l.quiet.items c.expand_listed.new.quiet.items
+    rested_same shape specification turns rests within a.steps i l.nodes c.expand_step.new.nodes extends.more l.quiet.items c.expand_step.new.quiet.items
     (omega (arith, slice_get_within l.nodes i n.0 there)) extends.is c.in-Err.ensures.unlisted l.invariant.rested

@@ -1,4 +1,4 @@
-use Rattle.std.proofs.Common.{◌≡◌, [], sym, subst}
+use Rattle.std.proofs.Common.{◌≡◌, ◌∙◌, [], ap, length, sym, subst}
 use Rattle.asm_state.specs.Contents.{IsStateOf}
 use Rattle.asm_state.specs.Signature.{state_of}
 use Rattle.asm_explore.specs.declared.explored.Bad.{Bad}
@@ -38,5 +38,21 @@ returns-in-None-clause-wrong g c =
     ))
     c.rest.ensures.wrong
 
-pub returns-in-Err-clause-begun : goal.returns-in-Err-clause-begun
-returns-in-Err-clause-begun g c = begun_none c.args.from c.args.nodes.now
+pub outcomes-requires-clause-whole : goal.outcomes-requires-clause-whole
+outcomes-requires-clause-whole g c =
+    let a = c.args in
+    let shape = g.M.Machine.shape a.machine.now in
+    let n = some_at a.nodes.now a.from c.requires.from in
+    let good = each_got (IsGood shape (g.M.Machine.right a.machine.now)) a.nodes.now a.from n.0 c.requires.nodes n.1 in
+    ap length (sym (c.requires.here n.0 n.1)) ∙ good.kept.whole
+
+pub is_quiet-requires-clause-state : goal.is_quiet-requires-clause-state
+is_quiet-requires-clause-state g c =
+    let a = c.args in
+    let shape = g.M.Machine.shape a.machine.now in
+    let n = some_at a.nodes.now a.from c.requires.from in
+    let good = each_got (IsGood shape (g.M.Machine.right a.machine.now)) a.nodes.now a.from n.0 c.requires.nodes n.1 in
+    subst (IsStateOf shape) (c.requires.here n.0 n.1) good.kept
+
+pub returns-clause-begun : goal.returns-clause-begun
+returns-clause-begun g c = begun_none c.args.from c.args.nodes.now

@@ -1,10 +1,20 @@
 use Rattle.std.proofs.Common.{◌+◌, ◌∙◌, refl, sym, arith}
 use Rattle.std.proofs.lemmas.Bool.{false≢true}
 use Rattle.std.proofs.lemmas.Option.{slice_get_within}
+use Rattle.asm_state.specs.Contents.{IsStateOf}
+use Rattle.asm_explore.specs.Kept.{Node}
+use Rattle.asm_explore.specs.Reached.{IsGood}
 use Rattle.asm_explore.proofs.Batches.{no_items}
+use Rattle.asm_explore.proofs.ListLemmas.{each_weaker}
 use Rattle.asm_explore.proofs.Reaching.{looked_more, extends_none, some_at}
 use Rattle.asm_explore.proofs.Resting.{rested_past}
 use Rattle.asm_explore.proofs.search.expand_next.Goals as goal
+
+pub next_batch-requires-clause-nodes : goal.next_batch-requires-clause-nodes
+next_batch-requires-clause-nodes g c =
+    let a = c.args in
+    let shape = g.M.Machine.shape a.machine.now in
+    each_weaker (IsGood shape (g.M.Machine.right a.machine.now)) (λ (n : Node). IsStateOf shape n.state) (λ n good. good.kept) a.nodes.now c.requires.looked.good
 
 pub returns-then-states-eq0-clause-looked : goal.returns-then-states-eq0-clause-looked
 returns-then-states-eq0-clause-looked g c =

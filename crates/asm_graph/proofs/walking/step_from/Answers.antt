@@ -51,8 +51,8 @@ returns-in_default-clause-shown g c = λ m here.
     subst (λ (x : Node). (a.steps ≤ x.depth) ⊎ (within (state_at shape x) ≡ false)) same
     (subst (λ o. IfNone o ((a.steps ≤ n.depth) ⊎ (within (state_at shape n) ≡ false))) c.in_default.is c.in_ok-state.ensures.none)
 
-pub listed_from-requires-clause-whole : goal.listed_from-requires-clause-whole
-listed_from-requires-clause-whole g c =
+pub outcomes-requires-clause-whole : goal.outcomes-requires-clause-whole
+outcomes-requires-clause-whole g c =
     let a = c.args in
     let shape = g.M.Machine.shape a.machine.now in
     let specification = g.M.Machine.specification a.machine.now in
@@ -136,7 +136,7 @@ edges_from-requires-clause-step g c =
     let makes = g.M.Machine.made a.machine.now in
     let limit = g.M.Machine.limit a.machine.now in
     subst (IsStep shape specification turns (state_of shape c.in-Some.state)) (sym c.as_slice-found.ensures.value)
-    (subst (IsListed shape specification turns makes limit (state_of shape c.in-Some.state)) c.in-Ok.is c.in_ok-outcomes.ensures).step
+    (subst (IsListed shape specification turns makes limit (state_of shape c.in-Some.state)) c.in-Ok.is c.outcomes.ensures).step
 
 pub returns-in-Ok-clause-shown : goal.returns-in-Ok-clause-shown
 returns-in-Ok-clause-shown g c = λ m here.

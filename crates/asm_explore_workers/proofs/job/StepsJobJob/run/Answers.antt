@@ -1,7 +1,6 @@
 use Rattle.std.proofs.Common.{◌≡◌, ◌∙◌, subst}
 use Rattle.std.proofs.lemmas.Option.{get_or_from_slice_get}
-use Rattle.asm_code.specs.RuleViews.{rule_of}
-use Rattle.asm_explore_workers.specs.Batches.{IsListedOf}
+use Rattle.asm_explore_workers.specs.Batches.{IsAheadOf}
 use Rattle.asm_explore_workers.proofs.job.StepsJobJob.run.Goals as goal
 
 pub returns-clause-run : goal.returns-clause-run
@@ -9,4 +8,4 @@ returns-clause-run c = λ A there.
     let job = c.args.self.now in
     let state = c.index-states-n.result in
     let same : state ≡ A = c.index-states-n.is ∙ get_or_from_slice_get job.states.now c.args.n A state there in
-    subst (λ B. IsListedOf job.checked.now (rule_of job.code.now) job.turns job.limit B c.list_state-listed.result) same c.list_state-listed.ensures
+    subst (λ B. IsAheadOf job.checked.now job.turns job.nodes.now B c.look_from-ahead.result) same c.look_from-ahead.ensures

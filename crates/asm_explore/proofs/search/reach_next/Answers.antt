@@ -1,0 +1,40 @@
+use Rattle.std.proofs.Common.{◌∙◌, sym, subst}
+use Rattle.asm_state.specs.Contents.{IsStateOf}
+use Rattle.asm_state.specs.Signature.{state_of}
+use Rattle.asm_explore.specs.Kept.{Node}
+use Rattle.asm_explore.specs.Reached.{LeadsTo, state_at}
+use Rattle.asm_explore.proofs.Reaching.{each_got, found_known, some_at}
+use Rattle.asm_explore.proofs.search.reach_next.Goals as goal
+
+pub returns-then-is_there-clause-known : goal.returns-then-is_there-clause-known
+returns-then-is_there-clause-known g c = λ yes m there.
+    let a = c.args in
+    found_known (g.M.Machine.shape a.machine.now) a.nodes.now m.state a.below c.requires.near (c.is_there.ensures c.if-is_there.true m there)
+
+pub state-requires-clause-whole : goal.state-requires-clause-whole
+state-requires-clause-whole g c = λ n there.
+    let a = c.args in
+    let shape = g.M.Machine.shape a.machine.now in
+    let kept = each_got (λ (m : Node). IsStateOf shape m.state) a.states.now a.number n c.requires.kept there in
+    kept.whole ∙ sym c.requires.like
+
+pub reach-requires-clause-state : goal.reach-requires-clause-state
+reach-requires-clause-state g c =
+    let a = c.args in
+    let shape = g.M.Machine.shape a.machine.now in
+    let specification = g.M.Machine.specification a.machine.now in
+    let turns = g.M.Machine.turns a.machine.now in
+    let m = some_at a.states.now a.number c.requires.number in
+    let is = c.in_ok-state.ensures m.0 m.1 in
+    subst (IsStateOf shape) (sym is) (each_got (λ (m : Node). IsStateOf shape m.state) a.states.now a.number m.0 c.requires.kept m.1)
+
+pub reach-requires-clause-leads : goal.reach-requires-clause-leads
+reach-requires-clause-leads g c =
+    let a = c.args in
+    let shape = g.M.Machine.shape a.machine.now in
+    let specification = g.M.Machine.specification a.machine.now in
+    let turns = g.M.Machine.turns a.machine.now in
+    let m = some_at a.states.now a.number c.requires.number in
+    let is = c.in_ok-state.ensures m.0 m.1 in
+    subst (λ xs. LeadsTo shape specification turns a.nodes.now a.from a.below (state_of shape xs)) (sym is)
+    (each_got (λ (m : Node). LeadsTo shape specification turns a.nodes.now a.from a.below (state_at shape m)) a.states.now a.number m.0 c.requires.leads m.1)
