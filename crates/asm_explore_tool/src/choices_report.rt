@@ -1,12 +1,16 @@
 //! What is printed of the choices of a run.
-ghost use Rattle.std.specs.Prelude.{◌≡◌, IfOk};
+ghost use Rattle.std.specs.Prelude.{◌≡◌, Bool, IfOk};
+ghost use Rattle.asm_syntax.specs.Views.{spec_of};
+ghost use Rattle.asm_meaning.specs.Declarations.{specification_of};
 ghost use Rattle.asm_meaning.specs.Scripts.{IsUnrepeated};
 ghost use Rattle.asm_reader.specs.ExactLines.{exactly};
+ghost use Rattle.asm_reader.specs.ScriptLines.{Script};
 ghost use Rattle.asm_reader.specs.ScriptText.{IsScript};
-ghost use Rattle.asm_explore.specs.RunChoices.{choices_in, lines_forward};
+ghost use Rattle.asm_explore.specs.RunChoices.{AreChoices, MakesTheRun, choices_in, lines_forward};
 ghost use Rattle.asm_explore.specs.Written.{AreSteps};
 ghost use Rattle.asm_explore_tool.specs.Commented.{said_by};
 ghost use Rattle.asm_explore_tool.specs.Ended.{IsEndOf};
+ghost use Rattle.asm_run.specs.Headline.{IsAccepted};
 ghost use Rattle.asm_explore_tool.specs.RunReport.{AreChoicesReported, choices_status};
 
 use crate::asked::checked;
@@ -152,6 +156,62 @@ fn printed<'w>(
     }
 }
 
+/// What was asked in the run of a specification that the settings ask for.
+fn run_of<'w>(
+    alloc: Global,
+    checked: &Checked,
+    script_text: &[u8],
+    settings: &RunSettings<'w>,
+) -> Result<RunChoices, Fault<'w>>
+    ensures { IfOk result (λ run. (script : Script) × IsScript script_text.now script ×
+        AreChoices (spec_of checked.now.spec) settings.now.turns script settings.now.steps (choices_in run) ×
+        MakesTheRun (specification_of (spec_of checked.now.spec)) settings.now.turns script settings.now.steps (lines_forward (choices_in run))) }
+{
+    let script = script_given(alloc, script_text, settings)?;
+    let run = choices_of_run(alloc, checked, settings.turns, &script, settings.steps)?;
+    Ok(run)
+}
+
+/// What is printed of the choices of a run that ends so.
+fn reported<'w>(
+    alloc: Global,
+    text: &[u8],
+    checked: &Checked,
+    script_text: &[u8],
+    settings: &RunSettings<'w>,
+    run: &RunChoices,
+    ended: &EndedRun,
+) -> Result<Report, Fault<'w>>
+    ensures printed { IsUnrepeated (exactly (lines_forward (choices_in run.now))) → IfOk result (λ report. IsScript report.text.items (exactly (lines_forward (choices_in run.now)))) }
+    ensures status { IfOk result (λ report. (all_met : Bool) × report.status ≡ choices_status ended.now.end all_met) }
+{
+    let first = ended.line(alloc, settings.steps)?;
+    let unmet = unmet_lines(alloc, script_text, run)?;
+    let status = status_of(ended.end, unmet.is_empty());
+    let text = printed(alloc, text, checked, first.as_slice(), run, unmet)?;
+    Ok(Report { text, status })
+}
+
+/// What is printed of the choices of the run of a specification that the settings ask for.
+fn report_of<'w, R: Threads + Sync>(
+    rt: &R,
+    alloc: Global,
+    text: &[u8],
+    checked: &Checked,
+    script_text: &[u8],
+    settings: &RunSettings<'w>,
+) -> Result<Report, Fault<'w>>
+    requires accepted { IsAccepted text.now (spec_of checked.now.spec) }
+    ensures { IfOk result (AreChoicesReported text.now script_text.now settings.now) }
+{
+    one_tree();
+    one_script();
+    let run = run_of(alloc, checked, script_text, settings)?;
+    let ended = ended(rt, alloc, text, script_text, settings)?;
+    let report = reported(alloc, text, checked, script_text, settings, &run, &ended)?;
+    Ok(report)
+}
+
 /// What is printed of the choices of the run that the settings ask for.
 pub(crate) fn choices_report<'w, R: Threads + Sync>(
     rt: &R,
@@ -162,15 +222,6 @@ pub(crate) fn choices_report<'w, R: Threads + Sync>(
 ) -> Result<Report, Fault<'w>>
     ensures { IfOk result (AreChoicesReported text.now script_text.now settings.now) }
 {
-    one_tree();
-    one_script();
     let checked = checked(alloc, text, settings.spec)?;
-    let script = script_given(alloc, script_text, settings)?;
-    let run = choices_of_run(alloc, &checked, settings.turns, &script, settings.steps)?;
-    let ended = ended(rt, alloc, text, script_text, settings)?;
-    let first = ended.line(alloc, settings.steps)?;
-    let unmet = unmet_lines(alloc, script_text, &run)?;
-    let status = status_of(ended.end, unmet.is_empty());
-    let text = printed(alloc, text, &checked, first.as_slice(), &run, unmet)?;
-    Ok(Report { text, status })
+    report_of(rt, alloc, text, &checked, script_text, settings)
 }

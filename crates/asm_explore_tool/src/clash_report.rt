@@ -1,10 +1,18 @@
 //! What is printed of the assignments by which a run ends.
-ghost use Rattle.std.specs.Prelude.{◌≡◌, length, map, IfOk, OnOk, ◌+◌};
-ghost use Rattle.asm_explore_tool.specs.RunReport.{IsClashReported, assignments_in, clash_status};
+ghost use Rattle.std.specs.Prelude.{◌≡◌, ◌∷◌, [], ℕ, List, length, map, IfOk, OnOk, ◌+◌};
+ghost use Rattle.asm_syntax.specs.Views.{spec_of};
+ghost use Rattle.asm_reader.specs.ScriptLines.{Script};
+ghost use Rattle.asm_reader.specs.ScriptText.{IsScript};
+ghost use Rattle.asm_run.specs.Headline.{IsAccepted};
+ghost use Rattle.asm_clash.specs.ClashOfRun.{EndsSo};
+ghost use Rattle.asm_explore_tool.specs.Comments.{comments};
+ghost use Rattle.asm_explore_tool.specs.Report.{IsWholeOr};
+ghost use Rattle.asm_explore_tool.specs.RunReport.{IsClashReported, assignments_in, clash_status, run_asked};
 
 use crate::asked::checked;
 use crate::assignment_line::assignment_line;
 use crate::choices_report::ended;
+use crate::ended::EndedRun;
 use crate::report::{Report, with_comments};
 use asm_check::Checked;
 use asm_clash::assignment::Assignment;
@@ -62,6 +70,60 @@ fn assignment_lines(
     Ok(lines)
 }
 
+/// How the run of a specification ends that the settings ask for, and by which assignments.
+fn clash_of<'w>(
+    alloc: Global,
+    checked: &Checked,
+    script_text: &[u8],
+    settings: &RunSettings<'w>,
+) -> Result<ClashOfRun, Fault<'w>>
+    ensures { let tree = spec_of checked.now.spec in
+        IfOk result (λ clash. (script : Script) × IsScript script_text.now script ×
+        EndsSo tree settings.now.turns script (run_asked tree settings.now script) clash) }
+{
+    let script = script_given(alloc, script_text, settings)?;
+    let clash = clash_of_run(alloc, checked, settings.turns, &script, settings.steps)?;
+    Ok(clash)
+}
+
+/// What is printed of a run that ends so.
+fn printed<'w>(
+    alloc: Global,
+    text: &[u8],
+    checked: &Checked,
+    settings: &RunSettings<'w>,
+    clash: &ClashOfRun,
+    ended: &EndedRun,
+) -> Result<Vec<u8>, Fault<'w>>
+    ensures { IfOk result (λ text. (first : List ℕ) × (others : List (List ℕ)) ×
+        length others ≡ length (assignments_in clash.now) × IsWholeOr (comments (first ∷ others)) [] text.items) }
+{
+    let first = ended.line(alloc, settings.steps)?;
+    let location = ended.location(alloc)?;
+    let others = assignment_lines(alloc, text, checked, assignments(clash), location)?;
+    let text = with_comments(alloc, first.as_slice(), others.as_slice(), &[])?;
+    Ok(text)
+}
+
+/// What is printed of the assignments by which the run of a specification ends.
+fn report_of<'w, R: Threads + Sync>(
+    rt: &R,
+    alloc: Global,
+    text: &[u8],
+    checked: &Checked,
+    script_text: &[u8],
+    settings: &RunSettings<'w>,
+) -> Result<Report, Fault<'w>>
+    requires accepted { IsAccepted text.now (spec_of checked.now.spec) }
+    ensures { IfOk result (IsClashReported text.now script_text.now settings.now) }
+{
+    let clash = clash_of(alloc, checked, script_text, settings)?;
+    let ended = ended(rt, alloc, text, script_text, settings)?;
+    let text = printed(alloc, text, checked, settings, &clash, &ended)?;
+    let status = status_of(&clash);
+    Ok(Report { text, status })
+}
+
 /// What is printed of the assignments by which the run ends that the settings ask for.
 pub(crate) fn clash_report<'w, R: Threads + Sync>(
     rt: &R,
@@ -73,13 +135,5 @@ pub(crate) fn clash_report<'w, R: Threads + Sync>(
     ensures { IfOk result (IsClashReported text.now script_text.now settings.now) }
 {
     let checked = checked(alloc, text, settings.spec)?;
-    let script = script_given(alloc, script_text, settings)?;
-    let clash = clash_of_run(alloc, &checked, settings.turns, &script, settings.steps)?;
-    let ended = ended(rt, alloc, text, script_text, settings)?;
-    let first = ended.line(alloc, settings.steps)?;
-    let location = ended.location(alloc)?;
-    let others = assignment_lines(alloc, text, &checked, assignments(&clash), location)?;
-    let text = with_comments(alloc, first.as_slice(), others.as_slice(), &[])?;
-    let status = status_of(&clash);
-    Ok(Report { text, status })
+    report_of(rt, alloc, text, &checked, script_text, settings)
 }

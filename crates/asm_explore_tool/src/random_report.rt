@@ -3,7 +3,7 @@ ghost use Rattle.std.specs.Prelude.{◌≡◌, List, option_map, IfOk};
 ghost use Rattle.asm_state.specs.declared.operation.Op.{Op};
 ghost use Rattle.asm_syntax.specs.declared.term.Term.{Term as Code};
 ghost use Rattle.asm_explore_texts.specs.Conditions.{IsJoined};
-ghost use Rattle.asm_explore_tool.specs.RandomReport.{IsRandomReport, IsRandomReported, RandomTells, random_bad, random_line, random_status};
+ghost use Rattle.asm_explore_tool.specs.RandomReport.{IsRandomAsked, IsRandomReport, IsRandomReported, RandomTells, random_bad, random_line, random_status};
 
 use crate::fault_words::{Subject, UNWRITTEN, bad_words, first_words};
 use crate::first_line::{of_fault, of_first};
@@ -117,6 +117,25 @@ fn printed_of<'w, R: Threads + Sync>(
     Ok(whole)
 }
 
+/// What is printed of random runs that are asked for, and the status of that.
+fn reported<'w, R: Threads + Sync, W: Watch<RandomProgress>>(
+    rt: &R,
+    alloc: Global,
+    text: &[u8],
+    asked: &RandomAsked,
+    conditions: &[Condition<'w>],
+    settings: &RandomSettings<'w>,
+    watch: &mut W,
+) -> Result<Report, Fault<'w>>
+    requires asked { IsRandomAsked text.now conditions.now settings.now asked.now }
+    ensures { IfOk result (IsRandomReported text.now conditions.now settings.now) }
+{
+    let answer = random_runs(alloc, &asked.checked, &asked.question, watch)?;
+    let text = printed_of(rt, alloc, text, asked, conditions, settings, &answer)?;
+    let status = status_of(&answer.finding);
+    Ok(Report { text, status })
+}
+
 /// What is printed of random runs of the specification with this text, and the status of that.
 pub(crate) fn random_report<'w, R: Threads + Sync, W: Watch<RandomProgress>>(
     rt: &R,
@@ -129,8 +148,5 @@ pub(crate) fn random_report<'w, R: Threads + Sync, W: Watch<RandomProgress>>(
     ensures { IfOk result (IsRandomReported text.now conditions.now settings.now) }
 {
     let asked = ask_random(alloc, text, conditions, settings)?;
-    let answer = random_runs(alloc, &asked.checked, &asked.question, watch)?;
-    let text = printed_of(rt, alloc, text, &asked, conditions, settings, &answer)?;
-    let status = status_of(&answer.finding);
-    Ok(Report { text, status })
+    reported(rt, alloc, text, &asked, conditions, settings, watch)
 }

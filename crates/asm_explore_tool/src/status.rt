@@ -1,13 +1,14 @@
 //! The program over any reader and writers, and the status that it ends with.
 ghost use Rattle.std.specs.Prelude.{◌≡◌, ◌≢◌, ◌<◌, ◌≤◌, false, map, IfOk, OnOk};
 ghost use Rattle.std.specs.Io.KnownBytes.{Appends};
+ghost use Rattle.asm_explore_tool.specs.Asked.{IsAsked};
 ghost use Rattle.asm_explore_tool.specs.Answered.{Answers, AnswersRandom, AnswersRun, AnswersTask, AreTaken, IsAnswered};
 ghost use Rattle.asm_explore_words.specs.Faults.{IsOfWords, status_of_fault};
 ghost use Rattle.asm_explore_tool.specs.Report.{IsReported};
 ghost use Rattle.asm_explore_tool.specs.RunReport.{AreChoicesReported, IsClashReported};
 ghost use Rattle.asm_explore_words.specs.Said.{reads_input_twice, reads_task_twice};
 
-use crate::asked::ask;
+use crate::asked::{Asked, ask};
 use crate::choices_report::choices_report;
 use crate::clash_report::clash_report;
 use crate::drawing::draw;
@@ -296,6 +297,29 @@ fn workers_of(settings: &Settings<'_>) -> usize
     }
 }
 
+/// What is printed of the answer to what is asked of a specification, and the status of that.
+fn answered<'w, R: Threads + Sync, F: NewFiles, W: Watch<Progress>>(
+    rt: &R,
+    files: &F,
+    alloc: Global,
+    text: &[u8],
+    asked: &Asked,
+    conditions: &Conditions<'w>,
+    settings: &Settings<'w>,
+    watch: &mut W,
+) -> Result<Report, Fault<'w>>
+    requires asked { IsAsked text.now conditions.now settings.now asked.now }
+    ensures { IfOk result (IsReported text.now conditions.now settings.now) }
+{
+    let workers = workers_of(settings);
+    let (checked, question) = (&asked.checked, &asked.question);
+    let answered = explore_all_by(rt, alloc, checked, question, workers, watch)?;
+    let drawing = draw(files, alloc, asked, settings.dot)?;
+    reported(
+        rt, alloc, text, asked, conditions, settings, &answered, drawing,
+    )
+}
+
 /// What is printed of the specification with this text, and the status of that.
 fn explored<'w, R: Threads + Sync, F: NewFiles, W: Watch<Progress>>(
     rt: &R,
@@ -309,11 +333,5 @@ fn explored<'w, R: Threads + Sync, F: NewFiles, W: Watch<Progress>>(
     ensures { IfOk result (IsReported text.now conditions.now settings.now) }
 {
     let asked = ask(alloc, text, conditions, settings)?;
-    let workers = workers_of(settings);
-    let (checked, question) = (&asked.checked, &asked.question);
-    let answered = explore_all_by(rt, alloc, checked, question, workers, watch)?;
-    let drawing = draw(files, alloc, &asked, settings.dot)?;
-    reported(
-        rt, alloc, text, &asked, conditions, settings, &answered, drawing,
-    )
+    answered(rt, files, alloc, text, &asked, conditions, settings, watch)
 }

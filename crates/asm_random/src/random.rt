@@ -1,10 +1,13 @@
 //! Random runs of a checked specification.
-ghost use Rattle.std.specs.Prelude.{◌≡◌, IfOk};
+ghost use Rattle.std.specs.Prelude.{◌≡◌, [], IfOk};
 ghost use Rattle.asm_syntax.specs.Views.{spec_of};
+ghost use Rattle.asm_check.specs.Faults.{inits};
 ghost use Rattle.asm_check.specs.Shapes.{shape_of};
-ghost use Rattle.asm_meaning.specs.Declarations.{specification_of};
+ghost use Rattle.asm_code.specs.RuleViews.{rule_of};
+ghost use Rattle.asm_meaning.specs.Declarations.{main_rule, specification_of};
 ghost use Rattle.asm_explore.specs.Conditions.{IsSpecified, holds_in, term_holds};
 ghost use Rattle.asm_random.specs.RandomAnswers.{Claims};
+ghost use Rattle.asm_resolve.specs.RuleScopes.{resolved_rule_in};
 
 use crate::answer::{RandomAnswer, RandomFinding};
 use crate::drawing::Source;
@@ -14,6 +17,7 @@ use crate::question::RandomQuestion;
 use crate::walk::random_run;
 use crate::wrong_run::wrong_run;
 use asm_check::Checked;
+use asm_code::rule_code::RuleCode;
 use asm_explore::condition::condition_code;
 use asm_explore::{Machine, Specified, Watch};
 use asm_resolve::whole::resolve_main;
@@ -87,6 +91,32 @@ fn answer_of<W: Watch<RandomProgress>>(
     runs_of(alloc, specified, question, watch)
 }
 
+/// Makes random runs of a specification whose main rule has this code.
+fn runs_by<W: Watch<RandomProgress>>(
+    alloc: Global,
+    checked: &Checked,
+    code: &RuleCode,
+    question: &RandomQuestion,
+    watch: &mut W,
+) -> Result<RandomAnswer, AllocError>
+    requires { let s = spec_of checked.now.spec in resolved_rule_in s [] (main_rule s (inits s)) (rule_of code.now) }
+    ensures { let q = question.now in
+        IfOk result (λ answer. Claims (specification_of (spec_of checked.now.spec)) q.turns q.steps (term_holds checked.now q.always) answer.finding) }
+{
+    let always = condition_code(alloc, checked, &question.always)?;
+    // Runs are followed from each state, and no state is asked whether it is quiet.
+    let specified = Specified {
+        checked,
+        code,
+        turns: question.turns,
+        limit: 0,
+        always: &always,
+        within: &always,
+        when_quiet: &always,
+    };
+    answer_of(alloc, &specified, question, watch)
+}
+
 /// Makes random runs of a specification, until one goes wrong: by a clash, by an update outside its
 /// domain, by an `iterate` that is exhausted, or in a state in which the condition isn't true. That
 /// one is made shorter.
@@ -103,17 +133,5 @@ pub fn random_runs<W: Watch<RandomProgress>>(
         IfOk result (λ answer. Claims (specification_of (spec_of checked.now.spec)) q.turns q.steps (term_holds checked.now q.always) answer.finding) }
 {
     let code = resolve_main(alloc, checked)?;
-    let always = condition_code(alloc, checked, &question.always)?;
-    // Runs are followed from each state, and no state is asked whether it is quiet.
-    let specified = Specified {
-        checked,
-        code: &code,
-        turns: question.turns,
-        limit: 0,
-        always: &always,
-        within: &always,
-        when_quiet: &always,
-    };
-    let answer = answer_of(alloc, &specified, question, watch)?;
-    Ok(answer)
+    runs_by(alloc, checked, &code, question, watch)
 }

@@ -66,7 +66,6 @@ fn each_worker_begins_at_its_own_lane(rt: HostRuntime) -> Result<(), Fail> {
     let gate = FirstFour::new();
     let hands = vec![in rt.alloc(); 0u64, 0, 0, 0]?;
     let worked = work(&rt, rt.alloc(), 4, 12, &Adding, hands, &gate)?;
-    assert!(rt; gate.are_apart());
-    assert_eq!(rt; worked.outs.len(), 12);
+    assert!(rt; gate.are_apart() && worked.outs.len() == 12);
     Ok(())
 }

@@ -1,33 +1,4 @@
-use Rattle.std.proofs.Common.{◌≡◌, sym, subst}
-use Rattle.asm_reader.specs.ScriptLines.{Script}
-use Rattle.asm_explore.specs.RunChoices.{choices_in}
-use Rattle.asm_syntax.specs.SourceTree.{Spec}
-use Rattle.asm_syntax.specs.Views.{spec_of}
-use Rattle.asm_run.specs.Headline.{IsAnswer, book_run}
-use Rattle.asm_explore_tool.specs.RunReport.{IsRunStatus}
-use Rattle.asm_explore_tool.proofs.RunTold.{choices_told}
 use Rattle.asm_explore_tool.proofs.choices_report.choices_report.Goals as goal
 
-pub returns : goal.returns
-returns g c =
-    let tree = spec_of c.in_ok-checked.checked.spec in
-    let script = c.in_ok-script.script in
-    let settings = c.args.settings.now in
-    let ends = c.in_ok-ended.ensures in
-    let same_tree : ends.tree ≡ tree = c.one_tree.ensures c.args.text.now _ _ ends.accepted.spelled c.in_ok-checked.ensures.spelled in
-    let same_script : ends.script ≡ script = c.one_script.ensures c.args.script_text.now _ _ ends.spelled c.in_ok-script.ensures in
-    let answered : IsAnswer (book_run tree settings.turns script settings.steps).end c.in_ok-ended.ended.end =
-    subst (λ (s : Script). IsAnswer (book_run tree settings.turns s settings.steps).end c.in_ok-ended.ended.end) same_script
-    (subst (λ (t : Spec). IsAnswer (book_run t settings.turns ends.script settings.steps).end c.in_ok-ended.ended.end) same_tree ends.answered) in
-    let made = c.in_ok-run.ensures.again in
-    record {
-      tree = tree;
-      accepted = c.in_ok-checked.ensures;
-      script = script;
-      spelled = c.in_ok-script.ensures;
-      steps = choices_in c.in_ok-run.run';
-      choices = c.in_ok-run.ensures.choices;
-      printed = c.in_ok-text.ensures made.unrepeated;
-      again = made.again;
-      status = subst (λ k. IsRunStatus (book_run tree settings.turns script settings.steps).end k) (sym c.status_of-status.ensures) (choices_told _ _ _ answered);
-    }
+pub report_of-requires-clause-accepted : goal.report_of-requires-clause-accepted
+report_of-requires-clause-accepted g c κs inside = c.in_ok-checked.ensures

@@ -1,13 +1,4 @@
 use Rattle.asm_explore_tool.proofs.random_report.random_report.Goals as goal
 
-pub returns : goal.returns
-returns g c =
-    let asked = c.in_ok-asked.ensures in
-    record {
-      asked = c.in_ok-asked.asked;
-      is_asked = asked;
-      answer = c.in_ok-answer.answer;
-      claims = c.in_ok-answer.ensures;
-      status = c.status_of-status.ensures;
-      printed = c.in_ok-text.ensures asked.always.links asked.always.joined;
-    }
+pub reported-requires-clause-asked : goal.reported-requires-clause-asked
+reported-requires-clause-asked g c κs inside = c.in_ok-asked.ensures
