@@ -63,8 +63,8 @@ fn tells_one_run(before: &[u64], count: usize, worked: &Worked<u64, u64>) -> boo
         && tells_its_runs(before, worked)
 }
 
-/// Whether this is what one worker with the hand 100 does with five tasks, beside so many who do nothing, whose
-/// hands stay these.
+/// Whether this is what one worker with the hand 100 does with five tasks, beside others who do
+/// nothing, whose hands stay these.
 fn is_in_order(worked: &Worked<u64, u64>, others: &[u64]) -> bool {
     first_in_order(worked, others.len())
         && worked.outs.as_slice() == IN_ORDER.as_slice()
@@ -154,7 +154,8 @@ fn two_of_three_work(rt: HostRuntime) -> Result<(), Fail> {
 /// The hands of four workers.
 static OF_FOUR: [u64; 4] = [7, 8, 9, 10];
 
-/// Whether this is what four workers do with so many tasks, fewer than there are workers: the last does none.
+/// Whether this is what four workers do with so many tasks, fewer than there are workers: the last
+/// does none.
 fn leaves_one_idle(worked: &Worked<u64, u64>, count: usize) -> bool {
     tells_one_run(&OF_FOUR, count, worked)
         && worked.lists.len() == 4
