@@ -58,7 +58,7 @@ def run(root, words):
     if given.stale:
         return tell_stale(root)
     if given.sample:
-        return try_sample(root, min(lanes, 2))
+        return try_sample(root, lanes)
     if given.groups:
         return tell_groups(root)
     if given.self_test:
