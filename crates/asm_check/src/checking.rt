@@ -1,4 +1,17 @@
 //! Whether a specification is well formed, and the fault that stands first where it isn't.
+//!
+//! No pass stops at its first fault: each notes what it finds in one `Least`, which keeps the least
+//! fault, so what is found doesn't depend on the order of the passes. The table of names comes
+//! first (`names`). Then `steps` goes through each body: whether `result` is in it, and to which
+//! declarations its calls and uses lead. After that come starting rules (`starts`, `results`), uses
+//! (`uses`, `known`, `results`), limits (`limits`), entries of tables (`tables`) and cycles
+//! (`cycles`). If there is no fault, the declarations of the same table get their numbers
+//! (`numbering`, `numbered_names`), and the signature is built with these (`shape`).
+//!
+//! Each pass is proved to note exactly the faults of one list (`specs/FaultLists.antt`), except
+//! that of cycles, which is proved to find the least of a set (`specs/Steps.antt`).
+//! `proofs/FaultLists.antt` shows that these are the faults of the definition
+//! (`specs/Faults.antt`), and `proofs/Ending.antt` joins them.
 ghost use Rattle.std.specs.Prelude.{◌≡◌, None, IfOk, IfErr, OnOk};
 ghost use Rattle.asm_syntax.specs.declared.refused.Refused.TheVariants.{Memory};
 ghost use Rattle.asm_syntax.specs.Views.{spec_of};

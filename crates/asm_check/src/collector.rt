@@ -1,4 +1,9 @@
 //! A walk through terms and rules that collects the uses of names.
+//!
+//! Parameters are an ordered set, since a text has room for 200,000 of them. Inner binders are a
+//! stack, since at most 64 are nested in a text that was read. The word `result` is a use, too, and
+//! is bound in the bodies of rules. The name behind a `<-` has another role than that of a plain
+//! call.
 ghost use Rattle.std.specs.Prelude.{◌≡◌, [], ◌∷◌, ◌++◌, map, flat_map, option_map, IfOk, OnOk};
 ghost use Rattle.std.specs.List.{list_any};
 ghost use Rattle.asm_syntax.specs.SourceTree as source;

@@ -1,4 +1,9 @@
 //! Cycles of calls or uses, and ranks that are too great.
+//!
+//! Calls and uses are a graph over the positions of the table (`graph`). One depth-first search
+//! with an explicit stack (`search`) finds the declarations that reach a cycle. The rank of any
+//! other one is too great if a way of 17 steps begins at it: 17 rounds over all steps find these.
+//! `leads_back` is a search of its own, so it is run only for a declaration that reaches a cycle.
 ghost use Rattle.std.specs.Prelude.{◌≡◌, ◌<◌, ℕ, suc, OnOk, length, map, option_map, true, false};
 ghost use Rattle.asm_syntax.specs.Views.{spec_of};
 ghost use Rattle.asm_check.specs.Errors.{found_of, number_of};

@@ -1,4 +1,6 @@
 //! The table of declarations, in which names are found by a hash.
+//!
+//! The table borrows names and declarations from the syntax tree.
 ghost use Rattle.std.specs.Prelude.{◌≡◌, ◌<◌, IfOk, IfSome, Some, [], ◌∷◌, ◌++◌, cond, length, position, slice_get, is_some, not, option_map};
 ghost use Rattle.std.specs.Map.{lookup, keys_of};
 ghost use Rattle.std.specs.Map.Iter.{deref_pair};

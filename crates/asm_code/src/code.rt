@@ -1,4 +1,12 @@
 //! Resolved terms.
+//!
+//! A read of a controlled function with up to two arguments has the number of the function's first
+//! location and, for each argument, the code of the universe's first value and the number of its
+//! values (`Span`). So evaluating it takes one test for each argument, and for two arguments a
+//! product. A function with more arguments, and a static one, keep their number (`Held`). An
+//! addition, a remainder and a test for equality with a known right operand have forms of their
+//! own, and so has a remainder of such an addition: each is evaluated by a short function of its
+//! own.
 use crate::modulus::Modulus;
 use asm_state::number::Number;
 use asm_state::operation::Op;

@@ -1,4 +1,7 @@
 //! Numbers by which remainders are taken.
+//!
+//! A remainder by a power of two, from 2 to 2^62, is taken from the last binary digits, without a
+//! division (`remainder_by` in `asm_eval`).
 ghost use Rattle.std.specs.Prelude.{◌≡◌};
 ghost use Rattle.asm_code.specs.Powers.{IsPower};
 

@@ -1,4 +1,8 @@
 //! Resolved rules.
+//!
+//! A location that is updated is coded as one that is read is (`Place`). If an argument is outside
+//! of the domain, the location is the stray one of the function, whose number follows those of all
+//! its other locations.
 use crate::code::{Code, Grid, Span};
 use std::sync::Arc;
 

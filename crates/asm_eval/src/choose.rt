@@ -1,4 +1,10 @@
 //! Which candidate a resolved `choose` takes.
+//!
+//! `chosen` walks along the elements to the first candidate, and then asks the script for a number.
+//! Number 0 is that candidate. For another number k it walks to candidate k. Only if there are no
+//! more than k candidates, which this walk has counted, does it walk once more, to the candidate
+//! whose number is the remainder of k. So no list of candidates is kept, and a condition is
+//! evaluated at most three times for an element.
 ghost use Rattle.std.specs.Prelude.{◌≡◌, option_map};
 ghost use Rattle.asm_reader.specs.ScriptLines.{pick};
 ghost use Rattle.asm_meaning.specs.Taken.{taken, walk_to};

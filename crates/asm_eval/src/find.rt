@@ -1,4 +1,9 @@
 //! What a position stands for in a frame.
+//!
+//! `find` follows the links of the frame and compares no names. An argument of a rule is found as
+//! its code with the frame of the caller, in which it is evaluated at each use. `result` is found
+//! as the number of its location, which is read in the view of the use (as `undef` if the location
+//! is stray).
 ghost use Rattle.std.specs.Prelude.{◌≡◌, ◌≤◌};
 ghost use Rattle.asm_state.specs.Signature.{Shape};
 ghost use Rattle.asm_code.specs.Readings.{at_position};

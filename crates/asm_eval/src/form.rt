@@ -1,4 +1,23 @@
 //! The outcome of a resolved rule, formed in place.
+//!
+//! `form_part` appends the number of a part to the path, and removes it when the part is formed, so
+//! no part and no element needs a path of its own. The functions promise `Follows`, and those for
+//! one part of a sequence `FollowsUpon`. The recursion ends because the number of rules in the
+//! code, with the bodies of called rules written out (`rule_size`), falls.
+//!
+//! A `seq` or an `iterate` sets aside what was formed before. It evaluates part after part, or turn
+//! after turn, over a view that lays the set so far over the view of the whole. For a part that is
+//! an assignment or a `skip`, or an `if` between such, at most one update is found, and the set so
+//! far goes on with it (`single_update`, `go_on_by`). Any other part is formed in one summary,
+//! which is cleared for each, and then joined by the turbo merge; the first set that isn't empty is
+//! taken as it is (`go_on`). So joining a turn costs what its own updates cost, however much was
+//! done before it, and a million turns take the memory of the locations that they update. Turns are
+//! a loop and take no stack.
+//!
+//! In a loop over parts or elements the invariant speaks of what is left: what the rest yields,
+//! added to what has been formed, is what the whole yields, added to what was there before. In a
+//! sequence: the whole is what the set so far becomes with the rest after it, in the state in which
+//! that set is fired (`proofs/CodeSequences.antt`).
 ghost use Rattle.std.specs.Prelude.{◌≡◌, ◌≤◌, length, map, option_map};
 ghost use Rattle.asm_state.specs.Signature.{count_of};
 ghost use Rattle.asm_meaning.specs.Formed.{Follows, FollowsUpon};

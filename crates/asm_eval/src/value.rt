@@ -1,4 +1,11 @@
 //! The values of codes.
+//!
+//! The depth of the recursion is bounded: within a text by its 64 levels of nesting, and across
+//! bodies, and codes that positions stand for, by the ranks of derived functions and rules. Only
+//! `linked` nests by the length of the text: once for each 64 arguments of a derived function. The
+//! recursion ends because the size of the code, with the bodies of its derived functions written
+//! out, together with the sizes of the codes in its frame, falls (`asm_code/specs/Sizes.antt`,
+//! `load` in `specs/Frames.antt`).
 ghost use Rattle.std.specs.Prelude.{◌≡◌, ◌≤◌, ◌<◌, ◌*◌, length, map, true};
 ghost use Rattle.std.specs.List.{list_all};
 ghost use Rattle.asm_state.specs.Signature.{functions_of};

@@ -1,4 +1,9 @@
 //! The outcomes of a resolved rule through all scripts.
+//!
+//! A `choose` has the outcomes of its body for each candidate, each with one more choice. Parts
+//! beside each other have each outcome of one part together with each outcome of the others. The
+//! parts of a sequence go on from each set so far, in the state in which it has been fired. Of
+//! equal outcomes one is kept.
 ghost use Rattle.std.specs.Prelude.{◌≡◌, ◌+◌, ◌++◌, [], ◌∷◌, ◌<◌, List, cond, IfOk, IfErr, OnOk, map, option_map, length, take};
 ghost use Rattle.asm_state.specs.Location.{State};
 ghost use Rattle.asm_state.specs.Signature.{count_of};

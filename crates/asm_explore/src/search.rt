@@ -1,4 +1,9 @@
 //! The search through all states.
+//!
+//! Nodes are in the order of their depths (`Rises`), so the first step that goes wrong is the end
+//! of a shortest run that goes wrong. If nothing is known ahead of a step, or one of the states
+//! that it leads to isn't right, the search lists the outcomes of the step itself
+//! (`expand_listed`). So a fault is found in one way, with the choices that lead to it.
 ghost use Rattle.std.specs.Prelude.{◌≡◌, ◌+◌, ◌<◌, ◌≤◌, [], true, false, IsTrue, IfSome, IfNone, IfErr, IfOk, Some, length, slice_get, map, take, drop};
 ghost use Rattle.asm_state.specs.Contents.{IsStateOf};
 ghost use Rattle.asm_state.specs.Signature.{Shape, count_of, state_of};

@@ -1,4 +1,7 @@
 //! The choices of the steps that lead to a state.
+//!
+//! Some outcome of each step leads to the next node. This is proved, so `choices_between` never
+//! returns `None` to `trail_to`.
 ghost use Rattle.std.specs.Prelude.{◌≡◌, ◌<◌, ℕ, ◌↔◌, Some, length, map, slice_get, IsTrue, IfOk, IfErr, IfSome, IfNone};
 ghost use Rattle.asm_state.specs.Contents.{IsStateOf};
 ghost use Rattle.asm_state.specs.Signature.{count_of, state_of};

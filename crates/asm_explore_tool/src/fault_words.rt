@@ -1,4 +1,8 @@
 //! The fault that is found, in words.
+//!
+//! The words for a run that goes wrong come from making the run again. If it ended otherwise than
+//! the search found, the program would end with an error of its own (`Fault::Unconfirmed`) and give
+//! no answer.
 ghost use Rattle.std.specs.Prelude.{◌≡◌, List, length, IfOk};
 ghost use Rattle.std.specs.String.{string_bytes};
 ghost use Rattle.asm_state.specs.Signature.{count_of, state_of};

@@ -19,120 +19,120 @@ pub const COMMAND_FIRST: &str = "the command comes first";
 
 pub const SPEC: &str = "The file that has the specification; - is standard input";
 
-pub const STEPS: &str = "Runs of at most so many steps are looked at: 0 to 1000000";
+pub const STEPS: &str = "Look at runs of at most N steps: 0 to 1000000";
 
-pub const RANDOM_STEPS: &str = "Each run has at most so many steps: 0 to 1000000";
+pub const RANDOM_STEPS: &str = "Make at most N steps in each run: 0 to 1000000";
 
-pub const RUN_STEPS: &str = "The run has at most so many steps: 0 to 1000000";
+pub const RUN_STEPS: &str = "Make at most N steps: 0 to 1000000";
 
-pub const SCRIPT: &str = "The file that has the choices; - is standard input [without it: none]";
+pub const SCRIPT: &str = "Read the choices from this file; - is standard input [without it: none]";
 
 pub const ONE_INPUT: &str = "the specification and the script can't both be standard input";
 
-pub const TURNS: &str = "So many turns exhaust an iterate or a while: 1 to 1000000";
+pub const TURNS: &str =
+    "An iterate or while that would go on after N turns is a fault: 1 to 1000000";
 
-pub const ALWAYS: &str = "To be true in the first state and after each step; may be repeated";
+pub const ALWAYS: &str =
+    "A condition that must be true in the first state and after each step; may be repeated";
 
 pub const ALWAYS_FILE: &str = "A file that has such a condition; may be repeated";
 
 pub const DEADLOCK_UNLESS: &str =
-    "To be true in each state that no choice of the next step changes";
+    "A condition that must be true in each state that no choice of the next step changes";
 
-pub const WITHIN: &str = "No run goes on from a state in which this isn't true";
+pub const WITHIN: &str = "Continue no run from a state in which this condition isn't true";
 
-pub const STATES: &str = "At most so many states are reached: 1 to 100000000";
+pub const STATES: &str = "Reach at most N states: 1 to 100000000";
 
-pub const OUTCOMES: &str = "A rule has at most so many outcomes: 1 to 1000000";
+pub const OUTCOMES: &str = "End the search if a rule has more than N outcomes: 1 to 1000000";
 
-pub const RUNS: &str = "At most so many runs are made: 1 to 1000000";
+pub const RUNS: &str = "Make at most N runs: 1 to 1000000";
 
-pub const SEED: &str = "What is drawn depends on it alone: 0 to 18446744073709551615";
+pub const SEED: &str = "Draw by this seed; another one draws other runs: 0 to 18446744073709551615";
 
-pub const WORKERS: &str =
-    "So many workers list outcomes; what is written is the same for all: 1 to 32";
+pub const WORKERS: &str = "List outcomes on N threads; the output is the same for every N: 1 to 32";
 
-pub const DOT: &str = "Writes the graph of at most 2000 states to this file, for Graphviz";
+pub const DOT: &str = "Write the graph of at most 2000 states to this file, for Graphviz";
 
-pub const TRACE: &str = "Shows the trace of the run to a fault, before its script";
+pub const TRACE: &str = "Show the trace of the run to a fault, before its script";
 
-pub const PROGRESS: &str =
-    "Tells on standard error how far it is, as it does by itself where that is a terminal";
+pub const PROGRESS: &str = "Report progress on standard error; the default if that is a terminal";
 
 /// What stands below the commands.
 pub const AFTER: &str = "\
-`asm-explore COMMAND --help` says more of a command. What it writes to standard output is a script,
-for `asm --script FILE`: a line is `STEP PATH NUMBER`, or begins with `# ` and says something.";
+`asm-explore COMMAND --help` says more of a command. The output is a script, for `asm --script FILE`:
+each line is `STEP PATH NUMBER`, or a comment, which begins with `# `.";
 
 /// What stands below the options of `choices` and of `clash`.
 pub const AFTER_RUN: &str = "\
-What is written to standard output is a script: a line is `STEP PATH NUMBER`, or begins with `# `
-and says something. The first one says how the run ends:
+The output is a script: each line is `STEP PATH NUMBER`, or a comment, which begins with `# `. The
+first line says how the run ends:
   limit after step N            all of its N steps were made
   fault in step N: clash ..     step N fails as it does in asm; so do outside and exhausted
 
-`choices` then writes a line for each choose that was asked and had candidates, also where the first
-one is taken, and before it a comment with the line and the column of the choose, its variable and
-its candidates in order. Under the script that is written the run is the same. At the end stand those
-lines of the script that was given which no choose met. Where the comments make the script longer
-than 1048576 bytes, they are left out.
+`choices` then writes a line for each choose that was asked and had candidates, also if the first one
+was taken. Before it a comment shows the line and the column of the choose, its variable, and its
+candidates in order. Under the script that is written the run is the same. The lines of the given
+script that no choose met come last. If the comments make the script longer than 1048576 bytes, they
+are left out.
 
-`clash` writes a line for each assignment whose update stands in the set of the step that fails, at
-the location where it fails: line and column, place (its path), location and value, and the names that
-are bound there with their values, the innermost first.
+`clash` then writes a line for each assignment whose update is in the set of the step that fails, at
+the location at which it fails: line and column, place (its path), location and value, and the names
+that are bound there with their values, the innermost first.
 
 Status:
   0  the run made all its steps; or help or the version was asked for
-  1  the run ended before: clash, outside or exhausted
+  1  the run ended early: clash, outside or exhausted
   2  the specification or the script is refused
-  3  memory ran out, a file can't be read, or the answer can't be written
-  4  these words can't be understood
+  3  out of memory, a file can't be read, or the output can't be written
+  4  the command line is wrong
   6  the run made all its steps, and a line of the script met no choose (`choices` alone)";
 
 /// What stands below the options of `random`.
 pub const AFTER_RANDOM: &str = "\
 A condition COND is a term, as in `--always 'stage(0) = critical or not busy'`, or the name of a
-derived function without parameters. If it begins with a minus, an equals sign stands before it, as
-in `--always='-x < 3'`. A condition whose value is neither true nor false isn't true.
+derived function without parameters. If it begins with a minus, write an equals sign before it, as in
+`--always='-x < 3'`. A condition whose value is neither true nor false isn't true.
 
-Runs are made until one has a fault. At each choose a candidate is drawn, and each is as likely. The
-same words find the same on every machine, and other runs by another --seed.
+Runs are made until one has a fault. At each choose a candidate is drawn, each as likely as another.
+The same command line finds the same on every machine; another --seed draws other runs.
 
-What is written to standard output is a script: a line is `STEP PATH NUMBER`, or begins with `# `
-and says something. The first one says what was found:
+The output is a script: each line is `STEP PATH NUMBER`, or a comment, which begins with `# `. The
+first line says what was found:
   no fault in R runs of at most N steps
-                                there may be one in other runs: `asm-explore all` looks at each
+                                other runs may have one: `asm-explore all` looks at every run
   fault after step N: condition K is false
                                 after step N of the run under the script the Kth condition isn't
-                                true, but is false, or has another value; those of --always come
-                                before those of --always-file; N is 0 for the first state
+                                true: it is false, or has another value; the conditions of --always
+                                come before those of --always-file; N is 0 for the first state
   fault in step N: clash ..     step N fails as it does in asm; so do outside and exhausted
-If there is a fault, the script leads to it: steps and choices of the run that was drawn are left
-out where the rest has a fault, too. Further lines show the conditions, which faults were looked
-for, the seed, how many runs were made and how many steps in them, and where a script was found the
-number of its run, from 0. The last of them is a call of asm that makes the run, where THIS is a
-file that has the whole output. With --trace the trace of that run follows.
+If there is a fault, the script leads to it: steps and choices of the drawn run are left out if the
+rest has a fault, too. Further comments show the conditions, the faults that were looked for, the
+seed, how many runs and steps were made, and, if a fault was found, the number of its run, from 0. The
+last comment is a call of asm that makes the run, where THIS is a file that has the whole output. With
+--trace the trace of that run follows.
 
 Status:
   0  no fault was found; or help or the version was asked for
   1  a fault was found
   2  the specification or a condition is refused
-  3  memory ran out, a file can't be read, or the answer can't be written
-  4  these words can't be understood";
+  3  out of memory, a file can't be read, or the output can't be written
+  4  the command line is wrong";
 
 /// What stands below the options of `all`.
 pub const AFTER_ALL: &str = "\
 A condition COND is a term, as in `--always 'stage(0) = critical or not busy'`, or the name of a
-derived function without parameters. If it begins with a minus, an equals sign stands before it, as
-in `--always='-x < 3'`. A condition whose value is neither true nor false isn't true.
+derived function without parameters. If it begins with a minus, write an equals sign before it, as in
+`--always='-x < 3'`. A condition whose value is neither true nor false isn't true.
 
-What is written to standard output is a script: a line is `STEP PATH NUMBER`, or begins with `# `
-and says something. The first one says what was found:
+The output is a script: each line is `STEP PATH NUMBER`, or a comment, which begins with `# `. The
+first line says what was found:
   closed                        no run has a fault, of however many steps
   safe up to N steps            no run of at most N steps has a fault
   fault after step N: condition K is false
                                 after step N of the run under the script the Kth condition isn't
-                                true, but is false, or has another value; those of --always come
-                                before those of --always-file; N is 0 for the first state
+                                true: it is false, or has another value; the conditions of --always
+                                come before those of --always-file; N is 0 for the first state
   fault after step N: deadlock  no choice changes the state after step N, and the condition of
                                 --deadlock-unless isn't true in it
   fault in step N: clash ..     step N fails as it does in asm; so do outside and exhausted
@@ -140,17 +140,17 @@ and says something. The first one says what was found:
   too many outcomes, safe up to N steps
   too much memory, safe up to N steps
                                 the search ended early; no run of at most N steps has a fault
-If there is a fault, the script leads to it, and no run of fewer steps has one. Further lines show
-the conditions, which faults were looked for, how many states were reached, how many steps lead from
-one to another, how many steps the farthest state is away (depth), how many outcomes a step has at
-most (widest), and how many states no choice of the next step changes (quiet). The last of them is a
-call of asm that makes the run, where THIS is a file that has the whole output. With --trace the
-trace of that run follows.
+If there is a fault, the script leads to it, and no run of fewer steps has one. Further comments show
+the conditions, the faults that were looked for, how many states were reached, how many steps lead from
+one to another, how many steps lead to the farthest state (depth), how many outcomes a step has at most
+(widest), and how many states no choice of the next step changes (quiet). The last comment is a call of
+asm that makes the run, where THIS is a file that has the whole output. With --trace the trace of that
+run follows.
 
 Status:
   0  no fault was found; or help or the version was asked for
   1  a fault was found
   2  the specification or a condition is refused
-  3  memory ran out, a file can't be read, or the answer can't be written
-  4  these words can't be understood
+  3  out of memory, a file can't be read, or the output can't be written
+  4  the command line is wrong
   5  too many states or outcomes, or too much memory for the search";

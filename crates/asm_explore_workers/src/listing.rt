@@ -1,4 +1,10 @@
 //! Looks ahead at the steps from some states, by workers.
+//!
+//! Workers keep the states that weren't reached before the batch, packed as nodes are, with their
+//! hashes (`Ahead`). No state becomes a node while they work. A worker that has kept many states
+//! leaves the others out. What is returned ends before the first state that was left out, and the
+//! next batch has at most twice as many states, or 16 (`Index::next_batch`), so the memory of a
+//! batch is bounded.
 ghost use denote.Param.Send.{IsSync};
 ghost use Rattle.std.specs.Prelude.{◌≡◌, ◌<◌, ◌≤◌, IfOk, length, take, vec_len};
 ghost use Rattle.asm_state.specs.Contents.{IsStateOf};

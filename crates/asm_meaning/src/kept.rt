@@ -1,4 +1,7 @@
 //! Sets whose memory is kept for the next ones.
+//!
+//! A set takes memory only when it first names a location. `furnish` can give it the memory of a
+//! set that is no longer needed, which `keep` has kept.
 ghost use Rattle.std.specs.Prelude.{◌≡◌, ◌<◌, OnOk, IfOk, IfErr};
 ghost use Rattle.asm_state.specs.Signature.{Shape, count_of, location_at};
 ghost use Rattle.asm_state.specs.Updates.{UpdateSet, merge, one};

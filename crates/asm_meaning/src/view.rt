@@ -1,4 +1,8 @@
 //! Views of states.
+//!
+//! A view borrows the state and the summaries over it, and owns nothing. A read looks for the
+//! location in the summaries, from the last to the first, and then in the state. So it takes at
+//! most one look-up for each summary, and each sequence or loop around the term adds one summary.
 ghost use Rattle.std.specs.Prelude.{◌≡◌, ◌<◌, IsTrue, length, slice_index_or};
 ghost use Rattle.asm_state.specs.declared.function.FunctionKind.TheVariants.{Controlled};
 ghost use Rattle.asm_state.specs.declared.value.Value.TheVariants.{Undef};

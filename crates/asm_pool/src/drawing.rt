@@ -1,4 +1,10 @@
 //! One worker's work: it draws tasks from the lanes and runs them.
+//!
+//! A draw is one atomic step, and workers have no other access to the lanes, so no worker waits for
+//! another. From one lane a seat draws only greater numbers than before, so a worker is past the
+//! end of each lane after a bounded number of draws. A seat draws past the end of a lane at most as
+//! often as it has parts. This bounds the word of the lane, so it never wraps
+//! (`specs/Dealing.antt`).
 ghost use Rattle.std.specs.Prelude.{◌≡◌, ◌==◌, ℕ, ◌+◌, ◌<◌, ◌∷◌, [], IfOk, OnOk, if◌then◌else◌};
 ghost use Rattle.asm_pool.specs.Dealing.{past, seat_view};
 ghost use Rattle.asm_pool.specs.Pool.{IsRun};

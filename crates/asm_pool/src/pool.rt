@@ -1,4 +1,8 @@
 //! Starts the workers, and puts together what they did.
+//!
+//! After the last join one seat has all parts and all draws (`HasDealt`), and it is past the end of
+//! each lane. So it has drawn each task exactly once, and the workers ran exactly the tasks that
+//! their seats drew (`IsWorked`).
 ghost use denote.Param.Send.{IsSend, IsSync};
 ghost use Rattle.std.specs.Prelude.{◌≡◌, ℕ, ◌^◌, ◌<◌, ◌≤◌, [], All, IfOk, IsOk, drop, vec_len, map};
 ghost use Rattle.std.specs.List.{range_with_len, concat};

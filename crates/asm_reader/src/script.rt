@@ -1,4 +1,8 @@
 //! Scripts.
+//!
+//! All numbers of a script have at most nine digits, so 32 bits are enough for each. `pick` borrows
+//! the path and looks its numbers up one after the other, so it takes no memory. If no line is for
+//! this path in this step, the line for every step is found by one index into a list.
 ghost use Rattle.std.specs.Prelude.{◌≡◌};
 ghost use Rattle.asm_reader.specs.ScriptLines.{no_lines};
 

@@ -1,4 +1,8 @@
 //! The bodies of derived functions and of rules, which all their uses share.
+//!
+//! What the main rule doesn't reach isn't resolved. A rule has one body for each way in which it is
+//! called: with a target or without, and for each number of parameters that a call binds. In a
+//! specification without faults each call binds all of them.
 ghost use Rattle.std.specs.Prelude.{◌≡◌, ◌<◌, IfOk, IfSome, OnOk, length};
 ghost use Rattle.std.specs.Arc.{arc_value};
 ghost use Rattle.asm_check.specs.Numbers.{derived_of, rules_of};

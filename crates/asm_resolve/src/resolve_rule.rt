@@ -1,4 +1,9 @@
 //! The codes of rules.
+//!
+//! The body of a rule is resolved for the parameters that a call binds, so each name that has a
+//! position is bound in each call. The pass refuses nothing: only memory can be short. It ends
+//! because ranks fall with calls and uses (`declared_ranks`, `tree_weights`). The proof has one
+//! lemma for each form of term (`proofs/Resolving.antt`) and of rule (`proofs/RuleResolving.antt`).
 ghost use Rattle.std.specs.Prelude.{◌≡◌, ◌<◌, List, Some, None, IfOk, IfSome, IfNone, OnOk, length, take};
 ghost use Rattle.std.specs.Arc.{arc_value};
 ghost use Rattle.asm_state.specs.declared.function.FunctionKind.TheVariants.{Controlled};

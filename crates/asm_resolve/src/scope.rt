@@ -1,4 +1,7 @@
 //! The names of a frame's positions, while terms and rules are resolved.
+//!
+//! A scope is linked as a frame is. A use of a name takes one step for each binder inside of the
+//! name's own; among more than eight parameters it is then looked up in a map (`Parameters`).
 ghost use Rattle.std.specs.Prelude.{◌≡◌, IfOk};
 ghost use Rattle.asm_resolve.specs.Scopes.{names_of, slots_of};
 ghost use Rattle.asm_resolve.specs.Slots as slots;

@@ -1,6 +1,10 @@
 //! The bodies that a rule uses, resolved before it. The pass goes down into a body where it first
 //! meets its use. Where each body that a body uses is known by then, it nests no deeper than the
 //! text of one body does.
+//!
+//! The uses wait in a list on the heap, not in nested calls. A use that the pass still meets is
+//! resolved already, or is one more body of a rule that is called in two ways, so the pass nests no
+//! deeper than two bodies do. The drop of a code does go down through all bodies.
 ghost use Rattle.std.specs.Prelude.{OnOk};
 ghost use Rattle.asm_syntax.specs.Views.{spec_of};
 ghost use Rattle.asm_resolve.specs.RuleScopes.{AreKnown};

@@ -1,4 +1,8 @@
 //! A round over the pieces of a region, as a job of a pool.
+//!
+//! If a task is refused memory, it returns the refusal, and puts nothing into the table. The other
+//! tasks go on. When all are done, the region returns the refusal, so the run ends with `Memory`
+//! after whole steps.
 ghost use Rattle.std.specs.Prelude.{◌≡◌, ◌<◌, IfErr, IfOk, IfSome, None, [], false};
 ghost use Rattle.asm_state.specs.Signature.{count_of};
 ghost use Rattle.asm_state.specs.Updates.{none};

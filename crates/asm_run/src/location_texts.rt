@@ -1,4 +1,7 @@
 //! The texts of locations, each made when it is first shown.
+//!
+//! What is kept for a location is its text or nothing (`AreTextsOf`): each function that adds lines
+//! of updates requires this and ensures it again.
 ghost use Rattle.std.specs.Prelude.{◌≡◌, ◌⊎◌, ◌<◌, [], ℕ, length, OnOk};
 ghost use Rattle.asm_run.specs.KeptTexts.{kept, span_at};
 

@@ -1,4 +1,10 @@
 //! Rounds over the pieces of a region.
+//!
+//! The table is the only part of a region that changes and that workers share. The state, the views
+//! over it, the script, the codes and the pieces are only read. Between two rounds the outcome so
+//! far is held (`Holds`): the set for which the logs of all hands stand together, the instances,
+//! and the least exhausted path. Each round keeps that (`IsRound`). The rounds are a recursion, at
+//! most 65 calls deep.
 ghost use Rattle.std.specs.Prelude.{◌≡◌, ℕ, ◌<◌, ◌≤◌, [], All, IfNone, IfOk, IfSome, IsOk, OnOk, length, vec_len};
 ghost use Rattle.asm_state.specs.Signature.{count_of};
 ghost use Rattle.asm_meaning.specs.Does as does;

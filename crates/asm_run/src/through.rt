@@ -1,4 +1,7 @@
 //! A sink over a writer.
+//!
+//! One write to the sink is one write to the writer, which may take less than it is given.
+//! `write_all` writes on until all is taken.
 ghost use Rattle.std.specs.Prelude.{◌≡◌, IsFalse, ◌||◌};
 ghost use Rattle.std.specs.Io.{WritesAtMost};
 ghost use Rattle.std.specs.Io.KnownBytes.{WriteAppends};

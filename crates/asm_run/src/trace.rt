@@ -1,4 +1,8 @@
 //! The lines of a trace.
+//!
+//! `make_step` sorts the entries of a set before their lines are made. `entries_are_set` in
+//! `proofs/ProperLocations.antt` proves that these lines are those of the set, location by
+//! location.
 ghost use Rattle.std.specs.Prelude.{◌≡◌, ◌<◌, ◌++◌, length, OnOk, codes};
 ghost use Rattle.asm_state.specs.Signature.{count_of};
 ghost use Rattle.asm_syntax.specs.Views.{spec_of};

@@ -1,5 +1,8 @@
 //! How much work pieces are, and how many workers that is worth: a guess from the code alone, on
 //! which no trace depends.
+//!
+//! The bodies of called rules and of derived functions are counted at each use. If the nodes can't
+//! be counted, as behind an `iterate`, all workers share.
 ghost use Rattle.std.specs.Prelude.{◌<◌, All, map, option_map};
 ghost use Rattle.asm_code.specs.CodeViews.{code_of, codes_of};
 ghost use Rattle.asm_code.specs.RuleMeaning.{IsSoundPlace, IsSoundRule, IsSoundTest};

@@ -1,4 +1,7 @@
 //! The argument lists in a domain, by their positions in order.
+//!
+//! Argument lists are numbered in mixed radix: the position of a list is the position of its first
+//! argument, times the number of lists of the rest, plus the position of the rest.
 ghost use Rattle.std.specs.Prelude.{◌≡◌, ◌<◌, ◌≤◌, ◌^◌, ◌++◌, [], false, length, slice_index_or, All, IfSome, IfNone, OnOk};
 ghost use Rattle.asm_state.specs.declared.limits.TheConstants.{VALUES};
 ghost use Rattle.asm_state.specs.Signature.{domain_in};

@@ -1,4 +1,7 @@
 //! Codes of values.
+//!
+//! The ghost field is the proof that the word is a code. A frame of `asm_eval`, for instance, keeps
+//! a bound value in this way.
 ghost use Rattle.asm_state.specs.Words.{IsCode};
 
 /// The code of a value. It stands for a word where one is copied together with references.

@@ -1,4 +1,10 @@
 //! The signature: which universes, functions and locations there are, by number.
+//!
+//! The time that `number_of` and `location` take depends only on the number of arguments, which is
+//! 4 at most, and `stray` takes constant time. A read calls `proper_number`, which finds out
+//! whether the arguments are in the domain while it numbers them, so the read needn't call `stray`.
+//! The initial contents and the values of static functions are computed once, when the signature is
+//! built (`layout`).
 ghost use Rattle.std.specs.Prelude.{◌≡◌, ◌<◌, ◌≤◌, Some, IsTrue, IfOk, IfSome, IfNone, length, map, slice_get};
 ghost use Rattle.asm_state.specs.declared.limits.TheConstants.{LOCATIONS};
 ghost use Rattle.asm_state.specs.declared.function.FunctionKind.TheVariants.{Controlled, Static};

@@ -1,4 +1,6 @@
 //! Universes: enumerations and ranges.
+//!
+//! A universe is kept as its first value and a count, so a position in it is a difference of codes.
 ghost use Rattle.std.specs.Prelude.{◌≡◌, ◌+◌, ◌≤◌, ◌<◌, Some, IfSome, length, slice_get};
 ghost use Rattle.std.specs.List.{position};
 ghost use Rattle.asm_state.specs.declared.element.TheConstants.{ELEMENTS};

@@ -1,4 +1,8 @@
 //! Values as words.
+//!
+//! To a contract a `Word` is the `Value` whose code it holds, so definitions and contracts speak of
+//! values, not of words. Only this file makes words, and code that looks at a value takes it out of
+//! its word (`Word::value`).
 ghost use Rattle.std.specs.Prelude.{◌≡◌, ◌≢◌, ◌<◌, ◌≤◌, ◌^◌, IfNone, IfSome};
 ghost use Rattle.asm_state.specs.Codes.{code_of};
 ghost use Rattle.asm_state.specs.Operation.{op};

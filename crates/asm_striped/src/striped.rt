@@ -1,4 +1,11 @@
 //! The table and its seats.
+//!
+//! `put` is a `fetch_min` on the low word and a `fetch_max` on the high word. It takes no lock, no
+//! memory and no handle of the runtime, so it can't wait for another thread. The table is the union
+//! of what was put, so no summaries are united after the threads are joined. Values are put as
+//! their codes, which are in the order of the values. A code is at least 1 and less than 2^63, so
+//! it is never a word of a location where nothing was put. The log of a seat exists only in the
+//! proofs, and takes no memory.
 ghost use Rattle.std.specs.Prelude.{◌≡◌, ◌+◌, ◌*◌, ◌^◌, ◌<◌, ◌≤◌, None, IfOk};
 ghost use Rattle.asm_state.specs.Signature.{Shape};
 ghost use Rattle.asm_updates.specs.Stands.{MarksFaults};

@@ -1,4 +1,13 @@
 //! The bounds of the values at each location that a set names.
+//!
+//! A set looks through its entries until it has more than 16. From then on it also keeps the
+//! position of each location in the list (`Positions`), in pages of 64 locations. With positions a
+//! look-up takes constant time. A position is believed only if the entry there is that of the
+//! location, so `clear` needn't forget any. If a page is refused memory the set goes on without
+//! positions, and looks through its entries.
+//!
+//! `sort` changes nothing if the locations rise already. With positions, and at least one entry for
+//! eight locations, it looks each location up; otherwise it sorts the entries.
 ghost use Rattle.std.specs.Prelude.{◌≡◌, ◌+◌, ◌<◌, ◌≤◌, ◌==◌, ◌⊎◌, ℕ, [], Some, None, true, false, IsTrue, IfOk, IfSome, IfNone, OnOk, OnErr, if◌then◌else◌, length, slice_get, slice_index_or, nat_eq};
 ghost use Rattle.std.specs.List.{IsDistinct};
 ghost use Rattle.std.specs.List.Sorted.{IsStrictlyIncreasing};

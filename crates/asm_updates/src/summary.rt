@@ -1,4 +1,8 @@
 //! A summary of an update set.
+//!
+//! A union and a turbo merge take over the mark of the other set (`may_fault`), and only `clear`
+//! takes it away, so a set can be marked without a fault. `Stands` says that without the mark no
+//! location is faulty.
 ghost use Rattle.std.specs.Prelude.{◌≡◌, ◌<◌, ◌≤◌, ◌==◌, ◌↔◌, ◌⊎◌, ℕ, [], Some, None, false, IsTrue, OnOk, OnErr, IfOk, IfNone, IfSome, if◌then◌else◌, length, slice_get, slice_index_or};
 ghost use Rattle.std.specs.List.Sorted.{IsStrictlyIncreasing};
 ghost use Rattle.std.specs.Map.{keys_of};
