@@ -4,9 +4,9 @@ import hashlib
 import os
 import tempfile
 
-from .edits import ASIDE, RECORD, names_in, read
+from .edits import ASIDE, RECORD, names_in, read, texts_of
 from .failure import Failure
-from .rattle_text import Source
+from .rattle_text import Source, tokens_of
 
 HEAD = """\
 # Which goal refuses each wrong body of {crate}: the body and its digest, the function that isn't
@@ -77,11 +77,13 @@ class Tree:
 def digest_of(path, only_shown):
     """Returns the digest of a file, or of what it shows to the crates above.
 
-    A check of a library reads of a source below it neither a body nor a function that isn't public.
+    Comments and layout of a source count for nothing. A check of a library reads of a source below
+    it neither a body nor a function that isn't public.
     """
-    if only_shown and path.endswith(".rt"):
-        made = "\n".join(Source(path, read(path, path)).seen_above()).encode()
-        return hashlib.sha256(made).hexdigest()
+    if path.endswith(".rt"):
+        text = read(path, path)
+        made = Source(path, text).seen_above() if only_shown else tokens_of(text)
+        return hashlib.sha256("\n".join(made).encode()).hexdigest()
     try:
         with open(path, "rb") as file:
             return hashlib.sha256(file.read()).hexdigest()
@@ -159,6 +161,11 @@ def why_stale(tree, crate, edits, toolchain):
         return "its sources or definitions, or those below it, were changed since"
     if toolchain and record.toolchain != toolchain:
         return f"they were tried by another toolchain, {record.toolchain}"
+    texts = texts_of(tree.root, crate)
+    for it in edits:
+        why = it.apply(dict(texts))
+        if why:
+            return f"{it.path}: {why}"
     digests = {it.name: it.digest for it in edits}
     tried = {name: words[0] for name, words in record.tried.items()}
     every = sorted({*digests, *tried})

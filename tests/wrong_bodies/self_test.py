@@ -145,7 +145,13 @@ def records(test):
     test.write(test.record, text)
     test.expect_run("a sample of a true record passes", ["--sample"], 0, "refused by")
     source = f"crates/{CRATE}/src/state.rt"
-    test.write(source, test.read(source) + "\n")
+    text = test.read(source)
+    test.write(source, f"{text}\n// A comment.\n")
+    test.expect_run("a comment doesn't make it stale", ["--stale"], 0, r"\A\Z")
+    old = EDITS[OTHER][1]
+    test.write(source, f"{text}\n// {old}\n")
+    test.expect_run("an old text that stands twice does", ["--stale"], 1, f"{OTHER}.*2 times")
+    test.write(source, f"{text}\nconst NOTHING: u64 = 0;\n")
     test.expect_run("a changed source makes it stale", ["--stale"], 1, "sources or definitions")
 
 
