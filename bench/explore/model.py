@@ -1,4 +1,4 @@
-"""A model of the language: what the step from a state yields under each script. It follows docs/LANGUAGE.md, and no crate.
+"""A model of the language: what the step from a state yields under each script. It follows docs/REFERENCE.md, and no crate.
 
 Values are numbers, and texts for all others: undef, true, false and elements. A term is a tuple that begins with its kind, and so is a
 rule. A location is a function's name with its arguments, or with None where they are outside its domain. What a step yields is a set of

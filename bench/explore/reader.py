@@ -1,4 +1,4 @@
-"""Reads a specification into the trees of model.py, by the grammar of docs/LANGUAGE.md. What is refused isn't looked for: the texts are right."""
+"""Reads a specification into the trees of model.py, by the grammar of docs/REFERENCE.md. What is refused isn't looked for: the texts are right."""
 import re
 
 from model import Function, Named, Specification, Universe, lists

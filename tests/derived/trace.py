@@ -1,4 +1,4 @@
-"""Writes traces as docs/LANGUAGE.md describes them: steps with their updates, the end, the state."""
+"""Writes traces as docs/REFERENCE.md describes them: steps with their updates, the end, the state."""
 import itertools
 
 
