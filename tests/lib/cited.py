@@ -15,6 +15,8 @@ QUOTED = re.compile(r"`([^`]+)`")
 CONTRACTS = "| What | Contract of |"
 WRONG = "| Crate | in `must-fail/`, tried by `rt ci` | in `wrong/`, tried by `./wrong-bodies` |"
 DEFINITIONS = "| Definition | Means | In |"
+# The section of the definitions that are in specs/code/.
+BRIDGES = "## Towards the code"
 
 
 def without_comments(path):
@@ -30,35 +32,40 @@ def is_defined(name, text):
     return re.search(rf"(?m)^\s*{words}{re.escape(name)}(?![\w'])(?!\.)[^=\n]*(?::|where|\{{|\()", text) is not None
 
 
+def leads_to(around, modules, owners):
+    """Whether a path ends so: the last of the modules, in their order, or none, and then a type or a trait, or none."""
+    inner = tuple(around[:-1] if around and around[-1] in owners else around)
+    return modules[len(modules) - len(inner) :] == inner
+
+
 class Crate:
     """The functions, types, clauses and definitions of a crate."""
 
     def __init__(self, folder):
         self.name = folder.name
-        # The functions with a contract, each with its module and the types and traits around it.
+        # The functions with a contract, each with its modules and the types and traits around it.
         self.functions, self.types, self.clauses = {}, set(), set()
         for path in sorted(folder.glob("src/**/*.rt")):
-            self.read(path.stem, without_comments(path))
+            self.read(path.relative_to(folder / "src").with_suffix("").parts, without_comments(path))
         self.definitions = [without_comments(path) for path in sorted(folder.glob("specs/**/*.antt"))]
 
-    def read(self, module, text):
+    def read(self, modules, text):
         for name in re.findall(r"(?m)^\s*pub (?:struct|enum|trait|type) (\w+)", text):
-            self.types.update((name, f"{module}::{name}"))
+            self.types.update("::".join((*modules[k:], name)) for k in range(len(modules) + 1))
         self.clauses.update(re.findall(r"(?:ensures|requires|invariant|ghost)\s+(\w+)\s*[{=:]", text))
         owners, is_of_trait = set(), False
         found = list(HEADS.finditer(text))
         for head, behind in zip(found, [*(it.start() for it in found[1:]), len(text)]):
             if head["name"]:
                 if is_of_trait or re.search(r"\bensures\b", text[head.end() : behind]):
-                    self.functions.setdefault(head["name"], []).append({module, *owners})
+                    self.functions.setdefault(head["name"], []).append((modules, owners))
             else:
                 owners = set(re.findall(r"\b[A-Z]\w+", head["owner"] or ""))
                 is_of_trait = bool(re.search(r"\bfor\b|^trait\b", head["owner"] or ""))
 
     def has(self, cited):
         *around, name = cited.split("::")
-        places = self.functions.get(name, [])
-        if any(set(around) <= place for place in places):
+        if any(leads_to(around, modules, owners) for modules, owners in self.functions.get(name, [])):
             return True
         if cited in self.types:
             return True
@@ -110,10 +117,16 @@ def wrong_faults(lines):
         yield f"docs/PROVED.md: there are {total} wrong bodies"
 
 
+def is_bridge(path):
+    """Whether a file of definitions lies in specs/code, or in a folder there."""
+    return path.relative_to(ROOT / "crates").parts[2] == "code"
+
+
 def model_faults(lines):
-    """What is wrong with the files and the names of definitions that MODEL.md says."""
-    base = ROOT
+    """What is wrong with the files and the names of definitions that MODEL.md says, and which files of specs/ it leaves out."""
+    base, listed = ROOT, set()
     folders = {number: found[1] for number, line in enumerate(lines, 1) if (found := re.match(r"In `(crates/[\w/]*)`\.", line))}
+    bridges = lines.index(BRIDGES) + 1
     for number, _, cells in rows(lines, DEFINITIONS):
         where = f"docs/MODEL.md:{number}"
         base = ROOT / folders[max(it for it in folders if it < number)]
@@ -127,12 +140,23 @@ def model_faults(lines):
                 continue
             texts.append(without_comments(path))
             last = path.parent
+            listed.add(path)
+            if path.suffix == ".antt" and is_bridge(path) != (number > bridges):
+                yield f"{where}: {name} is {'a bridge' if is_bridge(path) else 'no bridge'}, and stands in another section"
         names = QUOTED.findall(cells[0])
         for group in re.findall(r"\(((?:`\w+`(?:, )?)+)\)", cells[1]):
             names += QUOTED.findall(group)
         for name in names:
             if re.fullmatch(r"\w{3,}", name) and name not in ("asm", "undef", "result") and not any(is_defined(name, it) for it in texts):
                 yield f"{where}: {name} isn't defined in the files that are said"
+    for path in sorted((ROOT / "crates").glob("*/specs/**/*.antt")):
+        where = path.relative_to(ROOT)
+        if path.name == "Lib.antt" or path.relative_to(ROOT / "crates").parts[2:] == ("code.antt",):
+            continue
+        if path.read_text(encoding="utf-8").startswith("-- Bridge to the code.") != is_bridge(path):
+            yield f"{where}: the folder and the first line don't agree on whether the file is a bridge"
+        if path not in listed and not is_bridge(path):
+            yield f"{where}: MODEL.md lists no such file of definitions"
 
 
 def anchors(text):

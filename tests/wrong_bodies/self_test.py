@@ -19,7 +19,7 @@ CRATE = "asm_state"
 # A wrong body, a harmless edit of its caller, and another wrong body.
 CALLEE, CALLER, OTHER = "a_callee_is_wrong", "b_caller_means_the_same", "c_other_is_wrong"
 EDITS = {
-    CALLEE: ("universe", "(value + ZERO) as u64", "(value + ZERO) as u64 / 2"),
+    CALLEE: ("universe", "(value + CODE_OF_ZERO) as u64", "(value + CODE_OF_ZERO) as u64 / 2"),
     CALLER: ("universe", "let code = value.code();", "let code = value.code(); let _same = code;"),
     OTHER: ("state", "self.contents.as_slice().to_vec(alloc)?", "Vec::new(alloc)"),
 }

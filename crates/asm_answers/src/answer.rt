@@ -1,10 +1,10 @@
-//! Answers to texts, as tables write them: `read`, `tree` and the tree, `beginnings`, `checked`, a refusal as `read 5 at 30` or
-//! `check 9 at 26`, or what is said of a script.
+//! Answers to texts, as tables write them: `read`, `tree` and the tree, `beginnings`, `checked`, a
+//! refusal as `read 5 at 30` or `check 9 at 26`, or what is said of a script.
 use crate::printed::line;
 use crate::{refusal, script};
 use asm_check::check;
 use asm_reader::read;
-use asm_syntax::Refused;
+use asm_syntax::InputError;
 use asm_syntax::spec::Spec;
 use std::alloc::{AllocError, Global};
 
@@ -31,8 +31,8 @@ pub fn found(alloc: Global, wanted: &str, text: &[u8]) -> Answer {
 fn found_of_spec(alloc: Global, kind: &str, text: &[u8]) -> Answer {
     let spec = match read(alloc, text) {
         Ok(spec) => spec,
-        Err(Refused::Named(reason)) => return refusal::of_read(alloc, reason),
-        Err(Refused::Memory) => return Err(AllocError),
+        Err(InputError::Named(reason)) => return refusal::of_read(alloc, reason),
+        Err(InputError::Memory) => return Err(AllocError),
     };
     match kind {
         "tree" => {
@@ -45,28 +45,28 @@ fn found_of_spec(alloc: Global, kind: &str, text: &[u8]) -> Answer {
     }
 }
 
-/// Whether the text that was read is well formed, or the fault that stands first in it.
+/// Whether the text that was read is well formed, or the fault that is first in it.
 fn checked(alloc: Global, spec: Spec) -> Answer {
     match check(alloc, spec) {
         Ok(_) => String::from_str(alloc, "checked"),
-        Err(Refused::Named(fault)) => refusal::of_check(alloc, fault),
-        Err(Refused::Memory) => Err(AllocError),
+        Err(InputError::Named(fault)) => refusal::of_check(alloc, fault),
+        Err(InputError::Memory) => Err(AllocError),
     }
 }
 
-/// Whether each beginning of a text that is read is read too, or is refused as beginnings may be: the last byte can be one that
-/// begins no token alone, and the tokens can end anywhere.
+/// Whether each beginning of a text that is read is read too, or is refused as beginnings may be:
+/// the last byte can be one that begins no token alone, and the tokens can end anywhere.
 fn beginnings(alloc: Global, text: &[u8]) -> Answer {
     for length in 0..text.len() {
         match read(alloc, &text[..length]) {
             Ok(_) => {}
-            Err(Refused::Named(reason)) => {
+            Err(InputError::Named(reason)) => {
                 if !matches!(reason.number(), 2 | 3 | 5 | 6) {
                     let refusal = refusal::of_read(alloc, reason)?;
                     return format!(in alloc; "a beginning: {refusal}");
                 }
             }
-            Err(Refused::Memory) => return Err(AllocError),
+            Err(InputError::Memory) => return Err(AllocError),
         }
     }
     String::from_str(alloc, "beginnings")

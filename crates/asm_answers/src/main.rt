@@ -1,5 +1,6 @@
-//! The program `asm_answers`: reads texts and what is expected of each from standard input, and writes where something
-//! else is found. Where memory runs out it ends by an error and counts nothing: `rt try --fail-alloc N` lets that happen.
+//! The program `asm_answers`: reads texts and what is expected of each from standard input, and
+//! writes where something else is found. If memory runs out it ends by an error and counts nothing:
+//! `rt try --fail-alloc N` lets that happen.
 #![tactic(auto)]
 
 mod answer;

@@ -1,14 +1,16 @@
 //! The parts of a case of a run.
 //!
-//! First come the lines of the specification, behind the first two, `CoreASM T` and `init M`; then, behind a line `--- script`, a script,
-//! which may be missing; then, behind a line `--- trace` or `--- answer`, the trace or the refusal that is expected.
+//! First come the lines of the specification, after the first two, `CoreASM T` and `init M`; then,
+//! after a line `--- script`, a script, which may be missing; then, after a line `--- trace` or
+//! `--- answer`, the trace or the refusal that is expected.
 use crate::answer;
 use crate::text::{Marked, expanded};
 use std::alloc::{AllocError, Global};
 
 const FIRST_LINES: &[u8] = b"CoreASM T\ninit M\n";
 
-/// What a case hands to a run, and what it expects of it: how it ends, or why it is refused, and behind this line what is written.
+/// What a case hands to a run, and what it expects of it: how it ends, or why it is refused, and
+/// after this line what is written.
 #[derive(Drop)]
 pub struct Parts {
     pub text: Vec<u8>,
@@ -24,7 +26,7 @@ enum Expected<'a> {
 }
 
 impl<'a> Expected<'a> {
-    /// What stands before that which is expected, and this.
+    /// What is before that which is expected, and this.
     fn split(text: &'a str) -> Option<(&'a str, Expected<'a>)> {
         if let Some((before, trace)) = text.split_once("\n--- trace\n") {
             return Some((before, Expected::Trace(trace)));
@@ -75,7 +77,8 @@ fn text_of(alloc: Global, lines: Marked, is_whole: bool) -> Result<Marked, Alloc
 }
 
 impl Parts {
-    /// The parts of a case with this text; none if it hasn't such parts, or a repetition doesn't fit.
+    /// The parts of a case with this text; none if it hasn't such parts, or a repetition doesn't
+    /// fit.
     pub fn new(alloc: Global, text: &str, is_whole: bool) -> Result<Option<Parts>, AllocError> {
         let Some((before, expected)) = Expected::split(text) else {
             return Ok(None);

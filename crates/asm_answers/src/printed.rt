@@ -17,7 +17,7 @@ fn push_name(out: &mut String, name: &Name) -> Pushed {
     write!(out, "@{at}")
 }
 
-/// The names, each behind a space.
+/// The names, each after a space.
 fn push_names(out: &mut String, names: &Vec<Name>) -> Pushed {
     for name in names {
         out.push(' ')?;
@@ -75,7 +75,7 @@ fn push_applied(out: &mut String, name: &Name, arguments: &Vec<Term>) -> Pushed 
     out.push(')')
 }
 
-/// A chain stands in brackets, and what has one operand or binds a name in parentheses.
+/// A chain is in brackets, and what has one operand or binds a name in parentheses.
 #[cycle(printed_terms)]
 fn push_term(out: &mut String, term: &Term) -> Pushed {
     match term {
@@ -101,7 +101,7 @@ fn push_term(out: &mut String, term: &Term) -> Pushed {
             push_binding(out, "(forall ", name, over)?;
             push_operand(out, " holds ", test)
         }
-        Term::Answer(name) => push_name(out, name),
+        Term::Result(name) => push_name(out, name),
     }
 }
 
@@ -130,7 +130,7 @@ fn push_condition(out: &mut String, test: &Option<Term>) -> Pushed {
     }
 }
 
-/// Where the answer of a call goes, if it goes anywhere.
+/// Where the result of a call goes, if it goes anywhere.
 fn push_target(out: &mut String, target: &Option<Target>) -> Pushed {
     match target {
         None => Ok(()),
@@ -176,7 +176,7 @@ fn push_body(out: &mut String, before: &str, body: &Rule) -> Pushed {
     out.push('}')
 }
 
-/// The parts of a rule with an end word stand in braces.
+/// The parts of a rule with an end word are in braces.
 #[cycle(printed_rules)]
 fn push_rule(out: &mut String, rule: &Rule) -> Pushed {
     match rule {

@@ -1,4 +1,5 @@
-//! Refusals as tables write them: `read 5 at 30`, `read 6`, `check 9 at 26`, `script 1 line 2`, `script 3`, `limits`.
+//! Refusals as tables write them: `read 5 at 30`, `read 6`, `check 9 at 26`, `script 1 line 2`,
+//! `script 3`, `limits`.
 use asm_check::CheckError;
 use asm_reader::{ReadError, ScriptError};
 use asm_run::error::RunError;

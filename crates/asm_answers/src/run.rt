@@ -1,17 +1,17 @@
 //! Runs of specifications: what a case wants of one, and what `run` does.
 //!
-//! Behind the word `run` of a case stand limits, as `steps 3` or `turns 4`, and `whole` where the text is one from its first byte on,
-//! then a colon and the name of the case.
+//! After the word `run` of a case come limits, as `steps 3` or `turns 4`, and `whole` if the text
+//! is one from its first byte on, then a colon and the name of the case.
 use crate::parts::Parts;
 use crate::refusal;
-use asm_limits::limits::Limits;
+use asm_limits::run_limits::Limits;
 use asm_run::end::End;
 use asm_run::run::run;
 use asm_run::through::Through;
 use std::alloc::{AllocError, Global};
 use std::thread::Threads;
 
-/// The limits of a case that doesn't say others, where one worker makes the run.
+/// The limits of a case that doesn't say others, if one worker makes the run.
 const ALONE: Limits = Limits {
     steps: 1,
     turns: 1000,
@@ -20,14 +20,15 @@ const ALONE: Limits = Limits {
     rounds: 4,
 };
 
-/// Those where workers share it.
+/// Those if workers share it.
 const SHARED: Limits = Limits {
     workers: 3,
     cut: 1,
     ..ALONE
 };
 
-/// In so many rounds, once each: where there is one, each region is shared, and where there are two, one of little work isn't.
+/// In these numbers of rounds, once each: if there is one, each region is shared, and if there are
+/// two, one of little work isn't.
 const ROUNDS: [u32; 2] = [1, 2];
 
 /// What a case says of its run.
@@ -38,7 +39,8 @@ struct Setting {
 }
 
 impl Setting {
-    /// The setting that these words say, as ` whole, steps 3`, with these limits where they don't say others; none if they say nothing.
+    /// The setting that these words say, as ` whole, steps 3`, with these limits if they don't say
+    /// others; none if they say nothing.
     fn said(words: &str, limits: Limits) -> Option<Setting> {
         let mut setting = Setting {
             is_whole: false,
@@ -73,8 +75,9 @@ impl Setting {
     }
 }
 
-/// What is expected of the run of a case and what is found, both in full: how the run ends or is refused, and behind this line what is
-/// written. What workers write who share the run is found where one worker writes what is expected.
+/// What is expected of the run of a case and what is found, both in full: how the run ends or is
+/// refused, and after this line what is written. What workers write who share the run is found if
+/// one worker writes what is expected.
 pub fn answers<R: Threads + Sync>(
     rt: &R,
     alloc: Global,
@@ -112,7 +115,7 @@ fn answers_within<R: Threads + Sync>(
     Ok((parts.wanted, found))
 }
 
-/// The answers where a case is none.
+/// The answers if a case is none.
 fn unfit(alloc: Global, missing: &str) -> Result<(String, String), AllocError> {
     let wanted = String::from_str(alloc, "a run")?;
     let found = format!(in alloc; "no run has {missing}")?;

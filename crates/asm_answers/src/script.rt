@@ -1,18 +1,19 @@
-//! Answers to scripts, as tables write them: a refusal as `script 1 line 2`, or questions that an accepted script is asked, each
-//! with the number that it answers, as `asked 1 - 5, 2 0.3 1`: a step, a path in it and the number there.
+//! Answers to scripts, as tables write them: a refusal as `script 1 line 2`, or questions that an
+//! accepted script is asked, each with the number that it returns, as `asked 1 - 5, 2 0.3 1`: a
+//! step, a path in it and the number there.
 use crate::refusal;
 use asm_reader::{Picks, Script, read_script};
-use asm_syntax::Refused;
+use asm_syntax::InputError;
 use std::alloc::{AllocError, Global};
 
 type Answer = Result<String, AllocError>;
 
-/// The refusal of a script, or its answers to the questions that are wanted.
+/// The refusal of a script, or what it returns for the questions that are wanted.
 pub fn found(alloc: Global, wanted: &str, text: &[u8]) -> Answer {
     let script = match read_script(alloc, text) {
         Ok(script) => script,
-        Err(Refused::Named(reason)) => return refusal::of_script(alloc, reason),
-        Err(Refused::Memory) => return Err(AllocError),
+        Err(InputError::Named(reason)) => return refusal::of_script(alloc, reason),
+        Err(InputError::Memory) => return Err(AllocError),
     };
     match wanted.strip_prefix("asked ") {
         Some(questions) => answered(alloc, &script, questions),
@@ -20,7 +21,7 @@ pub fn found(alloc: Global, wanted: &str, text: &[u8]) -> Answer {
     }
 }
 
-/// The questions, each with the answer of the script instead of the one that is wanted.
+/// The questions, each with what the script returns instead of the one that is wanted.
 fn answered(alloc: Global, script: &Script, questions: &str) -> Answer {
     let mut answers = String::from_str(alloc, "asked")?;
     let mut is_first = true;
@@ -36,7 +37,7 @@ fn answered(alloc: Global, script: &Script, questions: &str) -> Answer {
     Ok(answers)
 }
 
-/// The number that the script answers at a step and a path, as `2 0.3`.
+/// The number that the script returns at a step and a path, as `2 0.3`.
 fn picked(alloc: Global, script: &Script, spot: &str) -> Result<Option<u64>, AllocError> {
     let Some((step, path)) = spot.split_once(' ') else {
         return Ok(None);

@@ -1,8 +1,9 @@
 //! Tables of cases.
 //!
-//! A case begins with a line `=== ANSWER`, and the lines up to the next such line are its text, without the last line feed:
-//! so a text that ends in a line feed has an empty line behind it, and with no line at all a text is empty. What stands
-//! before the first case, and below a line `=== note`, is for people. The text of a run has parts (`parts`).
+//! A case begins with a line `=== ANSWER`, and the lines up to the next such line are its text,
+//! without the last line feed: so a text that ends in a line feed has an empty line after it, and
+//! with no line at all a text is empty. What is before the first case, and below a line `=== note`,
+//! is for people. The text of a run has parts (`parts`).
 use crate::text::expanded;
 use crate::{answer, run};
 use std::alloc::{AllocError, Global};
@@ -50,7 +51,8 @@ impl<'a> Case<'a> {
     }
 }
 
-/// Writes each case of the table where something else is found than is expected, and how many there are of both.
+/// Writes each case of the table for which something else is found than is expected, and how many
+/// there are of both.
 pub fn compare<R: Threads + Sync, W: Write>(
     rt: &R,
     alloc: Global,

@@ -1,8 +1,8 @@
 //! Texts as tables write them.
 //!
-//! `@^` marks an offset and is no part of the text. What stands between `@N{` and `@}` comes N times, and in it `@#` is the
-//! number of the time, from 0. Repetitions nest, and `@#` belongs to the innermost one. `@x0D` is the byte with this number in
-//! base 16, of two digits.
+//! `@^` marks an offset and is no part of the text. What is between `@N{` and `@}` comes N times,
+//! and in it `@#` is the number of the time, from 0. Repetitions nest, and `@#` belongs to the
+//! innermost one. `@x0D` is the byte with this number in base 16, of two digits.
 use std::alloc::{AllocError, Global};
 use std::mem;
 
@@ -16,7 +16,7 @@ pub struct Marked {
 /// A part of a text.
 #[derive(Clone, Copy)]
 enum Piece<'a> {
-    /// What stands in the table.
+    /// What is in the table.
     Plain(&'a str),
     /// A byte that the table gives by its number.
     Byte(u8),
@@ -27,7 +27,7 @@ enum Piece<'a> {
     Mark,
 }
 
-/// A repetition that is still open: how often it comes, and what stands before it.
+/// A repetition that is still open: how often it comes, and what is before it.
 #[derive(Drop)]
 struct Open<'a> {
     times: u32,
@@ -68,7 +68,7 @@ impl<'a> Reading<'a> {
         Ok(true)
     }
 
-    /// Takes what stands behind an `@`; false if no text has that there.
+    /// Takes what is after an `@`; false if no text has that there.
     fn take(&mut self, alloc: Global, part: &'a str) -> Result<bool, AllocError> {
         let plain = if let Some(plain) = part.strip_prefix('^') {
             self.push(Piece::Mark)?;
@@ -98,21 +98,21 @@ impl<'a> Reading<'a> {
     }
 }
 
-/// The byte with the number that stands behind an `x`, and what stands behind that.
+/// The byte with the number that is after an `x`, and what is after that.
 fn numbered_byte(part: &str) -> Option<(u8, &str)> {
     let (digits, plain) = part.strip_prefix('x')?.split_at_checked(2)?;
     let byte = u8::from_str_radix(digits, 16).ok()?;
     Some((byte, plain))
 }
 
-/// How often the repetition comes that begins here, and what stands behind its beginning.
+/// How often the repetition comes that begins here, and what is after its beginning.
 fn beginning(part: &str) -> Option<(u32, &str)> {
     let (times, plain) = part.split_once('{')?;
     let times = times.parse::<u32>().ok()?;
     Some((times, plain))
 }
 
-/// The pieces, one behind the other.
+/// The pieces, one after the other.
 fn joined(alloc: Global, pieces: &[Piece<'_>]) -> Result<Marked, AllocError> {
     let mut text = Vec::new(alloc);
     let mut at = None;
@@ -132,7 +132,8 @@ fn joined(alloc: Global, pieces: &[Piece<'_>]) -> Result<Marked, AllocError> {
     Ok(Marked { text, at })
 }
 
-/// The text that the table writes so; none if a repetition isn't closed, or something else than these stands behind an `@`.
+/// The text that the table writes so; none if a repetition isn't closed, or something else than
+/// these is after an `@`.
 pub fn expanded(alloc: Global, written: &str) -> Result<Option<Marked>, AllocError> {
     let mut reading = Reading {
         open: Vec::new(alloc),

@@ -1,4 +1,5 @@
--- The value that an argument has after a parse: it passed the argument's parser, and is read as that parser says.
+-- Free. The value that an argument has after a parse: it passed the argument's parser, and is read
+-- as that parser says.
 use Rattle.std.proofs.Common.{◌≡◌, ◌∙◌, ◌<◌, ◌≤◌, ap, ℕ, zero, suc, Bool, true, false, List, [], ◌∷◌, length, is_some, Option, Some, None, refl, sym, subst, inl, inr, arith}
 use Rattle.std.specs.List.{All, find, slice_index_or}
 use Rattle.std.specs.Str.{bytes_eq}
@@ -22,7 +23,7 @@ use Rattle.clap.specs.declared.parser.matches.ArgMatches.{ArgMatches}
 use Rattle.clap.specs.declared.parser.matches.Found.{Found}
 use Rattle.clap.specs.declared.parser.matches.MatchedArg.{MatchedArg}
 
--- an id that stands in a list of entries is found there
+-- an id that is in a list of entries is found there
 abbrev IsFoundIn : List Entry → Text → Type 0
 IsFoundIn xs id = (i : ℕ) → i < length xs → ((d : Entry) → bytes_eq (slice_index_or xs i d).0.now id ≡ true)
     → is_some (option_map (λ e. e.1) (find (λ e. bytes_eq e.0.now id) xs)) ≡ true

@@ -1,4 +1,4 @@
--- What the rules of a command, which are known, say of its arguments.
+-- Free. What the rules of a command, which are known, say of its arguments.
 use Rattle.std.proofs.Common.{◌&&◌, ◌≡◌, ◌<◌, ◌∙◌, ap, ℕ, zero, suc, Bool, true, false, is_some, not, List, [], ◌∷◌, length, map, Option, None, Some, refl, sym, arith}
 use Rattle.std.specs.List.{list_all, slice_index_or}
 use Rattle.std.specs.Str.{bytes_eq}

@@ -1,4 +1,5 @@
--- What is read of a text that passed a range without negative numbers: the number that it writes.
+-- Free. What is read of a text that passed a range without negative numbers: the number that it
+-- writes.
 use Rattle.std.proofs.Common.{◌==◌, ◌≡◌, ◌∙◌, ◌<◌, ◌^◌, ap, cond, drop, ℕ, Bool, true, false, List, [], ◌∷◌, Option, None, Some, refl, subst, arith}
 use Rattle.std.specs.Prelude.{Err, Ok, Result, pos, unwrap_or}
 use Rattle.std.specs.Str.Parse.{IsNumeral, ParsesUnsigned, digits_value, signed_digits_value, starts_with_minus, without_leading_plus}

@@ -1,4 +1,4 @@
 //! Values of terms and outcomes of main rules, by way of their codes.
 #![tactic(auto)]
 
-pub mod whole;
+pub mod by_code;

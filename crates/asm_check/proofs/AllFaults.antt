@@ -1,4 +1,4 @@
--- All faults of a specification, as one list: so there is a least one, or none.
+-- Free. All faults of a specification, as one list: so there is a least one, or none.
 --     all_faults spec      the faults
 --     first_fault spec     the least of them
 use Rattle.std.proofs.Common.{suc, ◌≡◌, ◌⊎◌, ℕ, ◌≤◌, nat_le, Bool, true, false, cond, not, ◌&&◌, List, [], ◌∷◌, ◌++◌, map, Option, Some, None, refl, sym, ap, subst, inl, inr, arith, ◌∙◌}
@@ -8,24 +8,24 @@ use Rattle.std.proofs.lemmas.Bool.Decides.{nat_tests}
 use Rattle.std.proofs.lemmas.List.Elements.{Contains-append_left, Contains-append_right, Contains-append_cases}
 use Rattle.asm_state.proofs.Lists.{Contains-cons_cases, Contains-first, Contains-from_map, Contains-later, Contains-map, Contains-none}
 use Rattle.asm_syntax.specs.SourceTree.{Spec}
-use Rattle.asm_check.specs.declared.cycles.TheConstants.{RANK}
+use Rattle.asm_check.specs.declared.cycles.step_faults.TheConstants.{MAX_RANK}
 use Rattle.asm_check.specs.Faults.{IsFault, IsLeastFault, IsWellFormed, IsCyclic}
 use Rattle.asm_check.specs.Laws.{LeastExists}
 use Rattle.asm_check.specs.Names.{Text, Meaning, Declaration, first_declarations, declared}
 use Rattle.asm_check.specs.Shapes.{texts_of}
-use Rattle.asm_check.specs.Soonest.{IsSoonest, noted}
-use Rattle.asm_check.specs.Steps as steps
-use Rattle.asm_check.specs.Steps.{IsStepFault, IsTooHigh}
-use Rattle.asm_check.specs.Ways.{called, used, ReachesCycle, IsOnWay, height}
-use Rattle.asm_check.proofs.Declared.{first_is}
-use Rattle.asm_check.proofs.Ending.{listed, listed_sound, listed_complete}
+use Rattle.asm_check.specs.code.LeastFaults.{IsLeastOf, least_after}
+use Rattle.asm_check.specs.code.cycles.StepFaults as steps
+use Rattle.asm_check.specs.code.cycles.StepFaults.{IsStepFault, IsTooHigh}
+use Rattle.asm_check.specs.CallGraph.{called, used, ReachesCycle, BeginsPath, height}
+use Rattle.asm_check.proofs.NameLemmas.FirstOfName.{first_is}
+use Rattle.asm_check.proofs.LeastOfSearch.{listed, listed_sound, listed_complete}
 use Rattle.asm_check.proofs.FaultLists.{steps_sound}
-use Rattle.asm_check.proofs.Heights.{way, high, within}
-use Rattle.asm_check.proofs.Leading.{leads, leads_sound, leads_complete, reaches, reaches_sound, reaches_complete}
-use Rattle.asm_check.proofs.LeastOfAll.{soonest_of_list}
-use Rattle.asm_check.proofs.Listed.{IsListed}
-use Rattle.asm_check.proofs.Ranks.{in_filter, rules_begun, derived_begun}
-use Rattle.asm_check.proofs.Soonest.{least_from_soonest, well_formed_from_soonest}
+use Rattle.asm_check.proofs.CycleLemmas.HeightsAreRanks.{way, high, within}
+use Rattle.asm_check.proofs.CycleLemmas.ReachabilityTest.{leads, leads_sound, leads_complete, reaches, reaches_sound, reaches_complete}
+use Rattle.asm_check.proofs.LeastOfAllFaults.{soonest_of_list}
+use Rattle.asm_check.proofs.MembersOfLists.{IsListed}
+use Rattle.asm_check.proofs.CycleLemmas.Ranks.{in_filter, rules_begun, derived_begun}
+use Rattle.asm_check.proofs.LeastOfTwo.{least_from_soonest, well_formed_from_soonest}
 
 pub from_filter : {X : Type 0} (p : X → Bool) (xs : List X) (x : X) → Contains (filter p xs) x → Contains xs x × (p x ≡ true)
 from_filter p [] x c = absurd (Contains-none x c)
@@ -41,14 +41,14 @@ from_filter p (y ∷ xs) x c = by_test (p y) refl c (from_filter p xs x)
 
 -- ---- ways of steps, as tests
 
--- a way of n steps is there where the height up to n is n
-is_long : (next : Text → List Text) (n : ℕ) (f : Text) → nat_le n (height next n f) ≡ true → IsOnWay next n f
+-- a way of n steps is there if the height up to n is n
+is_long : (next : Text → List Text) (n : ℕ) (f : Text) → nat_le n (height next n f) ≡ true → BeginsPath next n f
 is_long next n f e =
     let most = within next n f in
     let least : n ≤ height next n f = grind (arith, nat_tests, e) in
-    subst (λ k. IsOnWay next k f) (omega (arith, most, least)) (way next n f)
+    subst (λ k. BeginsPath next k f) (omega (arith, most, least)) (way next n f)
 
-long_is : (next : Text → List Text) (n : ℕ) (f : Text) → IsOnWay next n f → nat_le n (height next n f) ≡ true
+long_is : (next : Text → List Text) (n : ℕ) (f : Text) → BeginsPath next n f → nat_le n (height next n f) ≡ true
 long_is next n f it = let least = high next n n f (omega arith) it in grind (arith, nat_tests, least)
 
 module _ (spec : Spec) (next : Text → List Text)
@@ -86,12 +86,12 @@ module _ (spec : Spec) (next : Text → List Text)
   -- ---- ranks
 
   abbrev pub is_high : Text → Bool
-  is_high f = nat_le (suc RANK) (height next (suc RANK) f) && not (reaches next names all_begin f)
+  is_high f = nat_le (suc MAX_RANK) (height next (suc MAX_RANK) f) && not (reaches next names all_begin f)
 
   abbrev pub high_faults : List (ℕ × ℕ)
   high_faults = map (λ d. (d.name.at, 15)) (filter (λ d. is_high d.name.text) (first_declarations spec))
 
-  pub high_sound : (at n : ℕ) → IsListed high_faults at n → (n ≡ 15) × (d : Declaration) × Contains (first_declarations spec) d × IsOnWay next (suc RANK) d.name.text × (¬ (ReachesCycle next d.name.text)) × (d.name.at ≡ at)
+  pub high_sound : (at n : ℕ) → IsListed high_faults at n → (n ≡ 15) × (d : Declaration) × Contains (first_declarations spec) d × BeginsPath next (suc MAX_RANK) d.name.text × (¬ (ReachesCycle next d.name.text)) × (d.name.at ≡ at)
   high_sound at n c =
       let it = Contains-from_map (λ (d : Declaration). (d.name.at, 15)) (filter (λ d. is_high d.name.text) (first_declarations spec)) (at, n) c in
       let member = from_filter (λ d. is_high d.name.text) (first_declarations spec) it.0 it.1 in
@@ -99,18 +99,18 @@ module _ (spec : Spec) (next : Text → List Text)
         sym (ap (λ f. f.1) it.2),
         it.0,
         member.0,
-        is_long next (suc RANK) f (and_parts (nat_le (suc RANK) (height next (suc RANK) f)) (not (reaches next names all_begin f)) member.1).0,
-        λ cycle. false≢true (sym (not-true (reaches next names all_begin f) (and_parts (nat_le (suc RANK) (height next (suc RANK) f)) (not (reaches next names all_begin f)) member.1).1) ∙ reaches_complete next names all_begin f cycle),
+        is_long next (suc MAX_RANK) f (and_parts (nat_le (suc MAX_RANK) (height next (suc MAX_RANK) f)) (not (reaches next names all_begin f)) member.1).0,
+        λ cycle. false≢true (sym (not-true (reaches next names all_begin f) (and_parts (nat_le (suc MAX_RANK) (height next (suc MAX_RANK) f)) (not (reaches next names all_begin f)) member.1).1) ∙ reaches_complete next names all_begin f cycle),
         ap (λ f. f.0) it.2,
       )
 
-  pub high_complete : (d : Declaration) (at : ℕ) → Contains (first_declarations spec) d → IsOnWay next (suc RANK) d.name.text → ¬ (ReachesCycle next d.name.text) → d.name.at ≡ at → IsListed high_faults at 15
+  pub high_complete : (d : Declaration) (at : ℕ) → Contains (first_declarations spec) d → BeginsPath next (suc MAX_RANK) d.name.text → ¬ (ReachesCycle next d.name.text) → d.name.at ≡ at → IsListed high_faults at 15
   high_complete d at stands long none offset =
       let f = d.name.text in
       subst (λ a. IsListed high_faults a 15) offset
       (Contains-map (λ (d : Declaration). (d.name.at, 15)) (filter (λ d. is_high d.name.text) (first_declarations spec)) d
       (in_filter (λ d. is_high d.name.text) (first_declarations spec) d
-      (and_from (nat_le (suc RANK) (height next (suc RANK) f)) (not (reaches next names all_begin f)) (long_is next (suc RANK) f long)
+      (and_from (nat_le (suc MAX_RANK) (height next (suc MAX_RANK) f)) (not (reaches next names all_begin f)) (long_is next (suc MAX_RANK) f long)
       (not_from_false (reaches next names all_begin f) (false_from_ne_true (reaches next names all_begin f) (λ e. none (reaches_sound next names all_begin f e))))) stands))
 
 -- ---- all faults
@@ -135,7 +135,7 @@ module _ (spec : Spec) where
   all_faults = listed spec ++ step_faults
 
   abbrev pub first_fault : Option (ℕ × ℕ)
-  first_fault = noted None all_faults
+  first_fault = least_after None all_faults
 
   cycles_sound : (at n : ℕ) → IsListed (rule_cycles ++ derived_cycles) at n → IsStepFault spec at n
   cycles_sound at n c =
@@ -183,14 +183,14 @@ module _ (spec : Spec) where
         | inr step ↦ Contains-append_right (listed spec) step_faults (at, n) (steps_complete at n step)
       ]
 
-  first_is_soonest : IsSoonest (IsFault spec) first_fault
+  first_is_soonest : IsLeastOf (IsFault spec) first_fault
   first_is_soonest = soonest_of_list (IsFault spec) all_faults all_sound all_complete
 
   pub least_is : (at number : ℕ) → first_fault ≡ Some (at, number) → IsLeastFault spec at number
-  least_is at number e = least_from_soonest spec at number (subst (IsSoonest (IsFault spec)) e first_is_soonest)
+  least_is at number e = least_from_soonest spec at number (subst (IsLeastOf (IsFault spec)) e first_is_soonest)
 
   pub none_is : first_fault ≡ None → IsWellFormed spec
-  none_is e = well_formed_from_soonest spec (subst (IsSoonest (IsFault spec)) e first_is_soonest)
+  none_is e = well_formed_from_soonest spec (subst (IsLeastOf (IsFault spec)) e first_is_soonest)
 
 pub least_exists : LeastExists
 least_exists spec = by_first (first_fault spec) refl

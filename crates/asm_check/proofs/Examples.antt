@@ -1,24 +1,24 @@
--- Examples of faults of small specifications. Above each one stands its text, behind the line
--- `CoreASM T` and, where nothing else is said, `init M`. Each line ends with a line feed, and indices
+-- Law. Examples of faults of small specifications. Above each one is its text, after the line
+-- `CoreASM T` and, if nothing else is said, `init M`. Each line ends with a line feed, and indices
 -- are counted from 0.
 use Rattle.std.proofs.Common.{◌≡◌, ℕ, ◌+◌, ◌≤ℤ◌, pos, List, [], ◌∷◌, None, Some, refl, arith}
 use Rattle.std.specs.Prelude.{codes}
 use Rattle.std.proofs.lemmas.Int.{ints}
 use Rattle.asm_state.specs.Bounds.{greatest_number}
-use Rattle.asm_state.specs.declared.limits.TheConstants.{LOCATIONS}
+use Rattle.asm_state.specs.declared.signature_limits.TheConstants.{MAX_LOCATIONS}
 use Rattle.asm_state.specs.declared.number.Number.{Number}
 use Rattle.asm_state.specs.declared.function.FunctionKind.TheVariants.{Controlled, Static}
 use Rattle.asm_syntax.specs.declared.term.Literal.TheVariants as literal
-use Rattle.asm_syntax.specs.SourceTree.{Name, Term, Constant, Named, Answer, no_terms, term_then, Skip, Assign, Call, Let, While, SetResult, Const, Plain, Entry, Each, Entries, Item, Init, Enum, Universe, Function, Derived, NamedRule, Spec}
-use Rattle.asm_check.specs.FaultLists.{twice_faults, use_faults, init_faults, limit_faults, entry_faults, start_results}
+use Rattle.asm_syntax.specs.SourceTree.{Name, Term, Constant, Named, Result, no_terms, term_then, Skip, Assign, Call, Let, While, SetResult, Const, Plain, Entry, Each, Entries, Item, Init, Enum, Universe, Function, Derived, NamedRule, Spec}
+use Rattle.asm_check.specs.code.FaultLists.{twice_faults, use_faults, init_faults, limit_faults, entry_faults, main_rules_with_result}
 use Rattle.asm_check.specs.Faults.{IsLeastFault, IsWellFormed}
 use Rattle.asm_check.specs.Limits.{is_controlled, size_of, domain_of, lists_of}
 use Rattle.asm_check.specs.Names as names
 use Rattle.asm_check.specs.Names.{Meaning, declared, declarations, first_declarations, uses}
 use Rattle.asm_check.specs.Numbers.{elements_of, rules_of}
 use Rattle.asm_check.specs.Shapes.{texts_of}
-use Rattle.asm_check.specs.Sizes.{total}
-use Rattle.asm_check.specs.Ways.{called, used, height}
+use Rattle.asm_check.specs.WithinLimits.{total}
+use Rattle.asm_check.specs.CallGraph.{called, used, height}
 use Rattle.asm_check.proofs.AllFaults.{least_is, none_is}
 
 -- ---- parts of trees
@@ -90,11 +90,11 @@ V' = codes "V"
 abbrev with_length : ℕ → List Item → Spec
 with_length length items = record { name = name 8 (codes "T"); items = items; length = length }
 
--- behind `init M`
+-- after `init M`
 abbrev text : ℕ → List Item → Spec
 text length items = with_length length (Init (name 15 M') ∷ items)
 
--- `rule M = skip`, where `M` stands
+-- `rule M = skip`, with `M` at this offset
 abbrev main : ℕ → Item
 main at = NamedRule (name at M') [] Skip
 
@@ -109,7 +109,7 @@ abbrev skipping : Spec
 skipping = text 31 (main 22 ∷ [])
 
 no_fault_in_skipping : IsWellFormed skipping
-unfolding declared declarations first_declarations uses called used height twice_faults use_faults init_faults limit_faults entry_faults start_results
+unfolding declared declarations first_declarations uses called used height twice_faults use_faults init_faults limit_faults entry_faults main_rules_with_result
 no_fault_in_skipping = none_is skipping refl
 
 -- rule M = r(0)
@@ -118,7 +118,7 @@ abbrev calling : Spec
 calling = text 48 (NamedRule (name 22 M') [] (Call None (name 26 r') (term_then nought no_terms)) ∷ NamedRule (name 36 r') (name 38 p' ∷ []) Skip ∷ [])
 
 no_fault_in_calling : IsWellFormed calling
-unfolding declared declarations first_declarations uses called used height twice_faults use_faults init_faults limit_faults entry_faults start_results
+unfolding declared declarations first_declarations uses called used height twice_faults use_faults init_faults limit_faults entry_faults main_rules_with_result
 no_fault_in_calling = none_is calling refl
 
 -- function controlled x initially 0
@@ -128,7 +128,7 @@ abbrev answering : Spec
 answering = text 88 (x_declared ∷ NamedRule (name 56 M') [] (Call (Some (name 60 x', no_terms)) (name 65 r') no_terms) ∷ NamedRule (name 72 r') [] (SetResult (name 76 result') nought) ∷ [])
 
 no_fault_in_answering : IsWellFormed answering
-unfolding declared declarations first_declarations uses called used height twice_faults use_faults init_faults limit_faults entry_faults start_results
+unfolding declared declarations first_declarations uses called used height twice_faults use_faults init_faults limit_faults entry_faults main_rules_with_result
 no_fault_in_answering = none_is answering refl
 
 -- universe U = 0 .. 1
@@ -138,7 +138,7 @@ abbrev tabled : Spec
 tabled = text 114 (Universe (name 26 U') zero' one ∷ Function (name 53 g') Static (name 57 U' ∷ []) None (Some (Entries (entry 71 one ∷ entry 85 zero' ∷ []))) ∷ main 105 ∷ [])
 
 no_fault_in_tabled : IsWellFormed tabled
-unfolding declared declarations first_declarations uses called used height twice_faults use_faults init_faults limit_faults entry_faults start_results
+unfolding declared declarations first_declarations uses called used height twice_faults use_faults init_faults limit_faults entry_faults main_rules_with_result
 no_fault_in_tabled = none_is tabled refl
 
 -- universe U = 0 .. 254
@@ -150,12 +150,12 @@ all_locations =
     text 105 (Universe (name 26 U') zero' (number 254 (omega (arith, ints))) ∷ Universe (name 48 V') zero' (number 256 (omega (arith, ints))) ∷ Function (name 81 x') Controlled (name 85 U' ∷ name 89 V' ∷ []) None None ∷ main 96 ∷ [])
 
 -- 255 * 257 of argument lists, and the stray location
-as_many_as_there_can_be : total is_controlled (λ m. lists_of all_locations (domain_of m) + 1) (first_declarations all_locations) ≡ LOCATIONS
+as_many_as_there_can_be : total is_controlled (λ m. lists_of all_locations (domain_of m) + 1) (first_declarations all_locations) ≡ MAX_LOCATIONS
 unfolding declarations first_declarations
 as_many_as_there_can_be = refl
 
 no_fault_in_all_locations : IsWellFormed all_locations
-unfolding declared declarations first_declarations uses called used height twice_faults use_faults init_faults limit_faults entry_faults start_results
+unfolding declared declarations first_declarations uses called used height twice_faults use_faults init_faults limit_faults entry_faults main_rules_with_result
 no_fault_in_all_locations = none_is all_locations refl
 
 -- ---- one fault of each number, or the least of several
@@ -166,7 +166,7 @@ abbrev declared_again : Spec
 declared_again = text 48 (main 22 ∷ NamedRule (name 36 M') (name 38 p' ∷ []) Skip ∷ [])
 
 fault_in_declared_again : IsLeastFault declared_again 36 8
-unfolding declared declarations first_declarations uses called used height twice_faults use_faults init_faults limit_faults entry_faults start_results
+unfolding declared declarations first_declarations uses called used height twice_faults use_faults init_faults limit_faults entry_faults main_rules_with_result
 fault_in_declared_again = least_is declared_again 36 8 refl
 
 -- rule M = skip
@@ -175,7 +175,7 @@ abbrev declared_from_the_start : Spec
 declared_from_the_start = text 47 (main 22 ∷ NamedRule (name 36 (codes "ANY")) [] Skip ∷ [])
 
 fault_in_declared_from_the_start : IsLeastFault declared_from_the_start 36 8
-unfolding declared declarations first_declarations uses called used height twice_faults use_faults init_faults limit_faults entry_faults start_results
+unfolding declared declarations first_declarations uses called used height twice_faults use_faults init_faults limit_faults entry_faults main_rules_with_result
 fault_in_declared_from_the_start = least_is declared_from_the_start 36 8 refl
 
 -- rule M = skip
@@ -184,7 +184,7 @@ abbrev parameter_twice : Spec
 parameter_twice = text 51 (main 22 ∷ Derived (name 39 d') (name 41 p' ∷ name 44 p' ∷ []) nought ∷ [])
 
 fault_in_parameter_twice : IsLeastFault parameter_twice 44 8
-unfolding declared declarations first_declarations uses called used height twice_faults use_faults init_faults limit_faults entry_faults start_results
+unfolding declared declarations first_declarations uses called used height twice_faults use_faults init_faults limit_faults entry_faults main_rules_with_result
 fault_in_parameter_twice = least_is parameter_twice 44 8 refl
 
 -- rule M = x := 0
@@ -192,7 +192,7 @@ abbrev unknown_target : Spec
 unknown_target = text 33 (NamedRule (name 22 M') [] (Assign (name 26 x') no_terms nought) ∷ [])
 
 fault_in_unknown_target : IsLeastFault unknown_target 26 9
-unfolding declared declarations first_declarations uses called used height twice_faults use_faults init_faults limit_faults entry_faults start_results
+unfolding declared declarations first_declarations uses called used height twice_faults use_faults init_faults limit_faults entry_faults main_rules_with_result
 fault_in_unknown_target = least_is unknown_target 26 9 refl
 
 -- rule M = while y do skip endwhile
@@ -200,7 +200,7 @@ abbrev unknown_condition : Spec
 unknown_condition = text 51 (NamedRule (name 22 M') [] (While (Named (name 32 y') no_terms) Skip) ∷ [])
 
 fault_in_unknown_condition : IsLeastFault unknown_condition 32 9
-unfolding declared declarations first_declarations uses called used height twice_faults use_faults init_faults limit_faults entry_faults start_results
+unfolding declared declarations first_declarations uses called used height twice_faults use_faults init_faults limit_faults entry_faults main_rules_with_result
 fault_in_unknown_condition = least_is unknown_condition 32 9 refl
 
 -- rule M = x <- r
@@ -209,7 +209,7 @@ abbrev unknown_location : Spec
 unknown_location = text 47 (NamedRule (name 22 M') [] (Call (Some (name 26 x', no_terms)) (name 31 r') no_terms) ∷ NamedRule (name 38 r') [] Skip ∷ [])
 
 fault_in_unknown_location : IsLeastFault unknown_location 26 9
-unfolding declared declarations first_declarations uses called used height twice_faults use_faults init_faults limit_faults entry_faults start_results
+unfolding declared declarations first_declarations uses called used height twice_faults use_faults init_faults limit_faults entry_faults main_rules_with_result
 fault_in_unknown_location = least_is unknown_location 26 9 refl
 
 -- function controlled x initially 0
@@ -218,7 +218,7 @@ abbrev unknown_answer : Spec
 unknown_answer = text 67 (x_declared ∷ NamedRule (name 56 M') [] (Call (Some (name 60 x', no_terms)) (name 65 r') no_terms) ∷ [])
 
 fault_in_unknown_answer : IsLeastFault unknown_answer 65 9
-unfolding declared declarations first_declarations uses called used height twice_faults use_faults init_faults limit_faults entry_faults start_results
+unfolding declared declarations first_declarations uses called used height twice_faults use_faults init_faults limit_faults entry_faults main_rules_with_result
 fault_in_unknown_answer = least_is unknown_answer 65 9 refl
 
 -- enum E = { e }
@@ -227,7 +227,7 @@ abbrev element_with_argument : Spec
 element_with_argument = text 69 (Enum (name 22 E') (name 28 e' ∷ []) ∷ NamedRule (name 37 M') [] (Let (name 45 y') (applied (name 49 e')) Skip) ∷ [])
 
 fault_in_element_with_argument : IsLeastFault element_with_argument 49 10
-unfolding declared declarations first_declarations uses called used height twice_faults use_faults init_faults limit_faults entry_faults start_results
+unfolding declared declarations first_declarations uses called used height twice_faults use_faults init_faults limit_faults entry_faults main_rules_with_result
 fault_in_element_with_argument = least_is element_with_argument 49 10 refl
 
 -- rule M = let y = 0 in let z = y(0) in skip endlet endlet
@@ -235,7 +235,7 @@ abbrev bound_with_argument : Spec
 bound_with_argument = text 74 (NamedRule (name 22 M') [] (Let (name 30 y') nought (Let (name 43 z') (applied (name 47 y')) Skip)) ∷ [])
 
 fault_in_bound_with_argument : IsLeastFault bound_with_argument 47 10
-unfolding declared declarations first_declarations uses called used height twice_faults use_faults init_faults limit_faults entry_faults start_results
+unfolding declared declarations first_declarations uses called used height twice_faults use_faults init_faults limit_faults entry_faults main_rules_with_result
 fault_in_bound_with_argument = least_is bound_with_argument 47 10 refl
 
 -- function controlled x initially 0
@@ -245,7 +245,7 @@ abbrev location_with_argument : Spec
 location_with_argument = text 84 (x_declared ∷ NamedRule (name 56 M') [] (Call (Some (name 60 x', term_then nought no_terms)) (name 68 r') no_terms) ∷ NamedRule (name 75 r') [] Skip ∷ [])
 
 fault_in_location_with_argument : IsLeastFault location_with_argument 60 10
-unfolding declared declarations first_declarations uses called used height twice_faults use_faults init_faults limit_faults entry_faults start_results
+unfolding declared declarations first_declarations uses called used height twice_faults use_faults init_faults limit_faults entry_faults main_rules_with_result
 fault_in_location_with_argument = least_is location_with_argument 60 10 refl
 
 -- function controlled x initially 0
@@ -255,7 +255,7 @@ abbrev answer_with_argument : Spec
 answer_with_argument = text 84 (x_declared ∷ NamedRule (name 56 M') [] (Call (Some (name 60 x', no_terms)) (name 65 r') (term_then nought no_terms)) ∷ NamedRule (name 75 r') [] Skip ∷ [])
 
 fault_in_answer_with_argument : IsLeastFault answer_with_argument 65 10
-unfolding declared declarations first_declarations uses called used height twice_faults use_faults init_faults limit_faults entry_faults start_results
+unfolding declared declarations first_declarations uses called used height twice_faults use_faults init_faults limit_faults entry_faults main_rules_with_result
 fault_in_answer_with_argument = least_is answer_with_argument 65 10 refl
 
 -- function static g initially 1
@@ -264,7 +264,7 @@ abbrev static_target : Spec
 static_target = text 63 (Function (name 33 g') Static [] None (Some (Each (Plain (literal.Number one)))) ∷ NamedRule (name 52 M') [] (Assign (name 56 g') no_terms nought) ∷ [])
 
 fault_in_static_target : IsLeastFault static_target 56 11
-unfolding declared declarations first_declarations uses called used height twice_faults use_faults init_faults limit_faults entry_faults start_results
+unfolding declared declarations first_declarations uses called used height twice_faults use_faults init_faults limit_faults entry_faults main_rules_with_result
 fault_in_static_target = least_is static_target 56 11 refl
 
 -- function static g initially 1
@@ -274,7 +274,7 @@ abbrev static_location : Spec
 static_location = text 77 (Function (name 33 g') Static [] None (Some (Each (Plain (literal.Number one)))) ∷ NamedRule (name 52 M') [] (Call (Some (name 56 g', no_terms)) (name 61 r') no_terms) ∷ NamedRule (name 68 r') [] Skip ∷ [])
 
 fault_in_static_location : IsLeastFault static_location 56 11
-unfolding declared declarations first_declarations uses called used height twice_faults use_faults init_faults limit_faults entry_faults start_results
+unfolding declared declarations first_declarations uses called used height twice_faults use_faults init_faults limit_faults entry_faults main_rules_with_result
 fault_in_static_location = least_is static_location 56 11 refl
 
 -- rule M = let y = 0 in y := 0 endlet
@@ -282,7 +282,7 @@ abbrev bound_target : Spec
 bound_target = text 53 (NamedRule (name 22 M') [] (Let (name 30 y') nought (Assign (name 39 y') no_terms nought)) ∷ [])
 
 fault_in_bound_target : IsLeastFault bound_target 39 11
-unfolding declared declarations first_declarations uses called used height twice_faults use_faults init_faults limit_faults entry_faults start_results
+unfolding declared declarations first_declarations uses called used height twice_faults use_faults init_faults limit_faults entry_faults main_rules_with_result
 fault_in_bound_target = least_is bound_target 39 11 refl
 
 -- rule M = r
@@ -291,7 +291,7 @@ abbrev circle_of_calls : Spec
 circle_of_calls = text 39 (NamedRule (name 22 M') [] (Call None (name 26 r') no_terms) ∷ NamedRule (name 33 r') [] (Call None (name 37 M') no_terms) ∷ [])
 
 fault_in_circle_of_calls : IsLeastFault circle_of_calls 22 12
-unfolding declared declarations first_declarations uses called used height twice_faults use_faults init_faults limit_faults entry_faults start_results
+unfolding declared declarations first_declarations uses called used height twice_faults use_faults init_faults limit_faults entry_faults main_rules_with_result
 fault_in_circle_of_calls = least_is circle_of_calls 22 12 refl
 
 -- function controlled x initially 0
@@ -300,7 +300,7 @@ abbrev circle_of_answers : Spec
 circle_of_answers = text 67 (x_declared ∷ NamedRule (name 56 M') [] (Call (Some (name 60 x', no_terms)) (name 65 M') no_terms) ∷ [])
 
 fault_in_circle_of_answers : IsLeastFault circle_of_answers 56 12
-unfolding declared declarations first_declarations uses called used height twice_faults use_faults init_faults limit_faults entry_faults start_results
+unfolding declared declarations first_declarations uses called used height twice_faults use_faults init_faults limit_faults entry_faults main_rules_with_result
 fault_in_circle_of_answers = least_is circle_of_answers 56 12 refl
 
 -- rule M = skip
@@ -309,7 +309,7 @@ abbrev circle_of_uses : Spec
 circle_of_uses = text 45 (main 22 ∷ Derived (name 39 d') [] (Named (name 43 d') no_terms) ∷ [])
 
 fault_in_circle_of_uses : IsLeastFault circle_of_uses 39 13
-unfolding declared declarations first_declarations uses called used height twice_faults use_faults init_faults limit_faults entry_faults start_results
+unfolding declared declarations first_declarations uses called used height twice_faults use_faults init_faults limit_faults entry_faults main_rules_with_result
 fault_in_circle_of_uses = least_is circle_of_uses 39 13 refl
 
 -- without `init M`
@@ -318,7 +318,7 @@ abbrev no_start : Spec
 no_start = with_length 24 (main 15 ∷ [])
 
 fault_in_no_start : IsLeastFault no_start 24 14
-unfolding declared declarations first_declarations uses called used height twice_faults use_faults init_faults limit_faults entry_faults start_results
+unfolding declared declarations first_declarations uses called used height twice_faults use_faults init_faults limit_faults entry_faults main_rules_with_result
 fault_in_no_start = least_is no_start 24 14 refl
 
 -- init r
@@ -328,7 +328,7 @@ abbrev two_starts : Spec
 two_starts = text 52 (Init (name 22 r') ∷ main 29 ∷ NamedRule (name 43 r') [] Skip ∷ [])
 
 fault_in_two_starts : IsLeastFault two_starts 22 14
-unfolding declared declarations first_declarations uses called used height twice_faults use_faults init_faults limit_faults entry_faults start_results
+unfolding declared declarations first_declarations uses called used height twice_faults use_faults init_faults limit_faults entry_faults main_rules_with_result
 fault_in_two_starts = least_is two_starts 22 14 refl
 
 -- rule M(p) = skip
@@ -336,7 +336,7 @@ abbrev start_with_parameter : Spec
 start_with_parameter = text 34 (NamedRule (name 22 M') (name 24 p' ∷ []) Skip ∷ [])
 
 fault_in_start_with_parameter : IsLeastFault start_with_parameter 15 14
-unfolding declared declarations first_declarations uses called used height twice_faults use_faults init_faults limit_faults entry_faults start_results
+unfolding declared declarations first_declarations uses called used height twice_faults use_faults init_faults limit_faults entry_faults main_rules_with_result
 fault_in_start_with_parameter = least_is start_with_parameter 15 14 refl
 
 -- universe U = 0 .. 4096
@@ -345,7 +345,7 @@ abbrev wide_universe : Spec
 wide_universe = text 54 (Universe (name 26 U') zero' (number 4096 (omega (arith, ints))) ∷ main 45 ∷ [])
 
 fault_in_wide_universe : IsLeastFault wide_universe 26 15
-unfolding declared declarations first_declarations uses called used height twice_faults use_faults init_faults limit_faults entry_faults start_results
+unfolding declared declarations first_declarations uses called used height twice_faults use_faults init_faults limit_faults entry_faults main_rules_with_result
 fault_in_wide_universe = least_is wide_universe 26 15 refl
 
 -- universe U = 0 .. 255
@@ -357,7 +357,7 @@ too_many_locations =
     text 105 (Universe (name 26 U') zero' (number 255 (omega (arith, ints))) ∷ Universe (name 48 V') zero' (number 255 (omega (arith, ints))) ∷ Function (name 81 x') Controlled (name 85 U' ∷ name 89 V' ∷ []) None None ∷ main 96 ∷ [])
 
 fault_in_too_many_locations : IsLeastFault too_many_locations 81 15
-unfolding declared declarations first_declarations uses called used height twice_faults use_faults init_faults limit_faults entry_faults start_results
+unfolding declared declarations first_declarations uses called used height twice_faults use_faults init_faults limit_faults entry_faults main_rules_with_result
 fault_in_too_many_locations = least_is too_many_locations 81 15 refl
 
 -- universe U = 0 .. 0
@@ -367,7 +367,7 @@ abbrev entry_twice : Spec
 entry_twice = text 114 (Universe (name 26 U') zero' zero' ∷ Function (name 53 g') Static (name 57 U' ∷ []) None (Some (Entries (entry 71 zero' ∷ entry 85 zero' ∷ []))) ∷ main 105 ∷ [])
 
 fault_in_entry_twice : IsLeastFault entry_twice 85 16
-unfolding declared declarations first_declarations uses called used height twice_faults use_faults init_faults limit_faults entry_faults start_results
+unfolding declared declarations first_declarations uses called used height twice_faults use_faults init_faults limit_faults entry_faults main_rules_with_result
 fault_in_entry_twice = least_is entry_twice 85 16 refl
 
 -- universe U = 0 .. 0
@@ -377,16 +377,16 @@ abbrev entry_outside : Spec
 entry_outside = text 100 (Universe (name 26 U') zero' zero' ∷ Function (name 53 g') Static (name 57 U' ∷ []) None (Some (Entries (entry 71 one ∷ []))) ∷ main 91 ∷ [])
 
 fault_in_entry_outside : IsLeastFault entry_outside 71 16
-unfolding declared declarations first_declarations uses called used height twice_faults use_faults init_faults limit_faults entry_faults start_results
+unfolding declared declarations first_declarations uses called used height twice_faults use_faults init_faults limit_faults entry_faults main_rules_with_result
 fault_in_entry_outside = least_is entry_outside 71 16 refl
 
 -- derived d = result
 -- rule M = skip
 abbrev derived_answer : Spec
-derived_answer = text 50 (Derived (name 25 d') [] (Answer (name 29 result')) ∷ main 41 ∷ [])
+derived_answer = text 50 (Derived (name 25 d') [] (Result (name 29 result')) ∷ main 41 ∷ [])
 
 fault_in_derived_answer : IsLeastFault derived_answer 29 17
-unfolding declared declarations first_declarations uses called used height twice_faults use_faults init_faults limit_faults entry_faults start_results
+unfolding declared declarations first_declarations uses called used height twice_faults use_faults init_faults limit_faults entry_faults main_rules_with_result
 fault_in_derived_answer = least_is derived_answer 29 17 refl
 
 -- rule M = r
@@ -395,17 +395,17 @@ abbrev answer_to_nobody : Spec
 answer_to_nobody = text 49 (NamedRule (name 22 M') [] (Call None (name 26 r') no_terms) ∷ NamedRule (name 33 r') [] (SetResult (name 37 result') nought) ∷ [])
 
 fault_in_answer_to_nobody : IsLeastFault answer_to_nobody 26 17
-unfolding declared declarations first_declarations uses called used height twice_faults use_faults init_faults limit_faults entry_faults start_results
+unfolding declared declarations first_declarations uses called used height twice_faults use_faults init_faults limit_faults entry_faults main_rules_with_result
 fault_in_answer_to_nobody = least_is answer_to_nobody 26 17 refl
 
 -- function controlled x initially 0
 -- rule M = r
 -- rule r = x := result
 abbrev answer_that_is_read : Spec
-answer_that_is_read = text 83 (x_declared ∷ NamedRule (name 56 M') [] (Call None (name 60 r') no_terms) ∷ NamedRule (name 67 r') [] (Assign (name 71 x') no_terms (Answer (name 76 result'))) ∷ [])
+answer_that_is_read = text 83 (x_declared ∷ NamedRule (name 56 M') [] (Call None (name 60 r') no_terms) ∷ NamedRule (name 67 r') [] (Assign (name 71 x') no_terms (Result (name 76 result'))) ∷ [])
 
 fault_in_answer_that_is_read : IsLeastFault answer_that_is_read 60 17
-unfolding declared declarations first_declarations uses called used height twice_faults use_faults init_faults limit_faults entry_faults start_results
+unfolding declared declarations first_declarations uses called used height twice_faults use_faults init_faults limit_faults entry_faults main_rules_with_result
 fault_in_answer_that_is_read = least_is answer_that_is_read 60 17 refl
 
 -- rule M = result := 0
@@ -413,7 +413,7 @@ abbrev start_that_answers : Spec
 start_that_answers = text 38 (NamedRule (name 22 M') [] (SetResult (name 26 result') nought) ∷ [])
 
 fault_in_start_that_answers : IsLeastFault start_that_answers 15 17
-unfolding declared declarations first_declarations uses called used height twice_faults use_faults init_faults limit_faults entry_faults start_results
+unfolding declared declarations first_declarations uses called used height twice_faults use_faults init_faults limit_faults entry_faults main_rules_with_result
 fault_in_start_that_answers = least_is start_that_answers 15 17 refl
 
 -- ---- a later declaration counts for nothing else

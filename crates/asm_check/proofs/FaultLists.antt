@@ -1,31 +1,32 @@
--- The lists of faults are the faults: what stands in a list is a fault, and each fault stands in its list.
+-- Free. The lists of faults are the faults: what is in a list is a fault, and each fault is in its
+-- list.
 --     twice_sound, twice_complete      8
 --     uses_sound      9, 10, 11, and 17 of uses;  unknown_complete, arity_complete, assign_complete
 --     inits_sound, inits_complete      14
---     limits_sound, limits_complete      15, but for ranks
+--     limits_sound, limits_complete      15, except ranks
 --     entries_sound, entries_complete      16
---     starts_sound      17 of starting rules;  results_complete      17
+--     starts_sound      17 of main rules;  results_complete      17
 use Rattle.std.proofs.Common.{◌≡◌, ◌≢◌, ◌⊎◌, ℕ, ◌+◌, Bool, true, false, not, cond, ◌&&◌, ◌||◌, nat_eq, List, [], ◌∷◌, ◌++◌, map, length, Option, Some, None, refl, sym, ap, subst, ◌∙◌, inl, inr}
 use Rattle.std.specs.Prelude.{Contains, filter_map, flat_map}
 use Rattle.std.specs.List.{list_all}
 use Rattle.std.proofs.lemmas.Bool.{false≢true, not-true, not_from_false, eqb-false, ne_eqb, ltb-true, lt-ltb, and_parts, and_from, or_cases, or_left, or_right}
 use Rattle.std.proofs.lemmas.List.Elements.{Contains-append_left, Contains-append_right, Contains-append_cases}
-use Rattle.asm_state.specs.declared.limits.TheConstants.{UNIVERSES, VALUES, FUNCTIONS, DOMAIN, LOCATIONS, STATIC_LISTS}
+use Rattle.asm_state.specs.declared.signature_limits.TheConstants.{MAX_UNIVERSES, MAX_VALUES, MAX_FUNCTIONS, MAX_ARGUMENTS, MAX_LOCATIONS, MAX_STATIC_LISTS}
 use Rattle.asm_state.proofs.Lists.{Contains-cons_cases, Contains-first, Contains-flat_map, Contains-from_flat_map, Contains-from_map, Contains-later, Contains-map, Contains-none}
 use Rattle.asm_syntax.specs.SourceTree as source
 use Rattle.asm_syntax.specs.SourceTree.{Name, Entry, Item, Spec}
-use Rattle.asm_check.specs.declared.limits.TheConstants.{RULES}
+use Rattle.asm_check.specs.declared.limits.limit_faults.TheConstants.{MAX_RULES}
 use Rattle.asm_check.specs.Names as names
-use Rattle.asm_check.specs.Names.{Text, Declaration, Meaning, Role, InTerm, AsTarget, AsRule, AsAnswering, AsResult, Use, declarations, first_declarations, declared, uses, is_among, text_of, is_known, arguments_of, is_assignable, is_result, answers, is_start, uses_of_entry}
+use Rattle.asm_check.specs.Names.{Text, Declaration, Meaning, Role, InTerm, AsTarget, AsRule, AsAnswering, AsResult, Use, declarations, first_declarations, declared, uses, is_among, text_of, is_known, arguments_of, is_assignable, is_result, has_result_in_body, can_be_main, uses_of_entry}
 use Rattle.asm_check.specs.Limits as limits
 use Rattle.asm_check.specs.Limits.{is_universe, is_function, is_controlled, is_static, is_rule, size_of, domain_of, lists_of, Passes, PassesLimit}
 use Rattle.asm_check.specs.Faults.{IsRepeated, IsTwice, IsUnknown, IsMiscounted, IsUnassignable, IsBadInit, IsOverLimit, IsBadEntry, IsResultUse, IsFault, twice, unknown, arity, not_controlled, cyclic_rule, cyclic_derived, init, another, no_start, missing, too_many, table_entry, result_use, outside, plain_call, start, init_of, parameters_of, is_known_use, inits, table_of}
-use Rattle.asm_check.specs.FaultLists.{repeats, at_with, twice_faults, miscounts, is_target, is_plain_call, is_misused, misuse, faults_of_use, all_of_use, use_faults, unfit_starts, faults_of_inits, init_faults, passes, passes_limit, limit_faults_from, limit_faults, is_bad_entry, bad_entries, entry_faults, start_result, start_results}
-use Rattle.asm_check.specs.Steps as steps
-use Rattle.asm_check.specs.Steps.{IsStepFault}
-use Rattle.asm_check.proofs.Heights.{split}
-use Rattle.asm_check.proofs.Firsts.{covered, turn}
-use Rattle.asm_check.proofs.Listed.{IsListed, the_only, in_then, in_else, walk_sound, walk_complete}
+use Rattle.asm_check.specs.code.FaultLists.{repeats, at_with, twice_faults, miscounts, is_target, is_plain_call, is_misused, misuse, faults_of_use, all_of_use, use_faults, unfit_main_rules, faults_of_inits, init_faults, passes, passes_limit, limit_faults_from, limit_faults, is_bad_entry, bad_entries, entry_faults, main_rule_with_result, main_rules_with_result}
+use Rattle.asm_check.specs.code.cycles.StepFaults as steps
+use Rattle.asm_check.specs.code.cycles.StepFaults.{IsStepFault}
+use Rattle.asm_check.proofs.CycleLemmas.HeightsAreRanks.{split}
+use Rattle.asm_check.proofs.NameLemmas.FirstDeclarations.{covered, turn}
+use Rattle.asm_check.proofs.MembersOfLists.{IsListed, the_only, in_then, in_else, walk_sound, walk_complete}
 
 at_sound : (number : ℕ) (offsets : List ℕ) (at n : ℕ) → IsListed (at_with number offsets) at n → Contains offsets at × (number ≡ n)
 at_sound number offsets at n c =
@@ -37,7 +38,7 @@ at_complete number offsets at c = Contains-map (λ (a : ℕ). (a, number)) offse
 
 -- ---- 8
 
--- the same behind names that were seen
+-- the same after names that were seen
 record IsSeen (seen : List Text) (xs : List Name) (at : ℕ) : Type 0 where
   before : List Name
   name : Name
@@ -46,7 +47,7 @@ record IsSeen (seen : List Text) (xs : List Name) (at : ℕ) : Type 0 where
   is_before : (is_among seen name.text || is_among (map text_of before) name.text) ≡ true
   offset : name.at ≡ at
 
--- with the names behind it
+-- with the names after it
 seen_later : (seen : List Text) (x : Name) (xs : List Name) (at : ℕ) (seen' : List Text)
     → ((y : Text) (b : Bool) → (is_among seen y || (names.is_text x.text y || b)) ≡ (is_among seen' y || b)) → IsSeen seen' xs at → IsSeen seen (x ∷ xs) at
 seen_later seen x xs at seen' same it = record {
@@ -220,7 +221,7 @@ module _ (spec : Spec) (u : Use) where
   is_outside = is_result u.role && not u.is_bound
 
   abbrev is_plain : Bool
-  is_plain = is_plain_call u.role && answers (declared spec u.name.text)
+  is_plain = is_plain_call u.role && has_result_in_body (declared spec u.name.text)
 
   misuse_sound : Contains (uses spec) u → (at n : ℕ) → IsListed (misuse spec u) at n → IsFault spec at n
   misuse_sound stands at n c = by_test (is_misused spec u) refl c
@@ -229,7 +230,7 @@ module _ (spec : Spec) (u : Use) where
       why e =
           elim (or_cases is_outside is_plain e) [
             | inl out ↦ let parts = and_parts (is_result u.role) (not u.is_bound) out in outside u stands (result_from u.role parts.0) (not-true u.is_bound parts.1) refl
-            | inr call ↦ let parts = and_parts (is_plain_call u.role) (answers (declared spec u.name.text)) call in plain_call u stands (plain_from u.role parts.0) parts.1 refl
+            | inr call ↦ let parts = and_parts (is_plain_call u.role) (has_result_in_body (declared spec u.name.text)) call in plain_call u stands (plain_from u.role parts.0) parts.1 refl
           ]
 
       by_test : (b : Bool) → is_misused spec u ≡ b → IsListed (cond b ((u.name.at, 17) ∷ []) []) at n → IsFault spec at n
@@ -245,9 +246,9 @@ module _ (spec : Spec) (u : Use) where
   use_outside role free =
       misused (or_left is_outside is_plain (and_from (is_result u.role) (not u.is_bound) (ap is_result role) (not_from_false u.is_bound free)))
 
-  use_plain : u.role ≡ AsRule → answers (declared spec u.name.text) ≡ true → IsListed (all_of_use spec u) u.name.at 17
+  use_plain : u.role ≡ AsRule → has_result_in_body (declared spec u.name.text) ≡ true → IsListed (all_of_use spec u) u.name.at 17
   use_plain role so =
-      misused (or_right is_outside is_plain (and_from (is_plain_call u.role) (answers (declared spec u.name.text)) (ap is_plain_call role) so))
+      misused (or_right is_outside is_plain (and_from (is_plain_call u.role) (has_result_in_body (declared spec u.name.text)) (ap is_plain_call role) so))
 
   -- one of the first three
   of_three : (n : ℕ) → IsListed (faults_of_use spec u) u.name.at n → IsListed (all_of_use spec u) u.name.at n
@@ -301,24 +302,24 @@ module _ (spec : Spec) where
 
 module _ (spec : Spec) where
   abbrev is_wrong : Name → Bool
-  is_wrong x = not (is_start (declared spec x.text))
+  is_wrong x = not (can_be_main (declared spec x.text))
 
-  unfit_sound : (x y : Name) → Contains (unfit_starts spec (x ∷ [])) y → (x ≡ y) × (is_start (declared spec x.text) ≡ false)
+  unfit_sound : (x y : Name) → Contains (unfit_main_rules spec (x ∷ [])) y → (x ≡ y) × (can_be_main (declared spec x.text) ≡ false)
   unfit_sound x y c = next (is_wrong x) refl c
     where
-      next : (b : Bool) → is_wrong x ≡ b → Contains (cond b (x ∷ []) []) y → (x ≡ y) × (is_start (declared spec x.text) ≡ false)
-      next true e c = (the_only x y c, not-true (is_start (declared spec x.text)) e)
+      next : (b : Bool) → is_wrong x ≡ b → Contains (cond b (x ∷ []) []) y → (x ≡ y) × (can_be_main (declared spec x.text) ≡ false)
+      next true e c = (the_only x y c, not-true (can_be_main (declared spec x.text)) e)
       next false e c = absurd (Contains-none y c)
 
   of_inits_sound : (xs : List Name) → inits spec ≡ xs → (at n : ℕ) → IsListed (faults_of_inits spec xs) at n → IsFault spec at n
   of_inits_sound [] e at n c = subst (λ f. IsFault spec f.0 f.1) (the_only (spec.length, 14) (at, n) c) (init (missing e refl))
   of_inits_sound (x ∷ more) e at n c =
-      let unfit = map (λ y. y.at) (unfit_starts spec (x ∷ [])) in
+      let unfit = map (λ y. y.at) (unfit_main_rules spec (x ∷ [])) in
       let others = map (λ y. y.at) more in
       elim (Contains-append_cases (at_with 14 unfit) (at_with 14 others) (at, n) c) [
         | inl first ↦
             let it = at_sound 14 unfit at n first in
-            let of = Contains-from_map (λ y. y.at) (unfit_starts spec (x ∷ [])) at it.0 in
+            let of = Contains-from_map (λ y. y.at) (unfit_main_rules spec (x ∷ [])) at it.0 in
             let why = unfit_sound x of.0 of.1 in
             subst (IsFault spec at) it.1
             (init (no_start x (subst (λ ys. Contains ys x) (sym e) (Contains-first x more)) why.1 (ap (λ y. y.at) why.0 ∙ of.2)))
@@ -334,19 +335,19 @@ module _ (spec : Spec) where
 
   among_more : (x : Name) (more : List Name) (y : Name) → Contains more y → IsListed (faults_of_inits spec (x ∷ more)) y.at 14
   among_more x more y c =
-      Contains-append_right (at_with 14 (map (λ z. z.at) (unfit_starts spec (x ∷ [])))) (at_with 14 (map (λ z. z.at) more)) (y.at, 14)
+      Contains-append_right (at_with 14 (map (λ z. z.at) (unfit_main_rules spec (x ∷ [])))) (at_with 14 (map (λ z. z.at) more)) (y.at, 14)
       (at_complete 14 (map (λ z. z.at) more) y.at (Contains-map (λ z. z.at) more y c))
 
-  no_start_listed : (xs : List Name) (x : Name) → Contains xs x → is_start (declared spec x.text) ≡ false → IsListed (faults_of_inits spec xs) x.at 14
+  no_start_listed : (xs : List Name) (x : Name) → Contains xs x → can_be_main (declared spec x.text) ≡ false → IsListed (faults_of_inits spec xs) x.at 14
   no_start_listed [] x c h = absurd (Contains-none x c)
   no_start_listed (y ∷ more) x c h =
       elim (Contains-cons_cases y more x c) [
         | inl e ↦
-            let wrong : is_wrong y ≡ true = not_from_false (is_start (declared spec y.text)) (ap (λ z. is_start (declared spec z.text)) e ∙ h) in
-            let kept : Contains (unfit_starts spec (y ∷ [])) y = in_then (is_wrong y) (y ∷ []) [] y wrong (Contains-first y []) in
-            Contains-append_left (at_with 14 (map (λ z. z.at) (unfit_starts spec (y ∷ [])))) (at_with 14 (map (λ z. z.at) more)) (x.at, 14)
-            (at_complete 14 (map (λ z. z.at) (unfit_starts spec (y ∷ []))) x.at
-            (subst (Contains (map (λ z. z.at) (unfit_starts spec (y ∷ [])))) (ap (λ z. z.at) e) (Contains-map (λ z. z.at) (unfit_starts spec (y ∷ [])) y kept)))
+            let wrong : is_wrong y ≡ true = not_from_false (can_be_main (declared spec y.text)) (ap (λ z. can_be_main (declared spec z.text)) e ∙ h) in
+            let kept : Contains (unfit_main_rules spec (y ∷ [])) y = in_then (is_wrong y) (y ∷ []) [] y wrong (Contains-first y []) in
+            Contains-append_left (at_with 14 (map (λ z. z.at) (unfit_main_rules spec (y ∷ [])))) (at_with 14 (map (λ z. z.at) more)) (x.at, 14)
+            (at_complete 14 (map (λ z. z.at) (unfit_main_rules spec (y ∷ []))) x.at
+            (subst (Contains (map (λ z. z.at) (unfit_main_rules spec (y ∷ [])))) (ap (λ z. z.at) e) (Contains-map (λ z. z.at) (unfit_main_rules spec (y ∷ [])) y kept)))
         | inr rest ↦ among_more y more x rest
       ]
 
@@ -375,18 +376,18 @@ module _ (spec : Spec) where
   limit_sound : (before : List Declaration) (d : Declaration) → passes_limit spec before d ≡ true → PassesLimit spec before d
   limit_sound before d h =
       elim (or_cases _ _ h) [
-        | inr r ↦ limits.rules (passes_sound RULES is_rule (λ m. 1) before d r)
+        | inr r ↦ limits.rules (passes_sound MAX_RULES is_rule (λ m. 1) before d r)
         | inl h ↦ elim (or_cases _ _ h) [
-          | inr s ↦ limits.static_lists (passes_sound STATIC_LISTS is_static (λ m. lists_of spec (domain_of m)) before d s)
+          | inr s ↦ limits.static_lists (passes_sound MAX_STATIC_LISTS is_static (λ m. lists_of spec (domain_of m)) before d s)
           | inl h ↦ elim (or_cases _ _ h) [
-            | inr l ↦ limits.locations (passes_sound LOCATIONS is_controlled (λ m. lists_of spec (domain_of m) + 1) before d l)
+            | inr l ↦ limits.locations (passes_sound MAX_LOCATIONS is_controlled (λ m. lists_of spec (domain_of m) + 1) before d l)
             | inl h ↦ elim (or_cases _ _ h) [
-              | inr long ↦ limits.domain (ltb-true DOMAIN (length (domain_of d.meaning)) long)
+              | inr long ↦ limits.domain (ltb-true MAX_ARGUMENTS (length (domain_of d.meaning)) long)
               | inl h ↦ elim (or_cases _ _ h) [
-                | inr f ↦ limits.functions (passes_sound FUNCTIONS is_function (λ m. 1) before d f)
+                | inr f ↦ limits.functions (passes_sound MAX_FUNCTIONS is_function (λ m. 1) before d f)
                 | inl h ↦ elim (or_cases _ _ h) [
-                  | inr e ↦ limits.elements (ltb-true VALUES (size_of spec d.meaning) e)
-                  | inl u ↦ limits.universes (passes_sound UNIVERSES is_universe (λ m. 1) before d u)
+                  | inr e ↦ limits.elements (ltb-true MAX_VALUES (size_of spec d.meaning) e)
+                  | inl u ↦ limits.universes (passes_sound MAX_UNIVERSES is_universe (λ m. 1) before d u)
                 ]
               ]
             ]
@@ -397,17 +398,17 @@ module _ (spec : Spec) where
   -- the limits of ranks are faults of steps
   limit_complete : (before : List Declaration) (d : Declaration) → PassesLimit spec before d → (passes_limit spec before d ≡ true) ⊎ steps.IsTooHigh spec d
   limit_complete before d (limits.universes p) =
-      inl (or_left _ _ (or_left _ _ (or_left _ _ (or_left _ _ (or_left _ _ (or_left _ _ (passes_complete UNIVERSES is_universe (λ m. 1) before d p)))))))
+      inl (or_left _ _ (or_left _ _ (or_left _ _ (or_left _ _ (or_left _ _ (or_left _ _ (passes_complete MAX_UNIVERSES is_universe (λ m. 1) before d p)))))))
   limit_complete before d (limits.elements p) =
-      inl (or_left _ _ (or_left _ _ (or_left _ _ (or_left _ _ (or_left _ _ (or_right _ _ (lt-ltb VALUES (size_of spec d.meaning) p)))))))
+      inl (or_left _ _ (or_left _ _ (or_left _ _ (or_left _ _ (or_left _ _ (or_right _ _ (lt-ltb MAX_VALUES (size_of spec d.meaning) p)))))))
   limit_complete before d (limits.functions p) =
-      inl (or_left _ _ (or_left _ _ (or_left _ _ (or_left _ _ (or_right _ _ (passes_complete FUNCTIONS is_function (λ m. 1) before d p))))))
-  limit_complete before d (limits.domain p) = inl (or_left _ _ (or_left _ _ (or_left _ _ (or_right _ _ (lt-ltb DOMAIN (length (domain_of d.meaning)) p)))))
+      inl (or_left _ _ (or_left _ _ (or_left _ _ (or_left _ _ (or_right _ _ (passes_complete MAX_FUNCTIONS is_function (λ m. 1) before d p))))))
+  limit_complete before d (limits.domain p) = inl (or_left _ _ (or_left _ _ (or_left _ _ (or_right _ _ (lt-ltb MAX_ARGUMENTS (length (domain_of d.meaning)) p)))))
   limit_complete before d (limits.locations p) =
-      inl (or_left _ _ (or_left _ _ (or_right _ _ (passes_complete LOCATIONS is_controlled (λ m. lists_of spec (domain_of m) + 1) before d p))))
+      inl (or_left _ _ (or_left _ _ (or_right _ _ (passes_complete MAX_LOCATIONS is_controlled (λ m. lists_of spec (domain_of m) + 1) before d p))))
   limit_complete before d (limits.static_lists p) =
-      inl (or_left _ _ (or_right _ _ (passes_complete STATIC_LISTS is_static (λ m. lists_of spec (domain_of m)) before d p)))
-  limit_complete before d (limits.rules p) = inl (or_right _ _ (passes_complete RULES is_rule (λ m. 1) before d p))
+      inl (or_left _ _ (or_right _ _ (passes_complete MAX_STATIC_LISTS is_static (λ m. lists_of spec (domain_of m)) before d p)))
+  limit_complete before d (limits.rules p) = inl (or_right _ _ (passes_complete MAX_RULES is_rule (λ m. 1) before d p))
   limit_complete before d (limits.rule_rank way none) = inr (steps.rule_rank way none)
   limit_complete before d (limits.derived_rank way none) = inr (steps.derived_rank way none)
 
@@ -477,10 +478,10 @@ module _ (spec : Spec) where
       (subst (λ a. IsListed (bad_entries spec it.domain [] (it.before ++ it.entry ∷ it.after)) a 16) it.offset
       (walk_complete (is_bad_entry spec it.domain) (λ e. e.at) 16 (bad_entries spec it.domain) (λ before. refl) (λ before e es. refl) [] it.before it.entry it.after holds)))
 
--- ---- 17 of starting rules
+-- ---- 17 of main rules
 
 module _ (spec : Spec) where
-  -- what stands behind `init`
+  -- what is after `init`
   init_item : (items : List Item) (x : Name) → Contains (filter_map init_of items) x → Contains items (source.Init x)
   init_item [] x c = absurd (Contains-none x c)
   init_item (item ∷ items) x c = by_item item (init_item items x) c
@@ -505,28 +506,28 @@ module _ (spec : Spec) where
       later (source.Init y) c = Contains-later y (filter_map init_of items) x c
       later item c = c
 
-  start_sound : (item : Item) → Contains spec.items item → (at n : ℕ) → IsListed (start_result spec item) at n → IsFault spec at n
-  start_sound (source.Init x) stands at n c = by_test (answers (declared spec x.text)) refl c
+  start_sound : (item : Item) → Contains spec.items item → (at n : ℕ) → IsListed (main_rule_with_result spec item) at n → IsFault spec at n
+  start_sound (source.Init x) stands at n c = by_test (has_result_in_body (declared spec x.text)) refl c
     where
-      by_test : (b : Bool) → answers (declared spec x.text) ≡ b → IsListed (cond b ((x.at, 17) ∷ []) []) at n → IsFault spec at n
+      by_test : (b : Bool) → has_result_in_body (declared spec x.text) ≡ b → IsListed (cond b ((x.at, 17) ∷ []) []) at n → IsFault spec at n
       by_test true e c = subst (λ f. IsFault spec f.0 f.1) (the_only (x.at, 17) (at, n) c) (result_use (start x (item_init spec.items x stands) e refl))
       by_test false e c = absurd (Contains-none (at, n) c)
   start_sound item stands at n c = absurd (Contains-none (at, n) c)
 
-  pub starts_sound : (at n : ℕ) → IsListed (start_results spec) at n → IsFault spec at n
-  unfolding start_results
-  starts_sound at n c = let of = Contains-from_flat_map (start_result spec) spec.items (at, n) c in start_sound of.0 of.1 at n of.2
+  pub starts_sound : (at n : ℕ) → IsListed (main_rules_with_result spec) at n → IsFault spec at n
+  unfolding main_rules_with_result
+  starts_sound at n c = let of = Contains-from_flat_map (main_rule_with_result spec) spec.items (at, n) c in start_sound of.0 of.1 at n of.2
 
-  start_listed : (x : Name) → Contains (inits spec) x → answers (declared spec x.text) ≡ true → IsListed (start_results spec) x.at 17
-  unfolding start_results
+  start_listed : (x : Name) → Contains (inits spec) x → has_result_in_body (declared spec x.text) ≡ true → IsListed (main_rules_with_result spec) x.at 17
+  unfolding main_rules_with_result
   start_listed x c so =
-      Contains-flat_map (start_result spec) spec.items (source.Init x) (x.at, 17) (init_item spec.items x c)
-      (in_then (answers (declared spec x.text)) ((x.at, 17) ∷ []) [] (x.at, 17) so (Contains-first (x.at, 17) []))
+      Contains-flat_map (main_rule_with_result spec) spec.items (source.Init x) (x.at, 17) (init_item spec.items x c)
+      (in_then (has_result_in_body (declared spec x.text)) ((x.at, 17) ∷ []) [] (x.at, 17) so (Contains-first (x.at, 17) []))
 
-  pub results_complete : (at : ℕ) → IsResultUse spec at → IsListed (use_faults spec) at 17 ⊎ IsListed (start_results spec) at 17
+  pub results_complete : (at : ℕ) → IsResultUse spec at → IsListed (use_faults spec) at 17 ⊎ IsListed (main_rules_with_result spec) at 17
   results_complete at (outside u stands role free offset) = inl (of_a_use spec u stands at 17 offset (use_outside spec u role free))
   results_complete at (plain_call u stands role so offset) = inl (of_a_use spec u stands at 17 offset (use_plain spec u role so))
-  results_complete at (start x c so offset) = inr (subst (λ (a : ℕ). IsListed (start_results spec) a 17) offset (start_listed x c so))
+  results_complete at (start x c so offset) = inr (subst (λ (a : ℕ). IsListed (main_rules_with_result spec) a 17) offset (start_listed x c so))
 
 -- ---- 12, 13, and 15 by ranks
 

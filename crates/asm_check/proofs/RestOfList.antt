@@ -1,4 +1,4 @@
--- What is left of a list from an index on, in a loop over it.
+-- Free. What is left of a list from an index on, in a loop over it.
 use Rattle.std.proofs.Common.{◌≡◌, ℕ, suc, ◌+◌, ◌<◌, ◌≤◌, List, [], ◌∷◌, ◌++◌, map, length, drop, get_or, drop-cons, drop_of_length-le, append_assoc, sym, ap, subst, ◌∙◌, arith}
 use Rattle.std.specs.Prelude.{Contains, filter_map, Some, None, Option}
 use Rattle.std.specs.List.{cons_option}
@@ -8,7 +8,7 @@ use Rattle.asm_state.proofs.Lists.{Contains-map}
 pub next_of : {X : Type 0} (xs : List X) (i : ℕ) (x : X) → i < length xs → x ≡ get_or xs i x → drop i xs ≡ x ∷ drop (suc i) xs
 next_of xs i x h is = drop-cons xs i x h ∙ ap (λ y. y ∷ drop (suc i) xs) (sym is)
 
--- behind the last item there is nothing
+-- after the last item there is nothing
 pub at_end : {X : Type 0} (items seen : List X) (i : ℕ) → seen ≡ items → length seen ≤ i → drop i items ≡ []
 at_end items seen i same h = subst (λ xs. drop i xs ≡ []) same (drop_of_length-le seen h)
 
@@ -16,7 +16,7 @@ at_end items seen i same h = subst (λ xs. drop i xs ≡ []) same (drop_of_lengt
 pub item_among : {X Y : Type 0} (g : X → Y) (items seen : List X) (i : ℕ) (x : X) → seen ≡ items → i < length seen → x ≡ get_or seen i x → Contains (map g items) (g x)
 item_among g items seen i x same h is = Contains-map g items x (subst (λ xs. Contains xs x) same (i, h, sym is))
 
--- the same where each item has one thing or none
+-- the same if each item has one thing or none
 module _ {X Y A : Type 0} (f : Y → Option A) (g : X → Y) (before all : List A) (items seen : List X) (i : ℕ) (x : X) (same : seen ≡ items) (h : i < length seen) (is : x ≡ get_or seen i x) where
   one_next : before ++ filter_map f (map g (drop i items)) ≡ all → before ++ cons_option (f (g x)) (filter_map f (map g (drop (i + 1) items))) ≡ all
   one_next so_far =

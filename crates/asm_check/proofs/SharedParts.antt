@@ -1,4 +1,4 @@
--- Threads may share a checked specification, since they may share its parts.
+-- Free. Threads may share a checked specification, since they may share its parts.
 use denote.Param.Send.{IsSync, sendable}
 use denote.Param.SendFields.{declared_sync, variants_sync}
 use denote.Builtin.{usize}
@@ -10,9 +10,9 @@ use Rattle.asm_syntax.specs.contracts.spec.Given as Given
 use Rattle.asm_syntax.specs.contracts.spec.Item as Item
 use Rattle.asm_syntax.specs.contracts.spec.Spec as Spec
 use Rattle.asm_syntax.specs.contracts.term.Term as Term
-use Rattle.asm_check.specs.contracts.bodies.Bodies as Bodies
+use Rattle.asm_check.specs.contracts.numbers.body_indices.BodyIndices as BodyIndices
 use Rattle.asm_check.specs.contracts.checked.Checked as Checked
-use Rattle.asm_check.specs.contracts.numbering.Numbering as Numbering
+use Rattle.asm_check.specs.contracts.numbers.numbering.Numbering as Numbering
 
 name : IsSync Name.the_row
 name = search (sendable, Vec-sync) depth 20
@@ -44,7 +44,7 @@ item t r g = variants_sync Item.enum (
 spec : IsSync Item.the_row → IsSync Spec.the_row
 spec i = declared_sync Spec.the_type (name, (Vec-sync Item.the_row i, (search sendable, tt)))
 
-bodies : IsSync Bodies.the_row
+bodies : IsSync BodyIndices.the_row
 bodies = search (sendable, Vec-sync) depth 20
 
 word : IsSync usize

@@ -1,11 +1,11 @@
--- The numbers of faults, and the pair of offset and number that an answer stands for.
+-- Definition. The numbers of faults, and the pair of offset and number that a finding stands for.
 use Rattle.std.specs.Prelude.{ℕ, Option, Some, None}
 use Rattle.asm_check.specs.declared.error.FaultKind.{FaultKind}
 use Rattle.asm_check.specs.declared.error.FaultKind.TheVariants.{Twice, Unknown, Arity, NotControlled, CyclicRule, CyclicDerived, Init, TooMany, TableEntry, ResultUse}
 use Rattle.asm_check.specs.declared.error.CheckError.{CheckError}
 use Rattle.asm_syntax.specs.SourceTree.{Spec}
-use Rattle.asm_syntax.specs.declared.refused.Refused.{Refused}
-use Rattle.asm_syntax.specs.declared.refused.Refused.TheVariants.{Memory, Named}
+use Rattle.asm_syntax.specs.declared.input_error.InputError.{InputError}
+use Rattle.asm_syntax.specs.declared.input_error.InputError.TheVariants.{Memory, Named}
 use Rattle.asm_check.specs.Faults.{IsLeastFault}
 
 abbrev pub number_of : FaultKind → ℕ
@@ -27,7 +27,7 @@ abbrev pub found_of : Option CheckError → Option (ℕ × ℕ)
 found_of None = None
 found_of (Some e) = Some (fault_of e)
 
--- what a refusal says of the specification: where memory ran out, nothing
-abbrev pub Explains : Spec → Refused CheckError → Type 0
+-- what a refusal says of the specification: nothing if memory ran out
+abbrev pub Explains : Spec → InputError CheckError → Type 0
 Explains spec Memory = Unit {0}
 Explains spec (Named e) = IsLeastFault spec e.at (number_of e.kind)

@@ -1,4 +1,4 @@
--- The faults of a specification: pairs of an offset and a number.
+-- Definition. The faults of a specification: pairs of an offset and a number.
 --     IsFault spec at number          one rule for each number
 --     IsLeastFault spec at number     the fault with the least offset, and there the least number
 --     IsWellFormed spec               no fault
@@ -8,13 +8,13 @@ use Rattle.asm_syntax.specs.SourceTree as source
 use Rattle.asm_syntax.specs.declared.term.Literal.{Literal}
 use Rattle.asm_syntax.specs.declared.term.Literal.TheVariants.{Undef, Truth, Number}
 use Rattle.asm_syntax.specs.SourceTree.{Name, Const, Plain, Entry, Given, Entries, Item, Spec}
-use Rattle.asm_check.specs.Names.{Text, Declaration, Meaning, Range, Enumeration, Use, AsTarget, AsRule, AsResult, declarations, first_declarations, declared, uses, is_text, is_among, text_of, is_known, arguments_of, is_assignable, answers, is_start, uses_of_entry}
-use Rattle.asm_check.specs.Ways.{called, used, LeadsTo}
+use Rattle.asm_check.specs.Names.{Text, Declaration, Meaning, Range, Enumeration, Use, AsTarget, AsRule, AsResult, declarations, first_declarations, declared, uses, is_text, is_among, text_of, is_known, arguments_of, is_assignable, has_result_in_body, can_be_main, uses_of_entry}
+use Rattle.asm_check.specs.CallGraph.{called, used, LeadsTo}
 use Rattle.asm_check.specs.Limits.{PassesLimit, is_element_of}
 
 -- ---- 8: names declared twice
 
--- at this offset a name of the list stands that stands in it before
+-- at this offset the list has a name that is in it before
 pub record IsRepeated (xs : List Name) (at : ℕ) : Type 0 where
   pub before : List Name
   pub name : Name
@@ -69,7 +69,7 @@ pub record IsCyclic (spec : Spec) (next : Text → List Text) (at : ℕ) : Type 
   pub back : LeadsTo next member.name.text member.name.text
   pub offset : member.name.at ≡ at
 
--- ---- 14: the starting rule
+-- ---- 14: the main rule
 
 abbrev pub init_of : Item → Option Name
 init_of (source.Init x) = Some x
@@ -80,7 +80,7 @@ inits spec = filter_map init_of spec.items
 
 pub data IsBadInit (spec : Spec) (at : ℕ) : Type 0 where
   another : (first : Name) (more : List Name) (x : Name) → inits spec ≡ first ∷ more → Contains more x → x.at ≡ at → IsBadInit spec at
-  no_start : (x : Name) → Contains (inits spec) x → is_start (declared spec x.text) ≡ false → x.at ≡ at → IsBadInit spec at
+  no_start : (x : Name) → Contains (inits spec) x → can_be_main (declared spec x.text) ≡ false → x.at ≡ at → IsBadInit spec at
   missing : inits spec ≡ [] → spec.length ≡ at → IsBadInit spec at
 
 -- ---- 15: limits
@@ -146,12 +146,12 @@ pub record IsBadEntry (spec : Spec) (at : ℕ) : Type 0 where
 
 -- ---- 17: the word `result`
 
--- it stands where it isn't bound, so outside of every rule, in the body of a derived function; or a rule in whose body it stands is called
--- without a target, or is a starting rule
+-- it stands where it isn't bound, so outside of every rule, in the body of a derived function; or a
+-- rule in whose body it stands is called without a target, or is a main rule
 pub data IsResultUse (spec : Spec) (at : ℕ) : Type 0 where
   outside : (u : Use) → Contains (uses spec) u → u.role ≡ AsResult → u.is_bound ≡ false → u.name.at ≡ at → IsResultUse spec at
-  plain_call : (u : Use) → Contains (uses spec) u → u.role ≡ AsRule → answers (declared spec u.name.text) ≡ true → u.name.at ≡ at → IsResultUse spec at
-  start : (x : Name) → Contains (inits spec) x → answers (declared spec x.text) ≡ true → x.at ≡ at → IsResultUse spec at
+  plain_call : (u : Use) → Contains (uses spec) u → u.role ≡ AsRule → has_result_in_body (declared spec u.name.text) ≡ true → u.name.at ≡ at → IsResultUse spec at
+  start : (x : Name) → Contains (inits spec) x → has_result_in_body (declared spec x.text) ≡ true → x.at ≡ at → IsResultUse spec at
 
 -- ---- all faults
 

@@ -1,21 +1,24 @@
--- What a well-formed specification offers to its evaluation: each name stands for what its use asks for.
---     IsFitTerm spec t bound, IsFitRule spec R bound     so it is in a term and in a rule, inside binders of these names
+-- Definition. What a well-formed specification offers to its evaluation: each name
+-- stands for what its use asks for.
+--     IsFitTerm spec t bound, IsFitRule spec R bound     so it is in a term and in a rule, inside
+--                                                        binders of these names
 --     IsFitFunction spec domain codomain table           so it is in the declaration of a function
---     HasStart spec                                      the one starting rule
+--     HasFitMainRule spec                                the one main rule
 --     IsReady spec                                       all of it
---     HasFitBodies spec                                  so it is in each rule and each derived function, by its number
+--     HasFitBodies spec                                  so it is in each rule and each derived
+--                                                        function, by its number
 use Rattle.std.specs.Prelude.{◌≡◌, ◌⊎◌, ℕ, false, List, [], ◌∷◌, map, length, Contains, Option, Some, None}
 use Rattle.asm_state.specs.declared.function.FunctionKind.{FunctionKind}
 use Rattle.asm_syntax.specs.SourceTree as source
-use Rattle.asm_syntax.specs.SourceTree.{Name, Term, Constant, Named, Chain, Not, Negative, Exists, Every, Answer, Terms, no_terms, term_then, Links, no_links, link_then, Rule, Skip, Assign, Call, Par, Seq, If, Let, Forall, Choose, Iterate, While, SetResult, Rules, no_rules, rule_then, Branch, left_out, written, Const, Given, Spec}
-use Rattle.asm_check.specs.Names.{Text, Predeclared, Controlled, Static, NamedRule, Derived, answers, declared, term_count, rule_scope, text_of}
-use Rattle.asm_check.specs.Numbers.{functions_of, derived_of, rules_of, meaning_at, named}
-use Rattle.asm_check.specs.declared.checked.Named as checked
-use Rattle.asm_check.specs.declared.checked.Named.TheVariants as number
+use Rattle.asm_syntax.specs.SourceTree.{Name, Term, Constant, Named, Chain, Not, Negative, Exists, Every, Result, Terms, no_terms, term_then, Links, no_links, link_then, Rule, Skip, Assign, Call, Par, Seq, If, Let, Forall, Choose, Iterate, While, SetResult, Rules, no_rules, rule_then, Branch, left_out, written, Const, Given, Spec}
+use Rattle.asm_check.specs.Names.{Text, Predeclared, Controlled, Static, NamedRule, Derived, has_result_in_body, declared, term_count, rule_scope, text_of}
+use Rattle.asm_check.specs.Numbers.{functions_of, derived_of, rules_of, declared_with_number, named}
+use Rattle.asm_check.specs.declared.checked.NameNumber as checked
+use Rattle.asm_check.specs.declared.checked.NameNumber.TheVariants as number
 use Rattle.asm_check.specs.Faults.{inits}
 
 module _ (spec : Spec) where
-  abbrev pub StandsFor : Name → checked.Named → Type 0
+  abbrev pub StandsFor : Name → checked.NameNumber → Type 0
   StandsFor x n = named spec x.text ≡ Some n
 
   abbrev pub IsUniverseName : Name → Type 0
@@ -29,12 +32,12 @@ module _ (spec : Spec) where
 
   -- ---- terms
 
-  -- a name that no binder hides, with so many arguments
+  -- a name that no binder hides, with n arguments
   pub data IsFitName (x : Name) (n : ℕ) : Type 0 where
     element : (e : ℕ) → StandsFor x (number.Element e) → n ≡ 0 → IsFitName x n
-    controlled : (f : ℕ) (domain : List Name) → StandsFor x (number.Function f) → meaning_at (functions_of spec) f ≡ Some (Controlled domain) → n ≡ length domain → IsFitName x n
-    static : (f : ℕ) (domain : List Name) → StandsFor x (number.Function f) → meaning_at (functions_of spec) f ≡ Some (Static domain) → n ≡ length domain → IsFitName x n
-    derived : (d : ℕ) (xs : List Name) (t : Term) → StandsFor x (number.Derived d) → meaning_at (derived_of spec) d ≡ Some (Derived xs t) → n ≡ length xs → IsFitName x n
+    controlled : (f : ℕ) (domain : List Name) → StandsFor x (number.Function f) → declared_with_number (functions_of spec) f ≡ Some (Controlled domain) → n ≡ length domain → IsFitName x n
+    static : (f : ℕ) (domain : List Name) → StandsFor x (number.Function f) → declared_with_number (functions_of spec) f ≡ Some (Static domain) → n ≡ length domain → IsFitName x n
+    derived : (d : ℕ) (xs : List Name) (t : Term) → StandsFor x (number.Derived d) → declared_with_number (derived_of spec) d ≡ Some (Derived xs t) → n ≡ length xs → IsFitName x n
 
   -- a name that a binder has bound has no arguments
   abbrev pub IsFitUse : Name → ℕ → (bound : List Text) → Type 0
@@ -49,7 +52,7 @@ module _ (spec : Spec) where
     IsFitTerm (Negative t) bound = IsFitTerm t bound
     IsFitTerm (Exists x over t) bound = IsUniverseName over × IsFitTerm t (x.text ∷ bound)
     IsFitTerm (Every x over t) bound = IsUniverseName over × IsFitTerm t (x.text ∷ bound)
-    IsFitTerm (Answer x) bound = Contains bound x.text
+    IsFitTerm (Result x) bound = Contains bound x.text
 
     pub AreFitTerms : Terms → (bound : List Text) → Type 0
     AreFitTerms no_terms bound = Unit {0}
@@ -65,27 +68,27 @@ module _ (spec : Spec) where
 
   -- ---- rules
 
-  -- a controlled function with so many arguments, which no binder hides
+  -- a controlled function with n arguments, which no binder hides
   pub record IsFitTarget (x : Name) (n : ℕ) (bound : List Text) : Type 0 where
     pub free : ¬ (Contains bound x.text)
     pub function : ℕ
     pub domain : List Name
     pub stands : StandsFor x (number.Function function)
-    pub means : meaning_at (functions_of spec) function ≡ Some (Controlled domain)
+    pub means : declared_with_number (functions_of spec) function ≡ Some (Controlled domain)
     pub counted : n ≡ length domain
 
-  -- a rule with so many parameters
+  -- a rule with n parameters
   pub record IsFitCall (x : Name) (n : ℕ) : Type 0 where
     pub rule : ℕ
     pub parameters : List Name
     pub body : Rule
     pub stands : StandsFor x (number.Rule rule)
-    pub means : meaning_at (rules_of spec) rule ≡ Some (NamedRule parameters body)
+    pub means : declared_with_number (rules_of spec) rule ≡ Some (NamedRule parameters body)
     pub counted : n ≡ length parameters
 
-  -- a rule that answers is called behind a `<-` only
+  -- a rule with a result is called after a `<-` only
   abbrev pub IsFitCallTo : Option (Name × Terms) → Name → ℕ → Type 0
-  IsFitCallTo None r n = IsFitCall r n × (answers (declared spec r.text) ≡ false)
+  IsFitCallTo None r n = IsFitCall r n × (has_result_in_body (declared spec r.text) ≡ false)
   IsFitCallTo (Some to) r n = IsFitCall r n
 
   -- the target of a `<-`, if there is one
@@ -134,21 +137,21 @@ module _ (spec : Spec) where
 
   -- ---- the specification
 
-  pub record HasStart : Type 0 where
+  pub record HasFitMainRule : Type 0 where
     pub name : Name
     pub body : Rule
     pub only : inits spec ≡ name ∷ []
     pub rule : declared spec name.text ≡ Some (NamedRule [] body)
-    -- it doesn't answer
-    pub plain : answers (declared spec name.text) ≡ false
+    -- it has no result
+    pub plain : has_result_in_body (declared spec name.text) ≡ false
 
   pub record IsReady : Type 0 where
     pub rules : (f : Text) (xs : List Name) (P : Rule) → declared spec f ≡ Some (NamedRule xs P) → IsFitRule P (rule_scope xs)
     pub derived : (f : Text) (xs : List Name) (t : Term) → declared spec f ≡ Some (Derived xs t) → IsFitTerm t (map text_of xs)
     pub functions : (x : Name) (kind : FunctionKind) (domain : List Name) (codomain : Option Name) (table : Option Given)
         → Contains spec.items (source.Function x kind domain codomain table) → IsFitFunction domain codomain table
-    pub start : HasStart
+    pub start : HasFitMainRule
 
   pub record HasFitBodies : Type 0 where
-    pub rules : (r : ℕ) (xs : List Name) (P : Rule) → meaning_at (rules_of spec) r ≡ Some (NamedRule xs P) → IsFitRule P (rule_scope xs)
-    pub derived : (d : ℕ) (xs : List Name) (t : Term) → meaning_at (derived_of spec) d ≡ Some (Derived xs t) → IsFitTerm t (map text_of xs)
+    pub rules : (r : ℕ) (xs : List Name) (P : Rule) → declared_with_number (rules_of spec) r ≡ Some (NamedRule xs P) → IsFitRule P (rule_scope xs)
+    pub derived : (d : ℕ) (xs : List Name) (t : Term) → declared_with_number (derived_of spec) d ≡ Some (Derived xs t) → IsFitTerm t (map text_of xs)

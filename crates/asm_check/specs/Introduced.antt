@@ -1,8 +1,9 @@
--- The names that a specification introduces, and what each is declared as.
+-- Definition. The names that a specification introduces, and what each is declared as.
 --     introduced item          the names that an item declares
---     all_names spec           those that are there from the start, and those of all items, in the order of the text
+--     all_names spec           those that are there from the start, and those of all items, in the
+--                              order of the text
 --     HasNamesApart spec       no name is declared twice, and no item has a parameter twice
---     HasMeanings spec         each name is declared as its item says
+--     AreDeclaredSo spec       each name is declared as its item says
 use Rattle.std.specs.Prelude.{◌≡◌, ◌≢◌, ℕ, List, [], ◌∷◌, map, flat_map, slice_get, codes, AllPairs, Contains, Option, Some}
 use Rattle.asm_state.specs.declared.number.Number.{Number}
 use Rattle.asm_state.specs.declared.function.FunctionKind.TheVariants as kind
@@ -31,7 +32,7 @@ pub record HasNamesApart (spec : Spec) : Type 0 where
   pub parameters_of_derived : (x : Name) (xs : List Name) (t : Term) → Contains spec.items (source.Derived x xs t) → AreDifferent (map text_of xs)
 
 -- an enumeration, and each of its elements, is known by the enumeration's position among the items
-pub record HasMeanings (spec : Spec) : Type 0 where
+pub record AreDeclaredSo (spec : Spec) : Type 0 where
   pub enumerations : (k : ℕ) (x : Name) (xs : List Name) → slice_get spec.items k ≡ Some (source.Enum x xs) → declared spec x.text ≡ Some (Enumeration k)
   pub elements : (k : ℕ) (x : Name) (xs : List Name) → slice_get spec.items k ≡ Some (source.Enum x xs) → (y : Name) → Contains xs y → declared spec y.text ≡ Some (Element k)
   pub ranges : (x : Name) (first last : Number) → Contains spec.items (source.Universe x first last) → declared spec x.text ≡ Some (Range first.value last.value)

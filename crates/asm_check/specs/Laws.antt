@@ -1,27 +1,27 @@
 -- Laws of faults.
 use Rattle.std.specs.Prelude.{◌≡◌, ◌≢◌, ◌≤◌, ◌⊎◌, ◌↔◌, ℕ, true, List, map, length, slice_get, Option, Some, Contains}
-use Rattle.asm_state.specs.declared.element.TheConstants.{ELEMENTS}
-use Rattle.asm_state.specs.declared.limits.TheConstants.{DOMAIN}
+use Rattle.asm_state.specs.declared.element.TheConstants.{MAX_ELEMENTS}
+use Rattle.asm_state.specs.declared.signature_limits.TheConstants.{MAX_ARGUMENTS}
 use Rattle.asm_state.specs.declared.function.Function as state
-use Rattle.asm_state.specs.Fits.{Fits}
+use Rattle.asm_state.specs.SignatureLimits.{Fits}
 use Rattle.asm_state.specs.Signature.{IsSound}
 use Rattle.asm_state.specs.Universe.{element}
 use Rattle.asm_state.specs.declared.function.FunctionKind.{FunctionKind}
 use Rattle.asm_syntax.specs.SourceTree as source
 use Rattle.asm_syntax.specs.SourceTree.{Name, Term, Rule, Given, Spec}
-use Rattle.asm_syntax.specs.Views.{term_of, terms_of}
+use Rattle.asm_syntax.specs.code.Views.{term_of, terms_of}
 use Rattle.asm_syntax.specs.declared.term.Term as code
 use Rattle.asm_check.specs.Names.{Text, Declaration, Meaning, declares, declared, function_of, is_text, term_count, Predeclared, Enumeration, Element}
 use Rattle.asm_check.specs.Limits.{domain_of}
-use Rattle.asm_check.specs.Sizes.{IsWithinLimits}
+use Rattle.asm_check.specs.WithinLimits.{IsWithinLimits}
 use Rattle.asm_check.specs.Faults.{IsLeastFault, IsWellFormed}
 use Rattle.asm_check.specs.Ranks.{HasRanks}
 use Rattle.asm_check.specs.Fit.{IsFitTerm, IsFitRule, IsReady, HasFitBodies}
-use Rattle.asm_check.specs.Introduced.{HasNamesApart, HasMeanings}
-use Rattle.asm_check.specs.Numbers.{universes_of, elements_of, functions_of, derived_of, rules_of, meaning_at, named}
-use Rattle.asm_check.specs.NumberTables.{IsInRange}
-use Rattle.asm_check.specs.declared.checked.Named.{Named}
-use Rattle.asm_check.specs.declared.checked.Named.TheVariants as number
+use Rattle.asm_check.specs.Introduced.{HasNamesApart, AreDeclaredSo}
+use Rattle.asm_check.specs.Numbers.{universes_of, elements_of, functions_of, derived_of, rules_of, declared_with_number, named}
+use Rattle.asm_check.specs.code.numbers.NumberTables.{IsInRange}
+use Rattle.asm_check.specs.declared.checked.NameNumber.{NameNumber}
+use Rattle.asm_check.specs.declared.checked.NameNumber.TheVariants as number
 use Rattle.asm_check.specs.Shapes.{universe_values, function_given, shape_of}
 
 -- a specification has at most one least fault
@@ -43,7 +43,7 @@ NamesAreApart = (spec : Spec) → IsWellFormed spec → HasNamesApart spec
 
 -- in a well-formed specification each name is declared as its item says
 abbrev pub ItemsAreDeclared : Type 0
-ItemsAreDeclared = (spec : Spec) → IsWellFormed spec → HasMeanings spec
+ItemsAreDeclared = (spec : Spec) → IsWellFormed spec → AreDeclaredSo spec
 
 -- in a well-formed specification each name stands for what its use asks for
 abbrev pub BodiesAreFit : Type 0
@@ -53,7 +53,7 @@ BodiesAreFit = (spec : Spec) → IsWellFormed spec → IsReady spec
 abbrev pub NumberedBodiesAreFit : Type 0
 NumberedBodiesAreFit = (spec : Spec) → IsWellFormed spec → HasFitBodies spec
 
--- where a term or a rule is fit under some bound names, it is so wherever the same names are bound
+-- if a term or a rule is fit under some bound names, it is so wherever the same names are bound
 abbrev pub ScopesByMembers : Type 0
 ScopesByMembers = (spec : Spec) (xs ys : List Text) → ((x : Text) → Contains xs x ↔ Contains ys x)
     → ((t : Term) → IsFitTerm spec t xs → IsFitTerm spec t ys) × ((R : Rule) → IsFitRule spec R xs → IsFitRule spec R ys)
@@ -72,7 +72,7 @@ LimitsHold = (spec : Spec) → IsWellFormed spec → IsWithinLimits spec
 
 -- and no function with a number has too many universes
 abbrev pub NumberedDomainsAreFew : Type 0
-NumberedDomainsAreFew = (spec : Spec) → IsWellFormed spec → (f : ℕ) (m : Meaning) → meaning_at (functions_of spec) f ≡ Some m → length (domain_of m) ≤ DOMAIN
+NumberedDomainsAreFew = (spec : Spec) → IsWellFormed spec → (f : ℕ) (m : Meaning) → declared_with_number (functions_of spec) f ≡ Some m → length (domain_of m) ≤ MAX_ARGUMENTS
 
 -- what a well-formed specification declares fits into a signature
 abbrev pub SignatureFits : Type 0
@@ -93,34 +93,35 @@ pub record IsDeclaredBy (spec : Spec) (d : Declaration) (function : Option state
   pub declared_so : d ≡ declares name (function_of kind domain)
   pub given_so : function ≡ function_given spec (source.Function name kind domain codomain table)
 
--- Universes and functions have the numbers in the signature that they have among the declarations, and each element is the
--- value that has its number.
+-- Universes and functions have the numbers in the signature that they have among the declarations,
+-- and each element is the value that has its number.
 pub record HasNumbers (spec : Spec) : Type 0 where
   pub count_of_universes : length (shape_of spec).universes ≡ length (universes_of spec)
   pub universes : (n : ℕ) (d : Declaration) → slice_get (universes_of spec) n ≡ Some d → slice_get (shape_of spec).universes n ≡ Some (universe_values spec d.meaning)
   pub count_of_functions : length (shape_of spec).functions ≡ length (functions_of spec)
   pub functions : (f : ℕ) (d : Declaration) → slice_get (functions_of spec) f ≡ Some d → IsDeclaredBy spec d (slice_get (shape_of spec).functions f)
   pub elements : (n k : ℕ) (d : Declaration) → slice_get (elements_of spec) n ≡ Some d → d.meaning ≡ Element k → Contains (universe_values spec (Enumeration k)) (element n)
-  pub few_elements : length (elements_of spec) ≤ ELEMENTS
+  pub few_elements : length (elements_of spec) ≤ MAX_ELEMENTS
 
 -- the numbers of names are those of the signature
 abbrev pub SignatureNumbers : Type 0
 SignatureNumbers = (spec : Spec) → IsWellFormed spec → HasNumbers spec
 
 -- what has this number among its like
-abbrev pub meaning_numbered : Spec → Named → Option Meaning
-meaning_numbered spec (number.Universe n) = meaning_at (universes_of spec) n
-meaning_numbered spec (number.Element n) = meaning_at (elements_of spec) n
-meaning_numbered spec (number.Function f) = meaning_at (functions_of spec) f
-meaning_numbered spec (number.Derived d) = meaning_at (derived_of spec) d
-meaning_numbered spec (number.Rule r) = meaning_at (rules_of spec) r
+abbrev pub meaning_numbered : Spec → NameNumber → Option Meaning
+meaning_numbered spec (number.Universe n) = declared_with_number (universes_of spec) n
+meaning_numbered spec (number.Element n) = declared_with_number (elements_of spec) n
+meaning_numbered spec (number.Function f) = declared_with_number (functions_of spec) f
+meaning_numbered spec (number.Derived d) = declared_with_number (derived_of spec) d
+meaning_numbered spec (number.Rule r) = declared_with_number (rules_of spec) r
 
--- The number of a name leads to what the name is declared as, and each declared name but those of codomains has one.
+-- The number of a name leads to what the name is declared as, and each declared name except those
+-- of codomains has one.
 pub record HasNumber (spec : Spec) (x : Text) : Type 0 where
-  pub of_number : (n : Named) → named spec x ≡ Some n → meaning_numbered spec n ≡ declared spec x
-  pub of_meaning : (m : Meaning) → declared spec x ≡ Some m → m ≢ Predeclared → (n : Named) × (named spec x ≡ Some n)
+  pub of_number : (n : NameNumber) → named spec x ≡ Some n → meaning_numbered spec n ≡ declared spec x
+  pub of_meaning : (m : Meaning) → declared spec x ≡ Some m → m ≢ Predeclared → (n : NameNumber) × (named spec x ≡ Some n)
 
--- the test of two texts passes where they are the same, and nowhere else
+-- the test of two texts passes if and only if they are the same
 abbrev pub TextsAreTold : Type 0
 TextsAreTold = (x y : Text) → (is_text x y ≡ true → x ≡ y) × (x ≡ y → is_text x y ≡ true)
 

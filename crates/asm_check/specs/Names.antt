@@ -1,5 +1,6 @@
--- What a specification declares, and where it uses names.
---     declarations, first_declarations     all declarations in the order of the text;  those that count
+-- Definition. What a specification declares, and where it uses names.
+--     declarations, first_declarations     all declarations in the order of the text;  those that
+--                                          count
 --     declared spec x                      what x is declared as, by its first declaration
 --     Use, uses spec                       a name that is looked up, with its role;  all of them
 use Rattle.std.specs.Prelude.{ℕ, suc, ℤ, Bool, true, false, cond, nat_eq, List, [], ◌∷◌, ◌++◌, map, length, find, flat_map, Option, Some, None, option_map, codes}
@@ -9,7 +10,7 @@ use Rattle.asm_state.specs.declared.function.FunctionKind.{FunctionKind}
 use Rattle.asm_state.specs.declared.function.FunctionKind.TheVariants as kind
 use Rattle.asm_syntax.specs.SourceTree as source
 use Rattle.asm_syntax.specs.Tree.{result}
-use Rattle.asm_syntax.specs.SourceTree.{Name, Term, Constant, Named, Chain, Not, Negative, Exists, Every, Answer, Terms, no_terms, term_then, Links, no_links, link_then, Rule, Skip, Assign, Call, Par, Seq, If, Let, Forall, Choose, Iterate, While, SetResult, Rules, no_rules, rule_then, Branch, left_out, written, Const, Entry, Given, Item, Spec}
+use Rattle.asm_syntax.specs.SourceTree.{Name, Term, Constant, Named, Chain, Not, Negative, Exists, Every, Result, Terms, no_terms, term_then, Links, no_links, link_then, Rule, Skip, Assign, Call, Par, Seq, If, Let, Forall, Choose, Iterate, While, SetResult, Rules, no_rules, rule_then, Branch, left_out, written, Const, Entry, Given, Item, Spec}
 
 abbrev pub Text : Type 0
 Text = List ℕ
@@ -25,7 +26,8 @@ text_of x = x.text
 
 -- ---- declarations
 
--- what a name is declared as. An element belongs to the enumeration that is this item of the specification.
+-- what a name is declared as. An element belongs to the enumeration that is
+-- this item of the specification.
 pub data Meaning : Type 0 where
   Predeclared : Meaning
   Range : (first last : ℤ) → Meaning
@@ -87,7 +89,7 @@ declared spec x = option_map (λ d. d.meaning) (find (λ d. is_text d.name.text 
 pub data Role : Type 0 where
   InTerm : Role
   AsTarget : Role
-  -- in a plain call, or behind a `<-`
+  -- in a plain call, or after a `<-`
   AsRule : Role
   AsAnswering : Role
   AsUniverse : Role
@@ -122,7 +124,7 @@ abbrev mutual
   uses_of_term (Negative t) bound = uses_of_term t bound
   uses_of_term (Exists x over t) bound = plain_use AsUniverse over ∷ uses_of_term t (x.text ∷ bound)
   uses_of_term (Every x over t) bound = plain_use AsUniverse over ∷ uses_of_term t (x.text ∷ bound)
-  uses_of_term (Answer x) bound = use_of AsResult x 0 bound ∷ []
+  uses_of_term (Result x) bound = use_of AsResult x 0 bound ∷ []
 
   pub uses_of_terms : Terms → (bound : List Text) → List Use
   uses_of_terms no_terms bound = []
@@ -243,11 +245,11 @@ abbrev pub is_result : Role → Bool
 is_result AsResult = true
 is_result role = false
 
--- a rule in whose own body the word `result` stands
-abbrev pub answers : Option Meaning → Bool
-answers (Some (NamedRule xs P)) = list_any (λ u. is_result u.role) (uses_of_rule P (rule_scope xs))
-answers m = false
+-- a rule in whose own body the word `result` is
+abbrev pub has_result_in_body : Option Meaning → Bool
+has_result_in_body (Some (NamedRule xs P)) = list_any (λ u. is_result u.role) (uses_of_rule P (rule_scope xs))
+has_result_in_body m = false
 
-abbrev pub is_start : Option Meaning → Bool
-is_start (Some (NamedRule [] P)) = true
-is_start m = false
+abbrev pub can_be_main : Option Meaning → Bool
+can_be_main (Some (NamedRule [] P)) = true
+can_be_main m = false

@@ -1,12 +1,13 @@
--- Ranks, which fall with each call of a rule, and with each use of a derived function.
---     CallsBelow spec rank n R            each rule that R calls is declared, and has a rank below n
+-- Definition. Ranks, which fall with each call of a rule, and with each use of a derived function.
+--     CallsBelow spec rank n R            each rule that R calls is declared and has a rank below n
 --     UsesBelow spec rank n t bound       each derived function that t uses has a rank below n
---     HasRanks spec                       the heights of calls and uses are such ranks, and within the limit
+--     HasRanks spec                       the heights of calls and uses are such ranks, and within
+--                                         the limit
 use Rattle.std.specs.Prelude.{◌≡◌, ℕ, suc, ◌<◌, ◌≤◌, false, List, ◌∷◌, map, Some}
-use Rattle.asm_syntax.specs.SourceTree.{Name, Term, Constant, Named, Chain, Not, Negative, Exists, Every, Answer, Terms, no_terms, term_then, Links, no_links, link_then, Rule, Skip, Assign, Call, Par, Seq, If, Let, Forall, Choose, Iterate, While, SetResult, Rules, no_rules, rule_then, Branch, left_out, written, Spec}
-use Rattle.asm_check.specs.declared.cycles.TheConstants.{RANK}
+use Rattle.asm_syntax.specs.SourceTree.{Name, Term, Constant, Named, Chain, Not, Negative, Exists, Every, Result, Terms, no_terms, term_then, Links, no_links, link_then, Rule, Skip, Assign, Call, Par, Seq, If, Let, Forall, Choose, Iterate, While, SetResult, Rules, no_rules, rule_then, Branch, left_out, written, Spec}
+use Rattle.asm_check.specs.declared.cycles.step_faults.TheConstants.{MAX_RANK}
 use Rattle.asm_check.specs.Names.{Text, NamedRule, Derived, declared, is_among, text_of}
-use Rattle.asm_check.specs.Ways.{called, used, height}
+use Rattle.asm_check.specs.CallGraph.{called, used, height}
 
 module _ (spec : Spec) (rank : Text → ℕ) (n : ℕ) where
   pub record IsCallable (f : Text) : Type 0 where
@@ -51,7 +52,7 @@ module _ (spec : Spec) (rank : Text → ℕ) (n : ℕ) where
     UsesBelow (Negative t) bound = UsesBelow t bound
     UsesBelow (Exists x over t) bound = UsesBelow t (x.text ∷ bound)
     UsesBelow (Every x over t) bound = UsesBelow t (x.text ∷ bound)
-    UsesBelow (Answer x) bound = IsUsable bound x.text
+    UsesBelow (Result x) bound = IsUsable bound x.text
 
     pub EachUsesBelow : Terms → (bound : List Text) → Type 0
     EachUsesBelow no_terms bound = Unit {0}
@@ -73,13 +74,13 @@ AreDerivedRanked spec rank =
 
 -- No way is longer than the limit, so the height up to one more is the whole height.
 unfoldable pub rule_rank : Spec → Text → ℕ
-rule_rank spec = height (called spec) (suc RANK)
+rule_rank spec = height (called spec) (suc MAX_RANK)
 
 unfoldable pub derived_rank : Spec → Text → ℕ
-derived_rank spec = height (used spec) (suc RANK)
+derived_rank spec = height (used spec) (suc MAX_RANK)
 
 pub record HasRanks (spec : Spec) : Type 0 where
   pub rules : AreRulesRanked spec (rule_rank spec)
-  pub rules_low : (f : Text) → rule_rank spec f ≤ RANK
+  pub rules_low : (f : Text) → rule_rank spec f ≤ MAX_RANK
   pub derived : AreDerivedRanked spec (derived_rank spec)
-  pub derived_low : (f : Text) → derived_rank spec f ≤ RANK
+  pub derived_low : (f : Text) → derived_rank spec f ≤ MAX_RANK

@@ -1,7 +1,8 @@
--- The signature that a specification declares.
+-- Definition. The signature that a specification declares.
 --     universe_values spec m      the values of a universe, in order
 --     const_value spec c          the value of a constant
---     shape_of spec               all universes, and all controlled and static functions, in the order of the text
+--     shape_of spec               all universes, and all controlled and static functions, in the
+--                                 order of the text
 use Rattle.std.specs.Prelude.{ℕ, Bool, false, nat_lt, List, [], map, filter_map, count_by, Option, Some, None}
 use Rattle.std.specs.List.{position_or_len}
 use Rattle.asm_state.specs.declared.value.Value.{Value}

@@ -1,18 +1,18 @@
 //! Specifications that are well formed.
 ghost use Rattle.std.specs.Prelude.{◌≡◌, ◌<◌, Some, ℕ, map, length, IfOk, [], ◌∷◌};
 ghost use Rattle.asm_syntax.specs.SourceTree as source;
-ghost use Rattle.asm_syntax.specs.Views.{spec_of, name_of, term_of, rule_of};
+ghost use Rattle.asm_syntax.specs.code.Views.{spec_of, name_of, term_of, rule_of};
 ghost use Rattle.asm_check.specs.Faults.{IsWellFormed, inits};
 ghost use Rattle.asm_check.specs.Names as names;
 ghost use Rattle.asm_check.specs.Names.{first_declarations};
-ghost use Rattle.asm_check.specs.Numbers.{named, functions_of, derived_of, rules_of, elements_of, meaning_at, name_at};
-ghost use Rattle.asm_check.specs.NumberTables.{IsNumberingOf, AreBodiesOf, IsMain, IsInRange};
+ghost use Rattle.asm_check.specs.Numbers.{named, functions_of, derived_of, rules_of, elements_of, declared_with_number, name_at};
+ghost use Rattle.asm_check.specs.code.numbers.NumberTables.{IsNumberingOf, AreBodiesOf, IsMain, IsInRange};
 ghost use Rattle.asm_check.specs.Shapes.{shape_of};
-ghost use Rattle.asm_check.specs.declared.checked.Named.TheVariants as number;
+ghost use Rattle.asm_check.specs.declared.checked.NameNumber.TheVariants as number;
 
-use crate::bodies::Bodies;
-use crate::numbering::Numbering;
-use crate::shape::signature_of;
+use crate::numbers::body_indices::BodyIndices;
+use crate::numbers::declared_signature::signature_of;
+use crate::numbers::numbering::Numbering;
 use asm_state::signature::Signature;
 use asm_syntax::name::{Name, Text};
 use asm_syntax::rule::Rule;
@@ -20,9 +20,10 @@ use asm_syntax::spec::{Item, Spec};
 use asm_syntax::term::Term;
 use std::alloc::{AllocError, Global};
 
-/// What a name stands for where no binder hides it, with its number among its like, in the order of the text.
+/// What a name stands for if no binder hides it, with its number among its
+/// like, in the order of the text.
 #[derive(Clone, Copy, Debug, PartialEq, Eq)]
-pub enum Named {
+pub enum NameNumber {
     Universe(usize),
     Element(usize),
     /// A controlled or static function: its number in the signature.
@@ -31,13 +32,14 @@ pub enum Named {
     Rule(usize),
 }
 
-/// A specification without faults, with what its names stand for at hand. Its readers take no memory, and constant time.
+/// A specification without faults, with what its names stand for at hand. Its readers take no
+/// memory, and constant time.
 #[derive(Drop)]
 pub struct Checked {
     pub spec: Spec,
     signature: Signature,
     numbering: Numbering,
-    bodies: Bodies,
+    bodies: BodyIndices,
     main: usize,
     pub ghost well_formed: { IsWellFormed (spec_of spec) },
     ghost shaped: { signature ≡ shape_of (spec_of spec) },
@@ -54,7 +56,7 @@ impl Checked {
         ensures { IfOk result (λ c. c.spec ≡ spec) }
     {
         let signature = signature_of(alloc, &spec, &numbering)?;
-        let bodies = Bodies::of(alloc, &spec.items)?;
+        let bodies = BodyIndices::of(alloc, &spec.items)?;
         let main = main_of(&spec, &numbering);
         Ok(Checked {
             spec,
@@ -72,8 +74,8 @@ impl Checked {
         &self.signature
     }
 
-    /// What a name stands for where no binder hides it.
-    pub fn named(&self, name: &str) -> Option<Named>
+    /// What a name stands for if no binder hides it.
+    pub fn named(&self, name: &str) -> Option<NameNumber>
         ensures named { result ≡ named (spec_of self.now.spec) name.now }
         ensures in_range { IsInRange (spec_of self.now.spec) result }
     {
@@ -82,7 +84,7 @@ impl Checked {
 
     /// The same of a name of a tree, whose key mostly spares the look-up.
     #[inline(never)]
-    pub fn named_text(&self, name: &Text) -> Option<Named>
+    pub fn named_text(&self, name: &Text) -> Option<NameNumber>
         ensures named { result ≡ named (spec_of self.now.spec) name.now }
         ensures in_range { IsInRange (spec_of self.now.spec) result }
     {
@@ -99,7 +101,7 @@ impl Checked {
     /// The parameters and the body of the rule with this number.
     pub fn rule(&self, r: usize) -> (&[Name], &Rule)
         requires { r < length (rules_of (spec_of self.now.spec)) }
-        ensures { meaning_at (rules_of (spec_of self.now.spec)) r ≡ Some (names.NamedRule (map name_of result.0.now) (rule_of result.1.now)) }
+        ensures { declared_with_number (rules_of (spec_of self.now.spec)) r ≡ Some (names.NamedRule (map name_of result.0.now) (rule_of result.1.now)) }
     {
         match &self.spec.items[self.bodies.rules[r]] {
             Item::Rule {
@@ -121,7 +123,7 @@ impl Checked {
     /// The parameters and the body of the derived function with this number.
     pub fn derived(&self, d: usize) -> (&[Name], &Term)
         requires { d < length (derived_of (spec_of self.now.spec)) }
-        ensures { meaning_at (derived_of (spec_of self.now.spec)) d ≡ Some (names.Derived (map name_of result.0.now) (term_of result.1.now)) }
+        ensures { declared_with_number (derived_of (spec_of self.now.spec)) d ≡ Some (names.Derived (map name_of result.0.now) (term_of result.1.now)) }
     {
         match &self.spec.items[self.bodies.derived[d]] {
             Item::Derived {
@@ -172,15 +174,15 @@ fn main_of(spec: &Spec, numbering: &Numbering) -> usize
     requires numbered { IsNumberingOf (first_declarations (spec_of spec.now)) numbering.now }
     ensures { IsMain (spec_of spec.now) result }
 {
-    let start = start_of(spec);
+    let start = main_name_of(spec);
     match numbering.named(&start.text).unwrap() {
-        Named::Rule(main) => main,
+        NameNumber::Rule(main) => main,
         _ => unreachable!(),
     }
 }
 
 /// The name of that rule.
-fn start_of(spec: &Spec) -> &Name
+fn main_name_of(spec: &Spec) -> &Name
     requires { IsWellFormed (spec_of spec.now) }
     ensures { inits (spec_of spec.now) ≡ name_of result.now ∷ [] }
 {

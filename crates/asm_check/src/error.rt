@@ -17,18 +17,19 @@ pub enum FaultKind {
     CyclicRule,
     /// Uses of a derived function lead back to it.
     CyclicDerived,
-    /// Another starting rule, none, or one that there isn't.
+    /// Another main rule, none, or one that there isn't.
     Init,
     /// A limit is passed.
     TooMany,
     /// An entry of a table isn't in the domain, or is there twice.
     TableEntry,
-    /// `result` outside of a rule, or a rule with `result` that is called without a target, or is the starting rule.
+    /// `result` outside of a rule, or a rule with `result` that is called without
+    /// a target, or is the main rule.
     ResultUse,
 }
 
-/// The fault that stands first in a specification, and where: the offset of a name, or of an entry's `(`, or the length
-/// of the text where it has no `init`.
+/// The fault that is first in a specification, and where: the offset of a name, or of an entry's
+/// `(`, or the length of the text if it has no `init`.
 #[derive(Clone, Copy, Debug, PartialEq, Eq)]
 pub struct CheckError {
     pub kind: FaultKind,

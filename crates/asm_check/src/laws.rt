@@ -12,12 +12,14 @@ pub fn least_exists()
     ensures { LeastExists }
 {}
 
-/// A well-formed specification has ranks, which fall with each call of a rule and each use of a derived function.
+/// A well-formed specification has ranks, which fall with each call of a rule and each use of a
+/// derived function.
 pub fn ranks_exist()
     ensures { RanksExist }
 {}
 
-/// In a well-formed specification no name is declared twice, and no rule or derived function has a parameter twice.
+/// In a well-formed specification no name is declared twice, and no rule or derived
+/// function has a parameter twice.
 pub fn names_are_apart()
     ensures { NamesAreApart }
 {}
@@ -27,7 +29,8 @@ pub fn items_are_declared()
     ensures { ItemsAreDeclared }
 {}
 
-/// In a well-formed specification each name stands for what its use asks for, with as many arguments as that has.
+/// In a well-formed specification each name stands for what its use asks for, with as many
+/// arguments as that has.
 pub fn bodies_are_fit()
     ensures { BodiesAreFit }
 {}
@@ -42,7 +45,7 @@ pub fn scopes_by_members()
     ensures { ScopesByMembers }
 {}
 
-/// A name has as many arguments as the code's tree has terms behind it.
+/// A name has as many arguments as the code's tree has terms after it.
 pub fn terms_are_counted()
     ensures { TermsAreCounted }
 {}
@@ -67,7 +70,8 @@ pub fn shape_is_sound()
     ensures { ShapeIsSound }
 {}
 
-/// Universes, functions and elements have the numbers in the signature that they have among the declarations.
+/// Universes, functions and elements have the numbers in the signature that
+/// they have among the declarations.
 pub fn signature_numbers()
     ensures { SignatureNumbers }
 {}
@@ -82,7 +86,7 @@ pub fn named_in_range()
     ensures { NamedInRange }
 {}
 
-/// Two names are the same where the test of their texts passes, and nowhere else.
+/// Two names are the same if and only if the test of their texts passes.
 pub fn texts_are_told()
     ensures { TextsAreTold }
 {}

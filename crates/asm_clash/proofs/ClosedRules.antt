@@ -1,10 +1,14 @@
--- What stands of the rules that aren't opened, by the program's rule codes; and how pieces are opened.
---     assign_here, seq_here, other_here     what stands of an assignment, of rules in order, and of what is none of the closed ones but `skip`
---     long_some, long_none                  a cut that is no less than a piece's number of positions
+-- Free. What stands of the rules that aren't opened, by the program's rule codes; and how pieces
+-- are opened.
+--     assign_here, seq_here, other_here     what stands of an assignment, of rules in order, and of
+--                                           what is none of the closed ones but `skip`
+--     long_some, long_none                  a cut that is no less than a piece's number of
+--                                           positions
 --     closed_here                           a piece that isn't opened has a rule that is closed
 --     pieces_here                           what stands of the pieces that a piece is opened to
 --     piece_here                            each of them is all of a rule with fewer nodes
---     sound_part, size_of_part              a part of sound rules is sound, and has no more nodes than all of them
+--     sound_part, size_of_part              a part of sound rules is sound, and has no more nodes
+--                                           than all of them
 use Rattle.std.proofs.Common.{◌≡◌, ℕ, zero, suc, ◌≤◌, ◌<◌, true, List, [], ◌∷◌, length, map, get_or, All, Option, Some, None, sym, ap, subst, ◌∙◌, arith, Box, Vec, Global}
 use Rattle.std.proofs.lemmas.Bool.{false≢true}
 use Rattle.std.proofs.lemmas.List.Elements.{All-get_or}
@@ -15,35 +19,35 @@ use Rattle.asm_meaning.specs.Value.{Reading}
 use Rattle.asm_meaning.specs.Yields.{Path}
 use Rattle.asm_meaning.specs.declared.part.Part.{Part}
 use Rattle.asm_meaning.specs.declared.part.Part.TheVariants as part
-use Rattle.asm_code.specs.CodeViews.{code_of}
-use Rattle.asm_code.specs.Readings.{reading, universe_at}
-use Rattle.asm_code.specs.RuleMeaning.{IsSoundRule, AreSoundRules, Locations, place_location, rule_size, rule_sizes}
-use Rattle.asm_code.specs.RuleTree as tree
-use Rattle.asm_code.specs.RuleViews.{place_of, rule_of, rule_step, rules_of}
+use Rattle.asm_code.specs.code.CodeViews.{code_of}
+use Rattle.asm_code.specs.code.Readings.{reading, universe_at}
+use Rattle.asm_code.specs.code.RuleMeaning.{IsSoundRule, AreSoundRules, Locations, target_location, rule_size, rule_sizes}
+use Rattle.asm_code.specs.code.RuleTree as tree
+use Rattle.asm_code.specs.code.RuleViews.{target_code_of, rule_of, rule_step, rules_of}
 use Rattle.asm_code.specs.declared.code.Code.{Code}
-use Rattle.asm_code.specs.declared.rule_code.Place.{Place}
+use Rattle.asm_code.specs.declared.rule_code.TargetCode.{TargetCode}
 use Rattle.asm_code.specs.declared.rule_code.RuleCode.{RuleCode, roll-out-RuleCode}
 use Rattle.asm_code.specs.declared.rule_code.RuleCode.TheOpen.{RuleCode-F}
 use Rattle.asm_code.specs.declared.rule_code.RuleCode.TheOpen as opened_code
 use Rattle.asm_code.specs.declared.rule_code.RuleCode.TheViews.{roll-RuleCode, out-RuleCode}
 use Rattle.asm_code.specs.declared.rule_code.RuleCode.TheVariants as code
 use Rattle.asm_code.specs.declared.rule_code.RuleCode.TheFolds.{fold-roll-RuleCode}
-use Rattle.asm_eval.specs.Frames.{readings_of}
-use Rattle.asm_eval.specs.OpenedPieces.{Gives, Opens, OpeningLaws, is_closed, is_closed_part, pieces_in, works_in}
-use Rattle.asm_eval.specs.Opening.{part_opened, work_of}
-use Rattle.asm_eval.specs.Pieces.{IsPiece, piece_yields, positions}
-use Rattle.asm_eval.specs.Running.{chosen_at, places_of, shape_at, state_at}
+use Rattle.asm_eval.specs.code.Frames.{readings_of}
+use Rattle.asm_eval.specs.code.OpenedPieces.{Gives, Opens, OpeningLaws, is_closed, is_closed_part, pieces_in, works_in}
+use Rattle.asm_eval.specs.code.Opening.{part_opened, work_of}
+use Rattle.asm_eval.specs.code.Pieces.{IsPiece, piece_yields, positions}
+use Rattle.asm_eval.specs.code.Evaluation.{evaluation_choices, frame_locations, evaluation_shape, evaluation_state}
 use Rattle.asm_eval.specs.declared.open.Opened.{Opened}
 use Rattle.asm_eval.specs.declared.open.Opened.TheVariants as opening
 use Rattle.asm_eval.specs.declared.piece.Piece.{Piece}
-use Rattle.asm_eval.specs.declared.running.Running.{Running}
+use Rattle.asm_eval.specs.declared.evaluation.Evaluation.{Evaluation}
 use Rattle.asm_clash.specs.Standing.{Assigned, assigned_at, order_stands, parts_of, standing}
-use Rattle.asm_clash.specs.Walks.{IsLong, stands_at}
+use Rattle.asm_clash.specs.code.StandingRules.{IsLong, stands_at}
 use Rattle.asm_clash.proofs.OpenedRules.{AreBelow, AreOpened, rule_opened, works_stand}
 
 -- ---- the tree of a code
 
-assign_form : (P : RuleCode) (to : Place) (t : Code) → P ≡ code.Assign to t → rule_of P ≡ tree.Assign (place_of to) (code_of t)
+assign_form : (P : RuleCode) (to : TargetCode) (t : Code) → P ≡ code.Assign to t → rule_of P ≡ tree.Assign (target_code_of to) (code_of t)
 assign_form P to t is = ap rule_of is ∙ ap rule_of (sym (code.rolls-Assign to t)) ∙ fold-roll-RuleCode tree.RuleCode rule_step (opened_code.Assign to t)
 
 seq_form : (P : RuleCode) (Ps : Vec RuleCode Global) → P ≡ code.Seq Ps → rule_of P ≡ tree.Seq (rules_of (map rule_of Ps.items))
@@ -56,7 +60,7 @@ module _ (R : RuleCode) (closed : is_closed (rule_of R) ≡ true) where
   layer_closed : (L : RuleCode-F RuleCode) (S : tree.RuleCode) → rule_of (roll-RuleCode L) ≡ S → R ≡ roll-RuleCode L → is_closed S ≡ true
   layer_closed L S form e = sym (ap is_closed form) ∙ sym (ap (λ (T : RuleCode). is_closed (rule_of T)) e) ∙ closed
 
-  module _ (no_assign : (to : Place) (t : Code) → R ≡ code.Assign to t → ⊥) (no_seq : (Ps : Vec RuleCode Global) → R ≡ code.Seq Ps → ⊥) (no_iterate : (P : Box RuleCode Global) → R ≡ code.Iterate P → ⊥) where
+  module _ (no_assign : (to : TargetCode) (t : Code) → R ≡ code.Assign to t → ⊥) (no_seq : (Ps : Vec RuleCode Global) → R ≡ code.Seq Ps → ⊥) (no_iterate : (P : Box RuleCode Global) → R ≡ code.Iterate P → ⊥) where
     at_layer : (L : RuleCode-F RuleCode) → R ≡ roll-RuleCode L → rule_of R ≡ tree.Skip
     at_layer opened_code.Skip e = ap rule_of e ∙ fold-roll-RuleCode tree.RuleCode rule_step opened_code.Skip
     at_layer (opened_code.Assign to' t) e = absurd (no_assign to' t (e ∙ code.rolls-Assign to' t))
@@ -78,10 +82,10 @@ module _ (shape : Shape) (turns : ℕ) (chosen : Path → ℕ) (l : Location) (r
   abbrev stands : tree.RuleCode → List Assigned
   stands R = standing shape turns chosen l R rs ls A p
 
-  pub assign_here : (R : RuleCode) (to : Place) (t : Code) → R ≡ code.Assign to t
-      → assigned_at l (place_location shape (place_of to) rs ls A) (reading shape (code_of t) rs A) q ≡ stands (rule_of R)
+  pub assign_here : (R : RuleCode) (to : TargetCode) (t : Code) → R ≡ code.Assign to t
+      → assigned_at l (target_location shape (target_code_of to) rs ls A) (reading shape (code_of t) rs A) q ≡ stands (rule_of R)
   unfolding standing
-  assign_here R to t is = ap (assigned_at l (place_location shape (place_of to) rs ls A) (reading shape (code_of t) rs A)) same ∙ sym (ap stands (assign_form R to t is))
+  assign_here R to t is = ap (assigned_at l (target_location shape (target_code_of to) rs ls A) (reading shape (code_of t) rs A)) same ∙ sym (ap stands (assign_form R to t is))
 
   pub seq_here : (R : RuleCode) (Ps : Vec RuleCode Global) → R ≡ code.Seq Ps → (Qs : List RuleCode) → Qs ≡ Ps.items
       → order_stands (parts_of shape turns chosen l (rules_of (map rule_of Qs)) rs ls) 0 A q ≡ stands (rule_of R)
@@ -94,7 +98,7 @@ module _ (shape : Shape) (turns : ℕ) (chosen : Path → ℕ) (l : Location) (r
   iterate_here R Q is S all = (λ i. standing shape turns chosen l (tree.Iterate (rule_of (all i))) rs ls A (same i)) ∙ sym (ap stands (iterate_form R Q is))
 
   pub other_here : (R : RuleCode) → is_closed (rule_of R) ≡ true
-      → ((to : Place) (t : Code) → R ≡ code.Assign to t → ⊥) → ((Ps : Vec RuleCode Global) → R ≡ code.Seq Ps → ⊥) → ((P : Box RuleCode Global) → R ≡ code.Iterate P → ⊥)
+      → ((to : TargetCode) (t : Code) → R ≡ code.Assign to t → ⊥) → ((Ps : Vec RuleCode Global) → R ≡ code.Seq Ps → ⊥) → ((P : Box RuleCode Global) → R ≡ code.Iterate P → ⊥)
       → [] ≡ stands (rule_of R)
   unfolding standing
   other_here R closed no_assign no_seq no_iterate = sym (ap stands (is_skip R closed no_assign no_seq no_iterate))
@@ -118,28 +122,28 @@ module _ (shape : Shape) (R : tree.RuleCode) (its : Part) (whole : its ≡ part.
 
 -- ---- pieces
 
-module _ {P : Type 0} {picks : Ghosts P} (r : Running P picks) (piece : Piece) (whole : piece.part ≡ part.Whole) (cut : ℕ) (o : Opened) (opens : Opens r cut piece o) where
-  pub closed_here : OpeningLaws r → IsPiece (shape_at r) piece → o ≡ opening.Closed → 0 < cut → is_closed (rule_of piece.rule.now) ≡ true
+module _ {P : Type 0} {picks : Ghosts P} (r : Evaluation P picks) (piece : Piece) (whole : piece.part ≡ part.Whole) (cut : ℕ) (o : Opened) (opens : Opens r cut piece o) where
+  pub closed_here : OpeningLaws r → IsPiece (evaluation_shape r) piece → o ≡ opening.Closed → 0 < cut → is_closed (rule_of piece.rule.now) ≡ true
   closed_here laws is none some =
       let closed : is_closed_part (rule_of piece.rule.now) piece.part ≡ true =
       subst (Gives r cut (is_closed_part (rule_of piece.rule.now) piece.part) (piece_yields r piece)) none (laws.loses_nothing cut piece o some is opens) in
       subst (λ its. is_closed_part (rule_of piece.rule.now) its ≡ true) whole closed
 
-  module _ (l : Location) (pieces : Vec Piece Global) (n : ℕ) (is : o ≡ opening.Pieces pieces n) (long : IsLong (shape_at r) (rule_of piece.rule.now) cut) where
+  module _ (l : Location) (pieces : Vec Piece Global) (n : ℕ) (is : o ≡ opening.Pieces pieces n) (long : IsLong (evaluation_shape r) (rule_of piece.rule.now) cut) where
     abbrev all : List Assigned
     all = stands_at r l piece.frame piece.path (rule_of piece.rule.now)
 
     abbrev size : ℕ
     size = rule_size (rule_of piece.rule.now)
 
-    pub pieces_here : (all ≡ works_stand (shape_at r) r.turns (chosen_at r) l (state_at r) (map (work_of (shape_at r)) pieces.items)) × AreBelow size (map (work_of (shape_at r)) pieces.items)
+    pub pieces_here : (all ≡ works_stand (evaluation_shape r) r.turns (evaluation_choices r) l (evaluation_state r) (map (work_of (evaluation_shape r)) pieces.items)) × AreBelow size (map (work_of (evaluation_shape r)) pieces.items)
     pieces_here =
-        let found = rule_opened (shape_at r) r.turns (chosen_at r) l (state_at r) cut (rule_of piece.rule.now) (readings_of (shape_at r) piece.frame) (places_of (shape_at r) piece.frame) piece.path long in
-        let at_part = subst (λ its. AreOpened (shape_at r) r.turns (chosen_at r) l (state_at r) size all (part_opened (shape_at r) (state_at r) (chosen_at r) cut (rule_of piece.rule.now) (readings_of (shape_at r) piece.frame) (places_of (shape_at r) piece.frame) piece.path its)) (sym whole) found in
-        let at_opened = subst (AreOpened (shape_at r) r.turns (chosen_at r) l (state_at r) size all) (sym opens.works) at_part in
-        subst (λ (x : Opened). AreOpened (shape_at r) r.turns (chosen_at r) l (state_at r) size all (works_in (shape_at r) x)) is at_opened
+        let found = rule_opened (evaluation_shape r) r.turns (evaluation_choices r) l (evaluation_state r) cut (rule_of piece.rule.now) (readings_of (evaluation_shape r) piece.frame) (frame_locations (evaluation_shape r) piece.frame) piece.path long in
+        let at_part = subst (λ its. AreOpened (evaluation_shape r) r.turns (evaluation_choices r) l (evaluation_state r) size all (part_opened (evaluation_shape r) (evaluation_state r) (evaluation_choices r) cut (rule_of piece.rule.now) (readings_of (evaluation_shape r) piece.frame) (frame_locations (evaluation_shape r) piece.frame) piece.path its)) (sym whole) found in
+        let at_opened = subst (AreOpened (evaluation_shape r) r.turns (evaluation_choices r) l (evaluation_state r) size all) (sym opens.works) at_part in
+        subst (λ (x : Opened). AreOpened (evaluation_shape r) r.turns (evaluation_choices r) l (evaluation_state r) size all (works_in (evaluation_shape r) x)) is at_opened
 
-    below_at : (those : List Piece) (i : ℕ) (x : Piece) → i < length those → x ≡ get_or those i x → AreBelow size (map (work_of (shape_at r)) those)
+    below_at : (those : List Piece) (i : ℕ) (x : Piece) → i < length those → x ≡ get_or those i x → AreBelow size (map (work_of (evaluation_shape r)) those)
         → (rule_size (rule_of x.rule.now) < size) × (x.part ≡ part.Whole)
     below_at [] i x low at below = absurd (omega (arith, low))
     below_at (y ∷ those) zero x low at below =
@@ -147,11 +151,11 @@ module _ {P : Type 0} {picks : Ghosts P} (r : Running P picks) (piece : Piece) (
     below_at (y ∷ those) (suc i) x low at below = below_at those i x (omega (arith, low)) at below.2
 
     pub piece_here : (i : ℕ) (x : Piece) → i < length pieces.items → x ≡ get_or pieces.items i x
-        → (rule_size (rule_of x.rule.now) < size) × IsPiece (shape_at r) x × (x.part ≡ part.Whole)
+        → (rule_size (rule_of x.rule.now) < size) × IsPiece (evaluation_shape r) x × (x.part ≡ part.Whole)
     piece_here i x low at =
         let below = below_at pieces.items i x low at pieces_here.1 in
-        let those : All (IsPiece (shape_at r)) pieces.items = subst (λ (x : Opened). All (IsPiece (shape_at r)) (pieces_in x)) is opens.are_pieces in
-        (below.0, subst (IsPiece (shape_at r)) (sym at) (All-get_or (IsPiece (shape_at r)) pieces.items i x low those), below.1)
+        let those : All (IsPiece (evaluation_shape r)) pieces.items = subst (λ (x : Opened). All (IsPiece (evaluation_shape r)) (pieces_in x)) is opens.are_pieces in
+        (below.0, subst (IsPiece (evaluation_shape r)) (sym at) (All-get_or (IsPiece (evaluation_shape r)) pieces.items i x low those), below.1)
 
 -- ---- parts
 

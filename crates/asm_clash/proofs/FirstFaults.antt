@@ -1,4 +1,4 @@
--- The first fault of a set is at a location of the signature, and the set isn't consistent.
+-- Free. The first fault of a set is at a location of the signature, and the set isn't consistent.
 --     clash_within       the number of a clash's location is below their count
 --     outside_held       a function that is updated outside its domain is controlled
 --     first_is_fault     the set isn't consistent
@@ -9,12 +9,12 @@ use Rattle.asm_state.specs.declared.function.FunctionKind.TheVariants.{Controlle
 use Rattle.asm_state.specs.Location.{Proper, Stray}
 use Rattle.asm_state.specs.Signature.{Shape, HasKind, count_of, location_at, locations}
 use Rattle.asm_state.specs.Updates.{UpdateSet, Fault, Clash, Outside, IsConsistent, IsFirstFault, Range}
-use Rattle.asm_state.proofs.Faults.{fault_laws}
-use Rattle.asm_state.proofs.NumberedLocations.{number_laws}
-use Rattle.asm_updates.specs.Entries.{Entries}
-use Rattle.asm_updates.specs.Stands.{Stands}
+use Rattle.asm_state.proofs.UpdateLemmas.Faults.{fault_laws}
+use Rattle.asm_state.proofs.LocationLemmas.NumberedLocations.{number_laws}
+use Rattle.asm_updates.specs.code.SummaryRanges.{SummaryRanges}
+use Rattle.asm_updates.specs.code.Stands.{Stands}
 
-module _ (shape : Shape) (set : Entries) (U : UpdateSet) where
+module _ (shape : Shape) (set : SummaryRanges) (U : UpdateSet) where
   pub clash_within : (n : ℕ) (r : Range) → IsFirstFault U (Clash (location_at shape n) r) → n < count_of shape
   clash_within n r first = elim (cases_lt n (count_of shape)) [
     | inl low ↦ low

@@ -1,5 +1,5 @@
--- An assignment's update is at a location just where its place has the location's number.
---     none_here, elsewhere, here     where it has none, another one, and that one
+-- Free. An assignment's update is at a location just when its target has the location's number.
+--     none_here, elsewhere, here     if it has none, another one, and that one
 use Rattle.std.proofs.Common.{◌≡◌, ℕ, ◌<◌, true, false, cond, [], ◌∷◌, Option, Some, None, ap, sym, subst, ◌∙◌}
 use Rattle.std.specs.Prelude.{IfSome}
 use Rattle.std.specs.Cmp.{Equal-is, tied_itself}
@@ -7,9 +7,9 @@ use Rattle.std.proofs.lemmas.Bool.{false_from_ne_true}
 use Rattle.asm_state.specs.declared.value.Value.{Value}
 use Rattle.asm_state.specs.Location.{Location, location_cmp, location_cmp-total, location_cmp-antisymmetric}
 use Rattle.asm_state.specs.Signature.{Shape, IsSound, count_of, is_location, location_at, number_at}
-use Rattle.asm_state.proofs.NumberedLocations.{number_laws}
+use Rattle.asm_state.proofs.LocationLemmas.NumberedLocations.{number_laws}
 use Rattle.asm_meaning.specs.Yields.{Path}
-use Rattle.asm_eval.specs.Running.{location_numbered}
+use Rattle.asm_eval.specs.code.Evaluation.{location_numbered}
 use Rattle.asm_clash.specs.Standing.{Assigned, assigned_at}
 
 same_location : (l m : Location) → is_location l m ≡ true → l ≡ m

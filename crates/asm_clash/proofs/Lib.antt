@@ -3,8 +3,8 @@ pub mod StandingRules
 pub mod OpenedRules
 pub mod ClosedRules
 pub mod Sequences
-pub mod Walked
-pub mod Upon
+pub mod StandingSequences
+pub mod NextParts
 pub mod Leaves
 pub mod FirstFaults
 pub mod Runs

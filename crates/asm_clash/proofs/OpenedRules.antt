@@ -1,4 +1,5 @@
--- What stands of a rule is what stands of the works that it is opened to, one after the other.
+-- Free. What stands of a rule is what stands of the works that it is opened to, one after the
+-- other.
 --     work_stands, works_stand    what stands of a work, and of works
 --     AreBelow size works         each is all of a rule with fewer nodes
 --     AreOpened                   works are those that something is opened to, in which this stands
@@ -9,18 +10,18 @@ use Rattle.std.proofs.lemmas.List.{append-nil}
 use Rattle.asm_state.specs.declared.value.Value.{Value}
 use Rattle.asm_state.specs.Location.{Location, State}
 use Rattle.asm_state.specs.Signature.{Shape}
-use Rattle.asm_meaning.specs.Intervals.{between}
+use Rattle.asm_meaning.specs.code.Intervals.{between}
 use Rattle.asm_meaning.specs.Taken.{taken}
 use Rattle.asm_meaning.specs.Value.{Reading, is_true}
 use Rattle.asm_meaning.specs.Yields.{Path, at}
 use Rattle.asm_meaning.specs.declared.part.Part.TheVariants as part
 use Rattle.asm_meaning.proofs.Intervals.{interval_laws-all as between_all}
-use Rattle.asm_code.specs.CodeTree.{Code}
-use Rattle.asm_code.specs.Readings.{always, reading, universe_at}
-use Rattle.asm_code.specs.RuleMeaning.{Locations, passes, passing, rule_size, rule_sizes}
-use Rattle.asm_code.specs.RuleTree.{RuleCode, Skip, Assign, Par, Seq, If, Let, Forall, Choose, Iterate, Call, RuleCodes, no_rules, rule_then}
-use Rattle.asm_eval.specs.Opening.{Work, all_of, body_works, choice_works, counted_works, one_work, part_of, part_works, rule_works, span_works, spans}
-use Rattle.asm_clash.specs.Walks.{IsLong}
+use Rattle.asm_code.specs.code.CodeTree.{Code}
+use Rattle.asm_code.specs.code.Readings.{always, reading, universe_at}
+use Rattle.asm_code.specs.code.RuleMeaning.{Locations, passes, passing, rule_size, rule_sizes}
+use Rattle.asm_code.specs.code.RuleTree.{RuleCode, Skip, Assign, Par, Seq, If, Let, Forall, Choose, Iterate, Call, RuleCodes, no_rules, rule_then}
+use Rattle.asm_eval.specs.code.Opening.{Work, all_of, body_works, choice_works, counted_works, one_work, part_of, part_works, rule_works, span_works, spans}
+use Rattle.asm_clash.specs.code.StandingRules.{IsLong}
 use Rattle.asm_clash.specs.Standing.{Assigned, each_stands, one_stands, parts_of, parts_stand, standing}
 
 abbrev pub AreBelow : (size : ℕ) → List Work → Type 0

@@ -1,11 +1,11 @@
--- The rest of a run, from the state that its first steps lead to.
+-- Free. The rest of a run, from the state that its first steps lead to.
 --     IsRest             a run ends as the rest of it does, from a step on
---     rest_begin, rest_fired, rest_exhausted, rest_faulty, rest_limit     from step to step, and at the end
+--     rest_begin, rest_fired, rest_exhausted, rest_faulty, rest_limit   from step to step, and at the end
 use Rattle.std.proofs.Common.{◌≡◌, ℕ, suc, ◌+◌, ◌-◌, ◌<◌, ◌≤◌, false, cond, [], ap, sym, ◌∙◌, arith, add-one}
 use Rattle.std.proofs.lemmas.Bool.{false_from_ne_true}
 use Rattle.asm_state.specs.Location.{State}
 use Rattle.asm_state.specs.Updates.{UpdateSet, IsConsistent, is_consistent, fire}
-use Rattle.asm_state.proofs.Updates.{test_laws}
+use Rattle.asm_state.proofs.UpdateLemmas.Updates.{test_laws}
 use Rattle.asm_reader.specs.ScriptLines.{Script}
 use Rattle.asm_meaning.specs.Does.{Outcome, does}
 use Rattle.asm_meaning.specs.Program.{nothing_bound}
@@ -22,7 +22,7 @@ module _ (specification : Specification) (turns : ℕ) (script : Script) (limit 
   abbrev yields : ℕ → State → Outcome
   yields step A = does specification.program turns script step A nothing_bound [] specification.main
 
-  -- after so many steps, in this state
+  -- after `done` steps, in this state
   pub record IsRest (done : ℕ) (A : State) : Type 0 where
     pub end : whole.end ≡ (from_step (limit - done) (done + 1) A).end
     pub last : whole.last ≡ (from_step (limit - done) (done + 1) A).last

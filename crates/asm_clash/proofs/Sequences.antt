@@ -1,8 +1,10 @@
--- What stands of rules in order, and of turns of one, from part to part.
---     IsWalked             the sets so far, the assignments that stand in what they make, and what is left
---     walked_begin, walked_on, walked_off, walked_none, walked_end       from part to part
---     part_next, part_last, turn_next, turn_last, was_exhausted          what a part makes of what is left
---     order_left, order_next, order_end, turns_left, turns_next, turns_end     what is left from a number on
+-- Free. What stands of rules in order, and of turns of one, from part to part.
+--     IsWalked             the sets so far, the assignments that stand in what they make, and what
+--                          is left
+--     walked_begin, walked_on, walked_off, walked_none           from part to part
+--     part_next, part_last, turn_next, turn_last, was_exhausted  what a part makes of what is left
+--     order_left, order_next, order_end, turns_left, turns_next, turns_end
+--                                                                what is left from a number on
 use Rattle.std.proofs.Common.{◌≡◌, ◌≢◌, ℕ, suc, ◌+◌, ◌-◌, ◌<◌, ◌≤◌, Bool, true, false, cond, not, ◌||◌, List, [], ◌∷◌, length, map, drop, get_or, refl, sym, ap, subst, ◌∙◌, arith, add-one}
 use Rattle.std.proofs.lemmas.Bool.{false_from_ne_true}
 use Rattle.std.proofs.lemmas.List.{at_drop_more}
@@ -10,22 +12,22 @@ use Rattle.std.proofs.Math.ListN.{drop_of_length-le}
 use Rattle.asm_state.specs.Location.{Location, Stray, State}
 use Rattle.asm_state.specs.Signature.{Shape}
 use Rattle.asm_state.specs.Updates.{UpdateSet, IsConsistent, is_consistent, is_none, none, merge, fire}
-use Rattle.asm_state.proofs.Algebra.{merge_laws}
-use Rattle.asm_state.proofs.Members.{member_laws}
-use Rattle.asm_state.proofs.Summaries.{fire_laws}
-use Rattle.asm_state.proofs.Updates.{test_laws}
-use Rattle.asm_updates.specs.Entries.{Entries}
-use Rattle.asm_updates.specs.Stands.{Stands}
-use Rattle.asm_meaning.specs.PartSets.{IsPartSet, ends_parts, ends_turns}
+use Rattle.asm_state.proofs.UpdateLemmas.UnionsAndMerges.{merge_laws}
+use Rattle.asm_state.proofs.UpdateLemmas.Members.{member_laws}
+use Rattle.asm_state.proofs.UpdateLemmas.Summaries.{fire_laws}
+use Rattle.asm_state.proofs.UpdateLemmas.Updates.{test_laws}
+use Rattle.asm_updates.specs.code.SummaryRanges.{SummaryRanges}
+use Rattle.asm_updates.specs.code.Stands.{Stands}
+use Rattle.asm_meaning.specs.code.PartSets.{IsPartSet, ends_parts, ends_turns}
 use Rattle.asm_meaning.specs.Value.{Reading}
 use Rattle.asm_meaning.specs.Yields.{Path, Result, Gives, Exhausted, at}
 use Rattle.asm_meaning.specs.declared.part_set.PartSet.{PartSet}
 use Rattle.asm_meaning.specs.declared.part_set.PartSet.TheVariants as part_set
-use Rattle.asm_code.specs.RuleMeaning.{Locations, meaning}
-use Rattle.asm_code.specs.RuleTree as tree
-use Rattle.asm_code.specs.RuleViews.{rule_of, rules_of}
+use Rattle.asm_code.specs.code.RuleMeaning.{Locations, meaning}
+use Rattle.asm_code.specs.code.RuleTree as tree
+use Rattle.asm_code.specs.code.RuleViews.{rule_of, rules_of}
 use Rattle.asm_code.specs.declared.rule_code.RuleCode.{RuleCode}
-use Rattle.asm_clash.specs.Standing.{Assigned, Part, after_part, after_turn, later, order_stands, parts_of, standing, turns_stand}
+use Rattle.asm_clash.specs.Standing.{Assigned, StandingPart, after_part, after_turn, later, order_stands, parts_of, standing, turns_stand}
 
 -- ---- later ones
 
@@ -43,13 +45,13 @@ none_consistent : IsConsistent none
 none_consistent = record { one_value = λ l v w h k. absurd (member_laws.of_none l v h); no_stray = λ f v. member_laws.of_none (Stray f) v }
 
 module _ (shape : Shape) (A : State) (all : List Assigned) where
-  pub record IsWalked (left : State → List Assigned) (found : List Assigned) (so_far : Entries) : Type 0 where
+  pub record IsWalked (left : State → List Assigned) (found : List Assigned) (so_far : SummaryRanges) : Type 0 where
     pub set : UpdateSet
     pub stands : Stands shape so_far set
     pub consistent : IsConsistent set
     pub same : all ≡ later found (left (fire A set))
 
-  pub walked_begin : (left : State → List Assigned) (found : List Assigned) (so_far : Entries) → all ≡ left A → found ≡ [] → Stands shape so_far none → IsWalked left found so_far
+  pub walked_begin : (left : State → List Assigned) (found : List Assigned) (so_far : SummaryRanges) → all ≡ left A → found ≡ [] → Stands shape so_far none → IsWalked left found so_far
   walked_begin left found so_far whole nothing stands = record {
     set = none;
     stands = stands;
@@ -57,8 +59,8 @@ module _ (shape : Shape) (A : State) (all : List Assigned) where
     same = whole ∙ ap left (sym (fire_laws.of_none A)) ∙ sym (later_first (left (fire A none))) ∙ ap (λ xs. later xs (left (fire A none))) (sym nothing);
   }
 
-  module _ (left : State → List Assigned) (found : List Assigned) (so_far : Entries) (under : IsWalked left found so_far) where
-    pub walked_on : (rest : State → List Assigned) (own now : List Assigned) (joined : Entries) (V : UpdateSet) → Stands shape joined (merge under.set V) → IsConsistent V
+  module _ (left : State → List Assigned) (found : List Assigned) (so_far : SummaryRanges) (under : IsWalked left found so_far) where
+    pub walked_on : (rest : State → List Assigned) (own now : List Assigned) (joined : SummaryRanges) (V : UpdateSet) → Stands shape joined (merge under.set V) → IsConsistent V
         → left (fire A under.set) ≡ later own (rest (fire (fire A under.set) V)) → now ≡ later found own → IsWalked rest now joined
     walked_on rest own now joined V stands consistent goes is = record {
       set = merge under.set V;
@@ -165,7 +167,7 @@ module _ (shape : Shape) (turns : ℕ) (chosen : Path → ℕ) (l : Location) (r
   unfolding parts_of
   order_end Ps i B past = ap (λ some. order_from i some B) (drop_of_length-le Ps past)
 
-  abbrev turn_of : tree.RuleCode → Part
+  abbrev turn_of : tree.RuleCode → StandingPart
   turn_of R = record { yields = λ A p. (meaning shape turns chosen R rs ls A p).result; stands = λ A p. standing shape turns chosen l R rs ls A p }
 
   abbrev pub turns_left : tree.RuleCode → ℕ → State → List Assigned

@@ -1,4 +1,5 @@
--- The assignments that stand at a location give the values that the set has there, by the cases of rules.
+-- Free. The assignments that stand at a location give the values that the set has there, by the
+-- cases of rules.
 --     rule_shown         of what a rule yields
 --     standing_laws      of the set that it yields
 use Rattle.std.proofs.Common.{◌++◌, ℕ, suc, Bool, true, false, cond, List, ◌∷◌, None, subst}
@@ -9,9 +10,9 @@ use Rattle.asm_meaning.specs.Does.{Outcome, parts, in_order}
 use Rattle.asm_meaning.specs.Program.{nothing_bound}
 use Rattle.asm_meaning.specs.Value.{Reading, is_true}
 use Rattle.asm_meaning.specs.Yields.{Path, at}
-use Rattle.asm_code.specs.Readings.{always, reading, universe_at}
-use Rattle.asm_code.specs.RuleMeaning.{Locations, meaning, meanings, passes, passing, place_location, located_at, named_readings, answer_readings, answer_locations}
-use Rattle.asm_code.specs.RuleTree.{RuleCode, Skip, Assign, Par, Seq, If, Let, Forall, Choose, Iterate, Call, RuleCodes, no_rules, rule_then}
+use Rattle.asm_code.specs.code.Readings.{always, reading, universe_at}
+use Rattle.asm_code.specs.code.RuleMeaning.{Locations, meaning, meanings, passes, passing, target_location, optional_target_location, named_readings, result_readings, result_locations}
+use Rattle.asm_code.specs.code.RuleTree.{RuleCode, Skip, Assign, Par, Seq, If, Let, Forall, Choose, Iterate, Call, RuleCodes, no_rules, rule_then}
 use Rattle.asm_clash.specs.Standing.{Assigned, standing, parts_of, parts_stand, order_stands}
 use Rattle.asm_clash.specs.StandingLaws.{StandingLaws}
 use Rattle.asm_clash.proofs.StandingSets.{Shows, none_shown, assigned_shown, beside_shown, elements_shown, one_shown, part_shown, turns_shown}
@@ -32,7 +33,7 @@ module _ (shape : Shape) (turns : ℕ) (chosen : Path → ℕ) (l : Location) wh
 
     pub rule_shown : (P : RuleCode) (rs : List Reading) (ls : Locations) (A : State) (p : Path) → Shows l (means P rs ls A p).result (stands P rs ls A p)
     rule_shown Skip rs ls A p = none_shown l
-    rule_shown (Assign to t) rs ls A p = assigned_shown l (place_location shape to rs ls A) (reading shape t rs A) p
+    rule_shown (Assign to t) rs ls A p = assigned_shown l (target_location shape to rs ls A) (reading shape t rs A) p
     rule_shown (Par Ps) rs ls A p = parts_shown Ps rs ls 0 A p
     rule_shown (Seq Ps) rs ls A p = order_shown Ps rs ls 0 A p
     rule_shown (If c P Q) rs ls A p =
@@ -48,7 +49,7 @@ module _ (shape : Shape) (turns : ℕ) (chosen : Path → ℕ) (l : Location) wh
         (λ v. rule_shown P (always v ∷ rs) (None ∷ ls) A (at p 0)) (rule_shown Q rs ls A (at p 1))
     rule_shown (Iterate P) rs ls A p = turns_shown l (λ A p. means P rs ls A p) (λ A p. stands P rs ls A p) (λ A p. rule_shown P rs ls A p) turns 0 A p
     rule_shown (Call P to ts) rs ls A p =
-        rule_shown P (answer_readings (located_at shape to rs ls A) ++ named_readings shape ts rs) (answer_locations (located_at shape to rs ls A)) A (at p 0)
+        rule_shown P (result_readings (optional_target_location shape to rs ls A) ++ named_readings shape ts rs) (result_locations (optional_target_location shape to rs ls A)) A (at p 0)
 
     parts_shown : (Ps : RuleCodes) (rs : List Reading) (ls : Locations) (k : ℕ) (A : State) (p : Path)
         → Shows l (parts (meanings shape turns chosen Ps rs ls) k A nothing_bound p).result (parts_stand (parts_of shape turns chosen l Ps rs ls) k A p)

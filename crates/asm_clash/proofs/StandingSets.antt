@@ -1,4 +1,5 @@
--- What a set has at a location, where it is made of others: the values of the assignments that stand there.
+-- Free. What a set has at a location, if it is made of others: the values of the assignments that
+-- stand there.
 --     Shows l r found       a result is exhausted, or its set has those values at l
 --     none_shown, assigned_shown, beside_shown, part_shown, turn_shown, elements_shown, one_shown, turns_shown
 --                           of no update and of one, and of what parts, elements, candidates and turns make
@@ -11,7 +12,7 @@ use Rattle.asm_state.specs.declared.value.Value.{Value}
 use Rattle.asm_state.specs.Location.{Location, State, location_cmp, location_cmp-total, location_cmp-antisymmetric}
 use Rattle.asm_state.specs.Signature.{is_location}
 use Rattle.asm_state.specs.Updates.{UpdateSet, Has, Names, one, together, merge, is_none, is_consistent, fire}
-use Rattle.asm_state.proofs.Members.{member_laws}
+use Rattle.asm_state.proofs.UpdateLemmas.Members.{member_laws}
 use Rattle.asm_meaning.specs.Does.{Outcome, nothing, both, counted, following, part_and, turn_and, each, one_of, turns_of}
 use Rattle.asm_meaning.specs.Program.{nothing_bound}
 use Rattle.asm_meaning.specs.Targets.{update}

@@ -1,17 +1,19 @@
--- A step by the code of the main rule, and the run that goes on with it or ends in it.
---     yields_here, standing_here        what the code yields and what stands of it, with nothing bound and at the empty path
+-- Free. A step by the code of the main rule, and the run that goes on with it or ends in it.
+--     yields_here, standing_here        what the code yields and what stands of it, with nothing
+--                                       bound and at the empty path
 --     nothing_over                      what a view shows with nothing over a state
---     goes_on, ends_exhausted, ends_faulty       the run behind a step with a consistent set, and its ends
+--     goes_on, ends_exhausted, ends_faulty       the run after a step with a consistent set, and
+--                                                its ends
 use Rattle.std.proofs.Common.{◌≡◌, ℕ, ◌+◌, ◌<◌, List, [], Vec, Global, sym, ap, subst, ◌∙◌}
 use Rattle.asm_state.specs.declared.value.Value.{Value}
 use Rattle.asm_state.specs.Location.{Location, Stray, State}
 use Rattle.asm_state.specs.Signature.{Shape, state_of}
 use Rattle.asm_state.specs.Updates.{UpdateSet, IsConsistent, none, fire}
-use Rattle.asm_state.proofs.Members.{member_laws}
-use Rattle.asm_state.proofs.Summaries.{fire_laws}
-use Rattle.asm_updates.specs.Entries.{Entries}
-use Rattle.asm_updates.specs.Faults.{fault_of}
-use Rattle.asm_updates.specs.Stands.{Stands}
+use Rattle.asm_state.proofs.UpdateLemmas.Members.{member_laws}
+use Rattle.asm_state.proofs.UpdateLemmas.Summaries.{fire_laws}
+use Rattle.asm_updates.specs.code.SummaryRanges.{SummaryRanges}
+use Rattle.asm_updates.specs.code.Faults.{fault_of}
+use Rattle.asm_updates.specs.code.Stands.{Stands}
 use Rattle.asm_updates.specs.declared.fault.Fault.{Fault}
 use Rattle.asm_syntax.specs.SourceTree.{Spec}
 use Rattle.asm_reader.specs.ScriptLines.{Script, pick}
@@ -22,36 +24,36 @@ use Rattle.asm_meaning.specs.Does.{Outcome, does}
 use Rattle.asm_meaning.specs.Program.{nothing_bound}
 use Rattle.asm_meaning.specs.Run.{AtExhausted, AtFault, Run, Specification, run}
 use Rattle.asm_meaning.specs.Yields.{Path, Result, Gives, Exhausted}
-use Rattle.asm_code.specs.RuleMeaning.{meaning}
-use Rattle.asm_code.specs.RuleTree.{RuleCode}
-use Rattle.asm_resolve.specs.ResolvingLaws.{ResolvingLaws}
-use Rattle.asm_resolve.specs.RuleScopes.{resolved_rule_in}
-use Rattle.asm_eval.specs.Frames.{readings_of}
-use Rattle.asm_eval.specs.Running.{places_of}
+use Rattle.asm_code.specs.code.RuleMeaning.{meaning}
+use Rattle.asm_code.specs.code.RuleTree.{RuleCode}
+use Rattle.asm_resolve.specs.code.ResolvingLaws.{ResolvingLaws}
+use Rattle.asm_resolve.specs.code.RuleScopes.{resolved_rule_in}
+use Rattle.asm_eval.specs.code.Frames.{readings_of}
+use Rattle.asm_eval.specs.code.Evaluation.{frame_locations}
 use Rattle.asm_eval.specs.declared.frame.Frame.{Frame}
 use Rattle.asm_eval.specs.declared.frame.Frame.TheVariants as bare
-use Rattle.asm_clash.specs.ClashOfRun.{EndsSo, IsMade, coded, coded_at, location_of}
+use Rattle.asm_clash.specs.ClashOfRun.{EndsSo, IsStepEnd, coded, coded_at, location_of}
 use Rattle.asm_clash.specs.Standing.{Assigned, AreValuesAt, standing}
 use Rattle.asm_clash.specs.declared.assignment.Assignment.{Assignment}
 use Rattle.asm_clash.specs.declared.clash.ClashOfRun.TheVariants as clash
-use Rattle.asm_clash.specs.declared.step.Made.TheVariants as made
+use Rattle.asm_clash.specs.declared.step_end.StepEnd.TheVariants as made
 use Rattle.asm_clash.proofs.FirstFaults.{first_is_fault}
 use Rattle.asm_clash.proofs.Runs.{IsRest, rest_exhausted, rest_faulty, rest_fired}
 use Rattle.asm_clash.proofs.StandingRules.{standing_laws}
 
 module _ (shape : Shape) (turns : ℕ) (chosen : Path → ℕ) (R : RuleCode) (A : State) (f : Frame) (nothing : f ≡ bare.Empty) (p : Path) (top : p ≡ []) where
-  pub yields_here : (r : Result) → (meaning shape turns chosen R (readings_of shape f) (places_of shape f) A p).result ≡ r → coded shape turns chosen R A ≡ r
-  yields_here r is = sym (λ i. (meaning shape turns chosen R (readings_of shape (nothing i)) (places_of shape (nothing i)) A (top i)).result) ∙ is
+  pub yields_here : (r : Result) → (meaning shape turns chosen R (readings_of shape f) (frame_locations shape f) A p).result ≡ r → coded shape turns chosen R A ≡ r
+  yields_here r is = sym (λ i. (meaning shape turns chosen R (readings_of shape (nothing i)) (frame_locations shape (nothing i)) A (top i)).result) ∙ is
 
-  pub standing_here : (l : Location) (fault : Fault) (found : List Assigned) → l ≡ location_of shape fault → found ≡ standing shape turns chosen l R (readings_of shape f) (places_of shape f) A p
+  pub standing_here : (l : Location) (fault : Fault) (found : List Assigned) → l ≡ location_of shape fault → found ≡ standing shape turns chosen l R (readings_of shape f) (frame_locations shape f) A p
       → found ≡ coded_at shape turns chosen R A fault
-  standing_here l fault found at is = is ∙ (λ i. standing shape turns chosen (at i) R (readings_of shape (nothing i)) (places_of shape (nothing i)) A (top i))
+  standing_here l fault found at is = is ∙ (λ i. standing shape turns chosen (at i) R (readings_of shape (nothing i)) (frame_locations shape (nothing i)) A (top i))
 
 none_consistent : IsConsistent none
 none_consistent = record { one_value = λ l v w h k. absurd (member_laws.of_none l v h); no_stray = λ f v. member_laws.of_none (Stray f) v }
 
 -- a view with nothing over a state shows the state
-pub nothing_over : (shape : Shape) (set : Entries) (contents : List Value) (A : State) → Stands shape set none
+pub nothing_over : (shape : Shape) (set : SummaryRanges) (contents : List Value) (A : State) → Stands shape set none
     → ((U : UpdateSet) → Stands shape set U → IsConsistent U → A ≡ fire (state_of shape contents) U) → A ≡ state_of shape contents
 nothing_over shape set contents A stands fired = fired none stands none_consistent ∙ fire_laws.of_none (state_of shape contents)
 
@@ -71,10 +73,10 @@ module _ (laws : ResolvingLaws) (s : Spec) (turns : ℕ) (script : Script) (limi
   pub goes_on : (U : UpdateSet) (B : State) → coded (shape_of s) turns (pick script step) R A ≡ Gives U → IsConsistent U → B ≡ fire A U → IsRest main turns script limit (done + 1) B
   goes_on U B gives good leads = rest_fired main turns script limit done A low rest U B (code_yields (Gives U) gives) good leads
 
-  pub ends_exhausted : (q : Path) → IsMade (shape_of s) turns (pick script step) R A (made.Exhausted q) → EndsSo s turns script whole (clash.Exhausted step q)
+  pub ends_exhausted : (q : Path) → IsStepEnd (shape_of s) turns (pick script step) R A (made.Exhausted q) → EndsSo s turns script whole (clash.Exhausted step q)
   ends_exhausted q is = rest_exhausted main turns script limit done A low rest q (code_yields (Exhausted q) is) ∙ ap (λ k. AtExhausted k q) (sym at)
 
-  pub ends_faulty : (fault : Fault) (found : Vec Assignment Global) → IsMade (shape_of s) turns (pick script step) R A (made.Faulty fault found) → EndsSo s turns script whole (clash.Faulty step fault found)
+  pub ends_faulty : (fault : Fault) (found : Vec Assignment Global) → IsStepEnd (shape_of s) turns (pick script step) R A (made.Faulty fault found) → EndsSo s turns script whole (clash.Faulty step fault found)
   ends_faulty fault found (U, gives, first, stand) =
       let l = location_of (shape_of s) fault in
       let ended = rest_faulty main turns script limit done A low rest U (code_yields (Gives U) gives) (first_is_fault U (fault_of (shape_of s) fault) first) in

@@ -1,5 +1,4 @@
 pub mod Standing
 pub mod StandingLaws
-pub mod Bound
-pub mod Walks
 pub mod ClashOfRun
+pub mod code

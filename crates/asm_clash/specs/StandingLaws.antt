@@ -1,13 +1,14 @@
--- What is found to stand at a location is what the set has there.
---     StandingLaws      where a rule yields a set, the values of each location in it are those of the assignments that stand there
+-- Law. What is found to stand at a location is what the set has there.
+--     StandingLaws      if a rule yields a set, the values of each location in it are those of the
+--                       assignments that stand there
 use Rattle.std.specs.Prelude.{◌≡◌, ℕ, List}
 use Rattle.asm_state.specs.Location.{Location, State}
 use Rattle.asm_state.specs.Signature.{Shape}
 use Rattle.asm_state.specs.Updates.{UpdateSet}
 use Rattle.asm_meaning.specs.Value.{Reading}
 use Rattle.asm_meaning.specs.Yields.{Path, Gives}
-use Rattle.asm_code.specs.RuleMeaning.{Locations, meaning}
-use Rattle.asm_code.specs.RuleTree.{RuleCode}
+use Rattle.asm_code.specs.code.RuleMeaning.{Locations, meaning}
+use Rattle.asm_code.specs.code.RuleTree.{RuleCode}
 use Rattle.asm_clash.specs.Standing.{AreValuesAt, standing}
 
 pub record StandingLaws : Type 0 where

@@ -5,10 +5,10 @@ use asm_state::word::Word;
 /// An assignment whose update stands in the set of a step.
 #[derive(Drop)]
 pub struct Assignment {
-    /// Where it stands in the rule.
+    /// Where it is in the rule.
     pub path: Path,
     pub value: Word,
-    /// The values of the arguments of its function: none where it has none, and for `result`.
+    /// The values of the arguments of its function: none if it has none, and for `result`.
     pub arguments: Vec<Word>,
     /// The values of the names that are bound there, the innermost first, without `result`. Those
     /// that stand for terms are valued in what the assignment reads.

@@ -1,17 +1,17 @@
 //! A run up to its end, with the assignments at the location of its fault.
 ghost use Rattle.std.specs.Prelude.{IfOk};
-ghost use Rattle.asm_syntax.specs.Views.{spec_of};
+ghost use Rattle.asm_syntax.specs.code.Views.{spec_of};
 ghost use Rattle.asm_meaning.specs.Declarations.{specification_of};
 ghost use Rattle.asm_meaning.specs.Run.{run};
 ghost use Rattle.asm_clash.specs.ClashOfRun.{EndsSo};
 
 use crate::assignment::Assignment;
-use crate::step::{Made, made_by_step};
+use crate::step_end::{StepEnd, step_end_from};
 use asm_check::Checked;
 use asm_meaning::{Choices, Path};
 use asm_reader::Script;
 use asm_resolve::laws::resolving_laws;
-use asm_resolve::whole::resolve_main;
+use asm_resolve::main_rule::resolve_main;
 use asm_state::state::State;
 use asm_updates::fault::Fault;
 use std::alloc::{AllocError, Global};
@@ -21,7 +21,7 @@ use std::alloc::{AllocError, Global};
 pub enum ClashOfRun {
     /// At its limit of steps.
     Limit,
-    /// In this step, where the `iterate` at this path has made its last turn.
+    /// In this step, in which the `iterate` at this path has made its last turn.
     Exhausted {
         step: u64,
         path: Path,
@@ -35,7 +35,7 @@ pub enum ClashOfRun {
     },
 }
 
-/// Makes the run under the script, of at most so many steps, and says how it ends.
+/// Makes the run under the script, of at most `steps` steps, and says how it ends.
 pub fn clash_of_run(
     alloc: Global,
     checked: &Checked,
@@ -53,11 +53,11 @@ pub fn clash_of_run(
     for done in 0..steps {
         let step = u64::from(done) + 1;
         let choices = Choices { script, step };
-        let made = made_by_step(alloc, signature, &main, turns, &choices, &state)?;
-        match made {
-            Made::Consistent(set) => set.fire_into(&mut state),
-            Made::Exhausted(path) => return Ok(ClashOfRun::Exhausted { step, path }),
-            Made::Faulty { fault, assignments } => {
+        let step_end = step_end_from(alloc, signature, &main, turns, &choices, &state)?;
+        match step_end {
+            StepEnd::Consistent(set) => set.fire_into(&mut state),
+            StepEnd::Exhausted(path) => return Ok(ClashOfRun::Exhausted { step, path }),
+            StepEnd::Faulty { fault, assignments } => {
                 return Ok(ClashOfRun::Faulty {
                     step,
                     fault,

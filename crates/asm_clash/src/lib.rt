@@ -2,10 +2,10 @@
 //! run ends by.
 #![tactic(auto)]
 
+mod assigned;
 pub mod assignment;
-mod bound;
+mod bound_values;
 pub mod clash;
 pub mod laws;
-mod leaf;
 pub mod standing;
-mod step;
+mod step_end;

@@ -2,27 +2,27 @@
 ghost use Rattle.std.specs.Prelude.{◌≡◌, ◌<◌, IfOk, map};
 ghost use Rattle.asm_state.specs.Signature.{count_of, location_at};
 ghost use Rattle.asm_state.specs.Updates.{UpdateSet, IsConsistent, fire};
-ghost use Rattle.asm_updates.specs.Stands.{Stands};
+ghost use Rattle.asm_updates.specs.code.Stands.{Stands};
 ghost use Rattle.asm_meaning.specs.Yields as yields;
 ghost use Rattle.asm_meaning.specs.declared.part.Part.TheVariants as part;
-ghost use Rattle.asm_code.specs.RuleMeaning.{AreSoundRules, IsSoundRule};
-ghost use Rattle.asm_code.specs.RuleTree as tree;
-ghost use Rattle.asm_code.specs.RuleViews.{rule_of, rules_of};
-ghost use Rattle.asm_eval.specs.Frames.{IsSoundFrame};
-ghost use Rattle.asm_eval.specs.Pieces.{IsPiece};
-ghost use Rattle.asm_eval.specs.Running.{rule_upon, shape_at, state_at};
+ghost use Rattle.asm_code.specs.code.RuleMeaning.{AreSoundRules, IsSoundRule};
+ghost use Rattle.asm_code.specs.code.RuleTree as tree;
+ghost use Rattle.asm_code.specs.code.RuleViews.{rule_of, rules_of};
+ghost use Rattle.asm_eval.specs.code.Frames.{IsSoundFrame};
+ghost use Rattle.asm_eval.specs.code.Pieces.{IsPiece};
+ghost use Rattle.asm_eval.specs.code.Evaluation.{rule_upon, evaluation_shape, evaluation_state};
 ghost use Rattle.asm_clash.specs.Standing.{later};
-ghost use Rattle.asm_clash.specs.Walks.{IsLong, IsNext, all_assigned, order_in, stands_at, stands_in};
+ghost use Rattle.asm_clash.specs.code.StandingRules.{IsLong, IsNext, all_assigned, order_in, stands_at, stands_in};
 
+use crate::assigned::assigned;
 use crate::assignment::Assignment;
-use crate::leaf::assigned;
 use asm_code::rule_code::RuleCode;
+use asm_eval::evaluation::Evaluation;
 use asm_eval::frame::Frame;
 use asm_eval::laws::opening_laws;
 use asm_eval::open::{Opened, open_piece};
 use asm_eval::piece::{Piece, whole_piece};
-use asm_eval::positions::positions_of;
-use asm_eval::running::Running;
+use asm_eval::piece_positions::positions_of;
 use asm_meaning::part_set::PartSet;
 use asm_meaning::{Outcome, Part, Path, View};
 use asm_reader::Picks;
@@ -35,37 +35,37 @@ use std::alloc::{AllocError, Global};
 #[cycle(walk)]
 pub fn standing_in<'e, P: Picks>(
     alloc: Global,
-    running: &Running<'_, '_, P>,
+    evaluation: &Evaluation<'_, '_, P>,
     piece: &'e Piece<'e>,
     n: usize,
 ) -> Result<Vec<Assignment>, AllocError>
-    requires piece { IsPiece (shape_at running.now) piece.now }
+    requires piece { IsPiece (evaluation_shape evaluation.now) piece.now }
     requires whole { piece.now.part ≡ part.Whole }
-    requires number { n < count_of (shape_at running.now) }
-    ensures { let l = location_at (shape_at running.now) n in
-        IfOk result (λ found. all_assigned found.items ≡ stands_at running.now l piece.now.frame piece.now.path (rule_of piece.now.rule.now)) }
+    requires number { n < count_of (evaluation_shape evaluation.now) }
+    ensures { let l = location_at (evaluation_shape evaluation.now) n in
+        IfOk result (λ found. all_assigned found.items ≡ stands_at evaluation.now l piece.now.frame piece.now.path (rule_of piece.now.rule.now)) }
 {
     opening_laws::<P>();
-    let cut = cut_of(running.view.signature, piece);
+    let cut = cut_of(evaluation.view.signature, piece);
     let frame = &piece.frame;
     let path = piece.path.as_slice();
-    match open_piece(alloc, running, &*piece, cut)? {
+    match open_piece(alloc, evaluation, &*piece, cut)? {
         Opened::Pieces { pieces, .. } => {
             let mut all = Vec::new(alloc);
             for i in 0..pieces.len() {
-                let mut found = standing_in(alloc, running, &pieces[i], n)?;
+                let mut found = standing_in(alloc, evaluation, &pieces[i], n)?;
                 all.append(&mut found)?;
             }
             Ok(all)
         }
         Opened::Closed => match piece.rule {
             RuleCode::Assign { place, value } => {
-                assigned(alloc, running.view, frame, place, value, path, n)
+                assigned(alloc, evaluation.view, frame, place, value, path, n)
             }
             RuleCode::Seq(parts) => {
-                standing_in_order(alloc, running, frame, parts.as_slice(), path, n)
+                standing_in_order(alloc, evaluation, frame, parts.as_slice(), path, n)
             }
-            RuleCode::Iterate(body) => standing_in_turns(alloc, running, frame, body, path, n),
+            RuleCode::Iterate(body) => standing_in_turns(alloc, evaluation, frame, body, path, n),
             _ => Ok(Vec::new(alloc)),
         },
     }
@@ -75,26 +75,26 @@ pub fn standing_in<'e, P: Picks>(
 #[cycle(walk)]
 fn standing_in_order<'e, P: Picks>(
     alloc: Global,
-    running: &Running<'_, '_, P>,
+    evaluation: &Evaluation<'_, '_, P>,
     frame: &'e Frame<'e>,
     parts: &'e [RuleCode],
     path: &[u64],
     n: usize,
 ) -> Result<Vec<Assignment>, AllocError>
-    requires sound { AreSoundRules (shape_at running.now) (rules_of (map rule_of parts.now)) }
-    requires framed { IsSoundFrame (shape_at running.now) frame.now }
-    requires number { n < count_of (shape_at running.now) }
-    ensures { let l = location_at (shape_at running.now) n in
-        IfOk result (λ found. all_assigned found.items ≡ order_in running.now l frame.now path.now 0 (rules_of (map rule_of parts.now)) (state_at running.now)) }
+    requires sound { AreSoundRules (evaluation_shape evaluation.now) (rules_of (map rule_of parts.now)) }
+    requires framed { IsSoundFrame (evaluation_shape evaluation.now) frame.now }
+    requires number { n < count_of (evaluation_shape evaluation.now) }
+    ensures { let l = location_at (evaluation_shape evaluation.now) n in
+        IfOk result (λ found. all_assigned found.items ≡ order_in evaluation.now l frame.now path.now 0 (rules_of (map rule_of parts.now)) (evaluation_state evaluation.now)) }
 {
-    let mut so_far = Summary::new(alloc, running.view.signature.count());
+    let mut so_far = Summary::new(alloc, evaluation.view.signature.count());
     let mut found = Vec::new(alloc);
     for i in 0..parts.len() {
         let rule = &parts[i];
         let number = i as u64;
         let next = standing_next(
             alloc,
-            running,
+            evaluation,
             frame,
             rule,
             path,
@@ -117,25 +117,25 @@ fn standing_in_order<'e, P: Picks>(
 #[cycle(walk)]
 fn standing_in_turns<'e, P: Picks>(
     alloc: Global,
-    running: &Running<'_, '_, P>,
+    evaluation: &Evaluation<'_, '_, P>,
     frame: &'e Frame<'e>,
     body: &'e RuleCode,
     path: &[u64],
     n: usize,
 ) -> Result<Vec<Assignment>, AllocError>
-    requires sound { IsSoundRule (shape_at running.now) (rule_of body.now) }
-    requires framed { IsSoundFrame (shape_at running.now) frame.now }
-    requires number { n < count_of (shape_at running.now) }
-    ensures { let l = location_at (shape_at running.now) n in
-        IfOk result (λ found. all_assigned found.items ≡ stands_at running.now l frame.now path.now (tree.Iterate (rule_of body.now))) }
+    requires sound { IsSoundRule (evaluation_shape evaluation.now) (rule_of body.now) }
+    requires framed { IsSoundFrame (evaluation_shape evaluation.now) frame.now }
+    requires number { n < count_of (evaluation_shape evaluation.now) }
+    ensures { let l = location_at (evaluation_shape evaluation.now) n in
+        IfOk result (λ found. all_assigned found.items ≡ stands_at evaluation.now l frame.now path.now (tree.Iterate (rule_of body.now))) }
 {
-    let mut so_far = Summary::new(alloc, running.view.signature.count());
+    let mut so_far = Summary::new(alloc, evaluation.view.signature.count());
     let mut found = Vec::new(alloc);
-    for turn in 0..running.turns {
+    for turn in 0..evaluation.turns {
         let number = u64::from(turn);
         let next = standing_next(
             alloc,
-            running,
+            evaluation,
             frame,
             body,
             path,
@@ -155,11 +155,11 @@ fn standing_in_turns<'e, P: Picks>(
 }
 
 /// Goes on with the part with this number, in the state in which the set so far has been fired, and
-/// says what its set is: none where it is exhausted.
+/// says what its set is: none if it is exhausted.
 #[cycle(walk)]
 fn standing_next<'e, P: Picks>(
     alloc: Global,
-    running: &Running<'_, '_, P>,
+    evaluation: &Evaluation<'_, '_, P>,
     frame: &'e Frame<'e>,
     rule: &'e RuleCode,
     path: &[u64],
@@ -168,15 +168,15 @@ fn standing_next<'e, P: Picks>(
     so_far: &mut Summary,
     found: &mut Vec<Assignment>,
 ) -> Result<Option<PartSet>, AllocError>
-    requires sound { IsSoundRule (shape_at running.now) (rule_of rule.now) }
-    requires framed { IsSoundFrame (shape_at running.now) frame.now }
-    requires number { n < count_of (shape_at running.now) }
-    requires so_far { so_far.old.count ≡ count_of (shape_at running.now) }
+    requires sound { IsSoundRule (evaluation_shape evaluation.now) (rule_of rule.now) }
+    requires framed { IsSoundFrame (evaluation_shape evaluation.now) frame.now }
+    requires number { n < count_of (evaluation_shape evaluation.now) }
+    requires so_far { so_far.old.count ≡ count_of (evaluation_shape evaluation.now) }
     ensures count { so_far.new.count ≡ so_far.old.count }
     ensures next { let p = yields.at path.now number in
-        let l = location_at (shape_at running.now) n in
-        IfOk result (λ part. (U : UpdateSet) → Stands (shape_at running.now) so_far.old U → IsConsistent U →
-        IsNext (shape_at running.now) U (rule_upon running.now U frame.now p (rule_of rule.now)).result (stands_in running.now l frame.now p (rule_of rule.now) (fire (state_at running.now) U))
+        let l = location_at (evaluation_shape evaluation.now) n in
+        IfOk result (λ part. (U : UpdateSet) → Stands (evaluation_shape evaluation.now) so_far.old U → IsConsistent U →
+        IsNext (evaluation_shape evaluation.now) U (rule_upon evaluation.now U frame.now p (rule_of rule.now)).result (stands_in evaluation.now l frame.now p (rule_of rule.now) (fire (evaluation_state evaluation.now) U))
         (all_assigned found.old.items) (all_assigned found.new.items) so_far.new part) }
 {
     let path = path_below(alloc, path, number)?;
@@ -186,26 +186,26 @@ fn standing_next<'e, P: Picks>(
         path,
         part: Part::Whole,
     };
-    let view = View::upon(running.view, so_far);
-    let inner = Running {
+    let view = View::upon(evaluation.view, so_far);
+    let inner = Evaluation {
         view: &view,
-        choices: running.choices,
-        turns: running.turns,
+        choices: evaluation.choices,
+        turns: evaluation.turns,
     };
     let outcome = whole_piece(alloc, &inner, &piece)?;
     match outcome {
         Outcome::Exhausted(_) => Ok(None),
         Outcome::Set { set, .. } => {
             let own = standing_in(alloc, &inner, &piece, n)?;
-            let part = PartSet::of(running.view.signature, &set);
-            so_far.then(&set)?;
+            let part = PartSet::of(evaluation.view.signature, &set);
+            so_far.merge_with(&set)?;
             put_later(found, own);
             Ok(Some(part))
         }
     }
 }
 
-/// Puts later assignments in the place of earlier ones, if there are any.
+/// Replaces earlier assignments by later ones, if there are any.
 fn put_later(found: &mut Vec<Assignment>, own: Vec<Assignment>)
     ensures { all_assigned found.new.items ≡ later (all_assigned found.old.items) (all_assigned own.items) }
 {

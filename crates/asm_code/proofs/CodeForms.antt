@@ -1,14 +1,14 @@
--- The tree of each variant of the program's codes, and how many codes a list has.
+-- Free. The tree of each variant of the program's codes, and how many codes a list has.
 use Rattle.std.proofs.Common.{◌≡◌, ◌∙◌, ℕ, List, [], ◌∷◌, length, map, refl, ap, sym, arith, Box, Vec, Global}
 use Rattle.std.specs.Arc.{arc_value}
 use Rattle.asm_state.specs.declared.operation.Op.{Op}
 use Rattle.asm_state.specs.declared.value.Value.{Value}
-use Rattle.asm_code.specs.CodeTree as tree
-use Rattle.asm_code.specs.CodeViews.{code_of, code_step, codes_of, link_of, links_of}
-use Rattle.asm_code.specs.Sound.{count}
+use Rattle.asm_code.specs.code.CodeTree as tree
+use Rattle.asm_code.specs.code.CodeViews.{code_of, code_step, codes_of, link_of, links_of}
+use Rattle.asm_code.specs.code.SoundCodes.{count}
 use Rattle.asm_code.specs.declared.code.Code.{Code}
 use Rattle.asm_code.specs.declared.code.Grid.{Grid as GridPlace}
-use Rattle.asm_code.specs.declared.code.Span.{Span}
+use Rattle.asm_code.specs.declared.code.CodeRange.{CodeRange}
 use Rattle.asm_code.specs.declared.code.Code.TheOpen as opened_code
 use Rattle.asm_code.specs.declared.code.Code.TheVariants as code
 use Rattle.asm_code.specs.declared.code.Code.TheFolds.{fold-roll-Code}
@@ -22,15 +22,15 @@ code_laws-local_form t i is = ap code_of is ∙ ap code_of (sym (code.rolls-Loca
 pub code_laws-cell_form : (t : Code) (n : ℕ) → t ≡ code.Cell n → code_of t ≡ tree.Cell n
 code_laws-cell_form t n is = ap code_of is ∙ ap code_of (sym (code.rolls-Cell n)) ∙ fold-roll-Code tree.Code code_step (opened_code.Cell n)
 
-pub code_laws-row_form : (t : Code) (first : ℕ) (over : Span) (s : Box Code Global) → t ≡ code.Row first over s → code_of t ≡ tree.Row first over.low over.count (code_of s.value)
+pub code_laws-row_form : (t : Code) (first : ℕ) (over : CodeRange) (s : Box Code Global) → t ≡ code.Row first over s → code_of t ≡ tree.Row first over.low over.count (code_of s.value)
 code_laws-row_form t first over s is = ap code_of is ∙ ap code_of (sym (code.rolls-Row first over s)) ∙ fold-roll-Code tree.Code code_step (opened_code.Row first over s)
 
 pub code_laws-grid_form : (t : Code) (at : GridPlace) (s : Box Code Global) (u : Box Code Global) → t ≡ code.Grid at s u
     → code_of t ≡ tree.Grid at.first at.rows.low at.rows.count at.columns.low at.columns.count (code_of s.value) (code_of u.value)
 code_laws-grid_form t at s u is = ap code_of is ∙ ap code_of (sym (code.rolls-Grid at s u)) ∙ fold-roll-Code tree.Code code_step (opened_code.Grid at s u)
 
-pub code_laws-held_form : (t : Code) (f : ℕ) (ts : Vec Code Global) → t ≡ code.Held f ts → code_of t ≡ tree.Held f (codes_of (map code_of ts.items))
-code_laws-held_form t f ts is = ap code_of is ∙ ap code_of (sym (code.rolls-Held f ts)) ∙ fold-roll-Code tree.Code code_step (opened_code.Held f ts)
+pub code_laws-held_form : (t : Code) (f : ℕ) (ts : Vec Code Global) → t ≡ code.FunctionAt f ts → code_of t ≡ tree.Held f (codes_of (map code_of ts.items))
+code_laws-held_form t f ts is = ap code_of is ∙ ap code_of (sym (code.rolls-FunctionAt f ts)) ∙ fold-roll-Code tree.Code code_step (opened_code.FunctionAt f ts)
 
 pub code_laws-derived_form : (t : Code) (body : _) (ts : Vec Code Global) → t ≡ code.Derived body ts → code_of t ≡ tree.Derived (code_of (arc_value body)) (codes_of (map code_of ts.items))
 code_laws-derived_form t body ts is = ap code_of is ∙ ap code_of (sym (code.rolls-Derived body ts)) ∙ fold-roll-Code tree.Code code_step (opened_code.Derived body ts)

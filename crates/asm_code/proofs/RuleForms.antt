@@ -1,12 +1,12 @@
--- The tree of each variant of the program's rule codes.
+-- Free. The tree of each variant of the program's rule codes.
 use Rattle.std.proofs.Common.{◌≡◌, ◌∙◌, ℕ, map, Option, ap, sym, Box, Vec, Global}
 use Rattle.std.specs.Prelude.{option_map}
 use Rattle.std.specs.Arc.{arc_value}
-use Rattle.asm_code.specs.CodeViews.{code_of, codes_of}
-use Rattle.asm_code.specs.RuleTree as tree
-use Rattle.asm_code.specs.RuleViews.{place_of, rule_of, rule_step, rules_of}
+use Rattle.asm_code.specs.code.CodeViews.{code_of, codes_of}
+use Rattle.asm_code.specs.code.RuleTree as tree
+use Rattle.asm_code.specs.code.RuleViews.{target_code_of, rule_of, rule_step, rules_of}
 use Rattle.asm_code.specs.declared.code.Code.{Code}
-use Rattle.asm_code.specs.declared.rule_code.Place.{Place}
+use Rattle.asm_code.specs.declared.rule_code.TargetCode.{TargetCode}
 use Rattle.asm_code.specs.declared.rule_code.RuleCode.{RuleCode}
 use Rattle.asm_code.specs.declared.rule_code.RuleCode.TheOpen as opened_code
 use Rattle.asm_code.specs.declared.rule_code.RuleCode.TheVariants as code
@@ -15,7 +15,7 @@ use Rattle.asm_code.specs.declared.rule_code.RuleCode.TheFolds.{fold-roll-RuleCo
 pub rule_laws-skip_form : (P : RuleCode) → P ≡ code.Skip → rule_of P ≡ tree.Skip
 rule_laws-skip_form P is = ap rule_of is ∙ ap rule_of (sym code.rolls-Skip) ∙ fold-roll-RuleCode tree.RuleCode rule_step opened_code.Skip
 
-pub rule_laws-assign_form : (P : RuleCode) (to : Place) (t : Code) → P ≡ code.Assign to t → rule_of P ≡ tree.Assign (place_of to) (code_of t)
+pub rule_laws-assign_form : (P : RuleCode) (to : TargetCode) (t : Code) → P ≡ code.Assign to t → rule_of P ≡ tree.Assign (target_code_of to) (code_of t)
 rule_laws-assign_form P to t is = ap rule_of is ∙ ap rule_of (sym (code.rolls-Assign to t)) ∙ fold-roll-RuleCode tree.RuleCode rule_step (opened_code.Assign to t)
 
 pub rule_laws-par_form : (P : RuleCode) (Ps : Vec RuleCode Global) → P ≡ code.Par Ps → rule_of P ≡ tree.Par (rules_of (map rule_of Ps.items))
@@ -39,6 +39,6 @@ rule_laws-choose_form P u c Q R is = ap rule_of is ∙ ap rule_of (sym (code.rol
 pub rule_laws-iterate_form : (P : RuleCode) (Q : Box RuleCode Global) → P ≡ code.Iterate Q → rule_of P ≡ tree.Iterate (rule_of Q.value)
 rule_laws-iterate_form P Q is = ap rule_of is ∙ ap rule_of (sym (code.rolls-Iterate Q)) ∙ fold-roll-RuleCode tree.RuleCode rule_step (opened_code.Iterate Q)
 
-pub rule_laws-call_form : (P : RuleCode) (body : _) (to : Option Place) (ts : Vec Code Global) → P ≡ code.Call body to ts
-    → rule_of P ≡ tree.Call (rule_of (arc_value body)) (option_map place_of to) (codes_of (map code_of ts.items))
+pub rule_laws-call_form : (P : RuleCode) (body : _) (to : Option TargetCode) (ts : Vec Code Global) → P ≡ code.Call body to ts
+    → rule_of P ≡ tree.Call (rule_of (arc_value body)) (option_map target_code_of to) (codes_of (map code_of ts.items))
 rule_laws-call_form P body to ts is = ap rule_of is ∙ ap rule_of (sym (code.rolls-Call body to ts)) ∙ fold-roll-RuleCode tree.RuleCode rule_step (opened_code.Call body to ts)

@@ -1,4 +1,4 @@
--- Threads may share resolved terms and rules, since they may share their parts.
+-- Free. Threads may share resolved terms and rules, since they may share their parts.
 use denote.RattleType.{RattleType}
 use denote.Struct.Field.{row_field}
 use denote.Struct.Tuple.{Tuple, tuple_type}
@@ -9,7 +9,7 @@ use Rattle.std.proofs.Crossing.{Vec-sync, Vec-send, Box-sync, Box-send, Arc-sync
 use Rattle.asm_state.specs.contracts.operation.Op as Op
 use Rattle.asm_state.specs.contracts.word.Word as Word
 use Rattle.asm_code.specs.contracts.code.Code as Code
-use Rattle.asm_code.specs.contracts.rule_code.Place as Place
+use Rattle.asm_code.specs.contracts.rule_code.TargetCode as TargetCode
 use Rattle.asm_code.specs.contracts.rule_code.RuleCode as RuleCode
 use Rattle.asm_code.proofs.code.Code.TheLaws.TheKnot as code
 use Rattle.asm_code.proofs.rule_code.RuleCode.TheLaws.TheKnot as rule
@@ -56,17 +56,17 @@ code_sent = as_row_send Code.the_field code_field_sent
 
 -- ---- rules
 
-place_field : IsSync Place.the_field.row
+place_field : IsSync TargetCode.the_field.row
 place_field = search (sendable, crosses, sharing_laws-codes) depth 20
 
-place_field_sent : IsSend Place.the_field.row
+place_field_sent : IsSend TargetCode.the_field.row
 place_field_sent = search (sendable, crosses, code_sent) depth 20
 
-place_shared : IsSync Place.the_row
-place_shared = as_row_sync Place.the_field place_field
+place_shared : IsSync TargetCode.the_row
+place_shared = as_row_sync TargetCode.the_field place_field
 
-place_sent : IsSend Place.the_row
-place_sent = as_row_send Place.the_field place_field_sent
+place_sent : IsSend TargetCode.the_row
+place_sent = as_row_send TargetCode.the_field place_field_sent
 
 -- by the parts of one layer
 pub sharing_laws-rules : IsSync RuleCode.the_row

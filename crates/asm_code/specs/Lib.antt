@@ -1,10 +1,1 @@
-pub mod Powers
-pub mod CodeTree
-pub mod CodeViews
-pub mod Readings
-pub mod Sizes
-pub mod Sound
-pub mod RuleTree
-pub mod RuleViews
-pub mod RuleMeaning
-pub mod Spans
+pub mod code

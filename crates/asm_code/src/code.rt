@@ -2,8 +2,8 @@
 //!
 //! A read of a controlled function with up to two arguments has the number of the function's first
 //! location and, for each argument, the code of the universe's first value and the number of its
-//! values (`Span`). So evaluating it takes one test for each argument, and for two arguments a
-//! product. A function with more arguments, and a static one, keep their number (`Held`). An
+//! values (`CodeRange`). So evaluating it takes one test for each argument, and for two arguments a
+//! product. A function with more arguments, and a static one, keep their number (`FunctionAt`). An
 //! addition, a remainder and a test for equality with a known right operand have forms of their
 //! own, and so has a remainder of such an addition: each is evaluated by a short function of its
 //! own.
@@ -15,7 +15,7 @@ use std::sync::Arc;
 
 /// Values whose codes follow each other: the code of the first, and how many there are.
 #[derive(Clone, Copy)]
-pub struct Span {
+pub struct CodeRange {
     pub low: u64,
     pub count: usize,
 }
@@ -24,8 +24,8 @@ pub struct Span {
 #[derive(Clone, Copy)]
 pub struct Grid {
     pub first: usize,
-    pub rows: Span,
-    pub columns: Span,
+    pub rows: CodeRange,
+    pub columns: CodeRange,
 }
 
 /// A term in which no name is left. A derived function stands with its body, which all its uses
@@ -41,7 +41,7 @@ pub enum Code {
     /// universe.
     Row {
         first: usize,
-        over: Span,
+        over: CodeRange,
         argument: Box<Code>,
     },
     /// The same by the positions of two arguments.
@@ -51,7 +51,7 @@ pub enum Code {
         column: Box<Code>,
     },
     /// The value of any controlled or static function.
-    Held {
+    FunctionAt {
         function: usize,
         arguments: Vec<Code>,
     },

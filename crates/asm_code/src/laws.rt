@@ -6,18 +6,18 @@ ghost use Rattle.std.proofs.Common.{Box, Vec, Global};
 ghost use Rattle.std.specs.declared.sync.Arc.{Arc};
 ghost use Rattle.asm_state.specs.declared.operation.Op.{Op};
 ghost use Rattle.asm_state.specs.declared.value.Value.{Value};
-ghost use Rattle.asm_code.specs.CodeTree as tree;
-ghost use Rattle.asm_code.specs.CodeViews.{code_of, codes_of, link_of, links_of};
-ghost use Rattle.asm_code.specs.RuleTree as rule_tree;
-ghost use Rattle.asm_code.specs.RuleViews.{place_of, rule_of, rules_of};
-ghost use Rattle.asm_code.specs.Sound.{count};
+ghost use Rattle.asm_code.specs.code.CodeTree as tree;
+ghost use Rattle.asm_code.specs.code.CodeViews.{code_of, codes_of, link_of, links_of};
+ghost use Rattle.asm_code.specs.code.RuleTree as rule_tree;
+ghost use Rattle.asm_code.specs.code.RuleViews.{target_code_of, rule_of, rules_of};
+ghost use Rattle.asm_code.specs.code.SoundCodes.{count};
 ghost use Rattle.asm_code.specs.contracts.code.Code as terms;
 ghost use Rattle.asm_code.specs.contracts.rule_code.RuleCode as rules;
 ghost use Rattle.asm_code.specs.declared.code.Code.TheVariants as code;
 ghost use Rattle.asm_code.specs.declared.code.Code.{Code};
 ghost use Rattle.asm_code.specs.declared.code.Grid.{Grid};
-ghost use Rattle.asm_code.specs.declared.code.Span.{Span};
-ghost use Rattle.asm_code.specs.declared.rule_code.Place.{Place};
+ghost use Rattle.asm_code.specs.declared.code.CodeRange.{CodeRange};
+ghost use Rattle.asm_code.specs.declared.rule_code.TargetCode.{TargetCode};
 ghost use Rattle.asm_code.specs.declared.rule_code.RuleCode.TheVariants as rule;
 ghost use Rattle.asm_code.specs.declared.rule_code.RuleCode.{RuleCode};
 
@@ -27,14 +27,14 @@ pub fn code_laws()
         code_of t ≡ tree.Constant v }
     ensures local_form { (t : Code) (i : ℕ) → t ≡ code.Local i → code_of t ≡ tree.Local i }
     ensures cell_form { (t : Code) (n : ℕ) → t ≡ code.Cell n → code_of t ≡ tree.Cell n }
-    ensures row_form { (t : Code) (first : ℕ) (over : Span) (s : Box Code Global) →
+    ensures row_form { (t : Code) (first : ℕ) (over : CodeRange) (s : Box Code Global) →
         t ≡ code.Row first over s →
         code_of t ≡ tree.Row first over.low over.count (code_of s.value) }
     ensures grid_form { (t : Code) (at : Grid) (s : Box Code Global) (u : Box Code Global) →
         t ≡ code.Grid at s u →
         code_of t ≡ tree.Grid at.first at.rows.low at.rows.count at.columns.low at.columns.count
         (code_of s.value) (code_of u.value) }
-    ensures held_form { (t : Code) (f : ℕ) (ts : Vec Code Global) → t ≡ code.Held f ts →
+    ensures held_form { (t : Code) (f : ℕ) (ts : Vec Code Global) → t ≡ code.FunctionAt f ts →
         code_of t ≡ tree.Held f (codes_of (map code_of ts.items)) }
     ensures derived_form { (t : Code) (body : Arc Code Global) (ts : Vec Code Global) →
         t ≡ code.Derived body ts →
@@ -56,8 +56,8 @@ pub fn code_laws()
 /// The trees that rules' codes stand for, by their variants.
 pub fn rule_laws()
     ensures skip_form { (P : RuleCode) → P ≡ rule.Skip → rule_of P ≡ rule_tree.Skip }
-    ensures assign_form { (P : RuleCode) (to : Place) (t : Code) → P ≡ rule.Assign to t →
-        rule_of P ≡ rule_tree.Assign (place_of to) (code_of t) }
+    ensures assign_form { (P : RuleCode) (to : TargetCode) (t : Code) → P ≡ rule.Assign to t →
+        rule_of P ≡ rule_tree.Assign (target_code_of to) (code_of t) }
     ensures par_form { (P : RuleCode) (Ps : Vec RuleCode Global) → P ≡ rule.Par Ps →
         rule_of P ≡ rule_tree.Par (rules_of (map rule_of Ps.items)) }
     ensures seq_form { (P : RuleCode) (Ps : Vec RuleCode Global) → P ≡ rule.Seq Ps →
@@ -74,9 +74,9 @@ pub fn rule_laws()
         rule_of P ≡ rule_tree.Choose u (option_map code_of c) (rule_of Q.value) (rule_of R.value) }
     ensures iterate_form { (P : RuleCode) (Q : Box RuleCode Global) → P ≡ rule.Iterate Q →
         rule_of P ≡ rule_tree.Iterate (rule_of Q.value) }
-    ensures call_form { (P : RuleCode) (body : Arc RuleCode Global) (to : Option Place) →
+    ensures call_form { (P : RuleCode) (body : Arc RuleCode Global) (to : Option TargetCode) →
         (ts : Vec Code Global) → P ≡ rule.Call body to ts →
-        rule_of P ≡ rule_tree.Call (rule_of (arc_value body)) (option_map place_of to)
+        rule_of P ≡ rule_tree.Call (rule_of (arc_value body)) (option_map target_code_of to)
         (codes_of (map code_of ts.items)) }
 {}
 

@@ -2,7 +2,7 @@
 //! numbers of locations. What they stand for, and what they are worth.
 //!
 //! A name that is bound becomes a position, counted from the innermost binder, which has 0. In the
-//! body of a rule each argument of the call has a position, behind `result` if the call has a
+//! body of a rule each argument of the call has a position, after `result` if the call has a
 //! target; in the body of a derived function each parameter has one. Neither body sees a name that
 //! is bound where it is used.
 #![tactic(auto)]

@@ -1,23 +1,23 @@
 //! Resolved rules.
 //!
-//! A location that is updated is coded as one that is read is (`Place`). If an argument is outside
-//! of the domain, the location is the stray one of the function, whose number follows those of all
-//! its other locations.
-use crate::code::{Code, Grid, Span};
+//! A location that is updated is coded as one that is read is (`TargetCode`). If an argument is
+//! outside of the domain, the location is the stray one of the function, whose number follows those
+//! of all its other locations.
+use crate::code::{Code, CodeRange, Grid};
 use std::sync::Arc;
 
 /// What is updated.
 #[derive(Drop)]
-pub enum Place {
+pub enum TargetCode {
     /// The location that the frame has at this position, if it has one there: that of `result`.
-    Answer(usize),
+    ResultAt(usize),
     /// The location with this number.
     Cell(usize),
     /// A location of a controlled function, by the position of its argument in a universe: the
-    /// stray one where it has no position.
+    /// stray one if it has no position.
     Row {
         first: usize,
-        over: Span,
+        over: CodeRange,
         argument: Box<Code>,
     },
     /// The same by the positions of two arguments.
@@ -27,7 +27,7 @@ pub enum Place {
         column: Box<Code>,
     },
     /// The location of any controlled function.
-    Held {
+    FunctionAt {
         function: usize,
         arguments: Vec<Code>,
     },
@@ -39,7 +39,7 @@ pub enum Place {
 pub enum RuleCode {
     Skip,
     Assign {
-        place: Place,
+        place: TargetCode,
         value: Code,
     },
     Par(Vec<RuleCode>),
@@ -54,14 +54,14 @@ pub enum RuleCode {
         value: Code,
         body: Box<RuleCode>,
     },
-    /// The body for each value of the universe for which the condition holds, in both of which it
-    /// has position 0.
+    /// The body for each value of the universe for which the condition holds. The value has
+    /// position 0 in both.
     Forall {
         over: usize,
         test: Option<Code>,
         body: Box<RuleCode>,
     },
-    /// The body for one such value, or the other rule where there is none.
+    /// The body for one such value, or the other rule if there is none.
     Choose {
         over: usize,
         test: Option<Code>,
@@ -69,11 +69,11 @@ pub enum RuleCode {
         none: Box<RuleCode>,
     },
     Iterate(Box<RuleCode>),
-    /// The body, in which the arguments have positions in their order, by name: from 1 on behind
-    /// `result` where the call has a target, and else from 0 on.
+    /// The body, in which the arguments have positions in their order, by name: from 1 on after
+    /// `result` if the call has a target, and else from 0 on.
     Call {
         body: Arc<RuleCode>,
-        answer: Option<Place>,
+        answer: Option<TargetCode>,
         arguments: Vec<Code>,
     },
 }

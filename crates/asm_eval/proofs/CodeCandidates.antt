@@ -1,11 +1,11 @@
--- The candidates of a resolved `choose`.
+-- Free. The candidates of a resolved `choose`.
 use Rattle.std.proofs.Common.{◌≡◌, ℕ, true, false, List, [], ◌∷◌, filter, Option, Some, None, is_some, sym, ap, ◌∙◌, refl}
 use Rattle.std.specs.Prelude.{slice_get}
 use Rattle.asm_state.specs.declared.value.Value.{Value}
 use Rattle.asm_meaning.specs.declared.view.View.{View}
 use Rattle.asm_code.specs.declared.code.Code.{Code}
 use Rattle.asm_eval.proofs.RuleYields.{universe_here}
-use Rattle.asm_eval.specs.Running.{is_passing, passing_in}
+use Rattle.asm_eval.specs.code.Evaluation.{is_passing, passing_in}
 use Rattle.asm_eval.specs.declared.frame.Frame.{Frame}
 
 all_pass : {X : Type 0} (xs : List X) → filter (λ x. true) xs ≡ xs

@@ -1,6 +1,8 @@
--- An exhausted path lies within the path of its resolved rule, so that of parts beside each other the first exhausted one has the least.
+-- Free. An exhausted path lies within the path of its resolved rule, so that of parts beside each
+-- other the first exhausted one has the least.
 --     rule_within         of what a rule yields
---     first_part          of a part and the parts behind it;  first_element     of a value and the values behind it
+--     first_part          of a part and the parts after it
+--     first_element       of a value and the values after it
 use Rattle.std.proofs.Common.{◌++◌, ◌≡◌, ℕ, suc, Bool, List, ◌∷◌, None}
 use Rattle.asm_state.specs.declared.value.Value.{Value}
 use Rattle.asm_state.specs.Location.{State}
@@ -9,13 +11,13 @@ use Rattle.asm_meaning.specs.Does.{Outcome, parts, each}
 use Rattle.asm_meaning.specs.Program.{nothing_bound}
 use Rattle.asm_meaning.specs.Value.{Reading, is_true}
 use Rattle.asm_meaning.specs.Yields.{Path, at, Exhausted, beside}
-use Rattle.asm_meaning.proofs.ExhaustedPaths.{nested_paths-first as first_beside}
+use Rattle.asm_meaning.proofs.BesideLemmas.ExhaustedPaths.{nested_paths-first as first_beside}
 use Rattle.asm_eval.proofs.Lists.{by_test}
-use Rattle.asm_meaning.specs.Nested.{Within, AllNest}
+use Rattle.asm_meaning.specs.code.NestedPaths.{Within, AllNest}
 use Rattle.asm_meaning.proofs.NestedPaths.{nested_paths-behind_is_within as behind_is_within, nested_paths-descent_is_within as descent_is_within, nested_paths-parts as parts_behind, nested_paths-in_order as in_order_within, nested_paths-turns as turns_within, nested_paths-elements as each_behind, nested_paths-one_of as one_within}
-use Rattle.asm_code.specs.Readings.{always, reading, universe_at}
-use Rattle.asm_code.specs.RuleMeaning.{Locations, meaning, meanings, passes, passing, located_at, named_readings, answer_readings, answer_locations}
-use Rattle.asm_code.specs.RuleTree.{RuleCode, Skip, Assign, Par, Seq, If, Let, Forall, Choose, Iterate, Call, RuleCodes, no_rules, rule_then}
+use Rattle.asm_code.specs.code.Readings.{always, reading, universe_at}
+use Rattle.asm_code.specs.code.RuleMeaning.{Locations, meaning, meanings, passes, passing, optional_target_location, named_readings, result_readings, result_locations}
+use Rattle.asm_code.specs.code.RuleTree.{RuleCode, Skip, Assign, Par, Seq, If, Let, Forall, Choose, Iterate, Call, RuleCodes, no_rules, rule_then}
 
 module _ (shape : Shape) (turns : ℕ) (chosen : Path → ℕ) where
   abbrev means : RuleCode → List Reading → Locations → State → Path → Outcome
@@ -44,7 +46,7 @@ module _ (shape : Shape) (turns : ℕ) (chosen : Path → ℕ) where
         (descent_is_within p 1 (means Q rs ls A (at p 1)).result (rule_within Q rs ls A (at p 1)))
     rule_within (Iterate P) rs ls A p = turns_within (λ A e p. means P rs ls A p) (λ A e p. rule_within P rs ls A p) turns 0 A nothing_bound p
     rule_within (Call P to ts) rs ls A p =
-        descent_is_within p 0 _ (rule_within P (answer_readings (located_at shape to rs ls A) ++ named_readings shape ts rs) (answer_locations (located_at shape to rs ls A)) A (at p 0))
+        descent_is_within p 0 _ (rule_within P (result_readings (optional_target_location shape to rs ls A) ++ named_readings shape ts rs) (result_locations (optional_target_location shape to rs ls A)) A (at p 0))
 
     all_nest : (Ps : RuleCodes) (rs : List Reading) (ls : Locations) → AllNest (meanings shape turns chosen Ps rs ls)
     all_nest no_rules rs ls = tt

@@ -1,28 +1,32 @@
--- Resolved rules in order, and turns of one: what the next part or the next turn makes of a sequence that is underway.
---     parts_left, turns_left          what is left of the parts from a number on, of the turns from a number on
+-- Free. Resolved rules in order, and turns of one: what the next part or the next turn makes of a
+-- sequence that is underway.
+--     parts_left, turns_left          what is left of the parts from a number on, of the turns from
+--                                     a number on
 --     part_goes_on, turn_goes_on      after a part or a turn with a good set
---     part_ends, turn_ends            after one whose set ends the sequence;  parts_end     where no part is left
---     part_stops, turn_stops          a part or a turn is exhausted;  turns_stop     no turn is left
+--     part_ends, turn_ends            after one whose set ends the sequence
+--     parts_end                       if no part is left
+--     part_stops, turn_stops          a part or a turn is exhausted
+--     turns_stop                      no turn is left
 use Rattle.std.proofs.Common.{◌≡◌, ◌≢◌, ℕ, zero, suc, ◌+◌, ◌-◌, ◌<◌, ◌≤◌, List, length, map, drop, slice_index_or, ◌⊎◌, sym, ap, ◌∙◌, arith, add-one}
 use Rattle.std.specs.Prelude.{Result as Returned, Err, OnOk, IfErr, IsErrAnd}
 use Rattle.std.proofs.lemmas.List.{at_drop_more, at_drop_all}
 use Rattle.asm_state.specs.Location.{State}
 use Rattle.asm_state.specs.Signature.{Shape}
 use Rattle.asm_state.specs.Updates.{UpdateSet, IsConsistent, none, fire}
-use Rattle.asm_updates.specs.Entries.{Entries}
-use Rattle.asm_updates.specs.Stands.{Stands, Adds}
+use Rattle.asm_updates.specs.code.SummaryRanges.{SummaryRanges}
+use Rattle.asm_updates.specs.code.Stands.{Stands, Adds}
 use Rattle.asm_meaning.specs.Does.{Outcome, nothing, part_and, turn_and, in_order, turns_of}
-use Rattle.asm_meaning.specs.Formed.{Forms, GoesOn, IsStoppedAt}
+use Rattle.asm_meaning.specs.code.FormedOutcomes.{Forms, IsMergedPart, IsStoppedAt}
 use Rattle.asm_meaning.specs.Program.{nothing_bound}
 use Rattle.asm_meaning.specs.Value.{Reading}
 use Rattle.asm_meaning.specs.Yields.{Path, Exhausted, at}
 use Rattle.asm_meaning.specs.declared.part_set.PartSet.{PartSet}
 use Rattle.asm_meaning.specs.declared.stopped.Stopped.{Stopped}
-use Rattle.asm_meaning.specs.Underway.{IsUnderway}
+use Rattle.asm_meaning.specs.code.SequenceUnderway.{IsUnderway}
 use Rattle.asm_meaning.proofs.Sequences.{sequence_laws-goes_on as goes_on, sequence_laws-ends as ends, sequence_laws-ends_with as ends_with, sequence_laws-ends_at as ends_at, part_laws-good_part as good_part, part_laws-faulty_part as faulty_part, part_laws-exhausted_part as exhausted_part, part_laws-good_turn as good_turn, part_laws-last_turn as last_turn, part_laws-exhausted_turn as exhausted_turn, stopping_laws-handed_on as stopped_on}
-use Rattle.asm_code.specs.RuleMeaning.{Locations, meaning, meanings}
-use Rattle.asm_code.specs.RuleTree as tree
-use Rattle.asm_code.specs.RuleViews.{rule_of, rules_of}
+use Rattle.asm_code.specs.code.RuleMeaning.{Locations, meaning, meanings}
+use Rattle.asm_code.specs.code.RuleTree as tree
+use Rattle.asm_code.specs.code.RuleViews.{rule_of, rules_of}
 use Rattle.asm_code.specs.declared.rule_code.RuleCode.{RuleCode}
 
 module _ (shape : Shape) (turns : ℕ) (chosen : Path → ℕ) (rs : List Reading) (ls : Locations) (p : Path) where
@@ -78,7 +82,7 @@ module _ (shape : Shape) (turns : ℕ) (chosen : Path → ℕ) (rs : List Readin
   no_turn : (limit t : ℕ) (r : tree.RuleCode) (A : State) → limit ≤ t → (turns_left limit r t A).result ≡ Exhausted p
   no_turn limit t r A past = ap (λ n. (turns_from n t r A).result) (none_left limit t past)
 
-  module _ (A : State) (total : Outcome) (so_far : Entries) (before now : ℕ) where
+  module _ (A : State) (total : Outcome) (so_far : SummaryRanges) (before now : ℕ) where
     -- ---- parts
 
     module _ (Ps : List RuleCode) (i : ℕ) (under : IsUnderway shape A total (parts_left Ps i) so_far before now) where
@@ -89,13 +93,13 @@ module _ (shape : Shape) (turns : ℕ) (chosen : Path → ℕ) (rs : List Readin
         then_part : parts_left Ps i (fire A under.set) ≡ part_then part (λ U. parts_left Ps (i + 1) (fire (fire A under.set) U))
         then_part = next_part q Ps i P (fire A under.set) same low is
 
-        pub part_goes_on : (joined : Entries) (is_set : PartSet) (after : ℕ) (on : GoesOn shape part under.set joined is_set now after) → IsConsistent on.set
+        pub part_goes_on : (joined : SummaryRanges) (is_set : PartSet) (after : ℕ) (on : IsMergedPart shape part under.set joined is_set now after) → IsConsistent on.set
             → IsUnderway shape A total (parts_left Ps (i + 1)) joined before after
         part_goes_on joined is_set after on consistent =
             goes_on shape A total (parts_left Ps i) so_far before now under part (parts_left Ps (i + 1)) joined is_set after on consistent
             (then_part ∙ good_part part on.set (λ U. parts_left Ps (i + 1) (fire (fire A under.set) U)) on.gives consistent)
 
-        pub part_ends : {T : Type 0} (joined : Entries) (is_set : PartSet) (was old new : Entries) (after n : ℕ) (returned : Returned T Stopped) (on : GoesOn shape part under.set joined is_set now after)
+        pub part_ends : {T : Type 0} (joined : SummaryRanges) (is_set : PartSet) (was old new : SummaryRanges) (after n : ℕ) (returned : Returned T Stopped) (on : IsMergedPart shape part under.set joined is_set now after)
             → ¬ (IsConsistent on.set) → was ≡ old → n ≡ after → ((V : UpdateSet) → Stands shape joined V → OnOk returned (Adds shape V was new))
             → OnOk returned (Forms shape total old new before n)
         part_ends joined is_set was old new after n returned on faulty kept counted put =
@@ -109,7 +113,7 @@ module _ (shape : Shape) (turns : ℕ) (chosen : Path → ℕ) (rs : List Readin
             (λ there at. ends_at shape A total (parts_left Ps i) so_far before now under there
             (ap (λ (o : Outcome). o.result) then_part ∙ exhausted_part part (λ U. parts_left Ps (i + 1) (fire (fire A under.set) U)) there at))
 
-      pub parts_end : {T : Type 0} (was old new : Entries) (n : ℕ) (returned : Returned T Stopped) → length Ps ≤ i → was ≡ old → n ≡ now
+      pub parts_end : {T : Type 0} (was old new : SummaryRanges) (n : ℕ) (returned : Returned T Stopped) → length Ps ≤ i → was ≡ old → n ≡ now
           → ((V : UpdateSet) → Stands shape so_far V → OnOk returned (Adds shape V was new)) → OnOk returned (Forms shape total old new before n)
       parts_end was old new n returned past kept counted put =
           ends shape A total (parts_left Ps i) so_far before now under was old new n returned kept counted (no_part Ps i (fire A under.set) past) put
@@ -124,13 +128,13 @@ module _ (shape : Shape) (turns : ℕ) (chosen : Path → ℕ) (rs : List Readin
         then_turn : turns_left limit r t (fire A under.set) ≡ turn_then turn (λ U. turns_left limit r (t + 1) (fire (fire A under.set) U))
         then_turn = next_turn q limit t number r (fire A under.set) same low is
 
-        pub turn_goes_on : (joined : Entries) (is_set : PartSet) (after : ℕ) (on : GoesOn shape turn under.set joined is_set now after) → on.set ≢ none → IsConsistent on.set
+        pub turn_goes_on : (joined : SummaryRanges) (is_set : PartSet) (after : ℕ) (on : IsMergedPart shape turn under.set joined is_set now after) → on.set ≢ none → IsConsistent on.set
             → IsUnderway shape A total (turns_left limit r (t + 1)) joined before after
         turn_goes_on joined is_set after on some consistent =
             goes_on shape A total (turns_left limit r t) so_far before now under turn (turns_left limit r (t + 1)) joined is_set after on consistent
             (then_turn ∙ good_turn turn on.set (λ U. turns_left limit r (t + 1) (fire (fire A under.set) U)) on.gives some consistent)
 
-        pub turn_ends : {T : Type 0} (joined : Entries) (is_set : PartSet) (was old new : Entries) (after n : ℕ) (returned : Returned T Stopped) (on : GoesOn shape turn under.set joined is_set now after)
+        pub turn_ends : {T : Type 0} (joined : SummaryRanges) (is_set : PartSet) (was old new : SummaryRanges) (after n : ℕ) (returned : Returned T Stopped) (on : IsMergedPart shape turn under.set joined is_set now after)
             → (on.set ≡ none) ⊎ (¬ (IsConsistent on.set)) → was ≡ old → n ≡ after → ((V : UpdateSet) → Stands shape joined V → OnOk returned (Adds shape V was new))
             → OnOk returned (Forms shape total old new before n)
         turn_ends joined is_set was old new after n returned on last kept counted put =

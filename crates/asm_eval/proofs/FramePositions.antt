@@ -1,9 +1,9 @@
--- Positions where values stand first: within the values, and behind them.
+-- Free. Positions when values come first: within the values, and after them.
 use Rattle.std.proofs.Common.{◌≡◌, ℕ, zero, suc, ◌-◌, ◌<◌, ◌≤◌, List, [], ◌∷◌, ◌++◌, length, map, get_or, Option, None, refl, ap, ◌∙◌, arith}
 use Rattle.std.specs.Prelude.{slice_index_or}
 use Rattle.asm_state.specs.declared.value.Value.{Value}
 use Rattle.asm_meaning.specs.Value.{Reading}
-use Rattle.asm_code.specs.Readings.{always, at_position}
+use Rattle.asm_code.specs.code.Readings.{always, at_position}
 
 pub within_values : (vs : List Value) (rs : List Reading) (i : ℕ) (v : Value) → i < length vs → v ≡ get_or vs i v → always v ≡ at_position (map always vs ++ rs) i
 within_values [] rs i v below is = absurd (omega (arith, below))

@@ -1,7 +1,7 @@
 pub mod Powers
 pub mod Lists
 pub mod Members
-pub mod Cases
+pub mod ValueCases
 pub mod Arguments
 pub mod Quantified
 pub mod SpanLaws
@@ -13,7 +13,7 @@ pub mod SoundMembers
 pub mod CodeCandidates
 pub mod FramePositions
 pub mod BoundValues
-pub mod Ands
+pub mod AndChains
 pub mod PieceForms
 pub mod OpenedRules
 pub mod OpeningLaws

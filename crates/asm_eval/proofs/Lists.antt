@@ -1,4 +1,5 @@
--- All items of a list with one more, and of one alone; and what holds of both sides of a test.
+-- Free. All items of a list with one more, and of one alone; and what holds of both sides of a
+-- test.
 use Rattle.std.proofs.Common.{◌≡◌, Bool, true, false, cond, List, [], ◌∷◌, ◌++◌, All, refl, sym, subst}
 use Rattle.std.proofs.lemmas.List.Elements.{All-push, All-nil}
 

@@ -1,14 +1,14 @@
--- Members of lists of codes and of chains: each is sound, and no greater than the whole.
+-- Free. Members of lists of codes and of chains: each is sound, and no greater than the whole.
 use Rattle.std.proofs.Common.{◌≡◌, ℕ, zero, suc, ◌≤◌, ◌<◌, List, [], ◌∷◌, ◌++◌, ◌+◌, length, map, get_or, refl, sym, ap, subst, arith}
 use Rattle.asm_state.specs.declared.operation.Op.{Op}
 use Rattle.asm_state.specs.Location.{State}
 use Rattle.asm_state.specs.Signature.{Shape}
 use Rattle.asm_meaning.specs.Value.{Reading}
-use Rattle.asm_code.specs.CodeViews.{code_of, codes_of, link_of, links_of}
-use Rattle.asm_code.specs.Readings.{reading, readings}
-use Rattle.asm_code.specs.Sizes.{size, sizes, link_sizes}
-use Rattle.asm_code.specs.Sound.{IsSound, AreSound, AreSoundLinks}
-use Rattle.asm_code.specs.CodeTree as tree
+use Rattle.asm_code.specs.code.CodeViews.{code_of, codes_of, link_of, links_of}
+use Rattle.asm_code.specs.code.Readings.{reading, readings}
+use Rattle.asm_code.specs.code.Sizes.{size, sizes, link_sizes}
+use Rattle.asm_code.specs.code.SoundCodes.{IsSound, AreSound, AreSoundLinks}
+use Rattle.asm_code.specs.code.CodeTree as tree
 use Rattle.asm_code.specs.declared.code.Code.{Code}
 
 -- what the codes of a list are worth

@@ -1,9 +1,11 @@
--- The works that pieces of resolved rules are opened to: those so far, and those still to come.
+-- Free. The works that pieces of resolved rules are opened to: those so far, and those still to
+-- come.
 --     none_yet, one_more, none_left, one_alone     of a list of pieces, which grows
 --     parts_more, no_parts                         of the parts of a `par`
 --     body_more, body_passed, no_bodies            of the bodies for the values of an interval
 --     span_next, no_spans                          of the spans of an interval
---     bodies_opened, spans_opened                  a `forall` at an interval that isn't longer than the cut, and at a longer one
+--     bodies_opened, spans_opened                  a `forall` at an interval that isn't longer than
+--                                                  the cut, and at a longer one
 use Rattle.std.proofs.Common.{◌≡◌, ℕ, zero, suc, ◌+◌, ◌-◌, ◌<◌, ◌≤◌, Bool, true, false, cond, List, [], ◌∷◌, ◌++◌, length, get_or, map, take, drop, Option, Some, None, refl, sym, ap, subst, ◌∙◌, arith}
 use Rattle.std.specs.Prelude.{Result, IfOk, min, nat_le, slice_get}
 use Rattle.std.proofs.lemmas.List.{append-nil, append_assoc, drop_all, drop_more, map_push}
@@ -12,21 +14,21 @@ use Rattle.asm_reader.specs.declared.picks.Picks.{Ghosts}
 use Rattle.asm_state.specs.Location.{State}
 use Rattle.asm_state.specs.declared.value.Value.{Value}
 use Rattle.asm_state.specs.Signature.{Shape}
-use Rattle.asm_meaning.specs.Intervals.{between}
+use Rattle.asm_meaning.specs.code.Intervals.{between}
 use Rattle.asm_meaning.specs.Value.{Reading}
 use Rattle.asm_meaning.specs.Yields.{Path, at}
 use Rattle.asm_meaning.specs.declared.part.Part.TheVariants as part
-use Rattle.asm_code.specs.CodeTree as codes
-use Rattle.asm_code.specs.Readings.{always, universe_at}
-use Rattle.asm_code.specs.RuleMeaning.{Locations, passes}
-use Rattle.asm_code.specs.RuleTree as tree
-use Rattle.asm_code.specs.RuleViews.{rule_of, rules_of}
+use Rattle.asm_code.specs.code.CodeTree as codes
+use Rattle.asm_code.specs.code.Readings.{always, universe_at}
+use Rattle.asm_code.specs.code.RuleMeaning.{Locations, passes}
+use Rattle.asm_code.specs.code.RuleTree as tree
+use Rattle.asm_code.specs.code.RuleViews.{rule_of, rules_of}
 use Rattle.asm_code.specs.declared.rule_code.RuleCode.{RuleCode}
-use Rattle.asm_eval.specs.OpenedPieces.{OpensTo}
-use Rattle.asm_eval.specs.Opening.{Work, all_of, body_works, counted_works, part_of, part_opened, part_works, span_works, spans}
-use Rattle.asm_eval.specs.Pieces.{IsPartOf}
+use Rattle.asm_eval.specs.code.OpenedPieces.{OpensTo}
+use Rattle.asm_eval.specs.code.Opening.{Work, all_of, body_works, counted_works, part_of, part_opened, part_works, span_works, spans}
+use Rattle.asm_eval.specs.code.Pieces.{IsPartOf}
 use Rattle.asm_eval.specs.declared.open.Opened.{Opened}
-use Rattle.asm_eval.specs.declared.running.Running.{Running}
+use Rattle.asm_eval.specs.declared.evaluation.Evaluation.{Evaluation}
 
 -- ---- a list that grows
 
@@ -43,7 +45,7 @@ module _ {X Y : Type 0} (f : X → Y) where
   pub one_alone : (xs ys : List X) (x : X) → xs ≡ [] → ys ≡ xs ++ x ∷ [] → map f ys ≡ f x ∷ []
   one_alone xs ys x none more = ap (map f) more ∙ ap (λ zs. map f (zs ++ x ∷ [])) none
 
--- works, with so many elements counted
+-- works, with n elements counted
 abbrev pub given : ℕ → List Work → Option (List Work × ℕ)
 given n works = Some (works, n)
 
@@ -163,8 +165,8 @@ pub part_of_part : (shape : Shape) (R : tree.RuleCode) (a b c d : ℕ) → a ≤
 part_of_part shape (tree.Forall u t Q) a b c d low high last is = let within = is.within in record { rises = high; within = omega (arith, last, within) }
 part_of_part shape R a b c d low high last is = absurd is
 
--- ---- answers
+-- ---- results
 
-module _ {P : Type 0} {picks : Ghosts P} (r : Running P picks) where
+module _ {P : Type 0} {picks : Ghosts P} (r : Evaluation P picks) where
   pub opens_same : {E : Type 0} (made : Result Opened E) (its others : Option (List Work × ℕ)) → its ≡ others → IfOk made (OpensTo r its) → IfOk made (OpensTo r others)
   opens_same made its others same opens = subst (λ o. IfOk made (OpensTo r o)) same opens

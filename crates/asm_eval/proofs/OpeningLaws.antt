@@ -1,4 +1,4 @@
--- What a work is opened to yields together what it yields.
+-- Free. What a work is opened to yields, taken together, what the work yields.
 --     work_yields      what a work yields
 --     IsKept           works are the parts of an outcome
 --     work_kept        what a work is opened to is kept, by the cases of its rule
@@ -12,33 +12,33 @@ use Rattle.asm_state.specs.Location.{State}
 use Rattle.asm_state.specs.Signature.{Shape}
 use Rattle.asm_state.specs.declared.value.Value.{Value}
 use Rattle.asm_meaning.specs.Does.{Outcome, nothing, both, counted, parts, each, one_of}
-use Rattle.asm_meaning.specs.Grouped.{counting, all_both}
-use Rattle.asm_meaning.specs.Intervals.{IsCutPart, between}
+use Rattle.asm_meaning.specs.code.OutcomesBeside.{counting, all_both}
+use Rattle.asm_meaning.specs.code.Intervals.{IsCutPart, between}
 use Rattle.asm_meaning.specs.Program.{nothing_bound}
 use Rattle.asm_meaning.specs.Taken.{taken}
 use Rattle.asm_meaning.specs.Value.{Reading, is_true}
 use Rattle.asm_meaning.specs.Yields.{Path, at, beside}
 use Rattle.asm_meaning.specs.declared.part.Part.{Part}
 use Rattle.asm_meaning.specs.declared.part.Part.TheVariants as part
-use Rattle.asm_meaning.proofs.Groups.{group_laws-counting_none as counting_none, group_laws-one as one_alone}
+use Rattle.asm_meaning.proofs.BesideLemmas.GroupsBeside.{group_laws-counting_none as counting_none, group_laws-one as one_alone}
 use Rattle.asm_meaning.proofs.Intervals.{interval_laws-all as between_all, interval_laws-cut as each_cut, interval_laws-none as each_none}
-use Rattle.asm_code.specs.CodeTree.{Code}
-use Rattle.asm_code.specs.Readings.{always, reading, universe_at}
-use Rattle.asm_code.specs.RuleMeaning.{Locations, meaning, meanings, passes, passing}
-use Rattle.asm_code.specs.RuleTree.{RuleCode, Skip, Assign, Par, Seq, If, Let, Forall, Choose, Iterate, Call, RuleCodes, no_rules, rule_then}
-use Rattle.asm_code.specs.RuleViews.{rule_of}
+use Rattle.asm_code.specs.code.CodeTree.{Code}
+use Rattle.asm_code.specs.code.Readings.{always, reading, universe_at}
+use Rattle.asm_code.specs.code.RuleMeaning.{Locations, meaning, meanings, passes, passing}
+use Rattle.asm_code.specs.code.RuleTree.{RuleCode, Skip, Assign, Par, Seq, If, Let, Forall, Choose, Iterate, Call, RuleCodes, no_rules, rule_then}
+use Rattle.asm_code.specs.code.RuleViews.{rule_of}
 use Rattle.asm_eval.proofs.Lists.{by_test}
 use Rattle.asm_eval.proofs.OpenedRules.{before_end}
-use Rattle.asm_eval.specs.Frames.{readings_of}
-use Rattle.asm_eval.specs.OpenedPieces.{Gives, IsCut, Opens, OpeningLaws, is_closed, is_closed_part, pieces_in, pieces_yield, works_in}
-use Rattle.asm_eval.specs.Opening.{Work, all_of, body_works, choice_works, one_work, opened, part_of, part_opened, part_works, rule_works, span_works, spans, work_of}
-use Rattle.asm_eval.specs.Pieces.{IsPartOf, IsPiece, part_yields, piece_yields}
-use Rattle.asm_eval.specs.Running.{chosen_at, places_of, shape_at, state_at}
+use Rattle.asm_eval.specs.code.Frames.{readings_of}
+use Rattle.asm_eval.specs.code.OpenedPieces.{Gives, IsCut, Opens, OpeningLaws, is_closed, is_closed_part, pieces_in, pieces_yield, works_in}
+use Rattle.asm_eval.specs.code.Opening.{Work, all_of, body_works, choice_works, one_work, opened, part_of, part_opened, part_works, rule_works, span_works, spans, work_of}
+use Rattle.asm_eval.specs.code.Pieces.{IsPartOf, IsPiece, part_yields, piece_yields}
+use Rattle.asm_eval.specs.code.Evaluation.{evaluation_choices, frame_locations, evaluation_shape, evaluation_state}
 use Rattle.asm_eval.specs.declared.frame.Frame.{Frame}
 use Rattle.asm_eval.specs.declared.open.Opened.{Opened}
 use Rattle.asm_eval.specs.declared.open.Opened.TheVariants as opening
 use Rattle.asm_eval.specs.declared.piece.Piece.{Piece}
-use Rattle.asm_eval.specs.declared.running.Running.{Running}
+use Rattle.asm_eval.specs.declared.evaluation.Evaluation.{Evaluation}
 
 same_outcome : (o q : Outcome) → o.result ≡ q.result → o.instances ≡ q.instances → o ≡ q
 same_outcome o q e f i = record { result = e i; instances = f i }
@@ -133,7 +133,7 @@ module _ (shape : Shape) (turns : ℕ) (chosen : Path → ℕ) (A : State) where
 
     -- ---- a work, by the cases of its rule
 
-    -- works, with so many elements counted, are the parts of an outcome
+    -- works, with n elements counted, are the parts of an outcome
     record AreKept (o : Outcome) (works : List Work) (n : ℕ) : Type 0 where
       loses_nothing : o ≡ counting n (works_yield works)
       are_cut : AllByRecursion IsCutWork works
@@ -204,15 +204,15 @@ module _ (shape : Shape) (turns : ℕ) (chosen : Path → ℕ) (A : State) where
 
 -- ---- pieces
 
-module _ {P : Type 0} {picks : Ghosts P} (r : Running P picks) where
+module _ {P : Type 0} {picks : Ghosts P} (r : Evaluation P picks) where
   abbrev piece_work : Piece → Work
-  piece_work = work_of (shape_at r)
+  piece_work = work_of (evaluation_shape r)
 
   abbrev its_work_yields : Work → Outcome
-  its_work_yields = work_yields (shape_at r) r.turns (chosen_at r) (state_at r)
+  its_work_yields = work_yields (evaluation_shape r) r.turns (evaluation_choices r) (evaluation_state r)
 
   part_same : (f : Frame) (p : Path) (R : RuleCode) (its : Part)
-      → rule_yields (shape_at r) r.turns (chosen_at r) (state_at r) R (readings_of (shape_at r) f) (places_of (shape_at r) f) p its ≡ part_yields r f p R its
+      → rule_yields (evaluation_shape r) r.turns (evaluation_choices r) (evaluation_state r) R (readings_of (evaluation_shape r) f) (frame_locations (evaluation_shape r) f) p its ≡ part_yields r f p R its
   part_same f p R part.Whole = refl
   part_same f p (Forall u c Q) (part.Span from to) = refl
   part_same f p R (part.Span from to) = refl
@@ -229,8 +229,8 @@ module _ {P : Type 0} {picks : Ghosts P} (r : Running P picks) where
     pieces_cut [] all = tt
     pieces_cut (piece ∷ pieces) all = (all.0, pieces_cut pieces all.1)
 
-    gives : (o : Opened) (closed : Bool) (q : Outcome) → IsKept (shape_at r) r.turns (chosen_at r) (state_at r) cut (works_in (shape_at r) o) closed q
-        → All (IsPiece (shape_at r)) (pieces_in o) → Gives r cut closed q o
+    gives : (o : Opened) (closed : Bool) (q : Outcome) → IsKept (evaluation_shape r) r.turns (evaluation_choices r) (evaluation_state r) cut (works_in (evaluation_shape r) o) closed q
+        → All (IsPiece (evaluation_shape r)) (pieces_in o) → Gives r cut closed q o
     gives (opening.Pieces pieces n) closed q kept are = (
       kept.0,
       record {
@@ -241,14 +241,14 @@ module _ {P : Type 0} {picks : Ghosts P} (r : Running P picks) where
     )
     gives opening.Closed closed q kept are = kept
 
-    nothing_lost : (piece : Piece) (o : Opened) → 0 < cut → IsPiece (shape_at r) piece → Opens r cut piece o
+    nothing_lost : (piece : Piece) (o : Opened) → 0 < cut → IsPiece (evaluation_shape r) piece → Opens r cut piece o
         → Gives r cut (is_closed_part (rule_of piece.rule.now) piece.part) (piece_yields r piece) o
     nothing_lost piece o some is opens =
         let closed = is_closed_part (rule_of piece.rule.now) piece.part in
-        let kept = work_kept (shape_at r) r.turns (chosen_at r) (state_at r) cut some (piece_work piece) is.2 in
+        let kept = work_kept (evaluation_shape r) r.turns (evaluation_choices r) (evaluation_state r) cut some (piece_work piece) is.2 in
         subst (λ q. Gives r cut closed q o) (piece_same piece)
         (gives o closed (its_work_yields (piece_work piece))
-        (subst (λ its. IsKept (shape_at r) r.turns (chosen_at r) (state_at r) cut its closed (its_work_yields (piece_work piece))) (sym opens.works) kept) opens.are_pieces)
+        (subst (λ its. IsKept (evaluation_shape r) r.turns (evaluation_choices r) (evaluation_state r) cut its closed (its_work_yields (piece_work piece))) (sym opens.works) kept) opens.are_pieces)
 
   pub opening_laws : OpeningLaws r
   opening_laws = record {

@@ -1,9 +1,9 @@
--- A resolved rule of which a piece has a span is a `forall`.
+-- Free. If a piece has a span of a resolved rule, the rule is a `forall`.
 use Rattle.std.proofs.Common.{◌≡◌, ◌∙◌, ℕ, Option, Box, Global, sym, subst}
 use Rattle.asm_state.specs.Signature.{Shape}
 use Rattle.asm_meaning.specs.declared.part.Part.TheVariants as part
-use Rattle.asm_code.specs.RuleTree as tree
-use Rattle.asm_code.specs.RuleViews.{rule_of, rule_step}
+use Rattle.asm_code.specs.code.RuleTree as tree
+use Rattle.asm_code.specs.code.RuleViews.{rule_of, rule_step}
 use Rattle.asm_code.specs.declared.code.Code.{Code}
 use Rattle.asm_code.specs.declared.rule_code.RuleCode.{RuleCode, roll-out-RuleCode}
 use Rattle.asm_code.specs.declared.rule_code.RuleCode.TheOpen.{RuleCode-F}
@@ -11,7 +11,7 @@ use Rattle.asm_code.specs.declared.rule_code.RuleCode.TheOpen as opened_code
 use Rattle.asm_code.specs.declared.rule_code.RuleCode.TheViews.{roll-RuleCode, out-RuleCode}
 use Rattle.asm_code.specs.declared.rule_code.RuleCode.TheVariants as code
 use Rattle.asm_code.specs.declared.rule_code.RuleCode.TheFolds.{fold-roll-RuleCode}
-use Rattle.asm_eval.specs.Pieces.{IsPartOf}
+use Rattle.asm_eval.specs.code.Pieces.{IsPartOf}
 
 module _ (shape : Shape) (from to : ℕ) (R : RuleCode) (is : IsPartOf shape (rule_of R) (part.Span from to)) where
   abbrev IsSpanned : tree.RuleCode → Type 0

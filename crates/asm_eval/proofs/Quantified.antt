@@ -1,4 +1,5 @@
--- Tests over the values of a universe: one that settles the whole, and those of a prefix, which do not.
+-- Free. Tests over the values of a universe: one that settles the whole, and those of a prefix,
+-- which do not.
 use Rattle.std.proofs.Common.{◌≡◌, ℕ, ◌+◌, ◌≤◌, Bool, true, false, ◌||◌, ◌&&◌, List, [], ◌∷◌, length, take, get_or, Some, sym, ap, ◌∙◌}
 use Rattle.std.specs.Prelude.{slice_get, slice_index_or}
 use Rattle.std.specs.List.{list_any, list_all}
@@ -10,8 +11,8 @@ use Rattle.asm_state.specs.declared.value.Value.TheVariants.{Truth}
 use Rattle.asm_state.specs.Location.{State}
 use Rattle.asm_state.specs.Signature.{Shape}
 use Rattle.asm_meaning.specs.Value.{Reading, is_true}
-use Rattle.asm_code.specs.CodeTree.{Code, Exists, Every}
-use Rattle.asm_code.specs.Readings.{always, reading}
+use Rattle.asm_code.specs.code.CodeTree.{Code, Exists, Every}
+use Rattle.asm_code.specs.code.Readings.{always, reading}
 
 any_here : {X : Type 0} (p : X → Bool) (xs : List X) (i : ℕ) (x : X) → slice_get xs i ≡ Some x → p x ≡ true → list_any p xs ≡ true
 any_here p xs i x at here = list_any_at p xs i x (slice_get_within xs i x at) (ap p (get_or_from_slice_get xs i x x at) ∙ here)

@@ -1,4 +1,4 @@
--- What each variant of the program's rule codes yields.
+-- Free. What each variant of the program's rule codes yields.
 use Rattle.std.proofs.Common.{◌++◌, ◌≡◌, ◌∙◌, ℕ, zero, suc, ◌+◌, ◌-◌, ◌≤◌, ◌<◌, true, false, cond, List, [], ◌∷◌, length, get_or, map, drop, Option, Some, None, refl, ap, sym, subst, arith, Box, Vec, Global, add-one}
 use Rattle.std.specs.Prelude.{option_map, slice_get, slice_index_or}
 use Rattle.std.proofs.lemmas.Option.{get_or_from_slice_get}
@@ -9,11 +9,11 @@ use Rattle.asm_state.specs.declared.value.Value.{Value}
 use Rattle.asm_state.specs.Location.{Location, State}
 use Rattle.asm_state.specs.Signature.{Shape, location_at}
 use Rattle.asm_state.specs.Updates.{one}
-use Rattle.asm_updates.specs.Entries.{Entries}
-use Rattle.asm_updates.specs.Stands.{Adds}
-use Rattle.asm_meaning.specs.Formed.{Forms, greatest_count}
+use Rattle.asm_updates.specs.code.SummaryRanges.{SummaryRanges}
+use Rattle.asm_updates.specs.code.Stands.{Adds}
+use Rattle.asm_meaning.specs.code.FormedOutcomes.{Forms, greatest_count}
 use Rattle.asm_meaning.specs.Does.{Outcome, nothing, both, parts, in_order, counted, each}
-use Rattle.asm_meaning.specs.Intervals.{between}
+use Rattle.asm_meaning.specs.code.Intervals.{between}
 use Rattle.asm_meaning.specs.Program.{nothing_bound}
 use Rattle.asm_meaning.specs.Taken.{taken}
 use Rattle.asm_meaning.specs.Targets.{update}
@@ -22,26 +22,26 @@ use Rattle.asm_meaning.specs.Yields.{Path, Exhausted, Gives, beside, at}
 use Rattle.asm_meaning.proofs.Candidates.{candidate_laws-some as some_taken, candidate_laws-none as none_taken}
 use Rattle.asm_meaning.proofs.Intervals.{interval_laws-all as between_all, interval_laws-next as each_next, interval_laws-none as each_none}
 use Rattle.asm_code.proofs.RuleForms.{rule_laws-skip_form as skip_form, rule_laws-assign_form as assign_form, rule_laws-par_form as par_form, rule_laws-seq_form as seq_form, rule_laws-if_form as if_form, rule_laws-let_form as let_form, rule_laws-forall_form as forall_form, rule_laws-choose_form as choose_form, rule_laws-iterate_form as iterate_form, rule_laws-call_form as call_form}
-use Rattle.asm_code.specs.CodeViews.{code_of, codes_of}
-use Rattle.asm_code.specs.CodeTree as codes
-use Rattle.asm_code.specs.Readings.{always, reading, universe_at}
-use Rattle.asm_code.specs.RuleMeaning.{Locations, meaning, meanings, named_readings, passes, passing, located_at, answer_readings, answer_locations, IsSoundRule, AreSoundRules, rule_size, rule_sizes}
-use Rattle.asm_code.specs.RuleTree as tree
-use Rattle.asm_code.specs.RuleViews.{place_of, rule_of, rules_of}
+use Rattle.asm_code.specs.code.CodeViews.{code_of, codes_of}
+use Rattle.asm_code.specs.code.CodeTree as codes
+use Rattle.asm_code.specs.code.Readings.{always, reading, universe_at}
+use Rattle.asm_code.specs.code.RuleMeaning.{Locations, meaning, meanings, named_readings, passes, passing, optional_target_location, result_readings, result_locations, IsSoundRule, AreSoundRules, rule_size, rule_sizes}
+use Rattle.asm_code.specs.code.RuleTree as tree
+use Rattle.asm_code.specs.code.RuleViews.{target_code_of, rule_of, rules_of}
 use Rattle.asm_code.specs.declared.code.Code.{Code}
-use Rattle.asm_code.specs.declared.rule_code.Place.{Place}
+use Rattle.asm_code.specs.declared.rule_code.TargetCode.{TargetCode}
 use Rattle.asm_code.specs.declared.rule_code.RuleCode.{RuleCode}
 use Rattle.asm_code.specs.declared.rule_code.RuleCode.TheVariants as code
 use Rattle.asm_eval.proofs.CodePaths.{first_part, first_element}
-use Rattle.asm_eval.specs.Frames.{answer_contents, by_name}
-use Rattle.asm_eval.specs.Running.{location_numbered}
+use Rattle.asm_eval.specs.code.Frames.{result_contents, by_name}
+use Rattle.asm_eval.specs.code.Evaluation.{location_numbered}
 
 pub named_are : (shape : Shape) (rs : List Reading) (ts : List Code) → named_readings shape (codes_of (map code_of ts)) rs ≡ by_name shape rs ts
 named_are shape rs [] = refl
 named_are shape rs (t ∷ ts) = ap (λ more. reading shape (code_of t) rs ∷ more) (named_are shape rs ts)
 
 -- what `result` stands for in a frame
-pub contents_are : (shape : Shape) (n : Option ℕ) → answer_contents shape n ≡ answer_readings (location_numbered shape n)
+pub contents_are : (shape : Shape) (n : Option ℕ) → result_contents shape n ≡ result_readings (location_numbered shape n)
 contents_are shape None = refl
 contents_are shape (Some n) = refl
 
@@ -62,11 +62,11 @@ module _ (shape : Shape) (turns : ℕ) (chosen : Path → ℕ) (rs : List Readin
   unfolding meaning
   skip_yields P is = sym (ap yields (skip_form P is))
 
-  pub assign_yields : (P : RuleCode) (to : Place) (t : Code) → P ≡ code.Assign to t → (place : Place) (u : Code) → place ≡ to → u ≡ t
-      → record { result = Gives (update (located_at shape (Some (place_of place)) rs ls A) (reading shape (code_of u) rs A)); instances = 0 } ≡ yields (rule_of P)
+  pub assign_yields : (P : RuleCode) (to : TargetCode) (t : Code) → P ≡ code.Assign to t → (place : TargetCode) (u : Code) → place ≡ to → u ≡ t
+      → record { result = Gives (update (optional_target_location shape (Some (target_code_of place)) rs ls A) (reading shape (code_of u) rs A)); instances = 0 } ≡ yields (rule_of P)
   unfolding meaning
   assign_yields P to t is place u same same' =
-      (λ i. record { result = Gives (update (located_at shape (Some (place_of (same i))) rs ls A) (reading shape (code_of (same' i)) rs A)); instances = 0 })
+      (λ i. record { result = Gives (update (optional_target_location shape (Some (target_code_of (same i))) rs ls A) (reading shape (code_of (same' i)) rs A)); instances = 0 })
       ∙ sym (ap yields (assign_form P to t is))
 
   pub par_yields : (P : RuleCode) (Ps : Vec RuleCode Global) → P ≡ code.Par Ps → (Qs : List RuleCode) → Qs ≡ Ps.items → yield_from 0 Qs ≡ yields (rule_of P)
@@ -82,13 +82,13 @@ module _ (shape : Shape) (turns : ℕ) (chosen : Path → ℕ) (rs : List Readin
   pub iterate_yields : (P : RuleCode) (Q : Box RuleCode Global) → P ≡ code.Iterate Q → (S : RuleCode) → S ≡ Q.value → yields (tree.Iterate (rule_of S)) ≡ yields (rule_of P)
   iterate_yields P Q is S same = ap (λ (k : RuleCode). yields (tree.Iterate (rule_of k))) same ∙ sym (ap yields (iterate_form P Q is))
 
-  pub call_yields : (P : RuleCode) (body : _) (to : Option Place) (ts : Vec Code Global) → P ≡ code.Call body to ts → (S : RuleCode) → S ≡ arc_value body → (us : List Code) → us ≡ ts.items
-      → (n : Option ℕ) → location_numbered shape n ≡ located_at shape (option_map place_of to) rs ls A
-      → meaning shape turns chosen (rule_of S) (answer_contents shape n ++ by_name shape rs us) (answer_locations (location_numbered shape n)) A (at p 0) ≡ yields (rule_of P)
+  pub call_yields : (P : RuleCode) (body : _) (to : Option TargetCode) (ts : Vec Code Global) → P ≡ code.Call body to ts → (S : RuleCode) → S ≡ arc_value body → (us : List Code) → us ≡ ts.items
+      → (n : Option ℕ) → location_numbered shape n ≡ optional_target_location shape (option_map target_code_of to) rs ls A
+      → meaning shape turns chosen (rule_of S) (result_contents shape n ++ by_name shape rs us) (result_locations (location_numbered shape n)) A (at p 0) ≡ yields (rule_of P)
   unfolding meaning
   call_yields P body to ts is S same us are n there =
-      (λ i. meaning shape turns chosen (rule_of (same i)) (contents_are shape n i ++ by_name shape rs (are i)) (answer_locations (location_numbered shape n)) A (at p 0))
-      ∙ (λ i. meaning shape turns chosen (rule_of (arc_value body)) (answer_readings (there i) ++ sym (named_are shape rs ts.items) i) (answer_locations (there i)) A (at p 0))
+      (λ i. meaning shape turns chosen (rule_of (same i)) (contents_are shape n i ++ by_name shape rs (are i)) (result_locations (location_numbered shape n)) A (at p 0))
+      ∙ (λ i. meaning shape turns chosen (rule_of (arc_value body)) (result_readings (there i) ++ sym (named_are shape rs ts.items) i) (result_locations (there i)) A (at p 0))
       ∙ sym (ap yields (call_form P body to ts is))
 
   -- ---- the same by the codes of the parts
@@ -119,12 +119,12 @@ module _ (shape : Shape) (turns : ℕ) (chosen : Path → ℕ) (rs : List Readin
   unfolding meaning
   choose_none u c S N there = none_taken (chosen p) (passing shape u (option_map code_of c) rs A) (λ w. yields_with w 0 S) (yields_at 1 N) there
 
-  pub call_with : (S : RuleCode) (to : Option Place) (us : List Code) (n : Option ℕ) → location_numbered shape n ≡ located_at shape (option_map place_of to) rs ls A
-      → meaning shape turns chosen (rule_of S) (answer_contents shape n ++ by_name shape rs us) (answer_locations (location_numbered shape n)) A (at p 0) ≡ yields (tree.Call (rule_of S) (option_map place_of to) (codes_of (map code_of us)))
+  pub call_with : (S : RuleCode) (to : Option TargetCode) (us : List Code) (n : Option ℕ) → location_numbered shape n ≡ optional_target_location shape (option_map target_code_of to) rs ls A
+      → meaning shape turns chosen (rule_of S) (result_contents shape n ++ by_name shape rs us) (result_locations (location_numbered shape n)) A (at p 0) ≡ yields (tree.Call (rule_of S) (option_map target_code_of to) (codes_of (map code_of us)))
   unfolding meaning
   call_with S to us n there =
-      (λ i. meaning shape turns chosen (rule_of S) (contents_are shape n i ++ by_name shape rs us) (answer_locations (location_numbered shape n)) A (at p 0))
-      ∙ (λ i. meaning shape turns chosen (rule_of S) (answer_readings (there i) ++ sym (named_are shape rs us) i) (answer_locations (there i)) A (at p 0))
+      (λ i. meaning shape turns chosen (rule_of S) (contents_are shape n i ++ by_name shape rs us) (result_locations (location_numbered shape n)) A (at p 0))
+      ∙ (λ i. meaning shape turns chosen (rule_of S) (result_readings (there i) ++ sym (named_are shape rs us) i) (result_locations (there i)) A (at p 0))
 
   -- and of the whole rule
   pub if_is : (P : RuleCode) (c : Code) (Q R : Box RuleCode Global) → P ≡ code.If c Q R → (d : Code) (S N : RuleCode) → d ≡ c → S ≡ Q.value → N ≡ R.value → yields (tree.If (code_of d) (rule_of S) (rule_of N)) ≡ yields (rule_of P)
@@ -137,9 +137,9 @@ module _ (shape : Shape) (turns : ℕ) (chosen : Path → ℕ) (rs : List Readin
       → yields (tree.Choose u (option_map code_of d) (rule_of S) (rule_of N)) ≡ yields (rule_of P)
   choose_is P u c Q R is d S N same same' same'' = (λ i. yields (tree.Choose u (option_map code_of (same i)) (rule_of (same' i)) (rule_of (same'' i)))) ∙ sym (ap yields (choose_form P u c Q R is))
 
-  pub call_is : (P : RuleCode) (body : _) (to : Option Place) (ts : Vec Code Global) → P ≡ code.Call body to ts → (S : RuleCode) (d : Option Place) (us : List Code) → S ≡ arc_value body → d ≡ to → us ≡ ts.items
-      → yields (tree.Call (rule_of S) (option_map place_of d) (codes_of (map code_of us))) ≡ yields (rule_of P)
-  call_is P body to ts is S d us same same' are = (λ i. yields (tree.Call (rule_of (same i)) (option_map place_of (same' i)) (codes_of (map code_of (are i))))) ∙ sym (ap yields (call_form P body to ts is))
+  pub call_is : (P : RuleCode) (body : _) (to : Option TargetCode) (ts : Vec Code Global) → P ≡ code.Call body to ts → (S : RuleCode) (d : Option TargetCode) (us : List Code) → S ≡ arc_value body → d ≡ to → us ≡ ts.items
+      → yields (tree.Call (rule_of S) (option_map target_code_of d) (codes_of (map code_of us))) ≡ yields (rule_of P)
+  call_is P body to ts is S d us same same' are = (λ i. yields (tree.Call (rule_of (same i)) (option_map target_code_of (same' i)) (codes_of (map code_of (are i))))) ∙ sym (ap yields (call_form P body to ts is))
 
   -- ---- the candidate that is taken
 
@@ -174,7 +174,7 @@ module _ (shape : Shape) (turns : ℕ) (chosen : Path → ℕ) (rs : List Readin
   unfolding meanings
   none_yields Ps i past = sym (ap (yield_from i) (drop_of_length-le Ps past))
 
-  -- an exhausted part comes before those behind it
+  -- an exhausted part comes before those after it
   pub exhausted_yields : (Ps : List RuleCode) (i : ℕ) (P : RuleCode) (q : Path) → i < length Ps → P ≡ get_or Ps i P → (yields_at i P).result ≡ Exhausted q
       → (yield_from i (drop i Ps)).result ≡ Exhausted q
   exhausted_yields Ps i P q below is ends =
@@ -226,7 +226,7 @@ sound_part shape (Q ∷ Ps) (suc i) P below is sound = sound_part shape Ps i P (
 
 -- ---- an update
 
-pub assign_forms : (l : Option Location) (w : Value) (shape : Shape) (n : ℕ) (v : Value) (old new : Entries) (m : ℕ) → m ≤ greatest_count
+pub assign_forms : (l : Option Location) (w : Value) (shape : Shape) (n : ℕ) (v : Value) (old new : SummaryRanges) (m : ℕ) → m ≤ greatest_count
     → location_numbered shape (Some n) ≡ l → v ≡ w → Adds shape (one (location_at shape n) v) old new → Forms shape (record { result = Gives (update l w); instances = 0 }) old new m m
 assign_forms l w shape n v old new m small there valued adds = record {
   set = one (location_at shape n) v;

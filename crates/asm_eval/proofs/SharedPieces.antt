@@ -1,10 +1,11 @@
--- Threads may share frames and pieces, and hand pieces over, since they may share their parts.
+-- Free. Threads may share frames and pieces, and hand pieces over, since they may share their
+-- parts.
 use denote.Builtin.{usize}
 use denote.Ref.{NamedLft}
 use denote.Param.Send.{IsSync, IsSend, shr_sync, shr_send, shr_slice_sync, shr_slice_send, sendable}
 use denote.Param.SendFields.{as_row_sync, as_row_send, declared_sync, declared_send}
 use Rattle.std.specs.contracts.option.Option as Option
-use Rattle.asm_state.specs.contracts.code.Code as Kept
+use Rattle.asm_state.specs.contracts.value_code.ValueCode as ValueCode
 use Rattle.asm_state.specs.contracts.word.Word as Word
 use Rattle.asm_meaning.specs.contracts.part.Part as Part
 use Rattle.asm_meaning.specs.contracts.path.Path as Path
@@ -18,10 +19,10 @@ use Rattle.asm_eval.proofs.frame.Frame.TheLaws.TheKnot as frame
 word : IsSync Word.the_row
 word = search sendable depth 20
 
-kept_field : IsSync Kept.the_field.row
+kept_field : IsSync ValueCode.the_field.row
 kept_field = search sendable depth 20
 
-kept_field_sent : IsSend Kept.the_field.row
+kept_field_sent : IsSend ValueCode.the_field.row
 kept_field_sent = search sendable depth 20
 
 number_field : IsSync (Option.the_field usize).row

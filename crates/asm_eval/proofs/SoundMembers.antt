@@ -1,14 +1,15 @@
--- The members of sound codes, of a sound chain, and of a sound `par` and `seq`: they are sound, and smaller than the whole.
+-- Free. The members of sound codes, of a sound chain, and of a sound `par` and `seq`: they are
+-- sound, and smaller than the whole.
 use Rattle.std.proofs.Common.{◌≡◌, ℕ, ◌+◌, ◌<◌, List, length, map, get_or, ap, subst, sym, ◌∙◌, arith, Box, Vec, Global}
 use Rattle.std.specs.Arc.{arc_value}
 use Rattle.std.specs.declared.sync.Arc.{Arc}
 use Rattle.asm_state.specs.declared.operation.Op.{Op}
 use Rattle.asm_state.specs.Signature.{Shape}
-use Rattle.asm_code.specs.CodeViews.{code_of, codes_of, link_of, links_of}
-use Rattle.asm_code.specs.RuleMeaning.{AreSoundRules, IsSoundRule, rule_size, rule_sizes}
-use Rattle.asm_code.specs.RuleViews.{rule_of, rules_of}
-use Rattle.asm_code.specs.Sizes.{size, sizes, link_sizes}
-use Rattle.asm_code.specs.Sound.{AreSound, AreSoundLinks, IsSound}
+use Rattle.asm_code.specs.code.CodeViews.{code_of, codes_of, link_of, links_of}
+use Rattle.asm_code.specs.code.RuleMeaning.{AreSoundRules, IsSoundRule, rule_size, rule_sizes}
+use Rattle.asm_code.specs.code.RuleViews.{rule_of, rules_of}
+use Rattle.asm_code.specs.code.Sizes.{size, sizes, link_sizes}
+use Rattle.asm_code.specs.code.SoundCodes.{AreSound, AreSoundLinks, IsSound}
 use Rattle.asm_code.specs.declared.code.Code.{Code}
 use Rattle.asm_code.specs.declared.code.Code.TheVariants as code
 use Rattle.asm_code.specs.declared.rule_code.RuleCode.{RuleCode}
@@ -23,7 +24,7 @@ module _ (shape : Shape) where
   member_laws-codes = sound_within shape
 
   module _ (t : Code) (sound : IsSound shape (code_of t)) where
-    pub member_laws-held : (f : ℕ) (ts : Vec Code Global) → t ≡ code.Held f ts → (us : List Code) → us ≡ ts.items
+    pub member_laws-held : (f : ℕ) (ts : Vec Code Global) → t ≡ code.FunctionAt f ts → (us : List Code) → us ≡ ts.items
         → (i : ℕ) (u : Code) → i < length us → u ≡ get_or us i u → (size (code_of u) < size (code_of t)) × IsSound shape (code_of u)
     member_laws-held f ts is us same i u below at =
         let whole = held_form t f ts is in

@@ -1,8 +1,8 @@
--- A position in a span is within it.
+-- Free. A position in a span is within it.
 use Rattle.std.proofs.Common.{◌≡◌, ℕ, ◌-◌, ◌<◌, Bool, true, false, cond, Some, None, refl, ap, subst}
 use Rattle.std.specs.Prelude.{nat_lt, unwrap_or}
 use Rattle.std.proofs.lemmas.Bool.{ltb-true}
-use Rattle.asm_state.specs.Turns.{code_position}
+use Rattle.asm_state.specs.code.ConsecutiveCodes.{code_position}
 
 pub place_within : (low count c i : ℕ) → code_position low count c ≡ Some i → i < count
 place_within low count c i = by_tests (nat_lt c low) (nat_lt (c - low) count) refl refl

@@ -1,9 +1,1 @@
-pub mod Frames
-pub mod Founds
-pub mod Running
-pub mod Singles
-pub mod Regions
-pub mod Ands
-pub mod Pieces
-pub mod Opening
-pub mod OpenedPieces
+pub mod code

@@ -3,7 +3,7 @@ ghost use Rattle.std.specs.Prelude.{◌≡◌, ◌<◌};
 ghost use Rattle.std.specs.Int.{int_rem_euclid};
 ghost use Rattle.std.specs.List.{list_all};
 ghost use Rattle.asm_state.specs.Operation.{op};
-ghost use Rattle.asm_eval.specs.Ands.{is_and, is_and_operation};
+ghost use Rattle.asm_eval.specs.code.AndChains.{is_and, is_and_operation};
 ghost use Rattle.asm_meaning.specs.Value.{is_true};
 ghost use Rattle.asm_state.specs.declared.operation.Op.TheVariants.{Add, Remainder, Equal};
 ghost use Rattle.asm_state.specs.declared.value.Value.TheVariants.{Number as Whole};
@@ -32,7 +32,7 @@ pub(crate) fn equal_to(left: Word, right: Word) -> Word
 }
 
 /// A power of two above the size of each number, and so a multiple of each power that a modulus is.
-const SHIFT: i64 = 1 << 62;
+const POWER_ABOVE_NUMBERS: i64 = 1 << 62;
 
 /// The remainder by a number.
 #[inline(always)]
@@ -45,7 +45,7 @@ pub(crate) fn remainder_by(left: Word, right: Modulus) -> Word
     if right.number.value > 0 {
         Word::of(apply(Op::Remainder, left.value(), Value::Number(right.number)))
     } else {
-        far_remainder(left, right.number)
+        remainder_by_call(left, right.number)
     }
 }
 
@@ -69,32 +69,32 @@ fn last_digits(number: Number, right: Modulus) -> Number
     ensures { result.value ≡ int_rem_euclid number.value right.number.value }
 {
     let mask = (right.number.value - 1) as u64;
-    let digits = (number.value + SHIFT) as u64 & mask;
+    let digits = (number.value + POWER_ABOVE_NUMBERS) as u64 & mask;
     Number {
         value: digits as i64,
     }
 }
 
 #[inline(never)]
-pub(crate) fn far_remainder(left: Word, right: Number) -> Word
+pub(crate) fn remainder_by_call(left: Word, right: Number) -> Word
     ensures { result ≡ op Remainder left (Whole right) }
 {
     Word::of(apply(Op::Remainder, left.value(), Value::Number(right)))
 }
 
-/// The value of an operation, an addition soonest.
+/// The value of an operation. An addition has it without a call.
 #[inline(always)]
 pub(crate) fn applied(operation: Op, left: Word, right: Word) -> Word
     ensures { result ≡ op operation left right }
 {
     match operation {
         Op::Add => Word::of(apply(Op::Add, left.value(), right.value())),
-        _ => far_applied(operation, left, right),
+        _ => applied_by_call(operation, left, right),
     }
 }
 
 #[inline(never)]
-pub(crate) fn far_applied(operation: Op, left: Word, right: Word) -> Word
+pub(crate) fn applied_by_call(operation: Op, left: Word, right: Word) -> Word
     ensures { result ≡ op operation left right }
 {
     match operation {
@@ -118,23 +118,23 @@ pub(crate) fn far_applied(operation: Op, left: Word, right: Word) -> Word
 
 /// Whether an operation has the value true. Comparisons have it without a call.
 #[inline(always)]
-pub(crate) fn is_so(operation: Op, left: Word, right: Word) -> bool
+pub(crate) fn is_true_of(operation: Op, left: Word, right: Word) -> bool
     ensures { result ≡ is_true (op operation left right) }
 {
     match operation {
-        Op::Less => is_yes(apply(Op::Less, left.value(), right.value())),
-        Op::AtMost => is_yes(apply(Op::AtMost, left.value(), right.value())),
-        Op::Greater => is_yes(apply(Op::Greater, left.value(), right.value())),
-        Op::AtLeast => is_yes(apply(Op::AtLeast, left.value(), right.value())),
+        Op::Less => is_true_value(apply(Op::Less, left.value(), right.value())),
+        Op::AtMost => is_true_value(apply(Op::AtMost, left.value(), right.value())),
+        Op::Greater => is_true_value(apply(Op::Greater, left.value(), right.value())),
+        Op::AtLeast => is_true_value(apply(Op::AtLeast, left.value(), right.value())),
         Op::Equal => left.code() == right.code(),
         Op::Different => left.code() != right.code(),
-        _ => is_yes(far_applied(operation, left, right).value()),
+        _ => is_true_value(applied_by_call(operation, left, right).value()),
     }
 }
 
 /// Whether a value is the truth value true.
 #[inline(always)]
-fn is_yes(value: Value) -> bool
+fn is_true_value(value: Value) -> bool
     ensures { result ≡ is_true value }
 {
     matches!(value, Value::Truth(true))

@@ -7,19 +7,19 @@
 //! evaluated at most three times for an element.
 ghost use Rattle.std.specs.Prelude.{◌≡◌, option_map};
 ghost use Rattle.asm_reader.specs.ScriptLines.{pick};
-ghost use Rattle.asm_meaning.specs.Taken.{taken, walk_to};
-ghost use Rattle.asm_code.specs.CodeViews.{code_of};
-ghost use Rattle.asm_code.specs.RuleMeaning.{IsSoundTest};
-ghost use Rattle.asm_code.specs.Sound.{IsUniverseNumber};
-ghost use Rattle.asm_eval.specs.Frames.{IsSoundFrame};
-ghost use Rattle.asm_eval.specs.Running.{passes_in, passing_in};
+ghost use Rattle.asm_meaning.specs.Taken.{taken, found_candidate};
+ghost use Rattle.asm_code.specs.code.CodeViews.{code_of};
+ghost use Rattle.asm_code.specs.code.RuleMeaning.{IsSoundTest};
+ghost use Rattle.asm_code.specs.code.SoundCodes.{IsUniverseNumber};
+ghost use Rattle.asm_eval.specs.code.Frames.{IsSoundFrame};
+ghost use Rattle.asm_eval.specs.code.Evaluation.{passes_in, passing_in};
 
+use crate::evaluation::Evaluation;
 use crate::frame::Frame;
-use crate::running::Running;
 use crate::value::holds;
 use asm_code::code::Code;
 use asm_meaning::View;
-use asm_meaning::walk::{Walk, element_at};
+use asm_meaning::found_candidate::{FoundCandidate, element_at};
 use asm_reader::Picks;
 use asm_state::word::Word;
 
@@ -42,11 +42,11 @@ fn find_candidate<'e>(
     over: usize,
     test: &'e Option<Code>,
     number: u64,
-) -> Walk
+) -> FoundCandidate
     requires universe { IsUniverseNumber view.now.signature.now over }
     requires sound { IsSoundTest view.now.signature.now (option_map code_of test.now) }
     requires framed { IsSoundFrame view.now.signature.now frame.now }
-    ensures { result ≡ walk_to number (passing_in view.now frame.now over test.now) }
+    ensures { result ≡ found_candidate number (passing_in view.now frame.now over test.now) }
 {
     let universe = view.signature.universe(over);
     if test.is_none() {
@@ -55,56 +55,56 @@ fn find_candidate<'e>(
     let mut met = 0;
     for i in 0..universe.size() {
         let bound = Frame::One {
-            value: universe.element(i).kept(),
+            value: universe.element(i).unbranded_code(),
             outer: frame,
         };
         if passes(view, &bound, test) {
             if met == number {
-                return Walk::Met(universe.element(i));
+                return FoundCandidate::At(universe.element(i));
             }
             met += 1;
         }
     }
-    Walk::Passed(met)
+    FoundCandidate::TooFew(met)
 }
 
-/// The candidate that is taken at this path. Where there are candidates the script is asked once,
+/// The candidate that is taken at this path. If there are candidates the script is asked once,
 /// else never.
 ///
-/// Without a condition, every element of the universe is a candidate, and none is looked at but the
-/// one that is taken.
+/// Without a condition, every element of the universe is a candidate, and none is looked at except
+/// the one that is taken.
 pub(crate) fn chosen<'e, P: Picks>(
-    running: &Running<'_, '_, P>,
+    evaluation: &Evaluation<'_, '_, P>,
     frame: &'e Frame<'e>,
     over: usize,
     test: &'e Option<Code>,
     path: &[u64],
 ) -> Option<Word>
-    requires universe { IsUniverseNumber running.now.view.now.signature.now over }
-    requires sound { IsSoundTest running.now.view.now.signature.now (option_map code_of test.now) }
-    requires framed { IsSoundFrame running.now.view.now.signature.now frame.now }
-    ensures { let number = pick (P.script running.now.choices.now.script.now) running.now.choices.now.step path.now in
-        result ≡ taken number (passing_in running.now.view.now frame.now over test.now) }
+    requires universe { IsUniverseNumber evaluation.now.view.now.signature.now over }
+    requires sound { IsSoundTest evaluation.now.view.now.signature.now (option_map code_of test.now) }
+    requires framed { IsSoundFrame evaluation.now.view.now.signature.now frame.now }
+    ensures { let number = pick (P.script evaluation.now.choices.now.script.now) evaluation.now.choices.now.step path.now in
+        result ≡ taken number (passing_in evaluation.now.view.now frame.now over test.now) }
 {
-    let Walk::Met(first) = find_candidate(running.view, frame, over, test, 0) else {
+    let FoundCandidate::At(first) = find_candidate(evaluation.view, frame, over, test, 0) else {
         return None;
     };
-    let choices = running.choices;
+    let choices = evaluation.choices;
     let number = choices.script.pick(choices.step, path);
     if number == 0 {
         return Some(first);
     }
-    match find_candidate(running.view, frame, over, test, number) {
-        Walk::Met(value) => Some(value),
-        Walk::Passed(count) => match find_candidate(
-            running.view,
+    match find_candidate(evaluation.view, frame, over, test, number) {
+        FoundCandidate::At(value) => Some(value),
+        FoundCandidate::TooFew(count) => match find_candidate(
+            evaluation.view,
             frame,
             over,
             test,
             number % count,
         ) {
-            Walk::Met(value) => Some(value),
-            Walk::Passed(_) => unreachable!(),
+            FoundCandidate::At(value) => Some(value),
+            FoundCandidate::TooFew(_) => unreachable!(),
         },
     }
 }

@@ -6,9 +6,9 @@
 //! is stray).
 ghost use Rattle.std.specs.Prelude.{◌≡◌, ◌≤◌};
 ghost use Rattle.asm_state.specs.Signature.{Shape};
-ghost use Rattle.asm_code.specs.Readings.{at_position};
-ghost use Rattle.asm_eval.specs.Founds.{found_reading, found_load, IsSoundFound};
-ghost use Rattle.asm_eval.specs.Frames.{AllSound, IsAnswer, IsSoundFrame, by_name, load, readings_of, terms_load, terms_readings};
+ghost use Rattle.asm_code.specs.code.Readings.{at_position};
+ghost use Rattle.asm_eval.specs.code.FrameBindings.{binding_reading, binding_load, IsSoundBinding};
+ghost use Rattle.asm_eval.specs.code.Frames.{AllSound, IsOptionalLocation, IsSoundFrame, by_name, frame_size, readings_of, terms_load, terms_readings};
 
 use crate::frame::Frame;
 use asm_code::code::Code;
@@ -16,7 +16,7 @@ use asm_state::word::Word;
 
 /// What a position stands for.
 #[derive(Clone, Copy)]
-pub(crate) enum Found<'a> {
+pub(crate) enum FrameBinding<'a> {
     Nothing,
     /// A value.
     Known(Word),
@@ -28,10 +28,10 @@ pub(crate) enum Found<'a> {
 
 /// What the position stands for in the frame.
 #[inline(always)]
-pub(crate) fn find<'a>(frame: &'a Frame<'a>, position: usize) -> Found<'a>
-    ensures reading { (shape : Shape) → found_reading shape result ≡ at_position (readings_of shape frame.now) position }
-    ensures sound { (shape : Shape) → IsSoundFrame shape frame.now → IsSoundFound shape result }
-    ensures load { found_load result ≤ load frame.now }
+pub(crate) fn find<'a>(frame: &'a Frame<'a>, position: usize) -> FrameBinding<'a>
+    ensures reading { (shape : Shape) → binding_reading shape result ≡ at_position (readings_of shape frame.now) position }
+    ensures sound { (shape : Shape) → IsSoundFrame shape frame.now → IsSoundBinding shape result }
+    ensures load { binding_load result ≤ frame_size frame.now }
 {
     let mut rest = frame;
     let mut left = position;
@@ -39,14 +39,14 @@ pub(crate) fn find<'a>(frame: &'a Frame<'a>, position: usize) -> Found<'a>
         match rest {
             Frame::One { value, outer } => {
                 if left == 0 {
-                    return Found::Known(Word::again(*value));
+                    return FrameBinding::Known(Word::of_code(*value));
                 }
                 left -= 1;
                 rest = outer;
             }
             Frame::Values { values, outer } => {
                 if let Some(value) = values.get(left) {
-                    return Found::Known(*value);
+                    return FrameBinding::Known(*value);
                 }
                 left -= values.len();
                 rest = outer;
@@ -56,7 +56,7 @@ pub(crate) fn find<'a>(frame: &'a Frame<'a>, position: usize) -> Found<'a>
                 codes,
                 caller,
             } => return in_terms(*answer, codes, caller, left),
-            Frame::Empty => return Found::Nothing,
+            Frame::Empty => return FrameBinding::Nothing,
         }
     }
 }
@@ -67,29 +67,29 @@ fn in_terms<'a>(
     codes: &'a [Code],
     caller: &'a Frame<'a>,
     position: usize,
-) -> Found<'a>
-    ensures reading { (shape : Shape) → found_reading shape result ≡ at_position (terms_readings shape answer codes.now caller.now) position }
-    ensures sound { (shape : Shape) → IsAnswer shape answer → AllSound shape codes.now → IsSoundFrame shape caller.now → IsSoundFound shape result }
-    ensures load { found_load result ≤ terms_load codes.now caller.now }
+) -> FrameBinding<'a>
+    ensures reading { (shape : Shape) → binding_reading shape result ≡ at_position (terms_readings shape answer codes.now caller.now) position }
+    ensures sound { (shape : Shape) → IsOptionalLocation shape answer → AllSound shape codes.now → IsSoundFrame shape caller.now → IsSoundBinding shape result }
+    ensures load { binding_load result ≤ terms_load codes.now caller.now }
 {
     let Some(n) = answer else {
         return named_at(codes, caller, position);
     };
     if position == 0 {
-        return Found::Located(n);
+        return FrameBinding::Located(n);
     }
     named_at(codes, caller, position - 1)
 }
 
 /// The code at a position, with the frame that it belongs to.
 #[inline(always)]
-fn named_at<'a>(codes: &'a [Code], caller: &'a Frame<'a>, position: usize) -> Found<'a>
-    ensures reading { (shape : Shape) → found_reading shape result ≡ at_position (by_name shape (readings_of shape caller.now) codes.now) position }
-    ensures sound { (shape : Shape) → AllSound shape codes.now → IsSoundFrame shape caller.now → IsSoundFound shape result }
-    ensures load { found_load result ≤ terms_load codes.now caller.now }
+fn named_at<'a>(codes: &'a [Code], caller: &'a Frame<'a>, position: usize) -> FrameBinding<'a>
+    ensures reading { (shape : Shape) → binding_reading shape result ≡ at_position (by_name shape (readings_of shape caller.now) codes.now) position }
+    ensures sound { (shape : Shape) → AllSound shape codes.now → IsSoundFrame shape caller.now → IsSoundBinding shape result }
+    ensures load { binding_load result ≤ terms_load codes.now caller.now }
 {
     match codes.get(position) {
-        None => Found::Nothing,
-        Some(code) => Found::ByName(code, caller),
+        None => FrameBinding::Nothing,
+        Some(code) => FrameBinding::ByName(code, caller),
     }
 }

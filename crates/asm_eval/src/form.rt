@@ -8,11 +8,11 @@
 //! A `seq` or an `iterate` sets aside what was formed before. It evaluates part after part, or turn
 //! after turn, over a view that lays the set so far over the view of the whole. For a part that is
 //! an assignment or a `skip`, or an `if` between such, at most one update is found, and the set so
-//! far goes on with it (`single_update`, `go_on_by`). Any other part is formed in one summary,
+//! far goes on with it (`single_update`, `merge_update`). Any other part is formed in one summary,
 //! which is cleared for each, and then joined by the turbo merge; the first set that isn't empty is
-//! taken as it is (`go_on`). So joining a turn costs what its own updates cost, however much was
-//! done before it, and a million turns take the memory of the locations that they update. Turns are
-//! a loop and take no stack.
+//! taken as it is (`merge_part`). So joining a turn costs what its own updates cost, however much
+//! was done before it, and a million turns take the memory of the locations that they update. Turns
+//! are a loop and take no stack.
 //!
 //! In a loop over parts or elements the invariant speaks of what is left: what the rest yields,
 //! added to what has been formed, is what the whole yields, added to what was there before. In a
@@ -20,28 +20,28 @@
 //! that set is fired (`proofs/CodeSequences.antt`).
 ghost use Rattle.std.specs.Prelude.{◌≡◌, ◌≤◌, length, map, option_map};
 ghost use Rattle.asm_state.specs.Signature.{count_of};
-ghost use Rattle.asm_meaning.specs.Formed.{Follows, FollowsUpon};
+ghost use Rattle.asm_meaning.specs.code.FormedOutcomes.{Follows, FollowsUpon};
 ghost use Rattle.asm_meaning.specs.Yields as yields;
-ghost use Rattle.asm_code.specs.CodeViews.{code_of, codes_of};
-ghost use Rattle.asm_code.specs.Readings.{universe_at};
-ghost use Rattle.asm_code.specs.RuleMeaning.{AreSoundRules, IsSoundAnswer, IsSoundPlace, IsSoundRule, IsSoundTest};
-ghost use Rattle.asm_code.specs.RuleTree as tree;
-ghost use Rattle.asm_code.specs.RuleViews.{place_of, rule_of, rules_of};
-ghost use Rattle.asm_code.specs.Sound.{AreSound, IsSound, IsUniverseNumber};
-ghost use Rattle.asm_eval.specs.Frames.{IsSoundFrame};
-ghost use Rattle.asm_eval.specs.Running.{Fits, in_order_at, parts_at, rule_at, rule_upon, shape_at, span_at, assigned};
+ghost use Rattle.asm_code.specs.code.CodeViews.{code_of, codes_of};
+ghost use Rattle.asm_code.specs.code.Readings.{universe_at};
+ghost use Rattle.asm_code.specs.code.RuleMeaning.{AreSoundRules, IsSoundOptionalTarget, IsSoundTarget, IsSoundRule, IsSoundTest};
+ghost use Rattle.asm_code.specs.code.RuleTree as tree;
+ghost use Rattle.asm_code.specs.code.RuleViews.{target_code_of, rule_of, rules_of};
+ghost use Rattle.asm_code.specs.code.SoundCodes.{AreSound, IsSound, IsUniverseNumber};
+ghost use Rattle.asm_eval.specs.code.Frames.{IsSoundFrame};
+ghost use Rattle.asm_eval.specs.code.Evaluation.{HasLocations, in_order_at, parts_at, rule_at, rule_upon, evaluation_shape, span_at, assigned};
 
 use crate::choose::{chosen, passes};
+use crate::evaluation::Evaluation;
 use crate::frame::Frame;
-use crate::place::{answer_number, place_number};
-use crate::regions::{Region, Regions};
-use crate::running::Running;
-use crate::single::{Single, single_update};
+use crate::one_update::{OneUpdate, single_update};
+use crate::regions::{RegionOutcome, Regions};
+use crate::target::{optional_target_number, target_number};
 use crate::value::{holds, value};
 use asm_code::code::Code;
-use asm_code::rule_code::{Place, RuleCode};
-use asm_meaning::kept::{furnish, go_on, go_on_by, put_back, set_aside};
+use asm_code::rule_code::{RuleCode, TargetCode};
 use asm_meaning::part_set::PartSet;
+use asm_meaning::spare_sets::{merge_part, merge_update, put_back, set_aside, take_memory};
 use asm_meaning::update::add_update;
 use asm_meaning::{Forming, Stopped, View};
 use asm_reader::Picks;
@@ -49,55 +49,62 @@ use asm_updates::summary::Summary;
 use std::alloc::Global;
 
 /// Forms what the rule yields at the path where the evaluation stands: its updates come to those
-/// formed before, and its instances are counted. Where it is exhausted, it stands at the path of
-/// the `iterate` that made its last turn. Where it stopped, the set may have some of the updates.
+/// formed before, and its instances are counted. If it is exhausted, it stands at the path of
+/// the `iterate` that made its last turn. If it stopped, the set may have some of the updates.
 /// Each `par` and `forall` is offered to `regions` first.
 #[cycle(form)]
 pub fn form<'e, P: Picks, G: Regions<P>>(
     alloc: Global,
     regions: &mut G,
-    running: &Running<'_, '_, P>,
+    evaluation: &Evaluation<'_, '_, P>,
     frame: &'e Frame<'e>,
     rule: &'e RuleCode,
-    made: &mut Forming,
+    forming: &mut Forming,
 ) -> Result<(), Stopped>
-    requires sound { IsSoundRule (shape_at running.now) (rule_of rule.now) }
-    requires framed { IsSoundFrame (shape_at running.now) frame.now }
+    requires sound { IsSoundRule (evaluation_shape evaluation.now) (rule_of rule.now) }
+    requires framed { IsSoundFrame (evaluation_shape evaluation.now) frame.now }
     requires ready { G.is_ready regions.old }
-    requires fits { Fits running.now made.old }
+    requires fits { HasLocations evaluation.now forming.old }
     ensures ready { G.is_ready regions.new }
-    ensures formed { Follows (shape_at running.now) (rule_at running.now frame.now made.old.path.items (rule_of rule.now)) made.old made.new result }
+    ensures formed { Follows (evaluation_shape evaluation.now) (rule_at evaluation.now frame.now forming.old.path.items (rule_of rule.now)) forming.old forming.new result }
 {
     match rule {
         RuleCode::Skip => Ok(()),
         RuleCode::Assign { place, value } => {
-            assign(alloc, running.view, frame, place, value, made)
+            assign(alloc, evaluation.view, frame, place, value, forming)
         }
-        RuleCode::Par(parts) => match regions.region(alloc, running, frame, rule, made)? {
-            Region::Formed => Ok(()),
-            Region::Left => form_all(alloc, regions, running, frame, parts.as_slice(), made),
+        RuleCode::Par(parts) => match regions.region(alloc, evaluation, frame, rule, forming)? {
+            RegionOutcome::Formed => Ok(()),
+            RegionOutcome::Left => form_all(
+                alloc,
+                regions,
+                evaluation,
+                frame,
+                parts.as_slice(),
+                forming,
+            ),
         },
         RuleCode::Seq(parts) => form_in_order(
             alloc,
             regions,
-            running,
+            evaluation,
             frame,
             parts.as_slice(),
-            made,
+            forming,
         ),
         RuleCode::If { test, yes, no } => form_if(
-            alloc, regions, running, frame, test, yes, no, made,
+            alloc, regions, evaluation, frame, test, yes, no, forming,
         ),
         RuleCode::Let { value, body } => form_let(
-            alloc, regions, running, frame, value, body, made,
+            alloc, regions, evaluation, frame, value, body, forming,
         ),
         RuleCode::Forall { over, test, body } => {
-            match regions.region(alloc, running, frame, rule, made)? {
-                Region::Formed => Ok(()),
-                Region::Left => {
-                    let size = running.view.signature.universe(*over).size();
+            match regions.region(alloc, evaluation, frame, rule, forming)? {
+                RegionOutcome::Formed => Ok(()),
+                RegionOutcome::Left => {
+                    let size = evaluation.view.signature.universe(*over).size();
                     form_span(
-                        alloc, regions, running, frame, *over, test, 0, size, body, made,
+                        alloc, regions, evaluation, frame, *over, test, 0, size, body, forming,
                     )
                 }
             }
@@ -108,9 +115,9 @@ pub fn form<'e, P: Picks, G: Regions<P>>(
             body,
             none,
         } => form_choose(
-            alloc, regions, running, frame, *over, test, body, none, made,
+            alloc, regions, evaluation, frame, *over, test, body, none, forming,
         ),
-        RuleCode::Iterate(body) => form_turns(alloc, regions, running, frame, body, made),
+        RuleCode::Iterate(body) => form_turns(alloc, regions, evaluation, frame, body, forming),
         RuleCode::Call {
             body,
             answer,
@@ -118,44 +125,44 @@ pub fn form<'e, P: Picks, G: Regions<P>>(
         } => form_call(
             alloc,
             regions,
-            running,
+            evaluation,
             frame,
             body,
             answer,
             arguments.as_slice(),
-            made,
+            forming,
         ),
     }
 }
 
-/// Forms one of two rules. Where the other one is left out, nothing is done for it.
+/// Forms one of two rules. If the other one is left out, nothing is done for it.
 #[cycle(form)]
 #[inline(never)]
 fn form_if<'e, P: Picks, G: Regions<P>>(
     alloc: Global,
     regions: &mut G,
-    running: &Running<'_, '_, P>,
+    evaluation: &Evaluation<'_, '_, P>,
     frame: &'e Frame<'e>,
     test: &'e Code,
     yes: &'e RuleCode,
     no: &'e RuleCode,
-    made: &mut Forming,
+    forming: &mut Forming,
 ) -> Result<(), Stopped>
-    requires sound_test { IsSound (shape_at running.now) (code_of test.now) }
-    requires sound { IsSoundRule (shape_at running.now) (rule_of yes.now) }
-    requires sound_no { IsSoundRule (shape_at running.now) (rule_of no.now) }
-    requires framed { IsSoundFrame (shape_at running.now) frame.now }
+    requires sound_test { IsSound (evaluation_shape evaluation.now) (code_of test.now) }
+    requires sound { IsSoundRule (evaluation_shape evaluation.now) (rule_of yes.now) }
+    requires sound_no { IsSoundRule (evaluation_shape evaluation.now) (rule_of no.now) }
+    requires framed { IsSoundFrame (evaluation_shape evaluation.now) frame.now }
     requires ready { G.is_ready regions.old }
-    requires fits { Fits running.now made.old }
+    requires fits { HasLocations evaluation.now forming.old }
     ensures ready { G.is_ready regions.new }
-    ensures formed { Follows (shape_at running.now) (rule_at running.now frame.now made.old.path.items (tree.If (code_of test.now) (rule_of yes.now) (rule_of no.now))) made.old made.new result }
+    ensures formed { Follows (evaluation_shape evaluation.now) (rule_at evaluation.now frame.now forming.old.path.items (tree.If (code_of test.now) (rule_of yes.now) (rule_of no.now))) forming.old forming.new result }
 {
-    if holds(running.view, frame, test) {
-        return form_part(alloc, regions, running, frame, yes, 0, made);
+    if holds(evaluation.view, frame, test) {
+        return form_part(alloc, regions, evaluation, frame, yes, 0, forming);
     }
     match no {
         RuleCode::Skip => Ok(()),
-        _ => form_part(alloc, regions, running, frame, no, 1, made),
+        _ => form_part(alloc, regions, evaluation, frame, no, 1, forming),
     }
 }
 
@@ -165,60 +172,60 @@ fn form_if<'e, P: Picks, G: Regions<P>>(
 fn form_let<'e, P: Picks, G: Regions<P>>(
     alloc: Global,
     regions: &mut G,
-    running: &Running<'_, '_, P>,
+    evaluation: &Evaluation<'_, '_, P>,
     frame: &'e Frame<'e>,
     term: &'e Code,
     body: &'e RuleCode,
-    made: &mut Forming,
+    forming: &mut Forming,
 ) -> Result<(), Stopped>
-    requires sound_term { IsSound (shape_at running.now) (code_of term.now) }
-    requires sound { IsSoundRule (shape_at running.now) (rule_of body.now) }
-    requires framed { IsSoundFrame (shape_at running.now) frame.now }
+    requires sound_term { IsSound (evaluation_shape evaluation.now) (code_of term.now) }
+    requires sound { IsSoundRule (evaluation_shape evaluation.now) (rule_of body.now) }
+    requires framed { IsSoundFrame (evaluation_shape evaluation.now) frame.now }
     requires ready { G.is_ready regions.old }
-    requires fits { Fits running.now made.old }
+    requires fits { HasLocations evaluation.now forming.old }
     ensures ready { G.is_ready regions.new }
-    ensures formed { Follows (shape_at running.now) (rule_at running.now frame.now made.old.path.items (tree.Let (code_of term.now) (rule_of body.now))) made.old made.new result }
+    ensures formed { Follows (evaluation_shape evaluation.now) (rule_at evaluation.now frame.now forming.old.path.items (tree.Let (code_of term.now) (rule_of body.now))) forming.old forming.new result }
 {
-    let value = value(running.view, frame, term);
+    let value = value(evaluation.view, frame, term);
     let bound = Frame::One {
-        value: value.kept(),
+        value: value.unbranded_code(),
         outer: frame,
     };
-    form_part(alloc, regions, running, &bound, body, 0, made)
+    form_part(alloc, regions, evaluation, &bound, body, 0, forming)
 }
 
-/// Forms a rule for the candidate that is taken, or the other rule where there is none.
+/// Forms a rule for the candidate that is taken, or the other rule if there is none.
 #[cycle(form)]
 #[inline(never)]
 fn form_choose<'e, P: Picks, G: Regions<P>>(
     alloc: Global,
     regions: &mut G,
-    running: &Running<'_, '_, P>,
+    evaluation: &Evaluation<'_, '_, P>,
     frame: &'e Frame<'e>,
     over: usize,
     test: &'e Option<Code>,
     body: &'e RuleCode,
     none: &'e RuleCode,
-    made: &mut Forming,
+    forming: &mut Forming,
 ) -> Result<(), Stopped>
-    requires universe { IsUniverseNumber (shape_at running.now) over }
-    requires sound_test { IsSoundTest (shape_at running.now) (option_map code_of test.now) }
-    requires sound { IsSoundRule (shape_at running.now) (rule_of body.now) }
-    requires sound_none { IsSoundRule (shape_at running.now) (rule_of none.now) }
-    requires framed { IsSoundFrame (shape_at running.now) frame.now }
+    requires universe { IsUniverseNumber (evaluation_shape evaluation.now) over }
+    requires sound_test { IsSoundTest (evaluation_shape evaluation.now) (option_map code_of test.now) }
+    requires sound { IsSoundRule (evaluation_shape evaluation.now) (rule_of body.now) }
+    requires sound_none { IsSoundRule (evaluation_shape evaluation.now) (rule_of none.now) }
+    requires framed { IsSoundFrame (evaluation_shape evaluation.now) frame.now }
     requires ready { G.is_ready regions.old }
-    requires fits { Fits running.now made.old }
+    requires fits { HasLocations evaluation.now forming.old }
     ensures ready { G.is_ready regions.new }
-    ensures formed { Follows (shape_at running.now) (rule_at running.now frame.now made.old.path.items (tree.Choose over (option_map code_of test.now) (rule_of body.now) (rule_of none.now))) made.old made.new result }
+    ensures formed { Follows (evaluation_shape evaluation.now) (rule_at evaluation.now frame.now forming.old.path.items (tree.Choose over (option_map code_of test.now) (rule_of body.now) (rule_of none.now))) forming.old forming.new result }
 {
-    let Some(value) = chosen(running, frame, over, test, made.path.as_slice()) else {
-        return form_part(alloc, regions, running, frame, none, 1, made);
+    let Some(value) = chosen(evaluation, frame, over, test, forming.path.as_slice()) else {
+        return form_part(alloc, regions, evaluation, frame, none, 1, forming);
     };
     let bound = Frame::One {
-        value: value.kept(),
+        value: value.unbranded_code(),
         outer: frame,
     };
-    form_part(alloc, regions, running, &bound, body, 0, made)
+    form_part(alloc, regions, evaluation, &bound, body, 0, forming)
 }
 
 /// Forms the body of a rule that is called, in which the call's terms stand by name.
@@ -227,29 +234,29 @@ fn form_choose<'e, P: Picks, G: Regions<P>>(
 fn form_call<'e, P: Picks, G: Regions<P>>(
     alloc: Global,
     regions: &mut G,
-    running: &Running<'_, '_, P>,
+    evaluation: &Evaluation<'_, '_, P>,
     frame: &'e Frame<'e>,
     body: &'e RuleCode,
-    answer: &'e Option<Place>,
+    answer: &'e Option<TargetCode>,
     arguments: &'e [Code],
-    made: &mut Forming,
+    forming: &mut Forming,
 ) -> Result<(), Stopped>
-    requires sound { IsSoundRule (shape_at running.now) (rule_of body.now) }
-    requires sound_answer { IsSoundAnswer (shape_at running.now) (option_map place_of answer.now) }
-    requires sound_arguments { AreSound (shape_at running.now) (codes_of (map code_of arguments.now)) }
-    requires framed { IsSoundFrame (shape_at running.now) frame.now }
+    requires sound { IsSoundRule (evaluation_shape evaluation.now) (rule_of body.now) }
+    requires sound_answer { IsSoundOptionalTarget (evaluation_shape evaluation.now) (option_map target_code_of answer.now) }
+    requires sound_arguments { AreSound (evaluation_shape evaluation.now) (codes_of (map code_of arguments.now)) }
+    requires framed { IsSoundFrame (evaluation_shape evaluation.now) frame.now }
     requires ready { G.is_ready regions.old }
-    requires fits { Fits running.now made.old }
+    requires fits { HasLocations evaluation.now forming.old }
     ensures ready { G.is_ready regions.new }
-    ensures formed { Follows (shape_at running.now) (rule_at running.now frame.now made.old.path.items (tree.Call (rule_of body.now) (option_map place_of answer.now) (codes_of (map code_of arguments.now)))) made.old made.new result }
+    ensures formed { Follows (evaluation_shape evaluation.now) (rule_at evaluation.now frame.now forming.old.path.items (tree.Call (rule_of body.now) (option_map target_code_of answer.now) (codes_of (map code_of arguments.now)))) forming.old forming.new result }
 {
-    let answer = answer_number(alloc, running.view, frame, answer)?;
+    let answer = optional_target_number(alloc, evaluation.view, frame, answer)?;
     let bound = Frame::Terms {
         answer,
         codes: arguments,
         caller: frame,
     };
-    form_part(alloc, regions, running, &bound, body, 0, made)
+    form_part(alloc, regions, evaluation, &bound, body, 0, forming)
 }
 
 /// Forms the part with this number.
@@ -257,45 +264,47 @@ fn form_call<'e, P: Picks, G: Regions<P>>(
 fn form_part<'e, P: Picks, G: Regions<P>>(
     alloc: Global,
     regions: &mut G,
-    running: &Running<'_, '_, P>,
+    evaluation: &Evaluation<'_, '_, P>,
     frame: &'e Frame<'e>,
     rule: &'e RuleCode,
     number: u64,
-    made: &mut Forming,
+    forming: &mut Forming,
 ) -> Result<(), Stopped>
-    requires sound { IsSoundRule (shape_at running.now) (rule_of rule.now) }
-    requires framed { IsSoundFrame (shape_at running.now) frame.now }
+    requires sound { IsSoundRule (evaluation_shape evaluation.now) (rule_of rule.now) }
+    requires framed { IsSoundFrame (evaluation_shape evaluation.now) frame.now }
     requires ready { G.is_ready regions.old }
-    requires fits { Fits running.now made.old }
+    requires fits { HasLocations evaluation.now forming.old }
     ensures ready { G.is_ready regions.new }
-    ensures formed { Follows (shape_at running.now) (rule_at running.now frame.now (yields.at made.old.path.items number) (rule_of rule.now)) made.old made.new result }
+    ensures formed { Follows (evaluation_shape evaluation.now) (rule_at evaluation.now frame.now (yields.at forming.old.path.items number) (rule_of rule.now)) forming.old forming.new result }
 {
-    made.path.push(number)?;
-    form(alloc, regions, running, frame, rule, made)?;
-    made.path.pop();
+    forming.path.push(number)?;
+    form(alloc, regions, evaluation, frame, rule, forming)?;
+    forming.path.pop();
     Ok(())
 }
 
-/// Forms the parts that stand beside each other.
+/// Forms parts beside each other.
 #[cycle(form)]
 #[inline(never)]
 fn form_all<'e, P: Picks, G: Regions<P>>(
     alloc: Global,
     regions: &mut G,
-    running: &Running<'_, '_, P>,
+    evaluation: &Evaluation<'_, '_, P>,
     frame: &'e Frame<'e>,
     parts: &'e [RuleCode],
-    made: &mut Forming,
+    forming: &mut Forming,
 ) -> Result<(), Stopped>
-    requires sound { AreSoundRules (shape_at running.now) (rules_of (map rule_of parts.now)) }
-    requires framed { IsSoundFrame (shape_at running.now) frame.now }
+    requires sound { AreSoundRules (evaluation_shape evaluation.now) (rules_of (map rule_of parts.now)) }
+    requires framed { IsSoundFrame (evaluation_shape evaluation.now) frame.now }
     requires ready { G.is_ready regions.old }
-    requires fits { Fits running.now made.old }
+    requires fits { HasLocations evaluation.now forming.old }
     ensures ready { G.is_ready regions.new }
-    ensures formed { Follows (shape_at running.now) (parts_at running.now frame.now made.old.path.items 0 (rules_of (map rule_of parts.now))) made.old made.new result }
+    ensures formed { Follows (evaluation_shape evaluation.now) (parts_at evaluation.now frame.now forming.old.path.items 0 (rules_of (map rule_of parts.now))) forming.old forming.new result }
 {
     for i in 0..parts.len() {
-        form_part(alloc, regions, running, frame, &parts[i], i as u64, made)?;
+        form_part(
+            alloc, regions, evaluation, frame, &parts[i], i as u64, forming,
+        )?;
     }
     Ok(())
 }
@@ -307,76 +316,76 @@ fn form_all<'e, P: Picks, G: Regions<P>>(
 pub(crate) fn form_span<'e, P: Picks, G: Regions<P>>(
     alloc: Global,
     regions: &mut G,
-    running: &Running<'_, '_, P>,
+    evaluation: &Evaluation<'_, '_, P>,
     frame: &'e Frame<'e>,
     over: usize,
     test: &'e Option<Code>,
     from: usize,
     to: usize,
     body: &'e RuleCode,
-    made: &mut Forming,
+    forming: &mut Forming,
 ) -> Result<(), Stopped>
-    requires universe { IsUniverseNumber (shape_at running.now) over }
-    requires within { to ≤ length (universe_at (shape_at running.now) over) }
-    requires sound_test { IsSoundTest (shape_at running.now) (option_map code_of test.now) }
-    requires sound { IsSoundRule (shape_at running.now) (rule_of body.now) }
-    requires framed { IsSoundFrame (shape_at running.now) frame.now }
+    requires universe { IsUniverseNumber (evaluation_shape evaluation.now) over }
+    requires within { to ≤ length (universe_at (evaluation_shape evaluation.now) over) }
+    requires sound_test { IsSoundTest (evaluation_shape evaluation.now) (option_map code_of test.now) }
+    requires sound { IsSoundRule (evaluation_shape evaluation.now) (rule_of body.now) }
+    requires framed { IsSoundFrame (evaluation_shape evaluation.now) frame.now }
     requires ready { G.is_ready regions.old }
-    requires fits { Fits running.now made.old }
+    requires fits { HasLocations evaluation.now forming.old }
     ensures ready { G.is_ready regions.new }
-    ensures formed { Follows (shape_at running.now) (span_at running.now frame.now made.old.path.items over (option_map code_of test.now) (rule_of body.now) from to) made.old made.new result }
+    ensures formed { Follows (evaluation_shape evaluation.now) (span_at evaluation.now frame.now forming.old.path.items over (option_map code_of test.now) (rule_of body.now) from to) forming.old forming.new result }
 {
-    let universe = running.view.signature.universe(over);
+    let universe = evaluation.view.signature.universe(over);
     for i in from..to {
         let bound = Frame::One {
-            value: universe.element(i).kept(),
+            value: universe.element(i).unbranded_code(),
             outer: frame,
         };
-        if passes(running.view, &bound, test) {
-            made.instances = made.instances.saturating_add(1);
-            form_part(alloc, regions, running, &bound, body, i as u64, made)?;
+        if passes(evaluation.view, &bound, test) {
+            forming.instances = forming.instances.saturating_add(1);
+            form_part(alloc, regions, evaluation, &bound, body, i as u64, forming)?;
         }
     }
     Ok(())
 }
 
-/// Forms the parts that stand one after the other, up to the first whose set is faulty.
+/// Forms the parts one after the other, up to the first whose set is faulty.
 #[cycle(form)]
 #[inline(never)]
 fn form_in_order<'e, P: Picks, G: Regions<P>>(
     alloc: Global,
     regions: &mut G,
-    running: &Running<'_, '_, P>,
+    evaluation: &Evaluation<'_, '_, P>,
     frame: &'e Frame<'e>,
     parts: &'e [RuleCode],
-    made: &mut Forming,
+    forming: &mut Forming,
 ) -> Result<(), Stopped>
-    requires sound { AreSoundRules (shape_at running.now) (rules_of (map rule_of parts.now)) }
-    requires framed { IsSoundFrame (shape_at running.now) frame.now }
+    requires sound { AreSoundRules (evaluation_shape evaluation.now) (rules_of (map rule_of parts.now)) }
+    requires framed { IsSoundFrame (evaluation_shape evaluation.now) frame.now }
     requires ready { G.is_ready regions.old }
-    requires fits { Fits running.now made.old }
+    requires fits { HasLocations evaluation.now forming.old }
     ensures ready { G.is_ready regions.new }
-    ensures formed { Follows (shape_at running.now) (in_order_at running.now frame.now made.old.path.items (rules_of (map rule_of parts.now))) made.old made.new result }
+    ensures formed { Follows (evaluation_shape evaluation.now) (in_order_at evaluation.now frame.now forming.old.path.items (rules_of (map rule_of parts.now))) forming.old forming.new result }
 {
-    let signature = running.view.signature;
-    let before = set_aside(alloc, &mut made.set);
+    let signature = evaluation.view.signature;
+    let before = set_aside(alloc, &mut forming.set);
     let mut so_far = Summary::new(alloc, signature.count());
     for i in 0..parts.len() {
         let part = form_next(
             alloc,
             regions,
-            running,
+            evaluation,
             frame,
             &parts[i],
             i as u64,
             &mut so_far,
-            made,
+            forming,
         )?;
         if part.ends_parts() {
-            return put_back(before, so_far, made);
+            return put_back(before, so_far, forming);
         }
     }
-    put_back(before, so_far, made)
+    put_back(before, so_far, forming)
 }
 
 /// Forms turns of the body one after the other, up to the first whose set is empty or faulty.
@@ -385,66 +394,74 @@ fn form_in_order<'e, P: Picks, G: Regions<P>>(
 fn form_turns<'e, P: Picks, G: Regions<P>>(
     alloc: Global,
     regions: &mut G,
-    running: &Running<'_, '_, P>,
+    evaluation: &Evaluation<'_, '_, P>,
     frame: &'e Frame<'e>,
     body: &'e RuleCode,
-    made: &mut Forming,
+    forming: &mut Forming,
 ) -> Result<(), Stopped>
-    requires sound { IsSoundRule (shape_at running.now) (rule_of body.now) }
-    requires framed { IsSoundFrame (shape_at running.now) frame.now }
+    requires sound { IsSoundRule (evaluation_shape evaluation.now) (rule_of body.now) }
+    requires framed { IsSoundFrame (evaluation_shape evaluation.now) frame.now }
     requires ready { G.is_ready regions.old }
-    requires fits { Fits running.now made.old }
+    requires fits { HasLocations evaluation.now forming.old }
     ensures ready { G.is_ready regions.new }
-    ensures formed { Follows (shape_at running.now) (rule_at running.now frame.now made.old.path.items (tree.Iterate (rule_of body.now))) made.old made.new result }
+    ensures formed { Follows (evaluation_shape evaluation.now) (rule_at evaluation.now frame.now forming.old.path.items (tree.Iterate (rule_of body.now))) forming.old forming.new result }
 {
-    let signature = running.view.signature;
-    let before = set_aside(alloc, &mut made.set);
+    let signature = evaluation.view.signature;
+    let before = set_aside(alloc, &mut forming.set);
     let mut so_far = Summary::new(alloc, signature.count());
-    for turn in 0..running.turns {
+    for turn in 0..evaluation.turns {
         let part = form_next(
             alloc,
             regions,
-            running,
+            evaluation,
             frame,
             body,
             u64::from(turn),
             &mut so_far,
-            made,
+            forming,
         )?;
         if part.ends_turns() {
-            return put_back(before, so_far, made);
+            return put_back(before, so_far, forming);
         }
     }
     Err(Stopped::Exhausted)
 }
 
-/// Forms the part with this number in the state in which the set so far has been fired, in place of
+/// Forms the part with this number in the state in which the set so far has been fired, instead of
 /// what was formed before, and goes on with it.
 #[cycle(form)]
 #[inline(always)]
 fn form_next<'e, P: Picks, G: Regions<P>>(
     alloc: Global,
     regions: &mut G,
-    running: &Running<'_, '_, P>,
+    evaluation: &Evaluation<'_, '_, P>,
     frame: &'e Frame<'e>,
     rule: &'e RuleCode,
     number: u64,
     so_far: &mut Summary,
-    made: &mut Forming,
+    forming: &mut Forming,
 ) -> Result<PartSet, Stopped>
-    requires sound { IsSoundRule (shape_at running.now) (rule_of rule.now) }
-    requires framed { IsSoundFrame (shape_at running.now) frame.now }
+    requires sound { IsSoundRule (evaluation_shape evaluation.now) (rule_of rule.now) }
+    requires framed { IsSoundFrame (evaluation_shape evaluation.now) frame.now }
     requires ready { G.is_ready regions.old }
-    requires fits { Fits running.now made.old }
-    requires so_far { so_far.old.count ≡ count_of (shape_at running.now) }
+    requires fits { HasLocations evaluation.now forming.old }
+    requires so_far { so_far.old.count ≡ count_of (evaluation_shape evaluation.now) }
     ensures ready { G.is_ready regions.new }
-    ensures formed { FollowsUpon (shape_at running.now) (λ U. rule_upon running.now U frame.now (yields.at made.old.path.items number) (rule_of rule.now)) so_far.old so_far.new made.old made.new result }
+    ensures formed { FollowsUpon (evaluation_shape evaluation.now) (λ U. rule_upon evaluation.now U frame.now (yields.at forming.old.path.items number) (rule_of rule.now)) so_far.old so_far.new forming.old forming.new result }
 {
-    let view = View::upon(running.view, so_far);
+    let view = View::upon(evaluation.view, so_far);
     match single_update(alloc, &view, frame, rule)? {
-        Single::Nothing => Ok(PartSet::Empty),
-        Single::Update(n, value) => go_on_by(running.view.signature, n, value, so_far, made),
-        Single::Unknown => form_upon(alloc, regions, running, frame, rule, number, so_far, made),
+        OneUpdate::Nothing => Ok(PartSet::Empty),
+        OneUpdate::Update(n, value) => merge_update(
+            evaluation.view.signature,
+            n,
+            value,
+            so_far,
+            forming,
+        ),
+        OneUpdate::Unknown => form_upon(
+            alloc, regions, evaluation, frame, rule, number, so_far, forming,
+        ),
     }
 }
 
@@ -454,55 +471,55 @@ fn form_next<'e, P: Picks, G: Regions<P>>(
 fn form_upon<'e, P: Picks, G: Regions<P>>(
     alloc: Global,
     regions: &mut G,
-    running: &Running<'_, '_, P>,
+    evaluation: &Evaluation<'_, '_, P>,
     frame: &'e Frame<'e>,
     rule: &'e RuleCode,
     number: u64,
     so_far: &mut Summary,
-    made: &mut Forming,
+    forming: &mut Forming,
 ) -> Result<PartSet, Stopped>
-    requires sound { IsSoundRule (shape_at running.now) (rule_of rule.now) }
-    requires framed { IsSoundFrame (shape_at running.now) frame.now }
+    requires sound { IsSoundRule (evaluation_shape evaluation.now) (rule_of rule.now) }
+    requires framed { IsSoundFrame (evaluation_shape evaluation.now) frame.now }
     requires ready { G.is_ready regions.old }
-    requires fits { Fits running.now made.old }
-    requires so_far { so_far.old.count ≡ count_of (shape_at running.now) }
+    requires fits { HasLocations evaluation.now forming.old }
+    requires so_far { so_far.old.count ≡ count_of (evaluation_shape evaluation.now) }
     ensures ready { G.is_ready regions.new }
-    ensures formed { FollowsUpon (shape_at running.now) (λ U. rule_upon running.now U frame.now (yields.at made.old.path.items number) (rule_of rule.now)) so_far.old so_far.new made.old made.new result }
+    ensures formed { FollowsUpon (evaluation_shape evaluation.now) (λ U. rule_upon evaluation.now U frame.now (yields.at forming.old.path.items number) (rule_of rule.now)) so_far.old so_far.new forming.old forming.new result }
 {
-    made.set.clear();
-    let view = View::upon(running.view, so_far);
-    let inner = Running {
+    forming.set.clear();
+    let view = View::upon(evaluation.view, so_far);
+    let inner = Evaluation {
         view: &view,
-        choices: running.choices,
-        turns: running.turns,
+        choices: evaluation.choices,
+        turns: evaluation.turns,
     };
-    form_part(alloc, regions, &inner, frame, rule, number, made)?;
-    let part = PartSet::of(running.view.signature, &made.set);
-    go_on(so_far, made)?;
+    form_part(alloc, regions, &inner, frame, rule, number, forming)?;
+    let part = PartSet::of(evaluation.view.signature, &forming.set);
+    merge_part(so_far, forming)?;
     Ok(part)
 }
 
-/// Adds the update of an assignment. A place that is no location gives none.
+/// Adds the update of an assignment. A target that is no location gives none.
 #[inline(never)]
 fn assign<'e>(
     alloc: Global,
     view: &View,
     frame: &'e Frame<'e>,
-    place: &'e Place,
+    place: &'e TargetCode,
     new: &'e Code,
-    made: &mut Forming,
+    forming: &mut Forming,
 ) -> Result<(), Stopped>
-    requires sound { IsSoundPlace view.now.signature.now (place_of place.now) }
+    requires sound { IsSoundTarget view.now.signature.now (target_code_of place.now) }
     requires sound_new { IsSound view.now.signature.now (code_of new.now) }
     requires framed { IsSoundFrame view.now.signature.now frame.now }
-    requires fits { made.old.set.count ≡ count_of view.now.signature.now }
-    ensures { Follows view.now.signature.now (assigned view.now frame.now (place_of place.now) (code_of new.now)) made.old made.new result }
+    requires fits { forming.old.set.count ≡ count_of view.now.signature.now }
+    ensures { Follows view.now.signature.now (assigned view.now frame.now (target_code_of place.now) (code_of new.now)) forming.old forming.new result }
 {
-    let Some(n) = place_number(alloc, view, frame, place)? else {
+    let Some(n) = target_number(alloc, view, frame, place)? else {
         return Ok(());
     };
     let new = value(view, frame, new);
-    furnish(&mut made.spare, &mut made.set);
-    add_update(view.signature, &mut made.set, n, new)?;
+    take_memory(&mut forming.spare, &mut forming.set);
+    add_update(view.signature, &mut forming.set, n, new)?;
     Ok(())
 }

@@ -4,33 +4,33 @@ ghost use Rattle.std.proofs.Common.{Box, Vec, Global};
 ghost use Rattle.std.specs.declared.sync.Arc.{Arc};
 ghost use Rattle.asm_state.specs.Signature.{Shape};
 ghost use Rattle.asm_state.specs.declared.operation.Op.{Op};
-ghost use Rattle.asm_code.specs.CodeViews.{code_of, codes_of};
-ghost use Rattle.asm_code.specs.RuleMeaning.{IsSoundRule, rule_size};
-ghost use Rattle.asm_code.specs.RuleViews.{rule_of};
-ghost use Rattle.asm_code.specs.Sizes.{size};
-ghost use Rattle.asm_code.specs.Sound.{AreSound, IsSound};
+ghost use Rattle.asm_code.specs.code.CodeViews.{code_of, codes_of};
+ghost use Rattle.asm_code.specs.code.RuleMeaning.{IsSoundRule, rule_size};
+ghost use Rattle.asm_code.specs.code.RuleViews.{rule_of};
+ghost use Rattle.asm_code.specs.code.Sizes.{size};
+ghost use Rattle.asm_code.specs.code.SoundCodes.{AreSound, IsSound};
 ghost use Rattle.asm_code.specs.declared.code.Code.{Code};
 ghost use Rattle.asm_code.specs.declared.code.Code.TheVariants as code;
 ghost use Rattle.asm_code.specs.declared.rule_code.RuleCode.{RuleCode};
 ghost use Rattle.asm_code.specs.declared.rule_code.RuleCode.TheVariants as rule;
-ghost use Rattle.asm_eval.specs.OpenedPieces.{OpeningLaws};
-ghost use Rattle.asm_eval.specs.declared.running.Running.{Running};
+ghost use Rattle.asm_eval.specs.code.OpenedPieces.{OpeningLaws};
+ghost use Rattle.asm_eval.specs.declared.evaluation.Evaluation.{Evaluation};
 
 use asm_reader::Picks;
 
 /// Opening a piece by a cut that isn't 0 loses nothing: the pieces that it is opened to yield
 /// together what it yields, with the elements that were counted in opening it, and no span has more
-/// positions than the cut. A piece is closed where its rule is. And a piece is opened in one way:
-/// two answers to it have the same works in the same order, and count as many elements.
+/// positions than the cut. A piece is closed if its rule is. And a piece is opened in one way:
+/// two results of opening it have the same works in the same order, and count as many elements.
 pub fn opening_laws<P: Picks>()
-    ensures { (running : Running P P.Picks) → OpeningLaws running }
+    ensures { (evaluation : Evaluation P P.Picks) → OpeningLaws evaluation }
 {}
 
 /// Each of some sound codes is sound. The arguments of a sound term, the operands of a sound chain,
 /// and the parts of a sound `par` and `seq` are sound, and smaller than the whole.
 pub fn member_laws()
     ensures codes { (shape : Shape) (ts : List Code) (i : ℕ) (t : Code) → i < length ts → t ≡ get_or ts i t → AreSound shape (codes_of (map code_of ts)) → IsSound shape (code_of t) }
-    ensures held { (shape : Shape) (t : Code) → IsSound shape (code_of t) → (f : ℕ) (ts : Vec Code Global) → t ≡ code.Held f ts → (us : List Code) → us ≡ ts.items →
+    ensures held { (shape : Shape) (t : Code) → IsSound shape (code_of t) → (f : ℕ) (ts : Vec Code Global) → t ≡ code.FunctionAt f ts → (us : List Code) → us ≡ ts.items →
         (i : ℕ) (u : Code) → i < length us → u ≡ get_or us i u → (size (code_of u) < size (code_of t)) × IsSound shape (code_of u) }
     ensures derived { (shape : Shape) (t : Code) → IsSound shape (code_of t) → (body : Arc Code Global) (ts : Vec Code Global) → t ≡ code.Derived body ts → (us : List Code) → us ≡ ts.items →
         (i : ℕ) (u : Code) → i < length us → u ≡ get_or us i u → (size (code_of u) < size (code_of t)) × IsSound shape (code_of u) }

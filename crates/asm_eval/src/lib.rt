@@ -3,18 +3,18 @@
 
 mod applied;
 pub mod choose;
+pub mod evaluation;
 mod find;
 pub mod form;
 pub mod frame;
-mod held;
 pub mod laws;
+mod location_values;
+mod one_update;
 pub mod open;
 pub mod outcome;
 pub mod piece;
-pub mod place;
-pub mod positions;
+pub mod piece_positions;
 pub mod regions;
-pub mod running;
 pub mod shared;
-mod single;
+pub mod target;
 pub mod value;

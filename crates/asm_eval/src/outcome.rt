@@ -1,18 +1,18 @@
 //! The outcome of a resolved rule.
 ghost use Rattle.std.specs.Prelude.{IfOk};
-ghost use Rattle.asm_meaning.specs.Formed.{IsFormed};
-ghost use Rattle.asm_code.specs.RuleMeaning.{IsSoundRule};
-ghost use Rattle.asm_code.specs.RuleViews.{rule_of};
-ghost use Rattle.asm_eval.specs.Frames.{IsSoundFrame};
-ghost use Rattle.asm_eval.specs.Running.{rule_at, shape_at};
+ghost use Rattle.asm_meaning.specs.code.FormedOutcomes.{IsFormed};
+ghost use Rattle.asm_code.specs.code.RuleMeaning.{IsSoundRule};
+ghost use Rattle.asm_code.specs.code.RuleViews.{rule_of};
+ghost use Rattle.asm_eval.specs.code.Frames.{IsSoundFrame};
+ghost use Rattle.asm_eval.specs.code.Evaluation.{rule_at, evaluation_shape};
 
+use crate::evaluation::Evaluation;
 use crate::form::form;
 use crate::frame::Frame;
-use crate::regions::{Plain, Regions};
-use crate::running::Running;
+use crate::regions::{OnThisThread, Regions};
 use asm_code::rule_code::RuleCode;
 use asm_meaning::Outcome;
-use asm_meaning::from_nothing::{nothing_formed, outcome_of};
+use asm_meaning::new_forming::{new_forming, outcome_of};
 use asm_reader::Picks;
 use std::alloc::{AllocError, Global};
 
@@ -21,33 +21,33 @@ use std::alloc::{AllocError, Global};
 pub fn outcome<'e, P: Picks, G: Regions<P>>(
     alloc: Global,
     regions: &mut G,
-    running: &Running<'_, '_, P>,
+    evaluation: &Evaluation<'_, '_, P>,
     frame: &'e Frame<'e>,
     rule: &'e RuleCode,
     path: &[u64],
 ) -> Result<Outcome, AllocError>
     requires ready { G.is_ready regions.old }
-    requires sound { IsSoundRule (shape_at running.now) (rule_of rule.now) }
-    requires framed { IsSoundFrame (shape_at running.now) frame.now }
+    requires sound { IsSoundRule (evaluation_shape evaluation.now) (rule_of rule.now) }
+    requires framed { IsSoundFrame (evaluation_shape evaluation.now) frame.now }
     ensures ready { G.is_ready regions.new }
-    ensures formed { IfOk result (IsFormed (shape_at running.now) (rule_at running.now frame.now path.now (rule_of rule.now))) }
+    ensures formed { IfOk result (IsFormed (evaluation_shape evaluation.now) (rule_at evaluation.now frame.now path.now (rule_of rule.now))) }
 {
-    let mut made = nothing_formed(alloc, running.view.signature, path)?;
-    let formed = form(alloc, regions, running, frame, rule, &mut made);
-    outcome_of(made, formed)
+    let mut forming = new_forming(alloc, evaluation.view.signature, path)?;
+    let formed = form(alloc, regions, evaluation, frame, rule, &mut forming);
+    outcome_of(forming, formed)
 }
 
 /// What the rule yields at this path, under the frame, all of it on this thread.
 pub fn whole<'e, P: Picks>(
     alloc: Global,
-    running: &Running<'_, '_, P>,
+    evaluation: &Evaluation<'_, '_, P>,
     frame: &'e Frame<'e>,
     rule: &'e RuleCode,
     path: &[u64],
 ) -> Result<Outcome, AllocError>
-    requires sound { IsSoundRule (shape_at running.now) (rule_of rule.now) }
-    requires framed { IsSoundFrame (shape_at running.now) frame.now }
-    ensures { IfOk result (IsFormed (shape_at running.now) (rule_at running.now frame.now path.now (rule_of rule.now))) }
+    requires sound { IsSoundRule (evaluation_shape evaluation.now) (rule_of rule.now) }
+    requires framed { IsSoundFrame (evaluation_shape evaluation.now) frame.now }
+    ensures { IfOk result (IsFormed (evaluation_shape evaluation.now) (rule_at evaluation.now frame.now path.now (rule_of rule.now))) }
 {
-    outcome(alloc, &mut Plain, running, frame, rule, path)
+    outcome(alloc, &mut OnThisThread, evaluation, frame, rule, path)
 }

@@ -1,13 +1,13 @@
 //! Who forms regions.
 ghost use Rattle.std.specs.Prelude.{◌≡◌};
-ghost use Rattle.asm_code.specs.RuleMeaning.{IsSoundRule};
-ghost use Rattle.asm_code.specs.RuleViews.{rule_of};
-ghost use Rattle.asm_eval.specs.Frames.{IsSoundFrame};
-ghost use Rattle.asm_eval.specs.Regions.{IsTaken, TakesRegions, TakesThem};
-ghost use Rattle.asm_eval.specs.Running.{Fits, rule_at, shape_at};
+ghost use Rattle.asm_code.specs.code.RuleMeaning.{IsSoundRule};
+ghost use Rattle.asm_code.specs.code.RuleViews.{rule_of};
+ghost use Rattle.asm_eval.specs.code.Frames.{IsSoundFrame};
+ghost use Rattle.asm_eval.specs.code.Regions.{IsFormedOrLeft, TakesRegions, TakesThem};
+ghost use Rattle.asm_eval.specs.code.Evaluation.{HasLocations, rule_at, evaluation_shape};
 
+use crate::evaluation::Evaluation;
 use crate::frame::Frame;
-use crate::running::Running;
 use asm_code::rule_code::RuleCode;
 use asm_meaning::{Choices, Forming, Stopped, View};
 use asm_reader::Picks;
@@ -15,7 +15,7 @@ use std::alloc::Global;
 
 /// What became of a region.
 #[derive(Clone, Copy, Debug, PartialEq, Eq)]
-pub enum Region {
+pub enum RegionOutcome {
     /// What it yields was formed.
     Formed,
     /// Nothing was done: the caller forms it.
@@ -32,36 +32,36 @@ pub trait Regions<P: Picks> {
     fn region<'e>(
         &mut self,
         alloc: Global,
-        running: &Running<'_, '_, P>,
+        evaluation: &Evaluation<'_, '_, P>,
         frame: &'e Frame<'e>,
         rule: &'e RuleCode,
-        made: &mut Forming,
-    ) -> Result<Region, Stopped>
+        forming: &mut Forming,
+    ) -> Result<RegionOutcome, Stopped>
         requires ready { is_ready self.old }
-        requires sound { IsSoundRule (shape_at running.now) (rule_of rule.now) }
-        requires framed { IsSoundFrame (shape_at running.now) frame.now }
-        requires fits { Fits running.now made.old }
+        requires sound { IsSoundRule (evaluation_shape evaluation.now) (rule_of rule.now) }
+        requires framed { IsSoundFrame (evaluation_shape evaluation.now) frame.now }
+        requires fits { HasLocations evaluation.now forming.old }
         ensures ready { is_ready self.new }
-        ensures taken { IsTaken (shape_at running.now) (rule_at running.now frame.now made.old.path.items (rule_of rule.now)) made.old made.new result };
+        ensures taken { IsFormedOrLeft (evaluation_shape evaluation.now) (rule_at evaluation.now frame.now forming.old.path.items (rule_of rule.now)) forming.old forming.new result };
 }
 
 /// Leaves each region to the evaluation itself, on its own thread.
 #[derive(Clone, Copy, Debug)]
-pub struct Plain;
+pub struct OnThisThread;
 
-impl<P: Picks> Regions<P> for Plain {
+impl<P: Picks> Regions<P> for OnThisThread {
     ghost is_ready = { λ _. Unit {0} };
 
     #[inline(always)]
     fn region<'e>(
         &mut self,
         _alloc: Global,
-        _running: &Running<'_, '_, P>,
+        _evaluation: &Evaluation<'_, '_, P>,
         _frame: &'e Frame<'e>,
         _rule: &'e RuleCode,
-        _made: &mut Forming,
-    ) -> Result<Region, Stopped> {
-        Ok(Region::Left)
+        _forming: &mut Forming,
+    ) -> Result<RegionOutcome, Stopped> {
+        Ok(RegionOutcome::Left)
     }
 }
 
@@ -82,24 +82,24 @@ impl<
         &Frame<'_>,
         &RuleCode,
         &mut Forming,
-    ) -> Result<Region, Stopped>,
+    ) -> Result<RegionOutcome, Stopped>,
 > Regions<P> for FormedBy<'f, F> {
     ghost is_ready = { λ by. TakesRegions (F.pre by.form.now) × TakesThem P.script (F.post by.form.now) };
 
     fn region<'e>(
         &mut self,
         alloc: Global,
-        running: &Running<'_, '_, P>,
+        evaluation: &Evaluation<'_, '_, P>,
         frame: &'e Frame<'e>,
         rule: &'e RuleCode,
-        made: &mut Forming,
-    ) -> Result<Region, Stopped> {
-        let Running {
+        forming: &mut Forming,
+    ) -> Result<RegionOutcome, Stopped> {
+        let Evaluation {
             view,
             choices,
             turns,
             ..
-        } = running;
-        (self.form)(alloc, view, choices, *turns, frame, rule, made)
+        } = evaluation;
+        (self.form)(alloc, view, choices, *turns, frame, rule, forming)
     }
 }

@@ -4,40 +4,42 @@
 //! bodies, and codes that positions stand for, by the ranks of derived functions and rules. Only
 //! `linked` nests by the length of the text: once for each 64 arguments of a derived function. The
 //! recursion ends because the size of the code, with the bodies of its derived functions written
-//! out, together with the sizes of the codes in its frame, falls (`asm_code/specs/Sizes.antt`,
-//! `load` in `specs/Frames.antt`).
+//! out, together with the sizes of the codes in its frame, falls (`asm_code/specs/code/Sizes.antt`,
+//! `frame_size` in `specs/code/Frames.antt`).
 ghost use Rattle.std.specs.Prelude.{◌≡◌, ◌≤◌, ◌<◌, ◌*◌, length, map, true};
 ghost use Rattle.std.specs.List.{list_all};
 ghost use Rattle.asm_state.specs.Signature.{functions_of};
 ghost use Rattle.asm_state.specs.declared.operation.Op.TheVariants.{Add, Remainder, Equal, Or};
 ghost use Rattle.asm_state.specs.declared.value.Value.TheVariants.{Truth, Number as Whole};
-ghost use Rattle.asm_eval.specs.Ands as conditions;
-ghost use Rattle.asm_eval.specs.Ands.{is_and};
+ghost use Rattle.asm_eval.specs.code.AndChains as conditions;
+ghost use Rattle.asm_eval.specs.code.AndChains.{is_and};
 ghost use Rattle.asm_meaning.specs.Value as spec;
-ghost use Rattle.asm_meaning.specs.Valued.{shown};
-ghost use Rattle.asm_code.specs.CodeTree as tree;
-ghost use Rattle.asm_code.specs.CodeViews.{code_of, codes_of, link_of, links_of};
-ghost use Rattle.asm_code.specs.Sound.{AreCells, AreSoundLinks, IsSound, IsUniverseNumber};
-ghost use Rattle.asm_eval.specs.Frames.{IsSoundFrame, bound_value, code_value, position_value, tree_value, AllSound};
+ghost use Rattle.asm_meaning.specs.code.TermValues.{shown};
+ghost use Rattle.asm_code.specs.code.CodeTree as tree;
+ghost use Rattle.asm_code.specs.code.CodeViews.{code_of, codes_of, link_of, links_of};
+ghost use Rattle.asm_code.specs.code.SoundCodes.{AreCells, AreSoundLinks, IsSound, IsUniverseNumber};
+ghost use Rattle.asm_eval.specs.code.Frames.{IsSoundFrame, bound_value, code_value, position_value, tree_value, AllSound};
 
-use crate::applied::{added, applied, are_ands, equal_to, far_applied, is_so, remainder_by};
-use crate::find::{Found, find};
-use crate::frame::Frame;
-use crate::held::{
-    far_cell, function_value, in_grid, in_row, is_false, is_true, is_truth, located,
+use crate::applied::{
+    added, applied, applied_by_call, are_ands, equal_to, is_true_of, remainder_by,
 };
-use asm_code::code::{Code, Grid, Span};
+use crate::find::{FrameBinding, find};
+use crate::frame::Frame;
+use crate::location_values::{
+    cell_by_call, function_value, in_grid, in_row, is_false, is_true, is_truth, located,
+};
+use asm_code::code::{Code, CodeRange, Grid};
 use asm_code::modulus::Modulus;
 use asm_meaning::View;
 use asm_state::number::Number;
 use asm_state::operation::Op;
 use asm_state::word::Word;
 
-/// So many arguments are valued in one array. A function that has more is a derived one.
-const FEW: usize = 4;
+/// The most arguments that are valued in one array. A function that has more is a derived one.
+const MAX_ARGUMENTS: usize = 4;
 
-/// The arguments of a function that has more are valued in arrays for so many each.
-const MANY: usize = 64;
+/// The arguments of a function that has more are valued in arrays for this many each.
+const MAX_BOUND_AT_ONCE: usize = 64;
 
 /// The value of the code in the state that the view shows and under the frame.
 ///
@@ -52,17 +54,17 @@ pub fn value<'e>(view: &View, frame: &'e Frame<'e>, code: &'e Code) -> Word
     match code {
         Code::Constant(value) => *value,
         Code::Local(position) => local(view, frame, *position),
-        Code::Cell(n) => far_cell(view, *n),
+        Code::Cell(n) => cell_by_call(view, *n),
         Code::Row {
             first,
             over,
             argument,
         } => row_value(view, frame, *first, *over, argument),
         Code::Grid { place, row, column } => grid_value(view, frame, place, row, column),
-        Code::Held {
+        Code::FunctionAt {
             function,
             arguments,
-        } => held(view, frame, *function, arguments.as_slice()),
+        } => function_at(view, frame, *function, arguments.as_slice()),
         Code::Derived { body, arguments } => derived(view, frame, body, arguments.as_slice()),
         Code::DerivedOne { body, argument } => derived_one(view, frame, body, argument),
         Code::DerivedTwo {
@@ -90,7 +92,7 @@ pub fn value<'e>(view: &View, frame: &'e Frame<'e>, code: &'e Code) -> Word
     }
 }
 
-/// Whether the value of the code is the truth value true. What it doesn't hang on isn't valued.
+/// Whether the value of the code is the truth value true. What it doesn't depend on isn't valued.
 #[cycle(value)]
 pub fn holds<'e>(view: &View, frame: &'e Frame<'e>, code: &'e Code) -> bool
     requires sound { IsSound view.now.signature.now (code_of code.now) }
@@ -151,7 +153,7 @@ fn compared_with<'e>(
     ensures { result ≡ spec.is_true (tree_value view.now frame.now (tree.With operation (code_of left.now) right)) }
 {
     let left = operand(view, frame, left);
-    is_so(operation, left, right)
+    is_true_of(operation, left, right)
 }
 
 /// Whether the value of the code is the truth value false.
@@ -169,7 +171,7 @@ fn fails<'e>(view: &View, frame: &'e Frame<'e>, code: &'e Code) -> bool
     }
 }
 
-/// Whether one of two operands has the value true, where both are truth values. The right one is
+/// Whether one of two operands has the value true, if both are truth values. The right one is
 /// asked for no more than that needs.
 #[cycle(value)]
 #[inline(never)]
@@ -190,7 +192,7 @@ fn either_holds<'e>(view: &View, frame: &'e Frame<'e>, left: &'e Code, right: &'
     is_truth(other)
 }
 
-/// Whether an operation has the value true. The right operand of `and` is valued where the left one
+/// Whether an operation has the value true. The right operand of `and` is valued if the left one
 /// has the value true.
 #[cycle(value)]
 #[inline(never)]
@@ -235,7 +237,7 @@ fn compared<'e>(
 {
     let a = operand(view, frame, left);
     let b = operand(view, frame, right);
-    is_so(operation, a, b)
+    is_true_of(operation, a, b)
 }
 
 /// Whether a chain has the value true.
@@ -295,7 +297,7 @@ pub(crate) fn operand<'e>(view: &View, frame: &'e Frame<'e>, code: &'e Code) -> 
         Code::Plus { left, right } => plus(view, frame, left, *right),
         Code::PlusModulo { left, by, over } => plus_modulo(view, frame, left, *by, *over),
         Code::Modulo { left, right } => modulo(view, frame, left, *right),
-        Code::Cell(n) => far_cell(view, *n),
+        Code::Cell(n) => cell_by_call(view, *n),
         Code::Row {
             first,
             over,
@@ -315,7 +317,7 @@ fn with<'e>(view: &View, frame: &'e Frame<'e>, operation: Op, left: &'e Code, ri
     ensures { result ≡ tree_value view.now frame.now (tree.With operation (code_of left.now) right) }
 {
     let left = operand(view, frame, left);
-    far_applied(operation, left, right)
+    applied_by_call(operation, left, right)
 }
 
 /// The value of an addition whose right operand is known.
@@ -417,7 +419,7 @@ fn row_value<'e>(
     view: &View,
     frame: &'e Frame<'e>,
     first: usize,
-    over: Span,
+    over: CodeRange,
     argument: &'e Code,
 ) -> Word
     requires cells { AreCells view.now.signature.now first over.count }
@@ -462,35 +464,40 @@ fn local<'e>(view: &View, frame: &'e Frame<'e>, position: usize) -> Word
             return *value;
         }
     }
-    far_local(view, frame, position)
+    local_by_call(view, frame, position)
 }
 
 /// The same of any frame.
 #[cycle(value)]
 #[inline(never)]
-fn far_local<'e>(view: &View, frame: &'e Frame<'e>, position: usize) -> Word
+fn local_by_call<'e>(view: &View, frame: &'e Frame<'e>, position: usize) -> Word
     requires framed { IsSoundFrame view.now.signature.now frame.now }
     ensures { result ≡ position_value view.now frame.now position }
 {
     match find(frame, position) {
-        Found::Nothing => Word::undef(),
-        Found::Known(value) => value,
-        Found::Located(n) => located(view, n),
-        Found::ByName(code, caller) => value(view, caller, code),
+        FrameBinding::Nothing => Word::undef(),
+        FrameBinding::Known(value) => value,
+        FrameBinding::Located(n) => located(view, n),
+        FrameBinding::ByName(code, caller) => value(view, caller, code),
     }
 }
 
 /// The value of a controlled or static function.
 #[cycle(value)]
 #[inline(never)]
-fn held<'e>(view: &View, frame: &'e Frame<'e>, function: usize, arguments: &'e [Code]) -> Word
+fn function_at<'e>(
+    view: &View,
+    frame: &'e Frame<'e>,
+    function: usize,
+    arguments: &'e [Code],
+) -> Word
     requires known { function < functions_of view.now.signature.now }
     requires few { length arguments.now ≤ 4 }
     requires sound { AllSound view.now.signature.now arguments.now }
     requires framed { IsSoundFrame view.now.signature.now frame.now }
     ensures { result ≡ tree_value view.now frame.now (tree.Held function (codes_of (map code_of arguments.now))) }
 {
-    let mut values = [Word::undef(); FEW];
+    let mut values = [Word::undef(); MAX_ARGUMENTS];
     for i in 0..arguments.len() {
         values[i] = operand(view, frame, &arguments[i]);
     }
@@ -506,8 +513,8 @@ fn derived<'e>(view: &View, frame: &'e Frame<'e>, body: &'e Code, arguments: &'e
     requires framed { IsSoundFrame view.now.signature.now frame.now }
     ensures { result ≡ tree_value view.now frame.now (tree.Derived (code_of body.now) (codes_of (map code_of arguments.now))) }
 {
-    if arguments.len() <= FEW {
-        let mut values = [Word::undef(); FEW];
+    if arguments.len() <= MAX_ARGUMENTS {
+        let mut values = [Word::undef(); MAX_ARGUMENTS];
         for i in 0..arguments.len() {
             values[i] = operand(view, frame, &arguments[i]);
         }
@@ -563,7 +570,7 @@ fn derived_two<'e>(
     value(view, &bound, body)
 }
 
-/// The value of a body under the values of these arguments, and behind them those that are bound.
+/// The value of a body under the values of these arguments, and after them those that are bound.
 /// The last ones are bound first, as many as an array has room for. Nests as deep as there are
 /// arrays, so that an argument takes little more of the stack than its value.
 #[cycle(value)]
@@ -581,8 +588,8 @@ fn linked<'e, 'b>(
     requires bound { IsSoundFrame view.now.signature.now bound.now }
     ensures { result ≡ bound_value view.now frame.now bound.now body.now arguments.now }
 {
-    let (others, lasts) = arguments.split_at(arguments.len().saturating_sub(MANY));
-    let mut values = [Word::undef(); MANY];
+    let (others, lasts) = arguments.split_at(arguments.len().saturating_sub(MAX_BOUND_AT_ONCE));
+    let mut values = [Word::undef(); MAX_BOUND_AT_ONCE];
     for i in 0..lasts.len() {
         values[i] = operand(view, frame, &lasts[i]);
     }
@@ -608,7 +615,7 @@ fn exists<'e>(view: &View, frame: &'e Frame<'e>, over: usize, test: &'e Code) ->
     let universe = view.signature.universe(over);
     for i in 0..universe.size() {
         let bound = Frame::One {
-            value: universe.element(i).kept(),
+            value: universe.element(i).unbranded_code(),
             outer: frame,
         };
         let tested = holds(view, &bound, test);
@@ -631,7 +638,7 @@ fn every<'e>(view: &View, frame: &'e Frame<'e>, over: usize, test: &'e Code) -> 
     let universe = view.signature.universe(over);
     for i in 0..universe.size() {
         let bound = Frame::One {
-            value: universe.element(i).kept(),
+            value: universe.element(i).unbranded_code(),
             outer: frame,
         };
         let tested = holds(view, &bound, test);

@@ -1,9 +1,10 @@
--- Lists of codes, of values and of resolved rules.
+-- Free. Lists of codes, of values and of resolved rules.
 --     none_within             no value is a location
 --     sound_within            each of some sound codes is sound
 --     readings_map            what the codes of a list are worth
 --     universe_here           the universe with a number
---     sound_part, size_of_part    a part of sound rules is sound, and has no more nodes than all of them
+--     sound_part, size_of_part    a part of sound rules is sound, and has no more nodes than all of
+--                                 them
 use Rattle.std.proofs.Common.{◌≡◌, ℕ, zero, suc, ◌≤◌, ◌<◌, List, [], ◌∷◌, ◌++◌, length, map, get_or, Option, None, refl, sym, ap, subst, arith}
 use Rattle.std.specs.Prelude.{Some, slice_get, slice_index_or}
 use Rattle.std.proofs.lemmas.Option.{get_or_from_slice_get}
@@ -11,11 +12,11 @@ use Rattle.asm_state.specs.declared.value.Value.{Value}
 use Rattle.asm_state.specs.Location.{State}
 use Rattle.asm_state.specs.Signature.{Shape}
 use Rattle.asm_meaning.specs.Value.{Reading}
-use Rattle.asm_code.specs.CodeViews.{code_of, codes_of}
-use Rattle.asm_code.specs.Readings.{reading, readings}
-use Rattle.asm_code.specs.RuleMeaning.{IsSoundRule, AreSoundRules, rule_size, rule_sizes}
-use Rattle.asm_code.specs.RuleViews.{rule_of, rules_of}
-use Rattle.asm_code.specs.Sound.{IsSound, AreSound}
+use Rattle.asm_code.specs.code.CodeViews.{code_of, codes_of}
+use Rattle.asm_code.specs.code.Readings.{reading, readings}
+use Rattle.asm_code.specs.code.RuleMeaning.{IsSoundRule, AreSoundRules, rule_size, rule_sizes}
+use Rattle.asm_code.specs.code.RuleViews.{rule_of, rules_of}
+use Rattle.asm_code.specs.code.SoundCodes.{IsSound, AreSound}
 use Rattle.asm_code.specs.declared.code.Code.{Code}
 use Rattle.asm_code.specs.declared.rule_code.RuleCode.{RuleCode}
 

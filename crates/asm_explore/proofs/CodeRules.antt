@@ -1,4 +1,5 @@
--- The tree of each variant of the program's rule codes, and what it yields, by what its parts yield.
+-- Free. The tree of each variant of the program's rule codes, and what it yields, by what its parts
+-- yield.
 --     *_form, *_tree     the tree of a code, and that by the codes of the parts
 --     *_yields, *_is, *_with, if_*, choose_*     what it yields
 use Rattle.std.proofs.Common.{◌++◌, ◌≡◌, ◌∙◌, ℕ, ◌+◌, ◌≤◌, ◌<◌, true, false, cond, List, [], ◌∷◌, length, get_or, map, drop, Option, Some, None, refl, ap, sym, Box, Vec, Global, add-one}
@@ -11,7 +12,7 @@ use Rattle.asm_state.specs.Location.{State}
 use Rattle.asm_state.specs.Signature.{Shape}
 use Rattle.asm_state.specs.Updates.{UpdateSet, fire}
 use Rattle.asm_meaning.specs.Does.{Outcome, nothing, both, parts, in_order, part_and, turns_of, counted, each}
-use Rattle.asm_meaning.specs.Intervals.{between}
+use Rattle.asm_meaning.specs.code.Intervals.{between}
 use Rattle.asm_meaning.specs.Program.{nothing_bound}
 use Rattle.asm_meaning.specs.Taken.{taken}
 use Rattle.asm_meaning.specs.Targets.{update}
@@ -19,25 +20,25 @@ use Rattle.asm_meaning.specs.Value.{Reading, is_true}
 use Rattle.asm_meaning.specs.Yields.{Path, Gives, at}
 use Rattle.asm_meaning.proofs.Candidates.{candidate_laws-some as some_taken, candidate_laws-none as none_taken}
 use Rattle.asm_meaning.proofs.Intervals.{interval_laws-all as between_all, interval_laws-next as each_next, interval_laws-none as each_none}
-use Rattle.asm_code.specs.CodeViews.{code_of, codes_of}
-use Rattle.asm_code.specs.CodeTree as codes
-use Rattle.asm_code.specs.Readings.{always, reading, universe_at}
-use Rattle.asm_code.specs.RuleMeaning.{Locations, meaning, meanings, named_readings, passes, passing, located_at, answer_readings, answer_locations}
-use Rattle.asm_code.specs.RuleTree as tree
-use Rattle.asm_code.specs.RuleViews.{place_of, rule_of, rule_step, rules_of}
+use Rattle.asm_code.specs.code.CodeViews.{code_of, codes_of}
+use Rattle.asm_code.specs.code.CodeTree as codes
+use Rattle.asm_code.specs.code.Readings.{always, reading, universe_at}
+use Rattle.asm_code.specs.code.RuleMeaning.{Locations, meaning, meanings, named_readings, passes, passing, optional_target_location, result_readings, result_locations}
+use Rattle.asm_code.specs.code.RuleTree as tree
+use Rattle.asm_code.specs.code.RuleViews.{target_code_of, rule_of, rule_step, rules_of}
 use Rattle.asm_code.specs.declared.code.Code.{Code}
-use Rattle.asm_code.specs.declared.rule_code.Place.{Place}
+use Rattle.asm_code.specs.declared.rule_code.TargetCode.{TargetCode}
 use Rattle.asm_code.specs.declared.rule_code.RuleCode.{RuleCode}
 use Rattle.asm_code.specs.declared.rule_code.RuleCode.TheOpen as opened_code
 use Rattle.asm_code.specs.declared.rule_code.RuleCode.TheVariants as code
 use Rattle.asm_code.specs.declared.rule_code.RuleCode.TheFolds.{fold-roll-RuleCode}
-use Rattle.asm_eval.specs.Frames.{answer_contents, by_name}
-use Rattle.asm_eval.specs.Running.{location_numbered}
+use Rattle.asm_eval.specs.code.Frames.{result_contents, by_name}
+use Rattle.asm_eval.specs.code.Evaluation.{location_numbered}
 
 pub skip_form : (P : RuleCode) → P ≡ code.Skip → rule_of P ≡ tree.Skip
 skip_form P is = ap rule_of is ∙ ap rule_of (sym code.rolls-Skip) ∙ fold-roll-RuleCode tree.RuleCode rule_step opened_code.Skip
 
-pub assign_form : (P : RuleCode) (to : Place) (t : Code) → P ≡ code.Assign to t → rule_of P ≡ tree.Assign (place_of to) (code_of t)
+pub assign_form : (P : RuleCode) (to : TargetCode) (t : Code) → P ≡ code.Assign to t → rule_of P ≡ tree.Assign (target_code_of to) (code_of t)
 assign_form P to t is = ap rule_of is ∙ ap rule_of (sym (code.rolls-Assign to t)) ∙ fold-roll-RuleCode tree.RuleCode rule_step (opened_code.Assign to t)
 
 pub par_form : (P : RuleCode) (Ps : Vec RuleCode Global) → P ≡ code.Par Ps → rule_of P ≡ tree.Par (rules_of (map rule_of Ps.items))
@@ -61,8 +62,8 @@ choose_form P u c Q R is = ap rule_of is ∙ ap rule_of (sym (code.rolls-Choose 
 pub iterate_form : (P : RuleCode) (Q : Box RuleCode Global) → P ≡ code.Iterate Q → rule_of P ≡ tree.Iterate (rule_of Q.value)
 iterate_form P Q is = ap rule_of is ∙ ap rule_of (sym (code.rolls-Iterate Q)) ∙ fold-roll-RuleCode tree.RuleCode rule_step (opened_code.Iterate Q)
 
-pub call_form : (P : RuleCode) (body : _) (to : Option Place) (ts : Vec Code Global) → P ≡ code.Call body to ts
-    → rule_of P ≡ tree.Call (rule_of (arc_value body)) (option_map place_of to) (codes_of (map code_of ts.items))
+pub call_form : (P : RuleCode) (body : _) (to : Option TargetCode) (ts : Vec Code Global) → P ≡ code.Call body to ts
+    → rule_of P ≡ tree.Call (rule_of (arc_value body)) (option_map target_code_of to) (codes_of (map code_of ts.items))
 call_form P body to ts is = ap rule_of is ∙ ap rule_of (sym (code.rolls-Call body to ts)) ∙ fold-roll-RuleCode tree.RuleCode rule_step (opened_code.Call body to ts)
 
 -- ---- the same by the codes of the parts
@@ -89,9 +90,9 @@ choose_tree P u c Q R is d S N same same' same'' = (λ i. tree.Choose u (option_
 pub iterate_tree : (P : RuleCode) (Q : Box RuleCode Global) → P ≡ code.Iterate Q → (S : RuleCode) → S ≡ Q.value → tree.Iterate (rule_of S) ≡ rule_of P
 iterate_tree P Q is S same = ap (λ (k : RuleCode). tree.Iterate (rule_of k)) same ∙ sym (iterate_form P Q is)
 
-pub call_tree : (P : RuleCode) (body : _) (to : Option Place) (ts : Vec Code Global) → P ≡ code.Call body to ts → (S : RuleCode) (d : Option Place) (us : List Code) → S ≡ arc_value body → d ≡ to → us ≡ ts.items
-    → tree.Call (rule_of S) (option_map place_of d) (codes_of (map code_of us)) ≡ rule_of P
-call_tree P body to ts is S d us same same' are = (λ i. tree.Call (rule_of (same i)) (option_map place_of (same' i)) (codes_of (map code_of (are i)))) ∙ sym (call_form P body to ts is)
+pub call_tree : (P : RuleCode) (body : _) (to : Option TargetCode) (ts : Vec Code Global) → P ≡ code.Call body to ts → (S : RuleCode) (d : Option TargetCode) (us : List Code) → S ≡ arc_value body → d ≡ to → us ≡ ts.items
+    → tree.Call (rule_of S) (option_map target_code_of d) (codes_of (map code_of us)) ≡ rule_of P
+call_tree P body to ts is S d us same same' are = (λ i. tree.Call (rule_of (same i)) (option_map target_code_of (same' i)) (codes_of (map code_of (are i)))) ∙ sym (call_form P body to ts is)
 
 -- ---- what each yields
 
@@ -100,7 +101,7 @@ named_are shape rs [] = refl
 named_are shape rs (t ∷ ts) = ap (λ more. reading shape (code_of t) rs ∷ more) (named_are shape rs ts)
 
 -- what `result` stands for in a frame
-pub contents_are : (shape : Shape) (n : Option ℕ) → answer_contents shape n ≡ answer_readings (location_numbered shape n)
+pub contents_are : (shape : Shape) (n : Option ℕ) → result_contents shape n ≡ result_readings (location_numbered shape n)
 contents_are shape None = refl
 contents_are shape (Some n) = refl
 
@@ -121,7 +122,7 @@ module _ (shape : Shape) (turns : ℕ) (chosen : Path → ℕ) (rs : List Readin
   unfolding meaning
   skip_yields P is = sym (ap yields (skip_form P is))
 
-  pub assign_with : (to : Place) (t : Code) → record { result = Gives (update (located_at shape (Some (place_of to)) rs ls A) (reading shape (code_of t) rs A)); instances = 0 } ≡ yields (tree.Assign (place_of to) (code_of t))
+  pub assign_with : (to : TargetCode) (t : Code) → record { result = Gives (update (optional_target_location shape (Some (target_code_of to)) rs ls A) (reading shape (code_of t) rs A)); instances = 0 } ≡ yields (tree.Assign (target_code_of to) (code_of t))
   unfolding meaning
   assign_with to t = refl
 
@@ -162,12 +163,12 @@ module _ (shape : Shape) (turns : ℕ) (chosen : Path → ℕ) (rs : List Readin
   unfolding meaning
   choose_none u c S N there = none_taken (chosen p) (passing shape u (option_map code_of c) rs A) (λ w. yields_with w 0 S) (yields_at 1 N) there
 
-  pub call_with : (S : RuleCode) (to : Option Place) (us : List Code) (n : Option ℕ) → location_numbered shape n ≡ located_at shape (option_map place_of to) rs ls A
-      → meaning shape turns chosen (rule_of S) (answer_contents shape n ++ by_name shape rs us) (answer_locations (location_numbered shape n)) A (at p 0) ≡ yields (tree.Call (rule_of S) (option_map place_of to) (codes_of (map code_of us)))
+  pub call_with : (S : RuleCode) (to : Option TargetCode) (us : List Code) (n : Option ℕ) → location_numbered shape n ≡ optional_target_location shape (option_map target_code_of to) rs ls A
+      → meaning shape turns chosen (rule_of S) (result_contents shape n ++ by_name shape rs us) (result_locations (location_numbered shape n)) A (at p 0) ≡ yields (tree.Call (rule_of S) (option_map target_code_of to) (codes_of (map code_of us)))
   unfolding meaning
   call_with S to us n there =
-      (λ i. meaning shape turns chosen (rule_of S) (contents_are shape n i ++ by_name shape rs us) (answer_locations (location_numbered shape n)) A (at p 0))
-      ∙ (λ i. meaning shape turns chosen (rule_of S) (answer_readings (there i) ++ sym (named_are shape rs us) i) (answer_locations (there i)) A (at p 0))
+      (λ i. meaning shape turns chosen (rule_of S) (contents_are shape n i ++ by_name shape rs us) (result_locations (location_numbered shape n)) A (at p 0))
+      ∙ (λ i. meaning shape turns chosen (rule_of S) (result_readings (there i) ++ sym (named_are shape rs us) i) (result_locations (there i)) A (at p 0))
 
   -- and of the whole rule
   pub if_is : (P : RuleCode) (c : Code) (Q R : Box RuleCode Global) → P ≡ code.If c Q R → (d : Code) (S N : RuleCode) → d ≡ c → S ≡ Q.value → N ≡ R.value → yields (tree.If (code_of d) (rule_of S) (rule_of N)) ≡ yields (rule_of P)
@@ -183,11 +184,11 @@ module _ (shape : Shape) (turns : ℕ) (chosen : Path → ℕ) (rs : List Readin
   pub forall_is : (P : RuleCode) (u : ℕ) (c : Option Code) (Q : Box RuleCode Global) → P ≡ code.Forall u c Q → (d : Option Code) (S : RuleCode) → d ≡ c → S ≡ Q.value → yields (tree.Forall u (option_map code_of d) (rule_of S)) ≡ yields (rule_of P)
   forall_is P u c Q is d S same same' = ap yields (forall_tree P u c Q is d S same same')
 
-  pub assign_is : (P : RuleCode) (to : Place) (t : Code) → P ≡ code.Assign to t → (place : Place) (u : Code) → place ≡ to → u ≡ t → yields (tree.Assign (place_of place) (code_of u)) ≡ yields (rule_of P)
-  assign_is P to t is place u same same' = (λ i. yields (tree.Assign (place_of (same i)) (code_of (same' i)))) ∙ sym (ap yields (assign_form P to t is))
+  pub assign_is : (P : RuleCode) (to : TargetCode) (t : Code) → P ≡ code.Assign to t → (place : TargetCode) (u : Code) → place ≡ to → u ≡ t → yields (tree.Assign (target_code_of place) (code_of u)) ≡ yields (rule_of P)
+  assign_is P to t is place u same same' = (λ i. yields (tree.Assign (target_code_of (same i)) (code_of (same' i)))) ∙ sym (ap yields (assign_form P to t is))
 
-  pub call_is : (P : RuleCode) (body : _) (to : Option Place) (ts : Vec Code Global) → P ≡ code.Call body to ts → (S : RuleCode) (d : Option Place) (us : List Code) → S ≡ arc_value body → d ≡ to → us ≡ ts.items
-      → yields (tree.Call (rule_of S) (option_map place_of d) (codes_of (map code_of us))) ≡ yields (rule_of P)
+  pub call_is : (P : RuleCode) (body : _) (to : Option TargetCode) (ts : Vec Code Global) → P ≡ code.Call body to ts → (S : RuleCode) (d : Option TargetCode) (us : List Code) → S ≡ arc_value body → d ≡ to → us ≡ ts.items
+      → yields (tree.Call (rule_of S) (option_map target_code_of d) (codes_of (map code_of us))) ≡ yields (rule_of P)
   call_is P body to ts is S d us same same' are = ap yields (call_tree P body to ts is S d us same same' are)
 
   -- ---- parts

@@ -1,9 +1,11 @@
--- What is known of steps before states are expanded.
---     reached_more, found_reached           what stands in a node, also where there are more of them
---     ahead_more                            what is known where nodes are reached is so where there are more
+-- Free. What is known of steps before states are expanded.
+--     reached_more, found_reached           what is in a node, also when there are more of them
+--     ahead_more                            what is known when nodes are reached is so when there
+--                                           are more
 --     ahead_count, ahead_at, ahead_push, ahead_front     of some states
 --     looked_none, looked_more, looked_all  the outcomes of a step, looked at one after the other
---     ahead_expands                         where all that is found is known, each step leads on to what is known
+--     ahead_expands                         if all that is found is known, each step leads on to
+--                                           what is known
 use Rattle.std.proofs.Common.{◌≡◌, ℕ, zero, suc, ◌<◌, ◌≤◌, ◌+◌, Bool, List, [], ◌∷◌, ◌++◌, ◌⊎◌, length, take, get_or, inl, inr, refl, sym, ap, subst, arith}
 use Rattle.std.specs.Prelude.{slice_get, Option, Some, None, IfSome}
 use Rattle.asm_state.specs.Location.{State}
@@ -11,15 +13,15 @@ use Rattle.asm_state.specs.Signature.{Shape, state_of}
 use Rattle.asm_state.specs.declared.value.Value.{Value}
 use Rattle.asm_meaning.specs.Run.{Specification}
 use Rattle.asm_meaning.specs.Yields.{Result}
-use Rattle.asm_explore.specs.declared.ahead.Ahead.{Ahead}
-use Rattle.asm_explore.specs.declared.found.Found.{Found}
-use Rattle.asm_explore.specs.Ahead.{IsReached, IsFound, IsAhead, AreAhead}
-use Rattle.asm_explore.specs.Kept.{Node}
-use Rattle.asm_explore.specs.Lists.{Situation, Each, AnyOf, Shows, Shown}
-use Rattle.asm_explore.specs.Reached.{Extends, Known, MayLead, LeadsTo, steps_from, state_at}
+use Rattle.asm_explore.specs.declared.step_ahead.StepAhead.{StepAhead}
+use Rattle.asm_explore.specs.declared.outcomes.listed_outcome.ListedOutcome.{ListedOutcome}
+use Rattle.asm_explore.specs.code.StepsAhead.{IsReached, IsFound, IsAhead, AreAhead}
+use Rattle.asm_explore.specs.code.PackedNodes.{Node}
+use Rattle.asm_explore.specs.code.OutcomeLists.{Situation, Each, AnyOf, Shows, Shown}
+use Rattle.asm_explore.specs.code.ReachedStates.{Extends, Known, MayLead, LeadsTo, steps_from, state_at}
 use Rattle.asm_explore.specs.Search.{LeadsOn}
-use Rattle.asm_explore.proofs.ListLemmas.{any_first, any_take_more, each_weaker}
-use Rattle.asm_explore.proofs.Reaching.{known_more}
+use Rattle.asm_explore.proofs.OutcomeLemmas.ListLemmas.{any_first, any_take_more, each_weaker}
+use Rattle.asm_explore.proofs.StateLemmas.MoreNodes.{known_more}
 use Rattle.std.proofs.lemmas.List.{take_all}
 
 -- ---- nodes
@@ -61,15 +63,15 @@ module _ (shape : Shape) where
 
 -- ---- the outcomes of a step
 
-module _ (shape : Shape) (A : State) (nodes : List Node) (outcomes : List Found) where
+module _ (shape : Shape) (A : State) (nodes : List Node) (outcomes : List ListedOutcome) where
   -- what they lead on to is reached, or found
-  abbrev pub Leads : List Node → List Found → Type 0
+  abbrev pub Leads : List Node → List ListedOutcome → Type 0
   Leads found fs = (r : Result) → Shown shape fs r → LeadsOn r A (λ B. IsReached shape nodes B ⊎ IsReached shape found B)
 
   pub looked_none : (found : List Node) → Leads found (take 0 outcomes)
   looked_none found = λ r h. absurd h
 
-  pub looked_more : (k : ℕ) (one : Found) (old new more : List Node) → k < length outcomes → one ≡ get_or outcomes k one → new ≡ old ++ more
+  pub looked_more : (k : ℕ) (one : ListedOutcome) (old new more : List Node) → k < length outcomes → one ≡ get_or outcomes k one → new ≡ old ++ more
       → ((r : Result) → Shows shape one.answer r → LeadsOn r A (λ B. IsReached shape nodes B ⊎ IsReached shape new B))
       → Leads old (take k outcomes) → Leads new (take (k + 1) outcomes)
   looked_more k one old new more low is longer leads so_far = λ r h. by_place r (any_take_more (λ f. Shows shape f.answer r) outcomes k one low is h)
@@ -88,7 +90,7 @@ module _ (shape : Shape) (A : State) (nodes : List Node) (outcomes : List Found)
 -- ---- what is known of a step
 
 module _ (shape : Shape) (specification : Specification) (turns : ℕ) where
-  pub ahead_more : (old new : List Node) (A : State) (r : Option Ahead) → ((i : ℕ) (n : Node) → slice_get old i ≡ Some n → slice_get new i ≡ Some n)
+  pub ahead_more : (old new : List Node) (A : State) (r : Option StepAhead) → ((i : ℕ) (n : Node) → slice_get old i ≡ Some n → slice_get new i ≡ Some n)
       → IfSome r (IsAhead shape specification turns old A) → IfSome r (IsAhead shape specification turns new A)
   ahead_more old new A None same h = tt
   ahead_more old new A (Some a) same h = record {
@@ -103,7 +105,7 @@ module _ (shape : Shape) (specification : Specification) (turns : ℕ) where
       also B (inr h) = inr h
 
   module _ (right : State → Bool) (old new : List Node) (below : ℕ) (extends : Extends shape specification turns right below old new) (near : Each (λ n. n.depth ≤ below) old) where
-    pub ahead_expands : (A : State) (a : Ahead) → IsAhead shape specification turns old A a → Each (λ m. Known shape new below (state_at shape m)) a.states
+    pub ahead_expands : (A : State) (a : StepAhead) → IsAhead shape specification turns old A a → Each (λ m. Known shape new below (state_at shape m)) a.states
         → (s : Situation) → LeadsOn (steps_from specification turns A s) A (Known shape new below)
     ahead_expands A a ahead known s =
         leads_weaker (steps_from specification turns A s) A (λ B. IsReached shape old B ⊎ IsReached shape a.states B) (Known shape new below) also (ahead.leads s)
@@ -116,13 +118,13 @@ module _ (shape : Shape) (specification : Specification) (turns : ℕ) where
   -- ---- of some states
 
   module _ (nodes : List Node) where
-    pub ahead_count : (As : List (List Value)) (rs : List (Option Ahead)) → AreAhead shape specification turns nodes As rs → length rs ≡ length As
+    pub ahead_count : (As : List (List Value)) (rs : List (Option StepAhead)) → AreAhead shape specification turns nodes As rs → length rs ≡ length As
     ahead_count [] [] h = refl
     ahead_count [] (r ∷ rs) h = absurd h
     ahead_count (A ∷ As) [] h = absurd h
     ahead_count (A ∷ As) (r ∷ rs) h = ap suc (ahead_count As rs h.1)
 
-    pub ahead_at : (As : List (List Value)) (rs : List (Option Ahead)) (k : ℕ) (A : List Value) (r : Option Ahead)
+    pub ahead_at : (As : List (List Value)) (rs : List (Option StepAhead)) (k : ℕ) (A : List Value) (r : Option StepAhead)
         → AreAhead shape specification turns nodes As rs → k < length As → A ≡ get_or As k A → r ≡ get_or rs k r
         → IfSome r (IsAhead shape specification turns nodes (state_of shape A))
     ahead_at [] rs k A r h low is listed = absurd (omega (arith, low))
@@ -133,14 +135,14 @@ module _ (shape : Shape) (specification : Specification) (turns : ℕ) where
     ahead_at (B ∷ As) (q ∷ rs) (suc k) A r h low is listed = ahead_at As rs k A r h.1 (omega (arith, low)) is listed
 
     -- nothing is known of one more state
-    pub ahead_push : (As : List (List Value)) (rs : List (Option Ahead)) (A : List Value) → AreAhead shape specification turns nodes As rs
+    pub ahead_push : (As : List (List Value)) (rs : List (Option StepAhead)) (A : List Value) → AreAhead shape specification turns nodes As rs
         → AreAhead shape specification turns nodes (As ++ A ∷ []) (rs ++ None ∷ [])
     ahead_push [] [] A h = (tt, tt)
     ahead_push [] (q ∷ rs) A h = absurd h
     ahead_push (B ∷ As) [] A h = absurd h
     ahead_push (B ∷ As) (q ∷ rs) A h = (h.0, ahead_push As rs A h.1)
 
-    pub ahead_front : (k : ℕ) (As : List (List Value)) (rs : List (Option Ahead)) → AreAhead shape specification turns nodes (take k As) rs
+    pub ahead_front : (k : ℕ) (As : List (List Value)) (rs : List (Option StepAhead)) → AreAhead shape specification turns nodes (take k As) rs
         → AreAhead shape specification turns nodes (take (length rs) As) rs
     ahead_front zero As [] h = tt
     ahead_front zero As (r ∷ rs) h = absurd h

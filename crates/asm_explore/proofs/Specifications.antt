@@ -1,42 +1,42 @@
--- A resolved specification's step.
+-- Free. A resolved specification's step.
 --     nothing_over        a view with the empty set over a state shows the state
 --     step_is             what the code of the main rule yields is the step of the specification
---     agrees_nothing      where no name is bound
+--     agrees_nothing      with no name bound
 --     refused_listed      a refusal of the main rule's outcomes is one of the step's
---     same_answer         what an answer says of some conditions it says of others that are the same, and what it says of too many outcomes
---                         is said otherwise
+--     same_rule_result    what a result says of some conditions it says of others that are the
+--                         same, and what it says of too many outcomes is said otherwise
 use Rattle.std.proofs.Common.{◌≡◌, ℕ, Bool, List, [], refl, ap, subst, ◌∙◌, Vec, Global, sym}
 use Rattle.asm_state.specs.Location.{State}
 use Rattle.asm_state.specs.Signature.{Shape, state_of}
 use Rattle.asm_state.specs.Updates.{UpdateSet, IsConsistent, none, fire}
 use Rattle.asm_state.specs.declared.value.Value.{Value}
-use Rattle.asm_state.proofs.Summaries.{fire_laws}
-use Rattle.asm_updates.specs.Entries.{Entries}
-use Rattle.asm_updates.specs.Stands.{Stands}
+use Rattle.asm_state.proofs.UpdateLemmas.Summaries.{fire_laws}
+use Rattle.asm_updates.specs.code.SummaryRanges.{SummaryRanges}
+use Rattle.asm_updates.specs.code.Stands.{Stands}
 use Rattle.asm_meaning.specs.Program.{Program, nothing_bound}
 use Rattle.asm_meaning.specs.Run.{Specification}
 use Rattle.asm_meaning.specs.Value.{Reading}
-use Rattle.asm_resolve.specs.Resolved.{Agrees}
-use Rattle.asm_explore.specs.Answers.{Claims, IsAnswer}
-use Rattle.asm_explore.specs.declared.answer.Answered.{Answered}
-use Rattle.asm_explore.specs.declared.answer.Finding.{Finding}
-use Rattle.asm_explore.specs.declared.answer.Finding.TheVariants as finding
-use Rattle.asm_explore.specs.declared.refusal.Crowd.{Crowd}
-use Rattle.asm_explore.proofs.Sequenced.{none_consistent}
+use Rattle.asm_resolve.specs.code.ResolvedTerms.{Agrees}
+use Rattle.asm_explore.specs.ExplorationResults.{Claims, IsExplorationResult}
+use Rattle.asm_explore.specs.declared.exploration_result.ExplorationResult.{ExplorationResult}
+use Rattle.asm_explore.specs.declared.exploration_result.Finding.{Finding}
+use Rattle.asm_explore.specs.declared.exploration_result.Finding.TheVariants as finding
+use Rattle.asm_explore.specs.declared.outcomes.outcomes_error.RuleOverLimit.{RuleOverLimit}
+use Rattle.asm_explore.proofs.OutcomeLemmas.SequenceOutcomes.{none_consistent}
 use Rattle.std.specs.Prelude.{Result as Returned, Ok, Err}
 use Rattle.std.specs.Result.{IsErrAnd}
-use Rattle.asm_explore.specs.declared.found.Choice.{Choice}
-use Rattle.asm_explore.specs.declared.found.Found.{Found}
-use Rattle.asm_explore.specs.declared.refusal.Refusal.{Refusal}
-use Rattle.asm_explore.specs.Crowds.{Refuses}
-use Rattle.asm_explore.specs.Lists.{Situation}
-use Rattle.asm_explore.specs.Made.{AreMade, IsWay}
-use Rattle.asm_explore.specs.Placed.{AreApart}
-use Rattle.asm_explore.specs.Steps.{IsListed}
-use Rattle.asm_explore.proofs.MadeChoices.{made_same}
-use Rattle.asm_explore.proofs.Refused.{refuses_weaker}
+use Rattle.asm_explore.specs.declared.outcomes.listed_outcome.Choice.{Choice}
+use Rattle.asm_explore.specs.declared.outcomes.listed_outcome.ListedOutcome.{ListedOutcome}
+use Rattle.asm_explore.specs.declared.outcomes.outcomes_error.OutcomesError.{OutcomesError}
+use Rattle.asm_explore.specs.code.OverLimit.{Refuses}
+use Rattle.asm_explore.specs.code.OutcomeLists.{Situation}
+use Rattle.asm_explore.specs.code.ChoicesMade.{AreMade, IsWay}
+use Rattle.asm_explore.specs.code.ChoicePaths.{HaveOwnPaths}
+use Rattle.asm_explore.specs.code.StepOutcomes.{IsListed}
+use Rattle.asm_explore.proofs.ChoiceLemmas.MadeChoices.{made_same}
+use Rattle.asm_explore.proofs.OutcomeLemmas.RefusedParts.{refuses_weaker}
 
-pub nothing_over : (signature shape : Shape) (set : Entries) (contents : List Value) (A : State) → signature ≡ shape → Stands signature set none
+pub nothing_over : (signature shape : Shape) (set : SummaryRanges) (contents : List Value) (A : State) → signature ≡ shape → Stands signature set none
     → ((U : UpdateSet) → Stands signature set U → IsConsistent U → A ≡ fire (state_of signature contents) U) → A ≡ state_of shape contents
 nothing_over signature shape set contents A same stands fired =
     fired none stands none_consistent ∙ fire_laws.of_none (state_of signature contents) ∙ ap (λ s. state_of s contents) same
@@ -46,21 +46,21 @@ agrees_nothing program rs = record { bound = λ x i is. cc; free = λ x is. refl
 
 -- a refusal to list the outcomes of a rule at the top is one to list those of a step
 pub refused_listed : (shape : Shape) (specification : Specification) (turns : ℕ) (makes : State → Situation → List Choice) (limit : ℕ) (A : State)
-    (returned : Returned (Vec Found Global) Refusal) (e : Refusal) → IsErrAnd returned (λ again. again ≡ e) → (m : Situation → List Choice) → ((s : Situation) → m s ≡ makes A s)
+    (returned : Returned (Vec ListedOutcome Global) OutcomesError) (e : OutcomesError) → IsErrAnd returned (λ again. again ≡ e) → (m : Situation → List Choice) → ((s : Situation) → m s ≡ makes A s)
     → Refuses limit (λ p. IsWay [] m) e → IsListed shape specification turns makes limit A returned
 refused_listed shape specification turns makes limit A (Ok fs) e same m is refuses = absurd same
 refused_listed shape specification turns makes limit A (Err again) e same m is refuses = record {
   step = tt;
-  refuses = subst (Refuses limit (λ p cs. AreApart cs × AreMade (makes A) cs)) (sym same)
-      (refuses_weaker limit (IsWay [] m) (λ cs. AreApart cs × AreMade (makes A) cs) (λ cs h. (h.placed.apart, made_same m (makes A) is cs h.made)) e refuses);
+  refuses = subst (Refuses limit (λ p cs. HaveOwnPaths cs × AreMade (makes A) cs)) (sym same)
+      (refuses_weaker limit (IsWay [] m) (λ cs. HaveOwnPaths cs × AreMade (makes A) cs) (λ cs h. (h.placed.apart, made_same m (makes A) is cs h.made)) e refuses);
 }
 
-module _ (specification : Specification) (turns : ℕ) (crowds throngs : State → Crowd → Type 0) (f : (A : State) (crowd : Crowd) → crowds A crowd → throngs A crowd) (steps limit : ℕ) where
+module _ (specification : Specification) (turns : ℕ) (crowds throngs : State → RuleOverLimit → Type 0) (f : (A : State) (crowd : RuleOverLimit) → crowds A crowd → throngs A crowd) (steps limit : ℕ) where
   claims_more : (right rests within : State → Bool) (states : ℕ) (finding : Finding)
       → Claims specification turns crowds steps limit right rests within states finding → Claims specification turns throngs steps limit right rests within states finding
   claims_more right rests within states finding.Closed h = h
   claims_more right rests within states (finding.SafeTo depth) h = h
-  claims_more right rests within states (finding.Bad bad) h = record {
+  claims_more right rests within states (finding.BadStep bad) h = record {
     script = h.script;
     spelled = h.spelled;
     wrong = h.wrong;
@@ -85,11 +85,11 @@ module _ (specification : Specification) (turns : ℕ) (crowds throngs : State �
     shortest = h.shortest;
   }
 
-  pub same_answer : (right rests within also rested inside : State → Bool) (answer : Answered)
+  pub same_rule_result : (right rests within also rested inside : State → Bool) (answer : ExplorationResult)
       → ((A : State) → right A ≡ also A) → ((A : State) → rests A ≡ rested A) → ((A : State) → within A ≡ inside A)
-      → IsAnswer specification turns crowds steps limit right rests within answer → IsAnswer specification turns throngs steps limit also rested inside answer
-  same_answer right rests within also rested inside answer same alike equal h =
-      subst (λ (all : (State → Bool) × (State → Bool) × (State → Bool)). IsAnswer specification turns throngs steps limit all.0 all.1 all.2 answer)
+      → IsExplorationResult specification turns crowds steps limit right rests within answer → IsExplorationResult specification turns throngs steps limit also rested inside answer
+  same_rule_result right rests within also rested inside answer same alike equal h =
+      subst (λ (all : (State → Bool) × (State → Bool) × (State → Bool)). IsExplorationResult specification turns throngs steps limit all.0 all.1 all.2 answer)
       (λ i. ((λ A. same A i), (λ A. alike A i), (λ A. equal A i)))
       (record {
         found = claims_more right rests within answer.states answer.finding h.found;

@@ -1,9 +1,10 @@
--- The choices of the steps of a run, and the script that has a line for each.
---     from_step, of_run       of each step that a run under a script makes, what belongs to the state that it begins in: the step that ends
---                             the run is among them
---     lines_from i steps      a line for each choice of some steps, of which the first has this number
---     lines_forward steps     where steps count from 1
---     MakesTheRun             lines of which no two have one step and one path, and under which the run is the same
+-- Definition. The choices of the steps of a run, and the script that has a line for each.
+--     from_step, of_run       of each step that a run under a script makes, what belongs to the
+--                             state that it begins in: the step that ends the run is among them
+--     lines_from i steps      a line for each choice of some steps that count from i
+--     lines_forward steps     with steps that count from 1
+--     MakesTheRun             no two lines have one step and one path, and under them the run is
+--                             the same
 --     asked_said, asked_in    what was asked; in each step
 --     choices_made, choices_in    the choices that were made; in each step
 --     AreAsked                it is what the resolved main rule asks in each step of the run
@@ -13,26 +14,26 @@ use Rattle.asm_state.specs.Location.{State}
 use Rattle.asm_state.specs.Updates.{fire}
 use Rattle.asm_syntax.specs.SourceTree.{Spec}
 use Rattle.asm_check.specs.Shapes.{shape_of}
-use Rattle.asm_reader.specs.ExactLines.{exactly}
+use Rattle.asm_reader.specs.code.ExactLines.{exactly}
 use Rattle.asm_reader.specs.ScriptLines.{Line, Script}
 use Rattle.asm_meaning.specs.Declarations.{specification_of}
 use Rattle.asm_meaning.specs.Run.{Specification, run}
 use Rattle.asm_meaning.specs.Scripts.{IsUnrepeated}
-use Rattle.asm_code.specs.RuleTree.{RuleCode}
-use Rattle.asm_resolve.specs.RuleScopes.{resolved_rule_in}
-use Rattle.asm_explore.specs.declared.asked.Asked.{Asked}
-use Rattle.asm_explore.specs.declared.found.Choice.{Choice}
-use Rattle.asm_explore.specs.declared.run_choices.RunChoices.{RunChoices}
-use Rattle.asm_explore.specs.Asks.{Asking, after_set, asks_in}
-use Rattle.asm_explore.specs.Lists.{Situation}
-use Rattle.asm_explore.specs.Made.{made_in}
-use Rattle.asm_explore.specs.Reached.{steps_from}
-use Rattle.asm_explore.specs.ScriptTo.{lines_for}
+use Rattle.asm_code.specs.code.RuleTree.{RuleCode}
+use Rattle.asm_resolve.specs.code.RuleScopes.{resolved_rule_in}
+use Rattle.asm_explore.specs.declared.choices.choice_point.ChoicePoint.{ChoicePoint}
+use Rattle.asm_explore.specs.declared.outcomes.listed_outcome.Choice.{Choice}
+use Rattle.asm_explore.specs.declared.choices.run_choices.RunChoices.{RunChoices}
+use Rattle.asm_explore.specs.ChoicePoints.{Asking, after_set, asks_in}
+use Rattle.asm_explore.specs.code.OutcomeLists.{Situation}
+use Rattle.asm_explore.specs.code.ChoicesMade.{made_in}
+use Rattle.asm_explore.specs.code.ReachedStates.{steps_from}
+use Rattle.asm_explore.specs.code.ScriptTo.{lines_for}
 
 -- ---- the steps of a run
 
 module _ {X : Type 0} (specification : Specification) (turns : ℕ) (its : State → Situation → X) (script : Script) where
-  -- of at most so many steps, the first of which has the number i and begins in the state A
+  -- of at most `left` steps; the first has the number i and begins in the state A
   abbrev pub from_step : (left i : ℕ) → State → List X
   from_step zero i A = []
   from_step (suc left) i A =
@@ -57,13 +58,13 @@ pub record MakesTheRun (specification : Specification) (turns : ℕ) (script : S
 
 -- ---- what a run asked
 
-abbrev pub asked_said : Asked → Asking
+abbrev pub asked_said : ChoicePoint → Asking
 asked_said a = record { choice = a.choice; candidates = a.candidates.items }
 
 abbrev pub asked_in : RunChoices → List (List Asking)
 asked_in run = map (λ asked. map asked_said asked.items) run.steps.items
 
-abbrev pub choices_made : List Asked → List Choice
+abbrev pub choices_made : List ChoicePoint → List Choice
 choices_made asked = map (λ a. a.choice) asked
 
 abbrev pub choices_in : RunChoices → List (List Choice)

@@ -1,15 +1,20 @@
--- What is claimed of all runs of a specification.
+-- Definition. What is claimed of all runs of a specification.
 --     LeadsOn r A known       what a step yields in a state leads on to a state that is known
 --     IsQuiet A               whatever is chosen, the step from the state changes nothing
 --     IsDeadlock A            the state is quiet, and isn't one in which a run may rest
 --     IsFine r ok             a run ends at its limit, in a state that is right
---     StaysWithin             a run of so many steps is gone on with from states alone that are within
---     IsSafeUpTo              under every script, each run of at most so many steps that stays within is fine
+--     StaysWithin             a run of `limit` steps is gone on with from states alone that are
+--                             within
+--     IsSafeUpTo              under every script, each run of at most `depth` steps that stays
+--                             within is fine
 --     IsSafe                  of however many steps
---     HoldsBefore, HoldsAlways    it holds of each state that runs are followed from, which fewer steps than so many lead to; and of all of them
---     EndsSo                  a run ends in this step by this fault, or in a state that isn't right, or in a deadlock
---     Covers                  states by the depth up to which they are known: they are right, and no step from one of them that is within
---                             has a fault, nor leads to a state that isn't known one step deeper
+--     HoldsBefore, HoldsAlways    it holds of each state that runs are followed from, which fewer
+--                                 than `depth` steps lead to; and of all of them
+--     EndsSo                  a run ends in this step by this fault, or in a state that isn't
+--                             right, or in a deadlock
+--     Covers                  states by the depth up to which they are known: they are right, and
+--                             no step from one of them that is within has a fault, nor leads to a
+--                             state that isn't known one step deeper
 use Rattle.std.specs.Prelude.{◌≡◌, ℕ, suc, ◌≤◌, ◌<◌, Bool, true, false, []}
 use Rattle.asm_state.specs.Location.{State}
 use Rattle.asm_state.specs.Updates.{UpdateSet, IsConsistent, fire}
@@ -51,7 +56,7 @@ abbrev pub IsSafe : Specification → (turns : ℕ) → (within : State → Bool
 IsSafe specification turns within ok =
     (script : Script) (limit : ℕ) → StaysWithin specification turns within script limit → IsFine ok (run specification turns script limit)
 
--- it holds of each state that fewer steps than so many lead to, if runs are followed from it
+-- it holds of each state that fewer than `depth` steps lead to, if runs are followed from it
 abbrev pub HoldsBefore : Specification → (turns : ℕ) → (within : State → Bool) → (D : State → Type 0) → (depth : ℕ) → Type 0
 HoldsBefore specification turns within D depth =
     (script : Script) (k : ℕ) → k < depth → StaysWithin specification turns within script (suc k) → D (run specification turns script k).last

@@ -1,25 +1,25 @@
-//! What is explored.
+//! Machines: what is explored.
 ghost use Rattle.std.specs.Prelude.{◌≡◌, ◌<◌, ℕ, Bool, List, length, take, IfOk};
-ghost use Rattle.asm_state.specs.Contents.{IsStateOf};
+ghost use Rattle.asm_state.specs.code.Contents.{IsStateOf};
 ghost use Rattle.asm_state.specs.Location.{State as Contents};
 ghost use Rattle.asm_state.specs.Signature.{Shape, count_of, state_of};
 ghost use Rattle.asm_meaning.specs.Run.{Specification};
-ghost use Rattle.asm_explore.specs.declared.found.Choice.{Choice};
-ghost use Rattle.asm_explore.specs.Lists.{Situation, Each};
-ghost use Rattle.asm_explore.specs.Ahead.{AreAhead};
-ghost use Rattle.asm_explore.specs.Steps.{IsListed};
+ghost use Rattle.asm_explore.specs.declared.outcomes.listed_outcome.Choice.{Choice};
+ghost use Rattle.asm_explore.specs.code.OutcomeLists.{Situation, Each};
+ghost use Rattle.asm_explore.specs.code.StepsAhead.{AreAhead};
+ghost use Rattle.asm_explore.specs.code.StepOutcomes.{IsListed};
 
-use crate::ahead::Ahead;
-use crate::found::Found;
-use crate::index::Index;
-use crate::nodes::Nodes;
-use crate::refusal::Refusal;
+use crate::outcomes::listed_outcome::ListedOutcome;
+use crate::outcomes::outcomes_error::OutcomesError;
+use crate::states::index::Index;
+use crate::states::nodes::Nodes;
+use crate::step_ahead::StepAhead;
 use asm_state::signature::Signature;
 use asm_state::state::State;
 use std::alloc::{AllocError, Global};
 
 /// The outcomes of a step, or why there is no list of them.
-pub type Listed = Result<Vec<Found>, Refusal>;
+pub type Listed = Result<Vec<ListedOutcome>, OutcomesError>;
 
 /// A specification, by its steps.
 pub trait Machine {
@@ -51,7 +51,7 @@ pub trait Machine {
     fn signature(&self) -> &Signature
         ensures { result.now ≡ shape self.now };
 
-    /// So many states are best given to `ahead` at once. The search gives fewer where there are no
+    /// How many states are best given to `ahead` at once. The search gives fewer if there are no
     /// more, and after batches of which fewer were stepped from.
     fn batch(&self) -> usize;
 
@@ -62,16 +62,16 @@ pub trait Machine {
         requires whole { length state.now ≡ count_of (shape self.now) }
         ensures { IsListed (shape self.now) (specification self.now) (turns self.now) (made self.now) (limit self.now) (state_of (shape self.now) state.now) result };
 
-    /// What the steps from the first of these states lead to, where these nodes are reached and stand
-    /// in this index: from all of them, or from fewer, where these have many outcomes, but from one
-    /// at least. Where a step may not be looked at ahead, or may go wrong, there is `None`.
+    /// What the steps from the first of these states lead to, when these nodes are reached and in
+    /// this index: from all of them, or from fewer, if these have many outcomes, but from one at
+    /// least. If a step may not be looked at ahead, or may go wrong, there is `None`.
     fn ahead(
         &self,
         alloc: Global,
         states: &[State],
         nodes: &Nodes,
         index: &Index,
-    ) -> Result<Vec<Option<Ahead>>, AllocError>
+    ) -> Result<Vec<Option<StepAhead>>, AllocError>
         requires sound { is_sound self.now }
         requires states { Each (IsStateOf (shape self.now)) states.now }
         requires nodes { Each (λ n. length n.state ≡ count_of (shape self.now)) nodes.now }

@@ -5,35 +5,35 @@
 //! that it leads to isn't right, the search lists the outcomes of the step itself
 //! (`expand_listed`). So a fault is found in one way, with the choices that lead to it.
 ghost use Rattle.std.specs.Prelude.{◌≡◌, ◌+◌, ◌<◌, ◌≤◌, [], true, false, IsTrue, IfSome, IfNone, IfErr, IfOk, Some, length, slice_get, map, take, drop};
-ghost use Rattle.asm_state.specs.Contents.{IsStateOf};
+ghost use Rattle.asm_state.specs.code.Contents.{IsStateOf};
 ghost use Rattle.asm_state.specs.Signature.{Shape, count_of, state_of};
 ghost use Rattle.asm_meaning.specs.Yields.{Result as Yielded};
-ghost use Rattle.asm_explore.specs.Ahead.{AreAhead, IsAhead};
-ghost use Rattle.asm_explore.specs.declared.explored.Ended.TheVariants.{Closed, AtLimit, TooManyStates};
-ghost use Rattle.asm_explore.specs.declared.halt.Halt.TheVariants as halt;
-ghost use Rattle.asm_explore.specs.declared.found.Found.{Found};
-ghost use Rattle.asm_explore.specs.Kept.{Node};
-ghost use Rattle.asm_explore.specs.Ends.{HaltsSo, IfBad, IfCrowd, IsDone};
-ghost use Rattle.asm_explore.specs.Lists.{Each, Shows, HaveChoices, AreCounted, IsCounted};
-ghost use Rattle.asm_explore.specs.Placed.{AreApart};
-ghost use Rattle.asm_explore.specs.Reached.{AreBegun, AreInside, AtNode, Known, IsNear, IsGood, Extends, Follows, Expanded, IsLinked, IsLooked, IsOutcome, IsBadStep, IsStopped, LeadsTo, Rises, GoesWrongSo, state_at};
-ghost use Rattle.asm_explore.specs.Quiet.{IsFirstQuiet, IsRested, RestsSo};
+ghost use Rattle.asm_explore.specs.code.StepsAhead.{AreAhead, IsAhead};
+ghost use Rattle.asm_explore.specs.declared.search_result.SearchEnd.TheVariants.{Closed, AtLimit, TooManyStates};
+ghost use Rattle.asm_explore.specs.declared.search_error.SearchError.TheVariants as halt;
+ghost use Rattle.asm_explore.specs.declared.outcomes.listed_outcome.ListedOutcome.{ListedOutcome};
+ghost use Rattle.asm_explore.specs.code.PackedNodes.{Node};
+ghost use Rattle.asm_explore.specs.code.SearchEnds.{HaltsSo, IfBad, IfOverLimit, IsDone};
+ghost use Rattle.asm_explore.specs.code.OutcomeLists.{Each, Shows, HaveChoices, AreCounted, IsCounted};
+ghost use Rattle.asm_explore.specs.code.ChoicePaths.{HaveOwnPaths};
+ghost use Rattle.asm_explore.specs.code.ReachedStates.{AreBegun, AreInside, AtNode, Known, IsNear, IsGood, Extends, FollowsStep, Expanded, IsLinked, IsLooked, IsOutcome, IsBadStep, IsStopped, LeadsTo, Rises, GoesWrongSo, state_at};
+ghost use Rattle.asm_explore.specs.code.QuietStates.{IsFirstQuiet, IsRested, RestsSo};
 ghost use Rattle.asm_explore.specs.Search.{LeadsOn, IsQuiet, IsDeadlock, IsSafeUpTo, IsSafe, HoldsBefore, HoldsAlways};
-ghost use Rattle.asm_explore.specs.Steps.{IsCrowdOf, IsStep};
+ghost use Rattle.asm_explore.specs.code.StepOutcomes.{IsOverLimitOf, IsStep};
 
-use crate::ahead::Ahead;
-use crate::batch::next_batch;
-use crate::explored::{Bad, Ended, Explored, Looked, cut_off};
 use crate::fault::Fault;
-use crate::found::{Answer, Choice, Found, add_choices};
-use crate::halt::{Halt, halted};
-use crate::index::{Index, hash_of};
-use crate::lookup::{is_reached, is_there, note_last};
 use crate::machine::Machine;
-use crate::nodes::Nodes;
-use crate::quiet::{is_quiet, rest};
-use crate::same::is_same_value;
-use crate::watch::{Progress, Watch};
+use crate::outcomes::listed_outcome::{Choice, ListedOutcome, RuleResult, add_choices};
+use crate::progress::{Progress, Watch};
+use crate::same_result::is_same_value;
+use crate::search_error::{SearchError, halted};
+use crate::search_result::{BadStep, SearchEnd, SearchResult, SearchSoFar, cut_off};
+use crate::states::batch::next_batch;
+use crate::states::index::{Index, hash_of};
+use crate::states::lookup::{is_reached, is_there, note_last};
+use crate::states::nodes::Nodes;
+use crate::states::quiet::{is_quiet, rest};
+use crate::step_ahead::StepAhead;
 use asm_state::state::State;
 use std::alloc::{AllocError, Global};
 
@@ -52,8 +52,8 @@ pub(crate) fn is_same_state(left: &State, right: &State, count: usize) -> bool
     true
 }
 
-/// Makes a state known, which has this hash, that a step from a node leads to. Answers whether it is
-/// right.
+/// Makes a state known, which has this hash, that a step from a node leads to. Returns whether it
+/// is right.
 fn reach<M: Machine>(
     alloc: Global,
     machine: &M,
@@ -64,7 +64,7 @@ fn reach<M: Machine>(
     limit: u32,
     index: &mut Index,
     nodes: &mut Nodes,
-) -> Result<bool, Halt>
+) -> Result<bool, SearchError>
     requires machine { M.is_sound machine.now }
     requires state { IsStateOf (M.shape machine.now) state.now }
     requires from { from < length nodes.old }
@@ -87,26 +87,26 @@ fn reach<M: Machine>(
         return Ok(false);
     }
     if nodes.len() >= limit as usize {
-        return Err(Halt::States);
+        return Err(SearchError::States);
     }
     nodes.push(state, count, from as u32, below)?;
     note_last(alloc, nodes, hash, index)?;
     Ok(true)
 }
 
-/// Follows one outcome of the step from a node's state. Answers what is wrong with it, if anything
+/// Follows one outcome of the step from a node's state. Returns what is wrong with it, if anything
 /// is.
 fn follow<M: Machine>(
     alloc: Global,
     machine: &M,
     from: usize,
     state: &State,
-    one: &Found,
+    one: &ListedOutcome,
     below: u32,
     limit: u32,
     index: &mut Index,
     nodes: &mut Nodes,
-) -> Result<Option<Fault>, Halt>
+) -> Result<Option<Fault>, SearchError>
     requires machine { M.is_sound machine.now }
     requires from { from < length nodes.old }
     requires state { IsStateOf (M.shape machine.now) state.now }
@@ -116,7 +116,7 @@ fn follow<M: Machine>(
     requires nodes { Each (IsGood (M.shape machine.now) (M.right machine.now)) nodes.old }
     requires near { Each (λ n. n.depth ≤ below) nodes.old }
     requires outcome { IsOutcome (M.shape machine.now) (M.specification machine.now) (M.turns machine.now) nodes.old from below one.now }
-    requires apart { AreApart one.now.choices.items }
+    requires apart { HaveOwnPaths one.now.choices.items }
     ensures extends { Extends (M.shape machine.now) (M.specification machine.now) (M.turns machine.now) (M.right machine.now) below nodes.old nodes.new }
     ensures begun { AreBegun from nodes.old nodes.new }
     ensures room { length nodes.new ≤ limit }
@@ -126,8 +126,8 @@ fn follow<M: Machine>(
     ensures full { IfErr result (HaltsSo (limit ≤ length nodes.new) (λ _. ⊥)) }
 {
     let updates = match &one.answer {
-        Answer::Set(updates) => updates,
-        Answer::Exhausted(_) => return Ok(Some(Fault::Exhausted)),
+        RuleResult::Set(updates) => updates,
+        RuleResult::Exhausted(_) => return Ok(Some(Fault::Exhausted)),
     };
     let signature = machine.signature();
     if updates.set.first_fault(signature).is_some() {
@@ -152,19 +152,19 @@ struct BadOutcome {
     fault: Fault,
 }
 
-/// Follows outcomes of the step from a node's state. Answers the first one with a fault, if there
+/// Follows outcomes of the step from a node's state. Returns the first one with a fault, if there
 /// is one.
 fn follow_all<M: Machine>(
     alloc: Global,
     machine: &M,
     from: usize,
     state: &State,
-    outcomes: &[Found],
+    outcomes: &[ListedOutcome],
     below: u32,
     limit: u32,
     index: &mut Index,
     nodes: &mut Nodes,
-) -> Result<Option<BadOutcome>, Halt>
+) -> Result<Option<BadOutcome>, SearchError>
     requires machine { M.is_sound machine.now }
     requires from { from < length nodes.old }
     requires state { IsStateOf (M.shape machine.now) state.now }
@@ -174,12 +174,12 @@ fn follow_all<M: Machine>(
     requires nodes { Each (IsGood (M.shape machine.now) (M.right machine.now)) nodes.old }
     requires near { Each (λ n. n.depth ≤ below) nodes.old }
     requires sound { Each (IsOutcome (M.shape machine.now) (M.specification machine.now) (M.turns machine.now) nodes.old from below) outcomes.now }
-    requires apart { HaveChoices AreApart outcomes.now }
+    requires apart { HaveChoices HaveOwnPaths outcomes.now }
     ensures extends { Extends (M.shape machine.now) (M.specification machine.now) (M.turns machine.now) (M.right machine.now) below nodes.old nodes.new }
     ensures begun { AreBegun from nodes.old nodes.new }
     ensures room { length nodes.new ≤ limit }
-    ensures leads { IfOk result (λ bad. IfNone bad (Follows (M.shape machine.now) nodes.old nodes.new from below outcomes.now)) }
-    ensures wrong { IfOk result (λ bad. IfSome bad (λ b. (f : Found) × (slice_get outcomes.now b.number ≡ Some f) ×
+    ensures leads { IfOk result (λ bad. IfNone bad (FollowsStep (M.shape machine.now) nodes.old nodes.new from below outcomes.now)) }
+    ensures wrong { IfOk result (λ bad. IfSome bad (λ b. (f : ListedOutcome) × (slice_get outcomes.now b.number ≡ Some f) ×
         IsBadStep (M.shape machine.now) (M.specification machine.now) (M.turns machine.now) (M.right machine.now) (M.rests machine.now) nodes.old from f.choices.items b.fault)) }
     ensures full { IfErr result (HaltsSo (limit ≤ length nodes.new) (λ _. ⊥)) }
 {
@@ -194,9 +194,13 @@ fn follow_all<M: Machine>(
 }
 
 /// The choices of an outcome.
-fn choices_of(alloc: Global, outcomes: &[Found], number: usize) -> Result<Vec<Choice>, AllocError>
+fn choices_of(
+    alloc: Global,
+    outcomes: &[ListedOutcome],
+    number: usize,
+) -> Result<Vec<Choice>, AllocError>
     requires { number < length outcomes.now }
-    ensures { IfOk result (λ cs. (f : Found) → slice_get outcomes.now number ≡ Some f → cs.items ≡ f.choices.items) }
+    ensures { IfOk result (λ cs. (f : ListedOutcome) → slice_get outcomes.now number ≡ Some f → cs.items ≡ f.choices.items) }
 {
     let mut choices = Vec::new(alloc);
     let one = &outcomes[number];
@@ -204,18 +208,18 @@ fn choices_of(alloc: Global, outcomes: &[Found], number: usize) -> Result<Vec<Ch
     Ok(choices)
 }
 
-/// Follows all outcomes of the step from a node's state. Answers the first one with a fault, if
+/// Follows all outcomes of the step from a node's state. Returns the first one with a fault, if
 /// there is one.
 fn expand<M: Machine>(
     alloc: Global,
     machine: &M,
     from: usize,
     state: &State,
-    outcomes: &[Found],
+    outcomes: &[ListedOutcome],
     limit: u32,
     index: &mut Index,
     nodes: &mut Nodes,
-) -> Result<Option<Bad>, Halt>
+) -> Result<Option<BadStep>, SearchError>
     requires machine { M.is_sound machine.now }
     requires from { from < length nodes.old }
     requires shallow { (n : Node) → slice_get nodes.old from ≡ Some n → n.depth < 4_294_967_295 }
@@ -230,7 +234,7 @@ fn expand<M: Machine>(
     ensures expanded { IfOk result (λ bad. IfNone bad ((n : Node) → slice_get nodes.old from ≡ Some n → Expanded (M.shape machine.now) (M.specification machine.now) (M.turns machine.now) nodes.new n)) }
     ensures wrong { IfOk result (λ bad. IfSome bad (λ b. (b.from ≡ from) ×
         IsBadStep (M.shape machine.now) (M.specification machine.now) (M.turns machine.now) (M.right machine.now) (M.rests machine.now) nodes.old from b.choices.items b.fault)) }
-    ensures apart { IfOk result (λ bad. IfSome bad (λ b. AreApart b.choices.items)) }
+    ensures apart { IfOk result (λ bad. IfSome bad (λ b. HaveOwnPaths b.choices.items)) }
     ensures full { IfErr result (HaltsSo (limit ≤ length nodes.new) (λ _. ⊥)) }
 {
     let below = nodes.depth(from) + 1;
@@ -241,7 +245,7 @@ fn expand<M: Machine>(
         None => Ok(None),
         Some(bad) => {
             let choices = choices_of(alloc, outcomes, bad.number)?;
-            Ok(Some(Bad {
+            Ok(Some(BadStep {
                 from,
                 choices,
                 fault: bad.fault,
@@ -250,7 +254,7 @@ fn expand<M: Machine>(
     }
 }
 
-/// Expands a node by the outcomes of its step, and lists it if its state is quiet. Answers what is
+/// Expands a node by the outcomes of its step, and lists it if its state is quiet. Returns what is
 /// wrong with the step, if anything is.
 fn expand_listed<M: Machine>(
     alloc: Global,
@@ -261,7 +265,7 @@ fn expand_listed<M: Machine>(
     index: &mut Index,
     nodes: &mut Nodes,
     quiet: &mut Vec<u32>,
-) -> Result<Option<Bad>, Halt>
+) -> Result<Option<BadStep>, SearchError>
     requires machine { M.is_sound machine.now }
     requires from { from < length nodes.old }
     requires shallow { (n : Node) → slice_get nodes.old from ≡ Some n → n.depth < 4_294_967_295 }
@@ -275,11 +279,11 @@ fn expand_listed<M: Machine>(
     ensures expanded { IfOk result (λ bad. IfNone bad ((n : Node) → slice_get nodes.old from ≡ Some n → Expanded (M.shape machine.now) (M.specification machine.now) (M.turns machine.now) nodes.new n)) }
     ensures wrong { IfOk result (λ bad. IfSome bad (λ b. (b.from ≡ from) ×
         IsBadStep (M.shape machine.now) (M.specification machine.now) (M.turns machine.now) (M.right machine.now) (M.rests machine.now) nodes.old from b.choices.items b.fault)) }
-    ensures apart { IfOk result (λ bad. IfSome bad (λ b. AreApart b.choices.items)) }
+    ensures apart { IfOk result (λ bad. IfSome bad (λ b. HaveOwnPaths b.choices.items)) }
     ensures rests { IfOk result (λ bad. IfNone bad (RestsSo (M.specification machine.now) (M.turns machine.now) (M.rests machine.now) (state_of (M.shape machine.now) state.now) from quiet.old.items quiet.new.items)) }
     ensures listed { IfOk result (λ bad. IfSome bad (λ _. quiet.new.items ≡ quiet.old.items)) }
     ensures unlisted { IfErr result (λ _. quiet.new.items ≡ quiet.old.items) }
-    ensures full { IfErr result (HaltsSo (limit ≤ length nodes.new) (IsCrowdOf (M.made machine.now) (M.limit machine.now) (state_of (M.shape machine.now) state.now))) }
+    ensures full { IfErr result (HaltsSo (limit ≤ length nodes.new) (IsOverLimitOf (M.made machine.now) (M.limit machine.now) (state_of (M.shape machine.now) state.now))) }
 {
     match machine.outcomes(alloc, state) {
         Ok(outcomes) => {
@@ -296,8 +300,8 @@ fn expand_listed<M: Machine>(
     }
 }
 
-/// Makes the state of one of some nodes known, which has this hash and which a step from a node leads
-/// to. Answers whether it is right.
+/// Makes the state of one of some nodes known, which has this hash and which a step from a node
+/// leads to. Returns whether it is right.
 fn reach_next<M: Machine>(
     alloc: Global,
     machine: &M,
@@ -310,7 +314,7 @@ fn reach_next<M: Machine>(
     limit: u32,
     index: &mut Index,
     nodes: &mut Nodes,
-) -> Result<bool, Halt>
+) -> Result<bool, SearchError>
     requires machine { M.is_sound machine.now }
     requires like { length like.now ≡ count_of (M.shape machine.now) }
     requires number { number < length states.now }
@@ -335,8 +339,8 @@ fn reach_next<M: Machine>(
     )
 }
 
-/// Makes states known, which have these hashes, that a step from a node leads to. Answers whether all
-/// are right.
+/// Makes states known, which have these hashes, that a step from a node leads to. Returns whether
+/// all are right.
 fn reach_all<M: Machine>(
     alloc: Global,
     machine: &M,
@@ -348,7 +352,7 @@ fn reach_all<M: Machine>(
     limit: u32,
     index: &mut Index,
     nodes: &mut Nodes,
-) -> Result<bool, Halt>
+) -> Result<bool, SearchError>
     requires machine { M.is_sound machine.now }
     requires like { length like.now ≡ count_of (M.shape machine.now) }
     requires from { from < length nodes.old }
@@ -375,18 +379,18 @@ fn reach_all<M: Machine>(
 }
 
 /// Expands a node, of whose step it is known what it leads to, and lists it if its state is quiet.
-/// Answers what is wrong with the step, if anything is.
+/// Returns what is wrong with the step, if anything is.
 fn expand_ahead<M: Machine>(
     alloc: Global,
     machine: &M,
     from: usize,
     state: &State,
-    ahead: &Ahead,
+    ahead: &StepAhead,
     limit: u32,
     index: &mut Index,
     nodes: &mut Nodes,
     quiet: &mut Vec<u32>,
-) -> Result<Option<Bad>, Halt>
+) -> Result<Option<BadStep>, SearchError>
     requires machine { M.is_sound machine.now }
     requires from { from < length nodes.old }
     requires shallow { (n : Node) → slice_get nodes.old from ≡ Some n → n.depth < 4_294_967_295 }
@@ -401,11 +405,11 @@ fn expand_ahead<M: Machine>(
     ensures expanded { IfOk result (λ bad. IfNone bad ((n : Node) → slice_get nodes.old from ≡ Some n → Expanded (M.shape machine.now) (M.specification machine.now) (M.turns machine.now) nodes.new n)) }
     ensures wrong { IfOk result (λ bad. IfSome bad (λ b. (b.from ≡ from) ×
         IsBadStep (M.shape machine.now) (M.specification machine.now) (M.turns machine.now) (M.right machine.now) (M.rests machine.now) nodes.old from b.choices.items b.fault)) }
-    ensures apart { IfOk result (λ bad. IfSome bad (λ b. AreApart b.choices.items)) }
+    ensures apart { IfOk result (λ bad. IfSome bad (λ b. HaveOwnPaths b.choices.items)) }
     ensures rests { IfOk result (λ bad. IfNone bad (RestsSo (M.specification machine.now) (M.turns machine.now) (M.rests machine.now) (state_of (M.shape machine.now) state.now) from quiet.old.items quiet.new.items)) }
     ensures listed { IfOk result (λ bad. IfSome bad (λ _. quiet.new.items ≡ quiet.old.items)) }
     ensures unlisted { IfErr result (λ _. quiet.new.items ≡ quiet.old.items) }
-    ensures full { IfErr result (HaltsSo (limit ≤ length nodes.new) (IsCrowdOf (M.made machine.now) (M.limit machine.now) (state_of (M.shape machine.now) state.now))) }
+    ensures full { IfErr result (HaltsSo (limit ≤ length nodes.new) (IsOverLimitOf (M.made machine.now) (M.limit machine.now) (state_of (M.shape machine.now) state.now))) }
 {
     let below = nodes.depth(from) + 1;
     let (states, hashes) = (&ahead.states, ahead.hashes.as_slice());
@@ -420,19 +424,19 @@ fn expand_ahead<M: Machine>(
     }
 }
 
-/// Expands a node, and lists it if its state is quiet. Answers what is wrong with its step, if
+/// Expands a node, and lists it if its state is quiet. Returns what is wrong with its step, if
 /// anything is.
 fn expand_step<M: Machine>(
     alloc: Global,
     machine: &M,
     from: usize,
     state: &State,
-    ahead: &Option<Ahead>,
+    ahead: &Option<StepAhead>,
     limit: u32,
     index: &mut Index,
     nodes: &mut Nodes,
     quiet: &mut Vec<u32>,
-) -> Result<Option<Bad>, Halt>
+) -> Result<Option<BadStep>, SearchError>
     requires machine { M.is_sound machine.now }
     requires from { from < length nodes.old }
     requires shallow { (n : Node) → slice_get nodes.old from ≡ Some n → n.depth < 4_294_967_295 }
@@ -447,11 +451,11 @@ fn expand_step<M: Machine>(
     ensures expanded { IfOk result (λ bad. IfNone bad ((n : Node) → slice_get nodes.old from ≡ Some n → Expanded (M.shape machine.now) (M.specification machine.now) (M.turns machine.now) nodes.new n)) }
     ensures wrong { IfOk result (λ bad. IfSome bad (λ b. (b.from ≡ from) ×
         IsBadStep (M.shape machine.now) (M.specification machine.now) (M.turns machine.now) (M.right machine.now) (M.rests machine.now) nodes.old from b.choices.items b.fault)) }
-    ensures apart { IfOk result (λ bad. IfSome bad (λ b. AreApart b.choices.items)) }
+    ensures apart { IfOk result (λ bad. IfSome bad (λ b. HaveOwnPaths b.choices.items)) }
     ensures rests { IfOk result (λ bad. IfNone bad (RestsSo (M.specification machine.now) (M.turns machine.now) (M.rests machine.now) (state_of (M.shape machine.now) state.now) from quiet.old.items quiet.new.items)) }
     ensures listed { IfOk result (λ bad. IfSome bad (λ _. quiet.new.items ≡ quiet.old.items)) }
     ensures unlisted { IfErr result (λ _. quiet.new.items ≡ quiet.old.items) }
-    ensures full { IfErr result (HaltsSo (limit ≤ length nodes.new) (IsCrowdOf (M.made machine.now) (M.limit machine.now) (state_of (M.shape machine.now) state.now))) }
+    ensures full { IfErr result (HaltsSo (limit ≤ length nodes.new) (IsOverLimitOf (M.made machine.now) (M.limit machine.now) (state_of (M.shape machine.now) state.now))) }
 {
     match ahead {
         Some(ahead) => expand_ahead(
@@ -467,13 +471,13 @@ fn expand_batch<M: Machine>(
     machine: &M,
     first: usize,
     states: &[State],
-    ahead: &[Option<Ahead>],
+    ahead: &[Option<StepAhead>],
     steps: u32,
     limit: u32,
     index: &mut Index,
     nodes: &mut Nodes,
     quiet: &mut Vec<u32>,
-) -> Result<(), Looked>
+) -> Result<(), SearchSoFar>
     requires machine { M.is_sound machine.now }
     requires first { first + length states.now ≤ length nodes.old }
     requires states { states.now ≡ map (λ n. n.state) (take (length states.now) (drop first nodes.old)) }
@@ -490,7 +494,7 @@ fn expand_batch<M: Machine>(
     ensures near { IfOk result (λ _. IsNear nodes.new (first + length states.now)) }
     ensures more { length nodes.old ≤ length nodes.new }
     ensures rests { IfErr result (λ stopped. IsRested (M.shape machine.now) (M.specification machine.now) (M.turns machine.now) (M.rests machine.now) (M.within machine.now) steps stopped.expanded nodes.new quiet.new.items) }
-    ensures stopped { IfErr result (λ stopped. IsStopped (M.shape machine.now) (M.specification machine.now) (M.turns machine.now) (IsCrowdOf (M.made machine.now) (M.limit machine.now)) (M.right machine.now) (M.rests machine.now) (M.within machine.now) steps limit nodes.new stopped) }
+    ensures stopped { IfErr result (λ stopped. IsStopped (M.shape machine.now) (M.specification machine.now) (M.turns machine.now) (IsOverLimitOf (M.made machine.now) (M.limit machine.now)) (M.right machine.now) (M.rests machine.now) (M.within machine.now) steps limit nodes.new stopped) }
 {
     for k in 0..states.len() {
         let from = first + k;
@@ -500,13 +504,13 @@ fn expand_batch<M: Machine>(
         ) {
             Ok(None) => {}
             Ok(Some(bad)) => {
-                return Err(Looked {
+                return Err(SearchSoFar {
                     expanded: from,
-                    ended: Ended::Bad(bad),
+                    ended: SearchEnd::BadStep(bad),
                 });
             }
             Err(halt) => {
-                return Err(Looked {
+                return Err(SearchSoFar {
                     expanded: from,
                     ended: cut_off(halt),
                 });
@@ -517,20 +521,20 @@ fn expand_batch<M: Machine>(
 }
 
 /// The end of a search whose nodes are all expanded.
-fn ended_all(nodes: &Nodes, steps: u32) -> Ended
+fn ended_all(nodes: &Nodes, steps: u32) -> SearchEnd
     requires { Rises nodes.now }
     ensures closed { result ≡ Closed → Each (λ n. n.depth < steps) nodes.now }
     ensures done { IsDone result }
 {
     let count = nodes.len();
     if count > 0 && nodes.depth(count - 1) < steps {
-        Ended::Closed
+        SearchEnd::Closed
     } else {
-        Ended::AtLimit
+        SearchEnd::AtLimit
     }
 }
 
-/// Expands the next nodes, or passes over the next one if it isn't to be expanded. Answers how many
+/// Expands the next nodes, or passes over the next one if it isn't to be expanded. Returns how many
 /// are done with.
 fn expand_next<M: Machine>(
     alloc: Global,
@@ -542,7 +546,7 @@ fn expand_next<M: Machine>(
     index: &mut Index,
     nodes: &mut Nodes,
     quiet: &mut Vec<u32>,
-) -> Result<usize, Looked>
+) -> Result<usize, SearchSoFar>
     requires machine { M.is_sound machine.now }
     requires expanded { expanded < length nodes.old }
     requires like { length like.now ≡ count_of (M.shape machine.now) }
@@ -556,13 +560,13 @@ fn expand_next<M: Machine>(
     ensures rested { IfOk result (λ done. IsRested (M.shape machine.now) (M.specification machine.now) (M.turns machine.now) (M.rests machine.now) (M.within machine.now) steps done nodes.new quiet.new.items) }
     ensures near { IfOk result (λ done. IsNear nodes.new done) }
     ensures rests { IfErr result (λ stopped. IsRested (M.shape machine.now) (M.specification machine.now) (M.turns machine.now) (M.rests machine.now) (M.within machine.now) steps stopped.expanded nodes.new quiet.new.items) }
-    ensures stopped { IfErr result (λ stopped. IsStopped (M.shape machine.now) (M.specification machine.now) (M.turns machine.now) (IsCrowdOf (M.made machine.now) (M.limit machine.now)) (M.right machine.now) (M.rests machine.now) (M.within machine.now) steps limit nodes.new stopped) }
+    ensures stopped { IfErr result (λ stopped. IsStopped (M.shape machine.now) (M.specification machine.now) (M.turns machine.now) (IsOverLimitOf (M.made machine.now) (M.limit machine.now)) (M.right machine.now) (M.rests machine.now) (M.within machine.now) steps limit nodes.new stopped) }
 {
     let most = index.next_batch(machine.batch());
     let batch = match next_batch(alloc, machine, nodes, index, expanded, steps, most, like) {
         Ok(batch) => batch,
         Err(halt) => {
-            return Err(Looked {
+            return Err(SearchSoFar {
                 expanded,
                 ended: cut_off(halt),
             });
@@ -580,7 +584,7 @@ fn expand_next<M: Machine>(
     Ok(expanded + states.len())
 }
 
-/// How far the search is, where so many nodes are done with.
+/// How far the search is, when `done` nodes are done with.
 fn progress(nodes: &Nodes, done: usize) -> Progress
     requires { done ≤ length nodes.now }
 {
@@ -607,7 +611,7 @@ fn expand_all<M: Machine, W: Watch<Progress>>(
     nodes: &mut Nodes,
     quiet: &mut Vec<u32>,
     watch: &mut W,
-) -> Looked
+) -> SearchSoFar
     requires machine { M.is_sound machine.now }
     requires like { length like.now ≡ count_of (M.shape machine.now) }
     requires room { length nodes.old ≤ limit }
@@ -615,7 +619,7 @@ fn expand_all<M: Machine, W: Watch<Progress>>(
     requires rested { IsRested (M.shape machine.now) (M.specification machine.now) (M.turns machine.now) (M.rests machine.now) (M.within machine.now) steps 0 nodes.old quiet.old.items }
     requires near { IsNear nodes.old 0 }
     ensures rests { IsRested (M.shape machine.now) (M.specification machine.now) (M.turns machine.now) (M.rests machine.now) (M.within machine.now) steps result.expanded nodes.new quiet.new.items }
-    ensures stopped { IsStopped (M.shape machine.now) (M.specification machine.now) (M.turns machine.now) (IsCrowdOf (M.made machine.now) (M.limit machine.now)) (M.right machine.now) (M.rests machine.now) (M.within machine.now) steps limit nodes.new result }
+    ensures stopped { IsStopped (M.shape machine.now) (M.specification machine.now) (M.turns machine.now) (IsOverLimitOf (M.made machine.now) (M.limit machine.now)) (M.right machine.now) (M.rests machine.now) (M.within machine.now) steps limit nodes.new result }
 {
     let mut expanded = 0;
     while expanded < nodes.len() {
@@ -629,13 +633,13 @@ fn expand_all<M: Machine, W: Watch<Progress>>(
             Err(stopped) => return stopped,
         }
     }
-    Looked {
+    SearchSoFar {
         expanded,
         ended: ended_all(nodes, steps),
     }
 }
 
-/// The depth up to which all nodes are expanded, where the first ones are, so many.
+/// The depth up to which all nodes are expanded, if the first `expanded` ones are.
 fn whole_depth(nodes: &Nodes, expanded: usize, steps: u32) -> u32
     requires { Rises nodes.now }
     ensures low { result ≤ steps }
@@ -650,11 +654,11 @@ fn whole_depth(nodes: &Nodes, expanded: usize, steps: u32) -> u32
     }
 }
 
-/// Looks through all runs of so many steps. Each run of at most `whole` steps under each script
-/// ends at its limit, in a state that is right; where nothing is left to be looked at, so does each
-/// run of however many steps; where a bad step was found, each script that makes its choices and
-/// those that lead to it has a run that goes wrong in this step. The quiet states are listed, of
-/// those that runs are followed from. The first state is to be right.
+/// Looks through all runs of `steps` steps. Each run of at most `whole` steps under each script
+/// ends at its limit, in a state that is right; if nothing is left to be looked at, so does each
+/// run of however many steps; if a bad step was found, each script that makes its choices and those
+/// that lead to it has a run that goes wrong in this step. The quiet states are listed, of those
+/// that runs are followed from. The first state is to be right.
 pub fn explore<M: Machine, W: Watch<Progress>>(
     alloc: Global,
     machine: &M,
@@ -662,7 +666,7 @@ pub fn explore<M: Machine, W: Watch<Progress>>(
     steps: u32,
     limit: u32,
     watch: &mut W,
-) -> Result<Explored, AllocError>
+) -> Result<SearchResult, AllocError>
     requires machine { M.is_sound machine.now }
     requires kept { IsStateOf (M.shape machine.now) initial.now }
     requires initial { state_of (M.shape machine.now) initial.now ≡ (M.specification machine.now).initial }
@@ -680,7 +684,7 @@ pub fn explore<M: Machine, W: Watch<Progress>>(
     ensures inside { IfOk result (λ explored. AreInside (M.shape machine.now) (M.specification machine.now) (M.turns machine.now) (M.within machine.now) explored.nodes) }
     ensures deep { IfOk result (λ explored. IfBad explored.ended (λ bad. (n : Node) → slice_get explored.nodes bad.from ≡ Some n → (n.depth ≡ explored.whole) × (n.depth < steps))) }
     ensures nodes { IfOk result (λ explored. Each (IsGood (M.shape machine.now) (M.right machine.now)) explored.nodes × Each (IsLinked (M.shape machine.now) (M.specification machine.now) (M.turns machine.now) explored.nodes) explored.nodes) }
-    ensures crowded { IfOk result (λ explored. IfCrowd explored.ended (AtNode (M.shape machine.now) (IsCrowdOf (M.made machine.now) (M.limit machine.now)) explored.nodes explored.expanded explored.whole)) }
+    ensures crowded { IfOk result (λ explored. IfOverLimit explored.ended (AtNode (M.shape machine.now) (IsOverLimitOf (M.made machine.now) (M.limit machine.now)) explored.nodes explored.expanded explored.whole)) }
     ensures full { IfOk result (λ explored. explored.ended ≡ TooManyStates → limit ≤ length explored.nodes) }
 {
     let count = machine.signature().count();
@@ -694,7 +698,7 @@ pub fn explore<M: Machine, W: Watch<Progress>>(
         alloc, machine, initial, steps, room, &mut index, &mut nodes, &mut quiet, watch,
     );
     let whole = whole_depth(&nodes, looked.expanded, steps);
-    Ok(Explored {
+    Ok(SearchResult {
         nodes,
         whole,
         expanded: looked.expanded,

@@ -1,29 +1,29 @@
 //! Specifications are machines.
 ghost use Rattle.std.specs.Prelude.{◌≡◌, ◌<◌, length, option_map, IfSome};
-ghost use Rattle.asm_state.specs.Contents.{IsStateOf};
+ghost use Rattle.asm_state.specs.code.Contents.{IsStateOf};
 ghost use Rattle.asm_state.specs.Signature.{count_of, state_of};
-ghost use Rattle.asm_syntax.specs.Views.{spec_of};
+ghost use Rattle.asm_syntax.specs.code.Views.{spec_of};
 ghost use Rattle.asm_check.specs.Shapes.{shape_of};
 ghost use Rattle.asm_meaning.specs.Declarations.{specification_of};
-ghost use Rattle.asm_code.specs.CodeViews.{code_of};
-ghost use Rattle.asm_code.specs.RuleMeaning.{IsSoundTest};
-ghost use Rattle.asm_code.specs.RuleViews.{rule_of};
-ghost use Rattle.asm_explore.specs.Ahead.{IsAhead};
+ghost use Rattle.asm_code.specs.code.CodeViews.{code_of};
+ghost use Rattle.asm_code.specs.code.RuleMeaning.{IsSoundTest};
+ghost use Rattle.asm_code.specs.code.RuleViews.{rule_of};
+ghost use Rattle.asm_explore.specs.code.StepsAhead.{IsAhead};
 ghost use Rattle.asm_explore.specs.Conditions.{holds_in, IsSpecified};
-ghost use Rattle.asm_explore.specs.Lists.{Each};
-ghost use Rattle.asm_explore.specs.Made.{made_in};
-ghost use Rattle.asm_explore.specs.Steps.{IsListed};
+ghost use Rattle.asm_explore.specs.code.OutcomeLists.{Each};
+ghost use Rattle.asm_explore.specs.code.ChoicesMade.{made_in};
+ghost use Rattle.asm_explore.specs.code.StepOutcomes.{IsListed};
 
-use crate::ahead::Ahead;
 use crate::exploration::Exploration;
-use crate::found::Found;
-use crate::index::{FEW, Index};
-use crate::looking::look_ahead;
+use crate::look_ahead::look_ahead;
 use crate::machine::{Listed, Machine};
-use crate::nodes::Nodes;
-use crate::outcomes::outcomes;
-use crate::refusal::Refusal;
-use crate::specified::Specified;
+use crate::outcomes::list_outcomes::outcomes;
+use crate::outcomes::listed_outcome::ListedOutcome;
+use crate::outcomes::outcomes_error::OutcomesError;
+use crate::resolved_question::ResolvedQuestion;
+use crate::states::index::{Index, MIN_BATCH};
+use crate::states::nodes::Nodes;
+use crate::step_ahead::StepAhead;
 use asm_code::code::Code;
 use asm_eval::choose::passes;
 use asm_eval::frame::Frame;
@@ -34,7 +34,7 @@ use asm_state::state::State;
 use asm_updates::summary::Summary;
 use std::alloc::{AllocError, Global};
 
-/// Whether the condition holds in the state, where no name is bound.
+/// Whether the condition holds in the state, with no name bound.
 fn holds_at(alloc: Global, signature: &Signature, state: &State, test: &Option<Code>) -> bool
     requires sound { IsSoundTest signature.now (option_map code_of test.now) }
     requires whole { length state.now ≡ count_of signature.now }
@@ -48,9 +48,9 @@ fn holds_at(alloc: Global, signature: &Signature, state: &State, test: &Option<C
 /// What the step from a state yields, through all scripts.
 pub fn step_outcomes(
     alloc: Global,
-    specified: &Specified<'_>,
+    specified: &ResolvedQuestion<'_>,
     state: &State,
-) -> Result<Vec<Found>, Refusal>
+) -> Result<Vec<ListedOutcome>, OutcomesError>
     requires sound { IsSpecified specified.now }
     requires whole { length state.now ≡ count_of (shape_of (spec_of specified.now.checked.now.spec)) }
     ensures { let s = spec_of specified.now.checked.now.spec in
@@ -61,24 +61,24 @@ pub fn step_outcomes(
     let signature = specified.checked.signature();
     let nothing = Summary::new(alloc, signature.count());
     let view = View::new(signature, state, &nothing);
-    let on = Exploration {
+    let exploration = Exploration {
         view: &view,
         turns: specified.turns,
         limit: specified.limit,
     };
-    let found = outcomes(alloc, &on, &Frame::Empty, specified.code, &[])?;
+    let found = outcomes(alloc, &exploration, &Frame::Empty, specified.code, &[])?;
     Ok(found)
 }
 
-/// What the step from a state leads to, where these nodes are reached and stand in this index, if
-/// each of its outcomes leads on and there is memory for it.
+/// What the step from a state leads to, when these nodes are reached and in this index, if each of
+/// its outcomes leads on and there is memory for it.
 pub fn step_ahead(
     alloc: Global,
-    specified: &Specified<'_>,
+    specified: &ResolvedQuestion<'_>,
     state: &State,
     nodes: &Nodes,
     index: &Index,
-) -> Option<Ahead>
+) -> Option<StepAhead>
     requires sound { IsSpecified specified.now }
     requires state { IsStateOf (shape_of (spec_of specified.now.checked.now.spec)) state.now }
     requires nodes { Each (λ n. length n.state ≡ count_of (shape_of (spec_of specified.now.checked.now.spec))) nodes.now }
@@ -95,7 +95,7 @@ pub fn step_ahead(
     }
 }
 
-impl<'a> Machine for Specified<'a> {
+impl<'a> Machine for ResolvedQuestion<'a> {
     ghost specification = { λ m. specification_of (spec_of m.checked.now.spec) };
 
     ghost turns = { λ m. m.turns };
@@ -119,7 +119,7 @@ impl<'a> Machine for Specified<'a> {
     }
 
     fn batch(&self) -> usize {
-        FEW
+        MIN_BATCH
     }
 
     fn outcomes(&self, alloc: Global, state: &State) -> Listed {
@@ -133,7 +133,7 @@ impl<'a> Machine for Specified<'a> {
         states: &[State],
         _nodes: &Nodes,
         _index: &Index,
-    ) -> Result<Vec<Option<Ahead>>, AllocError> {
+    ) -> Result<Vec<Option<StepAhead>>, AllocError> {
         let mut all = Vec::new(alloc);
         for _state in 0..states.len() {
             all.push(None)?;

@@ -1,5 +1,5 @@
 //! The updates of an outcome.
-ghost use Rattle.asm_explore.specs.Marks.{IsMarked, marked_is};
+ghost use Rattle.asm_explore.specs.code.FaultMarks.{IsMarked, marked_is};
 
 use asm_updates::summary::Summary;
 

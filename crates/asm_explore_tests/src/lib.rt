@@ -2,7 +2,7 @@
 //!
 //! Expected counts are worked out by hand, or those of an explorer that was written apart from this
 //! one, in another language; of the philosophers without meals and of mutual exclusion they are
-//! also those of a model checker. Four tests take up to a second or two each, and minutes where
+//! also those of a model checker. Four tests take up to a second or two each, and minutes if
 //! nothing is proved: there give `rt try --test` a limit, as `--seconds 600`.
 #![tactic(auto)]
 

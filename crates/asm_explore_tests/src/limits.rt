@@ -2,7 +2,7 @@
 use crate::question::{ANY, Asked, answer_to, joined, told_of};
 use crate::texts::exclusion::{MUTEX, MUTEX_WRONG};
 use crate::told::{Told, Verdict, told_by};
-use asm_explore::{Crowd, Fault, Finding};
+use asm_explore::{Fault, Finding, RuleOverLimit};
 use std::alloc::{AllocError, Global};
 use std::test::Fail;
 
@@ -159,7 +159,7 @@ fn no_more_states_are_reached(rt: HostRuntime) -> Result<(), Fail> {
     Ok(())
 }
 
-/// What stands before the main rule's body.
+/// What is before the main rule's body.
 const BEFORE: &str = "CoreASM T init M universe Many = 1 .. 4096 universe Few = 0 .. 2 \
 universe Bit = 0 .. 1 function controlled f : Many function controlled x initially 0 \
 function controlled y rule M = ";
@@ -167,14 +167,14 @@ function controlled y rule M = ";
 /// A rule with too many outcomes.
 struct Crowded {
     body: &'static str,
-    /// So many may be listed.
+    /// This many may be listed.
     limit: usize,
     /// All states of less depth are expanded.
     depth: u32,
     path: &'static [u64],
-    /// So many has a part or a candidate.
+    /// This many has a part or a candidate.
     first: usize,
-    /// So many have those that stand beside it, came before it, or go on.
+    /// This many have those that are beside it, came before it, or go on.
     others: usize,
 }
 
@@ -221,7 +221,7 @@ forall i in Many do choose j in Few do f(i) := j + v endchoose endforall endlet 
         first: 3,
         others: 6,
     },
-    // Behind the first turn 0, 1 and 2 go on; behind the second, from 0 and 1, 0 to 3.
+    // After the first turn 0, 1 and 2 go on; after the second, from 0 and 1, 0 to 3.
     Crowded {
         body: "iterate choose i in Few do x := x + i endchoose enditerate",
         limit: 4,
@@ -253,7 +253,7 @@ fn are_same(left: &[u64], right: &[u64]) -> bool {
 }
 
 /// Whether a rule has too many outcomes as the row says.
-fn is_crowd(crowd: &Crowd, row: &Crowded) -> bool {
+fn is_crowd(crowd: &RuleOverLimit, row: &Crowded) -> bool {
     are_same(crowd.path.as_slice(), row.path)
         && crowd.first == row.first
         && crowd.others == row.others
@@ -309,7 +309,7 @@ fn a_million_turns_are_exhausted(rt: HostRuntime) -> Result<(), Fail> {
     Ok(())
 }
 
-/// What stands before a rule below fifty others.
+/// What is before a rule below fifty others.
 const BEFORE_DEEP: &str = "CoreASM T init M universe Bit = 0 .. 1 \
 function controlled x initially 0 rule M = ";
 
@@ -326,7 +326,7 @@ fn deep(alloc: Global) -> Result<String, AllocError> {
     Ok(text)
 }
 
-/// What is told where a number of counted steps is wrong.
+/// What is told if a number of counted steps is wrong.
 fn told_of_deep(alloc: Global, always: &'static str) -> Result<Told, Fail> {
     let text = deep(alloc)?;
     told_of(alloc, text.as_str(), &Asked { always, ..ANY })

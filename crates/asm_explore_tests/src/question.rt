@@ -1,11 +1,11 @@
 //! Questions about texts.
 use crate::told::{Told, told_by};
-use asm_explore::whole::explore_all;
-use asm_explore::{Answered, Question, Unwatched};
+use asm_explore::explore_all::explore_all;
+use asm_explore::{ExplorationResult, Question, Unwatched};
 use asm_reader::read;
 use asm_syntax::spec::Item;
 use asm_syntax::term::Term;
-use asm_tests::text::{Unchecked, checked_of};
+use asm_tests::checked_text::{Unchecked, checked_of};
 use std::alloc::{AllocError, Global};
 use std::test::Fail;
 
@@ -39,7 +39,7 @@ pub fn joined(alloc: Global, front: &str, rest: &str) -> Result<String, AllocErr
     Ok(text)
 }
 
-/// What stands before a term that is read.
+/// What is before a term that is read.
 const BEFORE_TERM: &str = "CoreASM T init M rule M = skip derived condition = ";
 
 /// The term with this text.
@@ -81,8 +81,8 @@ pub fn question_of(alloc: Global, asked: &Asked) -> Result<Question, Unchecked> 
     })
 }
 
-/// The answer to a question about a text.
-pub fn answer_to(alloc: Global, text: &str, asked: &Asked) -> Result<Answered, Fail> {
+/// The result of a question about a text.
+pub fn answer_to(alloc: Global, text: &str, asked: &Asked) -> Result<ExplorationResult, Fail> {
     let checked = checked_of(alloc, text.as_bytes())?;
     let question = question_of(alloc, asked)?;
     let answered = explore_all(alloc, &checked, &question, &mut Unwatched)?;

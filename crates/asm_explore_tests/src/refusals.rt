@@ -1,11 +1,11 @@
-//! Explorations that may be refused memory. The tests say more where they are: `.ci/refusals`
+//! Explorations that may be refused memory. The tests say more if they are: `.ci/refusals`
 //! refuses each of their requests in turn.
 use crate::question::{ANY, Asked, question_of};
 use crate::told::{Told, Verdict, told_by};
 use asm_check::Checked;
-use asm_explore::whole::explore_all;
-use asm_explore::{Answered, Fault, Finding, Unwatched};
-use asm_tests::text::{Unchecked, checked_of};
+use asm_explore::explore_all::explore_all;
+use asm_explore::{ExplorationResult, Fault, Finding, Unwatched};
+use asm_tests::checked_text::{Unchecked, checked_of};
 use std::alloc::{AllocError, Global};
 use std::test::Fail;
 
@@ -76,8 +76,12 @@ fn specification(alloc: Global, text: &str) -> Result<Checked, AllocError> {
     }
 }
 
-/// What is answered, or none if memory runs out before there is an answer.
-fn answer(alloc: Global, text: &str, asked: &Asked) -> Result<Option<Answered>, AllocError> {
+/// The result, or none if memory runs out before there is one.
+fn answer(
+    alloc: Global,
+    text: &str,
+    asked: &Asked,
+) -> Result<Option<ExplorationResult>, AllocError> {
     let checked = specification(alloc, text)?;
     let Ok(question) = question_of(alloc, asked) else {
         return Err(AllocError);
@@ -101,7 +105,7 @@ fn is_front(told: Told, whole: Told, least: u32) -> bool {
     }
 }
 
-/// Whether what is told of a text is this, or memory runs out, before all that is within so many
+/// Whether what is told of a text is this, or memory runs out, before all that is within `least`
 /// steps is looked at.
 fn is_told(
     alloc: Global,
@@ -136,7 +140,7 @@ fn finds_its_script(alloc: Global) -> Result<bool, AllocError> {
     };
     let told = told_by(&answered);
     Ok(match &answered.finding {
-        Finding::Bad(bad) => told == WRONG && bad.script.as_str() == BOTH_ONE,
+        Finding::BadStep(bad) => told == WRONG && bad.script.as_str() == BOTH_ONE,
         _ => is_front(told, WRONG, 1),
     })
 }

@@ -152,7 +152,7 @@ fn quiet_states_are_listed(rt: HostRuntime) -> Result<(), Fail> {
     Ok(())
 }
 
-/// Whether the run is that under a script of so many steps.
+/// Whether the run is that under a script of `steps` steps.
 fn is_run(run: &Option<QuietRun>, script: &str, steps: u64) -> bool {
     match run {
         None => false,

@@ -5,7 +5,7 @@ use asm_explore::Fault;
 use std::alloc::Global;
 use std::test::Fail;
 
-/// What stands before the main rule's body. Each location begins with 0.
+/// What is before the main rule's body. Each location begins with 0.
 const BEFORE: &str = "CoreASM T init M enum Color = { red, green, blue } \
 universe Bit = 0 .. 1 universe Few = 0 .. 2 universe Empty = 1 .. 0 \
 function controlled x initially 0 function controlled y initially 0 \
@@ -69,7 +69,7 @@ choose j in Bit do x := 7 + j endchoose endchoose",
         2,
         "isFirst or x = 9 and y = 0",
     ),
-    // No candidate of the inner one stands behind the last of the outer one.
+    // No candidate of the inner one comes after the last of the outer one.
     (
         "choose i in Few do choose j in Few with j > i do par x := i + 1 y := j endpar \
 endchoose endchoose",
@@ -83,7 +83,7 @@ endchoose endchoose",
         4,
         "(x <= 2 or x = 9) and y = 0",
     ),
-    // Equal answers are listed once, whatever the order of their updates.
+    // Equal results are listed once, whatever the order of their updates.
     (
         "choose i in Few do x := 5 endchoose",
         1,
@@ -269,11 +269,11 @@ static CALLS: [Row; 4] = [
         9,
         "x <= 2 and x <= y and y <= x + 2",
     ),
-    // The term stands by its name, so its value is that behind the choice.
+    // The term stands by its name, so its value is that after the choice.
     ("Late(x)", 2, 3, "isFirst or x = 5 and (y = 1 or y = 2)"),
 ];
 
-/// What is told of one step of a main rule with this body, where each state satisfies a condition.
+/// What is told of one step of a main rule with this body, if each state satisfies a condition.
 fn told_of_step(alloc: Global, body: &str, always: &'static str) -> Result<Told, Fail> {
     let text = joined(alloc, BEFORE, body)?;
     let asked = Asked {

@@ -5,7 +5,7 @@ use crate::texts::exclusion::MUTEX_WRONG;
 use crate::texts::stack::STACK_WRONG;
 use crate::texts::termination::TERMINATION_WRONG;
 use asm_explore::{BadRun, Finding};
-use asm_limits::limits::Limits;
+use asm_limits::run_limits::Limits;
 use asm_run::end::End;
 use asm_run::error::RunError;
 use asm_run::run::run;
@@ -20,7 +20,7 @@ const OUTSIDE: &str = "CoreASM T init M universe Few = 0 .. 2 \
 function controlled f : Few function controlled sum initially 0 \
 rule M = choose i in Few do par sum := sum + i f(sum) := 1 endpar endchoose";
 
-/// The `iterate` has no end where 2 was chosen, and is chosen again.
+/// The `iterate` has no end if 2 was chosen, and is chosen again.
 const EXHAUSTED: &str = "CoreASM T init M universe Few = 0 .. 2 function controlled n initially 0 \
 rule M = choose i in Few do \
 if i = 2 and n = 2 then iterate n := n + 1 enditerate else n := i endif endchoose";
@@ -60,7 +60,7 @@ static SCRIPTS: [Case; 8] = [
 fn found_run(alloc: Global, text: &str, asked: &Asked) -> Result<BadRun, Fail> {
     let answered = answer_to(alloc, text, asked)?;
     match &answered.finding {
-        Finding::Bad(bad) => Ok(BadRun {
+        Finding::BadStep(bad) => Ok(BadRun {
             script: String::from_str(alloc, bad.script.as_str())?,
             step: bad.step,
             fault: bad.fault,
@@ -69,7 +69,7 @@ fn found_run(alloc: Global, text: &str, asked: &Asked) -> Result<BadRun, Fail> {
     }
 }
 
-/// How the run of so many steps under a script ends, and its trace.
+/// How the run of `steps` steps under a script ends, and its trace.
 fn run_under<R: Threads + Sync + AllocGlobal>(
     rt: &R,
     text: &str,
@@ -116,7 +116,7 @@ fn found_scripts_lead_to_faults(rt: HostRuntime) -> Result<(), Fail> {
 const BOTH_CRITICAL: &[u8] = b"end limit\nstate\nstage(0) = critical\nstage(1) = critical\n\
 flag(0) = true\nflag(1) = true\n";
 
-/// Whether the run of so many steps under the script that is found ends in the state in which both
+/// Whether the run of `steps` steps under the script that is found ends in the state in which both
 /// are critical.
 fn ends_critical<R: Threads + Sync + AllocGlobal>(rt: &R, steps: u32) -> Result<bool, Fail> {
     let bad = found_run(rt.alloc(), MUTEX_WRONG, &BOTH)?;

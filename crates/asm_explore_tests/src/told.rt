@@ -1,5 +1,5 @@
 //! What is told of a specification.
-use asm_explore::{Answered, Fault, Finding};
+use asm_explore::{ExplorationResult, Fault, Finding};
 
 /// What is found, without its texts.
 #[derive(Clone, Copy, Debug, PartialEq, Eq)]
@@ -10,7 +10,7 @@ pub enum Verdict {
     Bad(u64, Fault),
     WrongFirst,
     TooManyStates(u32),
-    /// A depth, and the outcomes of a part and of what stands beside it.
+    /// A depth, and the outcomes of a part and of what is beside it.
     TooManyOutcomes(u32, usize, usize),
     NoMemory(u32),
     /// The step that goes wrong.
@@ -32,7 +32,7 @@ fn verdict_of(finding: &Finding) -> Verdict {
     match finding {
         Finding::Closed => Verdict::Closed,
         Finding::SafeTo(depth) => Verdict::SafeTo(*depth),
-        Finding::Bad(bad) => Verdict::Bad(bad.step, bad.fault),
+        Finding::BadStep(bad) => Verdict::Bad(bad.step, bad.fault),
         Finding::WrongFirst => Verdict::WrongFirst,
         Finding::TooManyStates(depth) => Verdict::TooManyStates(*depth),
         Finding::TooManyOutcomes { depth, crowd } => {
@@ -43,8 +43,8 @@ fn verdict_of(finding: &Finding) -> Verdict {
     }
 }
 
-/// What an answer tells.
-pub fn told_by(answered: &Answered) -> Told {
+/// What a result tells.
+pub fn told_by(answered: &ExplorationResult) -> Told {
     Told {
         verdict: verdict_of(&answered.finding),
         states: answered.states,

@@ -1,4 +1,4 @@
--- The characters of bytes, one after another.
+-- Free. The characters of bytes, one after another.
 use Rattle.std.proofs.Common.{◌≡◌, ℕ, zero, suc, ◌-◌, ◌<◌, ◌≤◌, List, [], ◌∷◌, ◌++◌, length, take, drop, min, refl, ap, sym, ◌∙◌, arith, Option, None, Some, unwrap_or, slice_get}
 use Rattle.std.proofs.lemmas.Grind.{common_steps}
 use Rattle.std.specs.Str.{chars}
@@ -18,7 +18,7 @@ length_of_some (Some c) = grind arith
 drop_of : (n : ℕ) (b : ℕ) (bs : List ℕ) → 0 < n → drop (n - 1) bs ≡ drop n (b ∷ bs)
 drop_of n b bs h = grind (arith, common_steps)
 
--- the first character, and those behind it
+-- the first character, and those after it
 pub characters_step : (bs : List ℕ) (first : Option ℕ) (n : ℕ) → 0 < length bs → first ≡ first_character bs → n ≡ length_of first → characters bs ≡ unwrap_or first 63 ∷ characters (drop n bs)
 characters_step [] first n some e m = absurd (omega (arith, some))
 characters_step (b ∷ bs) first n some e m =

@@ -1,4 +1,4 @@
 mod Decoding
 mod LineParts
 mod Links
-mod Spelled
+mod CharactersOfUtf8

@@ -1,4 +1,4 @@
--- What std's iterators over the parts of a slice give first, as the part of a line.
+-- Free. What std's iterators over the parts of a slice give first, as the part of a line.
 use Rattle.std.proofs.Common.{◌≡◌, ℕ, ◌-◌, ◌≤◌, Bool, true, false, not, List, [], ◌∷◌, ◌++◌, length, drop, ap, sym, ◌∙◌, arith, length-append, append_assoc, Option, None, Some, unwrap_or}
 use Rattle.std.proofs.lemmas.Grind.{common_steps}
 use Rattle.std.proofs.lemmas.List.Sums.{suffix_len_is, position_or_len_is}

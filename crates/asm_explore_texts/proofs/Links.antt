@@ -1,4 +1,4 @@
--- Links of a chain of conditions.
+-- Free. Links of a chain of conditions.
 --     one_more      one condition more
 use Rattle.std.proofs.Common.{◌≡◌, ◌≢◌, ℕ, ◌+◌, ◌<◌, true, List, [], ◌∷◌, ◌++◌, length, take, Some, Vec, Box, Global, refl, ap, sym, subst, ◌∙◌}
 use Rattle.std.specs.Prelude.{slice_index_or}

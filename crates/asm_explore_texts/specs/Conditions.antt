@@ -1,16 +1,20 @@
--- Conditions on states, from their texts.
---     extended text asked             the text of a specification, and behind it a derived function with the condition as its body
---     EndsInTerm items n t            behind n items there is one more, a derived function without parameters, and this is its body
+-- Definition. Conditions on states, from their texts.
+--     extended text asked             the text of a specification, and after it a derived function
+--                                     with the condition as its body
+--     EndsInTerm items n t            after n items there is one more, a derived function without
+--                                     parameters, and this is its body
 --     IsConditionOf text n asked t    the extended text is well formed, and its items end so
---     AreConditionsOf                 the same for each of several conditions, as links of a chain of `and`
+--     AreConditionsOf                 the same for each of several conditions, as links of a chain
+--                                     of `and`
 --     AreAnds links                   each link is an `and`
 --     MayBeConditionOf                the same for a condition that may be left out
---     IsJoined links t                the chain of these links behind `true`, or no term where there are none
+--     IsJoined links t                the chain of these links after `true`, or no term if there
+--                                     are none
 use Rattle.std.specs.Prelude.{◌≡◌, ℕ, true, List, [], ◌∷◌, ◌++◌, length, map, Option, Some, None, codes, ⊤}
 use Rattle.std.proofs.Common.{Vec, Box, Global}
 use Rattle.asm_state.specs.declared.operation.Op.{Op}
 use Rattle.asm_state.specs.declared.operation.Op.TheVariants.{And}
-use Rattle.asm_syntax.specs.Views.{spec_of}
+use Rattle.asm_syntax.specs.code.Views.{spec_of}
 use Rattle.asm_syntax.specs.declared.name.Name.{Name}
 use Rattle.asm_syntax.specs.declared.spec.Spec.{Spec}
 use Rattle.asm_syntax.specs.declared.spec.Item.{Item}
@@ -22,7 +26,7 @@ use Rattle.asm_reader.specs.Specification.{IsSpecification}
 use Rattle.asm_check.specs.Faults.{IsWellFormed}
 use Rattle.asm_explore_texts.specs.declared.conditions.Condition.{Condition}
 
--- what stands between the text and the condition
+-- what is between the text and the condition
 abbrev pub front : List ℕ
 front = 10 ∷ codes "derived condition_of_the_search = "
 

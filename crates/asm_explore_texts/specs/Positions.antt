@@ -1,6 +1,6 @@
--- Where in a text an offset stands.
+-- Definition. Where an offset is in a text.
 --     line_number, column_number       as a user counts, from 1
---     column_in_text                   the column, where the line is UTF-8 up to the offset
+--     column_in_text                   the column, if the line is UTF-8 up to the offset
 --     before_in_line, from_in_line     the line, before the offset and from it on
 --     characters                       what counts as a column
 use Rattle.std.specs.Prelude.{ℕ, zero, suc, ◌+◌, ◌-◌, ◌==◌, Bool, Option, None, Some, List, [], ◌∷◌, take, drop, length, count_by, slice_get, unwrap_or}
@@ -14,7 +14,8 @@ use Rattle.std.specs.Str.Lossy.{utf8_valid_len}
 abbrev pub is_line_feed : ℕ → Bool
 is_line_feed b = b == 10
 
--- what stands in the line of the offset before it, and from it on; the line feed that ends it is no part of a line
+-- what is in the line of the offset before it, and from it on; the line feed that ends it is no
+-- part of a line
 abbrev pub before_in_line : (text : List ℕ) → ℕ → List ℕ
 before_in_line text at = after_last is_line_feed (take at text)
 
@@ -27,7 +28,8 @@ line_number text at = count_by is_line_feed (take at text) + 1
 
 -- ---- characters
 
--- the character that the bytes begin with, which has four of them at most, or None where they begin with none
+-- the character that the bytes begin with, which has four of them at most, or None if they begin
+-- with none
 abbrev pub first_character : List ℕ → Option ℕ
 first_character bs = let front = take 4 bs in slice_get (chars (take (utf8_valid_len front) front)) 0
 
@@ -36,7 +38,7 @@ abbrev pub length_of : Option ℕ → ℕ
 length_of None = 1
 length_of (Some c) = len_utf8 c
 
--- the characters behind so many bytes
+-- the characters after n bytes
 abbrev pub characters_behind : ℕ → List ℕ → List ℕ
 characters_behind n [] = []
 characters_behind (suc n) (b ∷ bs) = characters_behind n bs
@@ -50,6 +52,6 @@ characters bs = characters_behind 0 bs
 abbrev pub column_number : (text : List ℕ) → ℕ → ℕ
 column_number text at = length (characters (before_in_line text at)) + 1
 
--- the same, where the bytes before the offset are UTF-8: by the characters that they spell
+-- the same, if the bytes before the offset are UTF-8: by the characters that they spell
 abbrev pub column_in_text : (text : List ℕ) → ℕ → ℕ
 column_in_text text at = length (chars (before_in_line text at)) + 1

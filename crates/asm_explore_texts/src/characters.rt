@@ -4,7 +4,7 @@ ghost use Rattle.std.specs.Iterator.{YieldsFirst, item_count};
 ghost use Rattle.asm_explore_texts.specs.Positions.{characters};
 
 /// No character has more bytes.
-const LONGEST: usize = 4;
+const MAX_CHARACTER_BYTES: usize = 4;
 
 /// The characters of some bytes, in order. A byte that belongs to none counts as one, which is `?`.
 #[derive(Drop)]
@@ -37,7 +37,7 @@ impl Iterator for Characters<'_> {
     ghost remaining = { item_count (λ c. characters c.rest.now) };
 
     fn next(&mut self) -> Option<char> {
-        let front = &self.rest[..self.rest.len().min(LONGEST)];
+        let front = &self.rest[..self.rest.len().min(MAX_CHARACTER_BYTES)];
         let first = front.utf8_chunks().next()?.valid().chars().next();
         self.rest = &self.rest[first.map_or(1, char::len_utf8)..];
         Some(first.unwrap_or('?'))

@@ -7,7 +7,7 @@ ghost use Rattle.asm_explore_texts.specs.Conditions.{AreConditionsOf, IsConditio
 use crate::condition::{ConditionError, condition_term};
 use asm_explore_words::fault::{Fault, RefusedText, Source};
 use asm_state::operation::Op;
-use asm_syntax::Refused;
+use asm_syntax::InputError;
 use asm_syntax::term::{Literal, Term};
 use std::alloc::{AllocError, Global};
 
@@ -44,7 +44,7 @@ fn refused<'w>(
     }))
 }
 
-/// A condition as a term over the names of the specification with this text, which has so many
+/// A condition as a term over the names of the specification with this text, which has `items`
 /// items.
 fn term_of<'w>(
     alloc: Global,
@@ -56,8 +56,8 @@ fn term_of<'w>(
 {
     match condition_term(alloc, text, items, condition.text.as_slice()) {
         Ok(term) => Ok(term),
-        Err(Refused::Memory) => Err(Fault::Memory),
-        Err(Refused::Named(error)) => Err(refused(alloc, condition, error)?),
+        Err(InputError::Memory) => Err(Fault::Memory),
+        Err(InputError::Named(error)) => Err(refused(alloc, condition, error)?),
     }
 }
 
@@ -76,7 +76,7 @@ pub fn optional_term<'w>(
     }
 }
 
-/// Each of the conditions as a term, behind the `and` that joins it to those before.
+/// Each of the conditions as a term, after the `and` that joins it to those before.
 pub fn links<'w>(
     alloc: Global,
     text: &[u8],
@@ -93,7 +93,7 @@ pub fn links<'w>(
     Ok(links)
 }
 
-/// The term that is true just where each of these is, if there are any.
+/// The term that is true just when each of these is, if there are any.
 pub fn joined(alloc: Global, links: Vec<(Op, Term)>) -> Result<Option<Term>, AllocError>
     ensures { IfOk result (IsJoined links.items) }
 {

@@ -5,23 +5,23 @@ use std::fmt;
 use std::fmt::Write;
 
 /// No more characters of a line are shown.
-const WIDTH: usize = 100;
+const MAX_WIDTH: usize = 100;
 
-/// Writes a line, and a mark under the character behind `line.before`. Of a long line only the part
+/// Writes a line, and a mark under the character after `line.before`. Of a long line only the part
 /// around the mark is shown.
 pub fn excerpt<W: Write>(line: &Line<'_>, out: &mut W) -> fmt::Result {
     let rest = line.rest.strip_suffix(b"\r").unwrap_or(line.rest);
     let mark = Characters::count_of(line.before);
     let length = mark + Characters::count_of(rest);
     let skipped = mark
-        .saturating_sub(WIDTH / 2)
-        .min(length.saturating_sub(WIDTH));
+        .saturating_sub(MAX_WIDTH / 2)
+        .min(length.saturating_sub(MAX_WIDTH));
     out.write_str(if skipped > 0 { " ..." } else { "    " })?;
     let characters = Characters::of(line.before).chain(Characters::of(rest));
-    for character in characters.skip(skipped).take(WIDTH) {
+    for character in characters.skip(skipped).take(MAX_WIDTH) {
         out.write_char(shown(character))?;
     }
-    out.write_str(if skipped + WIDTH < length {
+    out.write_str(if skipped + MAX_WIDTH < length {
         "...\n"
     } else {
         "\n"
@@ -33,7 +33,7 @@ pub fn excerpt<W: Write>(line: &Line<'_>, out: &mut W) -> fmt::Result {
     out.write_str("^\n")
 }
 
-/// The character, or a space in place of one that would move the mark.
+/// The character, or a space instead of one that would move the mark.
 fn shown(character: char) -> char {
     if character.is_control() || is_unseen(character) {
         ' '

@@ -4,8 +4,8 @@ use asm_syntax::name::Name;
 use asm_syntax::rule::Rule;
 use asm_syntax::term::Term;
 
-/// The first name in a rule, if there is one: of an assignment the function's, of a call the rule's,
-/// of a `let`, `forall` or `choose` the variable's.
+/// The first name in a rule, if there is one: of an assignment the function's, of a call the
+/// rule's, of a `let`, `forall` or `choose` the variable's.
 #[cycle(first_name)]
 pub(crate) fn first_name(rule: &Rule) -> Option<&Name> {
     match rule {
@@ -67,11 +67,11 @@ fn first_in_term(term: &Term) -> Option<&Name> {
         Term::Negative(inner) => first_in_term(inner),
         Term::Exists { name, .. } => Some(name),
         Term::Every { name, .. } => Some(name),
-        Term::Answer(name) => Some(name),
+        Term::Result(name) => Some(name),
     }
 }
 
-/// The first name in the operands of a chain behind its first.
+/// The first name in the operands of a chain after its first.
 #[cycle(first_in_term)]
 fn first_in_links(links: &[(Op, Term)]) -> Option<&Name> {
     for i in 0..links.len() {

@@ -1,4 +1,4 @@
-//! Where in a text an offset stands.
+//! Where an offset is in a text.
 ghost use Rattle.std.specs.Prelude.{◌≡◌};
 ghost use Rattle.std.specs.List.{after_last, before_first};
 ghost use Rattle.std.specs.Str.{IsUtf8};
@@ -11,14 +11,14 @@ use crate::characters::Characters;
 pub struct Line<'t> {
     /// Its number, from 1.
     pub number: usize,
-    /// What stands in it before the offset.
+    /// What is in it before the offset.
     pub before: &'t [u8],
-    /// What stands in it from the offset on, without the line feed that ends it.
+    /// What is in it from the offset on, without the line feed that ends it.
     pub rest: &'t [u8],
 }
 
 impl<'t> Line<'t> {
-    /// The line with this offset, or the last line where the text ends before it.
+    /// The line with this offset, or the last line if the text ends before it.
     pub fn with(text: &'t [u8], at: usize) -> Line<'t>
         ensures number { result.number ≡ line_number text.now at }
         ensures before { result.before.now ≡ before_in_line text.now at }
@@ -33,14 +33,14 @@ impl<'t> Line<'t> {
     }
 }
 
-/// What stands behind the last line feed, or all where there is none.
+/// What is after the last line feed, or all if there is none.
 fn last_line(text: &[u8]) -> &[u8]
     ensures { result.now ≡ after_last is_line_feed text.now }
 {
     text.rsplit(|byte| *byte == b'\n').next().unwrap_or(text)
 }
 
-/// What stands before the first line feed, or all where there is none.
+/// What is before the first line feed, or all if there is none.
 fn first_line(text: &[u8]) -> &[u8]
     ensures { result.now ≡ before_first is_line_feed text.now }
 {
@@ -57,7 +57,7 @@ pub struct Position {
 }
 
 impl Position {
-    /// The place of this offset, or the end of the text where it ends before that.
+    /// The place of this offset, or the end of the text if it ends before that.
     pub fn of(text: &[u8], at: usize) -> Position
         ensures line { result.line ≡ line_number text.now at }
         ensures column { result.column ≡ column_number text.now at }

@@ -5,7 +5,7 @@ ghost use Rattle.asm_reader.specs.ScriptText.{IsScript};
 use asm_explore_words::fault::{Fault, RefusedText, Source, TextError};
 use asm_explore_words::settings::RunSettings;
 use asm_reader::{Script, ScriptError, read_script};
-use asm_syntax::Refused;
+use asm_syntax::InputError;
 use std::alloc::{AllocError, Global};
 
 /// The script with this text.
@@ -18,8 +18,8 @@ pub fn script_given<'w>(
 {
     match read_script(alloc, text) {
         Ok(script) => Ok(script),
-        Err(Refused::Memory) => Err(Fault::Memory),
-        Err(Refused::Named(error)) => Err(refused(alloc, text, settings, error)?),
+        Err(InputError::Memory) => Err(Fault::Memory),
+        Err(InputError::Named(error)) => Err(refused(alloc, text, settings, error)?),
     }
 }
 

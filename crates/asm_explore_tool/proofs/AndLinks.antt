@@ -1,4 +1,4 @@
--- Links that are those of conditions.
+-- Free. Links that are those of conditions.
 --     ands_of       each link is an `and`
 use Rattle.std.proofs.Common.{ℕ, List, [], ◌∷◌}
 use Rattle.asm_state.specs.declared.operation.Op.{Op}

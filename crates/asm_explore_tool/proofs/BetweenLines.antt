@@ -1,4 +1,4 @@
--- Comments between the lines of a script change nothing of what it says.
+-- Free. Comments between the lines of a script change nothing of what it says.
 --     entries_kept      the lines that aren't skipped are those of the lines alone
 --     commented_says    lines with comments between them, or the lines alone
 use Rattle.std.proofs.Common.{◌≡◌, ℕ, ◌≤◌, List, [], ◌∷◌, ◌++◌, length, codes, decimal, inl, inr, sym, ap, subst, ◌∙◌}
@@ -7,11 +7,11 @@ use Rattle.std.proofs.lemmas.List.Elements.{filter-append}
 use Rattle.std.specs.Prelude.{not}
 use Rattle.asm_reader.specs.ScriptLines.{Line, Script}
 use Rattle.asm_reader.specs.ScriptText.{IsScript, is_skipped, lines_of, max_script}
-use Rattle.asm_explore.specs.Written.{line_said, line_text, lines_text, path_text}
+use Rattle.asm_explore.specs.code.WrittenScripts.{line_said, line_text, lines_text, path_text}
 use Rattle.asm_explore_tool.specs.Comments.{comments, lines_of as texts_of}
 use Rattle.asm_explore_tool.specs.Commented.{IsCommented, commented, entries_text, entry_text, said_by}
 use Rattle.asm_explore_tool.specs.declared.commented.Entry.{Entry}
-use Rattle.asm_explore_tool.proofs.Skipped.{comments_kept, feed_first, kept, says_alike}
+use Rattle.asm_explore_tool.proofs.SkippedLines.{comments_kept, feed_first, kept, says_alike}
 
 -- a line without the line feed at its end
 abbrev bare : Line → List ℕ

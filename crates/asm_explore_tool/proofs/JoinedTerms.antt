@@ -1,5 +1,5 @@
--- Conditions that are joined by `and` hold together just where each of them does.
---     all_hold      a chain of them behind `true`
+-- Free. Conditions that are joined by `and` hold together just when each of them does.
+--     all_hold      a chain of them after `true`
 use Rattle.std.proofs.Common.{◌≡◌, ℕ, Bool, true, false, ◌&&◌, List, [], ◌∷◌, map, Option, Some, refl, ap, ◌∙◌}
 use Rattle.std.proofs.Common.{Vec, Box, Global}
 use Rattle.std.specs.List.{list_all}
@@ -12,16 +12,16 @@ use Rattle.asm_state.specs.declared.value.Value.TheVariants as value
 use Rattle.asm_syntax.specs.PlainTree.{literal_value, plain_links, plain_term}
 use Rattle.asm_syntax.specs.Tree as tree
 use Rattle.asm_syntax.specs.Tree.{Name}
-use Rattle.asm_syntax.specs.Views.{links_of, term_of}
+use Rattle.asm_syntax.specs.code.Views.{links_of, term_of}
 use Rattle.asm_syntax.specs.declared.term.Literal.{Literal}
 use Rattle.asm_syntax.specs.declared.term.Literal.TheVariants.{Truth}
 use Rattle.asm_syntax.specs.declared.term.Term.{Term}
 use Rattle.asm_syntax.specs.declared.term.Term.TheVariants as term
 use Rattle.asm_meaning.specs.Program.{Program, nothing_bound}
 use Rattle.asm_meaning.specs.TermCases.{TermCases, chain_value}
-use Rattle.asm_meaning.specs.TreeWeights.{link_of}
+use Rattle.asm_meaning.specs.code.TreeWeights.{link_of}
 use Rattle.asm_meaning.specs.Value.{holds, is_true, value}
-use Rattle.asm_meaning.specs.Valued.{condition}
+use Rattle.asm_meaning.specs.code.TermValues.{condition}
 use Rattle.asm_explore_texts.specs.Conditions.{AreAnds, IsJoined}
 
 both_hold : (v w : Value) → is_true (op And v w) ≡ is_true v && is_true w

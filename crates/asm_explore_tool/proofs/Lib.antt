@@ -1,12 +1,12 @@
 mod AndLinks
 mod BetweenLines
-mod Fronts
+mod FilesInTurn
 mod JoinedTerms
-mod Printed
+mod PrintedScripts
 mod RunMore
 mod RunTold
-mod Skipped
-mod Told
+mod SkippedLines
+mod WordsOfRuns
 mod TraceText
-mod Views
+mod BareViews
 mod WholeLines

@@ -1,4 +1,4 @@
--- A run with one step more.
+-- Free. A run with one step more.
 --     after_more      the state after it
 use Rattle.std.proofs.Common.{◌≡◌, ℕ, zero, suc, ◌+◌, Bool, true, false, cond, [], refl, ap, sym, ◌∙◌, arith}
 use Rattle.asm_state.specs.Location.{State}

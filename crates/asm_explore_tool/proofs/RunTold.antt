@@ -1,21 +1,21 @@
--- What is told of one run.
+-- Free. What is told of one run.
 --     never_twice          words that are taken never ask for the input twice
 --     choices_told         the status of a run that ends so
 --     clash_told           the status of a run that ends by these assignments
 --     printed_script       a script with comments is that of its lines
---     length_lines         so many comments as lines
+--     length_lines         as many comments as lines
 --     comments_alone       comments are a script without lines
 use Rattle.std.proofs.Common.{Global, Vec, ◌≡◌, ℕ, suc, codes, Bool, true, false, List, [], ◌∷◌, Some, inl, inr, refl, sym, ap, subst, ◌∙◌, arith}
 use Rattle.std.specs.Prelude.{◌&&◌, ◌||◌, ◌++◌, ◌<◌, length, option_map}
 use Rattle.clap.specs.Walk.{Text, first_of}
 use Rattle.asm_syntax.specs.SourceTree.{Spec}
-use Rattle.asm_reader.specs.ExactLines.{exactly}
+use Rattle.asm_reader.specs.code.ExactLines.{exactly}
 use Rattle.asm_reader.specs.ScriptLines.{Line, Script, no_lines}
 use Rattle.asm_reader.specs.ScriptText.{AreFaultless, IsScript, is_bad, is_repeated}
 use Rattle.asm_meaning.specs.Run.{AtExhausted, AtFault, AtLimit, End, Run}
 use Rattle.asm_meaning.specs.Scripts.{IsUnrepeated}
-use Rattle.asm_explore.specs.Written.{AreSteps}
-use Rattle.asm_run.specs.Headline.{IsAnswer}
+use Rattle.asm_explore.specs.code.WrittenScripts.{AreSteps}
+use Rattle.asm_run.specs.Headline.{IsReturned}
 use Rattle.asm_run.specs.declared.end.End as shown
 use Rattle.asm_run.specs.declared.end.End.TheVariants.{Clash, Exhausted, Limit, Outside}
 use Rattle.asm_clash.specs.ClashOfRun.{EndsSo}
@@ -25,12 +25,12 @@ use Rattle.asm_explore_tool.specs.Commented.{said_by}
 use Rattle.asm_explore_tool.specs.Comments.{comments, lines_of as bytes_of}
 use Rattle.asm_explore_tool.specs.Report.{IsWholeOr}
 use Rattle.asm_explore_tool.specs.RunReport.{IsRunStatus, choices_status, clash_status, status_of_end}
-use Rattle.asm_explore_words.specs.Said.{AreRunSaid, AreSaidBehind, are_both_input, is_input, reads_input_twice, reads_task_twice, run_rows}
+use Rattle.asm_explore_words.specs.WordsSaid.{AreRunSaid, AreSaidBehind, are_both_input, is_input, reads_input_twice, reads_task_twice, run_rows}
 use Rattle.asm_explore_tool.specs.declared.commented.Entry.{Entry}
 use Rattle.asm_explore_words.specs.declared.settings.RunSettings.{RunSettings}
 use Rattle.asm_explore_words.specs.declared.settings.Task.{Task}
 use Rattle.asm_explore_words.specs.declared.settings.Task.TheVariants as task
-use Rattle.asm_explore_tool.proofs.Printed.{printed_says}
+use Rattle.asm_explore_tool.proofs.PrintedScripts.{printed_says}
 
 -- ---- the input
 
@@ -56,8 +56,8 @@ zero_or_six : (all_met : Bool) → IsRunStatus AtLimit (choices_status Limit all
 zero_or_six true = inl refl
 zero_or_six false = inr refl
 
--- A run ends at its limit just where the answer says so.
-pub choices_told : (end : End) (answer : shown.End) (all_met : Bool) → IsAnswer end answer → IsRunStatus end (choices_status answer all_met)
+-- A run ends at its limit just when the result says so.
+pub choices_told : (end : End) (answer : shown.End) (all_met : Bool) → IsReturned end answer → IsRunStatus end (choices_status answer all_met)
 choices_told AtLimit answer all_met is = subst (λ a. IsRunStatus AtLimit (choices_status a all_met)) (sym is) (zero_or_six all_met)
 choices_told (AtExhausted step q) answer all_met is = ap (λ a. choices_status a all_met) is
 choices_told (AtFault step U) Limit all_met is = absurd is

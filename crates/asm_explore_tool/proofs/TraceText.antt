@@ -1,8 +1,9 @@
--- The lines of a text, one byte after the other. A line has begun at `start`, and `known` are those before it.
+-- Free. The lines of a text, one byte after the other. A line has begun at `start`, and `known` are
+-- those before it.
 --     line_ends        a line feed ends it
 --     line_goes_on     another byte belongs to it
---     last_line        what stands behind the last line feed
---     no_last_line     where nothing stands behind it
+--     last_line        what is after the last line feed
+--     no_last_line     if nothing is after it
 use Rattle.std.proofs.Common.{◌≡◌, ◌∙◌, ◌+◌, ◌-◌, ◌<◌, ◌≤◌, ◌==◌, ℕ, true, false, cond, List, [], ◌∷◌, ◌++◌, length, take, drop, get_or, refl, ap, sym, arith, append_assoc, append-nil, length-drop}
 use Rattle.std.specs.Prelude.{slice_range}
 use Rattle.std.proofs.lemmas.List.{drop_more, take_more, get_or-drop, length-take-le}

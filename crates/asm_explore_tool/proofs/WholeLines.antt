@@ -1,18 +1,19 @@
--- Lines that are written one by one, and all of them.
+-- Free. Lines that are written one by one, and all of them.
 --     written_all         with those that have number 0, these are all lines
 --     refused_within      what refuses the text of one line refuses that of all
---     longer_already      the first entries with their comments are no longer than all of them with the last comments
+--     longer_already      the first entries with their comments are no longer than all of them with
+--                         the last comments
 use Rattle.std.proofs.Common.{◌≡◌, ℕ, zero, suc, ◌<◌, ◌≤◌, List, [], ◌∷◌, ◌++◌, length, take, get_or, inl, inr, ap, refl, arith, length-append}
 use Rattle.std.proofs.lemmas.List.Folds.{length-flat_map-take}
 use Rattle.asm_reader.specs.ScriptLines.{Line}
 use Rattle.asm_reader.specs.ScriptText.{max_script}
-use Rattle.asm_syntax.specs.declared.refused.Refused.{Refused}
-use Rattle.asm_syntax.specs.declared.refused.Refused.TheVariants.{Memory, Named}
-use Rattle.asm_explore.specs.declared.script_line.Zeros.TheVariants.{Written}
-use Rattle.asm_explore.specs.declared.writing_error.WritingError.{WritingError}
-use Rattle.asm_explore.specs.declared.writing_error.WritingError.TheVariants.{TooLong, LongNumber}
-use Rattle.asm_explore.specs.Written.{AnyIsLong, IsLong, IsTextRefusal, line_said, line_text, lines_text, numbers_in, numbers_of_line, written}
-use Rattle.asm_explore.specs.Elements.{AnyOf}
+use Rattle.asm_syntax.specs.declared.input_error.InputError.{InputError}
+use Rattle.asm_syntax.specs.declared.input_error.InputError.TheVariants.{Memory, Named}
+use Rattle.asm_explore.specs.declared.scripts.script_line.Zeros.TheVariants.{Written}
+use Rattle.asm_explore.specs.declared.scripts.writing_error.WritingError.{WritingError}
+use Rattle.asm_explore.specs.declared.scripts.writing_error.WritingError.TheVariants.{TooLong, LongNumber}
+use Rattle.asm_explore.specs.code.WrittenScripts.{AnyIsLong, IsLong, IsTextRefusal, line_said, line_text, lines_text, numbers_in, numbers_of_line, written}
+use Rattle.asm_explore.specs.code.ListElements.{AnyOf}
 use Rattle.asm_explore_tool.specs.Comments.{comments}
 use Rattle.asm_explore_tool.specs.Commented.{commented, entries_text, entry_text, said_by}
 use Rattle.asm_explore_tool.specs.declared.commented.Entry.{Entry}
@@ -47,7 +48,7 @@ module _ (d : Entry) where
   no_longer (entry ∷ entries) (suc i) low =
       omega (arith, no_longer entries i (omega (arith, low)), length-append (line_text (line_said entry.line)) (lines_text (said_by entries)))
 
-  pub refused_within : (entries : List Entry) (i : ℕ) (e : Refused WritingError) → i < length entries → IsTextRefusal (numbers_of_line (line_at entries i)) (line_text (line_at entries i)) e
+  pub refused_within : (entries : List Entry) (i : ℕ) (e : InputError WritingError) → i < length entries → IsTextRefusal (numbers_of_line (line_at entries i)) (line_text (line_at entries i)) e
       → IsTextRefusal (numbers_in (said_by entries)) (lines_text (said_by entries)) e
   refused_within entries i Memory low h = tt
   refused_within entries i (Named TooLong) low h = omega (arith, h, no_longer entries i low)

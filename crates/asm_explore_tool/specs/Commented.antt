@@ -1,14 +1,15 @@
--- Texts of scripts with comments between their lines.
---     entry_text entry                its comments, and its line behind them
+-- Definition. Texts of scripts with comments between their lines.
+--     entry_text entry                its comments, and its line after them
 --     entries_text entries            the texts of the entries, one after the other
---     commented entries last          the same, and the last comments behind it
+--     commented entries last          the same, and the last comments after it
 --     said_by entries                 what their lines say
---     IsCommented entries last text   lines and comments, or the lines alone where both are more than a script may have
+--     IsCommented entries last text   lines and comments, or the lines alone if both are more than
+--                                     a script may have
 use Rattle.std.specs.Prelude.{◌≡◌, ◌⊎◌, ◌<◌, ◌≤◌, ℕ, List, ◌++◌, length, map}
 use Rattle.std.specs.List.{flat_map}
 use Rattle.asm_reader.specs.ScriptLines.{Line}
 use Rattle.asm_reader.specs.ScriptText.{max_script}
-use Rattle.asm_explore.specs.Written.{line_said, line_text, lines_text}
+use Rattle.asm_explore.specs.code.WrittenScripts.{line_said, line_text, lines_text}
 use Rattle.asm_explore_tool.specs.Comments.{comments, lines_of}
 use Rattle.asm_explore_tool.specs.declared.commented.Entry.{Entry}
 

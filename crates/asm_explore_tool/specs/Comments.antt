@@ -1,5 +1,5 @@
--- Lines that a script skips.
---     comment line        `# `, the line with a space in place of each line feed, and a line feed
+-- Definition. Lines that a script skips.
+--     comment line        `# `, the line with a space instead of each line feed, and a line feed
 --     comments lines      each of them as a comment
 --     lines_of lines      the bytes of the lines
 use Rattle.std.specs.Prelude.{ℕ, List, [], ◌∷◌, ◌++◌, map, cond, ◌==◌, codes}

@@ -1,8 +1,8 @@
--- The first line of an answer.
---     first_line finding words     what is found; these words describe the fault, where there is one
+-- Definition. The first line of a report.
+--     first_line finding words     what is found; these words describe the fault, if there is one
 use Rattle.std.specs.Prelude.{ℕ, List, ◌++◌, ◌-◌, codes, decimal}
-use Rattle.asm_explore.specs.declared.answer.Finding.{Finding}
-use Rattle.asm_explore.specs.declared.answer.Finding.TheVariants as finding
+use Rattle.asm_explore.specs.declared.exploration_result.Finding.{Finding}
+use Rattle.asm_explore.specs.declared.exploration_result.Finding.TheVariants as finding
 use Rattle.asm_explore.specs.declared.fault.Fault.{Fault}
 use Rattle.asm_explore.specs.declared.fault.Fault.TheVariants.{Exhausted, Inconsistent, Wrong, Deadlock}
 
@@ -22,7 +22,7 @@ safe depth = codes "safe up to " ++ (decimal depth ++ codes " steps")
 abbrev pub first_line : Finding → (words : List ℕ) → List ℕ
 first_line finding.Closed words = codes "closed"
 first_line (finding.SafeTo depth) words = safe depth
-first_line (finding.Bad bad) words = fault_line bad.fault bad.step words
+first_line (finding.BadStep bad) words = fault_line bad.fault bad.step words
 first_line finding.WrongFirst words = codes "fault after step 0: " ++ words
 first_line (finding.TooManyStates depth) words = codes "too many states, " ++ safe depth
 first_line (finding.TooManyOutcomes depth crowd) words = codes "too many outcomes, " ++ safe depth

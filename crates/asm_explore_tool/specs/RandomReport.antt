@@ -1,35 +1,39 @@
--- What is asked of random runs, by the bytes of a specification's text and of conditions, and what is printed of them.
---     IsRandomAsked              the specification of the text, and a question with the term of the conditions
---     random_status finding      1 where a fault is found, and else 0
+-- Definition. What is asked of random runs, by the bytes of a specification's text and of
+-- conditions, and what is printed of them.
+--     IsRandomAsked              the specification of the text, and a question with the term of the
+--                                conditions
+--     random_status finding      1 if a fault is found, and else 0
 --     random_bad finding         the run that is found, if there is one
 --     RandomTells                the words are of the fault that is found, as `WordsTell` says it
---     random_line                what is found, in a line; these words describe the fault, where there is one
---     IsRandomReport             comments, of which the first says what is found, and the script
---     IsRandomReported           what is printed says what is found of the specification with this text
+--     random_line                what is found, in a line; these words describe the fault, if there
+--                                is one
+--     IsRandomReport             comments (the first says what is found), and the script
+--     IsRandomReported           what is printed says what is found of the specification with this
+--                                text
 use Rattle.std.specs.Prelude.{◌≡◌, ℕ, Bool, List, ◌++◌, Option, Some, None, codes, decimal, ⊤}
 use Rattle.asm_state.specs.declared.operation.Op.{Op}
-use Rattle.asm_syntax.specs.Views.{spec_of}
+use Rattle.asm_syntax.specs.code.Views.{spec_of}
 use Rattle.asm_syntax.specs.declared.term.Term.{Term}
 use Rattle.asm_check.specs.declared.checked.Checked.{Checked}
 use Rattle.asm_meaning.specs.Declarations.{specification_of}
 use Rattle.asm_explore.specs.Conditions.{term_holds}
-use Rattle.asm_explore.specs.declared.answer.BadRun.{BadRun}
-use Rattle.asm_random.specs.RandomAnswers.{Claims}
-use Rattle.asm_random.specs.declared.answer.RandomAnswer.{RandomAnswer}
-use Rattle.asm_random.specs.declared.answer.RandomFinding.{RandomFinding}
-use Rattle.asm_random.specs.declared.answer.RandomFinding.TheVariants as random
+use Rattle.asm_explore.specs.declared.exploration_result.BadRun.{BadRun}
+use Rattle.asm_random.specs.RandomResults.{Claims}
+use Rattle.asm_random.specs.declared.random_result.RandomResult.{RandomResult}
+use Rattle.asm_random.specs.declared.random_result.RandomFinding.{RandomFinding}
+use Rattle.asm_random.specs.declared.random_result.RandomFinding.TheVariants as random
 use Rattle.asm_run.specs.Headline.{IsAccepted}
-use Rattle.asm_explore_tool.specs.Asked.{AreAllAsked}
+use Rattle.asm_explore_tool.specs.CheckedQuestions.{AreAllAsked}
 use Rattle.asm_explore_texts.specs.Conditions.{texts_of}
 use Rattle.asm_explore_tool.specs.FirstLine.{fault_line}
 use Rattle.asm_explore_tool.specs.Report.{IsPrinted}
-use Rattle.asm_explore_tool.specs.Words.{BadTells, IsBroken}
+use Rattle.asm_explore_tool.specs.FaultWords.{BadTells, IsBroken}
 use Rattle.asm_explore_texts.specs.declared.conditions.Condition.{Condition}
-use Rattle.asm_explore_tool.specs.declared.random_asked.RandomAsked.{RandomAsked}
+use Rattle.asm_explore_tool.specs.declared.random_asked.CheckedRandomQuestion.{CheckedRandomQuestion}
 use Rattle.asm_explore_tool.specs.declared.report.Report.{Report}
 use Rattle.asm_explore_words.specs.declared.settings.RandomSettings.{RandomSettings}
 
-pub record IsRandomAsked (text : List ℕ) (conditions : List Condition) (settings : RandomSettings) (asked : RandomAsked) : Type 0 where
+pub record IsRandomAsked (text : List ℕ) (conditions : List Condition) (settings : RandomSettings) (asked : CheckedRandomQuestion) : Type 0 where
   pub accepted : IsAccepted text (spec_of asked.checked.spec)
   pub always : AreAllAsked text (texts_of conditions) asked.checked asked.question.always
   pub turns : asked.question.turns ≡ settings.turns
@@ -57,23 +61,23 @@ RandomTells checked links turns (random.Bad number bad) words = BadTells checked
 RandomTells checked links turns random.WrongFirst words = IsBroken checked links (specification_of (spec_of checked.spec)).initial words
 RandomTells checked links turns (random.Unwritten unwritten) words = ⊤
 
--- of so many runs that were made, of at most so many steps
+-- of `runs` runs that were made, of at most `steps` steps
 abbrev pub random_line : (runs steps : ℕ) → RandomFinding → (words : List ℕ) → List ℕ
 random_line runs steps random.Nothing words = codes "no fault in " ++ (decimal runs ++ (codes " runs of at most " ++ (decimal steps ++ codes " steps")))
 random_line runs steps (random.Bad number bad) words = fault_line bad.fault bad.step words
 random_line runs steps random.WrongFirst words = codes "fault after step 0: " ++ words
 random_line runs steps (random.Unwritten unwritten) words = fault_line unwritten.fault unwritten.step words
 
-pub record IsRandomReport (text : List ℕ) (asks : Bool) (asked : RandomAsked) (links : List (Op × Term)) (answer : RandomAnswer) (printed : List ℕ) : Type 0 where
+pub record IsRandomReport (text : List ℕ) (asks : Bool) (asked : CheckedRandomQuestion) (links : List (Op × Term)) (answer : RandomResult) (printed : List ℕ) : Type 0 where
   pub words : List ℕ
   pub tell : RandomTells asked.checked links asked.question.turns answer.finding words
   pub are_printed :
       IsPrinted text asked.question.turns asks (random_line answer.runs asked.question.steps answer.finding words) (random_bad answer.finding) printed
 
 pub record IsRandomReported (text : List ℕ) (conditions : List Condition) (settings : RandomSettings) (report : Report) : Type 0 where
-  pub asked : RandomAsked
+  pub asked : CheckedRandomQuestion
   pub is_asked : IsRandomAsked text conditions settings asked
-  pub answer : RandomAnswer
+  pub answer : RandomResult
   -- what the finding says of the runs of the specification with this text
   pub claims :
       let q = asked.question in

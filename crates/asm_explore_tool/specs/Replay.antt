@@ -1,6 +1,8 @@
--- The states of a run.
---     IsStep specification turns script step A B      the step from the one state yields a consistent set, which leads to the other
---     IsAfter specification turns script n A          the run of n steps comes to its limit, in this state
+-- Definition. The states of a run.
+--     IsStep specification turns script step A B      the step from the one state yields a
+--                                                     consistent set, which leads to the other
+--     IsAfter specification turns script n A          the run of n steps comes to its limit, in
+--                                                     this state
 use Rattle.std.specs.Prelude.{◌≡◌, ℕ, []}
 use Rattle.asm_state.specs.Location.{State}
 use Rattle.asm_state.specs.Updates.{UpdateSet, IsConsistent, fire}

@@ -1,18 +1,20 @@
--- What is printed of one run.
---     status_of_end end               1 where the run ends before its limit, and else 0
---     IsRunStatus end status          the same, or 6 in place of 0
---     AreChoicesReported              what is printed is a script with a line for each choice of the run, under which the run is the same
+-- Definition. What is printed of one run.
+--     status_of_end end               1 if the run ends before its limit, and else 0
+--     IsRunStatus end status          the same, or 6 instead of 0
+--     AreChoicesReported              what is printed is a script with a line for each choice of
+--                                     the run, under which the run is the same
 --     assignments_in clash            the assignments by which a run ends, if it has such
---     IsClashReported                 comments: how the run ends, and one for each assignment by which it does
+--     IsClashReported                 comments: how the run ends, and one for each assignment by
+--                                     which it does
 use Rattle.std.specs.Prelude.{◌≡◌, ◌⊎◌, ℕ, Bool, cond, List, [], ◌∷◌, length}
 use Rattle.asm_syntax.specs.SourceTree.{Spec}
-use Rattle.asm_reader.specs.ExactLines.{exactly}
+use Rattle.asm_reader.specs.code.ExactLines.{exactly}
 use Rattle.asm_reader.specs.ScriptLines.{Script, no_lines}
 use Rattle.asm_reader.specs.ScriptText.{IsScript}
 use Rattle.asm_meaning.specs.Declarations.{specification_of}
 use Rattle.asm_meaning.specs.Run.{AtExhausted, AtFault, AtLimit, End, Run, run}
 use Rattle.asm_explore.specs.RunChoices.{AreChoices, lines_forward}
-use Rattle.asm_explore.specs.declared.found.Choice.{Choice}
+use Rattle.asm_explore.specs.declared.outcomes.listed_outcome.Choice.{Choice}
 use Rattle.asm_run.specs.Headline.{IsAccepted}
 use Rattle.asm_run.specs.declared.end.End as shown
 use Rattle.asm_run.specs.declared.end.End.TheVariants.{Clash, Exhausted, Limit, Outside}

@@ -1,18 +1,20 @@
--- The trace of the run that was found, as lines.
---     text_lines text                   its lines, each without the line feed that ends it; what stands behind the last one is a line, unless it is empty
---     ShowsTrace text turns bad lines   the lines end with those of the trace of the run under the script that was found
---     MayShowTrace                      the same where a run is to be shown
+-- Definition. The trace of the run that was found, as lines.
+--     text_lines text                   its lines, each without the line feed that ends it; what is
+--                                       after the last one is a line, unless it is empty
+--     ShowsTrace text turns bad lines   the lines end with those of the trace of the run under the
+--                                       script that was found
+--     MayShowTrace                      the same if a run is to be shown
 use Rattle.std.specs.Prelude.{◌≡◌, ◌==◌, ℕ, List, [], ◌∷◌, ◌++◌, Option, Some, None, cond, ⊤}
 use Rattle.std.specs.String.{string_bytes}
-use Rattle.asm_explore.specs.declared.answer.BadRun.{BadRun}
-use Rattle.asm_explore_tool.specs.Ended.{IsTraceOf}
-use Rattle.asm_explore_tool.specs.Words.{shown_after}
+use Rattle.asm_explore.specs.declared.exploration_result.BadRun.{BadRun}
+use Rattle.asm_explore_tool.specs.RunEnds.{IsTraceOf}
+use Rattle.asm_explore_tool.specs.FaultWords.{shown_after}
 
 abbrev pub rest_lines : (line : List ℕ) → List (List ℕ)
 rest_lines [] = []
 rest_lines (byte ∷ line) = (byte ∷ line) ∷ []
 
--- the lines of a line that has begun, and of what stands behind it
+-- the lines of a line that has begun, and of what is after it
 abbrev pub lines_behind : List ℕ → (line : List ℕ) → List (List ℕ)
 lines_behind [] line = rest_lines line
 lines_behind (byte ∷ bytes) line = cond (byte == 10) (line ∷ lines_behind bytes []) (lines_behind bytes (line ++ byte ∷ []))

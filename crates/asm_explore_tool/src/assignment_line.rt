@@ -2,15 +2,15 @@
 use crate::choose_line::push_values;
 use crate::value_text::push_value;
 use asm_check::Checked;
-use asm_explore_texts::place_text::{push_path, push_position};
-use asm_explore_texts::text_place::{TextPlace, text_place};
+use asm_explore_texts::path_text::{push_path, push_position};
+use asm_explore_texts::rule_in_text::{RuleInText, rule_in_text};
 use asm_state::word::Word;
 use asm_syntax::name::Name;
 use std::alloc::{AllocError, Global};
 
-/// Says of the assignment at a path of the main rule where it stands in the text, at which location
+/// Says of the assignment at a path of the main rule where it is in the text, at which location
 /// it puts which value, and which values the names have that are bound there, the innermost first.
-/// Where it is one to `result`, it puts it at this location.
+/// If it is one to `result`, it puts it at this location.
 pub(crate) fn assignment_line(
     alloc: Global,
     text: &[u8],
@@ -22,7 +22,7 @@ pub(crate) fn assignment_line(
     location: &[u8],
 ) -> Result<Vec<u8>, AllocError> {
     let mut line = Vec::new(alloc);
-    let place = text_place(alloc, checked, path)?;
+    let place = rule_in_text(alloc, checked, path)?;
     if let Some(place) = &place {
         push_position(alloc, &mut line, text, place.name.at)?;
         line.extend_from_slice(b", ")?;
@@ -44,7 +44,7 @@ fn push_location(
     alloc: Global,
     line: &mut Vec<u8>,
     checked: &Checked,
-    place: &Option<TextPlace<'_>>,
+    place: &Option<RuleInText<'_>>,
     arguments: &[Word],
     location: &[u8],
 ) -> Result<(), AllocError> {
@@ -79,7 +79,7 @@ fn push_bound(
     alloc: Global,
     line: &mut Vec<u8>,
     checked: &Checked,
-    place: &TextPlace<'_>,
+    place: &RuleInText<'_>,
     values: &[Word],
 ) -> Result<(), AllocError> {
     let names = place.bound.as_slice();
@@ -96,5 +96,7 @@ fn push_bound(
 
 /// Whether a name has the text of one of these.
 fn is_among(names: &[&Name], name: &Name) -> bool {
-    names.iter().any(|other| other.text.is(&name.text))
+    names
+        .iter()
+        .any(|other| other.text.is_same_text(&name.text))
 }

@@ -1,33 +1,33 @@
 //! What is printed of the choices of a run.
 ghost use Rattle.std.specs.Prelude.{◌≡◌, Bool, IfOk};
-ghost use Rattle.asm_syntax.specs.Views.{spec_of};
+ghost use Rattle.asm_syntax.specs.code.Views.{spec_of};
 ghost use Rattle.asm_meaning.specs.Declarations.{specification_of};
 ghost use Rattle.asm_meaning.specs.Scripts.{IsUnrepeated};
-ghost use Rattle.asm_reader.specs.ExactLines.{exactly};
+ghost use Rattle.asm_reader.specs.code.ExactLines.{exactly};
 ghost use Rattle.asm_reader.specs.ScriptLines.{Script};
 ghost use Rattle.asm_reader.specs.ScriptText.{IsScript};
 ghost use Rattle.asm_explore.specs.RunChoices.{AreChoices, MakesTheRun, choices_in, lines_forward};
-ghost use Rattle.asm_explore.specs.Written.{AreSteps};
+ghost use Rattle.asm_explore.specs.code.WrittenScripts.{AreSteps};
 ghost use Rattle.asm_explore_tool.specs.Commented.{said_by};
-ghost use Rattle.asm_explore_tool.specs.Ended.{IsEndOf};
+ghost use Rattle.asm_explore_tool.specs.RunEnds.{IsEndOf};
 ghost use Rattle.asm_run.specs.Headline.{IsAccepted};
 ghost use Rattle.asm_explore_tool.specs.RunReport.{AreChoicesReported, choices_status};
 
-use crate::asked::checked;
+use crate::checked_question::checked;
 use crate::choose_line::choose_line;
 use crate::commented::{Entry, commented_script};
 use crate::ended::{EndedRun, ended_run};
 use crate::report::Report;
-use crate::unmet::unmet_lines;
+use crate::unmet_lines::unmet_lines;
 use asm_check::Checked;
-use asm_explore::{Asked, RunChoices, choices_of_run, lines_of_run};
+use asm_explore::{ChoicePoint, RunChoices, choices_of_run, lines_of_run};
 use asm_explore_texts::script_given::script_given;
 use asm_explore_words::fault::Fault;
 use asm_explore_words::settings::RunSettings;
 use asm_reader::{one_script, one_tree};
 use asm_run::end::End;
 use asm_run::error::RunError;
-use asm_syntax::Refused;
+use asm_syntax::InputError;
 use std::alloc::{AllocError, Global};
 use std::thread::Threads;
 
@@ -51,7 +51,7 @@ pub(crate) fn ended<'w, R: Threads + Sync>(
     }
 }
 
-/// The status of a run that ends so, where all lines of the script were met, or some weren't.
+/// The status of a run that ends so, if all lines of the script were met, or if some weren't.
 fn status_of(end: End, all_met: bool) -> u8
     ensures { result ≡ choices_status end all_met }
 {
@@ -62,7 +62,7 @@ fn status_of(end: End, all_met: bool) -> u8
 }
 
 /// All that was asked, one after the other.
-fn all_asked<'a>(alloc: Global, run: &'a RunChoices) -> Result<Vec<&'a Asked>, AllocError> {
+fn all_asked<'a>(alloc: Global, run: &'a RunChoices) -> Result<Vec<&'a ChoicePoint>, AllocError> {
     let mut all = Vec::new(alloc);
     let steps = run.steps.as_slice();
     for k in 0..steps.len() {
@@ -74,13 +74,13 @@ fn all_asked<'a>(alloc: Global, run: &'a RunChoices) -> Result<Vec<&'a Asked>, A
     Ok(all)
 }
 
-/// The comments before the line of a choice, of which this is the first, if there is one.
+/// The comments before the line of a choice: first this one, if there is one.
 fn comments_before(
     alloc: Global,
     text: &[u8],
     checked: &Checked,
     first: Option<&[u8]>,
-    asked: Option<&&Asked>,
+    asked: Option<&&ChoicePoint>,
 ) -> Result<Vec<Vec<u8>>, AllocError> {
     let mut comments = Vec::new(alloc);
     if let Some(first) = first {
@@ -94,7 +94,7 @@ fn comments_before(
     Ok(comments)
 }
 
-/// A line for each choice of a run, with its comment; before the first of them stands this one.
+/// A line for each choice of a run, with its comment; before the first of them comes this one.
 fn entries<'a, 'w>(
     alloc: Global,
     text: &[u8],
@@ -122,7 +122,7 @@ fn entries<'a, 'w>(
     Ok(entries)
 }
 
-/// The comments behind the last line: without lines the first one stands among them.
+/// The comments after the last line: without lines the first one is among them.
 fn last_comments(
     alloc: Global,
     has_lines: bool,
@@ -151,8 +151,8 @@ fn printed<'w>(
     let last = last_comments(alloc, !entries.is_empty(), first, unmet)?;
     match commented_script(alloc, entries.as_slice(), last.as_slice()) {
         Ok(text) => Ok(text),
-        Err(Refused::Memory) => Err(Fault::Memory),
-        Err(Refused::Named(_)) => Err(Fault::Unwritten),
+        Err(InputError::Memory) => Err(Fault::Memory),
+        Err(InputError::Named(_)) => Err(Fault::Unwritten),
     }
 }
 

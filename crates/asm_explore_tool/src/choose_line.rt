@@ -1,17 +1,17 @@
 //! The comment for a choice.
 use crate::value_text::push_value;
 use asm_check::Checked;
-use asm_explore_texts::place_text::{push_path, push_position};
-use asm_explore_texts::text_place::text_place;
+use asm_explore_texts::path_text::{push_path, push_position};
+use asm_explore_texts::rule_in_text::rule_in_text;
 use asm_state::word::Word;
 use asm_syntax::name::Name;
 use asm_syntax::rule::Rule;
 use std::alloc::{AllocError, Global};
 
-/// So many candidates are shown.
-const SHOWN: usize = 64;
+/// How many candidates are shown.
+const MAX_CANDIDATES_SHOWN: usize = 64;
 
-/// Says of the `choose` at a path of the main rule where it stands in the text, and which candidates
+/// Says of the `choose` at a path of the main rule where it is in the text, and which candidates
 /// it has.
 pub(crate) fn choose_line(
     alloc: Global,
@@ -51,7 +51,7 @@ fn variable<'c>(
     checked: &'c Checked,
     path: &[u64],
 ) -> Result<Option<&'c Name>, AllocError> {
-    let place = text_place(alloc, checked, path)?;
+    let place = rule_in_text(alloc, checked, path)?;
     Ok(place.and_then(|place| match place.rule {
         Rule::Choose { name, .. } => Some(name),
         _ => None,
@@ -65,7 +65,7 @@ fn push_candidates(
     checked: &Checked,
     candidates: &[Word],
 ) -> Result<(), AllocError> {
-    let shown = candidates.len().min(SHOWN);
+    let shown = candidates.len().min(MAX_CANDIDATES_SHOWN);
     push_values(alloc, line, checked, &candidates[..shown])?;
     let more = candidates.len() - shown;
     if more > 0 {

@@ -1,6 +1,6 @@
 //! What is printed of the assignments by which a run ends.
 ghost use Rattle.std.specs.Prelude.{◌≡◌, ◌∷◌, [], ℕ, List, length, map, IfOk, OnOk, ◌+◌};
-ghost use Rattle.asm_syntax.specs.Views.{spec_of};
+ghost use Rattle.asm_syntax.specs.code.Views.{spec_of};
 ghost use Rattle.asm_reader.specs.ScriptLines.{Script};
 ghost use Rattle.asm_reader.specs.ScriptText.{IsScript};
 ghost use Rattle.asm_run.specs.Headline.{IsAccepted};
@@ -9,8 +9,8 @@ ghost use Rattle.asm_explore_tool.specs.Comments.{comments};
 ghost use Rattle.asm_explore_tool.specs.Report.{IsWholeOr};
 ghost use Rattle.asm_explore_tool.specs.RunReport.{IsClashReported, assignments_in, clash_status, run_asked};
 
-use crate::asked::checked;
 use crate::assignment_line::assignment_line;
+use crate::checked_question::checked;
 use crate::choices_report::ended;
 use crate::ended::EndedRun;
 use crate::report::{Report, with_comments};

@@ -4,7 +4,7 @@ ghost use Rattle.asm_explore_tool.specs.Comments as comments;
 
 use std::alloc::{AllocError, Global};
 
-/// Adds a comment, in one line: a space stands in place of a line feed.
+/// Adds a comment, in one line: a space instead of each line feed.
 pub(crate) fn add_comment(text: &mut Vec<u8>, comment: &[u8]) -> Result<(), AllocError>
     ensures { OnOk result (text.new.items ≡ text.old.items ++ comments.comment comment.now) }
 {
@@ -14,7 +14,7 @@ pub(crate) fn add_comment(text: &mut Vec<u8>, comment: &[u8]) -> Result<(), Allo
     Ok(())
 }
 
-/// Adds bytes, a space in place of each line feed.
+/// Adds bytes, a space instead of each line feed.
 fn add_in_one_line(text: &mut Vec<u8>, bytes: &[u8]) -> Result<(), AllocError>
     ensures { OnOk result (text.new.items ≡ text.old.items ++ comments.in_one_line bytes.now) }
 {
@@ -24,7 +24,7 @@ fn add_in_one_line(text: &mut Vec<u8>, bytes: &[u8]) -> Result<(), AllocError>
     Ok(())
 }
 
-/// The byte, or a space in place of a line feed.
+/// The byte, or a space instead of a line feed.
 fn shown(byte: u8) -> u8
     ensures { result ≡ comments.shown byte }
 {

@@ -2,19 +2,19 @@
 ghost use Rattle.std.specs.Prelude.{◌≡◌, ◌<◌, ◌≤◌, ◌++◌, List, length, IfErr, IfNone, IfOk, IfSome, OnOk};
 ghost use Rattle.std.specs.String.{string_bytes};
 ghost use Rattle.asm_meaning.specs.Scripts.{IsUnrepeated};
-ghost use Rattle.asm_reader.specs.ExactLines.{exactly};
+ghost use Rattle.asm_reader.specs.code.ExactLines.{exactly};
 ghost use Rattle.asm_reader.specs.ScriptLines.{Script};
 ghost use Rattle.asm_reader.specs.ScriptText.{IsScript, max_script};
-ghost use Rattle.asm_explore.specs.Written.{AreSteps, IsTextOf, IsTextRefusal, line_said, line_text, lines_text, numbers_in, numbers_of_line};
+ghost use Rattle.asm_explore.specs.code.WrittenScripts.{AreSteps, IsTextOf, IsTextRefusal, line_said, line_text, lines_text, numbers_in, numbers_of_line};
 ghost use Rattle.asm_explore_tool.specs.Comments.{lines_of};
 ghost use Rattle.asm_explore_tool.specs.Commented.{IsCommented, commented, entry_text, said_by};
 
 use crate::comment::add_comments;
 use asm_explore::{ScriptLine, WritingError, Zeros, script_text};
-use asm_syntax::Refused;
+use asm_syntax::InputError;
 use std::alloc::Global;
 
-/// So many bytes a script may have.
+/// How many bytes a script may have.
 const MAX_SCRIPT: usize = 1_048_576;
 
 /// A line of a script, and the comments before it.
@@ -29,7 +29,7 @@ fn add_line(
     alloc: Global,
     text: &mut Vec<u8>,
     line: &ScriptLine<'_>,
-) -> Result<(), Refused<WritingError>>
+) -> Result<(), InputError<WritingError>>
     ensures added { OnOk result (text.new.items ≡ text.old.items ++ line_text (line_said line.now)) }
     ensures refused { IfErr result (IsTextRefusal (numbers_of_line (line_said line.now)) (line_text (line_said line.now))) }
 {
@@ -38,12 +38,12 @@ fn add_line(
     Ok(())
 }
 
-/// Adds comments, and the line behind them.
+/// Adds comments, and the line after them.
 fn add_entry(
     alloc: Global,
     text: &mut Vec<u8>,
     entry: &Entry<'_>,
-) -> Result<(), Refused<WritingError>>
+) -> Result<(), InputError<WritingError>>
     ensures added { OnOk result (text.new.items ≡ text.old.items ++ entry_text entry.now) }
     ensures refused { IfErr result (IsTextRefusal (numbers_of_line (line_said entry.now.line)) (line_text (line_said entry.now.line))) }
 {
@@ -52,7 +52,7 @@ fn add_entry(
 }
 
 /// The lines alone.
-fn lines_alone(alloc: Global, entries: &[Entry<'_>]) -> Result<String, Refused<WritingError>>
+fn lines_alone(alloc: Global, entries: &[Entry<'_>]) -> Result<String, InputError<WritingError>>
     ensures text { IfOk result (λ text. IsTextOf (said_by entries.now) (string_bytes text)) }
     ensures script { IfOk result (λ text. AreSteps (said_by entries.now) → IsUnrepeated (exactly (said_by entries.now)) → IsScript (string_bytes text) (exactly (said_by entries.now))) }
     ensures refused { IfErr result (IsTextRefusal (numbers_in (said_by entries.now)) (lines_text (said_by entries.now))) }
@@ -70,7 +70,7 @@ fn with_comments(
     alloc: Global,
     entries: &[Entry<'_>],
     last: &[Vec<u8>],
-) -> Result<Option<Vec<u8>>, Refused<WritingError>>
+) -> Result<Option<Vec<u8>>, InputError<WritingError>>
     ensures text { IfOk result (λ whole. IfSome whole (λ text. text.items ≡ commented entries.now (lines_of last.now))) }
     ensures fits { IfOk result (λ whole. IfSome whole (λ text. length text.items ≤ max_script)) }
     ensures long { IfOk result (λ whole. IfNone whole (max_script < length (commented entries.now (lines_of last.now)))) }
@@ -90,14 +90,14 @@ fn with_comments(
     Ok(Some(text))
 }
 
-/// The text of a script with these lines and comments, or with the lines alone where the comments
-/// make it longer than a script may be. It says what the lines say. It is refused where the lines
+/// The text of a script with these lines and comments, or with the lines alone if the comments
+/// make it longer than a script may be. It says what the lines say. It is refused if the lines
 /// alone are too long, or a number of theirs has more than nine digits.
 pub(crate) fn commented_script(
     alloc: Global,
     entries: &[Entry<'_>],
     last: &[Vec<u8>],
-) -> Result<Vec<u8>, Refused<WritingError>>
+) -> Result<Vec<u8>, InputError<WritingError>>
     ensures text { IfOk result (λ text. IsCommented entries.now (lines_of last.now) text.items) }
     ensures says { IfOk result (λ text. (script : Script) → IsScript (lines_text (said_by entries.now)) script → IsScript text.items script) }
     ensures script { IfOk result (λ text. AreSteps (said_by entries.now) → IsUnrepeated (exactly (said_by entries.now)) → IsScript text.items (exactly (said_by entries.now))) }

@@ -1,8 +1,8 @@
 //! How the run under a script ends.
 ghost use Rattle.std.specs.Prelude.{IfOk};
-ghost use Rattle.asm_explore_tool.specs.Ended.{IsEndOf, IsTraceOf};
+ghost use Rattle.asm_explore_tool.specs.RunEnds.{IsEndOf, IsTraceOf};
 
-use asm_limits::limits::Limits;
+use asm_limits::run_limits::Limits;
 use asm_run::end::End;
 use asm_run::error::RunError;
 use asm_run::run::run;
@@ -17,8 +17,8 @@ pub(crate) struct EndedRun {
     pub trace: Vec<u8>,
 }
 
-/// Makes the run of the specification with this text under the script with that one, of at most so
-/// many steps.
+/// Makes the run of the specification with this text under the script with that one, of at most
+/// `steps` steps.
 pub(crate) fn ended_run<R: Threads + Sync>(
     rt: &R,
     alloc: Global,
@@ -44,7 +44,7 @@ pub(crate) fn ended_run<R: Threads + Sync>(
 }
 
 impl EndedRun {
-    /// What the trace says of the end: the kind, and what stands behind the number of the step.
+    /// What the trace says of the end: the kind, and what comes after the number of the step.
     pub(crate) fn words(&self, alloc: Global) -> Result<Vec<u8>, AllocError> {
         let kind = kind_of(self.end);
         let mut words = format!(in alloc; "{kind} ")?.into_bytes();
@@ -52,7 +52,7 @@ impl EndedRun {
         Ok(words)
     }
 
-    /// How the run ends, in a line. Without a fault it made so many steps.
+    /// How the run ends, in a line. Without a fault it made `steps` steps.
     pub(crate) fn line(&self, alloc: Global, steps: u32) -> Result<Vec<u8>, AllocError> {
         if matches!(self.end, End::Limit) {
             return Ok(format!(in alloc; "limit after step {steps}")?.into_bytes());
@@ -69,7 +69,7 @@ impl EndedRun {
         Ok(before_values(behind_number(self.end_line(alloc)?)))
     }
 
-    /// What stands in the trace's line of the end behind the kind.
+    /// What the trace's line of the end has after the kind.
     fn end_line(&self, alloc: Global) -> Result<&[u8], AllocError> {
         let kind = kind_of(self.end);
         let front = format!(in alloc; "end {kind} step ")?;
@@ -87,7 +87,7 @@ fn kind_of(end: End) -> &'static str {
     }
 }
 
-/// What stands before a space.
+/// What is before a space.
 fn number_before(words: &[u8]) -> &[u8] {
     match words.iter().position(|b| *b == b' ') {
         Some(space) => &words[..space],
@@ -95,7 +95,7 @@ fn number_before(words: &[u8]) -> &[u8] {
     }
 }
 
-/// What stands behind a number and a space.
+/// What is after a number and a space.
 fn behind_number(words: &[u8]) -> &[u8] {
     match words.iter().position(|b| *b == b' ') {
         Some(space) => &words[space + 1..],
@@ -103,7 +103,7 @@ fn behind_number(words: &[u8]) -> &[u8] {
     }
 }
 
-/// What stands before the values of a clash.
+/// What is before the values of a clash.
 fn before_values(words: &[u8]) -> &[u8] {
     let front = b" least ";
     for at in 0..words.len() {

@@ -1,5 +1,5 @@
 //! The message on standard error.
-use crate::texts::Texts;
+use crate::buffered_writer::BufferedWriter;
 use asm_explore_texts::excerpt::excerpt;
 use asm_explore_texts::position::{Line, Position};
 use asm_explore_words::fault::{Fault, RefusedText, Source};
@@ -7,10 +7,10 @@ use asm_run::sink::Sink;
 use std::fmt;
 use std::fmt::Write;
 
-/// Says why the program ends without an answer. Where even this can't be written, the status alone
+/// Says why the program ends without a report. If even this can't be written, the status alone
 /// tells.
 pub(crate) fn explain<E: Sink>(fault: &Fault<'_>, err: &mut E) {
-    let mut out = Texts::new(err);
+    let mut out = BufferedWriter::new(err);
     let _ = message(fault, &mut out).and_then(|()| out.hand_on());
 }
 

@@ -1,16 +1,16 @@
-//! What is printed behind the first line of an answer.
-use crate::confirm::steps_shown;
-use crate::drawing::Drawing;
+//! What is printed after the first line of a report.
+use crate::confirm_run::steps_shown;
+use crate::graph_file::GraphFile;
 use asm_check::Checked;
-use asm_explore::{Answered, BadRun, Finding};
+use asm_explore::{BadRun, ExplorationResult, Finding};
 use asm_explore_texts::conditions::{Condition, Conditions};
-use asm_explore_texts::place_text::{push_path, push_position};
-use asm_explore_texts::text_place::text_place;
+use asm_explore_texts::path_text::{push_path, push_position};
+use asm_explore_texts::rule_in_text::rule_in_text;
 use asm_explore_words::settings::Settings;
 use std::alloc::{AllocError, Global};
 
-/// So many bytes of a condition are shown.
-const SHOWN: usize = 200;
+/// How many bytes of a condition are shown.
+const MAX_CONDITION_BYTES: usize = 200;
 
 /// Adds a line.
 pub(crate) fn add(lines: &mut Vec<Vec<u8>>, line: String) -> Result<(), AllocError> {
@@ -28,8 +28,8 @@ fn add_condition(
     let mut line = name.into_bytes();
     let text = condition.text.as_slice();
     line.extend_from_slice(b": ")?;
-    let cut = if text.len() > SHOWN {
-        text.get(..SHOWN)
+    let cut = if text.len() > MAX_CONDITION_BYTES {
+        text.get(..MAX_CONDITION_BYTES)
     } else {
         None
     };
@@ -79,7 +79,7 @@ fn add_conditions(
     Ok(())
 }
 
-/// Which faults are looked for where there are so many conditions that are to be true in each state.
+/// Which faults are looked for if `conditions` conditions are to be true in each state.
 pub(crate) fn looked_for(alloc: Global, conditions: usize) -> Result<String, AllocError> {
     let mut line = String::from_str(alloc, "looked for: clash, outside, exhausted")?;
     for number in 1..=conditions {
@@ -105,9 +105,9 @@ fn add_looked_for(
 fn add_counts(
     alloc: Global,
     lines: &mut Vec<Vec<u8>>,
-    answered: &Answered,
+    answered: &ExplorationResult,
 ) -> Result<(), AllocError> {
-    let Answered {
+    let ExplorationResult {
         states,
         depth,
         outcomes,
@@ -135,7 +135,7 @@ fn add_crowd(
     };
     let path = crowd.path.as_slice();
     let mut line = String::from_str(alloc, "too many outcomes at ")?.into_bytes();
-    if let Some(place) = text_place(alloc, checked, path)? {
+    if let Some(place) = rule_in_text(alloc, checked, path)? {
         push_position(alloc, &mut line, text, place.name.at)?;
         line.extend_from_slice(b", ")?;
     }
@@ -147,8 +147,8 @@ fn add_crowd(
     Ok(())
 }
 
-/// Adds the line that shows how the run under the script is made by `asm`, of a specification in the
-/// file of this name.
+/// Adds the line that shows how the run under the script is made by `asm`, of a specification in
+/// the file of this name.
 pub(crate) fn add_command(
     alloc: Global,
     lines: &mut Vec<Vec<u8>>,
@@ -168,30 +168,30 @@ pub(crate) fn add_command(
     add(lines, line)
 }
 
-/// Adds a line where the graph of states isn't written.
+/// Adds a line if the graph of states isn't written.
 fn add_drawing(
     alloc: Global,
     lines: &mut Vec<Vec<u8>>,
-    drawing: Drawing,
+    drawing: GraphFile,
 ) -> Result<(), AllocError> {
     match drawing {
-        Drawing::NotAsked | Drawing::Written => Ok(()),
-        Drawing::TooMany => add(
+        GraphFile::NotAsked | GraphFile::Written => Ok(()),
+        GraphFile::TooMany => add(
             lines,
             String::from_str(alloc, "no graph is written: more than 2000 states")?,
         ),
     }
 }
 
-/// What is said behind the first line.
+/// What is said after the first line.
 pub(crate) fn facts(
     alloc: Global,
     text: &[u8],
     checked: &Checked,
     conditions: &Conditions<'_>,
     settings: &Settings<'_>,
-    answered: &Answered,
-    drawing: Drawing,
+    answered: &ExplorationResult,
+    drawing: GraphFile,
 ) -> Result<Vec<Vec<u8>>, AllocError> {
     let mut lines = Vec::new(alloc);
     add_crowd(alloc, &mut lines, text, checked, &answered.finding)?;
@@ -199,7 +199,7 @@ pub(crate) fn facts(
     add_looked_for(alloc, &mut lines, conditions)?;
     add_counts(alloc, &mut lines, answered)?;
     add_drawing(alloc, &mut lines, drawing)?;
-    if let Finding::Bad(bad) = &answered.finding {
+    if let Finding::BadStep(bad) = &answered.finding {
         add_command(alloc, &mut lines, bad, settings.turns, settings.spec)?;
     }
     Ok(lines)

@@ -2,12 +2,12 @@
 //!
 //! The words for a run that goes wrong come from making the run again. If it ended otherwise than
 //! the search found, the program would end with an error of its own (`Fault::Unconfirmed`) and give
-//! no answer.
+//! no report.
 ghost use Rattle.std.specs.Prelude.{◌≡◌, List, length, IfOk};
 ghost use Rattle.std.specs.String.{string_bytes};
 ghost use Rattle.asm_state.specs.Signature.{count_of, state_of};
 ghost use Rattle.asm_state.specs.declared.operation.Op.{Op};
-ghost use Rattle.asm_syntax.specs.Views.{spec_of};
+ghost use Rattle.asm_syntax.specs.code.Views.{spec_of};
 ghost use Rattle.asm_syntax.specs.declared.term.Term.{Term as Code};
 ghost use Rattle.asm_check.specs.Shapes.{shape_of};
 ghost use Rattle.asm_reader.specs.ScriptLines as lines;
@@ -15,17 +15,17 @@ ghost use Rattle.asm_reader.specs.ScriptText.{IsScript};
 ghost use Rattle.asm_meaning.specs.Declarations.{specification_of};
 ghost use Rattle.asm_explore_texts.specs.Conditions.{IsJoined};
 ghost use Rattle.asm_explore_tool.specs.Replay.{IsAfter};
-ghost use Rattle.asm_explore_tool.specs.Words.{BadTells, IsBroken, WordsTell, shown_after};
+ghost use Rattle.asm_explore_tool.specs.FaultWords.{BadTells, IsBroken, WordsTell, shown_after};
 
-use crate::broken::broken_in;
-use crate::confirm::{end_words, steps_shown};
+use crate::broken_condition::broken_in;
+use crate::confirm_run::{end_words, steps_shown};
 use crate::replay::state_after;
 use asm_check::Checked;
 use asm_explore::{BadRun, Fault as StepFault, Finding};
 use asm_explore_words::fault::Fault;
 use asm_reader::{one_script, read_script};
 use asm_state::state::State;
-use asm_syntax::Refused;
+use asm_syntax::InputError;
 use asm_syntax::term::Term;
 use std::alloc::Global;
 use std::thread::Threads;
@@ -33,8 +33,8 @@ use std::thread::Threads;
 /// What is said when the script of a run that goes wrong can't be written.
 pub(crate) const UNWRITTEN: &[u8] = b"its script can't be written";
 
-/// What a run is looked at for: a specification, the condition that is to be true in each state, and
-/// how many turns exhaust an `iterate` or a `while`.
+/// What a run is looked at for: a specification, the condition that is to be true in each state,
+/// and how many turns exhaust an `iterate` or a `while`.
 #[derive(Clone, Copy)]
 pub(crate) struct Subject<'s> {
     pub checked: &'s Checked,
@@ -66,8 +66,8 @@ fn last_state<'w>(alloc: Global, subject: &Subject<'_>, bad: &BadRun) -> Result<
     one_script();
     let script = match read_script(alloc, bad.script.as_bytes()) {
         Ok(script) => script,
-        Err(Refused::Memory) => return Err(Fault::Memory),
-        Err(Refused::Named(_)) => return Err(Fault::Unconfirmed),
+        Err(InputError::Memory) => return Err(Fault::Memory),
+        Err(InputError::Named(_)) => return Err(Fault::Unconfirmed),
     };
     match state_after(alloc, subject.checked, subject.turns, &script, steps)? {
         Some(state) => Ok(state),
@@ -119,7 +119,7 @@ pub(crate) fn fault_words<'w, R: Threads + Sync>(
         IfOk result (λ words. WordsTell subject.now.checked.now links subject.now.turns finding.now words.items) }
 {
     match finding {
-        Finding::Bad(bad) => bad_words(rt, alloc, text, subject, bad),
+        Finding::BadStep(bad) => bad_words(rt, alloc, text, subject, bad),
         Finding::WrongFirst => first_words(alloc, subject),
         Finding::Unwritten(_) => Ok(Vec::from_slice(alloc, UNWRITTEN)?),
         Finding::Closed

@@ -15,7 +15,7 @@ pub trait NewFiles {
     fn create(&self, name: &str) -> io::Result<Self::New>;
 }
 
-/// The files of the system, of which nothing is known.
+/// The files of the system. Nothing is known of them.
 #[derive(Drop)]
 pub struct SystemFiles<'a, R> {
     rt: &'a R,

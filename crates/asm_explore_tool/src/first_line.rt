@@ -1,4 +1,4 @@
-//! The first line of an answer.
+//! The first line of a report.
 ghost use Rattle.std.specs.Prelude.{◌≡◌, ◌++◌, IfOk, codes};
 ghost use Rattle.std.specs.String.{string_bytes};
 ghost use Rattle.asm_explore_tool.specs.FirstLine.{fault_line, first_line as line_of, place_of};
@@ -44,7 +44,7 @@ pub(crate) fn of_first(alloc: Global, words: &[u8]) -> Result<Vec<u8>, AllocErro
     Ok(line)
 }
 
-/// What is found, in a line. These words describe the fault, where there is one.
+/// What is found, in a line. These words describe the fault, if there is one.
 pub(crate) fn first_line(
     alloc: Global,
     finding: &Finding,
@@ -57,7 +57,7 @@ pub(crate) fn first_line(
         Finding::SafeTo(depth) => {
             Ok(format!(in alloc; "safe up to {depth} steps")?.into_bytes())
         }
-        Finding::Bad(bad) => of_fault(alloc, bad.fault, bad.step, words),
+        Finding::BadStep(bad) => of_fault(alloc, bad.fault, bad.step, words),
         Finding::WrongFirst => of_first(alloc, words),
         Finding::TooManyStates(depth) => {
             Ok(format!(in alloc; "too many states, safe up to {depth} steps")?.into_bytes())

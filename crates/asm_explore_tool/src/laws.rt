@@ -1,4 +1,4 @@
-//! A law of joined conditions.
+//! Law. A law of joined conditions.
 ghost use Rattle.std.specs.Prelude.{◌≡◌, List, Option, Some};
 ghost use Rattle.std.specs.List.{list_all};
 ghost use Rattle.asm_state.specs.Location.{State};
@@ -10,7 +10,7 @@ ghost use Rattle.asm_explore_texts.specs.Conditions.{AreAnds, IsJoined};
 use asm_check::Checked;
 use asm_meaning::laws::{declared_ranks, plain_terms, valued_by_cases};
 
-/// Conditions that are joined by `and` hold together just where each of them does.
+/// Conditions that are joined by `and` hold together just when each of them does.
 pub fn joined_law(checked: &Checked)
     ensures { (links : List (Op × Term)) (t : Option Term) → AreAnds links → IsJoined links t →
         (A : State) → term_holds checked.now t A ≡ list_all (λ link. term_holds checked.now (Some link.1) A) links }

@@ -2,23 +2,24 @@
 //! its status.
 #![tactic(auto)]
 
-pub mod asked;
 mod assignment_line;
-mod broken;
+mod broken_condition;
+mod buffered_writer;
+pub mod checked_question;
 mod choices_report;
 mod choose_line;
 mod clash_report;
 mod comment;
 mod commented;
-mod confirm;
-mod drawing;
+mod confirm_run;
 mod ended;
 mod explain;
 mod facts;
 mod fault_words;
 pub mod files;
 mod first_line;
-mod given;
+mod given_texts;
+mod graph_file;
 pub mod laws;
 mod progress_lines;
 pub mod random_asked;
@@ -28,7 +29,6 @@ mod replay;
 pub mod report;
 mod run_texts;
 pub mod status;
-mod texts;
 mod trace_lines;
-mod unmet;
+mod unmet_lines;
 mod value_text;

@@ -1,13 +1,13 @@
 //! Lines on standard error that tell how far a search is.
-use crate::texts::Texts;
+use crate::buffered_writer::BufferedWriter;
 use asm_explore::{Progress, Watch};
 use asm_random::RandomProgress;
 use asm_run::sink::Sink;
 use std::fmt::Write;
 use std::time::{Clock, Duration};
 
-/// From one line to the next it takes so many seconds at least.
-const EVERY: u64 = 2;
+/// How many seconds it takes at least from one line to the next.
+const MIN_SECONDS_BETWEEN: u64 = 2;
 
 /// When lines are told, by the clock.
 #[derive(Clone, Copy)]
@@ -24,7 +24,7 @@ pub(crate) struct ProgressLines<'a, C, E> {
     clock: &'a C,
     err: &'a mut E,
     is_terminal: bool,
-    /// None before the search, and where no line is asked for or the clock can't be read.
+    /// None before the search, and if no line is asked for or the clock can't be read.
     times: Option<Times>,
 }
 
@@ -39,7 +39,7 @@ impl<'a, C: Clock, E: Sink> ProgressLines<'a, C, E> {
         }
     }
 
-    /// The search begins. Lines are told where they are asked for, and on a terminal.
+    /// The search begins. Lines are told if they are asked for, and on a terminal.
     pub(crate) fn begin(&mut self, are_asked_for: bool) {
         if !are_asked_for && !self.is_terminal {
             return;
@@ -52,13 +52,13 @@ impl<'a, C: Clock, E: Sink> ProgressLines<'a, C, E> {
         }
     }
 
-    /// Since when the search goes on, where a line is due.
+    /// Since when the search goes on, if a line is due.
     fn due(&mut self) -> Option<Duration> {
         let times = self.times?;
         let Ok(now) = self.clock.monotonic() else {
             return None;
         };
-        if now.saturating_sub(times.last).as_secs() < EVERY {
+        if now.saturating_sub(times.last).as_secs() < MIN_SECONDS_BETWEEN {
             return None;
         }
         self.times = Some(Times {
@@ -69,7 +69,7 @@ impl<'a, C: Clock, E: Sink> ProgressLines<'a, C, E> {
     }
 }
 
-/// So many in a second, where there were so many in this time.
+/// How many in a second, if there were `count` in this time.
 fn a_second(count: u64, time: Duration) -> u64 {
     let whole = time.as_secs().saturating_mul(1000);
     let milliseconds = whole.saturating_add(u64::from(time.subsec_millis()));
@@ -85,7 +85,7 @@ impl<C: Clock, E: Sink> Watch<Progress> for ProgressLines<'_, C, E> {
         let depth = progress.depth;
         let rate = a_second(states as u64, time);
         let megabytes = progress.bytes / 1_000_000;
-        let mut out = Texts::new(&mut *self.err);
+        let mut out = BufferedWriter::new(&mut *self.err);
         let _ = writeln!(
             out,
             "asm-explore: {states} states, depth {depth}, {rate} states a second, {megabytes} MB"
@@ -102,7 +102,7 @@ impl<C: Clock, E: Sink> Watch<RandomProgress> for ProgressLines<'_, C, E> {
         let runs = progress.runs;
         let steps = progress.steps;
         let rate = a_second(steps, time);
-        let mut out = Texts::new(&mut *self.err);
+        let mut out = BufferedWriter::new(&mut *self.err);
         let _ = writeln!(
             out,
             "asm-explore: {runs} runs, {steps} steps, {rate} steps a second"

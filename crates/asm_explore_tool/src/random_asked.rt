@@ -2,7 +2,7 @@
 ghost use Rattle.std.specs.Prelude.{◌≡◌, IfOk};
 ghost use Rattle.asm_explore_tool.specs.RandomReport.{IsRandomAsked};
 
-use crate::asked::{all_asked, checked};
+use crate::checked_question::{all_asked, checked};
 use asm_check::Checked;
 use asm_explore_texts::conditions::Condition;
 use asm_explore_words::fault::Fault;
@@ -13,12 +13,12 @@ use std::alloc::Global;
 
 /// A specification, and what is looked for in random runs of it.
 #[derive(Drop)]
-pub struct RandomAsked {
+pub struct CheckedRandomQuestion {
     pub checked: Checked,
     pub question: RandomQuestion,
 }
 
-/// What is looked for where this is to hold in each state, by the settings, which have so many turns.
+/// What is looked for if this is to hold in each state, by the settings, which have `turns` turns.
 fn question_of(always: Option<Term>, turns: u32, settings: &RandomSettings<'_>) -> RandomQuestion
     ensures always { result.always ≡ always }
     ensures turns { result.turns ≡ turns }
@@ -41,11 +41,11 @@ pub fn ask_random<'w>(
     text: &[u8],
     conditions: &[Condition<'w>],
     settings: &RandomSettings<'w>,
-) -> Result<RandomAsked, Fault<'w>>
+) -> Result<CheckedRandomQuestion, Fault<'w>>
     ensures { IfOk result (IsRandomAsked text.now conditions.now settings.now) }
 {
     let checked = checked(alloc, text, settings.spec)?;
     let always = all_asked(alloc, text, &checked, conditions)?;
     let question = question_of(always, settings.turns, settings);
-    Ok(RandomAsked { checked, question })
+    Ok(CheckedRandomQuestion { checked, question })
 }

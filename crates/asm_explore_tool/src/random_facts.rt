@@ -1,8 +1,8 @@
-//! What is printed of random runs behind the first line.
+//! What is printed of random runs after the first line.
 use crate::facts::{add, add_always, add_command, looked_for};
 use asm_explore_texts::conditions::Condition;
 use asm_explore_words::settings::RandomSettings;
-use asm_random::{RandomAnswer, RandomFinding};
+use asm_random::{RandomFinding, RandomResult};
 use std::alloc::{AllocError, Global};
 
 /// Adds what is drawn from, and how many runs and steps were made.
@@ -10,9 +10,9 @@ fn add_counts(
     alloc: Global,
     lines: &mut Vec<Vec<u8>>,
     seed: u64,
-    answer: &RandomAnswer,
+    answer: &RandomResult,
 ) -> Result<(), AllocError> {
-    let RandomAnswer { runs, steps, .. } = answer;
+    let RandomResult { runs, steps, .. } = answer;
     add(lines, format!(in alloc; "seed {seed}")?)?;
     add(lines, format!(in alloc; "runs {runs}")?)?;
     add(lines, format!(in alloc; "steps {steps}")?)
@@ -23,7 +23,7 @@ fn add_run(
     alloc: Global,
     lines: &mut Vec<Vec<u8>>,
     settings: &RandomSettings<'_>,
-    answer: &RandomAnswer,
+    answer: &RandomResult,
 ) -> Result<(), AllocError> {
     let RandomFinding::Bad { run, bad } = &answer.finding else {
         return Ok(());
@@ -36,12 +36,12 @@ fn add_run(
     add_command(alloc, lines, bad, settings.turns, settings.spec)
 }
 
-/// What is said behind the first line.
+/// What is said after the first line.
 pub(crate) fn random_facts(
     alloc: Global,
     conditions: &[Condition<'_>],
     settings: &RandomSettings<'_>,
-    answer: &RandomAnswer,
+    answer: &RandomResult,
 ) -> Result<Vec<Vec<u8>>, AllocError> {
     let mut lines = Vec::new(alloc);
     add_always(alloc, &mut lines, conditions)?;

@@ -7,14 +7,14 @@ ghost use Rattle.asm_explore_tool.specs.RandomReport.{IsRandomAsked, IsRandomRep
 
 use crate::fault_words::{Subject, UNWRITTEN, bad_words, first_words};
 use crate::first_line::{of_fault, of_first};
-use crate::random_asked::{RandomAsked, ask_random};
+use crate::random_asked::{CheckedRandomQuestion, ask_random};
 use crate::random_facts::random_facts;
 use crate::report::{Report, printed};
 use asm_explore::{BadRun, Watch};
 use asm_explore_texts::conditions::Condition;
 use asm_explore_words::fault::Fault;
 use asm_explore_words::settings::RandomSettings;
-use asm_random::{RandomAnswer, RandomFinding, RandomProgress, random_runs};
+use asm_random::{RandomFinding, RandomProgress, RandomResult, random_runs};
 use std::alloc::{AllocError, Global};
 use std::thread::Threads;
 
@@ -57,8 +57,8 @@ fn words_of<'w, R: Threads + Sync>(
     }
 }
 
-/// What is found by so many runs of at most so many steps, in a line. These words describe the
-/// fault, where there is one.
+/// What is found by `runs` runs of at most `steps` steps, in a line. These words describe the
+/// fault, if there is one.
 fn line_of(
     alloc: Global,
     runs: u32,
@@ -80,15 +80,15 @@ fn line_of(
     }
 }
 
-/// What is printed of an answer to what was asked of random runs.
+/// What is printed of a result for what was asked of random runs.
 fn printed_of<'w, R: Threads + Sync>(
     rt: &R,
     alloc: Global,
     text: &[u8],
-    asked: &RandomAsked,
+    asked: &CheckedRandomQuestion,
     conditions: &[Condition<'w>],
     settings: &RandomSettings<'w>,
-    answer: &RandomAnswer,
+    answer: &RandomResult,
 ) -> Result<Vec<u8>, Fault<'w>>
     ensures { (links : List (Op × Code)) → IsJoined links asked.now.question.always →
         IfOk result (λ whole. IsRandomReport text.now settings.now.trace asked.now links answer.now whole.items) }
@@ -122,7 +122,7 @@ fn reported<'w, R: Threads + Sync, W: Watch<RandomProgress>>(
     rt: &R,
     alloc: Global,
     text: &[u8],
-    asked: &RandomAsked,
+    asked: &CheckedRandomQuestion,
     conditions: &[Condition<'w>],
     settings: &RandomSettings<'w>,
     watch: &mut W,

@@ -1,21 +1,21 @@
 //! The states of a run, made again.
 ghost use Rattle.std.specs.Prelude.{◌≡◌, ◌+◌, [], length, IfOk, IfSome};
 ghost use Rattle.asm_state.specs.Signature.{count_of, state_of};
-ghost use Rattle.asm_syntax.specs.Views.{spec_of};
+ghost use Rattle.asm_syntax.specs.code.Views.{spec_of};
 ghost use Rattle.asm_check.specs.Faults.{inits};
 ghost use Rattle.asm_check.specs.Shapes.{shape_of};
 ghost use Rattle.asm_meaning.specs.Declarations.{main_rule, specification_of};
 ghost use Rattle.asm_meaning.specs.Does.{does};
-ghost use Rattle.asm_meaning.specs.Formed.{IsFormed};
+ghost use Rattle.asm_meaning.specs.code.FormedOutcomes.{IsFormed};
 ghost use Rattle.asm_meaning.specs.Program.{nothing_bound};
-ghost use Rattle.asm_meaning.specs.Valued.{program, shown};
+ghost use Rattle.asm_meaning.specs.code.TermValues.{program, shown};
 ghost use Rattle.asm_explore_tool.specs.Replay.{IsAfter, IsStep};
 
-use asm_by_code::whole::outcome_by_code;
+use asm_by_code::by_code::outcome_by_code;
 use asm_check::Checked;
-use asm_eval::running::Running;
-use asm_meaning::from_nothing::{nothing_formed, outcome_of};
+use asm_eval::evaluation::Evaluation;
 use asm_meaning::laws::from_nothing_laws;
+use asm_meaning::new_forming::{new_forming, outcome_of};
 use asm_meaning::{Choices, Outcome, View};
 use asm_reader::Script;
 use asm_state::laws::test_laws;
@@ -36,13 +36,13 @@ fn step_outcome(
         IfOk result (IsFormed (shape_of s) (does (program checked.now) turns choices.now.script.now choices.now.step (shown view.now) nothing_bound [] (main_rule s (inits s)))) }
 {
     from_nothing_laws::<()>();
-    let mut made = nothing_formed(alloc, view.signature, &[])?;
-    let running = Running {
+    let mut made = new_forming(alloc, view.signature, &[])?;
+    let evaluation = Evaluation {
         view,
         choices,
         turns,
     };
-    let formed = outcome_by_code(alloc, checked, &running, &mut made)?;
+    let formed = outcome_by_code(alloc, checked, &evaluation, &mut made)?;
     outcome_of(made, formed)
 }
 
@@ -73,7 +73,7 @@ fn next_state(
     Ok(Some(next))
 }
 
-/// The state after so many steps of the run under the script, unless the run ends before.
+/// The state after `steps` steps of the run under the script, unless the run ends before.
 pub(crate) fn state_after(
     alloc: Global,
     checked: &Checked,

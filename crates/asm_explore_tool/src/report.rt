@@ -1,4 +1,4 @@
-//! What is printed of an answer.
+//! What is printed of an exploration.
 ghost use Rattle.std.specs.Prelude.{◌≡◌, ◌∷◌, List, None, cond, option_map, IfOk};
 ghost use Rattle.asm_state.specs.declared.operation.Op.{Op};
 ghost use Rattle.asm_syntax.specs.declared.term.Term.{Term};
@@ -6,21 +6,21 @@ ghost use Rattle.asm_explore_texts.specs.Conditions.{IsJoined};
 ghost use Rattle.asm_explore_tool.specs.Report.{IsPrinted, IsReport, IsWholeOr, bad_of as found_bad, script_in, status_of as found_status};
 ghost use Rattle.asm_explore_tool.specs.Comments.{comments as comments_of, lines_of};
 
-use crate::asked::Asked;
+use crate::checked_question::CheckedQuestion;
 use crate::comment::comments;
-use crate::drawing::Drawing;
 use crate::facts::facts;
 use crate::fault_words::{Subject, fault_words};
 use crate::first_line::first_line;
+use crate::graph_file::GraphFile;
 use crate::trace_lines::add_trace;
-use asm_explore::{Answered, BadRun, Finding};
+use asm_explore::{BadRun, ExplorationResult, Finding};
 use asm_explore_texts::conditions::Conditions;
 use asm_explore_words::fault::Fault;
 use asm_explore_words::settings::Settings;
 use std::alloc::{AllocError, Global};
 use std::thread::Threads;
 
-/// So many bytes a script may have.
+/// How many bytes a script may have.
 const MAX_SCRIPT: usize = 1_048_576;
 
 /// What the program prints, and its status.
@@ -36,7 +36,7 @@ fn status_of(finding: &Finding) -> u8
 {
     match finding {
         Finding::Closed | Finding::SafeTo(_) => 0,
-        Finding::Bad(_) | Finding::WrongFirst | Finding::Unwritten(_) => 1,
+        Finding::BadStep(_) | Finding::WrongFirst | Finding::Unwritten(_) => 1,
         Finding::TooManyStates(_) | Finding::TooManyOutcomes { .. } | Finding::NoMemory(_) => 5,
     }
 }
@@ -46,7 +46,7 @@ fn bad_of(finding: &Finding) -> Option<&BadRun>
     ensures { option_map (λ bad. bad.now) result ≡ found_bad finding.now }
 {
     match finding {
-        Finding::Bad(bad) => Some(bad),
+        Finding::BadStep(bad) => Some(bad),
         _ => None,
     }
 }
@@ -61,14 +61,14 @@ fn script_of(bad: Option<&BadRun>) -> &[u8]
     }
 }
 
-/// The run that is found, where its trace is asked for.
+/// The run that is found, if its trace is asked for.
 fn shown(asks: bool, bad: Option<&BadRun>) -> Option<&BadRun>
     ensures { option_map (λ bad. bad.now) result ≡ cond asks (option_map (λ bad. bad.now) bad.entry) None }
 {
     if asks { bad } else { None }
 }
 
-/// A first comment and others, and behind them the script, unless that is more than a script may
+/// A first comment and others, and after them the script, unless that is more than a script may
 /// have: then the script alone.
 pub(crate) fn with_comments(
     alloc: Global,
@@ -86,8 +86,8 @@ pub(crate) fn with_comments(
     Ok(whole)
 }
 
-/// A first comment and others, and behind them the script of the run that is found, if there is one.
-/// Where its trace is asked for, the other comments end with the lines of it.
+/// A first comment and others, and after them the script of the run that is found, if there is one.
+/// If its trace is asked for, the other comments end with the lines of it.
 pub(crate) fn printed<'w, R: Threads + Sync>(
     rt: &R,
     alloc: Global,
@@ -106,16 +106,16 @@ pub(crate) fn printed<'w, R: Threads + Sync>(
     Ok(whole)
 }
 
-/// What is printed of an answer to what was asked of the specification with this text.
+/// What is printed of a result for what was asked of the specification with this text.
 pub(crate) fn reported<'w, R: Threads + Sync>(
     rt: &R,
     alloc: Global,
     text: &[u8],
-    asked: &Asked,
+    asked: &CheckedQuestion,
     conditions: &Conditions<'w>,
     settings: &Settings<'w>,
-    answered: &Answered,
-    drawing: Drawing,
+    answered: &ExplorationResult,
+    drawing: GraphFile,
 ) -> Result<Report, Fault<'w>>
     ensures status { IfOk result (λ report. report.status ≡ found_status answered.now.finding) }
     ensures text { (links : List (Op × Term)) → IsJoined links asked.now.question.always →

@@ -1,9 +1,9 @@
 //! What is read for one run: the texts of the specification and of the script.
 ghost use Rattle.std.specs.Prelude.{◌≡◌, false, IfOk};
-ghost use Rattle.asm_explore_tool.specs.Given.{AreRunTexts, IsText, IsTextOfFile};
-ghost use Rattle.asm_explore_words.specs.Said.{reads_input_twice};
+ghost use Rattle.asm_explore_tool.specs.GivenTexts.{AreRunTexts, IsText, IsTextOfFile};
+ghost use Rattle.asm_explore_words.specs.WordsSaid.{reads_input_twice};
 
-use crate::given::{MOST_BYTES, of_file, text as text_of};
+use crate::given_texts::{MAX_BYTES_READ, of_file, text as text_of};
 use asm_explore_words::fault::{Fault, Source};
 use asm_explore_words::settings::RunSettings;
 use asm_tool::folder::Folder;
@@ -27,7 +27,7 @@ fn from_file<'w, F: Folder>(
 ) -> Result<Vec<u8>, Fault<'w>>
     ensures { IfOk result (λ text. IsTextOfFile (F.contents folder.now) name.now text.items) }
 {
-    match input::script(folder, alloc, Some(name), MOST_BYTES) {
+    match input::script(folder, alloc, Some(name), MAX_BYTES_READ) {
         Ok(text) => Ok(text),
         Err(fault) => Err(of_file(&fault, source)),
     }

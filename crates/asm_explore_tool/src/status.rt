@@ -1,31 +1,31 @@
 //! The program over any reader and writers, and the status that it ends with.
 ghost use Rattle.std.specs.Prelude.{◌≡◌, ◌≢◌, ◌<◌, ◌≤◌, false, map, IfOk, OnOk};
 ghost use Rattle.std.specs.Io.KnownBytes.{Appends};
-ghost use Rattle.asm_explore_tool.specs.Asked.{IsAsked};
-ghost use Rattle.asm_explore_tool.specs.Answered.{Answers, AnswersRandom, AnswersRun, AnswersTask, AreTaken, IsAnswered};
+ghost use Rattle.asm_explore_tool.specs.CheckedQuestions.{IsAsked};
+ghost use Rattle.asm_explore_tool.specs.Outputs.{OutputsAll, OutputsRandom, OutputsRun, OutputsTask, AreTaken, IsOutput};
 ghost use Rattle.asm_explore_words.specs.Faults.{IsOfWords, status_of_fault};
 ghost use Rattle.asm_explore_tool.specs.Report.{IsReported};
 ghost use Rattle.asm_explore_tool.specs.RunReport.{AreChoicesReported, IsClashReported};
-ghost use Rattle.asm_explore_words.specs.Said.{reads_input_twice, reads_task_twice};
+ghost use Rattle.asm_explore_words.specs.WordsSaid.{reads_input_twice, reads_task_twice};
 
-use crate::asked::{Asked, ask};
+use crate::checked_question::{CheckedQuestion, ask};
 use crate::choices_report::choices_report;
 use crate::clash_report::clash_report;
-use crate::drawing::draw;
 use crate::explain::explain;
 use crate::files::NewFiles;
-use crate::given::{always_given, conditions, text};
+use crate::given_texts::{always_given, conditions, text};
+use crate::graph_file::draw;
 use crate::progress_lines::ProgressLines;
 use crate::random_report::random_report;
 use crate::report::{Report, reported};
 use crate::run_texts::run_texts;
 use asm_explore::{Progress, Watch};
 use asm_explore_texts::conditions::Conditions;
+use asm_explore_words::command_line::settings;
 use asm_explore_words::fault::{Fault, Source};
 use asm_explore_words::settings::{RandomSettings, RunSettings, Settings, Task};
-use asm_explore_words::words::settings;
 use asm_explore_workers::explore_all_by;
-use asm_limits::limits::WORKERS;
+use asm_limits::run_limits::WORKERS;
 use asm_random::RandomProgress;
 use asm_run::sink::Sink;
 use asm_tool::fault::Fault as ToolFault;
@@ -38,9 +38,9 @@ use std::io::{Read, Write};
 use std::thread::Threads;
 use std::time::Clock;
 
-/// Does what the words ask for, and writes the answer to `out` or the line of a fault to `err`. The
-/// words are those behind the program's name. Lines that tell how far a search is go to `err` too,
-/// where they are asked for or it is a terminal.
+/// Does what the words ask for, and writes the report to `out` or the line of a fault to `err`. The
+/// words are those after the program's name. Lines that tell how far a search is go to `err` too,
+/// if they are asked for or it is a terminal.
 pub fn status<
     R: Threads + Clock + Sync + AllocGlobal,
     F: Folder + NewFiles,
@@ -49,13 +49,13 @@ pub fn status<
     O: Write,
     E: Sink,
 >(rt: &R, folder: &F, words: &[S], input: I, out: &mut O, err: &mut E, is_terminal: bool) -> u8
-    // Words that are taken have an answer, unless a fault with the status 2, 3 or 4 says why there
+    // Words that are taken have a report, unless a fault with the status 2, 3 or 4 says why there
     // is none.
     ensures { AreTaken (map S.text words.entry.now) → result ≢ 2 → result ≢ 3 → result ≢ 4 →
-        IsAnswered (F.contents folder.now) (I.remaining input) (O.contents out.old) (O.contents out.new) (map S.text words.entry.now) result }
+        IsOutput (F.contents folder.now) (I.remaining input) (O.contents out.old) (O.contents out.new) (map S.text words.entry.now) result }
 {
     let mut lines = ProgressLines::new(rt, &mut *err, is_terminal);
-    match answer(rt, folder, words, input, out, &mut lines) {
+    match do_command(rt, folder, words, input, out, &mut lines) {
         Ok(status) => status,
         Err(fault) => refusal(&fault, err),
     }
@@ -69,7 +69,7 @@ pub fn fault_of_words(fault: &ToolFault) -> Fault<'static> {
     }
 }
 
-/// Says why there is no answer, and returns the status of that.
+/// Says why there is no report, and returns the status of that.
 pub fn refusal<E: Sink>(fault: &Fault<'_>, err: &mut E) -> u8
     ensures { result ≡ status_of_fault fault.now }
 {
@@ -77,8 +77,8 @@ pub fn refusal<E: Sink>(fault: &Fault<'_>, err: &mut E) -> u8
     fault.status()
 }
 
-/// Writes the answer to the words, and returns its status.
-fn answer<
+/// Writes the report that the words ask for, and returns its status.
+fn do_command<
     'w,
     R: Threads + Clock + Sync + AllocGlobal,
     F: Folder + NewFiles,
@@ -95,23 +95,16 @@ fn answer<
     lines: &mut ProgressLines<'_, R, E>,
 ) -> Result<u8, Fault<'w>>
     ensures { AreTaken (map S.text words.entry.now) →
-        IfOk result (IsAnswered (F.contents folder.now) (I.remaining input) (O.contents out.old) (O.contents out.new) (map S.text words.entry.now)) }
+        IfOk result (IsOutput (F.contents folder.now) (I.remaining input) (O.contents out.old) (O.contents out.new) (map S.text words.entry.now)) }
 {
     match settings(rt.alloc(), words) {
-        Ok(task) => answer_task(rt, folder, rt.alloc(), &task, input, out, lines),
+        Ok(task) => do_task(rt, folder, rt.alloc(), &task, input, out, lines),
         Err(fault) => told(out, fault),
     }
 }
 
-/// Writes the answer to a command with its settings, and returns its status.
-fn answer_task<
-    'w,
-    R: Threads + Clock + Sync,
-    F: Folder + NewFiles,
-    I: Read + Drop,
-    O: Write,
-    E: Sink,
->(
+/// Writes the report for a command with its settings, and returns its status.
+fn do_task<'w, R: Threads + Clock + Sync, F: Folder + NewFiles, I: Read + Drop, O: Write, E: Sink>(
     rt: &R,
     folder: &F,
     alloc: Global,
@@ -121,24 +114,24 @@ fn answer_task<
     lines: &mut ProgressLines<'_, R, E>,
 ) -> Result<u8, Fault<'w>>
     requires { reads_task_twice task.now ≡ false }
-    ensures { IfOk result (AnswersTask (F.contents folder.now) (I.remaining input) (O.contents out.old) (O.contents out.new) task.now) }
+    ensures { IfOk result (OutputsTask (F.contents folder.now) (I.remaining input) (O.contents out.old) (O.contents out.new) task.now) }
 {
     match task {
         Task::All(settings) => {
             lines.begin(settings.progress);
-            answer_settings(rt, folder, alloc, settings, input, out, lines)
+            do_all(rt, folder, alloc, settings, input, out, lines)
         }
         Task::Random(settings) => {
             lines.begin(settings.progress);
-            answer_random(rt, folder, alloc, settings, input, out, lines)
+            do_random(rt, folder, alloc, settings, input, out, lines)
         }
-        Task::Choices(settings) => answer_choices(rt, folder, alloc, settings, input, out),
-        Task::Clash(settings) => answer_clash(rt, folder, alloc, settings, input, out),
+        Task::Choices(settings) => do_choices(rt, folder, alloc, settings, input, out),
+        Task::Clash(settings) => do_clash(rt, folder, alloc, settings, input, out),
     }
 }
 
 /// Writes the choices of the run that settings ask for, and returns the status.
-fn answer_choices<'w, R: Threads + Sync, F: Folder, I: Read + Drop, O: Write>(
+fn do_choices<'w, R: Threads + Sync, F: Folder, I: Read + Drop, O: Write>(
     rt: &R,
     folder: &F,
     alloc: Global,
@@ -147,7 +140,7 @@ fn answer_choices<'w, R: Threads + Sync, F: Folder, I: Read + Drop, O: Write>(
     out: &mut O,
 ) -> Result<u8, Fault<'w>>
     requires { reads_input_twice settings.now ≡ false }
-    ensures { IfOk result (AnswersRun (F.contents folder.now) (I.remaining input) (O.contents out.old) (O.contents out.new) AreChoicesReported settings.now) }
+    ensures { IfOk result (OutputsRun (F.contents folder.now) (I.remaining input) (O.contents out.old) (O.contents out.new) AreChoicesReported settings.now) }
 {
     let texts = run_texts(folder, alloc, settings, input)?;
     let (text, script) = (texts.text.as_slice(), texts.script.as_slice());
@@ -157,7 +150,7 @@ fn answer_choices<'w, R: Threads + Sync, F: Folder, I: Read + Drop, O: Write>(
 }
 
 /// Writes the assignments by which the run ends that settings ask for, and returns the status.
-fn answer_clash<'w, R: Threads + Sync, F: Folder, I: Read + Drop, O: Write>(
+fn do_clash<'w, R: Threads + Sync, F: Folder, I: Read + Drop, O: Write>(
     rt: &R,
     folder: &F,
     alloc: Global,
@@ -166,7 +159,7 @@ fn answer_clash<'w, R: Threads + Sync, F: Folder, I: Read + Drop, O: Write>(
     out: &mut O,
 ) -> Result<u8, Fault<'w>>
     requires { reads_input_twice settings.now ≡ false }
-    ensures { IfOk result (AnswersRun (F.contents folder.now) (I.remaining input) (O.contents out.old) (O.contents out.new) IsClashReported settings.now) }
+    ensures { IfOk result (OutputsRun (F.contents folder.now) (I.remaining input) (O.contents out.old) (O.contents out.new) IsClashReported settings.now) }
 {
     let texts = run_texts(folder, alloc, settings, input)?;
     let (text, script) = (texts.text.as_slice(), texts.script.as_slice());
@@ -175,8 +168,8 @@ fn answer_clash<'w, R: Threads + Sync, F: Folder, I: Read + Drop, O: Write>(
     Ok(report.status)
 }
 
-/// Writes the answer to settings of `all`, and returns its status.
-fn answer_settings<
+/// Writes the report for settings of `all`, and returns its status.
+fn do_all<
     'w,
     R: Threads + Sync,
     F: Folder + NewFiles,
@@ -192,7 +185,7 @@ fn answer_settings<
     out: &mut O,
     watch: &mut W,
 ) -> Result<u8, Fault<'w>>
-    ensures { IfOk result (Answers (F.contents folder.now) (I.remaining input) (O.contents out.old) (O.contents out.new) settings.now) }
+    ensures { IfOk result (OutputsAll (F.contents folder.now) (I.remaining input) (O.contents out.old) (O.contents out.new) settings.now) }
 {
     let spec = settings.spec;
     let text = text(folder, alloc, Source::Specification(spec), spec, input)?;
@@ -210,15 +203,8 @@ fn answer_settings<
     Ok(report.status)
 }
 
-/// Writes the answer to settings of `random`, and returns its status.
-fn answer_random<
-    'w,
-    R: Threads + Sync,
-    F: Folder,
-    I: Read + Drop,
-    O: Write,
-    W: Watch<RandomProgress>,
->(
+/// Writes the report for settings of `random`, and returns its status.
+fn do_random<'w, R: Threads + Sync, F: Folder, I: Read + Drop, O: Write, W: Watch<RandomProgress>>(
     rt: &R,
     folder: &F,
     alloc: Global,
@@ -227,7 +213,7 @@ fn answer_random<
     out: &mut O,
     watch: &mut W,
 ) -> Result<u8, Fault<'w>>
-    ensures { IfOk result (AnswersRandom (F.contents folder.now) (I.remaining input) (O.contents out.old) (O.contents out.new) settings.now) }
+    ensures { IfOk result (OutputsRandom (F.contents folder.now) (I.remaining input) (O.contents out.old) (O.contents out.new) settings.now) }
 {
     let spec = settings.spec;
     let (words, names) = (settings.always.as_slice(), settings.always_files.as_slice());
@@ -272,7 +258,7 @@ fn told_words<'w, O: Write>(out: &mut O, error: Error) -> Result<u8, Fault<'w>> 
     }
 }
 
-/// Writes the answer.
+/// Writes the report.
 fn written<'w, O: Write>(out: &mut O, text: &[u8]) -> Result<(), Fault<'w>>
     ensures { OnOk result (Appends (O.contents out.old) (O.contents out.new) text.now) }
 {
@@ -286,7 +272,7 @@ fn written<'w, O: Write>(out: &mut O, text: &[u8]) -> Result<(), Fault<'w>>
     }
 }
 
-/// So many workers as the settings ask for, or as near to it as there may be.
+/// As many workers as the settings ask for, or as near to it as there may be.
 fn workers_of(settings: &Settings<'_>) -> usize
     ensures { (0 < result) × (result ≤ 32) }
 {
@@ -297,13 +283,13 @@ fn workers_of(settings: &Settings<'_>) -> usize
     }
 }
 
-/// What is printed of the answer to what is asked of a specification, and the status of that.
-fn answered<'w, R: Threads + Sync, F: NewFiles, W: Watch<Progress>>(
+/// What is printed of the result for what is asked of a specification, and the status of that.
+fn all_report<'w, R: Threads + Sync, F: NewFiles, W: Watch<Progress>>(
     rt: &R,
     files: &F,
     alloc: Global,
     text: &[u8],
-    asked: &Asked,
+    asked: &CheckedQuestion,
     conditions: &Conditions<'w>,
     settings: &Settings<'w>,
     watch: &mut W,
@@ -333,5 +319,5 @@ fn explored<'w, R: Threads + Sync, F: NewFiles, W: Watch<Progress>>(
     ensures { IfOk result (IsReported text.now conditions.now settings.now) }
 {
     let asked = ask(alloc, text, conditions, settings)?;
-    answered(rt, files, alloc, text, &asked, conditions, settings, watch)
+    all_report(rt, files, alloc, text, &asked, conditions, settings, watch)
 }

@@ -3,7 +3,7 @@ ghost use Rattle.std.specs.Prelude.{◌≡◌, ◌==◌, ◌≤◌, [], ◌∷�
 ghost use Rattle.asm_explore_tool.specs.Comments.{lines_of};
 ghost use Rattle.asm_explore_tool.specs.TraceLines.{MayShowTrace, text_lines};
 
-use crate::confirm::confirmed;
+use crate::confirm_run::confirmed;
 use asm_explore::BadRun;
 use asm_explore_words::fault::Fault;
 use std::alloc::{AllocError, Global};

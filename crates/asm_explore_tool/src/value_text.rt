@@ -1,6 +1,6 @@
 //! Values as a specification writes them.
 ghost use Rattle.std.specs.Prelude.{◌≡◌, ◌++◌, [], slice_index_or, OnOk};
-ghost use Rattle.asm_syntax.specs.Views.{spec_of};
+ghost use Rattle.asm_syntax.specs.code.Views.{spec_of};
 ghost use Rattle.asm_run.specs.Trace.{value_text as text_of_value};
 ghost use Rattle.asm_run.specs.Written.{names_in};
 

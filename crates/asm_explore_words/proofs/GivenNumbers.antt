@@ -1,4 +1,5 @@
--- A command whose rules are known has, after a parse, a number of each option that takes one and is required or has a default.
+-- Free. A command whose rules are known has, after a parse, a number of each option that takes one
+-- and is required or has a default.
 --     has_number      within bounds
 --     has_unsigned    of 64 bits
 --     has_text        a text of one that is required
@@ -24,12 +25,12 @@ use Rattle.clap.proofs.CallerLemmas.{default_present, present_has_entry, require
 use Rattle.clap.proofs.SimpleLemmas.{is_false, is_nil}
 use Rattle.clap.proofs.TakesLemmas.{each_rule}
 use Rattle.clap.proofs.WalkLemmas.{both}
-use Rattle.asm_limits.specs.declared.limits.Bounds.{Bounds}
+use Rattle.asm_limits.specs.declared.run_limits.Bounds.{Bounds}
 use Rattle.asm_arguments.specs.Numbers.{HasNumber}
 use Rattle.asm_arguments.proofs.GivenValues.{is_found, is_read}
 use Rattle.asm_arguments.proofs.Rules.{alone, is_alone, index_low, plain_arg, undelimited, unconditional, rule_at}
 use Rattle.asm_explore_words.specs.CommandLine.{most_unsigned}
-use Rattle.asm_explore_words.specs.Said.{HasUnsigned}
+use Rattle.asm_explore_words.specs.WordsSaid.{HasUnsigned}
 
 -- no argument has anything to do with another, and no setting changes how words are read
 pub record IsUnrelated (app : App) : Type 0 where

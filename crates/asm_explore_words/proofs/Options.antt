@@ -1,4 +1,5 @@
--- After a parse of the words behind `all` there is a text, and each option with a number has one in its range.
+-- Free. After a parse of the words that follow `all` there is a text, and each option with a number
+-- has one in its range.
 use Rattle.std.proofs.Common.{◌≡◌, [], codes, slice_index, ap, is_some, true, refl, inr, arith}
 use Rattle.clap.specs.Built.{IsParsedFrom}
 use Rattle.clap.specs.Faults.{is_simple_and_free}
@@ -7,8 +8,8 @@ use Rattle.clap.specs.Simple.{app_of, is_simple}
 use Rattle.clap.specs.Walk.{Rule, Text}
 use Rattle.clap.specs.declared.builder.command.Command.{Command}
 use Rattle.clap.specs.declared.parser.matches.ArgMatches.{ArgMatches}
-use Rattle.asm_limits.specs.declared.limits.TheConstants.{STEPS, TURNS, WORKERS}
-use Rattle.asm_explore_words.specs.declared.words.TheConstants.{STATES, OUTCOMES}
+use Rattle.asm_limits.specs.declared.run_limits.TheConstants.{STEPS, TURNS, WORKERS}
+use Rattle.asm_explore_words.specs.declared.command_line.TheConstants.{STATES, OUTCOMES}
 use Rattle.asm_explore_words.specs.CommandLine.{command}
 use Rattle.asm_arguments.specs.Arguments.{positional}
 use Rattle.asm_arguments.specs.Numbers.{HasNumber}

@@ -1,4 +1,5 @@
--- The numbers that are read of what a parse finds are those of its rows, and lie in the ranges that it looks at.
+-- Free. The numbers that are read of what a parse finds are those of its rows, and lie in the
+-- ranges that it looks at.
 --     read_unsigned      what is read of a text that passed as a number of 64 bits
 use Rattle.std.proofs.Common.{◌≡◌, ◌∙◌, ◌≤◌, ap, ℕ, ℤ, true, List, [], ◌∷◌, map, Option, Some, None, sym, subst, arith, refl}
 use Rattle.std.specs.Prelude.{Err, Ok, Result, ◌≤ℤ◌, nat_le, pos, find, option_and_then, option_map, slice_get}
@@ -15,9 +16,9 @@ use Rattle.clap.proofs.WalkLemmas.{find_row}
 use Rattle.clap.specs.declared.parser.matches.MatchedArg.{MatchedArg}
 use Rattle.clap.specs.declared.parser.matches.Found.{Found}
 use Rattle.asm_limits.specs.Limits.{is_within}
-use Rattle.asm_limits.specs.declared.limits.Bounds.{Bounds}
+use Rattle.asm_limits.specs.declared.run_limits.Bounds.{Bounds}
 use Rattle.asm_arguments.specs.Numbers.{HasNumber, IsNumber}
-use Rattle.asm_explore_words.specs.Said.{HasUnsigned, IsUnsigned}
+use Rattle.asm_explore_words.specs.WordsSaid.{HasUnsigned, IsUnsigned}
 
 -- an entry within some bounds has a number within wider ones
 pub wider : (f : Found) (name : Text) (bounds : Bounds) → bounds.most ≤ 4_294_967_295 → HasNumber f name bounds

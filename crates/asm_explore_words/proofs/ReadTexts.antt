@@ -1,4 +1,4 @@
--- The texts of an argument are those of its row.
+-- Free. The texts of an argument are those of its row.
 use Rattle.std.proofs.Common.{◌≡◌, ◌∙◌, ap, List, [], Option, Some, None, refl, sym}
 use Rattle.std.specs.Prelude.{find, option_map, unwrap_or}
 use Rattle.std.specs.Option.{option_map_or}
@@ -9,7 +9,7 @@ use Rattle.clap.specs.Walk.{Row, Text, row_of, rows_of}
 use Rattle.clap.specs.declared.parser.matches.Found.{Found}
 use Rattle.clap.specs.declared.parser.matches.MatchedArg.{MatchedArg}
 use Rattle.clap.proofs.WalkLemmas.{find_row}
-use Rattle.asm_explore_words.specs.Said.{all_of}
+use Rattle.asm_explore_words.specs.WordsSaid.{all_of}
 
 all_of_entry : (f : Found) (name : Text) → all_of name (rows_of f) ≡ option_map_or raw_values (matched_of f name) []
 all_of_entry f name = ap (λ (o : Option Row). option_map_or (λ (r : Row). r.values) o []) (find_row f.entries.items name) ∙ go (find (λ e. bytes_eq e.0.now name) f.entries.items)

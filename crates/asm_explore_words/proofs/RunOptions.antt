@@ -1,4 +1,5 @@
--- After a parse of the words behind `choices` or `clash` there is a text, and each option with a number has one in its range.
+-- Free. After a parse of the words that follow `choices` or `clash` there is a text, and each
+-- option with a number has one in its range.
 use Rattle.std.proofs.Common.{◌≡◌, [], codes, is_some, true, refl, inr, arith}
 use Rattle.clap.specs.Built.{IsParsedFrom}
 use Rattle.clap.specs.Faults.{is_simple_and_free}
@@ -6,7 +7,7 @@ use Rattle.clap.specs.Matches.{first_value, found_of}
 use Rattle.clap.specs.Simple.{app_of, is_simple}
 use Rattle.clap.specs.declared.builder.command.Command.{Command}
 use Rattle.clap.specs.declared.parser.matches.ArgMatches.{ArgMatches}
-use Rattle.asm_limits.specs.declared.limits.TheConstants.{STEPS, TURNS}
+use Rattle.asm_limits.specs.declared.run_limits.TheConstants.{STEPS, TURNS}
 use Rattle.asm_explore_words.specs.CommandLine.{run_command}
 use Rattle.asm_arguments.specs.Numbers.{HasNumber}
 use Rattle.asm_explore_words.proofs.GivenNumbers.{IsUnrelated, has_number, has_text}

@@ -1,9 +1,13 @@
--- The words behind a command, in the terms of the library that reads them.
---     command, refusals words           behind `all`: it has a version; its arguments: the text's file, an option for each limit and
---                                       condition, and two flags. The kinds of what is wrong with the words, none where they are taken
+-- Definition. The words after a command, in the terms of the library that reads them.
+--     command, refusals words           after `all`: it has a version; its arguments: the text's
+--                                       file, an option for each limit and condition, and two
+--                                       flags. The kinds of what is wrong with the words, none if
+--                                       they are taken
 --     random_command, random_refusals words
---                                       behind `random`: the text's file, an option for each limit and condition, and two flags
---     run_command, run_refusals words   behind `choices` and `clash`: the text's file, and an option for each limit and for the script's file
+--                                       after `random`: the text's file, an option for each limit
+--                                       and condition, and two flags
+--     run_command, run_refusals words   after `choices` and `clash`: the text's file, and an option
+--                                       for each limit and for the script's file
 use Rattle.std.specs.Prelude.{ℕ, true, List, [], ◌∷◌, Some, codes}
 use Rattle.clap.specs.Faults.{fault_of}
 use Rattle.clap.specs.Kinds.{Kinds}
@@ -11,9 +15,9 @@ use Rattle.clap.specs.Simple.{App, new_rule, new_shape}
 use Rattle.clap.specs.Walk.{Rule, Text}
 use Rattle.clap.specs.declared.builder.action.ArgAction.TheVariants.{Append, SetTrue}
 use Rattle.clap.specs.declared.builder.value_parser.ValueParser.TheVariants.{Unsigned}
-use Rattle.asm_limits.specs.declared.limits.TheConstants.{STEPS, TURNS, WORKERS}
+use Rattle.asm_limits.specs.declared.run_limits.TheConstants.{STEPS, TURNS, WORKERS}
 use Rattle.asm_arguments.specs.Arguments.{positional, option, number, required, or_else}
-use Rattle.asm_explore_words.specs.declared.words.TheConstants.{STATES, OUTCOMES, RUNS}
+use Rattle.asm_explore_words.specs.declared.command_line.TheConstants.{STATES, OUTCOMES, RUNS}
 
 -- it may be repeated
 abbrev pub repeated : Rule → Rule

@@ -1,4 +1,4 @@
--- Faults.
+-- Definition. Faults.
 --     status_of_fault fault      the status that the program ends with
 --     IsOfWords fault            the words are refused
 use Rattle.std.specs.Prelude.{ℕ, ⊤}

@@ -1,3 +1,3 @@
 pub mod CommandLine
 pub mod Faults
-pub mod Said
+pub mod WordsSaid

@@ -1,4 +1,4 @@
-//! The words behind a command, as arguments, and what they give.
+//! The words after a command, as arguments, and what they give.
 ghost use Rattle.std.specs.Prelude.{◌≡◌, Some, pos, IfOk};
 ghost use Rattle.std.specs.Str.Parse.{digits_value, signed_digits_value, without_leading_plus};
 ghost use Rattle.clap.specs.Walk.{texts};
@@ -6,9 +6,9 @@ ghost use Rattle.clap.specs.Words.{first_value, found_of, rule_of, rows_of};
 ghost use Rattle.asm_arguments.specs.Arguments as arguments;
 ghost use Rattle.asm_arguments.specs.Numbers.{HasNumber};
 ghost use Rattle.asm_explore_words.specs.CommandLine as line;
-ghost use Rattle.asm_explore_words.specs.Said.{HasUnsigned, all_of, is_yes};
+ghost use Rattle.asm_explore_words.specs.WordsSaid.{HasUnsigned, all_of, is_yes};
 
-use asm_limits::limits::Bounds;
+use asm_limits::run_limits::Bounds;
 use clap::{Arg, ArgAction, ArgMatches};
 use std::alloc::{AllocError, Global};
 

@@ -1,4 +1,4 @@
-//! Why the program ends without an answer.
+//! Why the program ends without a report.
 ghost use Rattle.std.specs.Prelude.{◌≡◌};
 ghost use Rattle.asm_explore_words.specs.Faults.{status_of_fault};
 
@@ -62,7 +62,7 @@ pub enum Fault<'w> {
     Memory,
     /// A file can't be read.
     File(Source<'w>),
-    /// The answer can't be written.
+    /// The report can't be written.
     Write,
     /// The graph of states can't be written to the file of this name.
     Graph(&'w str),

@@ -2,7 +2,7 @@
 
 pub const NAME: &str = "asm-explore";
 
-/// What `--version` prints behind the program's name.
+/// What `--version` prints after the program's name.
 pub const VERSION: &str = "1.0.0";
 
 pub const ABOUT: &str = "Looks for faults in the runs of an abstract state machine.";
@@ -58,12 +58,12 @@ pub const TRACE: &str = "Show the trace of the run to a fault, before its script
 
 pub const PROGRESS: &str = "Report progress on standard error; the default if that is a terminal";
 
-/// What stands below the commands.
+/// What is below the commands.
 pub const AFTER: &str = "\
 `asm-explore COMMAND --help` says more of a command. The output is a script, for `asm --script FILE`:
 each line is `STEP PATH NUMBER`, or a comment, which begins with `# `.";
 
-/// What stands below the options of `choices` and of `clash`.
+/// What is below the options of `choices` and of `clash`.
 pub const AFTER_RUN: &str = "\
 The output is a script: each line is `STEP PATH NUMBER`, or a comment, which begins with `# `. The
 first line says how the run ends:
@@ -88,7 +88,7 @@ Status:
   4  the command line is wrong
   6  the run made all its steps, and a line of the script met no choose (`choices` alone)";
 
-/// What stands below the options of `random`.
+/// What is below the options of `random`.
 pub const AFTER_RANDOM: &str = "\
 A condition COND is a term, as in `--always 'stage(0) = critical or not busy'`, or the name of a
 derived function without parameters. If it begins with a minus, write an equals sign before it, as in
@@ -119,7 +119,7 @@ Status:
   3  out of memory, a file can't be read, or the output can't be written
   4  the command line is wrong";
 
-/// What stands below the options of `all`.
+/// What is below the options of `all`.
 pub const AFTER_ALL: &str = "\
 A condition COND is a term, as in `--always 'stage(0) = critical or not busy'`, or the name of a
 derived function without parameters. If it begins with a minus, write an equals sign before it, as in

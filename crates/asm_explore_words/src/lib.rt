@@ -1,10 +1,10 @@
-//! The words behind `asm-explore`, what they ask for, and what is wrong with words and texts.
+//! The words after `asm-explore`, what they ask for, and what is wrong with words and texts.
 #![tactic(auto)]
 
 mod arguments;
+pub mod command_line;
 pub mod fault;
 mod help;
 mod random_words;
 pub mod sentences;
 pub mod settings;
-pub mod words;

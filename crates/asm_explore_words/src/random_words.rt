@@ -1,24 +1,24 @@
-//! The words behind `random`.
+//! The words after `random`.
 ghost use Rattle.std.specs.Prelude.{◌≡◌, [], map, IsTrue, IfOk, IfErr};
 ghost use Rattle.clap.specs.Kinds.{HasKind};
 ghost use Rattle.clap.specs.Words.{app_of};
 ghost use Rattle.asm_explore_words.specs.CommandLine as line;
 ghost use Rattle.asm_explore_words.specs.CommandLine.{random_refusals};
-ghost use Rattle.asm_explore_words.specs.Said.{AreRandomParsed, AreRandomSaid, are_random_in_range};
+ghost use Rattle.asm_explore_words.specs.WordsSaid.{AreRandomParsed, AreRandomSaid, are_random_in_range};
 
 use crate::arguments::{
     flag, is_set, number, number_of, texts, texts_of, unsigned, unsigned_of, word,
 };
+use crate::command_line::RUNS;
 use crate::help;
 use crate::settings::RandomSettings;
-use crate::words::RUNS;
-use asm_limits::limits::{STEPS, TURNS};
+use asm_limits::run_limits::{STEPS, TURNS};
 use clap::{ArgMatches, Command, Error};
 use std::alloc::{AllocError, Global};
 use std::convert::AsStr;
 
-/// The settings that the words behind `random` give.
-pub(crate) fn of_random<'w, S: AsStr>(
+/// The settings that the words after `random` give.
+pub(crate) fn random_settings<'w, S: AsStr>(
     alloc: Global,
     words: &'w [S],
 ) -> Result<RandomSettings<'w>, Error>
@@ -41,7 +41,7 @@ pub(crate) fn of_random<'w, S: AsStr>(
     })
 }
 
-/// What the words behind `random` give.
+/// What the words after `random` give.
 fn random_given<'w, S: AsStr>(alloc: Global, words: &'w [S]) -> Result<ArgMatches<'w>, Error>
     ensures taken { IfOk result (λ _. random_refusals (map S.text words.entry.now) ≡ []) }
     ensures parsed { IfOk result (AreRandomParsed (map S.text words.entry.now)) }
@@ -52,7 +52,7 @@ fn random_given<'w, S: AsStr>(alloc: Global, words: &'w [S]) -> Result<ArgMatche
     Ok(given)
 }
 
-/// What may stand behind `random`.
+/// What may come after `random`.
 pub(crate) fn random<'w>(alloc: Global) -> Result<Command<'w>, AllocError>
     ensures { IfOk result (λ c. app_of c ≡ line.random_command) }
 {

@@ -1,6 +1,6 @@
 //! What the program is asked to do.
 ghost use Rattle.std.specs.Prelude.{◌≡◌, option_map};
-ghost use Rattle.asm_explore_words.specs.Said.{is_input};
+ghost use Rattle.asm_explore_words.specs.WordsSaid.{is_input};
 
 /// What the words ask for: a command, with its settings.
 #[derive(Debug, Drop)]
@@ -20,13 +20,13 @@ pub enum Task<'w> {
 pub struct Settings<'w> {
     /// The name of the specification's file; `-` is standard input.
     pub spec: &'w str,
-    /// Runs are looked at of at most so many steps.
+    /// Runs are looked at of at most this many steps.
     pub steps: u32,
-    /// So many turns exhaust an `iterate` or a `while`.
+    /// This many turns exhaust an `iterate` or a `while`.
     pub turns: u32,
-    /// So many states may be reached.
+    /// This many states may be reached.
     pub states: u32,
-    /// So many outcomes may be listed at once.
+    /// This many outcomes may be listed at once.
     pub outcomes: u32,
     /// The conditions that are to be true in each state, in the order of the words.
     pub always: Vec<&'w str>,
@@ -36,9 +36,9 @@ pub struct Settings<'w> {
     pub when_quiet: Option<&'w str>,
     /// From states in which this condition isn't true no run is followed.
     pub within: Option<&'w str>,
-    /// So many workers list outcomes. Their number shows in nothing that is written.
+    /// This many workers list outcomes. Their number shows in nothing that is written.
     pub workers: u32,
-    /// The name of the file to which the graph of states is written, where there is one.
+    /// The name of the file to which the graph of states is written, if there is one.
     pub dot: Option<&'w str>,
     /// Whether the trace of the run that is found is shown.
     pub trace: bool,
@@ -51,15 +51,15 @@ pub struct Settings<'w> {
 pub struct RandomSettings<'w> {
     /// The name of the specification's file; `-` is standard input.
     pub spec: &'w str,
-    /// Each run is of at most so many steps.
+    /// Each run is of at most this many steps.
     pub steps: u32,
-    /// So many turns exhaust an `iterate` or a `while`.
+    /// This many turns exhaust an `iterate` or a `while`.
     pub turns: u32,
     /// The conditions that are to be true in each state, in the order of the words.
     pub always: Vec<&'w str>,
     /// The names of the files of further such conditions.
     pub always_files: Vec<&'w str>,
-    /// So many runs are made, or fewer where one goes wrong.
+    /// This many runs are made, or fewer if one goes wrong.
     pub runs: u32,
     /// What is drawn depends on it alone.
     pub seed: u64,
@@ -74,11 +74,11 @@ pub struct RandomSettings<'w> {
 pub struct RunSettings<'w> {
     /// The name of the specification's file; `-` is standard input.
     pub spec: &'w str,
-    /// The run has at most so many steps.
+    /// The run has at most this many steps.
     pub steps: u32,
-    /// So many turns exhaust an `iterate` or a `while`.
+    /// This many turns exhaust an `iterate` or a `while`.
     pub turns: u32,
-    /// The name of the script's file, where there is one; `-` is standard input.
+    /// The name of the script's file, if there is one; `-` is standard input.
     pub script: Option<&'w str>,
 }
 

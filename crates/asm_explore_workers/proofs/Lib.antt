@@ -1,2 +1,2 @@
-mod Crossing
-mod Firsts
+mod SharedBatches
+mod FirstTasks

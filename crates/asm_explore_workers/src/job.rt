@@ -1,17 +1,17 @@
 //! What the steps from some states lead to, as a job of a pool.
 ghost use Rattle.std.specs.Prelude.{◌≡◌, ◌<◌, ◌^◌, length};
-ghost use Rattle.asm_syntax.specs.Views.{spec_of};
+ghost use Rattle.asm_syntax.specs.code.Views.{spec_of};
 ghost use Rattle.asm_check.specs.Shapes.{shape_of};
-ghost use Rattle.asm_code.specs.RuleViews.{rule_of};
-ghost use Rattle.asm_state.specs.Contents.{IsStateOf};
+ghost use Rattle.asm_code.specs.code.RuleViews.{rule_of};
+ghost use Rattle.asm_state.specs.code.Contents.{IsStateOf};
 ghost use Rattle.asm_state.specs.Signature.{count_of};
-ghost use Rattle.asm_explore.specs.Lists.{Each};
-ghost use Rattle.asm_explore_workers.specs.Batches.{IsAheadOf, IsMainCode, IsTask, LooksAhead};
+ghost use Rattle.asm_explore.specs.code.OutcomeLists.{Each};
+ghost use Rattle.asm_explore_workers.specs.code.Batches.{IsAheadOf, IsMainCode, IsTask, LooksAhead};
 
 use asm_check::Checked;
 use asm_code::rule_code::RuleCode;
 use asm_explore::specification::step_ahead;
-use asm_explore::{Ahead, Index, Nodes, Specified};
+use asm_explore::{Index, Nodes, ResolvedQuestion, StepAhead};
 use asm_pool::Job;
 use asm_state::state::State;
 use std::alloc::Global;
@@ -24,7 +24,7 @@ pub struct Tally {
 
 impl Tally {
     /// Counts the states of one more step.
-    fn count(&mut self, ahead: &Option<Ahead>) {
+    fn count(&mut self, ahead: &Option<StepAhead>) {
         let more = match ahead {
             Some(ahead) => ahead.states.len(),
             None => 0,
@@ -46,22 +46,22 @@ pub struct StepsJob<'a, 's> {
     pub states: &'s [State],
     /// What is reached.
     pub nodes: &'s Nodes,
-    /// Where the nodes stand.
+    /// Where the nodes are.
     pub index: &'s Index,
-    /// A worker that has kept so many states looks at the first step alone.
+    /// A worker that has kept this many states looks at the first step alone.
     pub room: usize,
     pub ghost turns_in_range: { turns < 2 ^ 32 },
 }
 
 /// What the step from a state leads to.
-fn look_from(job: &StepsJob<'_, '_>, state: &State) -> Option<Ahead>
+fn look_from(job: &StepsJob<'_, '_>, state: &State) -> Option<StepAhead>
     requires main { IsMainCode job.now.checked.now (rule_of job.now.code.now) }
     requires state { IsStateOf (shape_of (spec_of job.now.checked.now.spec)) state.now }
     requires nodes { Each (λ n. length n.state ≡ count_of (shape_of (spec_of job.now.checked.now.spec))) job.now.nodes.now }
     ensures { IsAheadOf job.now.checked.now job.now.turns job.now.nodes.now state.now result }
 {
     let nothing = None;
-    let specified = Specified {
+    let specified = ResolvedQuestion {
         checked: job.checked,
         code: job.code,
         turns: job.turns,
@@ -77,7 +77,7 @@ impl<'a, 's> Job for StepsJob<'a, 's> {
     type Hand = Tally;
 
     /// What is known of the step, or nothing: the worker has kept enough.
-    type Out = Option<Option<Ahead>>;
+    type Out = Option<Option<StepAhead>>;
 
     ghost has_task = { λ job n. IsTask job.checked.now (rule_of job.code.now) job.nodes.now job.states.now n };
 
@@ -85,7 +85,7 @@ impl<'a, 's> Job for StepsJob<'a, 's> {
 
     ghost runs = { λ job n before out after. LooksAhead job.checked.now job.turns job.nodes.now job.states.now n out };
 
-    fn run(&self, n: usize, hand: &mut Tally) -> Option<Option<Ahead>> {
+    fn run(&self, n: usize, hand: &mut Tally) -> Option<Option<StepAhead>> {
         if n > 0 && hand.states >= self.room {
             return None;
         }

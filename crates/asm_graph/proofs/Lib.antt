@@ -1,6 +1,6 @@
 pub mod Paired
-pub mod Growing
+pub mod MoreNodes
 pub mod Outcomes
-pub mod Arriving
-pub mod Others
-pub mod Returning
+pub mod RunsAlongChoices
+pub mod SameConditions
+pub mod QuietNodes

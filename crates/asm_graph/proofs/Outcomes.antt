@@ -1,41 +1,42 @@
--- The outcomes of a step, and what they lead to.
+-- Free. The outcomes of a step, and what they lead to.
 --     set_leads, set_fails, path_fails      what an outcome leads to, or its fault
---     leads_on, fails_on                    the same of a signature that is the shape
+--     leads_on                              the same of a signature that is the shape
 --     some_situation                        a situation takes the choices of an outcome
---     goes_known, led_on                    the state that it leads to stands in a node, and choices lead to it
+--     goes_known, led_on                    the state that it leads to is in a node, and choices
+--                                           lead to it
 --     outcome_at, edges_are                 the outcomes of a step, and edges that follow them
 use Rattle.std.proofs.Common.{◌≡◌, ℕ, ◌+◌, Bool, true, List, [], ◌∷◌, refl, sym, ap, subst, ◌∙◌, arith}
 use Rattle.std.specs.Prelude.{slice_get, Some}
 use Rattle.asm_state.specs.declared.value.Value.{Value}
-use Rattle.asm_state.specs.Contents.{IsStateOf}
+use Rattle.asm_state.specs.code.Contents.{IsStateOf}
 use Rattle.asm_state.specs.Location.{State}
 use Rattle.asm_state.specs.Signature.{Shape, count_of, state_of}
 use Rattle.asm_state.specs.Updates.{UpdateSet, Fault, IsConsistent, IsFirstFault, fire}
-use Rattle.asm_updates.specs.Stands.{Stands}
-use Rattle.asm_reader.specs.ExactLines.{exactly}
+use Rattle.asm_updates.specs.code.Stands.{Stands}
+use Rattle.asm_reader.specs.code.ExactLines.{exactly}
 use Rattle.asm_meaning.specs.Run.{Specification}
 use Rattle.asm_meaning.specs.Yields.{Path, Result, Gives, Exhausted}
-use Rattle.asm_explore.specs.declared.found.Answer.TheVariants as answer
-use Rattle.asm_explore.specs.declared.found.Choice.{Choice}
-use Rattle.asm_explore.specs.declared.found.Found.{Found}
+use Rattle.asm_explore.specs.declared.outcomes.listed_outcome.RuleResult.TheVariants as answer
+use Rattle.asm_explore.specs.declared.outcomes.listed_outcome.Choice.{Choice}
+use Rattle.asm_explore.specs.declared.outcomes.listed_outcome.ListedOutcome.{ListedOutcome}
 use Rattle.asm_explore.specs.declared.updates.Updates.{Updates}
-use Rattle.asm_explore.specs.Lists.{Situation, AreTaken, Each, IsCounted, IsSound, Shows}
-use Rattle.asm_explore.specs.Placed.{AreApart}
-use Rattle.asm_explore.specs.Reached.{LeadBetween, MakesAll, steps_from}
-use Rattle.asm_explore.specs.ScriptTo.{lines_of}
+use Rattle.asm_explore.specs.code.OutcomeLists.{Situation, AreTaken, Each, IsCounted, IsSound, Shows}
+use Rattle.asm_explore.specs.code.ChoicePaths.{HaveOwnPaths}
+use Rattle.asm_explore.specs.code.ReachedStates.{LeadBetween, MakesAll, steps_from}
+use Rattle.asm_explore.specs.code.ScriptTo.{lines_of}
 use Rattle.asm_explore.specs.Search.{LeadsOn}
-use Rattle.asm_explore.specs.Steps.{IsStep}
+use Rattle.asm_explore.specs.code.StepOutcomes.{IsStep}
 use Rattle.asm_graph.specs.declared.graph.Edge.{Edge}
 use Rattle.asm_graph.specs.declared.graph.Node.{Node}
 use Rattle.asm_graph.specs.declared.graph.StepFault.{StepFault}
 use Rattle.asm_graph.specs.declared.graph.StepFault.TheVariants as kind
 use Rattle.asm_graph.specs.Graphs.{AreEdges, GoesTo, HasFault, IsEdge, IsKind, Pairs, StandsAt}
-use Rattle.asm_graph.specs.Walked.{FailsSo, HasContents, IsFollowed, IsLed, IsOutcome, Leads}
+use Rattle.asm_graph.specs.code.GraphSoFar.{FailsSo, HasContents, IsFollowed, IsLed, IsOutcome, Leads}
 use Rattle.asm_graph.proofs.Paired.{each_got, pairs_any, pairs_each}
 
 -- ---- one outcome
 
-pub set_leads : (shape : Shape) (set : Updates) (one : Found) (from next : List Value) → one.answer ≡ answer.Set set
+pub set_leads : (shape : Shape) (set : Updates) (one : ListedOutcome) (from next : List Value) → one.answer ≡ answer.Set set
     → ((U : UpdateSet) → Stands shape set.set U → IsConsistent U)
     → ((U : UpdateSet) → Stands shape set.set U → IsConsistent U → state_of shape next ≡ fire (state_of shape from) U)
     → ((U : UpdateSet) → Stands shape set.set U → IsConsistent U → IsStateOf shape from → IsStateOf shape next)
@@ -58,7 +59,7 @@ set_leads shape set one from next is consistent fired kept whole = record {
     }
     by_led (Exhausted q) stands = absurd stands
 
-pub set_fails : (shape : Shape) (set : Updates) (one : Found) (f : StepFault) (fault : Fault) → one.answer ≡ answer.Set set
+pub set_fails : (shape : Shape) (set : Updates) (one : ListedOutcome) (f : StepFault) (fault : Fault) → one.answer ≡ answer.Set set
     → ((U : UpdateSet) → Stands shape set.set U → IsFirstFault U fault) → IsKind f fault → FailsSo shape one f
 set_fails shape set one f fault is first same = λ r shows. by_result r (subst (λ a. Shows shape a r) is shows)
   where
@@ -66,23 +67,23 @@ set_fails shape set one f fault is first same = λ r shows. by_result r (subst (
     by_result (Gives U) stands = (fault, first U stands, same)
     by_result (Exhausted q) stands = absurd stands
 
-pub path_fails : (shape : Shape) (p : Path) (one : Found) → one.answer ≡ answer.Exhausted p → FailsSo shape one kind.Exhausted
+pub path_fails : (shape : Shape) (p : Path) (one : ListedOutcome) → one.answer ≡ answer.Exhausted p → FailsSo shape one kind.Exhausted
 path_fails shape p one is = λ r shows. by_result r (subst (λ a. Shows shape a r) is shows)
   where
     by_result : (r : Result) → Shows shape (answer.Exhausted p) r → HasFault kind.Exhausted r
     by_result (Gives U) h = absurd h
     by_result (Exhausted q) h = refl
 
-pub leads_on : (signature shape : Shape) (from next : List Value) (one : Found) → signature ≡ shape → Leads signature (state_of signature from) one next → Leads shape (state_of shape from) one next
+pub leads_on : (signature shape : Shape) (from next : List Value) (one : ListedOutcome) → signature ≡ shape → Leads signature (state_of signature from) one next → Leads shape (state_of shape from) one next
 leads_on signature shape from next one is h = subst (λ sh. Leads sh (state_of sh from) one next) is h
 
 -- ---- an outcome of a step
 
 -- a situation takes the choices of an outcome
-pub some_situation : ((back : List (List Choice)) → Each AreApart back → MakesAll (exactly (lines_of back)) back) → (cs : List Choice) → AreApart cs → (s : Situation) × AreTaken s cs
+pub some_situation : ((back : List (List Choice)) → Each HaveOwnPaths back → MakesAll (exactly (lines_of back)) back) → (cs : List Choice) → HaveOwnPaths cs → (s : Situation) × AreTaken s cs
 some_situation makes cs apart = (record { script = exactly (lines_of (cs ∷ [])); step = 1 }, (makes (cs ∷ []) (apart, tt)).0)
 
-module _ (shape : Shape) (specification : Specification) (turns : ℕ) (A : State) (one : Found) (next : List Value)
+module _ (shape : Shape) (specification : Specification) (turns : ℕ) (A : State) (one : ListedOutcome) (next : List Value)
     (outcome : IsOutcome shape specification turns A one) (leads : Leads shape A one next) where
   pub between : LeadBetween specification turns A (state_of shape next) one.choices.items
   between = record { apart = outcome.apart; leads = λ s taken. leads.leads (steps_from specification turns A s) (outcome.sound s taken) }
@@ -90,13 +91,13 @@ module _ (shape : Shape) (specification : Specification) (turns : ℕ) (A : Stat
   pub led_on : (within : State → Bool) (depth : ℕ) → within A ≡ true → IsLed specification turns within depth A → IsLed specification turns within (depth + 1) (state_of shape next)
   led_on within depth inside led = (one.choices.items ∷ led.0, omega (arith, led.1), (A, led.2, inside, between))
 
-  pub whole_next : ((back : List (List Choice)) → Each AreApart back → MakesAll (exactly (lines_of back)) back) → IsStateOf shape next
+  pub whole_next : ((back : List (List Choice)) → Each HaveOwnPaths back → MakesAll (exactly (lines_of back)) back) → IsStateOf shape next
   whole_next makes =
       let s = some_situation makes one.choices.items outcome.apart in
       leads.kept (steps_from specification turns A s.0) (outcome.sound s.0 s.1)
 
--- the state that it leads to stands in a node
-pub goes_known : (shape : Shape) (A : State) (one : Found) (next : List Value) (nodes : List Node) (k : ℕ) → Leads shape A one next → HasContents nodes k next
+-- the state that it leads to is in a node
+pub goes_known : (shape : Shape) (A : State) (one : ListedOutcome) (next : List Value) (nodes : List Node) (k : ℕ) → Leads shape A one next → HasContents nodes k next
     → (r : Result) → Shows shape one.answer r → LeadsOn r A (StandsAt shape nodes k)
 goes_known shape A one next nodes k leads there r shows =
     let so = leads.leads r shows in
@@ -104,29 +105,29 @@ goes_known shape A one next nodes k leads there r shows =
 
 -- ---- the outcomes of a step
 
-module _ (shape : Shape) (specification : Specification) (turns : ℕ) (A : State) (outcomes : List Found) (step : IsStep shape specification turns A outcomes) where
-  pub outcome_at : (k : ℕ) (one : Found) → slice_get outcomes k ≡ Some one → IsOutcome shape specification turns A one
+module _ (shape : Shape) (specification : Specification) (turns : ℕ) (A : State) (outcomes : List ListedOutcome) (step : IsStep shape specification turns A outcomes) where
+  pub outcome_at : (k : ℕ) (one : ListedOutcome) → slice_get outcomes k ≡ Some one → IsOutcome shape specification turns A one
   outcome_at k one there = record {
-    counted = each_got (λ (f : Found). IsCounted (count_of shape) f.answer) outcomes k one step.lists.counted there;
+    counted = each_got (λ (f : ListedOutcome). IsCounted (count_of shape) f.answer) outcomes k one step.lists.counted there;
     sound = each_got (IsSound shape (steps_from specification turns A)) outcomes k one step.lists.sound there;
-    apart = each_got (λ (f : Found). AreApart f.choices.items) outcomes k one step.apart there;
+    apart = each_got (λ (f : ListedOutcome). HaveOwnPaths f.choices.items) outcomes k one step.apart there;
   }
 
   module _ (nodes : List Node) (edges : List Edge) (follow : Pairs (IsFollowed shape nodes A) outcomes edges) where
     pub edges_are : AreEdges shape specification turns nodes A edges
     edges_are = record {
-      each = pairs_each (IsFollowed shape nodes A) (λ (f : Found). AreApart f.choices.items × IsSound shape (steps_from specification turns A) f) (IsEdge shape specification turns nodes A)
+      each = pairs_each (IsFollowed shape nodes A) (λ (f : ListedOutcome). HaveOwnPaths f.choices.items × IsSound shape (steps_from specification turns A) f) (IsEdge shape specification turns nodes A)
           (λ f e followed fine. record {
-            apart = subst AreApart (sym followed.choices) fine.0;
+            apart = subst HaveOwnPaths (sym followed.choices) fine.0;
             goes = λ s taken. followed.goes (steps_from specification turns A s) (fine.1 s (subst (AreTaken s) followed.choices taken));
           }) outcomes edges follow (both outcomes step.apart step.lists.sound);
       all = λ s.
           let r = steps_from specification turns A s in
-          pairs_any (IsFollowed shape nodes A) (λ (f : Found). Shows shape f.answer r) (λ (e : Edge). GoesTo shape nodes A r e.to) (λ f e followed shows. followed.goes r shows) outcomes edges follow
+          pairs_any (IsFollowed shape nodes A) (λ (f : ListedOutcome). Shows shape f.answer r) (λ (e : Edge). GoesTo shape nodes A r e.to) (λ f e followed shows. followed.goes r shows) outcomes edges follow
           (step.lists.complete s);
     }
       where
-        both : (fs : List Found) → Each (λ (f : Found). AreApart f.choices.items) fs → Each (IsSound shape (steps_from specification turns A)) fs
-            → Each (λ (f : Found). AreApart f.choices.items × IsSound shape (steps_from specification turns A) f) fs
+        both : (fs : List ListedOutcome) → Each (λ (f : ListedOutcome). HaveOwnPaths f.choices.items) fs → Each (IsSound shape (steps_from specification turns A)) fs
+            → Each (λ (f : ListedOutcome). HaveOwnPaths f.choices.items × IsSound shape (steps_from specification turns A) f) fs
         both [] h g = tt
         both (f ∷ fs) h g = ((h.0, g.0), both fs h.1 g.1)

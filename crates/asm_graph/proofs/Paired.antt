@@ -1,12 +1,12 @@
--- Lists, and two lists side by side.
+-- Free. Lists, and two lists side by side.
 --     each_*, any_weaker     what holds of each, or of some, of a list's elements
---     some_at, slice_first, slice_last, take_next    what stands in a list stands in it with more behind it
+--     some_at, slice_first, slice_last, take_next    what is in a list is in it with more after it
 --     pairs_*                of two lists side by side
 use Rattle.std.proofs.Common.{◌≡◌, ℕ, zero, suc, ◌+◌, ◌<◌, List, [], ◌∷◌, ◌++◌, length, take, get_or, inl, inr, refl, sym, ap, subst, ◌∙◌, arith}
 use Rattle.std.specs.Prelude.{slice_get, Some}
 use Rattle.std.proofs.lemmas.List.{take_more, take-append-le}
 use Rattle.std.proofs.lemmas.Option.{get_or_from_slice_get, slice_get-get_or, slice_get_within}
-use Rattle.asm_explore.specs.Elements.{Each, AnyOf}
+use Rattle.asm_explore.specs.code.ListElements.{Each, AnyOf}
 use Rattle.asm_graph.specs.Graphs.{Pairs}
 
 module _ {X : Type 0} (P : X → Type 0) where
@@ -45,7 +45,7 @@ pub slice_last : {X : Type 0} (xs : List X) (x : X) → slice_get (xs ++ x ∷ [
 slice_last [] x = refl
 slice_last (y ∷ xs) x = slice_last xs x
 
--- the first elements of a list with more behind it, and the next one
+-- the first elements of a list with more after it, and the next one
 pub take_next : {X : Type 0} (old more new : List X) (k : ℕ) (x : X) → new ≡ old ++ more → slice_get old k ≡ Some x → take (k + 1) new ≡ take k old ++ x ∷ []
 take_next old more new k x is there =
     let low : k < length old = slice_get_within old k x there in

@@ -1,20 +1,20 @@
 //! The text of a graph for Graphviz.
 ghost use Rattle.std.specs.Prelude.{◌≡◌, ◌<◌, length};
 ghost use Rattle.asm_state.specs.Signature.{count_of};
-ghost use Rattle.asm_syntax.specs.Views.{spec_of};
+ghost use Rattle.asm_syntax.specs.code.Views.{spec_of};
 ghost use Rattle.asm_check.specs.Shapes.{shape_of};
-ghost use Rattle.asm_explore.specs.Elements.{Each};
+ghost use Rattle.asm_explore.specs.code.ListElements.{Each};
 ghost use Rattle.asm_graph.specs.declared.graph.Node.{Node};
 
-use crate::escaped::{add_escaped, add_number};
-use crate::graph::{Edge, Graph, Node, Step, StepFault, Target};
+use crate::escaped::{push_escaped, push_number};
+use crate::graph::{Edge, EdgeEnd, Graph, Node, Step, StepFault};
 use crate::labels::{add_choices, add_node_label};
 use crate::quiet::is_quiet;
 use asm_check::Checked;
 use std::alloc::{AllocError, Global};
 
-/// Adds what stands behind the label of a node: a double border round the first one, a dashed one
-/// where no edges are shown, red where what is to hold doesn't, and grey where it is quiet.
+/// Adds what comes after the label of a node: a double border round the first one, a dashed one
+/// if no edges are shown, red if what is to hold doesn't, and grey if it is quiet.
 fn add_marks(text: &mut String, number: usize, node: &Node, step: &Step) -> Result<(), AllocError> {
     let quiet = is_quiet(step, number);
     if number == 0 {
@@ -42,7 +42,7 @@ fn add_node(
     requires { length node.now.state ≡ count_of (shape_of (spec_of checked.now.spec)) }
 {
     text.push_str("  s")?;
-    add_number(alloc, text, number as u64)?;
+    push_number(alloc, text, number as u64)?;
     text.push_str(" [label=\"")?;
     add_node_label(alloc, text, checked, number, node, step)?;
     text.push_str("\"")?;
@@ -63,7 +63,7 @@ fn fault_name(fault: StepFault) -> &'static str {
 fn has_fault(steps: &[Step], fault: StepFault) -> bool {
     for step in steps {
         if let Step::Edges(edges) = step
-            && edges.iter().any(|edge| edge.to == Target::Fault(fault))
+            && edges.iter().any(|edge| edge.to == EdgeEnd::Fault(fault))
         {
             return true;
         }
@@ -84,13 +84,13 @@ fn add_faults(text: &mut String, steps: &[Step]) -> Result<(), AllocError> {
 }
 
 /// Adds where an edge leads.
-fn add_target(alloc: Global, text: &mut String, to: Target) -> Result<(), AllocError> {
+fn add_target(alloc: Global, text: &mut String, to: EdgeEnd) -> Result<(), AllocError> {
     match to {
-        Target::Node(number) => {
+        EdgeEnd::Node(number) => {
             text.push_str("s")?;
-            add_number(alloc, text, number as u64)
+            push_number(alloc, text, number as u64)
         }
-        Target::Fault(fault) => text.push_str(fault_name(fault)),
+        EdgeEnd::Fault(fault) => text.push_str(fault_name(fault)),
     }
 }
 
@@ -102,7 +102,7 @@ fn add_edge(
     edge: &Edge,
 ) -> Result<(), AllocError> {
     text.push_str("  s")?;
-    add_number(alloc, text, number as u64)?;
+    push_number(alloc, text, number as u64)?;
     text.push_str(" -> ")?;
     add_target(alloc, text, edge.to)?;
     text.push_str(" [label=\"")?;
@@ -133,7 +133,7 @@ pub fn dot_text(alloc: Global, checked: &Checked, graph: &Graph) -> Result<Strin
     requires paired { length graph.now.steps.items ≡ length graph.now.nodes.items }
 {
     let mut text = String::from_str(alloc, "digraph \"")?;
-    add_escaped(&mut text, checked.spec.name.text.as_bytes())?;
+    push_escaped(&mut text, checked.spec.name.text.as_bytes())?;
     text.push_str("\" {\n  node [shape=box];\n")?;
     let (nodes, steps) = (graph.nodes.as_slice(), graph.steps.as_slice());
     for number in 0..nodes.len() {

@@ -2,7 +2,7 @@
 use std::alloc::{AllocError, Global};
 
 /// Adds a character, as it is written within quotes.
-fn add_character(text: &mut String, character: char) -> Result<(), AllocError> {
+fn push_character(text: &mut String, character: char) -> Result<(), AllocError> {
     match character {
         '"' => text.push_str("\\\""),
         '\\' => text.push_str("\\\\"),
@@ -12,15 +12,15 @@ fn add_character(text: &mut String, character: char) -> Result<(), AllocError> {
 }
 
 /// Adds bytes, as they are written within quotes. Names have one byte for each character.
-pub(crate) fn add_escaped(text: &mut String, bytes: &[u8]) -> Result<(), AllocError> {
+pub(crate) fn push_escaped(text: &mut String, bytes: &[u8]) -> Result<(), AllocError> {
     for byte in bytes {
-        add_character(text, char::from(*byte))?;
+        push_character(text, char::from(*byte))?;
     }
     Ok(())
 }
 
 /// Adds a number.
-pub(crate) fn add_number(alloc: Global, text: &mut String, number: u64) -> Result<(), AllocError> {
+pub(crate) fn push_number(alloc: Global, text: &mut String, number: u64) -> Result<(), AllocError> {
     let digits = format!(in alloc; "{number}")?;
     text.push_str(digits.as_str())
 }

@@ -6,7 +6,7 @@ use asm_state::state::State;
 #[derive(Drop)]
 pub struct Node {
     pub state: State,
-    /// So many steps lead to it.
+    /// This many steps lead to it.
     pub depth: u32,
     /// Whether what is to hold in each state does.
     pub right: bool,
@@ -29,7 +29,7 @@ pub enum StepFault {
 
 /// Where an edge leads.
 #[derive(Clone, Copy, Debug, PartialEq, Eq)]
-pub enum Target {
+pub enum EdgeEnd {
     /// To the node with this number.
     Node(usize),
     /// To no state.
@@ -41,7 +41,7 @@ pub enum Target {
 pub struct Edge {
     /// The choices that lead to it.
     pub choices: Vec<Choice>,
-    pub to: Target,
+    pub to: EdgeEnd,
 }
 
 /// What is shown of the step from a node.

@@ -1,21 +1,22 @@
-//! What stands in nodes and at edges.
+//! What is in nodes and at edges.
 ghost use Rattle.std.specs.Prelude.{◌≡◌, length};
 ghost use Rattle.asm_state.specs.Signature.{count_of};
-ghost use Rattle.asm_syntax.specs.Views.{spec_of};
+ghost use Rattle.asm_syntax.specs.code.Views.{spec_of};
 ghost use Rattle.asm_check.specs.Shapes.{shape_of};
 
-use crate::escaped::add_number;
+use crate::escaped::push_number;
 use crate::graph::{Node, Step};
-use crate::places::{add_content, is_shown};
+use crate::location_text::{is_shown, push_content};
 use asm_check::Checked;
 use asm_explore::Choice;
 use asm_state::state::State;
 use std::alloc::{AllocError, Global};
 
-/// So many locations of a state are shown.
-const MOST_LINES: usize = 12;
+/// How many locations of a state are shown.
+const MAX_LOCATIONS_SHOWN: usize = 12;
 
-/// Adds a line for each location that isn't undef, in their order, of which so many are shown.
+/// Adds a line for each location that isn't undef, in their order; `MAX_LOCATIONS_SHOWN` of them
+/// are shown.
 fn add_state(
     alloc: Global,
     text: &mut String,
@@ -28,17 +29,17 @@ fn add_state(
     for n in 0..checked.signature().count() {
         if is_shown(checked, state, n) {
             text.push_str("\\n")?;
-            if lines >= MOST_LINES {
+            if lines >= MAX_LOCATIONS_SHOWN {
                 return text.push_str("..");
             }
-            add_content(alloc, text, checked, state, n)?;
+            push_content(alloc, text, checked, state, n)?;
             lines += 1;
         }
     }
     Ok(())
 }
 
-/// Adds what stands in a node: its number, and what its locations hold.
+/// Adds what is in a node: its number, and what its locations hold.
 pub(crate) fn add_node_label(
     alloc: Global,
     text: &mut String,
@@ -49,7 +50,7 @@ pub(crate) fn add_node_label(
 ) -> Result<(), AllocError>
     requires { length node.now.state ≡ count_of (shape_of (spec_of checked.now.spec)) }
 {
-    add_number(alloc, text, number as u64)?;
+    push_number(alloc, text, number as u64)?;
     add_state(alloc, text, checked, &node.state)?;
     match step {
         Step::Crowded => text.push_str("\\ntoo many outcomes"),
@@ -58,11 +59,11 @@ pub(crate) fn add_node_label(
 }
 
 /// Adds a path, as a script writes it.
-fn add_path(alloc: Global, text: &mut String, path: &[u64]) -> Result<(), AllocError> {
+fn push_path(alloc: Global, text: &mut String, path: &[u64]) -> Result<(), AllocError> {
     let mut before = "";
     for number in path {
         text.push_str(before)?;
-        add_number(alloc, text, *number)?;
+        push_number(alloc, text, *number)?;
         before = ".";
     }
     if path.is_empty() {
@@ -81,9 +82,9 @@ pub(crate) fn add_choices(
     let mut before = "";
     for choice in choices {
         text.push_str(before)?;
-        add_path(alloc, text, choice.path.as_slice())?;
+        push_path(alloc, text, choice.path.as_slice())?;
         text.push_str(" ")?;
-        add_number(alloc, text, choice.number)?;
+        push_number(alloc, text, choice.number)?;
         before = "\\n";
     }
     Ok(())

@@ -1,7 +1,7 @@
 //! Laws of graphs.
 ghost use Rattle.asm_graph.specs.Graphs.{QuietLaw};
 
-/// Where each edge from a node leads back to it, its state is quiet: no step changes it, whatever
+/// If each edge from a node leads back to it, its state is quiet: no step changes it, whatever
 /// is chosen.
 pub fn quiet_law()
     ensures { QuietLaw }

@@ -1,20 +1,20 @@
 //! The graph of the states that the runs of a specification come to, and its text for Graphviz.
 #![tactic(auto)]
 
+mod build_graph;
 pub mod dot;
 mod escaped;
+mod find_node;
 pub mod graph;
-mod known;
+pub mod graph_error;
+pub mod graph_of_states;
 mod labels;
 pub mod laws;
-mod leading;
-mod places;
+mod location_text;
+mod next_state;
 pub mod quiet;
-pub mod refused;
-mod walking;
-pub mod whole;
 
 pub use dot::dot_text;
-pub use graph::{Edge, Graph, Node, Step, StepFault, Target};
-pub use refused::GraphRefused;
-pub use whole::state_graph;
+pub use graph::{Edge, EdgeEnd, Graph, Node, Step, StepFault};
+pub use graph_error::GraphError;
+pub use graph_of_states::state_graph;

@@ -1,19 +1,19 @@
 //! Nodes whose edges lead back to them.
 ghost use Rattle.std.specs.Prelude.{◌≡◌, ◌↔◌, IsTrue};
-ghost use Rattle.asm_explore.specs.Elements.{Each};
+ghost use Rattle.asm_explore.specs.code.ListElements.{Each};
 ghost use Rattle.asm_graph.specs.Graphs.{LeadBack};
 ghost use Rattle.asm_graph.specs.declared.graph.Edge.{Edge};
-ghost use Rattle.asm_graph.specs.declared.graph.Target.TheVariants as target;
+ghost use Rattle.asm_graph.specs.declared.graph.EdgeEnd.TheVariants as target;
 
-use crate::graph::{Edge, Step, Target};
+use crate::graph::{Edge, EdgeEnd, Step};
 
 /// Whether an edge leads to the node with this number.
 fn leads_to(edge: &Edge, number: usize) -> bool
     ensures { IsTrue result ↔ edge.now.to ≡ target.Node number }
 {
     match edge.to {
-        Target::Node(to) => to == number,
-        Target::Fault(_) => false,
+        EdgeEnd::Node(to) => to == number,
+        EdgeEnd::Fault(_) => false,
     }
 }
 

@@ -1,4 +1,4 @@
 //! The limits of a run, and the numbers that they can be.
 #![tactic(auto)]
 
-pub mod limits;
+pub mod run_limits;

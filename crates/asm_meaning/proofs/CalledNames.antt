@@ -1,4 +1,4 @@
--- What a call does of a name that stands for no rule.
+-- Free. What a call does of a name that stands for no rule.
 use Rattle.std.proofs.Common.{◌≡◌, ℕ, zero, suc, true, List, [], ◌∷◌, Option, Some, None, refl, sym, ap, ◌∙◌, arith}
 use Rattle.std.specs.List.{All}
 use Rattle.std.specs.Prelude.{option_map, slice_get}
@@ -13,16 +13,16 @@ use Rattle.asm_syntax.specs.SourceTree.{Spec}
 use Rattle.asm_syntax.specs.Tree as tree
 use Rattle.asm_check.specs.Names as names
 use Rattle.asm_check.specs.Names.{Meaning, Declaration, first_declarations}
-use Rattle.asm_check.specs.Numbers.{is_derived, derived_of, meaning_at, named}
+use Rattle.asm_check.specs.Numbers.{is_derived, derived_of, declared_with_number, named}
 use Rattle.asm_check.specs.Shapes.{shape_of}
-use Rattle.asm_check.specs.declared.checked.Named.{Named}
-use Rattle.asm_check.specs.declared.checked.Named.TheVariants as number
+use Rattle.asm_check.specs.declared.checked.NameNumber.{NameNumber}
+use Rattle.asm_check.specs.declared.checked.NameNumber.TheVariants as number
 use Rattle.asm_reader.specs.ScriptLines.{Script, pick}
 use Rattle.asm_meaning.specs.Declarations.{held_as, function_at, body_of, numbered, program_of, rule_number}
 use Rattle.asm_meaning.specs.Does.{Outcome, Meaning as Does, nothing, called, meaning, does_within, does}
 use Rattle.asm_meaning.specs.Program.{Program, Declared, Universe, Environment, declared}
 use Rattle.asm_meaning.specs.Yields.{Path}
-use Rattle.asm_meaning.proofs.Meant.{program_declares}
+use Rattle.asm_meaning.proofs.MeantDeclarations.{program_declares}
 
 module _ (program : Program) (turns : ℕ) (chosen : Path → ℕ) (body : tree.Rule → Does) (to : Option (tree.Name × tree.Terms)) (ts : tree.Terms) (A : State) (e : Environment) (p : Path) where
   abbrev calls : Option Declared → Outcome
@@ -44,12 +44,12 @@ module _ (program : Program) (turns : ℕ) (chosen : Path → ℕ) (body : tree.
   derived_is_no_rule (names.NamedRule xs P) is = cc
   derived_is_no_rule m is = refl
 
-  none_is_a_rule : (ds : List Declaration) (d : ℕ) → All (λ d. is_derived d.meaning ≡ true) ds → nothing ≡ calls (body_of (meaning_at ds d))
+  none_is_a_rule : (ds : List Declaration) (d : ℕ) → All (λ d. is_derived d.meaning ≡ true) ds → nothing ≡ calls (body_of (declared_with_number ds d))
   none_is_a_rule [] d each = refl
   none_is_a_rule (d ∷ ds) zero each = derived_is_no_rule d.meaning (each 0 d (omega arith))
   none_is_a_rule (d ∷ ds) (suc n) each = none_is_a_rule ds n (λ k d below. each (suc k) d (omega arith))
 
-  no_rule : (spec : Spec) (it : Option Named) → rule_number it ≡ None → nothing ≡ calls (numbered spec it)
+  no_rule : (spec : Spec) (it : Option NameNumber) → rule_number it ≡ None → nothing ≡ calls (numbered spec it)
   no_rule spec None other = refl
   no_rule spec (Some (number.Universe n)) other = universe_is_no_rule (slice_get (shape_of spec).universes n)
   no_rule spec (Some (number.Element n)) other = refl
@@ -66,7 +66,7 @@ call_does : (program : Program) (turns : ℕ) (script : Script) (step : ℕ) (A 
 unfolding does does_within meaning
 call_does program turns script step A e p to f ts = refl
 
-pub called_names : (spec : Spec) (turns : ℕ) (script : Script) (step : ℕ) (A : State) (e : Environment) (p : Path) (to : Option (tree.Name × tree.Terms)) (f : tree.Name) (ts : tree.Terms) (it : Option Named)
+pub called_names : (spec : Spec) (turns : ℕ) (script : Script) (step : ℕ) (A : State) (e : Environment) (p : Path) (to : Option (tree.Name × tree.Terms)) (f : tree.Name) (ts : tree.Terms) (it : Option NameNumber)
     → it ≡ named spec f → rule_number it ≡ None → nothing ≡ does (program_of spec) turns script step A e p (tree.Call to f ts)
 called_names spec turns script step A e p to f ts it is other =
     let runs = called (program_of spec) turns (pick script step) (does_within (program_of spec) turns (pick script step) 16) in

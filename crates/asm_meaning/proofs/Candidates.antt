@@ -1,5 +1,5 @@
--- A walk along the candidates, which are the elements of a universe that pass a test, and the candidate that is taken. The lemmas that
--- are public are the clauses of candidate_laws.
+-- Free. A walk along the candidates, which are the elements of a universe that pass a test, and the
+-- candidate that is taken. The lemmas that are public are the clauses of candidate_laws.
 use Rattle.std.proofs.Common.{◌≡◌, ℕ, suc, ◌+◌, ◌≤◌, ◌<◌, ◌%◌, Bool, true, false, cond, List, [], ◌∷◌, ◌++◌, length, take, drop, filter, get_or, Option, Some, None, refl, sym, ap, append_assoc, ◌∙◌, arith}
 use Rattle.std.specs.Prelude.{slice_get, slice_index_or}
 use Rattle.std.proofs.Math.Nat.{mod-eq_of_lt}
@@ -10,13 +10,13 @@ use Rattle.std.proofs.lemmas.List.Filters.{length-filter_more}
 use Rattle.std.proofs.lemmas.Option.{slice_get_within, slice_get_past, slice_get_read, get_or_from_slice_get}
 use Rattle.asm_state.specs.declared.value.Value.{Value}
 use Rattle.asm_meaning.specs.Does.{Outcome, one_of}
-use Rattle.asm_meaning.specs.declared.walk.Walk.TheVariants.{Met, Passed}
-use Rattle.asm_meaning.specs.Taken.{taken, met, walk_to}
+use Rattle.asm_meaning.specs.declared.found_candidate.FoundCandidate.TheVariants.{At, TooFew}
+use Rattle.asm_meaning.specs.Taken.{taken, found_among, found_candidate}
 
 -- ---- the elements that pass a test
 
 module _ (p : Value → Bool) (vs : List Value) (i : ℕ) where
-  -- an element that passes stands behind those before it
+  -- an element that passes comes after those before it
   passes_at : (v : Value) → slice_get vs i ≡ Some v → p v ≡ true → filter p vs ≡ filter p (take i vs) ++ v ∷ filter p (drop (i + 1) vs)
   passes_at v at here =
       let low : i < length vs = slice_get_within vs i v at in
@@ -41,38 +41,38 @@ module _ (p : Value → Bool) (vs : List Value) (i : ℕ) where
 
   -- ---- the end of a walk
 
-  pub candidate_laws-met : (v : Value) (n : ℕ) → slice_get vs i ≡ Some v → p v ≡ true → n ≡ length (filter p (take i vs)) → Met v ≡ walk_to n (filter p vs)
+  pub candidate_laws-met : (v : Value) (n : ℕ) → slice_get vs i ≡ Some v → p v ≡ true → n ≡ length (filter p (take i vs)) → At v ≡ found_candidate n (filter p vs)
   candidate_laws-met v n at here so_far =
       let whole = passes_at v at here in
       let before : List Value = filter p (take i vs) in
       let behind : List Value = filter p (drop (i + 1) vs) in
       let long : length (filter p vs) ≡ length before + suc (length behind) = ap length whole ∙ length-append before (v ∷ behind) in
       let read : v ≡ get_or (filter p vs) n v = sym ((λ j. get_or (whole j) (so_far j) v) ∙ get_or-append_seam before v behind v) in
-      sym (ap (met (length (filter p vs))) (slice_get_read (filter p vs) (length (filter p vs)) n v refl (omega arith) read))
+      sym (ap (found_among (length (filter p vs))) (slice_get_read (filter p vs) (length (filter p vs)) n v refl (omega arith) read))
 
-  pub candidate_laws-passed : (n k : ℕ) → length vs ≤ i → n ≡ length (filter p (take i vs)) → n ≤ k → Passed n ≡ walk_to k (filter p vs)
+  pub candidate_laws-passed : (n k : ℕ) → length vs ≤ i → n ≡ length (filter p (take i vs)) → n ≤ k → TooFew n ≡ found_candidate k (filter p vs)
   candidate_laws-passed n k past so_far behind =
       let all : n ≡ length (filter p vs) = so_far ∙ ap (λ xs. length (filter p xs)) (take_all i vs past) in
-      ap Passed all ∙ sym (ap (met (length (filter p vs))) (slice_get_past (filter p vs) k (omega arith)))
+      ap TooFew all ∙ sym (ap (found_among (length (filter p vs))) (slice_get_past (filter p vs) k (omega arith)))
 
 -- ---- the candidate that is taken
 
-met_within : (n : ℕ) (o : Option Value) (v : Value) → Met v ≡ met n o → o ≡ Some v
+met_within : (n : ℕ) (o : Option Value) (v : Value) → At v ≡ found_among n o → o ≡ Some v
 met_within n None v ends = cc
 met_within n (Some w) v ends = cc
 
-passed_length : (n : ℕ) (o : Option Value) (m : ℕ) → Passed m ≡ met n o → m ≡ n
+passed_length : (n : ℕ) (o : Option Value) (m : ℕ) → TooFew m ≡ found_among n o → m ≡ n
 passed_length n None m ends = cc
 passed_length n (Some w) m ends = cc
 
-pub candidate_laws-taken : (k : ℕ) (vs : List Value) (v : Value) → Met v ≡ walk_to k vs → Some v ≡ taken k vs
+pub candidate_laws-taken : (k : ℕ) (vs : List Value) (v : Value) → At v ≡ found_candidate k vs → Some v ≡ taken k vs
 candidate_laws-taken k [] v ends = cc
 candidate_laws-taken k (u ∷ us) v ends =
     let at = met_within (length (u ∷ us)) (slice_get (u ∷ us) k) v ends in
     let low : k < length (u ∷ us) = slice_get_within (u ∷ us) k v at in
     sym (ap Some (ap (λ n. get_or (u ∷ us) n u) (mod-eq_of_lt low) ∙ get_or_from_slice_get (u ∷ us) k v u at))
 
-pub candidate_laws-taken_again : (k n : ℕ) (vs : List Value) (v : Value) → Passed n ≡ walk_to k vs → Met v ≡ walk_to (k % n) vs → Some v ≡ taken k vs
+pub candidate_laws-taken_again : (k n : ℕ) (vs : List Value) (v : Value) → TooFew n ≡ found_candidate k vs → At v ≡ found_candidate (k % n) vs → Some v ≡ taken k vs
 candidate_laws-taken_again k n [] v passed ends = cc
 candidate_laws-taken_again k n (u ∷ us) v passed ends =
     let all : n ≡ length (u ∷ us) = passed_length (length (u ∷ us)) (slice_get (u ∷ us) k) n passed in

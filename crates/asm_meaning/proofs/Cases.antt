@@ -1,4 +1,4 @@
--- Where ranks fall with each call, the depth to which calls are followed isn't felt.
+-- Free. If ranks fall with each call, the depth to which calls are followed isn't felt.
 use Rattle.std.proofs.Common.{◌≡◌, ℕ, zero, suc, ◌<◌, ◌≤◌, cond, List, ◌∷◌, Some, refl, sym, ap, subst, ◌∙◌, arith}
 use Rattle.asm_syntax.specs.Tree.{Name, Rule, Skip, Assign, Call, Par, Seq, If, Let, Forall, Choose, Iterate, Rules, no_rules, rule_then}
 use Rattle.asm_meaning.specs.Program.{Program, NamedRule, declared, with_value, bind_terms}

@@ -1,4 +1,4 @@
--- Examples of the values of terms, of what rules yield and of runs, each worked out by hand.
+-- Law. Examples of the values of terms, of what rules yield and of runs, each worked out by hand.
 use Rattle.std.proofs.Common.{◌≡◌, ℕ, true, false, cond, not, ◌||◌, List, [], ◌∷◌, ℤ, pos, Some, None, codes, refl, sym, ap, subst, ◌∙◌}
 use Rattle.std.specs.Prelude.{nat_eq}
 use Rattle.asm_state.specs.declared.value.Value.{Value}
@@ -9,9 +9,9 @@ use Rattle.asm_state.specs.Location.{Location, Proper, Stray, State}
 use Rattle.asm_state.specs.Numbers.{number_with}
 use Rattle.asm_state.specs.Operation.{op, number_or_undef}
 use Rattle.asm_state.specs.Updates.{UpdateSet, Has, IsConsistent, is_consistent, is_none, none, one, together, merge, fire}
-use Rattle.asm_state.proofs.Members.{member_laws}
-use Rattle.asm_state.proofs.Summaries.{fire_laws}
-use Rattle.asm_state.proofs.Updates.{test_laws}
+use Rattle.asm_state.proofs.UpdateLemmas.Members.{member_laws}
+use Rattle.asm_state.proofs.UpdateLemmas.Summaries.{fire_laws}
+use Rattle.asm_state.proofs.UpdateLemmas.Updates.{test_laws}
 use Rattle.asm_syntax.specs.Tree.{Name, Term, Constant, Named, Chain, Exists, Every, Terms, no_terms, term_then, no_links, link_then, Rule, Skip, Assign, Call, Par, Seq, If, Let, Forall, Choose, Iterate, Rules, no_rules, rule_then, result as answer}
 use Rattle.asm_reader.specs.ScriptLines.{Script, no_lines}
 use Rattle.asm_meaning.specs.Program.{Program, Universe, Controlled, Static, Derived, NamedRule, nothing_bound, with_value}
@@ -45,7 +45,7 @@ abbrev sum : Term → Term → Term
 sum s t = Chain s (link_then Add t no_links)
 
 -- a universe of three numbers, controlled functions f over it, x and y, a static g over it, a
--- derived function, two rules, and rules that answer
+-- derived function, two rules, and rules with a result
 abbrev sample : Program
 sample =
     (codes "Idx", Universe three)
@@ -119,7 +119,7 @@ some_is_greater : valued (Exists (codes "i") (codes "Idx") (greater (name (codes
 unfolding value values reading reading_within readings_of number_with
 some_is_greater = refl
 
--- where a test is undef, it isn't true
+-- if a test is undef, it isn't true
 each_is_undef : valued (Every (codes "i") (codes "Idx") (greater (name (codes "i")) (Constant Undef))) ≡ Truth false
 unfolding value values reading reading_within readings_of number_with
 each_is_undef = refl
@@ -243,7 +243,7 @@ no_turn : done no_lines [] (while (greater (name (codes "x")) (constant (pos 1))
 unfolding does does_within meaning value values reading reading_within readings_of number_with
 no_turn = ap (λ b. cond (b || not (is_consistent none)) (giving none 0) (following none 0 (record { result = Exhausted []; instances = 0 }))) without_updates
 
--- the last turn of two, where x has the value v, and is increased while it is below 2
+-- the last turn of two, if x has the value v, and is increased while it is below 2
 abbrev last_turn : Value → Outcome
 last_turn v =
     let o : Outcome = cond (is_true (op Greater (number (pos 2)) v)) (giving (one at_x (op Add v (number (pos 1)))) 0) nothing in
@@ -260,7 +260,7 @@ one_turn =
     (fire_laws.named start U at_x (number (pos 2)) (one_is_consistent 1 [] (number (pos 2))) ((member_laws.of_one at_x at_x (number (pos 2)) (number (pos 2))).1 (refl, refl)))
     ∙ ap (λ b. following U 0 (cond (b || not (is_consistent none)) (giving none 0) (following none 0 (record { result = Exhausted []; instances = 0 })))) without_updates
 
--- ---- calls that answer
+-- ---- calls with a result
 
 abbrev answers : Name → Terms → Name → Terms → Rule
 answers f ts r us = Call (Some (f, ts)) r us
@@ -281,7 +281,7 @@ the_target_is_the_callers : done no_lines [] (Let (codes "p") (constant (pos 2))
 unfolding does does_within meaning value values reading reading_within readings_of number_with
 the_target_is_the_callers = refl
 
--- a plain call in the body of a rule that answers binds no `result`
+-- a plain call in the body of a rule with a result binds no `result`
 answers_nothing : done no_lines [] (answers (codes "x") no_terms (codes "raise_plainly") no_terms) ≡ giving none 0
 unfolding does does_within meaning value values reading reading_within readings_of number_with
 answers_nothing = refl

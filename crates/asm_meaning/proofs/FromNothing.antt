@@ -1,19 +1,20 @@
--- What comes of forming an outcome that begins with nothing: its set and its instances, or the path where it is exhausted.
+-- Free. What comes of forming an outcome that begins with nothing: its set and its instances, or
+-- the path where it is exhausted.
 use Rattle.std.proofs.Common.{◌≡◌, ℕ, ◌+◌, min, ap, subst, ◌∙◌, arith}
 use Rattle.std.specs.Prelude.{Result, OnOk, IfErr}
 use Rattle.std.proofs.lemmas.Result.{on_ok_weaker}
 use Rattle.asm_state.specs.Signature.{Shape, count_of}
 use Rattle.asm_state.specs.Updates.{none}
-use Rattle.asm_state.proofs.Algebra.{union_laws}
-use Rattle.asm_updates.specs.Entries.{Entries}
-use Rattle.asm_updates.specs.Stands.{Stands}
+use Rattle.asm_state.proofs.UpdateLemmas.UnionsAndMerges.{union_laws}
+use Rattle.asm_updates.specs.code.SummaryRanges.{SummaryRanges}
+use Rattle.asm_updates.specs.code.Stands.{Stands}
 use Rattle.asm_meaning.specs.Does.{Outcome}
-use Rattle.asm_meaning.specs.Formed.{Forms, Follows, IsSet, IsStoppedAt, greatest_count}
+use Rattle.asm_meaning.specs.code.FormedOutcomes.{Forms, Follows, IsSet, IsStoppedAt, greatest_count}
 use Rattle.asm_meaning.specs.Yields.{Path}
 use Rattle.asm_meaning.specs.declared.outcome.Forming.{Forming}
 use Rattle.asm_meaning.specs.declared.stopped.Stopped.{Stopped}
 
-pub from_nothing_laws-formed : (shape : Shape) (o : Outcome) (old new : Entries) (before after : ℕ) → Stands shape old none → before ≡ 0 → new.count ≡ count_of shape
+pub from_nothing_laws-formed : (shape : Shape) (o : Outcome) (old new : SummaryRanges) (before after : ℕ) → Stands shape old none → before ≡ 0 → new.count ≡ count_of shape
     → Forms shape o old new before after → IsSet shape o new after
 from_nothing_laws-formed shape o old new before after nothing zero count formed = record {
   set = formed.set;

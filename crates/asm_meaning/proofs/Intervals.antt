@@ -1,5 +1,6 @@
--- The elements of an interval of positions.
---     between_more, between_none     the first position and those behind it;  an interval without positions
+-- Free. The elements of an interval of positions.
+--     between_more, between_none     the first position and those after it;  an interval without
+--                                    positions
 --     interval_laws-..               the same of outcomes
 use Rattle.std.proofs.Common.{◌≡◌, ℕ, zero, suc, ◌+◌, ◌-◌, ◌≤◌, ◌<◌, Bool, cond, List, [], ◌∷◌, ◌++◌, length, take, drop, Some, refl, sym, ap, ◌∙◌, arith, add-one}
 use Rattle.std.specs.Prelude.{slice_get}
@@ -8,8 +9,8 @@ use Rattle.std.proofs.lemmas.List.{at_drop_more, drop_all, length-drop, length-t
 use Rattle.std.proofs.lemmas.Option.{slice_get_within, get_or_from_slice_get}
 use Rattle.asm_state.specs.declared.value.Value.{Value}
 use Rattle.asm_meaning.specs.Does.{Outcome, nothing, both, counted, each}
-use Rattle.asm_meaning.specs.Intervals.{between}
-use Rattle.asm_meaning.proofs.Beside.{split_laws}
+use Rattle.asm_meaning.specs.code.Intervals.{between}
+use Rattle.asm_meaning.proofs.BesideLemmas.PartsBeside.{split_laws}
 
 take_none : (vs : List Value) → take 0 vs ≡ []
 take_none [] = refl

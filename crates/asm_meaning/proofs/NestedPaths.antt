@@ -1,4 +1,4 @@
--- An exhausted path lies within the path of its rule.
+-- Free. An exhausted path lies within the path of its rule.
 --     rule_within                      of what a rule does
 -- A lemma whose name begins with nested_paths- is a clause of that law.
 use Rattle.std.proofs.Common.{ℕ, zero, suc, Bool, not, ◌||◌, List, [], ◌∷◌, Option, Some, None, slice_index_or, ◌%◌, length, sym, ◌∙◌, arith, append_assoc, append-nil}
@@ -11,12 +11,12 @@ use Rattle.asm_syntax.specs.Tree.{Name, Terms, Rule, Skip, Assign, Call, Par, Se
 use Rattle.asm_reader.specs.ScriptLines.{Script, pick}
 use Rattle.asm_meaning.specs.Cases.{all_run}
 use Rattle.asm_meaning.specs.Does.{Outcome, Meaning, parts, in_order, part_and, turns_of, turn_and, each, one_of, called, meaning, meanings, does_within, does}
-use Rattle.asm_meaning.specs.Nested.{IsBehind, Within, Behind, Nests, AllNest}
+use Rattle.asm_meaning.specs.code.NestedPaths.{IsBehind, Within, Behind, Nests, AllNest}
 use Rattle.asm_meaning.specs.Program.{Program, Declared, Universe, Enumerated, Controlled, Static, Derived, NamedRule, declared, Environment, with_value, bind_terms}
 use Rattle.asm_meaning.specs.Targets.{answering}
 use Rattle.asm_meaning.specs.Value.{value, holds, candidates, universe, nesting}
 use Rattle.asm_meaning.specs.Yields.{Path, at, Result, Gives, Exhausted, beside, after}
-use Rattle.asm_meaning.proofs.Free.{by_test}
+use Rattle.asm_meaning.proofs.ChoiceLemmas.ScriptedIsFree.{by_test}
 
 -- ---- paths
 

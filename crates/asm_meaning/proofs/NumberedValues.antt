@@ -1,4 +1,4 @@
--- The value of what a number stands for.
+-- Free. The value of what a number stands for.
 use Rattle.std.proofs.Common.{◌≡◌, ℕ, zero, suc, ◌<◌, true, List, [], ◌∷◌, length, map, Option, Some, None, refl, ap, subst, ◌∙◌, arith}
 use Rattle.std.specs.List.{All}
 use Rattle.std.specs.Prelude.{option_map, slice_get}
@@ -9,33 +9,33 @@ use Rattle.asm_state.specs.Location.{State}
 use Rattle.asm_state.specs.Signature.{Shape}
 use Rattle.asm_syntax.specs.SourceTree.{Spec}
 use Rattle.asm_syntax.specs.PlainTree.{plain_term, plain_rule}
-use Rattle.asm_syntax.specs.Views.{term_of, name_of, rule_of}
+use Rattle.asm_syntax.specs.code.Views.{term_of, name_of, rule_of}
 use Rattle.asm_syntax.specs.declared.name.Name.{Name}
 use Rattle.asm_syntax.specs.declared.rule.Rule.{Rule}
 use Rattle.asm_syntax.specs.declared.term.Term.{Term}
-use Rattle.asm_check.proofs.SignatureNumbers.{signature_numbers}
+use Rattle.asm_check.proofs.NumberLemmas.SignatureNumbers.{signature_numbers}
 use Rattle.asm_check.specs.Faults.{IsWellFormed}
 use Rattle.asm_check.specs.Limits.{is_rule}
-use Rattle.asm_check.specs.NumberTables.{IsInRange}
+use Rattle.asm_check.specs.code.numbers.NumberTables.{IsInRange}
 use Rattle.asm_check.specs.Names as names
 use Rattle.asm_check.specs.Names.{Meaning, Declaration, first_declarations}
-use Rattle.asm_check.specs.Numbers.{elements_of, functions_of, derived_of, rules_of, meaning_at}
+use Rattle.asm_check.specs.Numbers.{elements_of, functions_of, derived_of, rules_of, declared_with_number}
 use Rattle.asm_check.specs.Shapes.{shape_of}
-use Rattle.asm_check.specs.declared.checked.Named.{Named}
-use Rattle.asm_check.specs.declared.checked.Named.TheVariants as number
+use Rattle.asm_check.specs.declared.checked.NameNumber.{NameNumber}
+use Rattle.asm_check.specs.declared.checked.NameNumber.TheVariants as number
 use Rattle.asm_meaning.specs.Declarations.{numbered, body_of}
-use Rattle.asm_meaning.specs.Meant.{text_of}
+use Rattle.asm_meaning.specs.code.MeantTrees.{text_of}
 use Rattle.asm_meaning.specs.Program.{Program, Derived, NamedRule, Universe}
-use Rattle.asm_meaning.specs.Valued.{declared_value}
+use Rattle.asm_meaning.specs.code.TermValues.{declared_value}
 
 -- the numbers of elements and of functions are below the signature's limits
-pub numbered_names-element : (spec : Spec) (it : Option Named) (e : ℕ) → IsWellFormed spec → IsInRange spec it → it ≡ Some (number.Element e) → e < 262_144
+pub numbered_names-element : (spec : Spec) (it : Option NameNumber) (e : ℕ) → IsWellFormed spec → IsInRange spec it → it ≡ Some (number.Element e) → e < 262_144
 numbered_names-element spec it e good below is =
     let own : e < length (elements_of spec) = subst (IsInRange spec) is below in
     let few = (signature_numbers spec good).few_elements in
     omega (arith, few, own)
 
-pub numbered_names-function : (spec : Spec) (shape : Shape) (it : Option Named) (f : ℕ) → IsWellFormed spec → shape ≡ shape_of spec → IsInRange spec it → it ≡ Some (number.Function f)
+pub numbered_names-function : (spec : Spec) (shape : Shape) (it : Option NameNumber) (f : ℕ) → IsWellFormed spec → shape ≡ shape_of spec → IsInRange spec it → it ≡ Some (number.Function f)
     → f < length shape.functions
 numbered_names-function spec shape it f good shaped below is =
     let own : f < length (functions_of spec) = subst (IsInRange spec) is below in
@@ -49,14 +49,14 @@ texts [] = refl
 texts (x ∷ xs) = ap (λ ys. x.text ∷ ys) (texts xs)
 
 -- a derived function with the code's parameters and body
-pub numbered_names-derived : (spec : Spec) (it : Option Named) (d : ℕ) (xs : List Name) (t : Term) → it ≡ Some (number.Derived d)
-    → meaning_at (derived_of spec) d ≡ Some (names.Derived (map name_of xs) (term_of t))
+pub numbered_names-derived : (spec : Spec) (it : Option NameNumber) (d : ℕ) (xs : List Name) (t : Term) → it ≡ Some (number.Derived d)
+    → declared_with_number (derived_of spec) d ≡ Some (names.Derived (map name_of xs) (term_of t))
     → numbered spec it ≡ Some (Derived (map text_of xs) (plain_term (term_of t)))
 numbered_names-derived spec it d xs t is meant = ap (numbered spec) is ∙ ap body_of meant ∙ ap (λ ys. Some (Derived ys (plain_term (term_of t)))) (texts xs)
 
 -- a rule with the code's parameters and body
-pub numbered_names-rule : (spec : Spec) (it : Option Named) (r : ℕ) (xs : List Name) (R : Rule) → it ≡ Some (number.Rule r)
-    → meaning_at (rules_of spec) r ≡ Some (names.NamedRule (map name_of xs) (rule_of R))
+pub numbered_names-rule : (spec : Spec) (it : Option NameNumber) (r : ℕ) (xs : List Name) (R : Rule) → it ≡ Some (number.Rule r)
+    → declared_with_number (rules_of spec) r ≡ Some (names.NamedRule (map name_of xs) (rule_of R))
     → numbered spec it ≡ Some (NamedRule (map text_of xs) (plain_rule (rule_of R)))
 numbered_names-rule spec it r xs R is meant = ap (numbered spec) is ∙ ap body_of meant ∙ ap (λ ys. Some (NamedRule ys (plain_rule (rule_of R)))) (texts xs)
 
@@ -67,7 +67,7 @@ module _ (program : Program) (A : State) (vs : List Value) where
   rule_undef (names.Derived xs t) is = cc
   rule_undef m is = refl
 
-  rules_undef : (ds : List Declaration) (r : ℕ) → All (λ d. is_rule d.meaning ≡ true) ds → Undef ≡ declared_value program A (body_of (meaning_at ds r)) vs
+  rules_undef : (ds : List Declaration) (r : ℕ) → All (λ d. is_rule d.meaning ≡ true) ds → Undef ≡ declared_value program A (body_of (declared_with_number ds r)) vs
   rules_undef [] r each = refl
   rules_undef (d ∷ ds) zero each = rule_undef d.meaning (each 0 d (omega arith))
   rules_undef (d ∷ ds) (suc r) each = rules_undef ds r (λ k d below. each (suc k) d (omega arith))

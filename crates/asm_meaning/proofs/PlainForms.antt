@@ -1,15 +1,15 @@
--- The plain term of each variant of the code's terms.
+-- Free. The plain term of each variant of the code's terms.
 use Rattle.std.proofs.Common.{◌≡◌, ◌∙◌, ap, map, Box, Vec, Global}
 use Rattle.asm_state.specs.declared.operation.Op.{Op}
 use Rattle.asm_syntax.specs.Tree as tree
 use Rattle.asm_syntax.specs.PlainTree.{literal_value, plain_term, plain_terms, plain_links}
-use Rattle.asm_syntax.specs.ViewCases.{term_of-Constant, term_of-Named, term_of-Chain, term_of-Not, term_of-Negative, term_of-Exists, term_of-Every, term_of-Answer}
-use Rattle.asm_syntax.specs.Views.{term_of, terms_of, links_of}
+use Rattle.asm_syntax.specs.code.ViewCases.{term_of-Constant, term_of-Named, term_of-Chain, term_of-Not, term_of-Negative, term_of-Exists, term_of-Every, term_of-Result}
+use Rattle.asm_syntax.specs.code.Views.{term_of, terms_of, links_of}
 use Rattle.asm_syntax.specs.declared.name.Name.{Name}
 use Rattle.asm_syntax.specs.declared.term.Literal.{Literal}
 use Rattle.asm_syntax.specs.declared.term.Term.{Term}
 use Rattle.asm_syntax.specs.declared.term.Term.TheVariants as term
-use Rattle.asm_meaning.specs.TreeWeights.{link_of}
+use Rattle.asm_meaning.specs.code.TreeWeights.{link_of}
 
 abbrev plain : Term → tree.Term
 plain t = plain_term (term_of t)
@@ -40,5 +40,5 @@ pub plain_terms-every : (t : Term) (x over : Name) (test : Box Term Global) → 
     → plain_term (term_of t) ≡ tree.Every x.text over.text (plain_term (term_of test.value))
 plain_terms-every t x over test is = ap plain is ∙ ap plain_term (term_of-Every x over test)
 
-pub plain_terms-answer : (t : Term) (x : Name) → t ≡ term.Answer x → plain_term (term_of t) ≡ tree.Named x.text tree.no_terms
-plain_terms-answer t x is = ap plain is ∙ ap plain_term (term_of-Answer x)
+pub plain_terms-answer : (t : Term) (x : Name) → t ≡ term.Result x → plain_term (term_of t) ≡ tree.Named x.text tree.no_terms
+plain_terms-answer t x is = ap plain is ∙ ap plain_term (term_of-Result x)

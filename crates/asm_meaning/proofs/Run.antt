@@ -1,4 +1,4 @@
--- The law of choice over whole runs.
+-- Free. The law of choice over whole runs.
 use Rattle.std.proofs.Common.{◌≡◌, ◌≢◌, ℕ, zero, suc, ◌<◌, ◌≤◌, true, false, cond, ◌&&◌, List, [], ◌∷◌, ◌++◌, refl, sym, ap, subst, ◌∙◌, arith}
 use Rattle.std.specs.Bool.{nat_eq}
 use Rattle.std.specs.List.{filter}
@@ -6,7 +6,7 @@ use Rattle.std.specs.Cmp.Lexicographic.{pointwise}
 use Rattle.std.proofs.lemmas.Bool.Decides.{not_from_Decides, nat_tests}
 use Rattle.asm_state.specs.Location.{State}
 use Rattle.asm_state.specs.Updates.{UpdateSet, IsConsistent, is_consistent, fire}
-use Rattle.asm_state.proofs.Updates.{test_laws}
+use Rattle.asm_state.proofs.UpdateLemmas.Updates.{test_laws}
 use Rattle.asm_syntax.specs.Tree.{Name, Rule}
 use Rattle.asm_meaning.specs.Program.{Program, nothing_bound}
 use Rattle.asm_meaning.specs.Value.{nesting}
@@ -16,11 +16,11 @@ use Rattle.asm_meaning.specs.Does.{does, does_within}
 use Rattle.asm_meaning.specs.Scripts.{unrepeated}
 use Rattle.asm_meaning.specs.Ranks.{CallsBelow, IsRanked}
 use Rattle.asm_meaning.specs.Run.{End, AtLimit, AtExhausted, AtFault, Run, sets_of, ended, fired, IsRunFrom, at_limit, at_exhausted, at_fault, step_then, step_and, run_from, ScriptedRuns, FreeRuns}
-use Rattle.asm_meaning.proofs.Free.{by_test, scripted_is_free}
-use Rattle.asm_meaning.proofs.Scripted.{has_script, not_true}
-use Rattle.asm_reader.specs.ExactLines.{exactly}
-use Rattle.asm_reader.proofs.MoreLines.{pick_line}
-use Rattle.asm_meaning.proofs.Unrepeated.{unrepeated_script}
+use Rattle.asm_meaning.proofs.ChoiceLemmas.ScriptedIsFree.{by_test, scripted_is_free}
+use Rattle.asm_meaning.proofs.ChoiceLemmas.FreeHasScript.{has_script, not_true}
+use Rattle.asm_reader.specs.code.ExactLines.{exactly}
+use Rattle.asm_reader.proofs.ScriptLemmas.MoreLines.{pick_line}
+use Rattle.asm_meaning.proofs.ChoiceLemmas.UnrepeatedScripts.{unrepeated_script}
 
 -- a run without its instances
 record Course : Type 0 where

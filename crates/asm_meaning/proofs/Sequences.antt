@@ -1,4 +1,4 @@
--- Sequences: the sets of the parts so far, joined by turbo merges, and what is left.
+-- Free. Sequences: the sets of the parts so far, joined by turbo merges, and what is left.
 -- The lemmas that are public are the clauses of sequence_laws, part_laws and stopping_laws.
 use Rattle.std.proofs.Common.{IsTrue, ◌≡◌, ◌≢◌, ℕ, ◌+◌, ◌≤◌, min, Bool, true, false, not, cond, ◌||◌, ◌⊎◌, inl, inr, refl, sym, ap, subst, ◌∙◌, arith}
 use Rattle.std.specs.Bool.{Decides}
@@ -10,17 +10,17 @@ use Rattle.asm_state.specs.Location.{Location, Proper, Stray, State}
 use Rattle.asm_state.specs.Signature.{Shape}
 use Rattle.asm_state.specs.Updates.{UpdateSet, Has, IsConsistent, is_consistent, is_none, is_proper, none, one, merge, fire, Fault, Clash, Outside, IsFirstFault}
 use Rattle.asm_state.specs.declared.value.Value.{Value}
-use Rattle.asm_state.proofs.Algebra.{union_laws, merge_laws}
-use Rattle.asm_state.proofs.Faults.{fault_laws}
-use Rattle.asm_state.proofs.Members.{member_laws}
-use Rattle.asm_state.proofs.Updates.{test_laws}
-use Rattle.asm_state.proofs.Summaries.{fire_laws}
-use Rattle.asm_updates.specs.Entries.{Entries}
-use Rattle.asm_updates.specs.Stands.{Stands, Adds}
+use Rattle.asm_state.proofs.UpdateLemmas.UnionsAndMerges.{union_laws, merge_laws}
+use Rattle.asm_state.proofs.UpdateLemmas.Faults.{fault_laws}
+use Rattle.asm_state.proofs.UpdateLemmas.Members.{member_laws}
+use Rattle.asm_state.proofs.UpdateLemmas.Updates.{test_laws}
+use Rattle.asm_state.proofs.UpdateLemmas.Summaries.{fire_laws}
+use Rattle.asm_updates.specs.code.SummaryRanges.{SummaryRanges}
+use Rattle.asm_updates.specs.code.Stands.{Stands, Adds}
 use Rattle.asm_meaning.specs.Does.{Outcome, nothing, following, part_and, turn_and}
-use Rattle.asm_meaning.specs.Formed.{Forms, GoesOn, IsStoppedAt, greatest_count}
-use Rattle.asm_meaning.specs.PartSets.{IsPartSet, ends_parts, ends_turns}
-use Rattle.asm_meaning.specs.Underway.{IsUnderway}
+use Rattle.asm_meaning.specs.code.FormedOutcomes.{Forms, IsMergedPart, IsStoppedAt, greatest_count}
+use Rattle.asm_meaning.specs.code.PartSets.{IsPartSet, ends_parts, ends_turns}
+use Rattle.asm_meaning.specs.code.SequenceUnderway.{IsUnderway}
 use Rattle.asm_meaning.specs.Yields.{Path, Result, Gives, Exhausted, after}
 use Rattle.asm_meaning.specs.declared.part_set.PartSet.{PartSet}
 use Rattle.asm_meaning.specs.declared.part_set.PartSet.TheVariants.{Empty, Consistent, Inconsistent}
@@ -89,7 +89,7 @@ part_laws-ending_turn V Empty is ends = inl is
 part_laws-ending_turn V Consistent is ends = absurd (false≢true ends)
 part_laws-ending_turn V Inconsistent is ends = inr is
 
--- a test is false where what it tests isn't so
+-- a test is false if what it tests isn't so
 false_by : {P : Type 0} (b : Bool) → Decides b P → ¬ P → b ≡ false
 false_by b test not = false_from_ne_true b (λ is. not (test.0 is))
 
@@ -157,7 +157,7 @@ stopping_laws-memory o p (Err stop) is = subst (IsStoppedAt o p) (sym is) tt
 -- ---- from part to part
 
 module _ (shape : Shape) where
-  pub sequence_laws-begins : (A : State) (total : Outcome) (left : State → Outcome) (so_far : Entries) (n : ℕ) → total ≡ left A → n ≤ greatest_count → Stands shape so_far none
+  pub sequence_laws-begins : (A : State) (total : Outcome) (left : State → Outcome) (so_far : SummaryRanges) (n : ℕ) → total ≡ left A → n ≤ greatest_count → Stands shape so_far none
       → IsUnderway shape A total left so_far n n
   sequence_laws-begins A total left so_far n is small stands = record {
     set = none;
@@ -169,16 +169,16 @@ module _ (shape : Shape) where
   }
 
   -- a part that is formed from nothing, upon the sets so far
-  pub sequence_laws-goes_upon : (o : Outcome) (U : UpdateSet) (cleared so_far joined made : Entries) (part : PartSet) (before after : ℕ)
+  pub sequence_laws-goes_upon : (o : Outcome) (U : UpdateSet) (cleared so_far joined made : SummaryRanges) (part : PartSet) (before after : ℕ)
       → Stands shape cleared none → Stands shape so_far U → ((V W : UpdateSet) → Stands shape so_far V → Stands shape made W → Stands shape joined (merge V W))
-      → ((V : UpdateSet) → Stands shape made V → IsPartSet V part) → Forms shape o cleared made before after → GoesOn shape o U joined part before after
+      → ((V : UpdateSet) → Stands shape made V → IsPartSet V part) → Forms shape o cleared made before after → IsMergedPart shape o U joined part before after
   sequence_laws-goes_upon o U cleared so_far joined made part before after empty stands join is formed =
       let alone : Stands shape made formed.set = subst (Stands shape made) (union_laws.unit formed.set) (formed.adds none empty) in
       record { set = formed.set; gives = formed.gives; is = is formed.set alone; merged = join U formed.set stands alone; counts = formed.counts }
 
   -- a part whose set is known
-  pub sequence_laws-goes_by : (o : Outcome) (U V : UpdateSet) (joined : Entries) (part : PartSet) (n : ℕ) → o ≡ of_set V 0 → n ≤ greatest_count
-      → IsPartSet V part → Stands shape joined (merge U V) → GoesOn shape o U joined part n n
+  pub sequence_laws-goes_by : (o : Outcome) (U V : UpdateSet) (joined : SummaryRanges) (part : PartSet) (n : ℕ) → o ≡ of_set V 0 → n ≤ greatest_count
+      → IsPartSet V part → Stands shape joined (merge U V) → IsMergedPart shape o U joined part n n
   sequence_laws-goes_by o U V joined part n outcome small is stands = record {
     set = V;
     gives = ap (λ (q : Outcome). q.result) outcome;
@@ -190,8 +190,8 @@ module _ (shape : Shape) where
       still : (k g : ℕ) → k ≤ g → k ≡ min (k + 0) g
       still k g h = omega arith
 
-  module _ (A : State) (total : Outcome) (left : State → Outcome) (so_far : Entries) (before now : ℕ) (under : IsUnderway shape A total left so_far before now) where
-    pub sequence_laws-goes_on : (o : Outcome) (left_then : State → Outcome) (joined : Entries) (part : PartSet) (after : ℕ) (on : GoesOn shape o under.set joined part now after)
+  module _ (A : State) (total : Outcome) (left : State → Outcome) (so_far : SummaryRanges) (before now : ℕ) (under : IsUnderway shape A total left so_far before now) where
+    pub sequence_laws-goes_on : (o : Outcome) (left_then : State → Outcome) (joined : SummaryRanges) (part : PartSet) (after : ℕ) (on : IsMergedPart shape o under.set joined part now after)
         → IsConsistent on.set → left (fire A under.set) ≡ following on.set o.instances (left_then (fire (fire A under.set) on.set))
         → IsUnderway shape A total left_then joined before after
     sequence_laws-goes_on o left_then joined part after on consistent is = record {
@@ -209,7 +209,7 @@ module _ (shape : Shape) where
         cut_off n a b g m k e f = omega arith
 
     -- what is left gives a set, and the whole is formed by adding the set so far with it
-    ends_by : (old new : Entries) (after : ℕ) (V : UpdateSet) (n : ℕ) → left (fire A under.set) ≡ of_set V n → Adds shape (merge under.set V) old new
+    ends_by : (old new : SummaryRanges) (after : ℕ) (V : UpdateSet) (n : ℕ) → left (fire A under.set) ≡ of_set V n → Adds shape (merge under.set V) old new
         → after ≡ min (now + n) greatest_count → Forms shape total old new before after
     ends_by old new after V n is adds counts = record {
       set = merge under.set V;
@@ -222,8 +222,8 @@ module _ (shape : Shape) where
         cut_off : (n a b g : ℕ) → min (min (n + a) g + b) g ≡ min (n + (a + b)) g
         cut_off n a b g = omega arith
 
-    module _ {T : Type 0} (was old new : Entries) (n : ℕ) (returned : Returned T Stopped) (same : was ≡ old) where
-      pub sequence_laws-ends_with : (o : Outcome) (joined : Entries) (part : PartSet) (after : ℕ) (on : GoesOn shape o under.set joined part now after) → n ≡ after
+    module _ {T : Type 0} (was old new : SummaryRanges) (n : ℕ) (returned : Returned T Stopped) (same : was ≡ old) where
+      pub sequence_laws-ends_with : (o : Outcome) (joined : SummaryRanges) (part : PartSet) (after : ℕ) (on : IsMergedPart shape o under.set joined part now after) → n ≡ after
           → left (fire A under.set) ≡ of_set on.set o.instances → ((V : UpdateSet) → Stands shape joined V → OnOk returned (Adds shape V was new))
           → OnOk returned (Forms shape total old new before n)
       sequence_laws-ends_with o joined part after on kept is put =

@@ -1,4 +1,4 @@
--- Threads may share views, since they may share their parts.
+-- Free. Threads may share views, since they may share their parts.
 use denote.Ref.{NamedLft}
 use denote.Param.Send.{IsSync, shr_sync}
 use denote.Param.SendFields.{as_row_sync, declared_sync}

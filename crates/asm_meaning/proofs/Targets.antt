@@ -1,4 +1,4 @@
--- The controlled function that a name stands for, and its location.
+-- Free. The controlled function that a name stands for, and its location.
 use Rattle.std.proofs.Common.{◌≡◌, ℕ, List, Option, Some, None, refl, sym, ap, ◌∙◌}
 use Rattle.std.specs.Prelude.{slice_get, option_map}
 use Rattle.asm_state.specs.declared.value.Value.{Value}
@@ -10,14 +10,14 @@ use Rattle.asm_syntax.specs.Tree.{Name}
 use Rattle.asm_check.specs.Names as names
 use Rattle.asm_check.specs.Names.{Meaning}
 use Rattle.asm_check.specs.Numbers as numbers
-use Rattle.asm_check.specs.Numbers.{meaning_at, named}
+use Rattle.asm_check.specs.Numbers.{declared_with_number, named}
 use Rattle.asm_check.specs.Shapes.{shape_of}
-use Rattle.asm_check.specs.declared.checked.Named.{Named}
-use Rattle.asm_check.specs.declared.checked.Named.TheVariants as number
+use Rattle.asm_check.specs.declared.checked.NameNumber.{NameNumber}
+use Rattle.asm_check.specs.declared.checked.NameNumber.TheVariants as number
 use Rattle.asm_meaning.specs.Program.{Universe, Controlled, declared}
 use Rattle.asm_meaning.specs.Declarations.{held_as, function_at, function_number, body_of, numbered, program_of}
 use Rattle.asm_meaning.specs.Targets.{location_of}
-use Rattle.asm_meaning.proofs.Meant.{program_declares}
+use Rattle.asm_meaning.proofs.MeantDeclarations.{program_declares}
 
 module _ (spec : Spec) (x : Name) (shape : Shape) (shaped : shape ≡ shape_of spec) where
   -- what a name is declared as whose number is that of a function
@@ -52,16 +52,16 @@ universe_names_none : (us : Option (List Value)) (vs : List Value) → location_
 universe_names_none None vs = refl
 universe_names_none (Some us) vs = refl
 
-number_names_none : (spec : Spec) (it : Option Named) → function_number it ≡ None → (vs : List Value) → location_of (numbered spec it) vs ≡ None
+number_names_none : (spec : Spec) (it : Option NameNumber) → function_number it ≡ None → (vs : List Value) → location_of (numbered spec it) vs ≡ None
 number_names_none spec None is vs = refl
 number_names_none spec (Some (number.Universe n)) is vs = universe_names_none (slice_get (shape_of spec).universes n) vs
 number_names_none spec (Some (number.Element n)) is vs = refl
 number_names_none spec (Some (number.Function f)) is vs = cc
-number_names_none spec (Some (number.Derived d)) is vs = body_names_none (meaning_at (numbers.derived_of spec) d) vs
-number_names_none spec (Some (number.Rule r)) is vs = body_names_none (meaning_at (numbers.rules_of spec) r) vs
+number_names_none spec (Some (number.Derived d)) is vs = body_names_none (declared_with_number (numbers.derived_of spec) d) vs
+number_names_none spec (Some (number.Rule r)) is vs = body_names_none (declared_with_number (numbers.rules_of spec) r) vs
 
 -- a name that stands for no function is updated nowhere
-pub target_names-other : (spec : Spec) (x : Name) (it : Option Named) → it ≡ named spec x → function_number it ≡ None → (vs : List Value)
+pub target_names-other : (spec : Spec) (x : Name) (it : Option NameNumber) → it ≡ named spec x → function_number it ≡ None → (vs : List Value)
     → location_of (declared (program_of spec) x) vs ≡ None
 target_names-other spec x it is other vs =
     ap (λ o. location_of o vs) (program_declares spec x ∙ ap (numbered spec) (sym is)) ∙ number_names_none spec it other vs

@@ -1,4 +1,4 @@
--- Where ranks fall with each use, the depth to which derived functions are followed isn't felt.
+-- Free. If ranks fall with each use, the depth to which derived functions are followed isn't felt.
 use Rattle.std.proofs.Common.{◌≡◌, ℕ, zero, suc, ◌<◌, ◌≤◌, true, false, cond, ◌||◌, List, [], ◌∷◌, map, Option, Some, None, refl, sym, ap, subst, ◌∙◌, arith}
 use Rattle.std.specs.List.{list_all, list_any}
 use Rattle.asm_state.specs.declared.value.Value.{Value}

@@ -1,32 +1,33 @@
--- What falls on the way of a recursion over the code's tree: the lemmas that are public are the clauses of tree_weights.
+-- Free. What falls on the way of a recursion over the code's tree: the lemmas that are public are
+-- the clauses of tree_weights.
 use Rattle.std.proofs.Common.{◌≡◌, ℕ, zero, suc, ◌+◌, ◌*◌, ◌<◌, List, [], ◌∷◌, length, map, Option, Some, None, Box, Global, refl, sym, ap, subst, ◌∙◌, arith}
 use Rattle.std.specs.Prelude.{slice_index_or}
 use Rattle.asm_state.specs.declared.value.Value.{Value}
 use Rattle.asm_syntax.specs.PlainTree.{plain_term, plain_terms, plain_rule}
 use Rattle.asm_syntax.specs.Tree as tree
 use Rattle.asm_syntax.specs.Tree.{Name, Terms, Named}
-use Rattle.asm_syntax.specs.Views.{name_of, term_of, terms_of, rule_of, spec_of}
+use Rattle.asm_syntax.specs.code.Views.{name_of, term_of, terms_of, rule_of, spec_of}
 use Rattle.asm_syntax.specs.declared.name.Name as syntax
 use Rattle.asm_syntax.specs.declared.rule.Rule.{Rule}
 use Rattle.asm_syntax.specs.declared.term.Term.{Term}
 use Rattle.asm_syntax.specs.declared.term.Term.TheVariants as term
 use Rattle.asm_check.specs.Names as names
-use Rattle.asm_check.specs.Numbers.{meaning_at, named, rules_of}
+use Rattle.asm_check.specs.Numbers.{declared_with_number, named, rules_of}
 use Rattle.asm_check.specs.Ranks.{derived_rank, rule_rank}
 use Rattle.asm_check.specs.declared.checked.Checked.{Checked}
-use Rattle.asm_check.specs.declared.checked.Named.{Named as Number}
-use Rattle.asm_check.specs.declared.checked.Named.TheVariants as number
+use Rattle.asm_check.specs.declared.checked.NameNumber.{NameNumber as Number}
+use Rattle.asm_check.specs.declared.checked.NameNumber.TheVariants as number
 use Rattle.asm_meaning.specs.Declarations.{numbered}
-use Rattle.asm_meaning.specs.Meant.{text_of}
+use Rattle.asm_meaning.specs.code.MeantTrees.{text_of}
 use Rattle.asm_meaning.specs.Program.{Program, Declared, Derived, NamedRule, declared, Environment, bound_to}
-use Rattle.asm_meaning.specs.TreeWeights.{term_weight, named_weight, body_weight, rules_in, rules_in_all, in_body}
+use Rattle.asm_meaning.specs.code.TreeWeights.{term_weight, named_weight, body_weight, rules_in, rules_in_all, in_body}
 use Rattle.asm_meaning.specs.Value.{nesting}
-use Rattle.asm_meaning.specs.Valued.{program}
-use Rattle.asm_meaning.specs.Weights.{called_size, rule_size, rule_sizes, rule_size_within, rule_weight, weight, WeightsFall}
-use Rattle.asm_meaning.proofs.Meant.{program_declares}
+use Rattle.asm_meaning.specs.code.TermValues.{program}
+use Rattle.asm_meaning.specs.code.Weights.{called_size, rule_size, rule_sizes, rule_size_within, rule_weight, weight, WeightsFall}
+use Rattle.asm_meaning.proofs.MeantDeclarations.{program_declares}
 use Rattle.asm_meaning.proofs.NumberedValues.{numbered_names-rule as numbered_rule}
 use Rattle.asm_meaning.proofs.PlainForms.{plain_terms-of_not as plain_not, plain_terms-negative as plain_negative}
-use Rattle.asm_meaning.proofs.Ranked.{declared_ranks-derived as ranked, declared_ranks-derived_low as rank_low, declared_ranks-rules as rules_ranked, declared_ranks-rule_low as rule_rank_low}
+use Rattle.asm_meaning.proofs.RanksInPrograms.{declared_ranks-derived as ranked, declared_ranks-derived_low as rank_low, declared_ranks-rules as rules_ranked, declared_ranks-rule_low as rule_rank_low}
 use Rattle.asm_meaning.proofs.Weights.{term_weights_fall, call_weights_fall}
 
 -- ---- terms
@@ -75,7 +76,7 @@ tree_weights-body checked e x ts it vs free is =
 -- ---- rules
 
 declared_rule : (checked : Checked) (f : tree.Name) (r : ℕ) (xs : List syntax.Name) (R : Rule) → named (spec_of checked.spec) f ≡ Some (number.Rule r)
-    → meaning_at (rules_of (spec_of checked.spec)) r ≡ Some (names.NamedRule (map name_of xs) (rule_of R))
+    → declared_with_number (rules_of (spec_of checked.spec)) r ≡ Some (names.NamedRule (map name_of xs) (rule_of R))
     → declared (program checked) f ≡ Some (NamedRule (map text_of xs) (plain_rule (rule_of R)))
 declared_rule checked f r xs R is says =
     let spec = spec_of checked.spec in
@@ -113,7 +114,7 @@ pub tree_weights-rule : (checked : Checked) (R : tree.Rule) → rules_in (in_bod
 tree_weights-rule checked R = size_is (program checked) (rule_size_within (program checked) 16) R ∙ sym (rule_within (program checked) R)
 
 pub tree_weights-call : (checked : Checked) (to : Option (tree.Name × tree.Terms)) (f : tree.Name) (ts : tree.Terms) (r : ℕ) (xs : List syntax.Name) (R : Rule) → named (spec_of checked.spec) f ≡ Some (number.Rule r)
-    → meaning_at (rules_of (spec_of checked.spec)) r ≡ Some (names.NamedRule (map name_of xs) (rule_of R))
+    → declared_with_number (rules_of (spec_of checked.spec)) r ≡ Some (names.NamedRule (map name_of xs) (rule_of R))
     → rules_in (in_body checked) (plain_rule (rule_of R)) < rules_in (in_body checked) (tree.Call to f ts)
 tree_weights-call checked to f ts r xs R is says =
     let spec = spec_of checked.spec in

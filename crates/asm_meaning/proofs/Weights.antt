@@ -1,4 +1,4 @@
--- Weights fall on the way of an evaluation.
+-- Free. Weights fall on the way of an evaluation.
 use Rattle.std.proofs.Common.{◌≡◌, ℕ, zero, suc, ◌+◌, ◌<◌, ◌≤◌, max, Bool, true, false, cond, ◌||◌, List, [], ◌∷◌, Option, Some, None, refl, sym, ap, subst, arith}
 use Rattle.asm_state.specs.declared.value.Value.{Value}
 use Rattle.asm_state.specs.declared.operation.Op.{Op}
@@ -6,7 +6,7 @@ use Rattle.asm_syntax.specs.Tree.{Name, Term, Constant, Named, Chain, Not, Negat
 use Rattle.asm_meaning.specs.Program.{Program, Declared, Universe, Enumerated, Controlled, Static, Derived, NamedRule, declared, is_name, Environment, nothing_bound, with_value, with_term, with_location, bind_values, Binding, ToValue, ToTerm, ToLocation, bound_to}
 use Rattle.asm_meaning.specs.Value.{nesting}
 use Rattle.asm_meaning.specs.Ranks.{is_among, UsesBelow, EachUsesBelow, LinksUseBelow, AreDerivedRanked, IsRanked, CallsBelow, EachCallsBelow, lower}
-use Rattle.asm_meaning.specs.Weights.{names_of, used, size, sizes, link_sizes, size_within, load, weight, TermWeightsFall, called_size, rule_size, rule_sizes, rule_size_within, rule_weight, CallWeightsFall}
+use Rattle.asm_meaning.specs.code.Weights.{names_of, used, size, sizes, link_sizes, size_within, load, weight, TermWeightsFall, called_size, rule_size, rule_sizes, rule_size_within, rule_weight, CallWeightsFall}
 use Rattle.asm_meaning.proofs.TermCases.{higher}
 
 -- ---- terms

@@ -1,6 +1,8 @@
--- The scripted function by cases, one for each rule.
---     runs program turns script step R      what R does, as a function of the state, the environment and the path
---     ScriptedCases      where ranks fall with each call, the depth to which calls are followed isn't felt
+-- Definition. The scripted function by cases, one for each rule.
+--     runs program turns script step R      what R does, as a function of the state, the
+--                                           environment and the path
+--     ScriptedCases      if ranks fall with each call, the depth to which calls are followed isn't
+--                        felt
 use Rattle.std.specs.Prelude.{◌≡◌, ◌<◌, ℕ, cond, List, [], ◌∷◌, Option, Some}
 use Rattle.asm_state.specs.Location.{State}
 use Rattle.asm_syntax.specs.Tree.{Name, Term, Terms, Rule, Skip, Assign, Call, Par, Seq, If, Let, Forall, Choose, Iterate, Rules, no_rules, rule_then}

@@ -1,7 +1,8 @@
--- What a rule yields under a script.
+-- Definition. What a rule yields under a script.
 --     Outcome               what a rule yields, with the number of instances
---     does program turns script step A e p R      the outcome of R, where a choose with n candidates takes the one whose number is
---                                                 the script's at its path, modulo n
+--     does program turns script step A e p R      the outcome of R, if a choose with n candidates
+--                                                 takes the one whose number is the script's at its
+--                                                 path, modulo n
 use Rattle.std.specs.Prelude.{ℕ, zero, suc, ◌+◌, ◌%◌, Bool, cond, not, ◌||◌, List, [], ◌∷◌, Option, Some, slice_index_or, length}
 use Rattle.asm_state.specs.declared.value.Value.{Value}
 use Rattle.asm_state.specs.Location.{State}
@@ -69,7 +70,7 @@ abbrev pub one_of : ℕ → List Value → (Value → Outcome) → Outcome → O
 one_of n [] m other = other
 one_of n (v ∷ vs) m other = m (slice_index_or (v ∷ vs) (n % length (v ∷ vs)) v)
 
--- the turns from number t on, of which so many are left
+-- the turns from number t on, with `left` of them left
 abbrev pub turns_of : Meaning → ℕ → ℕ → Meaning
 turns_of m zero t A e p = outcome (Exhausted p) 0
 turns_of m (suc left) t A e p =
@@ -100,7 +101,7 @@ module _ (program : Program) (turns : ℕ) (chosen : Path → ℕ) (body : Rule 
     meanings no_rules = []
     meanings (rule_then P Ps) = meaning P ∷ meanings Ps
 
--- where calls are nested deeper than n they do nothing
+-- calls that are nested deeper than n do nothing
 unfoldable pub does_within : Program → ℕ → (Path → ℕ) → ℕ → Rule → Meaning
 does_within program turns chosen zero = meaning program turns chosen (λ P A e p. nothing)
 does_within program turns chosen (suc n) = meaning program turns chosen (does_within program turns chosen n)

@@ -1,4 +1,4 @@
--- What stands at the locations of a controlled function in the initial state, by its table.
+-- Law. What is at the locations of a controlled function in the initial state, by its table.
 --     function_items spec      the controlled and static functions of the text, in its order
 --     values_of spec e         the values of an entry's arguments
 use Rattle.std.specs.Prelude.{◌≡◌, ◌≢◌, ℕ, Bool, true, false, List, ◌∷◌, ◌++◌, map, filter, slice_get, Option, Some, None, All, IsTrue}
@@ -37,9 +37,9 @@ module _ (spec : Spec) (f : ℕ) (x : Name) (domain : List Name) (codomain : Opt
   pub record InitialContents : Type 0 where
     -- without a table there is no content
     pub without : Begins None → (vs : List Value) → first vs ≡ Undef
-    -- one constant stands everywhere
+    -- one constant is everywhere
     pub constant : (c : Const) → Begins (Some (Each c)) → (vs : List Value) → AreArguments vs → first vs ≡ const_value spec c
-    -- of some entries, the value of the first of the arguments, and nothing where none is of them
+    -- of some entries, the value of the first of the arguments, and nothing if none is of them
     pub entry : (before after : List Entry) (e : Entry) → Begins (Some (Entries (before ++ e ∷ after))) → AreArguments (values_of spec e)
         → All (λ other. values_of spec other ≢ values_of spec e) before → first (values_of spec e) ≡ const_value spec e.value
     pub no_entry : (entries : List Entry) → Begins (Some (Entries entries)) → (vs : List Value)

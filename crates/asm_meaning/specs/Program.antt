@@ -1,6 +1,7 @@
--- What a specification declares, and what names are bound to.
+-- Definition. What a specification declares, and what names are bound to.
 --     Program, Declared         the declarations, by name;  declared p x      what x is declared as
---     Environment               names bound to values, to terms with the environment of their caller, or to locations
+--     Environment               names bound to values, to terms with the environment of their
+--                               caller, or to locations
 --     bind_terms, bind_values   the parameters alone, bound to terms of a caller, or to values
 --     located                   `result` bound to a location, if there is one
 use Rattle.std.specs.Prelude.{ℕ, Bool, cond, List, [], ◌∷◌, nat_eq, Option, Some, None}
@@ -46,13 +47,13 @@ bind_terms [] ts caller = nothing_bound
 bind_terms (x ∷ xs) no_terms caller = nothing_bound
 bind_terms (x ∷ xs) (term_then t ts) caller = with_term x t caller (bind_terms xs ts caller)
 
--- the parameters alone, bound to values, and to undef where there are too few
+-- the parameters alone, bound to values, and to undef if there are too few
 abbrev pub bind_values : List Name → List Value → Environment
 bind_values [] vs = nothing_bound
 bind_values (x ∷ xs) [] = with_value x Undef (bind_values xs [])
 bind_values (x ∷ xs) (v ∷ vs) = with_value x v (bind_values xs vs)
 
--- `result` bound to the location of the call's target, where the target names one
+-- `result` bound to the location of the call's target, if the target names one
 abbrev pub located : Option Location → Environment → Environment
 located None e = e
 located (Some l) e = with_location result l e

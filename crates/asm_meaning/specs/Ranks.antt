@@ -1,7 +1,8 @@
--- Ranks, which fall with each call.
+-- Definition. Ranks, which fall with each call.
 --     CallsBelow program rank n R      each rule that R calls is declared, and has a rank below n
 --     IsRanked program rank            each rule calls only rules of lower rank
---     UsesBelow program rank n t bound, AreDerivedRanked program rank      the same of derived functions in terms
+--     UsesBelow program rank n t bound, AreDerivedRanked program rank
+--                                      the same of derived functions in terms
 use Rattle.std.specs.Prelude.{◌≡◌, ℕ, ◌<◌, ◌≤◌, Bool, false, List, ◌∷◌, Some}
 use Rattle.std.specs.List.{list_any}
 use Rattle.std.proofs.Common.{arith}

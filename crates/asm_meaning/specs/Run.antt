@@ -1,9 +1,13 @@
--- Runs: the main rule's body, once in each step.
---     IsRunFrom program turns main n i A sets end last      from the state A before step i at most n more steps may fire these sets, for any
---                                                           choices, and end so and in this state
+-- Definition. Runs: the main rule's body, once in each step.
+--     IsRunFrom program turns main n i A sets end last      from the state A before step i at most
+--                                                           n more steps may fire these sets, for
+--                                                           any choices, and end so and in this
+--                                                           state
 --     run_from program turns main script n i A              what they do under a script
---     IsRun, run                                            the same of a specification: step 1 is done in its initial state
---     ScriptedRuns, FreeRuns      each run under a script is a run for some choices, and each run for some choices is one under some script
+--     IsRun, run                                            the same of a specification: step 1 is
+--                                                           done in its initial state
+--     ScriptedRuns, FreeRuns      each run under a script is a run for some choices, and each run
+--                                 for some choices is one under some script
 use Rattle.std.specs.Prelude.{◌≡◌, ℕ, zero, suc, cond, List, [], ◌∷◌, map}
 use Rattle.asm_state.specs.Location.{State}
 use Rattle.asm_state.specs.Updates.{UpdateSet, IsConsistent, is_consistent, fire}

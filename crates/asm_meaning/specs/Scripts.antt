@@ -1,6 +1,7 @@
--- A script is a pair of finite maps: of several lines with one step and path only the first counts, and of several for every step with one
--- path as well.
---     unrepeated script      the script without the later lines of each step and path, and of each path in every step
+-- Definition. A script is a pair of finite maps: of several lines with one step and path only the
+-- first counts, and of several for every step with one path as well.
+--     unrepeated script      the script without the later lines of each step and path, and of each
+--                            path in every step
 --     UnrepeatedScript       it picks as the script does, so each rule does the same under it
 use Rattle.std.specs.Prelude.{◌≡◌, ℕ, Bool, not, List, [], ◌∷◌}
 use Rattle.std.specs.List.{filter, IsDistinct}

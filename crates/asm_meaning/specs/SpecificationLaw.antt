@@ -1,9 +1,12 @@
--- The law of choice for specifications without faults: their ranks fall, so it asks nothing more of them.
---     RanksFall spec                 what the law of choice asks of a program, and of each rule of it,
---                                    and what the value of a term by cases asks of derived functions
+-- Law. The law of choice for specifications without faults: their ranks fall, so it asks nothing
+-- more of them.
+--     RanksFall spec                 what the law of choice asks of a program, and of each rule of
+--                                    it, and what the value of a term by cases asks of derived
+--                                    functions
 --     SpecificationsAreRanked        a specification without faults has that
 --     SpecificationRunsAreFree       its run under a script is a run for some choices
---     SpecificationRunsHaveScripts   each of its runs, for whatever choices, is the run under some script
+--     SpecificationRunsHaveScripts   each of its runs, for whatever choices, is the run under some
+--                                    script
 use Rattle.std.specs.Prelude.{◌≡◌, ◌<◌, ℕ, List, Some}
 use Rattle.asm_state.specs.Location.{State}
 use Rattle.asm_state.specs.Updates.{UpdateSet}

@@ -1,7 +1,9 @@
--- The locations that targets name: of assignments, and of calls.
---     location program A e f ts       the location that f with the arguments ts names, if it names one
+-- Definition. The locations that targets name: of assignments, and of calls.
+--     location program A e f ts       the location that f with the arguments ts names, if it names
+--                                     one
 --     update l v                      the set of its one update, or none
---     answering program A e to inner  the environment of a called rule's body, in which `result` stands for the call's target
+--     answering program A e to inner  the environment of a called rule's body, in which `result`
+--                                     stands for the call's target
 use Rattle.std.specs.Prelude.{List, Option, Some, None}
 use Rattle.asm_state.specs.declared.value.Value.{Value}
 use Rattle.asm_state.specs.Location.{Location, State}

@@ -1,5 +1,6 @@
--- The value of a term by cases, one for each form.
---     TermCases      where ranks fall with each use, the depth to which derived functions are followed isn't felt
+-- Definition. The value of a term by cases, one for each form.
+--     TermCases      if ranks fall with each use, the depth to which derived functions are followed
+--                    isn't felt
 use Rattle.std.specs.Prelude.{◌≡◌, ◌<◌, ℕ, List, Some, None}
 use Rattle.std.specs.List.{list_all, list_any}
 use Rattle.asm_state.specs.declared.function.Table.{Table}

@@ -1,7 +1,9 @@
--- The value of a term in a state and an environment.
---     value program A e t      a name bound to a term has the value of that term in the caller's environment, in the same state; one bound
---                              to a location has the content there
---     holds, candidates        whether a condition has the value true;  the elements of a universe for which it has
+-- Definition. The value of a term in a state and an environment.
+--     value program A e t      a name bound to a term has the value of that term in the caller's
+--                              environment, in the same state; one bound to a location has the
+--                              content there
+--     holds, candidates        whether a condition has the value true;  the elements of a universe
+--                              for which it has
 use Rattle.std.specs.Prelude.{ℕ, zero, suc, Bool, true, false, List, [], ◌∷◌, Option, Some, None}
 use Rattle.std.specs.List.{filter, list_all, list_any}
 use Rattle.asm_state.specs.declared.value.Value.{Value}
@@ -36,7 +38,7 @@ Reading = State → Value
 abbrev pub Readings : Type 0
 Readings = List (Name × Reading)
 
--- uses of derived functions are nested at most so deep: the greatest rank is 16
+-- uses of derived functions are nested at most this deep: the greatest rank is 16
 abbrev pub nesting : ℕ
 nesting = 17
 
@@ -74,13 +76,13 @@ module _ (program : Program) (derived : List Name → Term → List Value → St
     chained no_links v m A = v
     chained (link_then o t links) v m A = chained links (op o v (reading t m A)) m A
 
--- parameters that take values, and undef where there are too few
+-- parameters that take values, and undef if there are too few
 abbrev pub constants : List Name → List Value → Readings
 constants [] vs = []
 constants (x ∷ xs) [] = (x, λ _. Undef) ∷ constants xs []
 constants (x ∷ xs) (v ∷ vs) = (x, λ _. v) ∷ constants xs vs
 
--- where derived functions are nested deeper than n they are undef
+-- derived functions that are nested deeper than n are undef
 unfoldable pub reading_within : Program → ℕ → Term → Readings → State → Value
 reading_within program zero = reading program (λ xs t vs A. Undef)
 reading_within program (suc n) = reading program (λ xs t vs A. reading_within program n t (constants xs vs) A)
@@ -89,7 +91,7 @@ reading_within program (suc n) = reading program (λ xs t vs A. reading_within p
 abbrev pub Use : Type 0
 Use = List Name → Term → List Value → State → Value
 
--- the body of a derived function in a term that stands in no other one
+-- the body of a derived function in a term that is in no other one
 abbrev pub inner : Program → Use
 inner program xs t vs A = reading_within program 16 t (constants xs vs) A
 
@@ -107,7 +109,7 @@ unfoldable pub values : Program → State → Environment → Terms → List Val
 values program A e no_terms = []
 values program A e (term_then t ts) = value program A e t ∷ values program A e ts
 
--- a condition holds where its value is true, or where there is none
+-- a condition holds if its value is true, or if there is none
 abbrev pub holds : Program → State → Environment → Option Term → Bool
 holds program A e None = true
 holds program A e (Some c) = is_true (value program A e c)

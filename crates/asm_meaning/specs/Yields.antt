@@ -1,6 +1,7 @@
--- What a rule yields, for any choices.
+-- Definition. What a rule yields, for any choices.
 --     Result                       an update set, or the path where the rule is exhausted
---     Yields program turns A e p R r      in the state A, under e and at the path p, the rule R may yield r
+--     Yields program turns A e p R r      in the state A, under e and at the path p, the rule R may
+--                                         yield r
 use Rattle.std.specs.Prelude.{◌≡◌, ◌≢◌, ℕ, zero, suc, true, false, cond, List, [], ◌∷◌, ◌++◌, Option, Some, slice_get, ◌⊎◌}
 use Rattle.std.specs.Cmp.Lexicographic.{slice_cmp}
 use Rattle.std.specs.Ordering.{nat_cmp, is_lt}
@@ -96,7 +97,7 @@ module _ (program : Program) (turns : ℕ) where
           → holds program A (with_value x v e) c ≡ true → Yields A (with_value x v e) (at p k) P r
           → YieldsEach A e p x c P (suc k) vs rs → YieldsEach A e p x c P k (v ∷ vs) (r ∷ rs)
 
-    -- the turns from number t on, of which so many are left
+    -- the turns from number t on, with `left` of them left
     pub data YieldsTurns : State → Environment → Path → ℕ → ℕ → Rule → Result → Type 0 where
       turn_limit : {A : State} {e : Environment} {p : Path} {t : ℕ} {P : Rule} → YieldsTurns A e p t zero P (Exhausted p)
       last_turn : {A : State} {e : Environment} {p : Path} {t left : ℕ} {P : Rule} {U : UpdateSet}

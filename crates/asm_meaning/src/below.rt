@@ -1,12 +1,12 @@
 //! What lies between a state and the set of a view.
 ghost use Rattle.std.specs.Prelude.{ℕ, ◌≡◌};
 ghost use Rattle.asm_state.specs.declared.value.Value.{Value as value};
-ghost use Rattle.asm_meaning.specs.Seen.{content_below, content_or};
+ghost use Rattle.asm_meaning.specs.code.ShownStates.{content_below, content_or};
 
 use asm_state::word::Word;
 use asm_updates::summary::Summary;
 
-/// Sets of updates, of which each is fired after those below it.
+/// Sets of updates, each fired after those below it.
 #[derive(Clone, Copy)]
 pub enum Below<'a> {
     Nothing,

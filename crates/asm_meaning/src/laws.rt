@@ -9,15 +9,15 @@ ghost use Rattle.asm_state.specs.declared.function.FunctionKind.TheVariants as k
 ghost use Rattle.asm_state.specs.declared.operation.Op.{Op};
 ghost use Rattle.asm_state.specs.declared.value.Value.{Value};
 ghost use Rattle.asm_state.specs.declared.value.Value.TheVariants.{Undef};
-ghost use Rattle.asm_updates.specs.Entries.{Entries};
-ghost use Rattle.asm_updates.specs.Faults.{fault_of};
-ghost use Rattle.asm_updates.specs.Stands.{Stands, Adds};
+ghost use Rattle.asm_updates.specs.code.SummaryRanges.{SummaryRanges};
+ghost use Rattle.asm_updates.specs.code.Faults.{fault_of};
+ghost use Rattle.asm_updates.specs.code.Stands.{Stands, Adds};
 ghost use Rattle.asm_updates.specs.declared.fault.Fault.{Fault as NumberedFault};
 ghost use Rattle.asm_syntax.specs.PlainTree.{literal_value, plain_links, plain_term, plain_terms, plain_rule};
 ghost use Rattle.asm_syntax.specs.SourceTree.{Spec};
 ghost use Rattle.asm_syntax.specs.Tree as tree;
 ghost use Rattle.asm_syntax.specs.Tree.{Name, Terms, Named as NamedTerm, Call};
-ghost use Rattle.asm_syntax.specs.Views.{name_of, links_of, spec_of, term_of, terms_of, rule_of};
+ghost use Rattle.asm_syntax.specs.code.Views.{name_of, links_of, spec_of, term_of, terms_of, rule_of};
 ghost use Rattle.asm_syntax.specs.declared.name.Name as syntax;
 ghost use Rattle.asm_syntax.specs.declared.rule.Rule.{Rule};
 ghost use Rattle.asm_syntax.specs.declared.term.Literal.{Literal};
@@ -25,53 +25,54 @@ ghost use Rattle.asm_syntax.specs.declared.term.Term.{Term};
 ghost use Rattle.asm_syntax.specs.declared.term.Term.TheVariants as term;
 ghost use Rattle.asm_check.specs.Faults.{IsWellFormed};
 ghost use Rattle.asm_check.specs.Names as names;
-ghost use Rattle.asm_check.specs.NumberTables.{IsInRange};
-ghost use Rattle.asm_check.specs.Numbers.{derived_of, rules_of, meaning_at, named};
+ghost use Rattle.asm_check.specs.code.numbers.NumberTables.{IsInRange};
+ghost use Rattle.asm_check.specs.Numbers.{derived_of, rules_of, declared_with_number, named};
 ghost use Rattle.asm_check.specs.Ranks.{derived_rank, rule_rank};
 ghost use Rattle.asm_check.specs.Shapes.{shape_of};
 ghost use Rattle.asm_check.specs.declared.checked.Checked.{Checked};
-ghost use Rattle.asm_check.specs.declared.checked.Named.{Named};
-ghost use Rattle.asm_check.specs.declared.checked.Named.TheVariants as number;
+ghost use Rattle.asm_check.specs.declared.checked.NameNumber.{NameNumber};
+ghost use Rattle.asm_check.specs.declared.checked.NameNumber.TheVariants as number;
 ghost use Rattle.asm_reader.specs.ScriptLines.{Script};
 ghost use Rattle.asm_meaning.specs.Cases.{ScriptedByCases};
 ghost use Rattle.asm_meaning.specs.Declarations.{ProgramDeclares, function_number, numbered, program_of, rule_number, universe_number};
 ghost use Rattle.asm_meaning.specs.Does.{Outcome, Meaning, nothing, both, counted, parts, in_order, turns_of, each, one_of, following, part_and, turn_and, does};
 ghost use Rattle.asm_meaning.specs.ExhaustedLaws.{ExhaustedLaws};
-ghost use Rattle.asm_meaning.specs.Formed.{Forms, Follows, GoesOn, IsSet, IsStoppedAt, greatest_count};
-ghost use Rattle.asm_meaning.specs.Grouped.{GroupingLaws, counting, all_both};
+ghost use Rattle.asm_meaning.specs.code.FormedOutcomes.{Forms, Follows, IsMergedPart, IsSet, IsStoppedAt, greatest_count};
+ghost use Rattle.asm_meaning.specs.code.OutcomesBeside.{GroupingLaws, counting, all_both};
 ghost use Rattle.asm_meaning.specs.InitialLaws.{InitialLaws};
-ghost use Rattle.asm_meaning.specs.Intervals.{between};
-ghost use Rattle.asm_meaning.specs.Law.{ScriptedIsFree, FreeHasScript};
-ghost use Rattle.asm_meaning.specs.Meant.{text_of};
-ghost use Rattle.asm_meaning.specs.Nested.{Within, Behind, Nests, AllNest};
+ghost use Rattle.asm_meaning.specs.code.Intervals.{between};
+ghost use Rattle.asm_meaning.specs.LawOfChoice.{ScriptedIsFree, FreeHasScript};
+ghost use Rattle.asm_meaning.specs.code.MeantTrees.{text_of};
+ghost use Rattle.asm_meaning.specs.code.NestedPaths.{Within, Behind, Nests, AllNest};
 ghost use Rattle.asm_meaning.specs.Program.{Program, Environment, Controlled, Derived, NamedRule, bound_to, declared};
-ghost use Rattle.asm_meaning.specs.PartSets.{IsPartSet, ends_parts, ends_turns};
+ghost use Rattle.asm_meaning.specs.code.PartSets.{IsPartSet, ends_parts, ends_turns};
 ghost use Rattle.asm_meaning.specs.Ranks.{AreDerivedRanked, IsRanked};
 ghost use Rattle.asm_meaning.specs.Run.{ScriptedRuns, FreeRuns};
 ghost use Rattle.asm_meaning.specs.Scripts.{UnrepeatedScript};
 ghost use Rattle.asm_meaning.specs.SpecificationLaw.{SpecificationsAreRanked, SpecificationRunsAreFree, SpecificationRunsHaveScripts};
-ghost use Rattle.asm_meaning.specs.Splits.{BesideLaws, SplitLaws};
-ghost use Rattle.asm_meaning.specs.Taken.{taken, walk_to};
+ghost use Rattle.asm_meaning.specs.code.BesideLaws.{BesideLaws, SplitLaws};
+ghost use Rattle.asm_meaning.specs.Taken.{taken, found_candidate};
 ghost use Rattle.asm_meaning.specs.Targets.{location_of};
 ghost use Rattle.asm_meaning.specs.TermCases.{ValuedByCases};
-ghost use Rattle.asm_meaning.specs.TreeWeights.{body_weight, in_body, link_of, named_weight, rules_in, term_weight};
-ghost use Rattle.asm_meaning.specs.Underway.{IsUnderway};
+ghost use Rattle.asm_meaning.specs.code.TreeWeights.{body_weight, in_body, link_of, named_weight, rules_in, term_weight};
+ghost use Rattle.asm_meaning.specs.code.SequenceUnderway.{IsUnderway};
 ghost use Rattle.asm_meaning.specs.Value.{applied, inner, nesting, universe, value, values};
-ghost use Rattle.asm_meaning.specs.Valued.{declared_value, program};
-ghost use Rattle.asm_meaning.specs.Weights.{TermWeightsFall, CallWeightsFall, rule_weight};
+ghost use Rattle.asm_meaning.specs.code.TermValues.{declared_value, program};
+ghost use Rattle.asm_meaning.specs.code.Weights.{TermWeightsFall, CallWeightsFall, rule_weight};
 ghost use Rattle.asm_meaning.specs.Yields.{Path, Result, Gives, Exhausted, at, beside};
 ghost use Rattle.asm_meaning.specs.declared.outcome.Forming.{Forming};
 ghost use Rattle.asm_meaning.specs.declared.part_set.PartSet.{PartSet};
 ghost use Rattle.asm_meaning.specs.declared.stopped.Stopped.{Stopped};
 ghost use Rattle.asm_meaning.specs.declared.stopped.Stopped.TheVariants.{Memory};
-ghost use Rattle.asm_meaning.specs.declared.walk.Walk.TheVariants.{Met, Passed};
+ghost use Rattle.asm_meaning.specs.declared.found_candidate.FoundCandidate.TheVariants.{At, TooFew};
 
 /// What a rule does under a script is what it may yield.
 pub fn scripted_is_free()
     ensures { ScriptedIsFree }
 {}
 
-/// A script chooses as one without repeated lines does, which has the first line of each step and path.
+/// A script chooses as one without repeated lines does, which has the first line of each step and
+/// path.
 pub fn unrepeated_script()
     ensures { UnrepeatedScript }
 {}
@@ -102,7 +103,7 @@ pub fn initial_laws()
     ensures { InitialLaws }
 {}
 
-/// Parts beside each other are exhausted where one of them is, at the least of their paths, which
+/// Parts beside each other are exhausted if one of them is, at the least of their paths, which
 /// is that of the first of them.
 pub fn exhausted_laws()
     ensures { ExhaustedLaws }
@@ -149,13 +150,15 @@ pub fn specification_runs_are_free()
     ensures { SpecificationRunsAreFree }
 {}
 
-/// Each run of a specification without faults, for whatever choices, is its run under some script without repeated lines.
+/// Each run of a specification without faults, for whatever choices, is its run under some script
+/// without repeated lines.
 pub fn specification_runs_have_scripts()
     ensures { SpecificationRunsHaveScripts }
 {}
 
-/// An exhausted path lies within the path of its rule: of a descent, of parts from a number on, of parts and turns one after the other,
-/// of elements, and of what a `choose` takes. So of what stands beside each other the first that is exhausted has the least path.
+/// An exhausted path lies within the path of its rule: of a descent, of parts from a number on, of
+/// parts and turns one after the other, of elements, and of what a `choose` takes. So of what is
+/// beside each other the first that is exhausted has the least path.
 pub fn nested_paths()
     ensures behind_is_within { (p : Path) (k : ℕ) (r : Result) → Behind p k r → Within p r }
     ensures descent_is_within { (p : Path) (k : ℕ) (r : Result) → Within (at p k) r → Within p r }
@@ -169,7 +172,8 @@ pub fn nested_paths()
     ensures first { (p : Path) (k : ℕ) (q : Path) (r s : Result) → Within (at p k) r → Behind p (suc k) s → r ≡ Exhausted q → beside r s ≡ Exhausted q }
 {}
 
-/// Outcomes beside each other are made of each of them; of none, one, and two lists one behind the other.
+/// Outcomes beside each other are made of each of them; of none, one, and two lists one after the
+/// other.
 pub fn grouping_laws()
     ensures { GroupingLaws }
 {}
@@ -183,7 +187,8 @@ pub fn group_laws<X: Drop>()
     ensures none { (f : X → Outcome) (xs : List X) → xs ≡ [] → nothing ≡ counting 0 (all_both (map f xs)) }
 {}
 
-/// The elements at an interval of positions: all, the first one and those behind it, none, and an interval cut in two.
+/// The elements at an interval of positions: all, the first one and those after it, none, and an
+/// interval cut in two.
 pub fn interval_laws()
     ensures all { (vs : List Value) → between 0 (length vs) vs ≡ vs }
     ensures next { (m : Value → ℕ → Outcome) (test : Value → Bool) (from to : ℕ) (vs : List Value) (v : Value) (b : Bool) → from < to →
@@ -196,8 +201,8 @@ pub fn interval_laws()
         both (each m test a (between a b vs)) (each m test b (between b c vs)) ≡ each m test a (between a c vs) }
 {}
 
-/// The elements of an interval, of which some have an outcome by now: at the beginning, behind one for which the condition holds,
-/// behind another, and at the end.
+/// The elements of an interval, some with an outcome by now: at the beginning, after one for which
+/// the condition holds, after another, and at the end.
 pub fn body_laws<X: Drop>()
     ensures begin { (f : X → Outcome) (m : Value → ℕ → Outcome) (test : Value → Bool) (to : ℕ) (vs : List Value) (from : ℕ) (xs : List X) → xs ≡ [] →
         both (counting 0 (all_both (map f xs))) (each m test from (between from to vs)) ≡ each m test from (between from to vs) }
@@ -213,27 +218,27 @@ pub fn body_laws<X: Drop>()
         both (counting n (all_both (map f xs))) (each m test i (between i to vs)) ≡ whole → whole ≡ counting n (all_both (map f xs)) }
 {}
 
-/// A walk along candidates: one more that passes the test and one that doesn't, where it ends, the candidate that is taken, and what is
-/// done with it.
+/// A walk along candidates: one more that passes the test and one that doesn't, where it ends, the
+/// candidate that is taken, and what is done with it.
 pub fn candidate_laws()
     ensures one_more { (p : Value → Bool) (vs : List Value) (i : ℕ) (v : Value) (n : ℕ) → slice_get vs i ≡ Some v → p v ≡ true →
         n ≡ length (filter p (take i vs)) → n + 1 ≡ length (filter p (take (i + 1) vs)) }
     ensures none_more { (p : Value → Bool) (vs : List Value) (i : ℕ) (v : Value) (n : ℕ) → slice_get vs i ≡ Some v → p v ≡ false →
         n ≡ length (filter p (take i vs)) → n ≡ length (filter p (take (i + 1) vs)) }
     ensures met { (p : Value → Bool) (vs : List Value) (i : ℕ) (v : Value) (n : ℕ) → slice_get vs i ≡ Some v → p v ≡ true →
-        n ≡ length (filter p (take i vs)) → Met v ≡ walk_to n (filter p vs) }
+        n ≡ length (filter p (take i vs)) → At v ≡ found_candidate n (filter p vs) }
     ensures passed { (p : Value → Bool) (vs : List Value) (i n k : ℕ) → length vs ≤ i → n ≡ length (filter p (take i vs)) → n ≤ k →
-        Passed n ≡ walk_to k (filter p vs) }
-    ensures taken { (k : ℕ) (vs : List Value) (v : Value) → Met v ≡ walk_to k vs → Some v ≡ taken k vs }
-    ensures taken_again { (k n : ℕ) (vs : List Value) (v : Value) → Passed n ≡ walk_to k vs → Met v ≡ walk_to (k % n) vs → Some v ≡ taken k vs }
+        TooFew n ≡ found_candidate k (filter p vs) }
+    ensures taken { (k : ℕ) (vs : List Value) (v : Value) → At v ≡ found_candidate k vs → Some v ≡ taken k vs }
+    ensures taken_again { (k n : ℕ) (vs : List Value) (v : Value) → TooFew n ≡ found_candidate k vs → At v ≡ found_candidate (k % n) vs → Some v ≡ taken k vs }
     ensures some { (n : ℕ) (vs : List Value) (v : Value) (m : Value → Outcome) (other : Outcome) → Some v ≡ taken n vs → m v ≡ one_of n vs m other }
     ensures none { (n : ℕ) (vs : List Value) (m : Value → Outcome) (other : Outcome) → None ≡ taken n vs → other ≡ one_of n vs m other }
 {}
 
-/// What a call promises that forms an outcome: of an equal outcome, of nothing, of two parts, with an instance that is counted first,
-/// and where an error is handed on.
+/// What a call promises that forms an outcome: of an equal outcome, of nothing, of two parts, with
+/// an instance that is counted first, and if an error is handed on.
 pub fn following_laws<S: Drop, T: Drop>()
-    ensures forms_same { (shape : Shape) (o q : Outcome) (old new : Entries) (before after : ℕ) → o ≡ q →
+    ensures forms_same { (shape : Shape) (o q : Outcome) (old new : SummaryRanges) (before after : ℕ) → o ≡ q →
         Forms shape o old new before after → Forms shape q old new before after }
     ensures stopped_with { (o q : Outcome) (p : Path) (stop : Stopped) → ((at : Path) → o.result ≡ Exhausted at → q.result ≡ Exhausted at) →
         IsStoppedAt o p stop → IsStoppedAt q p stop }
@@ -248,9 +253,10 @@ pub fn following_laws<S: Drop, T: Drop>()
         ((p : Path) → o.result ≡ Exhausted p → q.result ≡ Exhausted p) → Follows shape o mid new given → Follows shape q old new returned }
 {}
 
-/// What has been formed from nothing is an outcome's set with its instances, or the path where it is exhausted.
+/// What has been formed from nothing is an outcome's set with its instances, or the path where it
+/// is exhausted.
 pub fn from_nothing_laws<T: Drop>()
-    ensures formed { (shape : Shape) (o : Outcome) (old new : Entries) (before after : ℕ) → Stands shape old none → before ≡ 0 → new.count ≡ count_of shape →
+    ensures formed { (shape : Shape) (o : Outcome) (old new : SummaryRanges) (before after : ℕ) → Stands shape old none → before ≡ 0 → new.count ≡ count_of shape →
         Forms shape o old new before after → IsSet shape o new after }
     ensures set { (shape : Shape) (o : Path → Outcome) (p : Path) (old new : Forming) (r : Returned T Stopped) → Stands shape old.set none →
         old.set.count ≡ count_of shape → old.instances ≡ 0 → old.path.items ≡ p → Follows shape (o old.path.items) old new r →
@@ -268,7 +274,8 @@ pub fn stopping_laws<S: Drop, T: Drop>()
     ensures memory { (o : Outcome) (p : Path) (returned : Returned T Stopped) → IfErr returned (λ stop. stop ≡ Memory) → IfErr returned (IsStoppedAt o p) }
 {}
 
-/// What a part of a sequence, or a turn, makes of what comes behind it; and what its set is, where it ends the sequence or doesn't.
+/// What a part of a sequence, or a turn, makes of what comes after it; and what its set is, if it
+/// ends the sequence or doesn't.
 pub fn part_laws()
     ensures good_part { (o : Outcome) (V : UpdateSet) (rest : UpdateSet → Outcome) → o.result ≡ Gives V → IsConsistent V →
         part_and o.result o.instances rest ≡ following V o.instances (rest V) }
@@ -289,43 +296,44 @@ pub fn part_laws()
     ensures ending_turn { (V : UpdateSet) (part : PartSet) → IsPartSet V part → ends_turns part ≡ true → (V ≡ none) ⊎ (¬ (IsConsistent V)) }
 {}
 
-/// A sequence on its way: at its beginning, a part that is formed upon the sets so far, or one whose set is known, behind a part whose set is consistent, and at
-/// its end, where a set ends it, nothing is left, or what is left is exhausted.
+/// A sequence on its way: at its beginning, a part that is formed upon the sets so far, or one
+/// whose set is known, after a part whose set is consistent, and at its end, when a set ends it,
+/// nothing is left, or what is left is exhausted.
 pub fn sequence_laws<T: Drop>()
-    ensures begins { (shape : Shape) (A : State) (total : Outcome) (left : State → Outcome) (so_far : Entries) (n : ℕ) → total ≡ left A → n ≤ greatest_count →
+    ensures begins { (shape : Shape) (A : State) (total : Outcome) (left : State → Outcome) (so_far : SummaryRanges) (n : ℕ) → total ≡ left A → n ≤ greatest_count →
         Stands shape so_far none → IsUnderway shape A total left so_far n n }
-    ensures goes_upon { (shape : Shape) (o : Outcome) (U : UpdateSet) (cleared so_far joined made : Entries) (part : PartSet) (before after : ℕ) → Stands shape cleared none →
+    ensures goes_upon { (shape : Shape) (o : Outcome) (U : UpdateSet) (cleared so_far joined made : SummaryRanges) (part : PartSet) (before after : ℕ) → Stands shape cleared none →
         Stands shape so_far U → ((V W : UpdateSet) → Stands shape so_far V → Stands shape made W → Stands shape joined (merge V W)) →
-        ((V : UpdateSet) → Stands shape made V → IsPartSet V part) → Forms shape o cleared made before after → GoesOn shape o U joined part before after }
-    ensures goes_by { (shape : Shape) (o : Outcome) (U V : UpdateSet) (joined : Entries) (part : PartSet) (n : ℕ) → o ≡ record { result = Gives V; instances = 0 } →
-        n ≤ greatest_count → IsPartSet V part → Stands shape joined (merge U V) → GoesOn shape o U joined part n n }
-    ensures goes_on { (shape : Shape) (A : State) (total : Outcome) (left : State → Outcome) (so_far : Entries) (before now : ℕ) (under : IsUnderway shape A total left so_far before now)
-        (o : Outcome) (left_then : State → Outcome) (joined : Entries) (part : PartSet) (after : ℕ) (on : GoesOn shape o under.set joined part now after) → IsConsistent on.set →
+        ((V : UpdateSet) → Stands shape made V → IsPartSet V part) → Forms shape o cleared made before after → IsMergedPart shape o U joined part before after }
+    ensures goes_by { (shape : Shape) (o : Outcome) (U V : UpdateSet) (joined : SummaryRanges) (part : PartSet) (n : ℕ) → o ≡ record { result = Gives V; instances = 0 } →
+        n ≤ greatest_count → IsPartSet V part → Stands shape joined (merge U V) → IsMergedPart shape o U joined part n n }
+    ensures goes_on { (shape : Shape) (A : State) (total : Outcome) (left : State → Outcome) (so_far : SummaryRanges) (before now : ℕ) (under : IsUnderway shape A total left so_far before now)
+        (o : Outcome) (left_then : State → Outcome) (joined : SummaryRanges) (part : PartSet) (after : ℕ) (on : IsMergedPart shape o under.set joined part now after) → IsConsistent on.set →
         left (fire A under.set) ≡ following on.set o.instances (left_then (fire (fire A under.set) on.set)) →
         IsUnderway shape A total left_then joined before after }
-    ensures ends_with { (shape : Shape) (A : State) (total : Outcome) (left : State → Outcome) (so_far : Entries) (before now : ℕ) (under : IsUnderway shape A total left so_far before now)
-        (was old new : Entries) (n : ℕ) (returned : Returned T Stopped) (same : was ≡ old)
-        (o : Outcome) (joined : Entries) (part : PartSet) (after : ℕ) (on : GoesOn shape o under.set joined part now after) → n ≡ after →
+    ensures ends_with { (shape : Shape) (A : State) (total : Outcome) (left : State → Outcome) (so_far : SummaryRanges) (before now : ℕ) (under : IsUnderway shape A total left so_far before now)
+        (was old new : SummaryRanges) (n : ℕ) (returned : Returned T Stopped) (same : was ≡ old)
+        (o : Outcome) (joined : SummaryRanges) (part : PartSet) (after : ℕ) (on : IsMergedPart shape o under.set joined part now after) → n ≡ after →
         left (fire A under.set) ≡ record { result = Gives on.set; instances = o.instances } →
         ((V : UpdateSet) → Stands shape joined V → OnOk returned (Adds shape V was new)) → OnOk returned (Forms shape total old new before n) }
-    ensures ends { (shape : Shape) (A : State) (total : Outcome) (left : State → Outcome) (so_far : Entries) (before now : ℕ) (under : IsUnderway shape A total left so_far before now)
-        (was old new : Entries) (n : ℕ) (returned : Returned T Stopped) (same : was ≡ old) → n ≡ now → left (fire A under.set) ≡ nothing →
+    ensures ends { (shape : Shape) (A : State) (total : Outcome) (left : State → Outcome) (so_far : SummaryRanges) (before now : ℕ) (under : IsUnderway shape A total left so_far before now)
+        (was old new : SummaryRanges) (n : ℕ) (returned : Returned T Stopped) (same : was ≡ old) → n ≡ now → left (fire A under.set) ≡ nothing →
         ((V : UpdateSet) → Stands shape so_far V → OnOk returned (Adds shape V was new)) → OnOk returned (Forms shape total old new before n) }
-    ensures ends_at { (shape : Shape) (A : State) (total : Outcome) (left : State → Outcome) (so_far : Entries) (before now : ℕ) (under : IsUnderway shape A total left so_far before now)
+    ensures ends_at { (shape : Shape) (A : State) (total : Outcome) (left : State → Outcome) (so_far : SummaryRanges) (before now : ℕ) (under : IsUnderway shape A total left so_far before now)
         (q : Path) → (left (fire A under.set)).result ≡ Exhausted q → total.result ≡ Exhausted q }
 {}
 
-/// What a name's number stands for: elements and functions that are in range, derived functions and rules with the code's parameters
-/// and bodies, and what has no value.
+/// What a name's number stands for: elements and functions that are in range, derived functions and
+/// rules with the code's parameters and bodies, and what has no value.
 pub fn numbered_names()
-    ensures element { (spec : Spec) (it : Option Named) (e : ℕ) → IsWellFormed spec → IsInRange spec it → it ≡ Some (number.Element e) → e < 262_144 }
-    ensures function { (spec : Spec) (shape : Shape) (it : Option Named) (f : ℕ) → IsWellFormed spec → shape ≡ shape_of spec → IsInRange spec it →
+    ensures element { (spec : Spec) (it : Option NameNumber) (e : ℕ) → IsWellFormed spec → IsInRange spec it → it ≡ Some (number.Element e) → e < 262_144 }
+    ensures function { (spec : Spec) (shape : Shape) (it : Option NameNumber) (f : ℕ) → IsWellFormed spec → shape ≡ shape_of spec → IsInRange spec it →
         it ≡ Some (number.Function f) → f < length shape.functions }
-    ensures derived { (spec : Spec) (it : Option Named) (d : ℕ) (xs : List syntax.Name) (t : Term) → it ≡ Some (number.Derived d) →
-        meaning_at (derived_of spec) d ≡ Some (names.Derived (map name_of xs) (term_of t)) →
+    ensures derived { (spec : Spec) (it : Option NameNumber) (d : ℕ) (xs : List syntax.Name) (t : Term) → it ≡ Some (number.Derived d) →
+        declared_with_number (derived_of spec) d ≡ Some (names.Derived (map name_of xs) (term_of t)) →
         numbered spec it ≡ Some (Derived (map text_of xs) (plain_term (term_of t))) }
-    ensures rule { (spec : Spec) (it : Option Named) (r : ℕ) (xs : List syntax.Name) (R : Rule) → it ≡ Some (number.Rule r) →
-        meaning_at (rules_of spec) r ≡ Some (names.NamedRule (map name_of xs) (rule_of R)) →
+    ensures rule { (spec : Spec) (it : Option NameNumber) (r : ℕ) (xs : List syntax.Name) (R : Rule) → it ≡ Some (number.Rule r) →
+        declared_with_number (rules_of spec) r ≡ Some (names.NamedRule (map name_of xs) (rule_of R)) →
         numbered spec it ≡ Some (NamedRule (map text_of xs) (plain_rule (rule_of R))) }
     ensures universe_undef { (program : Program) (A : State) (vs : List Value) (spec : Spec) (n : ℕ) →
         Undef ≡ declared_value program A (numbered spec (Some (number.Universe n))) vs }
@@ -338,23 +346,24 @@ pub fn universe_names()
     ensures some { (spec : Spec) (x : Name) (n : ℕ) (vs : List Value) → universe_number (named spec x) ≡ Some n →
         slice_get (shape_of spec).universes n ≡ Some vs → universe (program_of spec) x ≡ vs }
     ensures none { (spec : Spec) (x : Name) → universe_number (named spec x) ≡ None → universe (program_of spec) x ≡ [] }
-    ensures in_range { (spec : Spec) (it : Option Named) (n : ℕ) → IsWellFormed spec → IsInRange spec it → universe_number it ≡ Some n →
+    ensures in_range { (spec : Spec) (it : Option NameNumber) (n : ℕ) → IsWellFormed spec → IsInRange spec it → universe_number it ≡ Some n →
         n < length (shape_of spec).universes }
 {}
 
-/// The controlled function that a name stands for, by its number. Static functions and other names have no location.
+/// The controlled function that a name stands for, by its number. Static functions and other names
+/// have no location.
 pub fn target_names()
     ensures controlled { (spec : Spec) (x : Name) (shape : Shape) → shape ≡ shape_of spec → (f : ℕ) (it : Function) → Some (number.Function f) ≡ named spec x →
         slice_get shape.functions f ≡ Some it → it.kind ≡ kind.Controlled → declared (program_of spec) x ≡ Some (Controlled f (domain_of shape f)) }
     ensures of_static { (spec : Spec) (x : Name) (shape : Shape) → shape ≡ shape_of spec → (f : ℕ) (it : Function) → Some (number.Function f) ≡ named spec x →
         slice_get shape.functions f ≡ Some it → it.kind ≡ kind.Static → (vs : List Value) → location_of (declared (program_of spec) x) vs ≡ None }
-    ensures other { (spec : Spec) (x : Name) (it : Option Named) → it ≡ named spec x → function_number it ≡ None → (vs : List Value) →
+    ensures other { (spec : Spec) (x : Name) (it : Option NameNumber) → it ≡ named spec x → function_number it ≡ None → (vs : List Value) →
         location_of (declared (program_of spec) x) vs ≡ None }
 {}
 
 /// A call of a name that stands for no rule does nothing.
 pub fn called_names()
-    ensures { (spec : Spec) (turns : ℕ) (script : Script) (step : ℕ) (A : State) (e : Environment) (p : Path) (to : Option (Name × Terms)) (f : Name) (ts : Terms) (it : Option Named) →
+    ensures { (spec : Spec) (turns : ℕ) (script : Script) (step : ℕ) (A : State) (e : Environment) (p : Path) (to : Option (Name × Terms)) (f : Name) (ts : Terms) (it : Option NameNumber) →
         it ≡ named spec f → rule_number it ≡ None → nothing ≡ does (program_of spec) turns script step A e p (Call to f ts) }
 {}
 
@@ -384,11 +393,12 @@ pub fn plain_terms()
         plain_term (term_of t) ≡ tree.Exists x.text over.text (plain_term (term_of test.value)) }
     ensures every { (t : Term) (x over : syntax.Name) (test : Box Term Global) → t ≡ term.Every x over test →
         plain_term (term_of t) ≡ tree.Every x.text over.text (plain_term (term_of test.value)) }
-    ensures answer { (t : Term) (x : syntax.Name) → t ≡ term.Answer x → plain_term (term_of t) ≡ NamedTerm x.text tree.no_terms }
+    ensures answer { (t : Term) (x : syntax.Name) → t ≡ term.Result x → plain_term (term_of t) ≡ NamedTerm x.text tree.no_terms }
 {}
 
-/// What falls on the way of a recursion over the code's tree: at the operand of a `not` and of a sign, at an argument, at the body of
-/// what a name stands for, and at the body of a rule that is called. How many rules a rule is made of is its weight.
+/// What falls on the way of a recursion over the code's tree: at the operand of a `not` and of a
+/// sign, at an argument, at the body of what a name stands for, and at the body of a rule that is
+/// called. How many rules a rule is made of is its weight.
 pub fn tree_weights()
     ensures of_not { (checked : Checked) (e : Environment) (t : Term) (inner : Box Term Global) → t ≡ term.Not inner → (u : Term) → u ≡ inner.value →
         term_weight (program checked) e u < term_weight (program checked) e t }
@@ -396,12 +406,12 @@ pub fn tree_weights()
         term_weight (program checked) e u < term_weight (program checked) e t }
     ensures argument { (checked : Checked) (e : Environment) (x : Name) (ts : List Term) (i : ℕ) (t : Term) → i < length ts → t ≡ slice_index_or ts i t →
         term_weight (program checked) e t < named_weight (program checked) e x ts }
-    ensures body { (checked : Checked) (e : Environment) (x : Name) (ts : List Term) (it : Option Named) (vs : List Value) → bound_to e x ≡ None →
+    ensures body { (checked : Checked) (e : Environment) (x : Name) (ts : List Term) (it : Option NameNumber) (vs : List Value) → bound_to e x ≡ None →
         it ≡ named (spec_of checked.spec) x →
         body_weight (program checked) (numbered (spec_of checked.spec) it) vs < 4 * named_weight (program checked) e x ts + 1 }
     ensures call { (checked : Checked) (to : Option (Name × Terms)) (f : Name) (ts : Terms) (r : ℕ) (xs : List syntax.Name) (R : Rule) →
         named (spec_of checked.spec) f ≡ Some (number.Rule r) →
-        meaning_at (rules_of (spec_of checked.spec)) r ≡ Some (names.NamedRule (map name_of xs) (rule_of R)) →
+        declared_with_number (rules_of (spec_of checked.spec)) r ≡ Some (names.NamedRule (map name_of xs) (rule_of R)) →
         rules_in (in_body checked) (plain_rule (rule_of R)) < rules_in (in_body checked) (Call to f ts) }
     ensures rule { (checked : Checked) (R : tree.Rule) → rules_in (in_body checked) R ≡ rule_weight (program checked) R }
 {}

@@ -1,21 +1,21 @@
-//! The meaning of terms, rules and specifications, as definitions for contracts, with its laws; views of states, and how an outcome is
-//! formed.
+//! The meaning of terms, rules and specifications, as definitions for contracts, with its laws;
+//! views of states, and how an outcome is formed.
 #![tactic(auto)]
 
 pub mod below;
 pub mod choices;
-pub mod from_nothing;
-pub mod kept;
+pub mod found_candidate;
 pub mod laws;
+pub mod new_forming;
 pub mod outcome;
 pub mod part;
 pub mod part_set;
 pub mod path;
 pub mod shared;
+pub mod spare_sets;
 pub mod stopped;
 pub mod update;
 pub mod view;
-pub mod walk;
 
 pub use choices::Choices;
 pub use outcome::{Forming, Outcome};

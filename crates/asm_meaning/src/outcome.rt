@@ -7,7 +7,8 @@ use asm_updates::summary::Summary;
 /// What a rule yields.
 #[derive(Drop)]
 pub enum Outcome {
-    /// An update set, with the number of elements for which the condition of a `forall` held, cut off where it doesn't fit.
+    /// An update set, with the number of elements for which the condition of a `forall` held, cut
+    /// off if it doesn't fit.
     Set { set: Summary, instances: u64 },
     /// No set: the `iterate` at this path has made its last turn.
     Exhausted(Path),
@@ -17,9 +18,10 @@ pub enum Outcome {
 #[derive(Drop)]
 pub struct Forming {
     pub set: Summary,
-    /// Cut off where the number doesn't fit.
+    /// Cut off if the number doesn't fit.
     pub instances: u64,
-    /// The path of the rule that is evaluated: its numbers come and go here, so that no path is built anew.
+    /// The path of the rule that is evaluated: its numbers come and go here, so that no path is
+    /// built anew.
     pub path: Vec<u64>,
     /// Sets that sequences have done with, kept for the next ones.
     pub spare: Vec<Summary>,

@@ -1,6 +1,6 @@
 //! The part of a rule that a piece of a region has.
 
-/// Which part of its rule a piece has. No reference stands in it.
+/// Which part of its rule a piece has. There is no reference in it.
 #[derive(Clone, Copy, Debug)]
 pub enum Part {
     /// All of it.

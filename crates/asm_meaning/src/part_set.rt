@@ -2,8 +2,8 @@
 ghost use Rattle.std.specs.Prelude.{◌≡◌};
 ghost use Rattle.asm_state.specs.Signature.{count_of};
 ghost use Rattle.asm_state.specs.Updates.{UpdateSet};
-ghost use Rattle.asm_updates.specs.Stands.{Stands};
-ghost use Rattle.asm_meaning.specs.PartSets.{IsPartSet, ends_parts, ends_turns};
+ghost use Rattle.asm_updates.specs.code.Stands.{Stands};
+ghost use Rattle.asm_meaning.specs.code.PartSets.{IsPartSet, ends_parts, ends_turns};
 
 use asm_state::signature::Signature;
 use asm_updates::summary::Summary;

@@ -3,8 +3,8 @@ ghost use Rattle.std.specs.Prelude.{◌≡◌};
 
 use std::marker::Model;
 
-/// The numbers of the descents from the body of the main rule: of a part, of an element in its universe, or of a turn, from 0. It takes
-/// no memory to make one of a `Vec`, nor to give it back.
+/// The numbers of the descents from the body of the main rule: of a part, of an element in its
+/// universe, or of a turn, from 0. It takes no memory to make one of a `Vec`, nor to give it back.
 #[derive(Debug, Drop)]
 pub struct Path {
     numbers: Vec<u64>,

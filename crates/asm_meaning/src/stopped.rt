@@ -9,7 +9,8 @@ use std::alloc::{AllocError, AllocFailed};
 pub enum Stopped {
     /// Memory ran out.
     Memory,
-    /// There is no set: an `iterate` has made its last turn, the one at the path where the forming stands.
+    /// There is no set: an `iterate` has made its last turn, the one at the path where the forming
+    /// stands.
     Exhausted,
 }
 

@@ -2,14 +2,15 @@
 ghost use Rattle.std.specs.Prelude.{◌≡◌, ◌<◌, OnOk};
 ghost use Rattle.asm_state.specs.Signature.{count_of, location_at};
 ghost use Rattle.asm_state.specs.Updates.{UpdateSet, one, together};
-ghost use Rattle.asm_updates.specs.Stands.{Stands};
+ghost use Rattle.asm_updates.specs.code.Stands.{Stands};
 
 use asm_state::signature::Signature;
 use asm_state::word::Word;
 use asm_updates::summary::Summary;
 use std::alloc::AllocError;
 
-/// Adds the update of a location to a set. Whether the location is a stray one is asked here, so that a set of others has no mark.
+/// Adds the update of a location to a set. Whether the location is a stray one is asked here, so
+/// that a set of others has no mark.
 #[inline(always)]
 pub fn add_update(
     signature: &Signature,

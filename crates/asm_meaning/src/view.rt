@@ -9,10 +9,10 @@ ghost use Rattle.asm_state.specs.declared.value.Value.TheVariants.{Undef};
 ghost use Rattle.asm_state.specs.Signature.{HasKind, IsSound, count_of, domain_of, location_at, state_of};
 ghost use Rattle.asm_state.specs.Tables.{location_in};
 ghost use Rattle.asm_state.specs.Updates.{UpdateSet, IsConsistent, is_proper, overwritten, fire};
-ghost use Rattle.asm_updates.specs.Entries.{entry};
-ghost use Rattle.asm_updates.specs.Stands.{Stands};
+ghost use Rattle.asm_updates.specs.code.SummaryRanges.{summary_range};
+ghost use Rattle.asm_updates.specs.code.Stands.{Stands};
 ghost use Rattle.asm_meaning.specs.declared.below.Below.TheVariants.{Nothing};
-ghost use Rattle.asm_meaning.specs.Seen.{IsUpon, content_below, shown_over};
+ghost use Rattle.asm_meaning.specs.code.ShownStates.{IsUpon, content_below, shown_over};
 ghost use Rattle.asm_meaning.specs.Value.{read};
 
 use crate::below::Below;
@@ -21,7 +21,8 @@ use asm_state::state::State;
 use asm_state::word::Word;
 use asm_updates::summary::Summary;
 
-/// A state with sets of updates over it, read as the state in which the sets have been fired one after the other.
+/// A state with sets of updates over it, read as the state in which the sets have been fired one
+/// after the other.
 #[derive(Clone, Copy)]
 pub struct View<'a> {
     pub signature: &'a Signature,
@@ -45,7 +46,8 @@ impl<'a> View<'a> {
         ensures fired { (U : UpdateSet) → Stands signature.now over.now U → IsConsistent U →
             shown_over result.signature.now result.state.now result.below result.over.now ≡ fire (state_of signature.now state.now) U }
     {
-        // The calls say that no universe has a value twice, and that each entry is of a location below the count.
+        // The calls say that no universe has a value twice, and that each entry is of a location
+        // below the count.
         let _count = signature.count();
         let _len = over.len();
         View {
@@ -84,32 +86,33 @@ impl<'a> View<'a> {
     #[inline(always)]
     pub fn content(&self, n: usize) -> Word
         requires { n < count_of self.now.signature.now }
-        ensures kept { result ≡ overwritten (entry self.now.over.now n) (content_below self.now.below n (slice_index_or self.now.state.now n Undef)) }
+        ensures kept { result ≡ overwritten (summary_range self.now.over.now n) (content_below self.now.below n (slice_index_or self.now.state.now n Undef)) }
         ensures shown { let l = location_at self.now.signature.now n in
             IsTrue (is_proper l) → result ≡ shown_over self.now.signature.now self.now.state.now self.now.below self.now.over.now l }
     {
-        self.kept(n)
+        self.content_at(n)
     }
 
     /// What the last of the sets that names this number has there, or else the state.
     #[inline(always)]
-    fn kept(&self, n: usize) -> Word
+    fn content_at(&self, n: usize) -> Word
         requires { n < count_of self.now.signature.now }
-        ensures { result ≡ overwritten (entry self.now.over.now n) (content_below self.now.below n (slice_index_or self.now.state.now n Undef)) }
+        ensures { result ≡ overwritten (summary_range self.now.over.now n) (content_below self.now.below n (slice_index_or self.now.state.now n Undef)) }
     {
         if self.over.is_empty() {
             if let Below::Nothing = self.below {
                 return self.state.content(n);
             }
         }
-        self.kept_over(n)
+        self.content_over(n)
     }
 
-    /// The same where there are sets. It is called, so that a read without sets stays short where it stands in line.
+    /// The same if there are sets. It is called, so that a read without sets stays short where it
+    /// is inlined.
     #[inline(never)]
-    fn kept_over(&self, n: usize) -> Word
+    fn content_over(&self, n: usize) -> Word
         requires { n < count_of self.now.signature.now }
-        ensures { result ≡ overwritten (entry self.now.over.now n) (content_below self.now.below n (slice_index_or self.now.state.now n Undef)) }
+        ensures { result ≡ overwritten (summary_range self.now.over.now n) (content_below self.now.below n (slice_index_or self.now.state.now n Undef)) }
     {
         if let Some((value, _)) = self.over.get(n) {
             return value;
@@ -120,8 +123,9 @@ impl<'a> View<'a> {
         }
     }
 
-    /// What the view shows at the location of a controlled function with these arguments: `Undef` outside the domain.
-    #[tactic(auto, using(crate::proofs::Viewed::read_at))]
+    /// What the view shows at the location of a controlled function with these arguments: `Undef`
+    /// outside the domain.
+    #[tactic(auto, using(crate::proofs::ViewedLocations::read_at))]
     pub fn read(&self, f: usize, arguments: &[Word]) -> Word
         requires { HasKind Controlled self.now.signature.now f }
         ensures { let at = location_in f (domain_of self.now.signature.now f) arguments.now in

@@ -1,4 +1,4 @@
--- From what each worker has done to the runs of the lists.
+-- Free. From what each worker has done to the runs of the lists.
 use Rattle.std.proofs.Common.{◌≡◌, ◌≢◌, ℕ, suc, ◌<◌, ◌≤◌, List, [], ◌∷◌, ◌++◌, length, map, Some, sym, refl, ap, ◌∙◌, subst, ⊎_elim, arith}
 use Rattle.std.specs.List.{slice_get, flat_map, concat, range_with_len}
 use Rattle.std.specs.List.Sorted.{IsPermutation}
@@ -6,21 +6,21 @@ use Rattle.std.proofs.lemmas.Bool.{cases_lt, cases_eq, ne_eqb, lt-ltb}
 use Rattle.std.proofs.lemmas.List.Elements.{All-head, All-tail}
 use Rattle.std.proofs.lemmas.List.{length-map, map-append}
 use Rattle.std.proofs.lemmas.List.Concat.{concat_is}
-use Rattle.asm_pool.specs.declared.worker.Done.{Done}
+use Rattle.asm_pool.specs.declared.worker.TaskRun.{TaskRun}
 use Rattle.asm_pool.specs.declared.worker.Worker.{Worker}
-use Rattle.asm_pool.specs.Finished.{times, HasEachOnce, HasDone, AllHaveDone, StandIn, tasks_of, tasks_by, done_by}
-use Rattle.asm_pool.specs.Pool.{IsRun, RunsTask, RunsList, RunsLists}
+use Rattle.asm_pool.specs.code.WorkDone.{times, HasEachOnce, HasDone, AllHaveDone, StandIn, tasks_of, tasks_by, done_by}
+use Rattle.asm_pool.specs.code.Pool.{IsRun, RunsTask, RunsList, RunsLists}
 use Rattle.asm_pool.proofs.Counting.{times-append}
-use Rattle.asm_pool.proofs.Gathering.{all_left, all_right}
+use Rattle.asm_pool.proofs.WorkGathered.{all_left, all_right}
 use Rattle.asm_pool.proofs.Permutations.{each-once}
 
 module _ {Hand Out : Type 0} (takes : Hand → Type 0) (runs : ℕ → Hand → Out → Hand → Type 0) (outs : List Out) where
-  list-runs : (done : List (Done Out)) (before after : Hand) → StandIn outs done → HasDone (IsRun takes runs) before done after → RunsList takes runs outs before (tasks_of done) after
+  list-runs : (done : List (TaskRun Out)) (before after : Hand) → StandIn outs done → HasDone (IsRun takes runs) before done after → RunsList takes runs outs before (tasks_of done) after
   list-runs [] before after stand did = did
   list-runs (d ∷ ds) before after stand did = (
     did.0,
-    (d.out, All-head (λ (e : Done Out). slice_get outs e.task ≡ Some e.out) d ds stand, did.1),
-    list-runs ds did.0 after (All-tail (λ (e : Done Out). slice_get outs e.task ≡ Some e.out) d ds stand) did.2,
+    (d.out, All-head (λ (e : TaskRun Out). slice_get outs e.task ≡ Some e.out) d ds stand, did.1),
+    list-runs ds did.0 after (All-tail (λ (e : TaskRun Out). slice_get outs e.task ≡ Some e.out) d ds stand) did.2,
   )
 
   pub lists-run : (hands : List Hand) (workers : List (Worker Hand Out)) → StandIn outs (done_by workers) → AllHaveDone (IsRun takes runs) hands workers
@@ -29,11 +29,11 @@ module _ {Hand Out : Type 0} (takes : Hand → Type 0) (runs : ℕ → Hand → 
   lists-run [] (w ∷ workers) stand did = absurd did
   lists-run (hand ∷ hands) [] stand did = absurd did
   lists-run (hand ∷ hands) (w ∷ workers) stand did = (
-    list-runs w.done.items hand w.hand (all_left (λ (e : Done Out). slice_get outs e.task ≡ Some e.out) w.done.items (done_by workers) stand) did.0,
-    lists-run hands workers (all_right (λ (e : Done Out). slice_get outs e.task ≡ Some e.out) w.done.items (done_by workers) stand) did.1,
+    list-runs w.done.items hand w.hand (all_left (λ (e : TaskRun Out). slice_get outs e.task ≡ Some e.out) w.done.items (done_by workers) stand) did.0,
+    lists-run hands workers (all_right (λ (e : TaskRun Out). slice_get outs e.task ≡ Some e.out) w.done.items (done_by workers) stand) did.1,
   )
 
-  -- some run of the task answered the out in its place
+  -- some run of the task returned the out in its place
   abbrev pub HasRun : ℕ → Type 0
   HasRun n = (before : Hand) × (after : Hand) × RunsTask takes runs outs before n after
 
@@ -70,7 +70,7 @@ pub tasks_by-lists : {Hand Out : Type 0} (workers : List (Worker Hand Out)) → 
 tasks_by-lists [] = refl
 tasks_by-lists (w ∷ workers) = map-append (λ d. d.task) w.done.items (done_by workers) ∙ ap (λ l. tasks_of w.done.items ++ l) (tasks_by-lists workers)
 
--- what a pool answers, from what its workers have done
+-- what a pool returns, from what its workers have done
 module _ {Hand Out V : Type 0} (takes : Hand → Type 0) (runs : ℕ → Hand → Out → Hand → Type 0) (items : V → List ℕ) (count : ℕ) (outs : List Out) (hands others : List Hand) (lists : List V) (workers : List (Worker Hand Out))
     (once : HasEachOnce count (tasks_by workers)) (same_lists : map items lists ≡ map (λ (w : Worker Hand Out). tasks_of w.done.items) workers) where
   all-tasks : flat_map (λ (l : List ℕ). l) (map items lists) ≡ tasks_by workers

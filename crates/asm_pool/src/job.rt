@@ -6,7 +6,7 @@ pub trait Job {
     /// What a worker has for itself, and each run may change.
     type Hand;
 
-    /// What a run answers.
+    /// What a run returns.
     type Out;
 
     /// The job has a task with this number.
@@ -15,7 +15,7 @@ pub trait Job {
     /// Tasks may be run with this hand.
     ghost takes_hand: { Self → Self.Hand → Type 0 };
 
-    /// A run of the task with the hand before may answer the out and leave the hand after.
+    /// A run of the task with the hand before may return the out and leave the hand after.
     ghost runs: { Self → ℕ → Self.Hand → Self.Out → Self.Hand → Type 0 };
 
     /// Runs a task.

@@ -1,6 +1,6 @@
 //! What one worker has, and one run of a task.
 ghost use Rattle.std.specs.Prelude.{◌≡◌, [], IfOk, map};
-ghost use Rattle.asm_pool.specs.Finished.{done_by};
+ghost use Rattle.asm_pool.specs.code.WorkDone.{done_by};
 
 use crate::gate::Gate;
 use crate::job::Job;
@@ -8,7 +8,7 @@ use std::alloc::{AllocError, Global};
 
 /// A task that was run, and the out of that run.
 #[derive(Drop)]
-pub(crate) struct Done<Out> {
+pub(crate) struct TaskRun<Out> {
     pub task: usize,
     pub out: Out,
 }
@@ -17,7 +17,7 @@ pub(crate) struct Done<Out> {
 #[derive(Drop)]
 pub(crate) struct Worker<Hand, Out> {
     pub hand: Hand,
-    pub done: Vec<Done<Out>>,
+    pub done: Vec<TaskRun<Out>>,
 }
 
 /// Runs a task between the two calls of the gate.
@@ -26,7 +26,7 @@ pub(crate) fn run_one<J: Job, G: Gate>(
     gate: &G,
     task: usize,
     hand: &mut J::Hand,
-) -> Done<J::Out>
+) -> TaskRun<J::Out>
     requires task { J.has_task job.now task }
     requires hand { J.takes_hand job.now hand.old }
     ensures task { result.task ≡ task }
@@ -36,7 +36,7 @@ pub(crate) fn run_one<J: Job, G: Gate>(
     gate.taken(task);
     let out = job.run(task, hand);
     gate.done(task);
-    Done { task, out }
+    TaskRun { task, out }
 }
 
 /// A worker for each hand, which has done nothing.

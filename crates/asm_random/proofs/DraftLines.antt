@@ -1,10 +1,10 @@
--- What the script of a draft picks.
+-- Free. What the script of a draft picks.
 --     picked_in        in a step: the number at the path
 --     picked_before    before the first of some steps nothing
 --     picked_from      in one of some steps the number at the path
---     picked_behind    behind the last of them nothing
+--     picked_behind    after the last of them nothing
 --     or_nothing       what stands for no step in particular is nothing
---     indexed          what stands at an index
+--     indexed          what is at an index
 use Rattle.std.proofs.Common.{◌≡◌, ℕ, zero, suc, ◌+◌, ◌<◌, ◌&&◌, Bool, true, false, cond, nat_eq, List, [], ◌∷◌, ◌++◌, Option, None, Some, refl, sym, ap, ◌∙◌, arith, Vec, Global, slice_get, get_or, length, ◌≤◌}
 use Rattle.std.specs.BTreeMap.{BTreeMap, is_at}
 use Rattle.std.specs.Cmp.Lexicographic.{slice_cmp, pointwise}
@@ -53,7 +53,7 @@ chosen_or : (b : Bool) (c : ℕ) (x y : Option ℕ) → cond b (Some c) (option_
 chosen_or true c x y = refl
 chosen_or false c x y = refl
 
--- lines, and others behind them
+-- lines, and others after them
 behind : (ks ls : List Line) (step : ℕ) (p : List ℕ) → exact_choice (ks ++ ls) step p ≡ option_or (exact_choice ks step p) (exact_choice ls step p)
 behind [] ls step p = refl
 behind (k ∷ ks) ls step p = ap (cond (is_line_of step p k) (Some k.choice)) (behind ks ls step p) ∙ chosen_or (is_line_of step p k) k.choice (exact_choice ks step p) (exact_choice ls step p)
@@ -78,13 +78,13 @@ first_of s p n ms =
     behind (lines_in s n.entries) (lines_from (suc s) ms) s p
     ∙ ap (option_or (exact_choice (lines_in s n.entries) s p)) (picked_before (suc s) s p ms up) ∙ or_nothing (exact_choice (lines_in s n.entries) s p)
 
--- those behind it
+-- those after it
 others_of : (s step : ℕ) (p : List ℕ) (n : BTreeMap (Vec ℕ Global) ℕ) (ms : List (BTreeMap (Vec ℕ Global) ℕ)) → s < step
     → exact_choice (lines_from s (n ∷ ms)) step p ≡ exact_choice (lines_from (suc s) ms) step p
 others_of s step p n ms h =
     behind (lines_in s n.entries) (lines_from (suc s) ms) step p ∙ ap (λ x. option_or x (exact_choice (lines_from (suc s) ms) step p)) (not_in s step p n.entries (other_up s step h))
 
--- what a step of some steps picks, of which the first has the number s
+-- what a step of some steps picks; the first one has the number s
 pub picked_from : (s : ℕ) (k : ℕ) (p : List ℕ) (ms : List (BTreeMap (Vec ℕ Global) ℕ)) (m : BTreeMap (Vec ℕ Global) ℕ) → slice_get ms k ≡ Some m
     → exact_choice (lines_from s ms) (s + k) p ≡ exact_choice (lines_in (s + k) m.entries) (s + k) p
 picked_from s k p [] m is = cc
@@ -99,7 +99,7 @@ picked_from s (suc k) p (n ∷ ms) m is =
     ap (λ step. exact_choice (lines_from s (n ∷ ms)) step p) next ∙ (others_of s (suc s + k) p n ms up ∙ picked_from (suc s) k p ms m is)
     ∙ ap (λ step. exact_choice (lines_in step m.entries) step p) (sym next)
 
--- behind the last one nothing
+-- after the last one nothing
 pub picked_behind : (s : ℕ) (k : ℕ) (p : List ℕ) (ms : List (BTreeMap (Vec ℕ Global) ℕ)) → length ms ≤ k → exact_choice (lines_from s ms) (s + k) p ≡ None
 picked_behind s k p [] out = refl
 picked_behind s zero p (n ∷ ms) out = absurd (omega (arith, out))

@@ -1,6 +1,6 @@
--- How a run ends, by its last step.
+-- Free. How a run ends, by its last step.
 --     after_more     the state after one step more
---     ends_wrong     a run of one step more goes wrong where that step does
+--     ends_wrong     a run of one step more goes wrong if that step does
 use Rattle.std.proofs.Common.{◌≡◌, ℕ, zero, suc, ◌+◌, Bool, true, false, cond, [], ap, sym, subst, ◌∙◌, arith}
 use Rattle.asm_state.specs.Location.{State}
 use Rattle.asm_state.specs.Updates.{UpdateSet, IsConsistent, is_consistent, fire}
@@ -13,7 +13,7 @@ use Rattle.asm_meaning.specs.Yields.{Result, Gives, Exhausted}
 use Rattle.asm_explore.specs.declared.fault.Fault.{Fault}
 use Rattle.asm_explore.specs.declared.fault.Fault.TheVariants as fault
 use Rattle.asm_explore.specs.Search.{EndsSo}
-use Rattle.asm_random.specs.Replay.{GoesWrong, IsAfter, IsStep}
+use Rattle.asm_random.specs.code.Replay.{GoesWrong, IsAfter, IsStep}
 
 -- runs that end alike, in one state
 abbrev Alike : Run → Run → Type 0

@@ -2,4 +2,4 @@ mod DraftLines
 mod Endings
 mod FirstFaults
 mod OneStep
-mod Views
+mod BareViews

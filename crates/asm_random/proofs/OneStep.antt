@@ -1,7 +1,7 @@
--- What a step comes to, by what was formed in it.
+-- Free. What a step comes to, by what was formed in it.
 --     leads_on         without a fault it leads to the state that was fired
 --     is_faulty        with one it goes wrong
---     is_exhausted     and where there is no set
+--     is_exhausted     and if there is no set
 --     follows_same     what follows an outcome follows the same one
 use Rattle.std.proofs.Common.{◌≡◌, ◌∙◌, ℕ, Bool, true, false, List, [], sym, ap, subst}
 use Rattle.std.specs.Prelude.{Option, is_some, IfNone, IfSome, Result as Returned}
@@ -10,19 +10,19 @@ use Rattle.asm_state.specs.Signature.{Shape, state_of}
 use Rattle.asm_state.specs.Updates.{UpdateSet, IsConsistent, IsFirstFault, fire}
 use Rattle.asm_state.specs.declared.value.Value.{Value}
 use Rattle.asm_reader.specs.ScriptLines.{Script}
-use Rattle.asm_updates.specs.Entries.{Entries}
-use Rattle.asm_updates.specs.Faults.{fault_of}
-use Rattle.asm_updates.specs.Stands.{Stands}
+use Rattle.asm_updates.specs.code.SummaryRanges.{SummaryRanges}
+use Rattle.asm_updates.specs.code.Faults.{fault_of}
+use Rattle.asm_updates.specs.code.Stands.{Stands}
 use Rattle.asm_updates.specs.declared.fault.Fault.{Fault as NumberedFault}
 use Rattle.asm_meaning.specs.Does.{Outcome, does}
-use Rattle.asm_meaning.specs.Formed.{Follows, IsSet}
+use Rattle.asm_meaning.specs.code.FormedOutcomes.{Follows, IsSet}
 use Rattle.asm_meaning.specs.Program.{nothing_bound}
 use Rattle.asm_meaning.specs.Run.{Specification}
 use Rattle.asm_meaning.specs.Yields.{Path, Exhausted}
 use Rattle.asm_meaning.specs.declared.outcome.Forming.{Forming}
 use Rattle.asm_meaning.specs.declared.stopped.Stopped.{Stopped}
 use Rattle.asm_explore.specs.declared.fault.Fault.TheVariants as fault
-use Rattle.asm_random.specs.Replay.{GoesWrong, IsStep, yields}
+use Rattle.asm_random.specs.code.Replay.{GoesWrong, IsStep, yields}
 use Rattle.asm_random.proofs.FirstFaults.{no_fault_found, fault_found}
 
 pub follows_same : {T : Type 0} (shape : Shape) (o p : Outcome) (old new : Forming) (r : Returned T Stopped) → o ≡ p → Follows shape o old new r → Follows shape p old new r
@@ -35,7 +35,7 @@ module _ (specification : Specification) (turns : ℕ) (script : Script) (step :
   pub is_exhausted : (right : State → Bool) (q : Path) → outcome.result ≡ Exhausted q → GoesWrong specification turns script right step (state_of shape contents) fault.Exhausted
   is_exhausted right q is = (q, ap (yields specification turns script step) (sym shows) ∙ is)
 
-  module _ (set : Entries) (instances : ℕ) (formed : IsSet shape outcome set instances) (found : Option NumberedFault) where
+  module _ (set : SummaryRanges) (instances : ℕ) (formed : IsSet shape outcome set instances) (found : Option NumberedFault) where
     pub leads_on : (next : List Value) → is_some found ≡ false → IfNone found ((V : UpdateSet) → Stands shape set V → IsConsistent V)
         → ((V : UpdateSet) → Stands shape set V → IsConsistent V → state_of shape next ≡ fire (state_of shape contents) V)
         → IsStep specification turns script step (state_of shape contents) (state_of shape next)

@@ -1,6 +1,6 @@
--- The lines of a script that takes the candidates of a draft.
+-- Definition. The lines of a script that takes the candidates of a draft.
 --     lines_in step entries      a line for each number of a step
---     lines_from step maps       for each of some steps, of which the first is this one
+--     lines_from step maps       for each of some steps, the first of them this one
 --     draft_lines d              for each of a draft
 use Rattle.std.specs.Prelude.{ℕ, suc, List, [], ◌∷◌, ◌++◌}
 use Rattle.std.specs.BTreeMap.{BTreeMap}

@@ -1,5 +1,4 @@
 pub mod Drafts
-pub mod Replay
-pub mod WrongRuns
-pub mod RandomAnswers
-pub mod Shorter
+pub mod BadDrafts
+pub mod RandomResults
+pub mod code

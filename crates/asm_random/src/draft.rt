@@ -1,6 +1,6 @@
 //! Which candidates a run takes, as far as it is drawn.
 ghost use Rattle.std.specs.Prelude.{◌≡◌, ℕ, [], length, unwrap_or, IfOk, OnOk};
-ghost use Rattle.asm_reader.specs.ExactLines.{exactly};
+ghost use Rattle.asm_reader.specs.code.ExactLines.{exactly};
 ghost use Rattle.asm_reader.specs.ScriptLines.{exact_choice};
 ghost use Rattle.asm_random.specs.Drafts.{draft_lines, lines_in};
 
@@ -11,7 +11,7 @@ use std::collections::BTreeMap;
 /// The numbers of a step, by the paths of the `choose`s that take them.
 pub(crate) type Numbers = BTreeMap<Vec<u64>, u64>;
 
-/// Which candidates the steps of a run take. Where there is no number, it is the first one.
+/// Which candidates the steps of a run take. If there is no number, it is the first one.
 #[derive(Drop)]
 pub(crate) struct Draft {
     /// Those of the step with number 1 come first.

@@ -1,31 +1,31 @@
 //! The numbers of a step, drawn.
 ghost use Rattle.std.specs.Prelude.{◌≡◌, length};
 ghost use Rattle.asm_state.specs.Signature.{count_of};
-ghost use Rattle.asm_syntax.specs.Views.{spec_of};
+ghost use Rattle.asm_syntax.specs.code.Views.{spec_of};
 ghost use Rattle.asm_check.specs.Shapes.{shape_of};
 ghost use Rattle.asm_explore.specs.Conditions.{IsSpecified};
 
-use crate::asking::asked_in;
+use crate::asked_in::asked_in;
 use crate::draft::{Draft, Numbers};
-use crate::drawing::Source;
-use asm_explore::{Asked, Specified};
+use crate::random_source::RandomSource;
+use asm_explore::{ChoicePoint, ResolvedQuestion};
 use asm_meaning::Choices;
 use asm_state::state::State;
 use std::alloc::{AllocError, Global};
 use std::collections::BTreeMap;
 
 /// The number that is drawn for a choice.
-fn drawn(source: Source, step: u64, asked: &Asked) -> u64 {
+fn drawn(source: RandomSource, step: u64, asked: &ChoicePoint) -> u64 {
     let many = asked.candidates.len() as u64;
     source.candidate(step, asked.choice.path.as_slice(), many.max(1))
 }
 
-/// The numbers that are drawn for some choices, but for 0, which is taken without one.
+/// The numbers that are drawn for some choices, except 0, which is taken without one.
 fn drawn_numbers(
     alloc: Global,
-    source: Source,
+    source: RandomSource,
     step: u64,
-    asked: &[Asked],
+    asked: &[ChoicePoint],
 ) -> Result<Numbers, AllocError> {
     let mut numbers = BTreeMap::new(alloc);
     for k in 0..asked.len() {
@@ -39,7 +39,7 @@ fn drawn_numbers(
 }
 
 /// Whether each of some choices takes the number that is drawn for it.
-fn are_drawn(source: Source, step: u64, asked: &[Asked]) -> bool {
+fn are_drawn(source: RandomSource, step: u64, asked: &[ChoicePoint]) -> bool {
     for k in 0..asked.len() {
         if asked[k].choice.number != drawn(source, step, &asked[k]) {
             return false;
@@ -49,15 +49,15 @@ fn are_drawn(source: Source, step: u64, asked: &[Asked]) -> bool {
 }
 
 /// Adds a step to a draft, with a number that is drawn for each choice that the step makes under
-/// these numbers. Answers whether it makes one.
+/// these numbers. Returns whether it makes one.
 ///
 /// Which choices are made depends on the numbers of those before them. So at first there is none,
 /// and all are drawn again until they are those that are taken: the number of the first choice is
 /// found at once, and that of each other one when those before it are.
 pub(crate) fn draw_step(
     alloc: Global,
-    specified: &Specified<'_>,
-    source: Source,
+    specified: &ResolvedQuestion<'_>,
+    source: RandomSource,
     state: &State,
     draft: &mut Draft,
 ) -> Result<bool, AllocError>

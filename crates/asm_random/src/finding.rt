@@ -1,37 +1,37 @@
-//! What is found where a run goes wrong.
+//! What is found if a run goes wrong.
 ghost use Rattle.std.specs.Prelude.{◌≡◌, ◌≤◌, ℕ, IfOk, IfSome};
 ghost use Rattle.std.specs.String.{string_bytes};
 ghost use Rattle.asm_reader.specs.ScriptText.{IsScript};
-ghost use Rattle.asm_syntax.specs.Views.{spec_of};
+ghost use Rattle.asm_syntax.specs.code.Views.{spec_of};
 ghost use Rattle.asm_check.specs.Shapes.{shape_of};
 ghost use Rattle.asm_meaning.specs.Declarations.{specification_of};
 ghost use Rattle.asm_explore.specs.Conditions.{IsSpecified, holds_in};
-ghost use Rattle.asm_random.specs.RandomAnswers.{Claims, IsBadScript};
-ghost use Rattle.asm_random.specs.Shorter.{IsWrongFor};
+ghost use Rattle.asm_random.specs.RandomResults.{Claims, IsBadScript};
+ghost use Rattle.asm_random.specs.code.ShorterRuns.{IsWrongFor};
 
-use crate::answer::RandomFinding;
-use crate::replay::wrong_under;
+use crate::bad_draft::BadDraft;
+use crate::bad_end::wrong_under;
+use crate::random_result::RandomFinding;
+use crate::script_text::written;
 use crate::shortening::shorten;
-use crate::written::written;
-use crate::wrong_run::WrongRun;
-use asm_explore::{BadRun, Specified, Unwritten};
+use asm_explore::{BadRun, ResolvedQuestion, Unwritten};
 use asm_reader::{Script, read_script};
-use asm_syntax::Refused;
+use asm_syntax::InputError;
 use std::alloc::{AllocError, Global};
 
 /// The text of the run's script, and what is read of it, unless it can't be written.
-fn script_of(alloc: Global, run: &WrongRun) -> Result<Option<(String, Script)>, AllocError>
+fn script_of(alloc: Global, run: &BadDraft) -> Result<Option<(String, Script)>, AllocError>
     ensures { IfOk result (λ found. IfSome found (λ it. IsScript (string_bytes it.0) it.1)) }
 {
     let text = match written(alloc, run) {
         Ok(text) => text,
-        Err(Refused::Memory) => return Err(AllocError),
-        Err(Refused::Named(_)) => return Ok(None),
+        Err(InputError::Memory) => return Err(AllocError),
+        Err(InputError::Named(_)) => return Ok(None),
     };
     let script = match read_script(alloc, text.as_bytes()) {
         Ok(script) => script,
-        Err(Refused::Memory) => return Err(AllocError),
-        Err(Refused::Named(_)) => return Ok(None),
+        Err(InputError::Memory) => return Err(AllocError),
+        Err(InputError::Named(_)) => return Ok(None),
     };
     Ok(Some((text, script)))
 }
@@ -39,8 +39,8 @@ fn script_of(alloc: Global, run: &WrongRun) -> Result<Option<(String, Script)>, 
 /// The run under the text of its script, made once more.
 fn confirmed(
     alloc: Global,
-    specified: &Specified<'_>,
-    run: &WrongRun,
+    specified: &ResolvedQuestion<'_>,
+    run: &BadDraft,
 ) -> Result<Option<BadRun>, AllocError>
     requires { IsSpecified specified.now }
     ensures { let s = spec_of specified.now.checked.now.spec in
@@ -60,12 +60,12 @@ fn confirmed(
     }
 }
 
-/// What is found where the run with this number goes wrong.
+/// What is found if the run with this number goes wrong.
 fn finding_of(
     alloc: Global,
-    specified: &Specified<'_>,
+    specified: &ResolvedQuestion<'_>,
     number: u32,
-    run: &WrongRun,
+    run: &BadDraft,
 ) -> Result<RandomFinding, AllocError>
     requires { IsSpecified specified.now }
     ensures { let s = spec_of specified.now.checked.now.spec in
@@ -81,21 +81,21 @@ fn finding_of(
     }
 }
 
-/// What is found where a run goes wrong.
+/// What is found if a run goes wrong.
 #[derive(Drop)]
-pub(crate) struct Shown {
+pub(crate) struct ShortFinding {
     pub(crate) finding: RandomFinding,
     /// Whether no line of the script can go, and no step.
     pub(crate) shortest: bool,
 }
 
-/// What is found where the run with this number goes wrong, made shorter.
+/// What is found if the run with this number goes wrong, made shorter.
 pub(crate) fn short_finding(
     alloc: Global,
-    specified: &Specified<'_>,
+    specified: &ResolvedQuestion<'_>,
     number: u32,
-    run: WrongRun,
-) -> Result<Shown, AllocError>
+    run: BadDraft,
+) -> Result<ShortFinding, AllocError>
     requires { IsSpecified specified.now }
     ensures { let s = spec_of specified.now.checked.now.spec in
         (most : ℕ) → IsWrongFor specified.now most run →
@@ -104,5 +104,5 @@ pub(crate) fn short_finding(
     let mut run = run;
     let shortest = shorten(alloc, specified, &mut run)?;
     let finding = finding_of(alloc, specified, number, &run)?;
-    Ok(Shown { finding, shortest })
+    Ok(ShortFinding { finding, shortest })
 }

@@ -1,24 +1,24 @@
 //! Random runs of a specification: the first one that goes wrong, as a short script.
 #![tactic(auto)]
 
-pub mod answer;
-mod asking;
+mod asked_in;
+mod bad_draft;
+mod bad_end;
 mod draft;
-mod drawing;
 mod drawn_step;
 mod finding;
 mod omission;
 pub mod progress;
 pub mod question;
 pub mod random;
-mod replay;
+pub mod random_result;
+mod random_run;
+mod random_source;
+mod script_text;
 mod shortening;
 mod stepping;
-mod walk;
-mod written;
-mod wrong_run;
 
-pub use answer::{RandomAnswer, RandomFinding};
 pub use progress::RandomProgress;
 pub use question::RandomQuestion;
 pub use random::random_runs;
+pub use random_result::{RandomFinding, RandomResult};

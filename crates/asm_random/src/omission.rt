@@ -6,7 +6,7 @@ use std::collections::BTreeMap;
 /// What is left out of a draft. Steps and lines count from 0 here.
 #[derive(Clone, Copy, Debug)]
 pub(crate) enum Omission {
-    /// Some steps: the later ones are made so much earlier.
+    /// Some steps: the later ones are made that much earlier.
     Steps { from: usize, to: usize },
     /// The lines of some steps.
     Lines { from: usize, to: usize },
@@ -14,7 +14,7 @@ pub(crate) enum Omission {
     Line { step: usize, line: usize },
 }
 
-/// The numbers of a step again, but for the one with this number among them, if there is one.
+/// The numbers of a step again, except the one with this number among them, if there is one.
 fn numbers_without(
     alloc: Global,
     numbers: &Numbers,
@@ -32,7 +32,7 @@ fn numbers_without(
     Ok(all)
 }
 
-/// The first of a draft's steps again, but for what is left out.
+/// The first of a draft's steps again, except what is left out.
 pub(crate) fn draft_without(
     alloc: Global,
     draft: &Draft,

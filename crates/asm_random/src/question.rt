@@ -9,9 +9,9 @@ pub struct RandomQuestion {
     /// What is to hold in each state.
     pub always: Option<Term>,
     pub turns: u32,
-    /// Each run is of at most so many steps.
+    /// Each run is of at most this many steps.
     pub steps: u32,
-    /// So many runs are made.
+    /// This many runs are made.
     pub runs: u32,
     /// What is drawn depends on it alone.
     pub seed: u64,

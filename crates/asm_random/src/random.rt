@@ -1,43 +1,43 @@
 //! Random runs of a checked specification.
 ghost use Rattle.std.specs.Prelude.{◌≡◌, [], IfOk};
-ghost use Rattle.asm_syntax.specs.Views.{spec_of};
+ghost use Rattle.asm_syntax.specs.code.Views.{spec_of};
 ghost use Rattle.asm_check.specs.Faults.{inits};
 ghost use Rattle.asm_check.specs.Shapes.{shape_of};
-ghost use Rattle.asm_code.specs.RuleViews.{rule_of};
+ghost use Rattle.asm_code.specs.code.RuleViews.{rule_of};
 ghost use Rattle.asm_meaning.specs.Declarations.{main_rule, specification_of};
 ghost use Rattle.asm_explore.specs.Conditions.{IsSpecified, holds_in, term_holds};
-ghost use Rattle.asm_random.specs.RandomAnswers.{Claims};
-ghost use Rattle.asm_resolve.specs.RuleScopes.{resolved_rule_in};
+ghost use Rattle.asm_random.specs.RandomResults.{Claims};
+ghost use Rattle.asm_resolve.specs.code.RuleScopes.{resolved_rule_in};
 
-use crate::answer::{RandomAnswer, RandomFinding};
-use crate::drawing::Source;
-use crate::finding::{Shown, short_finding};
+use crate::bad_draft::wrong_run;
+use crate::finding::{ShortFinding, short_finding};
 use crate::progress::RandomProgress;
 use crate::question::RandomQuestion;
-use crate::walk::random_run;
-use crate::wrong_run::wrong_run;
+use crate::random_result::{RandomFinding, RandomResult};
+use crate::random_run::random_run;
+use crate::random_source::RandomSource;
 use asm_check::Checked;
 use asm_code::rule_code::RuleCode;
 use asm_explore::condition::condition_code;
-use asm_explore::{Machine, Specified, Watch};
-use asm_resolve::whole::resolve_main;
+use asm_explore::{Machine, ResolvedQuestion, Watch};
+use asm_resolve::main_rule::resolve_main;
 use asm_state::state::State;
 use std::alloc::{AllocError, Global};
 
 /// Makes runs until one goes wrong.
 fn runs_of<W: Watch<RandomProgress>>(
     alloc: Global,
-    specified: &Specified<'_>,
+    specified: &ResolvedQuestion<'_>,
     question: &RandomQuestion,
     watch: &mut W,
-) -> Result<RandomAnswer, AllocError>
+) -> Result<RandomResult, AllocError>
     requires { IsSpecified specified.now }
     ensures { let s = spec_of specified.now.checked.now.spec in
         IfOk result (λ answer. Claims (specification_of s) specified.now.turns question.now.steps (holds_in (shape_of s) specified.now.always.now) answer.finding) }
 {
     let mut made = 0u64;
     for number in 0..question.runs {
-        let source = Source {
+        let source = RandomSource {
             seed: question.seed,
             run: u64::from(number),
         };
@@ -51,8 +51,8 @@ fn runs_of<W: Watch<RandomProgress>>(
             continue;
         }
         if let Some(run) = wrong_run(alloc, specified, walked.draft, question.steps)? {
-            let Shown { finding, shortest } = short_finding(alloc, specified, number, run)?;
-            return Ok(RandomAnswer {
+            let ShortFinding { finding, shortest } = short_finding(alloc, specified, number, run)?;
+            return Ok(RandomResult {
                 finding,
                 runs: number + 1,
                 steps: made,
@@ -60,7 +60,7 @@ fn runs_of<W: Watch<RandomProgress>>(
             });
         }
     }
-    Ok(RandomAnswer {
+    Ok(RandomResult {
         finding: RandomFinding::Nothing,
         runs: question.runs,
         steps: made,
@@ -69,19 +69,19 @@ fn runs_of<W: Watch<RandomProgress>>(
 }
 
 /// Makes runs, unless the first state isn't right.
-fn answer_of<W: Watch<RandomProgress>>(
+fn result_of_runs<W: Watch<RandomProgress>>(
     alloc: Global,
-    specified: &Specified<'_>,
+    specified: &ResolvedQuestion<'_>,
     question: &RandomQuestion,
     watch: &mut W,
-) -> Result<RandomAnswer, AllocError>
+) -> Result<RandomResult, AllocError>
     requires { IsSpecified specified.now }
     ensures { let s = spec_of specified.now.checked.now.spec in
         IfOk result (λ answer. Claims (specification_of s) specified.now.turns question.now.steps (holds_in (shape_of s) specified.now.always.now) answer.finding) }
 {
     let initial = State::initial(alloc, specified.checked.signature())?;
     if !specified.is_right(alloc, &initial) {
-        return Ok(RandomAnswer {
+        return Ok(RandomResult {
             finding: RandomFinding::WrongFirst,
             runs: 0,
             steps: 0,
@@ -98,14 +98,14 @@ fn runs_by<W: Watch<RandomProgress>>(
     code: &RuleCode,
     question: &RandomQuestion,
     watch: &mut W,
-) -> Result<RandomAnswer, AllocError>
+) -> Result<RandomResult, AllocError>
     requires { let s = spec_of checked.now.spec in resolved_rule_in s [] (main_rule s (inits s)) (rule_of code.now) }
     ensures { let q = question.now in
         IfOk result (λ answer. Claims (specification_of (spec_of checked.now.spec)) q.turns q.steps (term_holds checked.now q.always) answer.finding) }
 {
     let always = condition_code(alloc, checked, &question.always)?;
     // Runs are followed from each state, and no state is asked whether it is quiet.
-    let specified = Specified {
+    let specified = ResolvedQuestion {
         checked,
         code,
         turns: question.turns,
@@ -114,7 +114,7 @@ fn runs_by<W: Watch<RandomProgress>>(
         within: &always,
         when_quiet: &always,
     };
-    answer_of(alloc, &specified, question, watch)
+    result_of_runs(alloc, &specified, question, watch)
 }
 
 /// Makes random runs of a specification, until one goes wrong: by a clash, by an update outside its
@@ -128,7 +128,7 @@ pub fn random_runs<W: Watch<RandomProgress>>(
     checked: &Checked,
     question: &RandomQuestion,
     watch: &mut W,
-) -> Result<RandomAnswer, AllocError>
+) -> Result<RandomResult, AllocError>
     ensures { let q = question.now in
         IfOk result (λ answer. Claims (specification_of (spec_of checked.now.spec)) q.turns q.steps (term_holds checked.now q.always) answer.finding) }
 {

@@ -1,22 +1,22 @@
 //! Runs that go wrong, made shorter.
 ghost use Rattle.std.specs.Prelude.{◌≡◌, OnOk};
 ghost use Rattle.asm_explore.specs.Conditions.{IsSpecified};
-ghost use Rattle.asm_random.specs.Shorter.{StaysWrong};
+ghost use Rattle.asm_random.specs.code.ShorterRuns.{StaysWrong};
 
+use crate::bad_draft::{BadDraft, wrong_run};
 use crate::omission::{Omission, draft_without};
-use crate::wrong_run::{WrongRun, wrong_run};
-use asm_explore::Specified;
+use asm_explore::ResolvedQuestion;
 use std::alloc::{AllocError, Global};
 
-/// So many steps are made for shortening a run.
-const MOST_STEPS: u64 = 10_000_000;
+/// How many steps are made for shortening a run.
+const MAX_SHORTENING_STEPS: u64 = 10_000_000;
 
-/// The run without something, in place of the run, if it goes wrong, and that in no later step.
+/// The run without something, instead of the run, if it goes wrong, and that in no later step.
 /// Counts the steps that may still be made.
 fn try_without(
     alloc: Global,
-    specified: &Specified<'_>,
-    run: &mut WrongRun,
+    specified: &ResolvedQuestion<'_>,
+    run: &mut BadDraft,
     left: &mut u64,
     omission: Omission,
 ) -> Result<(), AllocError>
@@ -41,7 +41,7 @@ fn try_without(
 }
 
 /// Whether one of some steps has a line.
-fn has_line(run: &WrongRun, from: usize, to: usize) -> bool {
+fn has_line(run: &BadDraft, from: usize, to: usize) -> bool {
     let steps = run.draft.steps.as_slice();
     for k in 0..steps.len() {
         if from <= k && k < to && !steps[k].is_empty() {
@@ -54,8 +54,8 @@ fn has_line(run: &WrongRun, from: usize, to: usize) -> bool {
 /// Tries to leave out some steps, or else their lines.
 fn try_block(
     alloc: Global,
-    specified: &Specified<'_>,
-    run: &mut WrongRun,
+    specified: &ResolvedQuestion<'_>,
+    run: &mut BadDraft,
     left: &mut u64,
     from: usize,
     to: usize,
@@ -71,11 +71,11 @@ fn try_block(
     Ok(())
 }
 
-/// Tries to leave out each so many steps, from the last ones, or else their lines.
+/// Tries to leave out each `size` steps, from the last ones, or else their lines.
 fn try_steps(
     alloc: Global,
-    specified: &Specified<'_>,
-    run: &mut WrongRun,
+    specified: &ResolvedQuestion<'_>,
+    run: &mut BadDraft,
     left: &mut u64,
     size: usize,
 ) -> Result<(), AllocError>
@@ -97,8 +97,8 @@ fn try_steps(
 /// Tries to leave out each line of a step, from the last one.
 fn try_lines(
     alloc: Global,
-    specified: &Specified<'_>,
-    run: &mut WrongRun,
+    specified: &ResolvedQuestion<'_>,
+    run: &mut BadDraft,
     left: &mut u64,
     step: usize,
 ) -> Result<(), AllocError>
@@ -114,7 +114,7 @@ fn try_lines(
 }
 
 /// How many lines a step has.
-fn lines_at(run: &WrongRun, step: usize) -> usize {
+fn lines_at(run: &BadDraft, step: usize) -> usize {
     match run.draft.steps.as_slice().get(step) {
         Some(numbers) => numbers.len(),
         None => 0,
@@ -122,7 +122,7 @@ fn lines_at(run: &WrongRun, step: usize) -> usize {
 }
 
 /// How many lines the steps up to the one that goes wrong have.
-fn lines_of(run: &WrongRun) -> usize {
+fn lines_of(run: &BadDraft) -> usize {
     let mut count = 0usize;
     for step in 0..run.wrong.step {
         count = count.saturating_add(lines_at(run, step as usize));
@@ -133,8 +133,8 @@ fn lines_of(run: &WrongRun) -> usize {
 /// Tries to leave out what may be left out, once.
 fn shorten_once(
     alloc: Global,
-    specified: &Specified<'_>,
-    run: &mut WrongRun,
+    specified: &ResolvedQuestion<'_>,
+    run: &mut BadDraft,
     left: &mut u64,
 ) -> Result<(), AllocError>
     requires { IsSpecified specified.now }
@@ -155,17 +155,17 @@ fn shorten_once(
     Ok(())
 }
 
-/// Makes a run that goes wrong shorter, until no step and no line can go. Answers whether it came
-/// so far before too many steps were made.
+/// Makes a run that goes wrong shorter, until no step and no line can go. Returns whether it came
+/// that far before too many steps were made.
 pub(crate) fn shorten(
     alloc: Global,
-    specified: &Specified<'_>,
-    run: &mut WrongRun,
+    specified: &ResolvedQuestion<'_>,
+    run: &mut BadDraft,
 ) -> Result<bool, AllocError>
     requires { IsSpecified specified.now }
     ensures { OnOk result (StaysWrong specified.now run.old run.new) }
 {
-    let mut left = MOST_STEPS;
+    let mut left = MAX_SHORTENING_STEPS;
     for _round in 0..u32::MAX {
         let before = (run.wrong.step, lines_of(run));
         shorten_once(alloc, specified, run, &mut left)?;

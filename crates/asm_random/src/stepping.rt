@@ -1,25 +1,25 @@
 //! A step, under the choices of a script.
 ghost use Rattle.std.specs.Prelude.{◌≡◌, [], length, IfErr, IfOk};
 ghost use Rattle.asm_state.specs.Signature.{count_of, state_of};
-ghost use Rattle.asm_syntax.specs.Views.{spec_of};
+ghost use Rattle.asm_syntax.specs.code.Views.{spec_of};
 ghost use Rattle.asm_check.specs.Faults.{inits};
 ghost use Rattle.asm_check.specs.Shapes.{shape_of};
 ghost use Rattle.asm_meaning.specs.Declarations.{main_rule, program_of, specification_of};
 ghost use Rattle.asm_meaning.specs.Does.{does};
-ghost use Rattle.asm_meaning.specs.Formed.{Follows, IsFormed};
+ghost use Rattle.asm_meaning.specs.code.FormedOutcomes.{Follows, IsFormed};
 ghost use Rattle.asm_meaning.specs.Program.{nothing_bound};
-ghost use Rattle.asm_meaning.specs.Valued.{shown};
-ghost use Rattle.asm_eval.specs.Running.{Fits, shape_at, state_at};
+ghost use Rattle.asm_meaning.specs.code.TermValues.{shown};
+ghost use Rattle.asm_eval.specs.code.Evaluation.{HasLocations, evaluation_shape, evaluation_state};
 ghost use Rattle.asm_explore.specs.Conditions.{IsSpecified, holds_in};
-ghost use Rattle.asm_random.specs.Replay.{GoesWrong, IsStep};
+ghost use Rattle.asm_random.specs.code.Replay.{GoesWrong, IsStep};
 
+use asm_eval::evaluation::Evaluation;
 use asm_eval::form::form;
 use asm_eval::frame::Frame;
-use asm_eval::regions::Plain;
-use asm_eval::running::Running;
-use asm_explore::{Fault, Machine, Specified};
-use asm_meaning::from_nothing::{nothing_formed, outcome_of};
+use asm_eval::regions::OnThisThread;
+use asm_explore::{Fault, Machine, ResolvedQuestion};
 use asm_meaning::laws::from_nothing_laws;
+use asm_meaning::new_forming::{new_forming, outcome_of};
 use asm_meaning::{Choices, Forming, Outcome, Stopped, View};
 use asm_reader::Picks;
 use asm_resolve::laws::resolving_laws;
@@ -30,32 +30,32 @@ use std::alloc::{AllocError, Global};
 /// Forms what the main rule yields.
 fn form_main<P: Picks>(
     alloc: Global,
-    specified: &Specified<'_>,
-    running: &Running<'_, '_, P>,
-    made: &mut Forming,
+    specified: &ResolvedQuestion<'_>,
+    evaluation: &Evaluation<'_, '_, P>,
+    forming: &mut Forming,
 ) -> Result<(), Stopped>
     requires sound { IsSpecified specified.now }
-    requires shaped { shape_at running.now ≡ shape_of (spec_of specified.now.checked.now.spec) }
-    requires fits { Fits running.now made.old }
+    requires shaped { evaluation_shape evaluation.now ≡ shape_of (spec_of specified.now.checked.now.spec) }
+    requires fits { HasLocations evaluation.now forming.old }
     ensures { let s = spec_of specified.now.checked.now.spec in
-        let o = does (program_of s) running.now.turns (P.script running.now.choices.now.script.now) running.now.choices.now.step (state_at running.now) nothing_bound made.old.path.items (main_rule s (inits s)) in
-        Follows (shape_at running.now) o made.old made.new result }
+        let o = does (program_of s) evaluation.now.turns (P.script evaluation.now.choices.now.script.now) evaluation.now.choices.now.step (evaluation_state evaluation.now) nothing_bound forming.old.path.items (main_rule s (inits s)) in
+        Follows (evaluation_shape evaluation.now) o forming.old forming.new result }
 {
     resolving_laws();
     form(
         alloc,
-        &mut Plain,
-        running,
+        &mut OnThisThread,
+        evaluation,
         &Frame::Empty,
         specified.code,
-        made,
+        forming,
     )
 }
 
 /// What the step with these choices yields in what the view shows.
 fn step_outcome<P: Picks>(
     alloc: Global,
-    specified: &Specified<'_>,
+    specified: &ResolvedQuestion<'_>,
     view: &View<'_>,
     choices: &Choices<'_, P>,
 ) -> Result<Outcome, AllocError>
@@ -65,20 +65,20 @@ fn step_outcome<P: Picks>(
         IfOk result (IsFormed (shape_of s) (does (program_of s) specified.now.turns (P.script choices.now.script.now) choices.now.step (shown view.now) nothing_bound [] (main_rule s (inits s)))) }
 {
     from_nothing_laws::<()>();
-    let mut made = nothing_formed(alloc, view.signature, &[])?;
-    let running = Running {
+    let mut forming = new_forming(alloc, view.signature, &[])?;
+    let evaluation = Evaluation {
         view,
         choices,
         turns: specified.turns,
     };
-    let formed = form_main(alloc, specified, &running, &mut made);
-    outcome_of(made, formed)
+    let formed = form_main(alloc, specified, &evaluation, &mut forming);
+    outcome_of(forming, formed)
 }
 
 /// The state that the step leads to, if it isn't faulty.
-fn next_from<P: Picks>(
+fn next_state<P: Picks>(
     alloc: Global,
-    specified: &Specified<'_>,
+    specified: &ResolvedQuestion<'_>,
     choices: &Choices<'_, P>,
     state: &State,
 ) -> Result<Result<State, Fault>, AllocError>
@@ -107,7 +107,7 @@ fn next_from<P: Picks>(
 /// The state that the step leads to, if it isn't faulty and the state is right.
 pub(crate) fn step_from<P: Picks>(
     alloc: Global,
-    specified: &Specified<'_>,
+    specified: &ResolvedQuestion<'_>,
     choices: &Choices<'_, P>,
     state: &State,
 ) -> Result<Result<State, Fault>, AllocError>
@@ -119,7 +119,7 @@ pub(crate) fn step_from<P: Picks>(
     ensures wrong { let s = spec_of specified.now.checked.now.spec in
         IfOk result (λ ended. IfErr ended (GoesWrong (specification_of s) specified.now.turns (P.script choices.now.script.now) (holds_in (shape_of s) specified.now.always.now) choices.now.step (state_of (shape_of s) state.now))) }
 {
-    match next_from(alloc, specified, choices, state)? {
+    match next_state(alloc, specified, choices, state)? {
         Err(fault) => Ok(Err(fault)),
         Ok(next) => {
             if specified.is_right(alloc, &next) {

@@ -1,12 +1,12 @@
--- Examples of scripts, of trees, and of what is refused.
+-- Law. Examples of scripts, of trees, and of what is refused.
 use Rattle.std.proofs.Common.{◌≡◌, ℕ, zero, suc, ◌+◌, ◌<◌, List, [], ◌∷◌, ◌++◌, length, Some, None, Ok, Err, refl}
 use Rattle.std.specs.Prelude.{codes}
 use Rattle.asm_state.specs.declared.operation.Op.TheVariants.{Add, Subtract, Multiply}
 use Rattle.asm_syntax.specs.declared.token.Kind.{Kind}
 use Rattle.asm_syntax.specs.declared.token.Kind.TheVariants as kind
-use Rattle.asm_syntax.specs.declared.token.Kind.TheVariants.{Symbol, Word}
+use Rattle.asm_syntax.specs.declared.token.Kind.TheVariants.{Symbol, Keyword}
 use Rattle.asm_syntax.specs.declared.token.Symbol.TheVariants as symbols
-use Rattle.asm_syntax.specs.declared.token.Word.TheVariants as words
+use Rattle.asm_syntax.specs.declared.token.Keyword.TheVariants as words
 use Rattle.asm_syntax.specs.declared.token.Token.{Token}
 use Rattle.asm_syntax.specs.SourceTree as source
 use Rattle.asm_reader.specs.declared.error.ReadError.TheVariants.{Unexpected, UnexpectedEnd, TooDeep}
@@ -15,11 +15,11 @@ use Rattle.asm_reader.specs.ScriptLines.{Line, EveryLine, ForStep, ForEvery, Scr
 use Rattle.asm_reader.specs.ScriptText.{line_of, IsScript, IsScriptRefusal}
 use Rattle.asm_reader.specs.Specification.{AreSpelling}
 use Rattle.asm_reader.specs.Refusals.{IsUnexpected, IsUnexpectedEnd, IsTooDeep}
-use Rattle.asm_reader.specs.Steps.{turns}
-use Rattle.asm_reader.specs.TermReading.{name_at, result_at, answer_at, arguments_at, applied_at, parenthesized_at, primary_at, factor_at, product_at, sum_at, comparison_at, negation_at, conjunction_at, disjunction_at, inner_at, term_at}
-use Rattle.asm_reader.specs.RuleReading.{skip_at, named_rule_at, result_rule_at, par_at, iterate_at, while_at, block_at, rule_over_at, rule_at}
-use Rattle.asm_reader.specs.Reading.{parameters_at, rule_item_at, item_at, specification_at}
-use Rattle.asm_reader.proofs.EachScript.{answers as script_answers}
+use Rattle.asm_reader.specs.code.Steps.{turns}
+use Rattle.asm_reader.specs.code.TermReading.{name_at, result_at, result_term_at, arguments_at, applied_at, parenthesized_at, primary_at, factor_at, product_at, sum_at, comparison_at, negation_at, conjunction_at, disjunction_at, inner_at, term_at}
+use Rattle.asm_reader.specs.code.RuleReading.{skip_at, named_rule_at, result_rule_at, par_at, iterate_at, while_at, block_at, rule_over_at, rule_at}
+use Rattle.asm_reader.specs.code.Reading.{parameters_at, rule_item_at, item_at, specification_at}
+use Rattle.asm_reader.proofs.ScriptLemmas.EachScript.{answers as script_answers}
 use Rattle.asm_reader.proofs.EachText.{answers}
 
 -- ---- lines of scripts
@@ -111,7 +111,7 @@ behind_its_step = refl
 at_another_path : pick star_and_step 2 (0 ∷ []) ≡ 0
 at_another_path = refl
 
--- a line for a step holds in it, even where it says the same
+-- a line for a step holds in it, even if it says the same
 star_beside_step_one : IsScript (codes "* - 1\n1 - 1") (record { exact = line 1 [] 1 ∷ []; every = line_for_every [] 1 ∷ [] })
 star_beside_step_one = script_answers (codes "* - 1\n1 - 1") (Ok _) refl
 
@@ -146,7 +146,7 @@ token k i j = record { kind = k; start = i; end = j }
 
 abbrev with_body : List Token → List Token
 with_body body =
-    token (Word words.CoreAsm) 0 7 ∷ token kind.Name 8 9 ∷ token (Word words.Rule) 10 14 ∷ token kind.Name 15 16 ∷ token (Symbol symbols.Equal) 17 18 ∷ body
+    token (Keyword words.CoreAsm) 0 7 ∷ token kind.Name 8 9 ∷ token (Keyword words.Rule) 10 14 ∷ token kind.Name 15 16 ∷ token (Symbol symbols.Equal) 17 18 ∷ body
 
 abbrev name : ℕ → List ℕ → source.Name
 name i text = record { at = i; text = text }
@@ -161,17 +161,17 @@ named i x = source.Named (name i x) source.no_terms
 abbrev variable : ℕ → Token
 variable i = token kind.Name i (i + 1)
 
--- so many `par`, from an offset on
+-- n `par`, from an offset on
 abbrev pars : ℕ → ℕ → List Token → List Token
 pars zero at more = more
-pars (suc n) at more = token (Word words.Par) at (at + 3) ∷ pars n (at + 4) more
+pars (suc n) at more = token (Keyword words.Par) at (at + 3) ∷ pars n (at + 4) more
 
 abbrev text_with : List ℕ → List ℕ
 text_with body = codes "CoreASM T rule M = " ++ body
 
 -- the word `result`
 abbrev result : ℕ → Token
-result i = token (Word words.Result) i (i + 6)
+result i = token (Keyword words.Result) i (i + 6)
 
 -- a name of one letter, and another in parentheses, with spaces between
 abbrev applied_tokens : ℕ → List Token → List Token
@@ -181,8 +181,8 @@ abbrev one : source.Term → source.Terms
 one t = source.term_then t source.no_terms
 
 record Trees : Type 0 where
-  header_alone : AreSpelling (codes "CoreASM T") (token (Word words.CoreAsm) 0 7 ∷ token kind.Name 8 9 ∷ []) (record { name = name 8 (codes "T"); items = []; length = 9 })
-  word : AreSpelling (text_with (codes "skip")) (with_body (token (Word words.Skip) 19 23 ∷ [])) (spec_with source.Skip 23)
+  header_alone : AreSpelling (codes "CoreASM T") (token (Keyword words.CoreAsm) 0 7 ∷ token kind.Name 8 9 ∷ []) (record { name = name 8 (codes "T"); items = []; length = 9 })
+  word : AreSpelling (text_with (codes "skip")) (with_body (token (Keyword words.Skip) 19 23 ∷ [])) (spec_with source.Skip 23)
   from_the_left : AreSpelling (text_with (codes "x := a - b - c")) (with_body (variable 19 ∷ token (Symbol symbols.Assign) 21 23 ∷ variable 24 ∷ token (Symbol symbols.Minus) 26 27 ∷ variable 28 ∷ token (Symbol symbols.Minus) 30 31 ∷ variable 32 ∷ []))
       (spec_with (source.Assign (name 19 (codes "x")) source.no_terms (source.Chain (named 24 (codes "a")) (source.link_then Subtract (named 28 (codes "b")) (source.link_then Subtract (named 32 (codes "c")) source.no_links)))) 33)
   product_first : AreSpelling (text_with (codes "x := a + b * c")) (with_body (variable 19 ∷ token (Symbol symbols.Assign) 21 23 ∷ variable 24 ∷ token (Symbol symbols.Plus) 26 27 ∷ variable 28 ∷ token (Symbol symbols.Times) 30 31 ∷ variable 32 ∷ []))
@@ -191,17 +191,17 @@ record Trees : Type 0 where
       (spec_with (source.Assign (name 19 (codes "x")) source.no_terms (named 26 (codes "a"))) 29)
   followed_by_its_arguments : AreSpelling (text_with (codes "r ( a )")) (with_body (variable 19 ∷ token (Symbol symbols.Open) 21 22 ∷ variable 23 ∷ token (Symbol symbols.Close) 25 26 ∷ []))
       (spec_with (source.Call None (name 19 (codes "r")) (one (named 23 (codes "a")))) 26)
-  while_a_test_holds : AreSpelling (text_with (codes "while a do skip endwhile")) (with_body (token (Word words.While) 19 24 ∷ variable 25 ∷ token (Word words.Do) 27 29 ∷ token (Word words.Skip) 30 34 ∷ token (Word words.EndWhile) 35 43 ∷ []))
+  while_a_test_holds : AreSpelling (text_with (codes "while a do skip endwhile")) (with_body (token (Keyword words.While) 19 24 ∷ variable 25 ∷ token (Keyword words.Do) 27 29 ∷ token (Keyword words.Skip) 30 34 ∷ token (Keyword words.EndWhile) 35 43 ∷ []))
       (spec_with (source.While (named 25 (codes "a")) source.Skip) 43)
   answer_into_a_location : AreSpelling (text_with (codes "f ( a ) <- r ( b )")) (with_body (applied_tokens 19 (token (Symbol symbols.LeftArrow) 27 29 ∷ applied_tokens 30 [])))
       (spec_with (source.Call (Some (name 19 (codes "f"), one (named 23 (codes "a")))) (name 30 (codes "r")) (one (named 34 (codes "b")))) 37)
   answer_without_arguments : AreSpelling (text_with (codes "f <- r")) (with_body (variable 19 ∷ token (Symbol symbols.LeftArrow) 21 23 ∷ variable 24 ∷ []))
       (spec_with (source.Call (Some (name 19 (codes "f"), source.no_terms)) (name 24 (codes "r")) source.no_terms) 25)
   result_is_set : AreSpelling (text_with (codes "result := result + a")) (with_body (result 19 ∷ token (Symbol symbols.Assign) 26 28 ∷ result 29 ∷ token (Symbol symbols.Plus) 36 37 ∷ variable 38 ∷ []))
-      (spec_with (source.SetResult (name 19 (codes "result")) (source.Chain (source.Answer (name 29 (codes "result"))) (source.link_then Add (named 38 (codes "a")) source.no_links))) 39)
+      (spec_with (source.SetResult (name 19 (codes "result")) (source.Chain (source.Result (name 29 (codes "result"))) (source.link_then Add (named 38 (codes "a")) source.no_links))) 39)
 
 trees : Trees
-unfolding specification_at item_at rule_item_at parameters_at turns name_at result_at answer_at rule_at rule_over_at skip_at block_at while_at named_rule_at result_rule_at applied_at arguments_at term_at disjunction_at conjunction_at negation_at comparison_at sum_at product_at factor_at primary_at parenthesized_at inner_at
+unfolding specification_at item_at rule_item_at parameters_at turns name_at result_at result_term_at rule_at rule_over_at skip_at block_at while_at named_rule_at result_rule_at applied_at arguments_at term_at disjunction_at conjunction_at negation_at comparison_at sum_at product_at factor_at primary_at parenthesized_at inner_at
 trees = record {
   header_alone = answers _ _ (Ok _) refl;
   word = answers _ _ (Ok _) refl;
@@ -220,22 +220,22 @@ trees = record {
 module _ (text : List ℕ) where
   record Refused : Type 0 where
     no_token : IsUnexpectedEnd text []
-    not_ended : IsUnexpectedEnd text (with_body (pars 1 19 (token (Word words.Skip) 23 27 ∷ [])))
+    not_ended : IsUnexpectedEnd text (with_body (pars 1 19 (token (Keyword words.Skip) 23 27 ∷ [])))
     second_comparison : IsUnexpected text (with_body (variable 19 ∷ token (Symbol symbols.Assign) 21 23 ∷ variable 24 ∷ token (Symbol symbols.Less) 26 27 ∷ variable 28 ∷ token (Symbol symbols.Less) 30 31 ∷ variable 32 ∷ [])) 30
     arrow_to_the_left : IsUnexpected text (with_body (variable 19 ∷ token (Symbol symbols.Assign) 21 23 ∷ variable 24 ∷ token (Symbol symbols.LeftArrow) 26 28 ∷ variable 29 ∷ [])) 26
     parentheses_first : IsUnexpected text (with_body (token (Symbol symbols.Open) 19 20 ∷ variable 21 ∷ [])) 19
-    second_rule : IsUnexpected text (with_body (token (Word words.Skip) 19 23 ∷ token (Word words.Skip) 24 28 ∷ [])) 24
-    word_of_no_rule : IsUnexpected text (with_body (token (Word words.Do) 19 21 ∷ [])) 19
+    second_rule : IsUnexpected text (with_body (token (Keyword words.Skip) 19 23 ∷ token (Keyword words.Skip) 24 28 ∷ [])) 24
+    word_of_no_rule : IsUnexpected text (with_body (token (Keyword words.Do) 19 21 ∷ [])) 19
     arrow_behind_result : IsUnexpected text (with_body (result 19 ∷ token (Symbol symbols.LeftArrow) 26 28 ∷ variable 29 ∷ [])) 26
     arrow_in_front_of_result : IsUnexpected text (with_body (variable 19 ∷ token (Symbol symbols.LeftArrow) 21 23 ∷ result 24 ∷ [])) 24
     second_arrow : IsUnexpected text (with_body (variable 19 ∷ token (Symbol symbols.LeftArrow) 21 23 ∷ variable 24 ∷ token (Symbol symbols.LeftArrow) 26 28 ∷ variable 29 ∷ [])) 26
-    while_of_no_test : IsUnexpected text (with_body (token (Word words.While) 19 24 ∷ token (Word words.Do) 25 27 ∷ [])) 25
-    while_opens_a_level : IsTooDeep text (with_body (pars 64 26 (token (Word words.While) 282 287 ∷ []))) 282
-    level_too_many : IsTooDeep text (with_body (pars 65 26 (token (Word words.Skip) 286 290 ∷ []))) 282
+    while_of_no_test : IsUnexpected text (with_body (token (Keyword words.While) 19 24 ∷ token (Keyword words.Do) 25 27 ∷ [])) 25
+    while_opens_a_level : IsTooDeep text (with_body (pars 64 26 (token (Keyword words.While) 282 287 ∷ []))) 282
+    level_too_many : IsTooDeep text (with_body (pars 65 26 (token (Keyword words.Skip) 286 290 ∷ []))) 282
     unexpected_opens_nothing : IsUnexpected text (with_body (pars 64 26 (token (Symbol symbols.Open) 282 283 ∷ []))) 282
 
   refused : Refused
-  unfolding specification_at item_at rule_item_at parameters_at turns name_at result_at answer_at rule_at rule_over_at skip_at block_at par_at iterate_at while_at named_rule_at result_rule_at applied_at arguments_at term_at disjunction_at conjunction_at negation_at comparison_at sum_at product_at factor_at primary_at parenthesized_at inner_at
+  unfolding specification_at item_at rule_item_at parameters_at turns name_at result_at result_term_at rule_at rule_over_at skip_at block_at par_at iterate_at while_at named_rule_at result_rule_at applied_at arguments_at term_at disjunction_at conjunction_at negation_at comparison_at sum_at product_at factor_at primary_at parenthesized_at inner_at
   refused = record {
     no_token = answers text [] (Err UnexpectedEnd) refl;
     not_ended = answers text _ (Err UnexpectedEnd) refl;

@@ -1,11 +1,11 @@
--- Lists of tokens and the tests on their first token.
+-- Free. Lists of tokens and the tests on their first token.
 use Rattle.std.proofs.Common.{◌≡◌, ◌⊎◌, Bool, true, false, cond, ◌||◌, List, [], ◌∷◌, ◌++◌, refl, sym, ap, ◌∙◌, inl, inr}
 use Rattle.std.proofs.lemmas.Bool.{or_left, or_right}
 use denote.Enum.Bare.{same_true, true_same}
 use Rattle.asm_syntax.specs.contracts.token.Symbol as symbol
-use Rattle.asm_syntax.specs.contracts.token.Word as word
+use Rattle.asm_syntax.specs.contracts.token.Keyword as word
 use Rattle.asm_syntax.specs.declared.token.Kind.{Kind}
-use Rattle.asm_syntax.specs.declared.token.Kind.TheVariants.{Name, Number, Symbol, Word}
+use Rattle.asm_syntax.specs.declared.token.Kind.TheVariants.{Name, Number, Symbol, Keyword}
 use Rattle.asm_syntax.specs.declared.token.Token.{Token}
 use Rattle.asm_reader.specs.Kinds.{alike, is_one_of, begins}
 
@@ -17,76 +17,76 @@ alike_both Name Name k p q = refl
 alike_both Name (Number n) Name p q = absurd cc
 alike_both Name (Number n) (Number k) p q = absurd cc
 alike_both Name (Number n) (Symbol k) p q = absurd cc
-alike_both Name (Number n) (Word k) p q = absurd cc
+alike_both Name (Number n) (Keyword k) p q = absurd cc
 alike_both Name (Symbol b) Name p q = absurd cc
 alike_both Name (Symbol b) (Number k) p q = absurd cc
 alike_both Name (Symbol b) (Symbol k) p q = absurd cc
-alike_both Name (Symbol b) (Word k) p q = absurd cc
-alike_both Name (Word b) Name p q = absurd cc
-alike_both Name (Word b) (Number k) p q = absurd cc
-alike_both Name (Word b) (Symbol k) p q = absurd cc
-alike_both Name (Word b) (Word k) p q = absurd cc
+alike_both Name (Symbol b) (Keyword k) p q = absurd cc
+alike_both Name (Keyword b) Name p q = absurd cc
+alike_both Name (Keyword b) (Number k) p q = absurd cc
+alike_both Name (Keyword b) (Symbol k) p q = absurd cc
+alike_both Name (Keyword b) (Keyword k) p q = absurd cc
 alike_both (Number m) Name Name p q = absurd cc
 alike_both (Number m) Name (Number k) p q = absurd cc
 alike_both (Number m) Name (Symbol k) p q = absurd cc
-alike_both (Number m) Name (Word k) p q = absurd cc
+alike_both (Number m) Name (Keyword k) p q = absurd cc
 alike_both (Number m) (Number n) k p q = refl
 alike_both (Number m) (Symbol b) Name p q = absurd cc
 alike_both (Number m) (Symbol b) (Number k) p q = absurd cc
 alike_both (Number m) (Symbol b) (Symbol k) p q = absurd cc
-alike_both (Number m) (Symbol b) (Word k) p q = absurd cc
-alike_both (Number m) (Word b) Name p q = absurd cc
-alike_both (Number m) (Word b) (Number k) p q = absurd cc
-alike_both (Number m) (Word b) (Symbol k) p q = absurd cc
-alike_both (Number m) (Word b) (Word k) p q = absurd cc
+alike_both (Number m) (Symbol b) (Keyword k) p q = absurd cc
+alike_both (Number m) (Keyword b) Name p q = absurd cc
+alike_both (Number m) (Keyword b) (Number k) p q = absurd cc
+alike_both (Number m) (Keyword b) (Symbol k) p q = absurd cc
+alike_both (Number m) (Keyword b) (Keyword k) p q = absurd cc
 alike_both (Symbol a) b Name p q = absurd cc
 alike_both (Symbol a) b (Number k) p q = absurd cc
 alike_both (Symbol a) Name (Symbol k) p q = absurd cc
 alike_both (Symbol a) (Number n) (Symbol k) p q = absurd cc
 alike_both (Symbol a) (Symbol b) (Symbol k) p q = true_same symbol.the_type a b (same_true symbol.the_type tt a k p ∙ sym (same_true symbol.the_type tt b k q))
-alike_both (Symbol a) (Word b) (Symbol k) p q = absurd cc
-alike_both (Symbol a) b (Word k) p q = absurd cc
-alike_both (Word a) b Name p q = absurd cc
-alike_both (Word a) b (Number k) p q = absurd cc
-alike_both (Word a) b (Symbol k) p q = absurd cc
-alike_both (Word a) Name (Word k) p q = absurd cc
-alike_both (Word a) (Number n) (Word k) p q = absurd cc
-alike_both (Word a) (Symbol b) (Word k) p q = absurd cc
-alike_both (Word a) (Word b) (Word k) p q = true_same word.the_type a b (same_true word.the_type tt a k p ∙ sym (same_true word.the_type tt b k q))
+alike_both (Symbol a) (Keyword b) (Symbol k) p q = absurd cc
+alike_both (Symbol a) b (Keyword k) p q = absurd cc
+alike_both (Keyword a) b Name p q = absurd cc
+alike_both (Keyword a) b (Number k) p q = absurd cc
+alike_both (Keyword a) b (Symbol k) p q = absurd cc
+alike_both (Keyword a) Name (Keyword k) p q = absurd cc
+alike_both (Keyword a) (Number n) (Keyword k) p q = absurd cc
+alike_both (Keyword a) (Symbol b) (Keyword k) p q = absurd cc
+alike_both (Keyword a) (Keyword b) (Keyword k) p q = true_same word.the_type a b (same_true word.the_type tt a k p ∙ sym (same_true word.the_type tt b k q))
 
 -- the kinds that are known by their test
 pub alike_name : (k : Kind) → alike Name k ≡ true → k ≡ Name
 alike_name Name p = refl
 alike_name (Number n) p = absurd cc
 alike_name (Symbol s) p = absurd cc
-alike_name (Word w) p = absurd cc
+alike_name (Keyword w) p = absurd cc
 
 pub alike_symbol : (s : _) (k : Kind) → alike (Symbol s) k ≡ true → k ≡ Symbol s
 alike_symbol s Name p = absurd cc
 alike_symbol s (Number n) p = absurd cc
 alike_symbol s (Symbol b) p = ap Symbol (sym (same_true symbol.the_type tt s b p))
-alike_symbol s (Word w) p = absurd cc
+alike_symbol s (Keyword w) p = absurd cc
 
-pub alike_word : (w : _) (k : Kind) → alike (Word w) k ≡ true → k ≡ Word w
+pub alike_word : (w : _) (k : Kind) → alike (Keyword w) k ≡ true → k ≡ Keyword w
 alike_word w Name p = absurd cc
 alike_word w (Number n) p = absurd cc
 alike_word w (Symbol b) p = absurd cc
-alike_word w (Word b) p = ap Word (sym (same_true word.the_type tt w b p))
+alike_word w (Keyword b) p = ap Keyword (sym (same_true word.the_type tt w b p))
 
 pub alike_self : (k : Kind) → alike k k ≡ true
 alike_self Name = refl
 alike_self (Number n) = refl
 alike_self (Symbol s) = true_same symbol.the_type s s refl
-alike_self (Word w) = true_same word.the_type w w refl
+alike_self (Keyword w) = true_same word.the_type w w refl
 
 -- ---- sets of kinds
 
--- no kind stands in both, numbers counted as one
+-- no kind is in both, numbers counted as one
 abbrev pub apart : List Kind → List Kind → Bool
 apart [] js = true
 apart (k ∷ ks) js = cond (is_one_of js k) false (apart ks js)
 
--- each kind of the first stands in the second
+-- each kind of the first is in the second
 abbrev pub within : List Kind → List Kind → Bool
 within [] js = true
 within (k ∷ ks) js = cond (is_one_of js k) (within ks js) false
@@ -95,7 +95,7 @@ pub or_cases : (a b : Bool) → (a || b) ≡ true → (a ≡ true) ⊎ (b ≡ tr
 or_cases true b e = inl refl
 or_cases false b e = inr e
 
--- what is alike to a member stands in the set
+-- what is alike to a member is in the set
 member_alike : (ks : List Kind) (a k : Kind) → alike a k ≡ true → is_one_of ks k ≡ true → is_one_of ks a ≡ true
 member_alike [] a k p q = absurd cc
 member_alike (b ∷ ks) a k p q = elim (or_cases (alike b k) (is_one_of ks k) q) [

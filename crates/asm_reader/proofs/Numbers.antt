@@ -1,4 +1,4 @@
--- Numbers that tokens stand for.
+-- Free. Numbers that tokens stand for.
 use Rattle.std.proofs.Common.{◌≡◌, ℕ, ◌<◌, Bool, true, false, Option, Some, None, refl, arith}
 use Rattle.std.specs.Prelude.{unsigned_abs}
 use Rattle.std.proofs.lemmas.Int.{ints}
@@ -6,7 +6,7 @@ use Rattle.asm_state.specs.Bounds.{greatest_number}
 use Rattle.asm_state.specs.declared.number.Number.{Number}
 use Rattle.asm_state.specs.Numbers.{number_with}
 use Rattle.asm_state.proofs.ValueLaws.{value_laws}
-use Rattle.asm_reader.specs.Parts.{signed}
+use Rattle.asm_reader.specs.Productions.{signed}
 
 outside : (b : Bool) (n : ℕ) (m : Number) → unsigned_abs greatest_number < n → m.value ≡ signed b n → ⊥
 outside true n m h e = omega (arith, ints, m.low, m.high)

@@ -1,23 +1,23 @@
--- A text has one refusal at most, and none beside a tree.
+-- Free. A text has one refusal at most, and none if it has a tree.
 use Rattle.std.proofs.Common.{◌≡◌, ◌⊎◌, ℕ, List, [], ◌∷◌, refl, sym, ap, subst, ◌∙◌, inl, inr}
 use Rattle.std.proofs.lemmas.List.{append-nil}
 use Rattle.asm_syntax.specs.declared.error.LexError.{LexError}
-use Rattle.asm_syntax.specs.declared.refused.Refused.{Refused}
-use Rattle.asm_syntax.specs.declared.refused.Refused.TheVariants.{Memory, Named}
+use Rattle.asm_syntax.specs.declared.input_error.InputError.{InputError}
+use Rattle.asm_syntax.specs.declared.input_error.InputError.TheVariants.{Memory, Named}
 use Rattle.asm_syntax.specs.declared.token.Token.{Token}
 use Rattle.asm_syntax.specs.SourceTree as source
 use Rattle.asm_syntax.specs.Tokens.{AreTokens, IsFault}
 use Rattle.asm_reader.specs.declared.error.ReadError.{ReadError}
 use Rattle.asm_reader.specs.declared.error.ReadError.TheVariants.{Lex, Unexpected, UnexpectedEnd, TooDeep}
-use Rattle.asm_reader.specs.Specification.{GoesOn, IsWithinLevels, AreSpelling, IsSpecification}
+use Rattle.asm_reader.specs.Specification.{CanGoOn, IsWithinLevels, AreSpelling, IsSpecification}
 use Rattle.asm_reader.specs.Refusals.{IsUnexpected, IsTooDeep, IsRefusalOfTokens, IsRefusal, ExplainsTokens}
-use Rattle.asm_reader.proofs.Fronts.{is_within_up_to, front_goes_on, goes_on_up_to, two_fronts}
+use Rattle.asm_reader.proofs.TokenFronts.{is_within_up_to, front_goes_on, goes_on_up_to, two_fronts}
 
 -- ---- of tokens
 
 module _ (text : List ℕ) (ts : List Token) where
   -- tokens that all go on have no unexpected one
-  none_unexpected : (at : ℕ) → IsUnexpected text ts at → ¬ GoesOn text ts
+  none_unexpected : (at : ℕ) → IsUnexpected text ts at → ¬ CanGoOn text ts
   none_unexpected at u g = u.stops (goes_on_up_to text u.before u.after ts u.bad u.parts g)
 
   none_too_deep : (at : ℕ) → IsTooDeep text ts at → ¬ IsWithinLevels ts
@@ -60,7 +60,7 @@ module _ (text : List ℕ) (ts : List Token) where
   one_of_tokens (TooDeep i) (TooDeep j) p q = ap TooDeep (one_too_deep i j p q)
 
   module _ (s : source.Spec) (spelled : AreSpelling text ts s) where
-    all_go_on : GoesOn text ts
+    all_go_on : CanGoOn text ts
     all_go_on = ([], s, rw (append-nil ts) spelled.0)
 
     none_of_tokens : (e : ReadError) → ¬ IsRefusalOfTokens text ts e
@@ -69,8 +69,8 @@ module _ (text : List ℕ) (ts : List Token) where
     none_of_tokens UnexpectedEnd p = p.unfinished s spelled.0
     none_of_tokens (TooDeep at) p = none_too_deep at p spelled.1
 
-    -- where the tokens spell a tree, only memory can run out
-    pub only_memory : (e : Refused ReadError) → ExplainsTokens text ts e → e ≡ Memory
+    -- if the tokens spell a tree, only memory can run out
+    pub only_memory : (e : InputError ReadError) → ExplainsTokens text ts e → e ≡ Memory
     only_memory Memory p = refl
     only_memory (Named e) p = absurd (none_of_tokens e p)
 

@@ -1,4 +1,5 @@
--- Tokens have one tree at most, at any depth: with room for as many levels as tokens, an exact reader finds it.
+-- Free. Tokens have one tree at most, at any depth: with room for as many levels as tokens, an
+-- exact reader finds it.
 use Rattle.std.proofs.Common.{◌≡◌, ℕ, zero, suc, ◌+◌, ◌≤◌, Bool, true, false, cond, List, [], ◌∷◌, ◌++◌, length, Option, Some, None, Ok, Err, refl, sym, ap, ◌∙◌, arith, inl, inr}
 use Rattle.std.specs.Prelude.{option_and_then}
 use Rattle.std.proofs.lemmas.List.{append-nil, length-append}
@@ -7,12 +8,12 @@ use Rattle.asm_syntax.specs.declared.token.Token.{Token}
 use Rattle.asm_reader.specs.declared.error.ReadError.{ReadError}
 use Rattle.asm_reader.specs.Kinds.{is_one_of}
 use Rattle.asm_reader.specs.Levels.{Depth, at_depth, closers, opens, less_one, after_token, depth_after}
-use Rattle.asm_reader.specs.Parts.{Part}
-use Rattle.asm_reader.specs.Steps.{Answer, Reader}
+use Rattle.asm_reader.specs.Productions.{Production}
+use Rattle.asm_reader.specs.code.Steps.{ReaderResult, Reader}
 use Rattle.asm_reader.proofs.Lists.{Agrees-self}
-use Rattle.asm_reader.proofs.Readers.{Sinks, Outcome, IsExact, depth-append}
+use Rattle.asm_reader.proofs.ExactLemmas.Readers.{Sinks, Outcome, IsExact, depth-append}
 
--- so many levels are left at least
+-- n levels are left at least
 abbrev HasLeft : ℕ → Option ℕ → Type 0
 HasLeft n None = ⊥
 HasLeft n (Some k) = n ≤ k
@@ -54,7 +55,7 @@ none_has_left n None e h = h
 none_has_left n (Some k) e h = absurd cc
 
 -- n levels may open in `P n`, and any number in N
-module _ {A : Type 0} (more : List Kind) (P : ℕ → Part A) (N : Part A) (f : ℕ → Reader A) (exact : (n : ℕ) → IsExact (at_depth n) (at_depth n) more (P n) N (f n)) where
+module _ {A : Type 0} (more : List Kind) (P : ℕ → Production A) (N : Production A) (f : ℕ → Reader A) (exact : (n : ℕ) → IsExact (at_depth n) (at_depth n) more (P n) N (f n)) where
   never_sinks : (ts : List Token) (e : ReadError) → ¬ Sinks (at_depth (length ts)) (P (length ts)) ts e
   never_sinks ts e s =
       let opened : List Token = s.before ++ s.opener ∷ [] in
@@ -62,12 +63,12 @@ module _ {A : Type 0} (more : List Kind) (P : ℕ → Part A) (N : Part A) (f : 
       none_has_left 0 (depth_after (at_depth (length ts)) opened).left (ap (λ (v : Depth). v.left) (depth-append (at_depth (length ts)) s.before (s.opener ∷ [])) ∙ s.sinks)
       (tokens_left opened 0 (at_depth (length ts)) long)
 
-  found : (ts : List Token) (x : A) → N ts x → (r : Answer A) → Outcome (at_depth (length ts)) (at_depth (length ts)) more (P (length ts)) N ts r → (z : A) × (rest : List Token) × (r ≡ Ok (z, rest)) × (x ≡ z)
+  found : (ts : List Token) (x : A) → N ts x → (r : ReaderResult A) → Outcome (at_depth (length ts)) (at_depth (length ts)) more (P (length ts)) N ts r → (z : A) × (rest : List Token) × (r ≡ Ok (z, rest)) × (x ≡ z)
   found ts x p (Ok r) t = (r.0, r.1, refl, (t.only r.1 ts [] x (Agrees-self r.1) (append-nil ts ∙ t.parts) p refl).1)
   found ts x p (Err e) (inl s) = absurd (s.stuck s.rest ts [] x (Agrees-self s.rest) (append-nil ts ∙ s.parts) p refl)
   found ts x p (Err e) (inr s) = absurd (never_sinks ts e s)
 
-  same_value : (a b : A) (u v : List Token) (r : Answer A) → r ≡ Ok (a, u) → r ≡ Ok (b, v) → a ≡ b
+  same_value : (a b : A) (u v : List Token) (r : ReaderResult A) → r ≡ Ok (a, u) → r ≡ Ok (b, v) → a ≡ b
   same_value a b u v r p q = let both : ◌≡◌ {A = A × List Token} (a, u) (b, v) = cc in ap (λ (w : A × List Token). w.0) both
 
   pub one_tree : (ts : List Token) (x y : A) → N ts x → N ts y → x ≡ y

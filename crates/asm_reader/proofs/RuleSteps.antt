@@ -1,4 +1,4 @@
--- The readers of rules, as the code's functions call one another.
+-- Free. The readers of rules, as the code's functions call one another.
 use Rattle.std.proofs.Common.{◌≡◌, ℕ, zero, suc, Bool, true, false, cond, ◌||◌, List, [], ◌∷◌, Option, Some, None, Ok, Err, inl, inr, refl, sym}
 use Rattle.asm_syntax.specs.declared.token.Kind.{Kind}
 use Rattle.asm_syntax.specs.declared.token.Kind.TheVariants.{Symbol}
@@ -7,9 +7,9 @@ use Rattle.asm_syntax.specs.declared.token.Token.{Token}
 use Rattle.asm_syntax.specs.SourceTree as source
 use Rattle.asm_reader.specs.declared.error.ReadError.{ReadError}
 use Rattle.asm_reader.specs.Kinds.{alike, begins}
-use Rattle.asm_reader.specs.Steps.{Reader, and_then, below, mapped, either_of, option_of, repeated_of, several_of}
-use Rattle.asm_reader.specs.TermReading.{applied_at, term_at}
-use Rattle.asm_reader.specs.RuleReading.{Applied, value_at, called_at, named_rule_at, rule_over_at, rule_at}
+use Rattle.asm_reader.specs.code.Steps.{Reader, and_then, below, mapped, either_of, option_of, repeated_of, several_of}
+use Rattle.asm_reader.specs.code.TermReading.{applied_at, term_at}
+use Rattle.asm_reader.specs.code.RuleReading.{Applied, value_at, called_at, named_rule_at, rule_over_at, rule_at}
 use Rattle.asm_reader.proofs.Loops.{with_front, front_is}
 
 pub rule_is : (text : List ℕ) (n : ℕ) → rule_at text n ≡ rule_over_at text n (below (term_at text) n) (below (rule_at text) n)

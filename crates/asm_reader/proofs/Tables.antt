@@ -1,4 +1,4 @@
--- What stands in a table of kinds.
+-- Free. What is in a table of kinds.
 use Rattle.std.proofs.Common.{◌≡◌, Bool, true, false, cond, ◌||◌, List, [], ◌∷◌, Option, Some, refl, ap, is_some, ◌∙◌}
 use Rattle.asm_syntax.specs.declared.token.Kind.{Kind}
 use Rattle.asm_reader.specs.Kinds.{alike, is_one_of, looked_up, keys}

@@ -1,19 +1,19 @@
--- The readers of terms, as the code's functions call one another.
+-- Free. The readers of terms, as the code's functions call one another.
 use Rattle.std.proofs.Common.{◌≡◌, ℕ, zero, suc, ◌-◌, ◌<◌, false, List, [], ◌∷◌, Option, Ok, Err, refl, ap, ◌∙◌, arith}
 use Rattle.std.specs.Prelude.{option_to_list}
 use Rattle.asm_state.specs.declared.operation.Op.{Op}
 use Rattle.asm_syntax.specs.declared.token.Kind.{Kind}
-use Rattle.asm_syntax.specs.declared.token.Kind.TheVariants.{Word}
-use Rattle.asm_syntax.specs.declared.token.Word.TheVariants.{Not}
+use Rattle.asm_syntax.specs.declared.token.Kind.TheVariants.{Keyword}
+use Rattle.asm_syntax.specs.declared.token.Keyword.TheVariants.{Not}
 use Rattle.asm_syntax.specs.declared.token.Token.{Token}
 use Rattle.asm_syntax.specs.SourceTree as source
 use Rattle.asm_reader.specs.declared.error.ReadError.{ReadError}
 use Rattle.asm_reader.specs.declared.terms.Precedence.{Precedence}
 use Rattle.asm_reader.specs.declared.terms.Precedence.TheVariants as precedence
 use Rattle.asm_reader.specs.Kinds.{begins, keys}
-use Rattle.asm_reader.specs.Steps.{Answer, Reader, and_then, below, pair_of, option_of, turns, repeated_of, choice_at}
+use Rattle.asm_reader.specs.code.Steps.{ReaderResult, Reader, and_then, below, pair_of, option_of, turns, repeated_of, choice_at}
 use Rattle.asm_reader.specs.TermGrammar.{chain_of, disjunctions, conjunctions, comparisons, additions, products}
-use Rattle.asm_reader.specs.TermReading.{table_of, operators, chain_at, links_behind, operand_at, chain_of_at, chain_from_at, compared_at, carried_on, factor_at, product_at, sum_at, comparison_at, negation_at, conjunction_at, disjunction_at, term_at}
+use Rattle.asm_reader.specs.code.TermReading.{table_of, operators, chain_at, links_behind, operand_at, chain_of_at, chain_from_at, compared_at, carried_on, factor_at, product_at, sum_at, comparison_at, negation_at, conjunction_at, disjunction_at, term_at}
 use Rattle.asm_reader.proofs.Lists.{within_begins}
 
 pub below_less : {A : Type 0} (f : ℕ → Reader A) (n : ℕ) → 0 < n → below f n ≡ f (n - 1)
@@ -47,13 +47,13 @@ module _ (table : List (Kind × Op)) (f : Reader source.Term) where
   pub link_fails : (ts ts1 : List Token) (o : Op) (e : ReadError) → choice_at table ts ≡ Ok (o, ts1) → f ts1 ≡ Err e → link ts ≡ Err e
   link_fails ts ts1 o e p q = rw (p, q) refl
 
-  -- a chain whose first member is read goes on behind it
-  chain_joined : (x : source.Term) (links : Answer (List (Op × source.Term)))
+  -- a chain whose first member is read goes on after it
+  chain_joined : (x : source.Term) (links : ReaderResult (List (Op × source.Term)))
       → and_then {A = source.Term × List (Op × source.Term)} (and_then links (λ y after. Ok ((x, y), after))) (λ r rest. Ok (chain_of r, rest)) ≡ and_then links (λ y after. Ok (chain_of (x, y), after))
   chain_joined x (Ok r) = refl
   chain_joined x (Err e) = refl
 
-  chain_split : (first : Answer source.Term)
+  chain_split : (first : ReaderResult source.Term)
       → and_then {A = source.Term × List (Op × source.Term)} (and_then first (λ x rest. and_then (repeated_of (keys table) link rest) (λ y after. Ok ((x, y), after)))) (λ r rest. Ok (chain_of r, rest)) ≡ and_then first (links_behind table f)
   chain_split (Ok r) = chain_joined r.0 (repeated_of (keys table) link r.1)
   chain_split (Err e) = refl
@@ -62,7 +62,7 @@ module _ (table : List (Kind × Op)) (f : Reader source.Term) where
   chain_splits ts = chain_split (f ts)
 
   pub chain_goes_on : (ts ts1 : List Token) (x : source.Term) → f ts ≡ Ok (x, ts1) → chain_at table f ts ≡ links_behind table f x ts1
-  chain_goes_on ts ts1 x p = chain_splits ts ∙ ap (λ (a : Answer source.Term). and_then a (links_behind table f)) p
+  chain_goes_on ts ts1 x p = chain_splits ts ∙ ap (λ (a : ReaderResult source.Term). and_then a (links_behind table f)) p
 
   pub first_fails : (ts : List Token) (e : ReadError) → f ts ≡ Err e → chain_at table f ts ≡ Err e
   first_fails ts e p = rw p refl
@@ -81,7 +81,7 @@ module _ (table : List (Kind × Op)) (f : Reader source.Term) where
 -- ---- terms whose first factor is read
 
 module _ (text : List ℕ) (n : ℕ) (deeper : Reader source.Term) where
-  compared_joined : (x : source.Term) (answer : Answer (Option (Op × source.Term)))
+  compared_joined : (x : source.Term) (answer : ReaderResult (Option (Op × source.Term)))
       → and_then {A = source.Term × Option (Op × source.Term)} (and_then answer (λ y after. Ok ((x, y), after))) (λ r rest. Ok (chain_of (r.0, option_to_list r.1), rest)) ≡ and_then answer (λ y after. Ok (chain_of (x, option_to_list y), after))
   compared_joined x (Ok r) = refl
   compared_joined x (Err e) = refl
@@ -89,7 +89,7 @@ module _ (text : List ℕ) (n : ℕ) (deeper : Reader source.Term) where
   abbrev side : Reader (Option (Op × source.Term))
   side = option_of (keys comparisons) (pair_of (choice_at comparisons) (sum_at text n deeper))
 
-  comparison_split : (first : Answer source.Term)
+  comparison_split : (first : ReaderResult source.Term)
       → and_then {A = source.Term × Option (Op × source.Term)} (and_then first (λ x rest. and_then (side rest) (λ y after. Ok ((x, y), after)))) (λ r rest. Ok (chain_of (r.0, option_to_list r.1), rest)) ≡ and_then first (compared_at text n deeper)
   comparison_split (Ok r) = compared_joined r.0 (side r.1)
   comparison_split (Err e) = refl
@@ -99,15 +99,15 @@ module _ (text : List ℕ) (n : ℕ) (deeper : Reader source.Term) where
   comparison_splits ts = comparison_split (sum_at text n deeper ts)
 
   pub comparison_goes_on : (ts ts1 : List Token) (x : source.Term) → sum_at text n deeper ts ≡ Ok (x, ts1) → comparison_at text n deeper ts ≡ compared_at text n deeper x ts1
-  comparison_goes_on ts ts1 x p = comparison_splits ts ∙ ap (λ (a : Answer source.Term). and_then a (compared_at text n deeper)) p
+  comparison_goes_on ts ts1 x p = comparison_splits ts ∙ ap (λ (a : ReaderResult source.Term). and_then a (compared_at text n deeper)) p
 
   pub side_fails : (ts : List Token) (e : ReadError) → sum_at text n deeper ts ≡ Err e → comparison_at text n deeper ts ≡ Err e
-  side_fails ts e p = comparison_splits ts ∙ ap (λ (a : Answer source.Term). and_then a (compared_at text n deeper)) p
+  side_fails ts e p = comparison_splits ts ∙ ap (λ (a : ReaderResult source.Term). and_then a (compared_at text n deeper)) p
 
   pub not_compared : (ts : List Token) (x : source.Term) → begins (keys comparisons) ts ≡ false → compared_at text n deeper x ts ≡ Ok (x, ts)
   not_compared ts x p = rw p refl
 
-  negation_is : (ts : List Token) → begins (Word Not ∷ []) ts ≡ false → negation_at text n deeper ts ≡ comparison_at text n deeper ts
+  negation_is : (ts : List Token) → begins (Keyword Not ∷ []) ts ≡ false → negation_at text n deeper ts ≡ comparison_at text n deeper ts
   unfolding negation_at
   negation_is ts p = rw p refl
 
@@ -130,17 +130,17 @@ module _ (text : List ℕ) (n : ℕ) (deeper : Reader source.Term) where
   unfolding disjunction_at
   disjunction_splits ts = chain_splits disjunctions (conjunction_at text n deeper) ts
 
-  abbrev then_from : Precedence → Answer source.Term → Answer source.Term
+  abbrev then_from : Precedence → ReaderResult source.Term → ReaderResult source.Term
   then_from c a = and_then a (from c)
 
-  disjunction_goes_on : (ts : List Token) → begins (Word Not ∷ []) ts ≡ false → disjunction_at text n deeper ts ≡ carried_on text n deeper (factor_at text n deeper ts)
+  disjunction_goes_on : (ts : List Token) → begins (Keyword Not ∷ []) ts ≡ false → disjunction_at text n deeper ts ≡ carried_on text n deeper (factor_at text n deeper ts)
   disjunction_goes_on ts p =
       let sum_is : sum_at text n deeper ts ≡ then_from precedence.Sum (then_from precedence.Product (factor_at text n deeper ts)) = sum_splits ts ∙ ap (then_from precedence.Sum) (product_splits ts) in
       let negation_from : negation_at text n deeper ts ≡ and_then (then_from precedence.Sum (then_from precedence.Product (factor_at text n deeper ts))) (compared_at text n deeper)
-      = negation_is ts p ∙ comparison_splits ts ∙ ap (λ (a : Answer source.Term). and_then a (compared_at text n deeper)) sum_is in
+      = negation_is ts p ∙ comparison_splits ts ∙ ap (λ (a : ReaderResult source.Term). and_then a (compared_at text n deeper)) sum_is in
       disjunction_splits ts ∙ ap (then_from precedence.Disjunction) (conjunction_splits ts ∙ ap (then_from precedence.Conjunction) negation_from)
 
-  -- without an operator behind it the factor is the term
+  -- without an operator after it the factor is the term
   carried_nowhere : (ts : List Token) (x : source.Term) → begins operators ts ≡ false → carried_on text n deeper (Ok (x, ts)) ≡ Ok (x, ts)
   carried_nowhere ts x p = rw (
     no_links products (factor_at text n deeper) ts x (within_begins (keys products) operators ts refl p),
@@ -154,14 +154,14 @@ module _ (text : List ℕ) (n : ℕ) where
   abbrev factor : Reader source.Term
   factor = factor_at text n (below (term_at text) n)
 
-  term_splits : (ts : List Token) → begins (Word Not ∷ []) ts ≡ false → term_at text n ts ≡ carried_on text n (below (term_at text) n) (factor ts)
+  term_splits : (ts : List Token) → begins (Keyword Not ∷ []) ts ≡ false → term_at text n ts ≡ carried_on text n (below (term_at text) n) (factor ts)
   term_splits ts p = ap (λ (f : Reader source.Term). f ts) (term_is text n) ∙ disjunction_goes_on text n (below (term_at text) n) ts p
 
-  pub term_goes_on : (ts ts1 : List Token) (x : source.Term) → begins (Word Not ∷ []) ts ≡ false → factor ts ≡ Ok (x, ts1) → term_at text n ts ≡ carried_on text n (below (term_at text) n) (Ok (x, ts1))
+  pub term_goes_on : (ts ts1 : List Token) (x : source.Term) → begins (Keyword Not ∷ []) ts ≡ false → factor ts ≡ Ok (x, ts1) → term_at text n ts ≡ carried_on text n (below (term_at text) n) (Ok (x, ts1))
   term_goes_on ts ts1 x p read = term_splits ts p ∙ ap (carried_on text n (below (term_at text) n)) read
 
-  pub term_stops : (ts : List Token) (e : ReadError) → begins (Word Not ∷ []) ts ≡ false → factor ts ≡ Err e → term_at text n ts ≡ Err e
+  pub term_stops : (ts : List Token) (e : ReadError) → begins (Keyword Not ∷ []) ts ≡ false → factor ts ≡ Err e → term_at text n ts ≡ Err e
   term_stops ts e p read = term_splits ts p ∙ ap (carried_on text n (below (term_at text) n)) read
 
-  pub term_is_factor : (ts ts1 : List Token) (x : source.Term) → begins (Word Not ∷ []) ts ≡ false → factor ts ≡ Ok (x, ts1) → begins operators ts1 ≡ false → term_at text n ts ≡ Ok (x, ts1)
+  pub term_is_factor : (ts ts1 : List Token) (x : source.Term) → begins (Keyword Not ∷ []) ts ≡ false → factor ts ≡ Ok (x, ts1) → begins operators ts1 ≡ false → term_at text n ts ≡ Ok (x, ts1)
   term_is_factor ts ts1 x p read none = term_goes_on ts ts1 x p read ∙ carried_nowhere text n (below (term_at text) n) ts1 x none

@@ -1,7 +1,7 @@
--- The source trees of the code's variants.
+-- Free. The source trees of the code's variants.
 use Rattle.std.proofs.Common.{◌≡◌, Option, Some, None, Box, Global, ap, sym, ◌∙◌}
 use Rattle.asm_syntax.specs.SourceTree as source
-use Rattle.asm_syntax.specs.Views.{name_of, term_of, test_of, rule_step, rule_of}
+use Rattle.asm_syntax.specs.code.Views.{name_of, term_of, test_of, rule_step, rule_of}
 use Rattle.asm_syntax.specs.declared.name.Name.{Name}
 use Rattle.asm_syntax.specs.declared.term.Term.{Term}
 use Rattle.asm_syntax.specs.declared.rule.Rule.{Rule}
@@ -9,7 +9,7 @@ use Rattle.asm_syntax.specs.declared.rule.Rule.TheOpen as open_rule
 use Rattle.asm_syntax.specs.declared.rule.Rule.TheVariants as rule
 use Rattle.asm_syntax.specs.declared.rule.Rule.TheFolds.{fold-roll-Rule}
 use Rattle.asm_reader.specs.RuleGrammar.{branch}
-use Rattle.asm_reader.specs.Seen.{boxed_rule_of}
+use Rattle.asm_reader.specs.code.ViewsOfParts.{boxed_rule_of}
 
 pub skip_is : rule_of rule.Skip ≡ source.Skip
 skip_is = ap rule_of (sym rule.rolls-Skip) ∙ fold-roll-Rule source.Rule rule_step open_rule.Skip

@@ -1,10 +1,10 @@
--- Kinds of tokens, up to the value of a number.
+-- Definition. Kinds of tokens, up to the value of a number.
 use Rattle.std.specs.Prelude.{Bool, true, false, ◌||◌, List, [], ◌∷◌, Option, Some, None, if◌then◌else◌}
 use denote.Enum.Bare.{sameb}
 use Rattle.asm_syntax.specs.contracts.token.Symbol as symbol
-use Rattle.asm_syntax.specs.contracts.token.Word as word
+use Rattle.asm_syntax.specs.contracts.token.Keyword as word
 use Rattle.asm_syntax.specs.declared.token.Kind.{Kind}
-use Rattle.asm_syntax.specs.declared.token.Kind.TheVariants.{Name, Number, Symbol, Word}
+use Rattle.asm_syntax.specs.declared.token.Kind.TheVariants.{Name, Number, Symbol, Keyword}
 use Rattle.asm_syntax.specs.declared.token.Token.{Token}
 
 -- two kinds are one, or both are numbers
@@ -12,19 +12,19 @@ abbrev pub alike : Kind → Kind → Bool
 alike Name Name = true
 alike Name (Number n) = false
 alike Name (Symbol b) = false
-alike Name (Word b) = false
+alike Name (Keyword b) = false
 alike (Number m) Name = false
 alike (Number m) (Number n) = true
 alike (Number m) (Symbol b) = false
-alike (Number m) (Word b) = false
+alike (Number m) (Keyword b) = false
 alike (Symbol a) Name = false
 alike (Symbol a) (Number n) = false
 alike (Symbol a) (Symbol b) = sameb symbol.the_type a b
-alike (Symbol a) (Word b) = false
-alike (Word a) Name = false
-alike (Word a) (Number n) = false
-alike (Word a) (Symbol b) = false
-alike (Word a) (Word b) = sameb word.the_type a b
+alike (Symbol a) (Keyword b) = false
+alike (Keyword a) Name = false
+alike (Keyword a) (Number n) = false
+alike (Keyword a) (Symbol b) = false
+alike (Keyword a) (Keyword b) = sameb word.the_type a b
 
 abbrev pub is_one_of : List Kind → Kind → Bool
 is_one_of [] k = false

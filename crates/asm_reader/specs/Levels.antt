@@ -1,20 +1,20 @@
--- How deep tokens nest.
+-- Definition. How deep tokens nest.
 use Rattle.std.specs.Prelude.{ℕ, zero, suc, Bool, true, false, if◌then◌else◌, List, [], ◌∷◌, Option, Some, None, option_and_then}
 use Rattle.asm_syntax.specs.declared.token.Kind.{Kind}
-use Rattle.asm_syntax.specs.declared.token.Kind.TheVariants.{Symbol, Word}
+use Rattle.asm_syntax.specs.declared.token.Kind.TheVariants.{Symbol, Keyword}
 use Rattle.asm_syntax.specs.declared.token.Symbol.TheVariants as symbols
-use Rattle.asm_syntax.specs.declared.token.Word.TheVariants as words
+use Rattle.asm_syntax.specs.declared.token.Keyword.TheVariants as words
 use Rattle.asm_syntax.specs.declared.token.Token.{Token}
 use Rattle.asm_reader.specs.Kinds.{alike, is_one_of}
 
 -- the rules with an end word, and parentheses
 abbrev pub openers : List Kind
-openers = Symbol symbols.Open ∷ Word words.Par ∷ Word words.Seq ∷ Word words.If ∷ Word words.Let ∷ Word words.Forall ∷ Word words.Choose ∷ Word words.Iterate ∷ Word words.While ∷ []
+openers = Symbol symbols.Open ∷ Keyword words.Par ∷ Keyword words.Seq ∷ Keyword words.If ∷ Keyword words.Let ∷ Keyword words.Forall ∷ Keyword words.Choose ∷ Keyword words.Iterate ∷ Keyword words.While ∷ []
 
 abbrev pub closers : List Kind
-closers = Symbol symbols.Close ∷ Word words.EndPar ∷ Word words.EndSeq ∷ Word words.EndIf ∷ Word words.EndLet ∷ Word words.EndForall ∷ Word words.EndChoose ∷ Word words.EndIterate ∷ Word words.EndWhile ∷ []
+closers = Symbol symbols.Close ∷ Keyword words.EndPar ∷ Keyword words.EndSeq ∷ Keyword words.EndIf ∷ Keyword words.EndLet ∷ Keyword words.EndForall ∷ Keyword words.EndChoose ∷ Keyword words.EndIterate ∷ Keyword words.EndWhile ∷ []
 
--- how many more levels may open, or none where one too many did, and whether the last token is `(`
+-- how many more levels may open, or none if one too many did, and whether the last token is `(`
 pub record Depth : Type 0 where
   pub left : Option ℕ
   pub in_front : Bool
@@ -23,12 +23,12 @@ abbrev pub less_one : ℕ → Option ℕ
 less_one zero = None
 less_one (suc n) = Some n
 
--- `forall` behind a `(` is that of a term, which has no end word
+-- `forall` after a `(` is that of a term, which has no end word
 abbrev pub opens_by : (opening : List Kind) → Bool → Kind → Bool
-opens_by opening true k = if alike (Word words.Forall) k then false else is_one_of opening k
+opens_by opening true k = if alike (Keyword words.Forall) k then false else is_one_of opening k
 opens_by opening false k = is_one_of opening k
 
--- where the one kinds open levels, and the others close them
+-- when the one kinds open levels, and the others close them
 module _ (opening closing : List Kind) where
   abbrev pub after_token_by : Depth → Token → Depth
   after_token_by d t = record {
@@ -49,6 +49,6 @@ after_token = after_token_by openers closers
 abbrev pub depth_after : Depth → List Token → Depth
 depth_after = depth_by openers closers
 
--- n more levels may open, behind a token that is no `(`
+-- n more levels may open, after a token that is no `(`
 abbrev pub at_depth : ℕ → Depth
 at_depth n = record { left = Some n; in_front = false }

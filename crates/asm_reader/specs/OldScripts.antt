@@ -1,7 +1,9 @@
--- Scripts before a line could hold for every step.
---     old_pick s step p           the number for this step and path in a list of lines, and 0 where there is none
+-- Definition. Scripts before a line could hold for every step.
+--     old_pick s step p           the number for this step and path in a list of lines, and 0 if
+--                                 there is none
 --     IsOldScript text s          the text had no faulty line, and this is what it said
---     StillIsScript               a text that spelled a script spells one still, which picks the same everywhere
+--     StillIsScript               a text that spelled a script spells one still, which picks the
+--                                 same everywhere
 use Rattle.std.specs.Prelude.{◌≡◌, ℕ, ◌≤◌, Bool, false, cond, not, ◌&&◌, ◌||◌, ◌==◌, nat_le, List, [], ◌∷◌, ◌++◌, length, Option, Some, None, is_none}
 use Rattle.std.specs.List.{list_any, slice_split}
 use Rattle.asm_reader.specs.ScriptLines.{Line, Script, is_line_of, pick}

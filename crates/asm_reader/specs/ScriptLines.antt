@@ -1,9 +1,13 @@
--- Scripts: which candidate a choose takes. A script is a pair of finite maps, from steps and paths, and from paths alone.
---     Line, EveryLine           the number of a candidate, for a step and a path; and for a path in every step
+-- Definition. Scripts: which candidate a choose takes. A script is a pair of finite maps, from
+-- steps and paths, and from paths alone.
+--     Line, EveryLine           the number of a candidate, for a step and a path; and for a path in
+--                               every step
 --     SaidLine                  either of them
---     Script                    the lines for one step, and those for every step; of a key the first counts
+--     Script                    the lines for one step, and those for every step; of a key the
+--                               first counts
 --     script_of lines           the script of some lines, in their order
---     pick script step p        the number for this step and path; where there is none, the one for this path in every step; else 0
+--     pick script step p        the number for this step and path; if there is none, the one for
+--                               this path in every step; else 0
 use Rattle.std.specs.Prelude.{ℕ, Bool, cond, ◌&&◌, List, [], ◌∷◌, Option, Some, None, nat_eq}
 use Rattle.std.specs.Cmp.Lexicographic.{pointwise}
 use Rattle.std.specs.Option.{option_or, unwrap_or}

@@ -1,6 +1,7 @@
--- The texts of scripts.
+-- Definition. The texts of scripts.
 --     lines_of text                 the lines, each without its end
---     line_of bytes                 what a line says, if it has the form: step or `*`, path and number
+--     line_of bytes                 what a line says, if it has the form: step or `*`, path and
+--                                   number
 --     said_in lines                 what the lines say, in their order
 --     script_in lines               the script of that
 --     IsScript text script          the text has no faulty line, and this is what it says
@@ -10,7 +11,7 @@ use Rattle.std.specs.Char.{is_ascii_digit}
 use Rattle.std.specs.List.{list_all, list_any, slice_split}
 use Rattle.std.specs.Str.{bytes_eq}
 use Rattle.std.specs.Str.Lines.{strip_carriage_return}
-use Rattle.asm_syntax.specs.Fronts.{value_of}
+use Rattle.asm_syntax.specs.code.Fronts.{value_of}
 use Rattle.asm_reader.specs.ScriptLines.{SaidLine, ForStep, ForEvery, Script, script_of, is_line_of, is_line_at}
 use Rattle.asm_reader.specs.declared.script.When.{When}
 use Rattle.asm_reader.specs.declared.script.When.TheVariants.{Step, EveryStep}
@@ -89,12 +90,13 @@ script_in lines = script_of (said_in lines)
 abbrev pub is_bad : List ℕ → Bool
 is_bad bytes = not (is_skipped bytes) && is_none (line_of bytes)
 
--- The script has a line for the step and the path of this one; or one for every step with its path, where this is one for every step.
+-- The script has a line for the step and the path of this one; or one for every step with its
+-- path, if this is one for every step.
 abbrev pub has_line_of : Script → SaidLine → Bool
 has_line_of script (ForStep line) = list_any (is_line_of line.step line.path) script.exact
 has_line_of script (ForEvery line) = list_any (is_line_at line.path) script.every
 
--- what is said where a line before it says it of the same
+-- what is said when a line before it says it of the same
 abbrev pub says_again : Script → List SaidLine → Bool
 says_again before [] = false
 says_again before (line ∷ more) = has_line_of before line

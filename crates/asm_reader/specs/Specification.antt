@@ -1,5 +1,5 @@
--- What the specification of a text is.
---     GoesOn                the tokens are the beginning of a specification
+-- Definition. What the specification of a text is.
+--     CanGoOn               the tokens are the beginning of a specification
 --     IsWithinLevels        the tokens nest no deeper than they may
 --     AreSpelling           the tokens spell the tree
 --     IsSpecification       the text has tokens that spell the tree
@@ -17,9 +17,10 @@ max_nesting = 64
 abbrev pub IsWithinLevels : List Token → Type 0
 IsWithinLevels ts = IsSome (depth_after (at_depth max_nesting) ts).left
 
--- With some tokens behind them, perhaps none, the tokens spell a tree, at any depth. The names are from this text.
-abbrev pub GoesOn : List ℕ → List Token → Type 0
-GoesOn text ts = (more : List Token) × (s : source.Spec) × specification text (ts ++ more) s
+-- With some tokens after them, perhaps none, the tokens spell a tree, at any depth. The names are
+-- from this text.
+abbrev pub CanGoOn : List ℕ → List Token → Type 0
+CanGoOn text ts = (more : List Token) × (s : source.Spec) × specification text (ts ++ more) s
 
 -- The tokens spell the tree, with names from this text, and nest no deeper than they may.
 abbrev pub AreSpelling : List ℕ → List Token → source.Spec → Type 0

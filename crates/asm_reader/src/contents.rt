@@ -1,10 +1,10 @@
 //! Constants and tables, from their tokens.
 
 ghost use Rattle.std.specs.Prelude.{◌≡◌, ◌≢◌, IfErr};
-ghost use Rattle.asm_syntax.specs.declared.refused.Refused.TheVariants.{Memory};
-ghost use Rattle.asm_syntax.specs.Views.{const_of, entry_of, given_of};
-ghost use Rattle.asm_reader.specs.Reading as reading;
-ghost use Rattle.asm_reader.specs.Steps.{Reads, each_of, itself};
+ghost use Rattle.asm_syntax.specs.declared.input_error.InputError.TheVariants.{Memory};
+ghost use Rattle.asm_syntax.specs.code.Views.{const_of, entry_of, given_of};
+ghost use Rattle.asm_reader.specs.code.Reading as reading;
+ghost use Rattle.asm_reader.specs.code.Steps.{Reads, each_of, itself};
 
 use crate::cursor::Cursor;
 use crate::error::ReadError;
@@ -13,12 +13,12 @@ use crate::terms::constants;
 use asm_state::number::Number;
 use asm_syntax::spec::{Const, Entry, Given};
 use asm_syntax::term::Literal;
-use asm_syntax::{Kind, Refused, Symbol};
+use asm_syntax::{InputError, Kind, Symbol};
 use std::alloc::Global;
 
 /// A whole number. It takes no memory.
-#[tactic(auto, unfolding(crate::specs::Reading::int_at))]
-pub fn int(tokens: &mut Cursor<'_>) -> Result<Number, Refused<ReadError>>
+#[tactic(auto, unfolding(crate::specs::code::Reading::int_at))]
+pub fn whole_number(tokens: &mut Cursor<'_>) -> Result<Number, InputError<ReadError>>
     ensures read { Reads itself (reading.int_at tokens.old.rest.now) result tokens.new.rest.now }
     ensures memory { IfErr result (λ e. e ≢ Memory) }
 {
@@ -29,16 +29,16 @@ pub fn int(tokens: &mut Cursor<'_>) -> Result<Number, Refused<ReadError>>
     tokens.number(false)
 }
 
-#[tactic(auto, unfolding(crate::specs::Reading::constant_at))]
+#[tactic(auto, unfolding(crate::specs::code::Reading::constant_at))]
 fn constant(
     alloc: Global,
     text: &[u8],
     tokens: &mut Cursor<'_>,
-) -> Result<Const, Refused<ReadError>>
+) -> Result<Const, InputError<ReadError>>
     ensures { Reads const_of (reading.constant_at text.now tokens.old.rest.now) result tokens.new.rest.now }
 {
     if tokens.sees_any(&[Kind::Symbol(Symbol::Minus), Kind::Number(0)]) {
-        let number = int(tokens)?;
+        let number = whole_number(tokens)?;
         return Ok(Const::Plain(Literal::Number(number)));
     }
     if tokens.sees_in(&constants()) {
@@ -54,7 +54,7 @@ fn several_constants(
     alloc: Global,
     text: &[u8],
     tokens: &mut Cursor<'_>,
-) -> Result<Vec<Const>, Refused<ReadError>>
+) -> Result<Vec<Const>, InputError<ReadError>>
     ensures { Reads (each_of const_of) (reading.constants_at text.now tokens.old.rest.now) result tokens.new.rest.now }
 {
     let mut all = Vec::new(alloc);
@@ -69,13 +69,13 @@ fn several_constants(
 }
 
 /// An entry of a table.
-#[tactic(auto, unfolding(crate::specs::Reading::entry_at))]
+#[tactic(auto, unfolding(crate::specs::code::Reading::entry_at))]
 fn entry(
     alloc: Global,
     text: &[u8],
     tokens: &mut Cursor<'_>,
     levels: usize,
-) -> Result<Entry, Refused<ReadError>>
+) -> Result<Entry, InputError<ReadError>>
     ensures { Reads entry_of (reading.entry_at text.now levels tokens.old.rest.now) result tokens.new.rest.now }
 {
     let open = tokens.enter(Kind::Symbol(Symbol::Open), levels)?;
@@ -96,7 +96,7 @@ fn entries(
     text: &[u8],
     tokens: &mut Cursor<'_>,
     levels: usize,
-) -> Result<Vec<Entry>, Refused<ReadError>>
+) -> Result<Vec<Entry>, InputError<ReadError>>
     ensures { Reads (each_of entry_of) (reading.entries_at text.now levels tokens.old.rest.now) result tokens.new.rest.now }
 {
     let mut all = Vec::new(alloc);
@@ -111,13 +111,13 @@ fn entries(
 }
 
 /// Entries in braces.
-#[tactic(auto, unfolding(crate::specs::Reading::braced_entries_at))]
+#[tactic(auto, unfolding(crate::specs::code::Reading::braced_entries_at))]
 fn braced_entries(
     alloc: Global,
     text: &[u8],
     tokens: &mut Cursor<'_>,
     levels: usize,
-) -> Result<Vec<Entry>, Refused<ReadError>>
+) -> Result<Vec<Entry>, InputError<ReadError>>
     ensures { Reads (each_of entry_of) (reading.braced_entries_at text.now levels tokens.old.rest.now) result tokens.new.rest.now }
 {
     tokens.expect(Kind::Symbol(Symbol::OpenBrace))?;
@@ -126,14 +126,14 @@ fn braced_entries(
     Ok(all)
 }
 
-/// What a function is at the beginning; so many levels may open in it.
-#[tactic(auto, unfolding(crate::specs::Reading::table_at))]
+/// What a function is at the beginning; `levels` levels may open in it.
+#[tactic(auto, unfolding(crate::specs::code::Reading::table_at))]
 pub fn table(
     alloc: Global,
     text: &[u8],
     tokens: &mut Cursor<'_>,
     levels: usize,
-) -> Result<Given, Refused<ReadError>>
+) -> Result<Given, InputError<ReadError>>
     ensures { Reads given_of (reading.table_at text.now levels tokens.old.rest.now) result tokens.new.rest.now }
 {
     if tokens.sees(Kind::Symbol(Symbol::OpenBrace)) {

@@ -2,15 +2,15 @@
 
 ghost use Rattle.std.specs.Prelude.{◌≡◌, ◌≢◌, ◌<◌, [], ◌∷◌, OnOk, IfErr};
 ghost use Rattle.asm_state.specs.Numbers.{number_with};
-ghost use Rattle.asm_syntax.specs.declared.refused.Refused.TheVariants.{Memory};
+ghost use Rattle.asm_syntax.specs.declared.input_error.InputError.TheVariants.{Memory};
 ghost use Rattle.asm_reader.specs.Kinds as kinds;
-ghost use Rattle.asm_reader.specs.Parts.{signed};
-ghost use Rattle.asm_reader.specs.Steps as steps;
-ghost use Rattle.asm_reader.specs.Steps.{Reads, itself};
+ghost use Rattle.asm_reader.specs.Productions.{signed};
+ghost use Rattle.asm_reader.specs.code.Steps as steps;
+ghost use Rattle.asm_reader.specs.code.Steps.{Reads, itself};
 
 use crate::error::ReadError;
-use asm_state::number::{GREATEST, Number};
-use asm_syntax::{Kind, Refused, Token};
+use asm_state::number::{MAX_NUMBER, Number};
+use asm_syntax::{InputError, Kind, Token};
 
 /// Whether the two are one kind, or both numbers.
 pub fn alike(a: Kind, b: Kind) -> bool
@@ -20,7 +20,7 @@ pub fn alike(a: Kind, b: Kind) -> bool
         (Kind::Name, Kind::Name) => true,
         (Kind::Number(_), Kind::Number(_)) => true,
         (Kind::Symbol(a), Kind::Symbol(b)) => a == b,
-        (Kind::Word(a), Kind::Word(b)) => a == b,
+        (Kind::Keyword(a), Kind::Keyword(b)) => a == b,
         _ => false,
     }
 }
@@ -63,7 +63,7 @@ fn is_one_of(mut all: &[Kind], kind: Kind) -> bool
 fn number_with(value: u64, is_negative: bool) -> Option<Number>
     ensures { result ≡ number_with (signed is_negative value) }
 {
-    if value > GREATEST as u64 {
+    if value > MAX_NUMBER as u64 {
         return None;
     }
     let value = value as i64;
@@ -108,14 +108,14 @@ impl<'a> Cursor<'a> {
     }
 
     /// Takes the next token, which has to be a number.
-    pub fn number(&mut self, is_negative: bool) -> Result<Number, Refused<ReadError>>
+    pub fn number(&mut self, is_negative: bool) -> Result<Number, InputError<ReadError>>
         ensures read { Reads itself (steps.number_at is_negative self.old.rest.now) result self.new.rest.now }
         ensures memory { IfErr result (λ e. e ≢ Memory) }
     {
         match self.rest {
-            [] => Err(Refused::Named(ReadError::UnexpectedEnd)),
+            [] => Err(InputError::Named(ReadError::UnexpectedEnd)),
             [token, rest @ ..] => {
-                let refused = Err(Refused::Named(ReadError::Unexpected { at: token.start }));
+                let refused = Err(InputError::Named(ReadError::Unexpected { at: token.start }));
                 let Kind::Number(value) = token.kind else {
                     return refused;
                 };
@@ -129,32 +129,32 @@ impl<'a> Cursor<'a> {
     }
 
     /// Takes the next token, which has to be one of the table.
-    pub fn choice<A: Copy>(&mut self, table: &[(Kind, A)]) -> Result<A, Refused<ReadError>>
+    pub fn choice<A: Copy>(&mut self, table: &[(Kind, A)]) -> Result<A, InputError<ReadError>>
         ensures read { Reads itself (steps.choice_at table.now self.old.rest.now) result self.new.rest.now }
         ensures memory { IfErr result (λ e. e ≢ Memory) }
     {
         match self.rest {
-            [] => Err(Refused::Named(ReadError::UnexpectedEnd)),
+            [] => Err(InputError::Named(ReadError::UnexpectedEnd)),
             [token, rest @ ..] => match looked_up(table, token.kind) {
                 Some(x) => {
                     self.rest = rest;
                     Ok(x)
                 }
-                None => Err(Refused::Named(ReadError::Unexpected { at: token.start })),
+                None => Err(InputError::Named(ReadError::Unexpected { at: token.start })),
             },
         }
     }
 
     /// Takes the next token, which has to be of this kind.
-    pub fn expect(&mut self, kind: Kind) -> Result<Token, Refused<ReadError>>
+    pub fn expect(&mut self, kind: Kind) -> Result<Token, InputError<ReadError>>
         ensures read { Reads itself (steps.expect kind self.old.rest.now) result self.new.rest.now }
         ensures memory { IfErr result (λ e. e ≢ Memory) }
     {
         match self.rest {
-            [] => Err(Refused::Named(ReadError::UnexpectedEnd)),
+            [] => Err(InputError::Named(ReadError::UnexpectedEnd)),
             [token, rest @ ..] => {
                 if !alike(kind, token.kind) {
-                    return Err(Refused::Named(ReadError::Unexpected { at: token.start }));
+                    return Err(InputError::Named(ReadError::Unexpected { at: token.start }));
                 }
                 self.rest = rest;
                 Ok(*token)
@@ -162,20 +162,20 @@ impl<'a> Cursor<'a> {
         }
     }
 
-    /// Takes the next token, which has to be of this kind and opens a level. So many may open.
-    pub fn enter(&mut self, kind: Kind, levels: usize) -> Result<Token, Refused<ReadError>>
+    /// Takes the next token, which has to be of this kind and opens a level. `levels` may open.
+    pub fn enter(&mut self, kind: Kind, levels: usize) -> Result<Token, InputError<ReadError>>
         ensures read { Reads itself (steps.enter levels kind self.old.rest.now) result self.new.rest.now }
         ensures left { OnOk result (0 < levels) }
         ensures memory { IfErr result (λ e. e ≢ Memory) }
     {
         match self.rest {
-            [] => Err(Refused::Named(ReadError::UnexpectedEnd)),
+            [] => Err(InputError::Named(ReadError::UnexpectedEnd)),
             [token, rest @ ..] => {
                 if !alike(kind, token.kind) {
-                    return Err(Refused::Named(ReadError::Unexpected { at: token.start }));
+                    return Err(InputError::Named(ReadError::Unexpected { at: token.start }));
                 }
                 if levels == 0 {
-                    return Err(Refused::Named(ReadError::TooDeep { at: token.start }));
+                    return Err(InputError::Named(ReadError::TooDeep { at: token.start }));
                 }
                 self.rest = rest;
                 Ok(*token)

@@ -31,7 +31,8 @@ impl ReadError {
         }
     }
 
-    /// The offset of the byte where the text is refused; a text that is too long, or that ends too early, has none.
+    /// The offset of the byte where the text is refused; a text that is too long, or that ends too
+    /// early, has none.
     pub fn at(self) -> Option<usize>
         ensures { result ≡ refusal_offset self }
     {

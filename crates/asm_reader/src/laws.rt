@@ -9,7 +9,7 @@ ghost use Rattle.asm_reader.specs.OldGrammar.{StillSpells, StillIsSpecification}
 ghost use Rattle.asm_reader.specs.OldScripts.{StillIsScript};
 ghost use Rattle.asm_reader.specs.Specification.{IsSpecification};
 ghost use Rattle.asm_reader.specs.Refusals.{IsRefusal};
-ghost use Rattle.asm_reader.specs.ExactLines.{exactly};
+ghost use Rattle.asm_reader.specs.code.ExactLines.{exactly};
 ghost use Rattle.asm_reader.specs.ScriptLines.{Line, EveryLine, Script, is_line_of, pick};
 ghost use Rattle.asm_reader.specs.ScriptText.{lines_of, line_of, is_skipped, IsScript, IsScriptRefusal};
 ghost use Rattle.asm_reader.specs.declared.script_error.ScriptError.{ScriptError};
@@ -21,8 +21,8 @@ pub fn one_tree_of_tokens()
     ensures { (text : List ℕ) (ts : List Token) (s t : source.Spec) → specification text ts s → specification text ts t → s ≡ t }
 {}
 
-/// What spelled a specification before there were `while`, `<-` and `result` spells the same one still:
-/// tokens, at any depth, and texts.
+/// What spelled a specification before there were `while`, `<-` and `result` spells the same one
+/// still: tokens, at any depth, and texts.
 pub fn old_texts()
     ensures tokens { StillSpells }
     ensures texts { StillIsSpecification }
@@ -59,7 +59,8 @@ pub fn one_refusal()
     one_fault();
 }
 
-/// What spelled a script before a line could hold for every step still spells one, which picks the same at every step and path.
+/// What spelled a script before a line could hold for every step still spells one, which picks the
+/// same at every step and path.
 pub fn old_scripts()
     ensures { StillIsScript }
 {}
@@ -84,15 +85,16 @@ pub fn one_script_refusal()
     ensures { (text : List ℕ) (e f : ScriptError) → IsScriptRefusal text e → IsScriptRefusal text f → e ≡ f }
 {}
 
-/// Each line of a script is skipped or says something; no two say it of one step and path, and no two of one path in every step.
+/// Each line of a script is skipped or says something; no two say it of one step and path, and no
+/// two of one path in every step.
 pub fn script_lines()
     ensures said { (text : List ℕ) (s : Script) → IsScript text s → (before after : List (List ℕ)) (line : List ℕ) → lines_of text ≡ before ++ line ∷ after → is_skipped line ≡ false → IsSome (line_of line) }
     ensures apart { (text : List ℕ) (s : Script) → IsScript text s → (before between after : List Line) (k l : Line) → s.exact ≡ before ++ k ∷ between ++ l ∷ after → ¬ ((k.step ≡ l.step) × (k.path ≡ l.path)) }
     ensures every_apart { (text : List ℕ) (s : Script) → IsScript text s → (before between after : List EveryLine) (k l : EveryLine) → s.every ≡ before ++ k ∷ between ++ l ∷ after → k.path ≢ l.path }
 {}
 
-/// A script with one more line for one step, and none for every step, picks what that line says where it is of this step and path, and
-/// else what it picked before.
+/// A script with one more line for one step, and none for every step, picks what that line says if
+/// it is of this step and path, and else what it picked before.
 pub fn pick_line()
     ensures { (line : Line) (lines : List Line) (step : ℕ) (p : List ℕ) → pick (exactly (line ∷ lines)) step p ≡ cond (is_line_of step p line) line.choice (pick (exactly lines) step p) }
 {}

@@ -1,21 +1,21 @@
 //! Names, from their tokens.
 
 ghost use Rattle.std.specs.Prelude.{◌≡◌, IfOk, slice_range};
-ghost use Rattle.asm_syntax.specs.Views.{name_of};
+ghost use Rattle.asm_syntax.specs.code.Views.{name_of};
 ghost use Rattle.asm_reader.specs.TermGrammar as grammar;
-ghost use Rattle.asm_reader.specs.TermReading as reading;
-ghost use Rattle.asm_reader.specs.Reading.{names_at};
-ghost use Rattle.asm_reader.specs.Seen.{names_of};
-ghost use Rattle.asm_reader.specs.Steps.{Reads, each_of};
+ghost use Rattle.asm_reader.specs.code.TermReading as reading;
+ghost use Rattle.asm_reader.specs.code.Reading.{names_at};
+ghost use Rattle.asm_reader.specs.code.ViewsOfParts.{names_of};
+ghost use Rattle.asm_reader.specs.code.Steps.{Reads, each_of};
 
 use crate::cursor::Cursor;
 use crate::error::ReadError;
 use asm_syntax::name::{Name, Text};
-use asm_syntax::{Kind, Refused, Token, Word};
+use asm_syntax::{InputError, Keyword, Kind, Token};
 use std::alloc::{AllocError, Global};
 
 /// The bytes from `start` to `end`, as far as there are any.
-fn span(text: &[u8], start: usize, end: usize) -> &[u8]
+fn bytes_between(text: &[u8], start: usize, end: usize) -> &[u8]
     ensures { result.now ≡ slice_range text.now start end }
 {
     let end = end.min(text.len());
@@ -29,7 +29,7 @@ fn span(text: &[u8], start: usize, end: usize) -> &[u8]
 fn named(alloc: Global, text: &[u8], token: Token) -> Result<Name, AllocError>
     ensures { IfOk result (λ x. name_of x ≡ grammar.name_at_token text.now token) }
 {
-    let bytes = span(text, token.start, token.end);
+    let bytes = bytes_between(text, token.start, token.end);
     let text = Text::new(alloc, bytes)?;
     Ok(Name {
         at: token.start,
@@ -38,8 +38,12 @@ fn named(alloc: Global, text: &[u8], token: Token) -> Result<Name, AllocError>
 }
 
 /// A name.
-#[tactic(auto, unfolding(crate::specs::TermReading::name_at))]
-pub fn name(alloc: Global, text: &[u8], tokens: &mut Cursor<'_>) -> Result<Name, Refused<ReadError>>
+#[tactic(auto, unfolding(crate::specs::code::TermReading::name_at))]
+pub fn name(
+    alloc: Global,
+    text: &[u8],
+    tokens: &mut Cursor<'_>,
+) -> Result<Name, InputError<ReadError>>
     ensures { Reads name_of (reading.name_at text.now tokens.old.rest.now) result tokens.new.rest.now }
 {
     let token = tokens.expect(Kind::Name)?;
@@ -47,29 +51,29 @@ pub fn name(alloc: Global, text: &[u8], tokens: &mut Cursor<'_>) -> Result<Name,
 }
 
 /// The word `result`, as a name.
-#[tactic(auto, unfolding(crate::specs::TermReading::result_at))]
+#[tactic(auto, unfolding(crate::specs::code::TermReading::result_at))]
 pub fn result_word(
     alloc: Global,
     text: &[u8],
     tokens: &mut Cursor<'_>,
-) -> Result<Name, Refused<ReadError>>
+) -> Result<Name, InputError<ReadError>>
     ensures { Reads name_of (reading.result_at text.now tokens.old.rest.now) result tokens.new.rest.now }
 {
-    let token = tokens.expect(Kind::Word(Word::Result))?;
+    let token = tokens.expect(Kind::Keyword(Keyword::Result))?;
     Ok(named(alloc, text, token)?)
 }
 
-/// A name, and behind `in` the name of what it ranges over.
-#[tactic(auto, unfolding(crate::specs::TermReading::binding_at))]
+/// A name, and after `in` the name of what it ranges over.
+#[tactic(auto, unfolding(crate::specs::code::TermReading::binding_at))]
 pub fn binding(
     alloc: Global,
     text: &[u8],
     tokens: &mut Cursor<'_>,
-) -> Result<(Name, Name), Refused<ReadError>>
+) -> Result<(Name, Name), InputError<ReadError>>
     ensures { Reads names_of (reading.binding_at text.now tokens.old.rest.now) result tokens.new.rest.now }
 {
     let bound = name(alloc, text, tokens)?;
-    tokens.expect(Kind::Word(Word::In))?;
+    tokens.expect(Kind::Keyword(Keyword::In))?;
     let over = name(alloc, text, tokens)?;
     Ok((bound, over))
 }
@@ -80,7 +84,7 @@ pub fn names(
     text: &[u8],
     tokens: &mut Cursor<'_>,
     between: Kind,
-) -> Result<Vec<Name>, Refused<ReadError>>
+) -> Result<Vec<Name>, InputError<ReadError>>
     ensures { Reads (each_of name_of) (names_at text.now between tokens.old.rest.now) result tokens.new.rest.now }
 {
     let mut all = Vec::with_capacity(alloc, 1)?;

@@ -2,12 +2,13 @@
 ghost use Rattle.std.specs.Prelude.{◌≡◌};
 ghost use Rattle.asm_reader.specs.ScriptLines.{Script, pick};
 
-/// Answers as a script does.
+/// Picks as a script does.
 pub trait Picks {
-    // The script by which it answers.
+    // The script by which it picks.
     ghost script: { Self → Script };
 
-    /// The number for the `choose` at this path, in this step. Among n candidates it takes the one with this number modulo n.
+    /// The number for the `choose` at this path, in this step. Among n candidates it takes the one
+    /// with this number modulo n.
     fn pick(&self, step: u64, path: &[u64]) -> u64
         ensures { result ≡ pick (script self.now) step path.now };
 }

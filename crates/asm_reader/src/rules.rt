@@ -3,12 +3,12 @@
 ghost use Rattle.std.specs.Prelude.{◌≡◌, ◌<◌, ◌-◌, map, OnOk};
 ghost use Rattle.asm_syntax.specs.declared.token.Kind.TheVariants as kinds;
 ghost use Rattle.asm_syntax.specs.declared.token.Symbol.TheVariants as symbols;
-ghost use Rattle.asm_syntax.specs.declared.token.Word.TheVariants as words;
-ghost use Rattle.asm_syntax.specs.Views.{name_of, rule_of, term_of};
-ghost use Rattle.asm_reader.specs.TermReading as terms;
-ghost use Rattle.asm_reader.specs.RuleReading as reading;
-ghost use Rattle.asm_reader.specs.Seen.{applied_of, boxed_rule_of, in_box, ranged_of};
-ghost use Rattle.asm_reader.specs.Steps.{Reads, before_of, below, between_of, each_of, pair_of, several_of};
+ghost use Rattle.asm_syntax.specs.declared.token.Keyword.TheVariants as words;
+ghost use Rattle.asm_syntax.specs.code.Views.{name_of, rule_of, term_of};
+ghost use Rattle.asm_reader.specs.code.TermReading as terms;
+ghost use Rattle.asm_reader.specs.code.RuleReading as reading;
+ghost use Rattle.asm_reader.specs.code.ViewsOfParts.{applied_of, boxed_rule_of, in_box, ranged_of};
+ghost use Rattle.asm_reader.specs.code.Steps.{Reads, before_of, below, between_of, each_of, pair_of, several_of};
 
 use crate::cursor::Cursor;
 use crate::error::ReadError;
@@ -17,24 +17,24 @@ use crate::terms::{applied, condition, term};
 use asm_syntax::name::Name;
 use asm_syntax::rule::{Rule, Target};
 use asm_syntax::term::Term;
-use asm_syntax::{Kind, Refused, Symbol, Word};
+use asm_syntax::{InputError, Keyword, Kind, Symbol};
 use std::alloc::Global;
 
 fn rule_starts() -> &'static [Kind]
     ensures { result.now ≡ reading.rule_starts }
 {
     &[
-        Kind::Word(Word::Skip),
+        Kind::Keyword(Keyword::Skip),
         Kind::Name,
-        Kind::Word(Word::Par),
-        Kind::Word(Word::Seq),
-        Kind::Word(Word::If),
-        Kind::Word(Word::Let),
-        Kind::Word(Word::Forall),
-        Kind::Word(Word::Choose),
-        Kind::Word(Word::Iterate),
-        Kind::Word(Word::While),
-        Kind::Word(Word::Result),
+        Kind::Keyword(Keyword::Par),
+        Kind::Keyword(Keyword::Seq),
+        Kind::Keyword(Keyword::If),
+        Kind::Keyword(Keyword::Let),
+        Kind::Keyword(Keyword::Forall),
+        Kind::Keyword(Keyword::Choose),
+        Kind::Keyword(Keyword::Iterate),
+        Kind::Keyword(Keyword::While),
+        Kind::Keyword(Keyword::Result),
     ]
 }
 
@@ -45,15 +45,15 @@ fn ranged(
     text: &[u8],
     tokens: &mut Cursor<'_>,
     levels: usize,
-    word: Word,
-) -> Result<((Name, Name), Option<Term>), Refused<ReadError>>
-    ensures read { Reads ranged_of (between_of levels (kinds.Word word) (kinds.Word words.Do) (pair_of (terms.binding_at text.now) (reading.condition_at (below (terms.term_at text.now) levels))) tokens.old.rest.now) result tokens.new.rest.now }
+    word: Keyword,
+) -> Result<((Name, Name), Option<Term>), InputError<ReadError>>
+    ensures read { Reads ranged_of (between_of levels (kinds.Keyword word) (kinds.Keyword words.Do) (pair_of (terms.binding_at text.now) (reading.condition_at (below (terms.term_at text.now) levels))) tokens.old.rest.now) result tokens.new.rest.now }
     ensures left { OnOk result (0 < levels) }
 {
-    tokens.enter(Kind::Word(word), levels)?;
+    tokens.enter(Kind::Keyword(word), levels)?;
     let names = binding(alloc, text, tokens)?;
     let test = condition(alloc, text, tokens, levels - 1)?;
-    tokens.expect(Kind::Word(Word::Do))?;
+    tokens.expect(Kind::Keyword(Keyword::Do))?;
     Ok((names, test))
 }
 
@@ -63,11 +63,11 @@ fn let_name(
     text: &[u8],
     tokens: &mut Cursor<'_>,
     levels: usize,
-) -> Result<Name, Refused<ReadError>>
-    ensures read { Reads name_of (between_of levels (kinds.Word words.Let) (kinds.Symbol symbols.Equal) (terms.name_at text.now) tokens.old.rest.now) result tokens.new.rest.now }
+) -> Result<Name, InputError<ReadError>>
+    ensures read { Reads name_of (between_of levels (kinds.Keyword words.Let) (kinds.Symbol symbols.Equal) (terms.name_at text.now) tokens.old.rest.now) result tokens.new.rest.now }
     ensures left { OnOk result (0 < levels) }
 {
-    tokens.enter(Kind::Word(Word::Let), levels)?;
+    tokens.enter(Kind::Keyword(Keyword::Let), levels)?;
     let name = name(alloc, text, tokens)?;
     tokens.expect(Kind::Symbol(Symbol::Equal))?;
     Ok(name)
@@ -79,23 +79,23 @@ fn term_before(
     text: &[u8],
     tokens: &mut Cursor<'_>,
     levels: usize,
-    word: Word,
-) -> Result<Term, Refused<ReadError>>
-    ensures { Reads term_of (before_of (kinds.Word word) (terms.term_at text.now levels) tokens.old.rest.now) result tokens.new.rest.now }
+    word: Keyword,
+) -> Result<Term, InputError<ReadError>>
+    ensures { Reads term_of (before_of (kinds.Keyword word) (terms.term_at text.now levels) tokens.old.rest.now) result tokens.new.rest.now }
 {
     let value = term(alloc, text, tokens, levels)?;
-    tokens.expect(Kind::Word(word))?;
+    tokens.expect(Kind::Keyword(word))?;
     Ok(value)
 }
 
-/// What is assigned, behind `:=`.
+/// What is assigned, after `:=`.
 #[tactic(auto, using(crate::proofs::TermSteps::term_is))]
 fn assigned(
     alloc: Global,
     text: &[u8],
     tokens: &mut Cursor<'_>,
     levels: usize,
-) -> Result<Term, Refused<ReadError>>
+) -> Result<Term, InputError<ReadError>>
     ensures { Reads term_of (reading.value_at text.now levels (below (terms.term_at text.now) levels) (below (reading.rule_at text.now) levels) tokens.old.rest.now) result tokens.new.rest.now }
 {
     tokens.expect(Kind::Symbol(Symbol::Assign))?;
@@ -103,13 +103,13 @@ fn assigned(
     Ok(value)
 }
 
-/// The call that answers, behind `<-`.
-fn answering(
+/// The call with a result, after `<-`.
+fn result_call(
     alloc: Global,
     text: &[u8],
     tokens: &mut Cursor<'_>,
     levels: usize,
-) -> Result<(Name, Vec<Term>), Refused<ReadError>>
+) -> Result<(Name, Vec<Term>), InputError<ReadError>>
     ensures { Reads applied_of (reading.called_at text.now levels (below (terms.term_at text.now) levels) (below (reading.rule_at text.now) levels) tokens.old.rest.now) result tokens.new.rest.now }
 {
     tokens.expect(Kind::Symbol(Symbol::LeftArrow))?;
@@ -117,14 +117,14 @@ fn answering(
     Ok(called)
 }
 
-/// A call, an assignment, or a call that answers.
-#[tactic(auto, unfolding(crate::specs::RuleReading::named_rule_at))]
+/// A call, an assignment, or a call with a result.
+#[tactic(auto, unfolding(crate::specs::code::RuleReading::named_rule_at))]
 fn named_rule(
     alloc: Global,
     text: &[u8],
     tokens: &mut Cursor<'_>,
     levels: usize,
-) -> Result<Rule, Refused<ReadError>>
+) -> Result<Rule, InputError<ReadError>>
     ensures { Reads rule_of (reading.named_rule_at text.now levels (below (terms.term_at text.now) levels) (below (reading.rule_at text.now) levels) tokens.old.rest.now) result tokens.new.rest.now }
 {
     let first = applied(alloc, text, tokens, levels)?;
@@ -138,7 +138,7 @@ fn named_rule(
         });
     }
     if tokens.sees(Kind::Symbol(Symbol::LeftArrow)) {
-        let (called, given) = answering(alloc, text, tokens, levels)?;
+        let (called, given) = result_call(alloc, text, tokens, levels)?;
         let (name, arguments) = first;
         return Ok(Rule::Call {
             target: Some(Target { name, arguments }),
@@ -154,14 +154,14 @@ fn named_rule(
     })
 }
 
-/// What is assigned to the location into which the rule's answer goes.
-#[tactic(auto, unfolding(crate::specs::RuleReading::result_rule_at))]
+/// What is assigned to the location into which the rule's result goes.
+#[tactic(auto, unfolding(crate::specs::code::RuleReading::result_rule_at))]
 fn result_rule(
     alloc: Global,
     text: &[u8],
     tokens: &mut Cursor<'_>,
     levels: usize,
-) -> Result<Rule, Refused<ReadError>>
+) -> Result<Rule, InputError<ReadError>>
     ensures { Reads rule_of (reading.result_rule_at text.now levels (below (terms.term_at text.now) levels) (below (reading.rule_at text.now) levels) tokens.old.rest.now) result tokens.new.rest.now }
 {
     let name = result_word(alloc, text, tokens)?;
@@ -169,14 +169,14 @@ fn result_rule(
     Ok(Rule::SetResult { name, value })
 }
 
-/// One rule or more; so many levels may open in them.
+/// One rule or more; `levels` levels may open in them.
 #[cycle(rules)]
 fn several(
     alloc: Global,
     text: &[u8],
     tokens: &mut Cursor<'_>,
     levels: usize,
-) -> Result<Vec<Rule>, Refused<ReadError>>
+) -> Result<Vec<Rule>, InputError<ReadError>>
     ensures { Reads (each_of rule_of) (several_of reading.rule_starts (reading.rule_at text.now levels) tokens.old.rest.now) result tokens.new.rest.now }
 {
     let mut all = Vec::new(alloc);
@@ -190,34 +190,34 @@ fn several(
 }
 
 #[cycle(rules)]
-#[tactic(auto, unfolding(crate::specs::RuleReading::par_at))]
+#[tactic(auto, unfolding(crate::specs::code::RuleReading::par_at))]
 fn par(
     alloc: Global,
     text: &[u8],
     tokens: &mut Cursor<'_>,
     levels: usize,
-) -> Result<Rule, Refused<ReadError>>
+) -> Result<Rule, InputError<ReadError>>
     ensures { Reads rule_of (reading.par_at text.now levels (below (terms.term_at text.now) levels) (below (reading.rule_at text.now) levels) tokens.old.rest.now) result tokens.new.rest.now }
 {
-    tokens.enter(Kind::Word(Word::Par), levels)?;
+    tokens.enter(Kind::Keyword(Keyword::Par), levels)?;
     let all = several(alloc, text, tokens, levels - 1)?;
-    tokens.expect(Kind::Word(Word::EndPar))?;
+    tokens.expect(Kind::Keyword(Keyword::EndPar))?;
     Ok(Rule::Par(all))
 }
 
 #[cycle(rules)]
-#[tactic(auto, unfolding(crate::specs::RuleReading::seq_at))]
+#[tactic(auto, unfolding(crate::specs::code::RuleReading::seq_at))]
 fn seq(
     alloc: Global,
     text: &[u8],
     tokens: &mut Cursor<'_>,
     levels: usize,
-) -> Result<Rule, Refused<ReadError>>
+) -> Result<Rule, InputError<ReadError>>
     ensures { Reads rule_of (reading.seq_at text.now levels (below (terms.term_at text.now) levels) (below (reading.rule_at text.now) levels) tokens.old.rest.now) result tokens.new.rest.now }
 {
-    tokens.enter(Kind::Word(Word::Seq), levels)?;
+    tokens.enter(Kind::Keyword(Keyword::Seq), levels)?;
     let all = several(alloc, text, tokens, levels - 1)?;
-    tokens.expect(Kind::Word(Word::EndSeq))?;
+    tokens.expect(Kind::Keyword(Keyword::EndSeq))?;
     Ok(Rule::Seq(all))
 }
 
@@ -228,7 +228,7 @@ fn boxed(
     text: &[u8],
     tokens: &mut Cursor<'_>,
     levels: usize,
-) -> Result<Box<Rule>, Refused<ReadError>>
+) -> Result<Box<Rule>, InputError<ReadError>>
     ensures { Reads in_box (reading.rule_at text.now levels tokens.old.rest.now) result tokens.new.rest.now }
 {
     let rule = rule(alloc, text, tokens, levels)?;
@@ -242,29 +242,29 @@ fn body(
     text: &[u8],
     tokens: &mut Cursor<'_>,
     levels: usize,
-    end: Word,
-) -> Result<Box<Rule>, Refused<ReadError>>
-    ensures { Reads in_box (before_of (kinds.Word end) (reading.rule_at text.now levels) tokens.old.rest.now) result tokens.new.rest.now }
+    end: Keyword,
+) -> Result<Box<Rule>, InputError<ReadError>>
+    ensures { Reads in_box (before_of (kinds.Keyword end) (reading.rule_at text.now levels) tokens.old.rest.now) result tokens.new.rest.now }
 {
     let body = boxed(alloc, text, tokens, levels)?;
-    tokens.expect(Kind::Word(end))?;
+    tokens.expect(Kind::Keyword(end))?;
     Ok(body)
 }
 
-/// The rule behind this word, if the word is there.
+/// The rule after this word, if the word is there.
 #[cycle(rules)]
-#[tactic(auto, unfolding(crate::specs::RuleReading::branch_at))]
+#[tactic(auto, unfolding(crate::specs::code::RuleReading::branch_at))]
 fn branch(
     alloc: Global,
     text: &[u8],
     tokens: &mut Cursor<'_>,
     levels: usize,
-    word: Word,
-) -> Result<Option<Box<Rule>>, Refused<ReadError>>
+    word: Keyword,
+) -> Result<Option<Box<Rule>>, InputError<ReadError>>
     ensures { Reads boxed_rule_of (reading.branch_at word (reading.rule_at text.now levels) tokens.old.rest.now) result tokens.new.rest.now }
 {
-    if tokens.sees(Kind::Word(word)) {
-        tokens.expect(Kind::Word(word))?;
+    if tokens.sees(Kind::Keyword(word)) {
+        tokens.expect(Kind::Keyword(word))?;
         let other = boxed(alloc, text, tokens, levels)?;
         return Ok(Some(other));
     }
@@ -278,61 +278,68 @@ fn last_branch(
     text: &[u8],
     tokens: &mut Cursor<'_>,
     levels: usize,
-    word: Word,
-    end: Word,
-) -> Result<Option<Box<Rule>>, Refused<ReadError>>
-    ensures { Reads boxed_rule_of (before_of (kinds.Word end) (reading.branch_at word (reading.rule_at text.now levels)) tokens.old.rest.now) result tokens.new.rest.now }
+    word: Keyword,
+    end: Keyword,
+) -> Result<Option<Box<Rule>>, InputError<ReadError>>
+    ensures { Reads boxed_rule_of (before_of (kinds.Keyword end) (reading.branch_at word (reading.rule_at text.now levels)) tokens.old.rest.now) result tokens.new.rest.now }
 {
     let other = branch(alloc, text, tokens, levels, word)?;
-    tokens.expect(Kind::Word(end))?;
+    tokens.expect(Kind::Keyword(end))?;
     Ok(other)
 }
 
 #[cycle(rules)]
-#[tactic(auto, unfolding(crate::specs::RuleReading::if_at))]
+#[tactic(auto, unfolding(crate::specs::code::RuleReading::if_at))]
 fn conditional(
     alloc: Global,
     text: &[u8],
     tokens: &mut Cursor<'_>,
     levels: usize,
-) -> Result<Rule, Refused<ReadError>>
+) -> Result<Rule, InputError<ReadError>>
     ensures { Reads rule_of (reading.if_at text.now levels (below (terms.term_at text.now) levels) (below (reading.rule_at text.now) levels) tokens.old.rest.now) result tokens.new.rest.now }
 {
-    tokens.enter(Kind::Word(Word::If), levels)?;
-    let test = term_before(alloc, text, tokens, levels - 1, Word::Then)?;
+    tokens.enter(Kind::Keyword(Keyword::If), levels)?;
+    let test = term_before(alloc, text, tokens, levels - 1, Keyword::Then)?;
     let yes = boxed(alloc, text, tokens, levels - 1)?;
-    let no = last_branch(alloc, text, tokens, levels - 1, Word::Else, Word::EndIf)?;
+    let no = last_branch(
+        alloc,
+        text,
+        tokens,
+        levels - 1,
+        Keyword::Else,
+        Keyword::EndIf,
+    )?;
     Ok(Rule::If { test, yes, no })
 }
 
 #[cycle(rules)]
-#[tactic(auto, unfolding(crate::specs::RuleReading::let_at))]
+#[tactic(auto, unfolding(crate::specs::code::RuleReading::let_at))]
 fn let_rule(
     alloc: Global,
     text: &[u8],
     tokens: &mut Cursor<'_>,
     levels: usize,
-) -> Result<Rule, Refused<ReadError>>
+) -> Result<Rule, InputError<ReadError>>
     ensures { Reads rule_of (reading.let_at text.now levels (below (terms.term_at text.now) levels) (below (reading.rule_at text.now) levels) tokens.old.rest.now) result tokens.new.rest.now }
 {
     let name = let_name(alloc, text, tokens, levels)?;
-    let value = term_before(alloc, text, tokens, levels - 1, Word::In)?;
-    let body = body(alloc, text, tokens, levels - 1, Word::EndLet)?;
+    let value = term_before(alloc, text, tokens, levels - 1, Keyword::In)?;
+    let body = body(alloc, text, tokens, levels - 1, Keyword::EndLet)?;
     Ok(Rule::Let { name, value, body })
 }
 
 #[cycle(rules)]
-#[tactic(auto, unfolding(crate::specs::RuleReading::forall_at))]
+#[tactic(auto, unfolding(crate::specs::code::RuleReading::forall_at))]
 fn forall(
     alloc: Global,
     text: &[u8],
     tokens: &mut Cursor<'_>,
     levels: usize,
-) -> Result<Rule, Refused<ReadError>>
+) -> Result<Rule, InputError<ReadError>>
     ensures { Reads rule_of (reading.forall_at text.now levels (below (terms.term_at text.now) levels) (below (reading.rule_at text.now) levels) tokens.old.rest.now) result tokens.new.rest.now }
 {
-    let header = ranged(alloc, text, tokens, levels, Word::Forall)?;
-    let body = body(alloc, text, tokens, levels - 1, Word::EndForall)?;
+    let header = ranged(alloc, text, tokens, levels, Keyword::Forall)?;
+    let body = body(alloc, text, tokens, levels - 1, Keyword::EndForall)?;
     let ((name, over), test) = header;
     Ok(Rule::Forall {
         name,
@@ -343,24 +350,24 @@ fn forall(
 }
 
 #[cycle(rules)]
-#[tactic(auto, unfolding(crate::specs::RuleReading::choose_at))]
+#[tactic(auto, unfolding(crate::specs::code::RuleReading::choose_at))]
 fn choose(
     alloc: Global,
     text: &[u8],
     tokens: &mut Cursor<'_>,
     levels: usize,
-) -> Result<Rule, Refused<ReadError>>
+) -> Result<Rule, InputError<ReadError>>
     ensures { Reads rule_of (reading.choose_at text.now levels (below (terms.term_at text.now) levels) (below (reading.rule_at text.now) levels) tokens.old.rest.now) result tokens.new.rest.now }
 {
-    let header = ranged(alloc, text, tokens, levels, Word::Choose)?;
+    let header = ranged(alloc, text, tokens, levels, Keyword::Choose)?;
     let body = boxed(alloc, text, tokens, levels - 1)?;
     let none = last_branch(
         alloc,
         text,
         tokens,
         levels - 1,
-        Word::IfNone,
-        Word::EndChoose,
+        Keyword::IfNone,
+        Keyword::EndChoose,
     )?;
     let ((name, over), test) = header;
     Ok(Rule::Choose {
@@ -373,90 +380,90 @@ fn choose(
 }
 
 #[cycle(rules)]
-#[tactic(auto, unfolding(crate::specs::RuleReading::iterate_at))]
+#[tactic(auto, unfolding(crate::specs::code::RuleReading::iterate_at))]
 fn iterate(
     alloc: Global,
     text: &[u8],
     tokens: &mut Cursor<'_>,
     levels: usize,
-) -> Result<Rule, Refused<ReadError>>
+) -> Result<Rule, InputError<ReadError>>
     ensures { Reads rule_of (reading.iterate_at text.now levels (below (terms.term_at text.now) levels) (below (reading.rule_at text.now) levels) tokens.old.rest.now) result tokens.new.rest.now }
 {
-    tokens.enter(Kind::Word(Word::Iterate), levels)?;
-    let body = body(alloc, text, tokens, levels - 1, Word::EndIterate)?;
+    tokens.enter(Kind::Keyword(Keyword::Iterate), levels)?;
+    let body = body(alloc, text, tokens, levels - 1, Keyword::EndIterate)?;
     Ok(Rule::Iterate(body))
 }
 
 #[cycle(rules)]
-#[tactic(auto, unfolding(crate::specs::RuleReading::while_at))]
+#[tactic(auto, unfolding(crate::specs::code::RuleReading::while_at))]
 fn while_rule(
     alloc: Global,
     text: &[u8],
     tokens: &mut Cursor<'_>,
     levels: usize,
-) -> Result<Rule, Refused<ReadError>>
+) -> Result<Rule, InputError<ReadError>>
     ensures { Reads rule_of (reading.while_at text.now levels (below (terms.term_at text.now) levels) (below (reading.rule_at text.now) levels) tokens.old.rest.now) result tokens.new.rest.now }
 {
-    tokens.enter(Kind::Word(Word::While), levels)?;
-    let test = term_before(alloc, text, tokens, levels - 1, Word::Do)?;
-    let body = body(alloc, text, tokens, levels - 1, Word::EndWhile)?;
+    tokens.enter(Kind::Keyword(Keyword::While), levels)?;
+    let test = term_before(alloc, text, tokens, levels - 1, Keyword::Do)?;
+    let body = body(alloc, text, tokens, levels - 1, Keyword::EndWhile)?;
     Ok(Rule::While { test, body })
 }
 
 /// A rule with an end word.
 #[cycle(rules)]
-#[tactic(auto, unfolding(crate::specs::RuleReading::block_at))]
+#[tactic(auto, unfolding(crate::specs::code::RuleReading::block_at))]
 fn block(
     alloc: Global,
     text: &[u8],
     tokens: &mut Cursor<'_>,
     levels: usize,
-) -> Result<Rule, Refused<ReadError>>
+) -> Result<Rule, InputError<ReadError>>
     ensures { Reads rule_of (reading.block_at text.now levels (below (terms.term_at text.now) levels) (below (reading.rule_at text.now) levels) tokens.old.rest.now) result tokens.new.rest.now }
 {
-    if tokens.sees(Kind::Word(Word::Par)) {
+    if tokens.sees(Kind::Keyword(Keyword::Par)) {
         return par(alloc, text, tokens, levels);
     }
-    if tokens.sees(Kind::Word(Word::Seq)) {
+    if tokens.sees(Kind::Keyword(Keyword::Seq)) {
         return seq(alloc, text, tokens, levels);
     }
-    if tokens.sees(Kind::Word(Word::If)) {
+    if tokens.sees(Kind::Keyword(Keyword::If)) {
         return conditional(alloc, text, tokens, levels);
     }
-    if tokens.sees(Kind::Word(Word::Let)) {
+    if tokens.sees(Kind::Keyword(Keyword::Let)) {
         return let_rule(alloc, text, tokens, levels);
     }
-    if tokens.sees(Kind::Word(Word::Forall)) {
+    if tokens.sees(Kind::Keyword(Keyword::Forall)) {
         return forall(alloc, text, tokens, levels);
     }
-    if tokens.sees(Kind::Word(Word::Choose)) {
+    if tokens.sees(Kind::Keyword(Keyword::Choose)) {
         return choose(alloc, text, tokens, levels);
     }
-    if tokens.sees(Kind::Word(Word::Iterate)) {
+    if tokens.sees(Kind::Keyword(Keyword::Iterate)) {
         return iterate(alloc, text, tokens, levels);
     }
     while_rule(alloc, text, tokens, levels)
 }
 
-/// A rule; so many levels may open in it.
+/// A rule; `levels` levels may open in it.
 #[cycle(rules)]
-#[tactic(auto, using(crate::proofs::RuleSteps::rule_is, crate::proofs::Views::skip_is), unfolding(crate::specs::RuleReading::rule_over_at, crate::specs::RuleReading::skip_at))]
+#[tactic(auto, using(crate::proofs::RuleSteps::rule_is, crate::proofs::Views::skip_is), unfolding(crate::specs::code::RuleReading::rule_over_at, crate::specs::code::RuleReading::skip_at))]
 pub fn rule(
     alloc: Global,
     text: &[u8],
     tokens: &mut Cursor<'_>,
     levels: usize,
-) -> Result<Rule, Refused<ReadError>>
+) -> Result<Rule, InputError<ReadError>>
     ensures { Reads rule_of (reading.rule_at text.now levels tokens.old.rest.now) result tokens.new.rest.now }
 {
-    if tokens.sees(Kind::Word(Word::Skip)) {
-        tokens.expect(Kind::Word(Word::Skip))?;
+    if tokens.sees(Kind::Keyword(Keyword::Skip)) {
+        tokens.expect(Kind::Keyword(Keyword::Skip))?;
         return Ok(Rule::Skip);
     }
     if tokens.sees(Kind::Name) {
         return named_rule(alloc, text, tokens, levels);
     }
-    if tokens.sees(Kind::Word(Word::Result)) {
+    if tokens.sees(Kind::Keyword(Keyword::Result)) {
         return result_rule(alloc, text, tokens, levels);
     }
     block(alloc, text, tokens, levels)

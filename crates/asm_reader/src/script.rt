@@ -6,8 +6,8 @@
 ghost use Rattle.std.specs.Prelude.{◌≡◌};
 ghost use Rattle.asm_reader.specs.ScriptLines.{no_lines};
 
+use crate::path_numbers::PathNumbers;
 use crate::picks::Picks;
-use crate::places::Places;
 use std::alloc::Global;
 use std::marker::Model;
 
@@ -22,26 +22,26 @@ pub(crate) enum When {
 
 /// What a line says.
 #[derive(Drop)]
-pub(crate) struct Choice {
+pub(crate) struct ReadLine {
     pub(crate) when: When,
     pub(crate) path: Vec<u32>,
     pub(crate) number: u32,
 }
 
-/// Says which candidate is taken at a step and a path. No two of its lines have one step and path, and no two lines for
-/// every step have one path.
+/// Says which candidate is taken at a step and a path. No two of its lines have one step and path,
+/// and no two lines for every step have one path.
 #[derive(Drop)]
 pub struct Script {
     /// The text that spells it, in which contracts see its lines. Nothing reads it: it takes less
     /// room than the lines would, one by one.
     pub(crate) text: Vec<u8>,
     /// What its lines say.
-    pub(crate) places: Places,
+    pub(crate) places: PathNumbers,
 }
 
 impl Model for Script {
     ghost use Rattle.asm_reader.specs.ScriptLines as lines;
-    ghost use Rattle.asm_reader.specs.Places.{Says};
+    ghost use Rattle.asm_reader.specs.code.PathNumbers.{Says};
     ghost use Rattle.asm_reader.specs.ScriptText.{lines_of, script_in};
 
     ghost Value = { lines.Script };
@@ -58,7 +58,7 @@ impl Script {
     {
         Script {
             text: Vec::new(alloc),
-            places: Places::new(alloc),
+            places: PathNumbers::new(alloc),
         }
     }
 }
@@ -67,7 +67,7 @@ impl Picks for Script {
     ghost script = { λ s. s };
 
     fn pick(&self, step: u64, path: &[u64]) -> u64 {
-        let Some(place) = self.places.place_of(path) else {
+        let Some(place) = self.places.number_of_path(path) else {
             return 0;
         };
         let exact = self.places.exact_at(place, step);

@@ -4,12 +4,12 @@ ghost use Rattle.std.specs.List.{slice_split};
 ghost use Rattle.std.specs.Option.{option_map};
 ghost use Rattle.std.specs.Str.Lines.{strip_carriage_return};
 ghost use Rattle.asm_reader.specs.ScriptText as spec;
-ghost use Rattle.asm_reader.specs.Spots.{line_said};
+ghost use Rattle.asm_reader.specs.code.LinesSaid.{line_said};
 
-use crate::script::{Choice, When};
+use crate::script::{ReadLine, When};
 use std::alloc::{AllocError, Global};
 
-/// So many digits a number may have.
+/// The most digits that a number may have.
 const MAX_DIGITS: usize = 9;
 
 /// The line without the carriage return at its end, if it has one.
@@ -29,7 +29,7 @@ pub(crate) fn is_skipped(line: &[u8]) -> bool
     matches!(line, [] | [b'#', ..])
 }
 
-/// What stands between the bytes that are this one.
+/// What is between the bytes that are this one.
 pub(crate) fn parts(alloc: Global, text: &[u8], at: u8) -> Result<Vec<&[u8]>, AllocError>
     ensures { IfOk result (λ parts. map (λ p. p.now) parts.items ≡ slice_split (λ b. b == at) text.now) }
 {
@@ -84,7 +84,7 @@ fn path(alloc: Global, text: &[u8]) -> Result<Option<Vec<u32>>, AllocError>
 }
 
 /// What the line says, if it has the form.
-pub(crate) fn choice(alloc: Global, line: &[u8]) -> Result<Option<Choice>, AllocError>
+pub(crate) fn line_said(alloc: Global, line: &[u8]) -> Result<Option<ReadLine>, AllocError>
     ensures { IfOk result (λ c. option_map line_said c ≡ spec.line_of line.now) }
 {
     let fields = parts(alloc, line, b' ')?;
@@ -95,5 +95,5 @@ pub(crate) fn choice(alloc: Global, line: &[u8]) -> Result<Option<Choice>, Alloc
     else {
         return Ok(None);
     };
-    Ok(Some(Choice { when, path, number }))
+    Ok(Some(ReadLine { when, path, number }))
 }

@@ -1,18 +1,18 @@
 //! Terms, from their tokens.
 //!
-//! A function pays at entry for the size of its locals, and a term in parentheses passes through many. So what most terms don't need
-//! stands in functions of its own that are kept out of line.
+//! A function pays at entry for the size of its locals, and a term in parentheses passes through
+//! many. So what most terms don't need is in functions of its own that are kept out of line.
 
 ghost use Rattle.std.specs.Prelude.{◌≡◌, map, Ok, IfOk};
 ghost use Rattle.asm_syntax.specs.declared.token.Kind.TheVariants as kinds;
 ghost use Rattle.asm_syntax.specs.declared.token.Symbol.TheVariants as symbols;
-ghost use Rattle.asm_syntax.specs.Views.{term_of, test_of};
+ghost use Rattle.asm_syntax.specs.code.Views.{term_of, test_of};
 ghost use Rattle.asm_reader.specs.Kinds.{begins, is_one_of, keys};
 ghost use Rattle.asm_reader.specs.TermGrammar as grammar;
-ghost use Rattle.asm_reader.specs.TermReading as reading;
-ghost use Rattle.asm_reader.specs.RuleReading.{condition_at};
-ghost use Rattle.asm_reader.specs.Seen.{applied_of, link_of, names_of, quantified_of};
-ghost use Rattle.asm_reader.specs.Steps.{Reads, below, braced_of, choice_at, each_of, pair_of, past_of, repeated_of};
+ghost use Rattle.asm_reader.specs.code.TermReading as reading;
+ghost use Rattle.asm_reader.specs.code.RuleReading.{condition_at};
+ghost use Rattle.asm_reader.specs.code.ViewsOfParts.{applied_of, link_of, names_of, quantified_of};
+ghost use Rattle.asm_reader.specs.code.Steps.{Reads, below, braced_of, choice_at, each_of, pair_of, past_of, repeated_of};
 
 use crate::cursor::Cursor;
 use crate::error::ReadError;
@@ -20,7 +20,7 @@ use crate::names::{binding, name, result_word};
 use asm_state::operation::Op;
 use asm_syntax::name::Name;
 use asm_syntax::term::{Literal, Term};
-use asm_syntax::{Kind, Refused, Symbol, Word};
+use asm_syntax::{InputError, Keyword, Kind, Symbol};
 use std::alloc::{AllocError, Global};
 
 /// The words that are values.
@@ -28,9 +28,9 @@ pub fn constants() -> [(Kind, Literal); 3]
     ensures { result ≡ grammar.constants }
 {
     [
-        (Kind::Word(Word::True), Literal::Truth(true)),
-        (Kind::Word(Word::False), Literal::Truth(false)),
-        (Kind::Word(Word::Undef), Literal::Undef),
+        (Kind::Keyword(Keyword::True), Literal::Truth(true)),
+        (Kind::Keyword(Keyword::False), Literal::Truth(false)),
+        (Kind::Keyword(Keyword::Undef), Literal::Undef),
     ]
 }
 
@@ -62,21 +62,21 @@ fn operators(of: Precedence) -> &'static [(Kind, Op)]
     ensures { result.now ≡ reading.table_of of }
 {
     match of {
-        Precedence::Disjunction => &[(Kind::Word(Word::Or), Op::Or)],
-        Precedence::Conjunction => &[(Kind::Word(Word::And), Op::And)],
+        Precedence::Disjunction => &[(Kind::Keyword(Keyword::Or), Op::Or)],
+        Precedence::Conjunction => &[(Kind::Keyword(Keyword::And), Op::And)],
         Precedence::Sum => &[
             (Kind::Symbol(Symbol::Plus), Op::Add),
             (Kind::Symbol(Symbol::Minus), Op::Subtract),
         ],
         Precedence::Product => &[
             (Kind::Symbol(Symbol::Times), Op::Multiply),
-            (Kind::Word(Word::Div), Op::Divide),
-            (Kind::Word(Word::Mod), Op::Remainder),
+            (Kind::Keyword(Keyword::Div), Op::Divide),
+            (Kind::Keyword(Keyword::Mod), Op::Remainder),
         ],
     }
 }
 
-/// Whether the kind is that of an operator that can stand behind a factor.
+/// Whether the kind is that of an operator that can come after a factor.
 fn is_operator(kind: Kind) -> bool
     ensures { result ≡ is_one_of reading.operators kind }
 {
@@ -87,8 +87,8 @@ fn is_operator(kind: Kind) -> bool
             Symbol::Less | Symbol::AtMost | Symbol::Greater | Symbol::AtLeast => true,
             _ => false,
         },
-        Kind::Word(word) => match word {
-            Word::Div | Word::Mod | Word::And | Word::Or => true,
+        Kind::Keyword(word) => match word {
+            Keyword::Div | Keyword::Mod | Keyword::And | Keyword::Or => true,
             _ => false,
         },
         _ => false,
@@ -118,14 +118,14 @@ fn joined(alloc: Global, first: Term, rest: Vec<(Op, Term)>) -> Result<Term, All
     })
 }
 
-/// A term behind a comma; so many levels may open in it.
+/// A term after a comma; `levels` levels may open in it.
 #[cycle(terms)]
 fn next_term(
     alloc: Global,
     text: &[u8],
     tokens: &mut Cursor<'_>,
     levels: usize,
-) -> Result<Term, Refused<ReadError>>
+) -> Result<Term, InputError<ReadError>>
     ensures { Reads term_of (past_of (kinds.Symbol symbols.Comma) (reading.term_at text.now levels) tokens.old.rest.now) result tokens.new.rest.now }
 {
     tokens.expect(Kind::Symbol(Symbol::Comma))?;
@@ -133,14 +133,14 @@ fn next_term(
     Ok(next)
 }
 
-/// Terms with commas between; so many levels may open in them.
+/// Terms with commas between; `levels` levels may open in them.
 #[cycle(terms)]
 fn terms(
     alloc: Global,
     text: &[u8],
     tokens: &mut Cursor<'_>,
     levels: usize,
-) -> Result<Vec<Term>, Refused<ReadError>>
+) -> Result<Vec<Term>, InputError<ReadError>>
     ensures { Reads (each_of term_of) (reading.terms_at text.now levels tokens.old.rest.now) result tokens.new.rest.now }
 {
     let mut all = Vec::with_capacity(alloc, 1)?;
@@ -154,13 +154,13 @@ fn terms(
 }
 
 #[cycle(terms)]
-#[tactic(auto, unfolding(crate::specs::TermReading::arguments_at))]
+#[tactic(auto, unfolding(crate::specs::code::TermReading::arguments_at))]
 fn arguments(
     alloc: Global,
     text: &[u8],
     tokens: &mut Cursor<'_>,
     levels: usize,
-) -> Result<Vec<Term>, Refused<ReadError>>
+) -> Result<Vec<Term>, InputError<ReadError>>
     ensures { Reads (each_of term_of) (reading.arguments_at text.now levels (below (reading.term_at text.now) levels) tokens.old.rest.now) result tokens.new.rest.now }
 {
     tokens.enter(Kind::Symbol(Symbol::Open), levels)?;
@@ -171,13 +171,13 @@ fn arguments(
 
 /// A name with its arguments, if it has any.
 #[cycle(terms)]
-#[tactic(auto, unfolding(crate::specs::TermReading::applied_at))]
+#[tactic(auto, unfolding(crate::specs::code::TermReading::applied_at))]
 pub fn applied(
     alloc: Global,
     text: &[u8],
     tokens: &mut Cursor<'_>,
     levels: usize,
-) -> Result<(Name, Vec<Term>), Refused<ReadError>>
+) -> Result<(Name, Vec<Term>), InputError<ReadError>>
     ensures { Reads applied_of (reading.applied_at text.now levels (below (reading.term_at text.now) levels) tokens.old.rest.now) result tokens.new.rest.now }
 {
     let name = name(alloc, text, tokens)?;
@@ -193,18 +193,18 @@ fn quantifier(
     alloc: Global,
     text: &[u8],
     tokens: &mut Cursor<'_>,
-    first: Word,
-    second: Word,
-) -> Result<(Name, Name), Refused<ReadError>>
-    ensures { Reads names_of (braced_of (kinds.Word first) (kinds.Word second) (reading.binding_at text.now) tokens.old.rest.now) result tokens.new.rest.now }
+    first: Keyword,
+    second: Keyword,
+) -> Result<(Name, Name), InputError<ReadError>>
+    ensures { Reads names_of (braced_of (kinds.Keyword first) (kinds.Keyword second) (reading.binding_at text.now) tokens.old.rest.now) result tokens.new.rest.now }
 {
-    tokens.expect(Kind::Word(first))?;
+    tokens.expect(Kind::Keyword(first))?;
     let names = binding(alloc, text, tokens)?;
-    tokens.expect(Kind::Word(second))?;
+    tokens.expect(Kind::Keyword(second))?;
     Ok(names)
 }
 
-/// The same, and the term behind the second word.
+/// The same, and the term after the second word.
 #[cycle(terms)]
 #[tactic(auto, using(crate::proofs::Headers::quantified_splits))]
 fn quantified(
@@ -212,9 +212,9 @@ fn quantified(
     text: &[u8],
     tokens: &mut Cursor<'_>,
     levels: usize,
-    first: Word,
-    second: Word,
-) -> Result<(Name, Name, Box<Term>), Refused<ReadError>>
+    first: Keyword,
+    second: Keyword,
+) -> Result<(Name, Name, Box<Term>), InputError<ReadError>>
     ensures { Reads quantified_of (reading.quantified_at text.now (reading.term_at text.now levels) first second tokens.old.rest.now) result tokens.new.rest.now }
 {
     let names = quantifier(alloc, text, tokens, first, second)?;
@@ -226,62 +226,76 @@ fn quantified(
 
 #[cycle(terms)]
 #[inline(never)]
-#[tactic(auto, unfolding(crate::specs::TermReading::exists_at))]
+#[tactic(auto, unfolding(crate::specs::code::TermReading::exists_at))]
 fn exists(
     alloc: Global,
     text: &[u8],
     tokens: &mut Cursor<'_>,
     levels: usize,
-) -> Result<Term, Refused<ReadError>>
+) -> Result<Term, InputError<ReadError>>
     ensures { Reads term_of (reading.exists_at text.now (reading.term_at text.now levels) tokens.old.rest.now) result tokens.new.rest.now }
 {
-    let (name, over, test) = quantified(alloc, text, tokens, levels, Word::Exists, Word::With)?;
+    let (name, over, test) = quantified(
+        alloc,
+        text,
+        tokens,
+        levels,
+        Keyword::Exists,
+        Keyword::With,
+    )?;
     Ok(Term::Exists { name, over, test })
 }
 
 #[cycle(terms)]
 #[inline(never)]
-#[tactic(auto, unfolding(crate::specs::TermReading::every_at))]
+#[tactic(auto, unfolding(crate::specs::code::TermReading::every_at))]
 fn every(
     alloc: Global,
     text: &[u8],
     tokens: &mut Cursor<'_>,
     levels: usize,
-) -> Result<Term, Refused<ReadError>>
+) -> Result<Term, InputError<ReadError>>
     ensures { Reads term_of (reading.every_at text.now (reading.term_at text.now levels) tokens.old.rest.now) result tokens.new.rest.now }
 {
-    let (name, over, test) = quantified(alloc, text, tokens, levels, Word::Forall, Word::Holds)?;
+    let (name, over, test) = quantified(
+        alloc,
+        text,
+        tokens,
+        levels,
+        Keyword::Forall,
+        Keyword::Holds,
+    )?;
     Ok(Term::Every { name, over, test })
 }
 
-/// What stands in parentheses.
+/// What is in parentheses.
 #[cycle(terms)]
-#[tactic(auto, unfolding(crate::specs::TermReading::inner_at))]
+#[tactic(auto, unfolding(crate::specs::code::TermReading::inner_at))]
 fn inner(
     alloc: Global,
     text: &[u8],
     tokens: &mut Cursor<'_>,
     levels: usize,
-) -> Result<Term, Refused<ReadError>>
+) -> Result<Term, InputError<ReadError>>
     ensures { Reads term_of (reading.inner_at text.now (reading.term_at text.now levels) tokens.old.rest.now) result tokens.new.rest.now }
 {
-    if tokens.sees(Kind::Word(Word::Exists)) {
+    if tokens.sees(Kind::Keyword(Keyword::Exists)) {
         return exists(alloc, text, tokens, levels);
     }
-    if tokens.sees(Kind::Word(Word::Forall)) {
+    if tokens.sees(Kind::Keyword(Keyword::Forall)) {
         return every(alloc, text, tokens, levels);
     }
     term(alloc, text, tokens, levels)
 }
 
 #[cycle(terms)]
-#[tactic(auto, unfolding(crate::specs::TermReading::parenthesized_at))]
+#[tactic(auto, unfolding(crate::specs::code::TermReading::parenthesized_at))]
 fn parenthesized(
     alloc: Global,
     text: &[u8],
     tokens: &mut Cursor<'_>,
     levels: usize,
-) -> Result<Term, Refused<ReadError>>
+) -> Result<Term, InputError<ReadError>>
     ensures { Reads term_of (reading.parenthesized_at text.now levels (below (reading.term_at text.now) levels) tokens.old.rest.now) result tokens.new.rest.now }
 {
     tokens.enter(Kind::Symbol(Symbol::Open), levels)?;
@@ -292,22 +306,26 @@ fn parenthesized(
 
 /// The word `result`.
 #[inline(never)]
-#[tactic(auto, unfolding(crate::specs::TermReading::answer_at))]
-fn answer(alloc: Global, text: &[u8], tokens: &mut Cursor<'_>) -> Result<Term, Refused<ReadError>>
-    ensures { Reads term_of (reading.answer_at text.now tokens.old.rest.now) result tokens.new.rest.now }
+#[tactic(auto, unfolding(crate::specs::code::TermReading::result_term_at))]
+fn result_term(
+    alloc: Global,
+    text: &[u8],
+    tokens: &mut Cursor<'_>,
+) -> Result<Term, InputError<ReadError>>
+    ensures { Reads term_of (reading.result_term_at text.now tokens.old.rest.now) result tokens.new.rest.now }
 {
     let name = result_word(alloc, text, tokens)?;
-    Ok(Term::Answer(name))
+    Ok(Term::Result(name))
 }
 
 #[cycle(terms)]
-#[tactic(auto, unfolding(crate::specs::TermReading::primary_at))]
+#[tactic(auto, unfolding(crate::specs::code::TermReading::primary_at))]
 fn primary(
     alloc: Global,
     text: &[u8],
     tokens: &mut Cursor<'_>,
     levels: usize,
-) -> Result<Term, Refused<ReadError>>
+) -> Result<Term, InputError<ReadError>>
     ensures { Reads term_of (reading.primary_at text.now levels (below (reading.term_at text.now) levels) tokens.old.rest.now) result tokens.new.rest.now }
 {
     if tokens.sees(Kind::Number(0)) {
@@ -322,20 +340,20 @@ fn primary(
         let (name, arguments) = applied(alloc, text, tokens, levels)?;
         return Ok(Term::Named { name, arguments });
     }
-    if tokens.sees(Kind::Word(Word::Result)) {
-        return answer(alloc, text, tokens);
+    if tokens.sees(Kind::Keyword(Keyword::Result)) {
+        return result_term(alloc, text, tokens);
     }
     parenthesized(alloc, text, tokens, levels)
 }
 
 #[cycle(terms)]
-#[tactic(auto, unfolding(crate::specs::TermReading::factor_at))]
+#[tactic(auto, unfolding(crate::specs::code::TermReading::factor_at))]
 fn factor(
     alloc: Global,
     text: &[u8],
     tokens: &mut Cursor<'_>,
     levels: usize,
-) -> Result<Term, Refused<ReadError>>
+) -> Result<Term, InputError<ReadError>>
     ensures { Reads term_of (reading.factor_at text.now levels (below (reading.term_at text.now) levels) tokens.old.rest.now) result tokens.new.rest.now }
 {
     if tokens.sees(Kind::Symbol(Symbol::Minus)) {
@@ -353,7 +371,7 @@ fn other_side(
     text: &[u8],
     tokens: &mut Cursor<'_>,
     levels: usize,
-) -> Result<(Op, Term), Refused<ReadError>>
+) -> Result<(Op, Term), InputError<ReadError>>
     ensures { Reads link_of (pair_of (choice_at grammar.comparisons) (reading.sum_at text.now levels (below (reading.term_at text.now) levels)) tokens.old.rest.now) result tokens.new.rest.now }
 {
     let operator = tokens.choice(comparisons())?;
@@ -361,7 +379,7 @@ fn other_side(
     Ok((operator, second))
 }
 
-/// What the operator behind a first side makes of it.
+/// What the operator after a first side makes of it.
 #[cycle(terms)]
 #[inline(never)]
 fn longer_comparison(
@@ -370,7 +388,7 @@ fn longer_comparison(
     tokens: &mut Cursor<'_>,
     levels: usize,
     first: Term,
-) -> Result<Term, Refused<ReadError>>
+) -> Result<Term, InputError<ReadError>>
     ensures { Reads term_of (reading.compared_at text.now levels (below (reading.term_at text.now) levels) (term_of first) tokens.old.rest.now) result tokens.new.rest.now }
 {
     let mut rest = Vec::with_capacity(alloc, 1)?;
@@ -389,7 +407,7 @@ fn compared(
     tokens: &mut Cursor<'_>,
     levels: usize,
     first: Term,
-) -> Result<Term, Refused<ReadError>>
+) -> Result<Term, InputError<ReadError>>
     ensures { Reads term_of (reading.compared_at text.now levels (below (reading.term_at text.now) levels) (term_of first) tokens.old.rest.now) result tokens.new.rest.now }
 {
     if !tokens.sees_in(comparisons()) {
@@ -404,7 +422,7 @@ fn comparison(
     text: &[u8],
     tokens: &mut Cursor<'_>,
     levels: usize,
-) -> Result<Term, Refused<ReadError>>
+) -> Result<Term, InputError<ReadError>>
     ensures { Reads term_of (reading.comparison_at text.now levels (below (reading.term_at text.now) levels) tokens.old.rest.now) result tokens.new.rest.now }
 {
     let first = chain(alloc, text, tokens, levels, Precedence::Sum)?;
@@ -412,17 +430,17 @@ fn comparison(
 }
 
 #[cycle(terms)]
-#[tactic(auto, unfolding(crate::specs::TermReading::negation_at))]
+#[tactic(auto, unfolding(crate::specs::code::TermReading::negation_at))]
 fn negation(
     alloc: Global,
     text: &[u8],
     tokens: &mut Cursor<'_>,
     levels: usize,
-) -> Result<Term, Refused<ReadError>>
+) -> Result<Term, InputError<ReadError>>
     ensures { Reads term_of (reading.negation_at text.now levels (below (reading.term_at text.now) levels) tokens.old.rest.now) result tokens.new.rest.now }
 {
-    if tokens.sees(Kind::Word(Word::Not)) {
-        tokens.expect(Kind::Word(Word::Not))?;
+    if tokens.sees(Kind::Keyword(Keyword::Not)) {
+        tokens.expect(Kind::Keyword(Keyword::Not))?;
         let denied = comparison(alloc, text, tokens, levels)?;
         return Ok(Term::Not(Box::new(alloc, denied)?));
     }
@@ -436,7 +454,7 @@ fn operand(
     tokens: &mut Cursor<'_>,
     levels: usize,
     of: Precedence,
-) -> Result<Term, Refused<ReadError>>
+) -> Result<Term, InputError<ReadError>>
     ensures { Reads term_of (reading.operand_at text.now levels (below (reading.term_at text.now) levels) of tokens.old.rest.now) result tokens.new.rest.now }
 {
     match of {
@@ -447,7 +465,7 @@ fn operand(
     }
 }
 
-/// The operators behind a first member, each with the member behind it.
+/// The operators after a first member, each with the member after it.
 #[cycle(terms)]
 fn links(
     alloc: Global,
@@ -455,7 +473,7 @@ fn links(
     tokens: &mut Cursor<'_>,
     levels: usize,
     of: Precedence,
-) -> Result<Vec<(Op, Term)>, Refused<ReadError>>
+) -> Result<Vec<(Op, Term)>, InputError<ReadError>>
     ensures { Reads (each_of link_of) (repeated_of (keys (reading.table_of of)) (reading.link_at text.now levels (below (reading.term_at text.now) levels) of) tokens.old.rest.now) result tokens.new.rest.now }
 {
     let mut rest = Vec::with_capacity(alloc, 1)?;
@@ -467,7 +485,7 @@ fn links(
     Ok(rest)
 }
 
-/// What the operators behind a first member make of it.
+/// What the operators after a first member make of it.
 #[cycle(terms)]
 #[inline(never)]
 fn longer_chain(
@@ -477,7 +495,7 @@ fn longer_chain(
     levels: usize,
     of: Precedence,
     first: Term,
-) -> Result<Term, Refused<ReadError>>
+) -> Result<Term, InputError<ReadError>>
     ensures { Reads term_of (reading.chain_from_at text.now levels (below (reading.term_at text.now) levels) of (term_of first) tokens.old.rest.now) result tokens.new.rest.now }
 {
     let rest = links(alloc, text, tokens, levels, of)?;
@@ -493,7 +511,7 @@ fn chain_from(
     levels: usize,
     of: Precedence,
     first: Term,
-) -> Result<Term, Refused<ReadError>>
+) -> Result<Term, InputError<ReadError>>
     ensures { Reads term_of (reading.chain_from_at text.now levels (below (reading.term_at text.now) levels) of (term_of first) tokens.old.rest.now) result tokens.new.rest.now }
 {
     if !tokens.sees_in(operators(of)) {
@@ -509,7 +527,7 @@ fn chain(
     tokens: &mut Cursor<'_>,
     levels: usize,
     of: Precedence,
-) -> Result<Term, Refused<ReadError>>
+) -> Result<Term, InputError<ReadError>>
     ensures { Reads term_of (reading.chain_of_at text.now levels (below (reading.term_at text.now) levels) of tokens.old.rest.now) result tokens.new.rest.now }
 {
     let first = operand(alloc, text, tokens, levels, of)?;
@@ -525,7 +543,7 @@ fn term_from(
     tokens: &mut Cursor<'_>,
     levels: usize,
     factor: Term,
-) -> Result<Term, Refused<ReadError>>
+) -> Result<Term, InputError<ReadError>>
     ensures { Reads term_of (reading.carried_on text.now levels (below (reading.term_at text.now) levels) (Ok (term_of factor, tokens.old.rest.now))) result tokens.new.rest.now }
 {
     let product = chain_from(alloc, text, tokens, levels, Precedence::Product, factor)?;
@@ -549,7 +567,7 @@ fn term_from(
     )
 }
 
-/// A term; so many levels may open in it.
+/// A term; `levels` levels may open in it.
 ///
 /// Most are one factor, which is read with no chain begun.
 #[cycle(terms)]
@@ -558,10 +576,10 @@ pub fn term(
     text: &[u8],
     tokens: &mut Cursor<'_>,
     levels: usize,
-) -> Result<Term, Refused<ReadError>>
+) -> Result<Term, InputError<ReadError>>
     ensures { Reads term_of (reading.term_at text.now levels tokens.old.rest.now) result tokens.new.rest.now }
 {
-    if tokens.sees(Kind::Word(Word::Not)) {
+    if tokens.sees(Kind::Keyword(Keyword::Not)) {
         return chain(alloc, text, tokens, levels, Precedence::Disjunction);
     }
     let first = factor(alloc, text, tokens, levels)?;
@@ -571,18 +589,18 @@ pub fn term(
     term_from(alloc, text, tokens, levels, first)
 }
 
-/// What stands behind `with`, if it is there.
-#[tactic(auto, unfolding(crate::specs::RuleReading::condition_at))]
+/// What comes after `with`, if it is there.
+#[tactic(auto, unfolding(crate::specs::code::RuleReading::condition_at))]
 pub fn condition(
     alloc: Global,
     text: &[u8],
     tokens: &mut Cursor<'_>,
     levels: usize,
-) -> Result<Option<Term>, Refused<ReadError>>
+) -> Result<Option<Term>, InputError<ReadError>>
     ensures { Reads test_of (condition_at (reading.term_at text.now levels) tokens.old.rest.now) result tokens.new.rest.now }
 {
-    if tokens.sees(Kind::Word(Word::With)) {
-        tokens.expect(Kind::Word(Word::With))?;
+    if tokens.sees(Kind::Keyword(Keyword::With)) {
+        tokens.expect(Kind::Keyword(Keyword::With))?;
         let test = term(alloc, text, tokens, levels)?;
         return Ok(Some(test));
     }

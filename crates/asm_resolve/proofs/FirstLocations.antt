@@ -1,25 +1,25 @@
--- The locations of a controlled function, by positions: the code that reads them has the function's
--- value, and the place names its location.
+-- Free. The locations of a controlled function, by positions: the code that reads them has the
+-- function's value, and the target code names its location.
 use Rattle.std.proofs.Common.{◌≡◌, ℕ, Option, ◌+◌, ◌≤◌, ◌<◌, List, [], length, get_or, Some, None, sym, ap, subst, ◌∙◌, arith}
 use Rattle.std.specs.Prelude.{slice_get, IsTrue}
 use Rattle.std.proofs.lemmas.Option.{slice_get-get_or}
-use Rattle.asm_state.specs.declared.limits.TheConstants.{LOCATIONS}
+use Rattle.asm_state.specs.declared.signature_limits.TheConstants.{MAX_LOCATIONS}
 use Rattle.asm_state.specs.declared.function.FunctionKind.TheVariants.{Controlled}
 use Rattle.asm_state.specs.declared.value.Value.{Value}
 use Rattle.asm_state.specs.declared.value.Value.TheVariants.{Undef}
-use Rattle.asm_state.specs.FirstLocations.{argument_position, first_of}
+use Rattle.asm_state.specs.code.FirstLocations.{argument_position, first_of}
 use Rattle.asm_state.specs.Location.{Proper, State}
 use Rattle.asm_state.specs.Signature.{Shape, HasKind, domain_in, domain_by, domain_of, count_of, location_at}
 use Rattle.asm_state.specs.Tables.{Domain, argument_lists, location_in}
 use Rattle.asm_state.specs.Updates.{is_proper}
-use Rattle.asm_state.proofs.FirstLocations.{first_location_laws}
+use Rattle.asm_state.proofs.LocationLemmas.FirstLocations.{first_location_laws}
 use Rattle.asm_meaning.specs.Declarations.{function_at, held_as}
 use Rattle.asm_meaning.specs.Value.{read}
-use Rattle.asm_meaning.specs.Valued.{held}
-use Rattle.asm_code.specs.Readings.{content}
-use Rattle.asm_code.specs.RuleMeaning.{number_from}
-use Rattle.asm_code.specs.Sound.{IsCell, IsLocationNumber}
-use Rattle.asm_resolve.specs.FunctionCodes.{HasDomain}
+use Rattle.asm_meaning.specs.code.TermValues.{held}
+use Rattle.asm_code.specs.code.Readings.{content}
+use Rattle.asm_code.specs.code.RuleMeaning.{number_from}
+use Rattle.asm_code.specs.code.SoundCodes.{IsCell, IsLocationNumber}
+use Rattle.asm_resolve.specs.code.FunctionCodes.{HasDomain}
 
 is_proper_list : (f : ℕ) (vs : List Value) → IsTrue (is_proper (Proper f vs))
 is_proper_list f vs = cc
@@ -47,8 +47,8 @@ module _ (shape : Shape) (f : ℕ) (ns : List ℕ) (has : HasDomain shape f ns) 
   located : (k : ℕ) (vs : List Value) → IsListed k vs → location_at shape (first_of shape f + k) ≡ Proper f vs
   located k vs at = first_location_laws.proper shape f k vs has_kind (subst (λ d. slice_get (argument_lists d) k ≡ Some vs) (sym domain_is) at)
 
-  -- the number of the first location, and those behind it
-  pub cell_at : (n k : ℕ) → count_of shape ≤ LOCATIONS → n ≡ first_of shape f → k < length (argument_lists domain) → IsCell shape (n + k)
+  -- the number of the first location, and those after it
+  pub cell_at : (n k : ℕ) → count_of shape ≤ MAX_LOCATIONS → n ≡ first_of shape f → k < length (argument_lists domain) → IsCell shape (n + k)
   cell_at n k few begin below =
       let vs = get_or (argument_lists domain) k [] in
       let at = located k vs (slice_get-get_or (argument_lists domain) k [] below) in
@@ -65,13 +65,13 @@ module _ (shape : Shape) (f : ℕ) (ns : List ℕ) (has : HasDomain shape f ns) 
   pub outside : (vs : List Value) (A : State) → argument_position domain vs ≡ None → Undef ≡ held (function_at shape f (slice_get shape.functions f)) vs A
   outside vs A out = ap (read A) (sym (first_location_laws.outside f domain vs out)) ∙ sym (held_is vs A)
 
-  -- behind so many stands the stray location
+  -- after `many` of them comes the stray location
 
   module _ (n many : ℕ) (begin : n ≡ first_of shape f) (all : many ≡ length (argument_lists domain)) where
     last_is : n + many ≡ first_of shape f + length (argument_lists (domain_of shape f))
     last_is = omega (arith, begin, all, ap (λ d. length (argument_lists d)) domain_is)
 
-    pub last_number : count_of shape ≤ LOCATIONS → IsLocationNumber shape (n + many)
+    pub last_number : count_of shape ≤ MAX_LOCATIONS → IsLocationNumber shape (n + many)
     last_number few =
         let in_range = first_location_laws.in_range shape f (length (argument_lists (domain_of shape f))) has_kind (omega arith) in
         let same = last_is in record { in_range = omega (arith, in_range, same); few = omega (arith, in_range, same, few) }

@@ -1,4 +1,5 @@
--- Where a name is found: in a scope, and among parameters by an ordered map of their first positions.
+-- Free. Where a name is found: in a scope, and among parameters by an ordered map of their first
+-- positions.
 use Rattle.std.proofs.Common.{◌≡◌, ℕ, suc, ◌+◌, ◌-◌, ◌<◌, Bool, true, false, not, cond, ltb, List, [], ◌∷◌, ◌++◌, map, take, length, get_or, Vec, Global, Option, Some, None, refl, sym, ap, ◌∙◌, arith}
 use Rattle.std.specs.Prelude.{option_map}
 use Rattle.std.specs.List.{position, position_or_len}
@@ -7,9 +8,9 @@ use Rattle.std.proofs.lemmas.List.{length-map, length-take-le, map-append, take_
 use Rattle.asm_syntax.specs.Tree.{Name, result}
 use Rattle.asm_syntax.specs.declared.name.Name as syntax
 use Rattle.asm_resolve.proofs.SpelledTexts.{spelled_same}
-use Rattle.asm_meaning.specs.Meant.{text_of}
+use Rattle.asm_meaning.specs.code.MeantTrees.{text_of}
 use Rattle.asm_meaning.specs.Program.{is_name}
-use Rattle.asm_resolve.specs.Slots.{Slot, value_slot, names_in, position_of, is_located, is_spelled, located_position, answer_position, called_slots, found_from}
+use Rattle.asm_resolve.specs.code.Slots.{Slot, value_slot, names_in, position_of, is_located, is_spelled, located_position, result_position, called_slots, found_from}
 
 -- ---- positions, by what is found
 
@@ -41,7 +42,7 @@ positions_found slots x = ap position_found (found_is 0 slots x) ∙ by (positio
     by None = refl
     by (Some i) = let same : 0 + i ≡ i = omega arith in ap Some same
 
-pub answers_found : (slots : List Slot) (x : Name) → answer_found (found_from 0 slots x) ≡ answer_position slots x
+pub answers_found : (slots : List Slot) (x : Name) → answer_found (found_from 0 slots x) ≡ result_position slots x
 answers_found slots x = ap answer_found (found_is 0 slots x) ∙ by (position_of (names_in slots) x)
   where
     by : (o : Option ℕ) → answer_found (option_map (here 0 slots) o) ≡ located_position slots o
@@ -97,7 +98,7 @@ position_among (y ∷ names) x = position_cons (λ (y : syntax.Name). is_name y.
 
 -- ---- by the map
 
--- the first position of a name, or else what is known of the names behind
+-- the first position of a name, or else what is known of the names after it
 abbrev pub first_or : ℕ → List Name → Option ℕ → Name → Option ℕ
 first_or n [] o x = o
 first_or n (y ∷ xs) o x = cond (is_name y x) (Some n) (first_or (suc n) xs o x)

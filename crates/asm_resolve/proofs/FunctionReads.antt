@@ -1,4 +1,4 @@
--- The codes of functions have the functions' values.
+-- Free. The codes of functions have the functions' values.
 use Rattle.std.proofs.Common.{◌≡◌, ℕ, suc, ◌+◌, ◌*◌, ◌<◌, ◌≤◌, Bool, true, false, cond, List, [], ◌∷◌, length, Option, Some, None, refl, sym, ap, subst, ◌∙◌, arith, Box, Vec, Global}
 use Rattle.std.specs.Prelude.{slice_get, slice_index_or, ◌&&◌, map}
 use Rattle.std.specs.List.{list_any, position}
@@ -9,28 +9,28 @@ use Rattle.asm_state.specs.declared.value.Value.TheVariants.{Undef}
 use Rattle.asm_state.specs.declared.function.Function.{Function}
 use Rattle.asm_state.specs.declared.function.FunctionKind.{FunctionKind}
 use Rattle.asm_state.specs.declared.function.FunctionKind.TheVariants.{Controlled, Static}
-use Rattle.asm_state.specs.Fits.{Fits, IsDomainOf}
+use Rattle.asm_state.specs.SignatureLimits.{Fits, IsDomainOf}
 use Rattle.asm_state.specs.Location.{State, Proper, Stray}
 use Rattle.asm_state.specs.Operation.{is_same}
 use Rattle.asm_state.specs.Signature.{Shape, domain_in, functions_of}
-use Rattle.asm_state.specs.FirstLocations.{argument_position, first_of, position_in_grid}
+use Rattle.asm_state.specs.code.FirstLocations.{argument_position, first_of, position_in_grid}
 use Rattle.asm_state.specs.Tables.{Domain, argument_lists, is_in, table_value}
 use Rattle.asm_state.proofs.Domains.{domain_laws}
-use Rattle.asm_state.proofs.FirstLocations.{first_location_laws}
+use Rattle.asm_state.proofs.LocationLemmas.FirstLocations.{first_location_laws}
 use Rattle.asm_meaning.specs.Declarations.{function_at, held_as}
 use Rattle.asm_meaning.specs.Value.{Reading, read}
-use Rattle.asm_meaning.specs.Valued.{held}
-use Rattle.asm_code.specs.CodeTree as tree
-use Rattle.asm_code.specs.CodeViews.{code_of, codes_of}
-use Rattle.asm_code.specs.Readings.{content, in_row, in_grid, place_in, position_in, universe_at, reading, readings}
-use Rattle.asm_code.specs.Sound.{AreCells, IsCell}
+use Rattle.asm_meaning.specs.code.TermValues.{held}
+use Rattle.asm_code.specs.code.CodeTree as tree
+use Rattle.asm_code.specs.code.CodeViews.{code_of, codes_of}
+use Rattle.asm_code.specs.code.Readings.{content, in_row, in_grid, position_from, position_in, universe_at, reading, readings}
+use Rattle.asm_code.specs.code.SoundCodes.{AreCells, IsCell}
 use Rattle.asm_code.specs.declared.code.Code.{Code}
 use Rattle.asm_code.specs.declared.code.Grid.{Grid as GridPlace}
-use Rattle.asm_code.specs.declared.code.Span.{Span}
-use Rattle.asm_code.specs.Spans.{IsSpan}
+use Rattle.asm_code.specs.declared.code.CodeRange.{CodeRange}
+use Rattle.asm_code.specs.code.CodeRanges.{IsCodeRange}
 use Rattle.asm_code.specs.declared.code.Code.TheVariants as code
 use Rattle.asm_code.proofs.CodeForms.{code_laws-count_of_codes as count_of_codes, code_laws-cell_form as cell_form, code_laws-constant_form as constant_form, code_laws-row_form as row_form, code_laws-grid_form as grid_form, code_laws-held_form as held_form}
-use Rattle.asm_resolve.specs.FunctionCodes.{HasDomain, IsRead}
+use Rattle.asm_resolve.specs.code.FunctionCodes.{HasDomain, IsRead}
 use Rattle.asm_resolve.proofs.SpanLaws.{place_is}
 use Rattle.asm_resolve.proofs.FirstLocations.{cell_at, content_at, outside}
 
@@ -44,16 +44,16 @@ two_each us ws = domain_laws.count us (ws ∷ []) ∙ ap (λ n. length us * n) (
 
 -- ---- without arguments
 
-pub held_read : (shape : Shape) (f : ℕ) (ts : Vec Code Global) → f < functions_of shape → length ts.items ≤ 4 → IsRead shape f (codes_of (map code_of ts.items)) (code_of (code.Held f ts))
+pub held_read : (shape : Shape) (f : ℕ) (ts : Vec Code Global) → f < functions_of shape → length ts.items ≤ 4 → IsRead shape f (codes_of (map code_of ts.items)) (code_of (code.FunctionAt f ts))
 unfolding reading
-held_read shape f ts below few = subst (IsRead shape f (codes_of (map code_of ts.items))) (sym (held_form (code.Held f ts) f ts refl)) (record {
+held_read shape f ts below few = subst (IsRead shape f (codes_of (map code_of ts.items))) (sym (held_form (code.FunctionAt f ts) f ts refl)) (record {
   sound = λ sound. (below, subst (λ n. n ≤ 4) (sym (count_of_codes ts.items)) few, sound);
   reads = λ rs A. refl;
 })
 
 -- by the arguments that are in the list
-pub listed_read : (shape : Shape) (f : ℕ) (ts : Vec Code Global) (us : List Code) → f < functions_of shape → length us ≤ 4 → ts.items ≡ us → IsRead shape f (codes_of (map code_of us)) (code_of (code.Held f ts))
-listed_read shape f ts us below few are = subst (λ ks. IsRead shape f (codes_of (map code_of ks)) (code_of (code.Held f ts))) are (held_read shape f ts below (subst (λ ks. length ks ≤ 4) (sym are) few))
+pub listed_read : (shape : Shape) (f : ℕ) (ts : Vec Code Global) (us : List Code) → f < functions_of shape → length us ≤ 4 → ts.items ≡ us → IsRead shape f (codes_of (map code_of us)) (code_of (code.FunctionAt f ts))
+listed_read shape f ts us below few are = subst (λ ks. IsRead shape f (codes_of (map code_of ks)) (code_of (code.FunctionAt f ts))) are (held_read shape f ts below (subst (λ ks. length ks ≤ 4) (sym are) few))
 
 module _ (shape : Shape) (f : ℕ) (fits : Fits shape) where
   pub cell_read : HasDomain shape f [] → (n : ℕ) → n ≡ first_of shape f → IsRead shape f tree.no_codes (code_of (code.Cell n))
@@ -66,10 +66,10 @@ module _ (shape : Shape) (f : ℕ) (fits : Fits shape) where
         reads = λ rs A. ap (content shape A) same ∙ content_at shape f [] has n 0 [] A first refl;
       })
 
-  -- the position in a span of a universe is the position in it
-  pub placed : (over : ℕ) (us : List Value) → universe_at shape over ≡ us → (span : Span) → IsSpan span us → (v : Value) → place_in span.low span.count v ≡ position_in shape over v
+  -- the position in a code range of a universe is the position in it
+  pub placed : (over : ℕ) (us : List Value) → universe_at shape over ≡ us → (span : CodeRange) → IsCodeRange span us → (v : Value) → position_from span.low span.count v ≡ position_in shape over v
   placed over us there span spans v =
-      ap (λ n. place_in span.low n v) spans.count ∙ place_is span.low us spans.in_turn v ∙ ap (position (is_same v)) (sym there)
+      ap (λ n. position_from span.low n v) spans.count ∙ place_is span.low us spans.in_turn v ∙ ap (position (is_same v)) (sym there)
 
   -- ---- with one
 
@@ -82,7 +82,7 @@ module _ (shape : Shape) (f : ℕ) (fits : Fits shape) where
     row_cells i below = cell_at shape f (over ∷ []) has n i fits.few_locations first (omega (arith, below, one_each (universe_at shape over)))
 
   pub row_read : (over : ℕ) → HasDomain shape f (over ∷ []) → (us : List Value) → slice_get shape.universes over ≡ Some us
-      → (n : ℕ) → n ≡ first_of shape f → (span : Span) → IsSpan span us → (s : Box Code Global) (t : Code) → s.value ≡ t
+      → (n : ℕ) → n ≡ first_of shape f → (span : CodeRange) → IsCodeRange span us → (s : Box Code Global) (t : Code) → s.value ≡ t
       → IsRead shape f (tree.code_then (code_of t) tree.no_codes) (code_of (code.Row n span s))
   unfolding reading
   row_read over has us is n first span spans s t same =
@@ -115,7 +115,7 @@ module _ (shape : Shape) (f : ℕ) (fits : Fits shape) where
     grid_cells i below = cell_at shape f (rows ∷ columns ∷ []) has n i fits.few_locations first (subst (λ m. i < m) (sym (two_each (universe_at shape rows) (universe_at shape columns))) below)
 
   pub grid_read : (rows columns : ℕ) → HasDomain shape f (rows ∷ columns ∷ []) → (us ws : List Value) → slice_get shape.universes rows ≡ Some us → slice_get shape.universes columns ≡ Some ws
-      → (n : ℕ) → n ≡ first_of shape f → (span span' : Span) → IsSpan span us → IsSpan span' ws → (s s' : Box Code Global) (t t' : Code) → s.value ≡ t → s'.value ≡ t'
+      → (n : ℕ) → n ≡ first_of shape f → (span span' : CodeRange) → IsCodeRange span us → IsCodeRange span' ws → (s s' : Box Code Global) (t t' : Code) → s.value ≡ t → s'.value ≡ t'
       → IsRead shape f (tree.code_then (code_of t) (tree.code_then (code_of t') tree.no_codes)) (code_of (code.Grid (record { first = n; rows = span; columns = span' }) s s'))
   unfolding reading
   grid_read rows columns has us ws is is' n first span span' spans spans' s s' t t' same same' =

@@ -1,4 +1,4 @@
--- The codes of one operation with two operands.
+-- Free. The codes of one operation with two operands.
 use Rattle.std.proofs.Common.{Result, Ok, Err, IfOk, ◌≡◌, List, refl, sym, ap, subst, ◌∙◌, Box, Global}
 use Rattle.asm_state.specs.declared.operation.Op.{Op}
 use Rattle.asm_state.specs.declared.value.Value.{Value}
@@ -6,10 +6,10 @@ use Rattle.asm_state.specs.Location.{State}
 use Rattle.asm_state.specs.Operation.{op}
 use Rattle.asm_state.specs.Signature.{Shape}
 use Rattle.asm_meaning.specs.Value.{Reading}
-use Rattle.asm_code.specs.CodeTree as tree
-use Rattle.asm_code.specs.CodeViews.{code_of}
-use Rattle.asm_code.specs.Readings.{reading}
-use Rattle.asm_code.specs.Sound.{IsSound}
+use Rattle.asm_code.specs.code.CodeTree as tree
+use Rattle.asm_code.specs.code.CodeViews.{code_of}
+use Rattle.asm_code.specs.code.Readings.{reading}
+use Rattle.asm_code.specs.code.SoundCodes.{IsSound}
 use Rattle.asm_code.specs.declared.code.Code.{Code}
 use Rattle.asm_code.specs.declared.code.Code.TheVariants as code
 use Rattle.asm_code.proofs.CodeForms.{code_laws-constant_form as constant_form, code_laws-both_form as both_form}

@@ -1,4 +1,4 @@
--- Lists of arguments and links, resolved one after the other.
+-- Free. Lists of arguments and links, resolved one after the other.
 use Rattle.std.proofs.Common.{Result, Ok, Err, IfOk, ◌≡◌, ℕ, zero, suc, ◌+◌, ◌<◌, List, [], ◌∷◌, ◌++◌, length, map, take, get_or, refl, sym, ap, subst, ◌∙◌, arith}
 use Rattle.std.proofs.lemmas.List.{take_more}
 use Rattle.asm_state.specs.declared.operation.Op.{Op}
@@ -6,16 +6,16 @@ use Rattle.asm_state.specs.Signature.{Shape}
 use Rattle.asm_syntax.specs.PlainTree.{plain_term, plain_terms, plain_links}
 use Rattle.asm_syntax.specs.Tree as tree
 use Rattle.asm_syntax.specs.Tree.{Name}
-use Rattle.asm_syntax.specs.Views.{term_of, terms_of, links_of}
+use Rattle.asm_syntax.specs.code.Views.{term_of, terms_of, links_of}
 use Rattle.asm_syntax.specs.declared.term.Term.{Term}
-use Rattle.asm_meaning.specs.TreeWeights.{link_of, term_weight}
+use Rattle.asm_meaning.specs.code.TreeWeights.{link_of, term_weight}
 use Rattle.asm_meaning.specs.Program.{Program, Environment}
-use Rattle.asm_meaning.specs.Weights.{weight, WeightsFall}
-use Rattle.asm_code.specs.CodeTree as codes
-use Rattle.asm_code.specs.CodeViews.{code_of, codes_of}
-use Rattle.asm_code.specs.CodeViews as code
+use Rattle.asm_meaning.specs.code.Weights.{weight, WeightsFall}
+use Rattle.asm_code.specs.code.CodeTree as codes
+use Rattle.asm_code.specs.code.CodeViews.{code_of, codes_of}
+use Rattle.asm_code.specs.code.CodeViews as code
 use Rattle.asm_code.specs.declared.code.Code.{Code}
-use Rattle.asm_resolve.specs.Resolved.{IsResolved, AreResolved, AreResolvedLinks}
+use Rattle.asm_resolve.specs.code.ResolvedTerms.{IsResolved, AreResolved, AreResolvedLinks}
 
 module _ (program : Program) (shape : Shape) (names : List Name) where
   abbrev pub Resolved : Term → Code → Type 0

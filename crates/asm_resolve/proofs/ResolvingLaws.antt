@@ -1,9 +1,9 @@
--- A rule that is resolved where no name is bound yields what the rule does.
+-- Free. A rule that is resolved when no name is bound yields what the rule does.
 use Rattle.std.proofs.Common.{[]}
 use Rattle.asm_meaning.specs.Declarations.{program_of}
 use Rattle.asm_meaning.specs.Program.{nothing_bound}
-use Rattle.asm_resolve.specs.ResolvingLaws.{ResolvingLaws}
-use Rattle.asm_resolve.proofs.Standing.{stands_nothing}
+use Rattle.asm_resolve.specs.code.ResolvingLaws.{ResolvingLaws}
+use Rattle.asm_resolve.proofs.StandingPositions.{stands_nothing}
 
 pub resolving_laws : ResolvingLaws
 resolving_laws = record {

@@ -1,5 +1,5 @@
--- Rules of the code with their codes, one lemma for each form of rule: what the code of a rule stands for, by the codes of its parts, and that its
--- parts have fewer rules than it.
+-- Free. Rules of the code with their codes, one lemma for each form of rule: what the code of a
+-- rule stands for, by the codes of its parts, and that its parts have fewer rules than it.
 use Rattle.std.proofs.Common.{◌≡◌, ℕ, ◌+◌, ◌≤◌, ◌<◌, Bool, false, List, [], ◌∷◌, length, map, take, get_or, Option, Some, None, is_some, Result, IfOk, Box, Vec, Global, refl, sym, ap, subst, ◌∙◌, arith, zero, suc}
 use Rattle.std.specs.Prelude.{option_map, min}
 use Rattle.std.proofs.lemmas.List.{length-map, take_min, take-map}
@@ -8,7 +8,7 @@ use Rattle.asm_state.specs.declared.value.Value.TheVariants.{Truth}
 use Rattle.asm_syntax.specs.SourceTree.{Spec}
 use Rattle.asm_syntax.specs.Tree as tree
 use Rattle.asm_syntax.specs.Tree.{Name}
-use Rattle.asm_syntax.specs.Views.{name_of, spec_of}
+use Rattle.asm_syntax.specs.code.Views.{name_of, spec_of}
 use Rattle.asm_syntax.specs.declared.name.Name.{Name as NameHere}
 use Rattle.asm_syntax.specs.declared.rule.Rule.{Rule}
 use Rattle.asm_syntax.specs.declared.rule.Rule.TheVariants as rule
@@ -18,37 +18,37 @@ use Rattle.asm_check.specs.Faults.{IsWellFormed}
 use Rattle.std.specs.declared.alloc.AllocError.{AllocError}
 use Rattle.std.specs.Arc.{arc_value}
 use Rattle.asm_check.specs.Names as names_in_check
-use Rattle.asm_check.specs.Numbers.{named, rules_of, meaning_at}
-use Rattle.asm_check.specs.declared.checked.Named.{Named}
-use Rattle.asm_check.specs.declared.checked.Named.TheVariants as number
-use Rattle.asm_syntax.specs.Views as syntax
+use Rattle.asm_check.specs.Numbers.{named, rules_of, declared_with_number}
+use Rattle.asm_check.specs.declared.checked.NameNumber.{NameNumber}
+use Rattle.asm_check.specs.declared.checked.NameNumber.TheVariants as number
+use Rattle.asm_syntax.specs.code.Views as syntax
 use Rattle.asm_check.specs.Shapes.{shape_of}
 use Rattle.asm_check.specs.declared.checked.Checked.{Checked}
 use Rattle.asm_meaning.specs.Declarations.{numbered, program_of, rule_number, universe_number}
-use Rattle.asm_meaning.specs.Meant.{text_of}
+use Rattle.asm_meaning.specs.code.MeantTrees.{text_of}
 use Rattle.asm_meaning.specs.Program.{Declared, NamedRule}
-use Rattle.asm_meaning.proofs.Meant.{program_declares}
+use Rattle.asm_meaning.proofs.MeantDeclarations.{program_declares}
 use Rattle.asm_meaning.proofs.NumberedValues.{numbered_names-rule as numbered_rule}
-use Rattle.asm_resolve.specs.RuleScopes.{IsRuleBody, resolved_target_in}
+use Rattle.asm_resolve.specs.code.RuleScopes.{IsRuleBody, resolved_target_in}
 use Rattle.asm_resolve.proofs.ResolvedLists.{AllResolved}
-use Rattle.asm_meaning.specs.Meant.{meant, meant_branch, meant_rules, meant_target, meant_term, meant_terms}
+use Rattle.asm_meaning.specs.code.MeantTrees.{meant, meant_branch, meant_rules, meant_target, meant_term, meant_terms}
 use Rattle.asm_meaning.specs.Value.{universe}
-use Rattle.asm_meaning.specs.Valued.{condition}
-use Rattle.asm_meaning.specs.TreeWeights.{in_body, rules_in, rules_in_all}
-use Rattle.asm_code.specs.CodeTree as term_tree
-use Rattle.asm_code.specs.CodeViews.{code_of, codes_of}
-use Rattle.asm_code.specs.RuleTree as codes
-use Rattle.asm_code.specs.RuleViews.{place_of, rule_of, rules_of as rule_codes_of}
+use Rattle.asm_meaning.specs.code.TermValues.{condition}
+use Rattle.asm_meaning.specs.code.TreeWeights.{in_body, rules_in, rules_in_all}
+use Rattle.asm_code.specs.code.CodeTree as term_tree
+use Rattle.asm_code.specs.code.CodeViews.{code_of, codes_of}
+use Rattle.asm_code.specs.code.RuleTree as codes
+use Rattle.asm_code.specs.code.RuleViews.{target_code_of, rule_of, rules_of as rule_codes_of}
 use Rattle.asm_code.specs.declared.code.Code.{Code}
 use Rattle.asm_code.specs.declared.code.Code.TheVariants as term_code
-use Rattle.asm_code.specs.declared.rule_code.Place.{Place}
+use Rattle.asm_code.specs.declared.rule_code.TargetCode.{TargetCode}
 use Rattle.asm_code.specs.declared.rule_code.RuleCode.{RuleCode}
 use Rattle.asm_code.specs.declared.rule_code.RuleCode.TheVariants as code
 use Rattle.asm_code.proofs.CodeForms.{code_laws-constant_form as constant_form}
 use Rattle.asm_code.proofs.RuleForms.{rule_laws-skip_form as skip_form, rule_laws-par_form as par_form, rule_laws-seq_form as seq_form, rule_laws-if_form as if_form, rule_laws-let_form as let_form, rule_laws-forall_form as forall_form, rule_laws-choose_form as choose_form, rule_laws-iterate_form as iterate_form, rule_laws-call_form as call_form}
-use Rattle.asm_resolve.specs.Resolved.{IsResolved}
-use Rattle.asm_resolve.specs.Slots.{Slot, value_slot, names_in, called_slots}
-use Rattle.asm_resolve.specs.RulesResolved.{IsResolvedRule, IsResolvedTest}
+use Rattle.asm_resolve.specs.code.ResolvedTerms.{IsResolved}
+use Rattle.asm_resolve.specs.code.Slots.{Slot, value_slot, names_in, called_slots}
+use Rattle.asm_resolve.specs.code.ResolvedRules.{IsResolvedRule, IsResolvedTest}
 use Rattle.asm_resolve.proofs.RuleResolving.{AllRulesResolved, how_many, as_resolved_rule, call_resolved, no_rule_resolved, skip_resolved, if_resolved, let_resolved, par_resolved, seq_resolved, iterate_resolved, forall_resolved, choose_resolved, forall_of_none, choose_of_none, plain_skip, plain_par, plain_seq, plain_let, plain_iterate, plain_while, plain_forall, plain_call, plain_if, plain_choose}
 
 module _ (spec : Spec) (good : IsWellFormed spec) where
@@ -136,7 +136,7 @@ module _ (spec : Spec) (good : IsWellFormed spec) where
           ∙ (λ i. codes.If ((constant_form c w refl ∙ ap term_tree.Constant never) i) ((ap rule_of skips ∙ skip_form code.Skip refl) i) (rule_of (put i))))
           (choose_of_none spec good slots x u (condition t) (meant S) (meant_branch Q) (rule_of d) none other)
 
-  -- turns behind a condition
+  -- turns under a condition
   pub while_here : (slots : List Slot) (t : Term) (S : Rule) (c : Code) → Valued slots t c → (B : Box RuleCode Global) → Stands slots (meant S) B.value
       → (Y D : Box RuleCode Global) → Y.value ≡ code.Skip → D.value ≡ code.If c B Y → Stands slots (tree.Iterate (tree.If (meant_term t) (meant S) tree.Skip)) (code.Iterate D)
   while_here slots t S c test B body Y D skips put =
@@ -202,7 +202,7 @@ counted spec good (t ∷ ts) = ap suc (counted spec good ts)
 same_parameters : (xs ys : List Name) (P Q : tree.Rule) → ◌≡◌ {A = Option Declared} (Some (NamedRule xs P)) (Some (NamedRule ys Q)) → xs ≡ ys
 same_parameters xs ys P Q e = cc
 
--- so many of the parameters as a call has terms
+-- as many of the parameters as a call has terms
 bound_names : (xs : List NameHere) (count n : ℕ) → n ≡ min (length xs) count → take n (map text_of xs) ≡ take count (map text_of xs)
 bound_names xs count n is = ap (λ k. take k (map text_of xs)) (is ∙ least ∙ ap (min count) (sym (length-map xs text_of))) ∙ take_min count (map text_of xs)
   where
@@ -210,7 +210,7 @@ bound_names xs count n is = ap (λ k. take k (map text_of xs)) (is ∙ least ∙
     least = grind arith
 
 -- a number that is a rule's
-pub rule_is : (it : Option Named) (r : ℕ) → rule_number it ≡ Some r → it ≡ Some (number.Rule r)
+pub rule_is : (it : Option NameNumber) (r : ℕ) → rule_number it ≡ Some r → it ≡ Some (number.Rule r)
 rule_is (Some (number.Rule s)) r e = let same : s ≡ r = cc in ap (λ k. Some (number.Rule k)) same
 rule_is (Some (number.Universe n)) r e = cc
 rule_is (Some (number.Element n)) r e = cc
@@ -220,9 +220,9 @@ rule_is None r e = cc
 
 module _ (spec : Spec) (good : IsWellFormed spec) (slots : List Slot) where
   -- a call of the rule with a number, whose body's code is known
-  pub called_here : (target : Option (Name × tree.Terms)) (f : Name) (r n : ℕ) (to : Option Place) → rule_number (named spec f) ≡ Some r → (body : _) → IsRuleBody spec r (is_some to) n (rule_of (arc_value body))
-      → resolved_target_in spec slots target (option_map place_of to) → (ts : List Term) (cs : Vec Code Global) → AllResolved (program_of spec) (shape_of spec) (names_in slots) ts cs.items
-      → (xs : List NameHere) (R : Rule) → meaning_at (rules_of spec) r ≡ Some (names_in_check.NamedRule (map name_of xs) (syntax.rule_of R)) → n ≡ min (length xs) (length ts)
+  pub called_here : (target : Option (Name × tree.Terms)) (f : Name) (r n : ℕ) (to : Option TargetCode) → rule_number (named spec f) ≡ Some r → (body : _) → IsRuleBody spec r (is_some to) n (rule_of (arc_value body))
+      → resolved_target_in spec slots target (option_map target_code_of to) → (ts : List Term) (cs : Vec Code Global) → AllResolved (program_of spec) (shape_of spec) (names_in slots) ts cs.items
+      → (xs : List NameHere) (R : Rule) → declared_with_number (rules_of spec) r ≡ Some (names_in_check.NamedRule (map name_of xs) (syntax.rule_of R)) → n ≡ min (length xs) (length ts)
       → IsResolvedRule (program_of spec) (shape_of spec) slots (tree.Call target f (meant_terms ts)) (rule_of (code.Call body to cs))
   called_here target f r n to is body known answer ts cs are xs R says many =
       let here = numbered_rule spec (Some (number.Rule r)) r xs R refl says in
@@ -230,11 +230,11 @@ module _ (spec : Spec) (good : IsWellFormed spec) (slots : List Slot) where
       let bound : take n known.parameters ≡ take (how_many spec good (meant_terms ts)) known.parameters
       = subst (λ ys. take n ys ≡ take (how_many spec good (meant_terms ts)) ys) (sym same) (bound_names xs (length ts) n many ∙ ap (λ k. take k (map text_of xs)) (sym (counted spec good ts))) in
       as_resolved_rule (program_of spec) (shape_of spec) slots _ _ _ _ refl (call_form (code.Call body to cs) body to cs refl)
-      (call_resolved spec good slots target (option_map place_of to) answer f (meant_terms ts) (codes_of (map code_of cs.items)) are known.parameters known.body
+      (call_resolved spec good slots target (option_map target_code_of to) answer f (meant_terms ts) (codes_of (map code_of cs.items)) are known.parameters known.body
       (program_declares spec f ∙ ap (numbered spec) (rule_is (named spec f) r is) ∙ known.stands) (rule_of (arc_value body))
       (subst (λ ss. IsResolvedRule (program_of spec) (shape_of spec) ss known.body (rule_of (arc_value body))) (λ i. called_slots (mapped to i) (bound i)) known.resolved))
     where
-      mapped : (to : Option Place) → is_some to ≡ is_some (option_map place_of to)
+      mapped : (to : Option TargetCode) → is_some to ≡ is_some (option_map target_code_of to)
       mapped None = refl
       mapped (Some to) = refl
 
@@ -243,8 +243,8 @@ module _ (spec : Spec) (good : IsWellFormed spec) (slots : List Slot) where
   not_called_here target f ts none =
       as_resolved_rule (program_of spec) (shape_of spec) slots _ _ _ _ refl (skip_form code.Skip refl) (no_rule_resolved spec good slots target f (meant_terms ts) none)
 
--- the body of the rule with a number, where a call binds so many parameters
-pub body_here : (spec : Spec) (r n : ℕ) (answers : Bool) (xs : List NameHere) (R : Rule) → meaning_at (rules_of spec) r ≡ Some (names_in_check.NamedRule (map name_of xs) (syntax.rule_of R))
+-- the body of the rule with a number, for a call that binds n parameters
+pub body_here : (spec : Spec) (r n : ℕ) (answers : Bool) (xs : List NameHere) (R : Rule) → declared_with_number (rules_of spec) r ≡ Some (names_in_check.NamedRule (map name_of xs) (syntax.rule_of R))
     → (names : List NameHere) → names ≡ take n xs → (scope : List Slot) → scope ≡ called_slots answers (map text_of names) → (c body : RuleCode) → body ≡ c
     → IsResolvedRule (program_of spec) (shape_of spec) scope (meant R) (rule_of c) → IsRuleBody spec r answers n (rule_of body)
 body_here spec r n answers xs R says names first scope within c body is it = record {

@@ -1,4 +1,5 @@
--- Codes of each form of rule, and what positions stand for in the body of a rule that is called.
+-- Free. Codes of each form of rule, and what positions stand for in the body of a rule that is
+-- called.
 use Rattle.std.proofs.Common.{Box, Vec, Global, ◌≡◌, ℕ, zero, suc, ◌+◌, ◌<◌, false, cond, List, [], ◌∷◌, ◌++◌, length, get_or, map, take, Option, Some, None, refl, sym, ap, subst, ◌∙◌}
 use Rattle.std.specs.Prelude.{is_some, slice_index_or}
 use Rattle.std.proofs.lemmas.List.{take_more}
@@ -14,7 +15,7 @@ use Rattle.asm_syntax.specs.SourceTree.{Spec}
 use Rattle.asm_syntax.specs.PlainTree.{plain_rule, plain_rules}
 use Rattle.asm_syntax.specs.Tree as tree
 use Rattle.asm_syntax.specs.Tree.{Name, Term, Terms, Rule, Rules, no_terms, term_then}
-use Rattle.asm_syntax.specs.Views as syntax
+use Rattle.asm_syntax.specs.code.Views as syntax
 use Rattle.asm_syntax.specs.SourceTree as source
 use Rattle.asm_syntax.specs.declared.term.Term.{Term as TermHere}
 use Rattle.asm_syntax.specs.declared.rule.Rule.TheOpen as open_rule
@@ -29,9 +30,9 @@ use Rattle.asm_meaning.specs.Cases.{ScriptedCases, runs, all_run}
 use Rattle.asm_meaning.specs.Declarations.{program_of, rule_number, universe_number}
 use Rattle.asm_meaning.specs.Does.{Outcome, Meaning, both, parts, in_order, part_and, turn_and, turns_of, each, one_of}
 use Rattle.asm_meaning.specs.Program.{Program, Declared, Controlled, NamedRule, declared, is_name, Environment, nothing_bound, with_value, with_term, bind_terms, Binding, ToValue, ToTerm, ToLocation, bound_to, located}
-use Rattle.asm_meaning.specs.Meant.{meant, meant_branch, meant_rules, meant_target, meant_term, meant_terms}
-use Rattle.asm_meaning.specs.Valued.{condition}
-use Rattle.asm_syntax.specs.ViewCases.{rule_of-Skip, rule_of-Assign, rule_of-Call, rule_of-Par, rule_of-Seq, rule_of-Let, rule_of-Forall, rule_of-Iterate, rule_of-While, rule_of-SetResult}
+use Rattle.asm_meaning.specs.code.MeantTrees.{meant, meant_branch, meant_rules, meant_target, meant_term, meant_terms}
+use Rattle.asm_meaning.specs.code.TermValues.{condition}
+use Rattle.asm_syntax.specs.code.ViewCases.{rule_of-Skip, rule_of-Assign, rule_of-Call, rule_of-Par, rule_of-Seq, rule_of-Let, rule_of-Forall, rule_of-Iterate, rule_of-While, rule_of-SetResult}
 use Rattle.asm_syntax.specs.declared.rule.Target.{Target}
 use Rattle.asm_syntax.specs.declared.name.Name.{Name as NameHere}
 use Rattle.asm_meaning.specs.Targets.{location, bound_location, location_of, update, answering}
@@ -39,25 +40,25 @@ use Rattle.asm_meaning.specs.Value.{Reading, is_true, holds, universe, value, va
 use Rattle.asm_meaning.specs.Yields.{Path, Gives, at}
 use Rattle.asm_meaning.proofs.CalledNames.{called_names}
 use Rattle.asm_meaning.proofs.Cases.{scripted_by_cases}
-use Rattle.asm_meaning.proofs.Ranked.{declared_ranks-rules as rules_ranked, declared_ranks-rule_low as rule_rank_low}
-use Rattle.asm_meaning.proofs.Meant.{universe_names-some as universe_is}
+use Rattle.asm_meaning.proofs.RanksInPrograms.{declared_ranks-rules as rules_ranked, declared_ranks-rule_low as rule_rank_low}
+use Rattle.asm_meaning.proofs.MeantDeclarations.{universe_names-some as universe_is}
 use Rattle.std.proofs.lemmas.Option.{slice_get-get_or}
-use Rattle.asm_code.specs.CodeTree.{Code, Codes, no_codes, code_then}
-use Rattle.asm_code.specs.CodeTree as term_codes
-use Rattle.asm_code.specs.Readings.{always, reading, universe_at}
-use Rattle.asm_code.specs.RuleMeaning.{Locations, meaning, meanings, passes, located_at, answer_readings, answer_locations, named_readings, AreSoundRules, IsSoundTest, IsSoundAnswer}
-use Rattle.asm_code.specs.RuleTree as codes
-use Rattle.asm_code.specs.RuleTree.{Place, RuleCode, RuleCodes}
-use Rattle.asm_code.specs.RuleViews as code_view
+use Rattle.asm_code.specs.code.CodeTree.{Code, Codes, no_codes, code_then}
+use Rattle.asm_code.specs.code.CodeTree as term_codes
+use Rattle.asm_code.specs.code.Readings.{always, reading, universe_at}
+use Rattle.asm_code.specs.code.RuleMeaning.{Locations, meaning, meanings, passes, optional_target_location, result_readings, result_locations, named_readings, AreSoundRules, IsSoundTest, IsSoundOptionalTarget}
+use Rattle.asm_code.specs.code.RuleTree as codes
+use Rattle.asm_code.specs.code.RuleTree.{Place, RuleCode, RuleCodes}
+use Rattle.asm_code.specs.code.RuleViews as code_view
 use Rattle.asm_code.specs.declared.rule_code.RuleCode.{RuleCode as RuleCodeHere}
-use Rattle.asm_resolve.proofs.Standing.{stands_value, stands_called}
-use Rattle.asm_resolve.specs.FunctionCodes.{IsLocated}
-use Rattle.asm_resolve.specs.Resolved.{bound_reading, Agrees, IsResolved, AreResolved}
-use Rattle.asm_resolve.specs.Slots.{Slot, value_slot, names_in, position_of, answer_position, called_slots}
-use Rattle.asm_resolve.specs.RuleScopes.{resolved_target_in}
-use Rattle.asm_resolve.specs.RulesResolved.{Stands, IsPlace, place_bound, IsResolvedPlace, IsResolvedRule, AreResolvedRules, IsResolvedTest}
-use Rattle.asm_resolve.proofs.Agreeing.{agrees_nothing, bound_before, free_before}
-use Rattle.asm_resolve.proofs.Resolving.{all_mean, all_sound}
+use Rattle.asm_resolve.proofs.StandingPositions.{stands_value, stands_called}
+use Rattle.asm_resolve.specs.code.FunctionCodes.{IsLocated}
+use Rattle.asm_resolve.specs.code.ResolvedTerms.{bound_reading, Agrees, IsResolved, AreResolved}
+use Rattle.asm_resolve.specs.code.Slots.{Slot, value_slot, names_in, position_of, result_position, called_slots}
+use Rattle.asm_resolve.specs.code.RuleScopes.{resolved_target_in}
+use Rattle.asm_resolve.specs.code.ResolvedRules.{PositionsStand, IsLocationAt, location_bound, IsResolvedTarget, IsResolvedRule, AreResolvedRules, IsResolvedTest}
+use Rattle.asm_resolve.proofs.FramesAgree.{agrees_nothing, bound_before, free_before}
+use Rattle.asm_resolve.proofs.TermPasses.{all_mean, all_sound}
 
 -- the universe with the number of a name is that of the name
 universe_at_is : (spec : Spec) (u : Name) (n : ℕ) → universe_number (named spec u) ≡ Some n → n < length (shape_of spec).universes → universe_at (shape_of spec) n ≡ universe (program_of spec) u
@@ -108,7 +109,7 @@ module _ (spec : Spec) (good : IsWellFormed spec) where
     means_of c A e p = meaning shape turns (pick script step) c rs ls A p
 
     parts_mean : (slots : List Slot) (Ps : Rules) (cs : RuleCodes) → AreResolvedRules program shape slots Ps cs → (k : ℕ) (A : State) (p : Path)
-        → Stands program slots e rs ls → parts (meanings shape turns (pick script step) cs rs ls) k A nothing_bound p ≡ parts (all_run program turns script step Ps) k A e p
+        → PositionsStand program slots e rs ls → parts (meanings shape turns (pick script step) cs rs ls) k A nothing_bound p ≡ parts (all_run program turns script step Ps) k A e p
     unfolding meanings
     parts_mean slots tree.no_rules codes.no_rules are k A p stands = refl
     parts_mean slots (tree.rule_then P Ps) (codes.rule_then c cs) are k A p stands =
@@ -117,7 +118,7 @@ module _ (spec : Spec) (good : IsWellFormed spec) where
     parts_mean slots (tree.rule_then P Ps) codes.no_rules are k A p stands = absurd are
 
     in_order_mean : (slots : List Slot) (Ps : Rules) (cs : RuleCodes) → AreResolvedRules program shape slots Ps cs → (k : ℕ) (A : State) (p : Path)
-        → Stands program slots e rs ls → in_order (meanings shape turns (pick script step) cs rs ls) k A nothing_bound p ≡ in_order (all_run program turns script step Ps) k A e p
+        → PositionsStand program slots e rs ls → in_order (meanings shape turns (pick script step) cs rs ls) k A nothing_bound p ≡ in_order (all_run program turns script step Ps) k A e p
     unfolding meanings
     in_order_mean slots tree.no_rules codes.no_rules are k A p stands = refl
     in_order_mean slots (tree.rule_then P Ps) (codes.rule_then c cs) are k A p stands =
@@ -126,7 +127,7 @@ module _ (spec : Spec) (good : IsWellFormed spec) where
     in_order_mean slots tree.no_rules (codes.rule_then c cs) are k A p stands = absurd are
     in_order_mean slots (tree.rule_then P Ps) codes.no_rules are k A p stands = absurd are
 
-    turns_mean : (slots : List Slot) (P : Rule) (c : RuleCode) → IsResolvedRule program shape slots P c → (left t : ℕ) (A : State) (p : Path) → Stands program slots e rs ls
+    turns_mean : (slots : List Slot) (P : Rule) (c : RuleCode) → IsResolvedRule program shape slots P c → (left t : ℕ) (A : State) (p : Path) → PositionsStand program slots e rs ls
         → turns_of (means_of c) left t A nothing_bound p ≡ turns_of (runs_of P) left t A e p
     turns_mean slots P c it zero t A p stands = refl
     turns_mean slots P c it (suc left) t A p stands =
@@ -221,24 +222,24 @@ module _ (spec : Spec) (good : IsWellFormed spec) where
         ∙ ap (λ us. one_of (pick script step p) (filter (λ v. holds program A (with_value x v e) t) us) (λ v. runs program turns script step P A (with_value x v e) (at p 0)) (runs program turns script step Q A e (at p 1))) none);
   }
 
-  -- ---- places
+  -- ---- target codes
 
   -- what is bound to no location is located as it is declared
-  not_bound : (b : Option Binding) (it : Option Declared) (vs : List Value) → place_bound b ≡ None → bound_location b it vs ≡ location_of it vs
+  not_bound : (b : Option Binding) (it : Option Declared) (vs : List Value) → location_bound b ≡ None → bound_location b it vs ≡ location_of it vs
   not_bound None it vs is = refl
   not_bound (Some (ToValue v)) it vs is = refl
   not_bound (Some (ToTerm t caller)) it vs is = refl
   not_bound (Some (ToLocation l)) it vs is = cc
 
-  -- a name without an answer's position, of a controlled function
-  pub located_resolved : (slots : List Slot) (x : Name) (f : ℕ) → answer_position slots x ≡ None → declared program x ≡ Some (Controlled f (domain_of shape f))
-      → (ts : Terms) (cs : Codes) → AreResolved program shape (names_in slots) ts cs → (to : Place) → IsLocated shape f cs to → IsResolvedPlace program shape slots x ts (Some to)
+  -- a name without a result's position, of a controlled function
+  pub located_resolved : (slots : List Slot) (x : Name) (f : ℕ) → result_position slots x ≡ None → declared program x ≡ Some (Controlled f (domain_of shape f))
+      → (ts : Terms) (cs : Codes) → AreResolved program shape (names_in slots) ts cs → (to : Place) → IsLocated shape f cs to → IsResolvedTarget program shape slots x ts (Some to)
   located_resolved slots x f none stands ts cs are to is = record {
     sound = is.sound (all_sound spec good (names_in slots) ts cs are);
     means = λ e rs ls A bound.
         is.locates rs ls A
         ∙ (λ i. Some (location_in f (domain_of shape f) (all_mean spec good (names_in slots) ts cs are e rs A bound.values i)))
-        ∙ sym (not_bound (bound_to e x) (declared program x) (values program A e ts) (subst (λ o. IsPlace o ls (bound_to e x)) none (bound.places x)) ∙ ap (λ it. location_of it (values program A e ts)) stands);
+        ∙ sym (not_bound (bound_to e x) (declared program x) (values program A e ts) (subst (λ o. IsLocationAt o ls (bound_to e x)) none (bound.places x)) ∙ ap (λ it. location_of it (values program A e ts)) stands);
     some = λ e rs ls A bound. ap is_some (is.locates rs ls A);
   }
 
@@ -246,25 +247,25 @@ module _ (spec : Spec) (good : IsWellFormed spec) where
   is_bound b it vs l is = ap (λ b. bound_location b it vs) (sym is)
 
   -- a name that stands for a location
-  pub answer_resolved : (slots : List Slot) (x : Name) (ts : Terms) (i : ℕ) → answer_position slots x ≡ Some i → IsResolvedPlace program shape slots x ts (Some (codes.Answer i))
+  pub answer_resolved : (slots : List Slot) (x : Name) (ts : Terms) (i : ℕ) → result_position slots x ≡ Some i → IsResolvedTarget program shape slots x ts (Some (codes.Answer i))
   answer_resolved slots x ts i here = record {
     sound = tt;
-    means = λ e rs ls A bound. let it = at e ls (subst (λ o. IsPlace o ls (bound_to e x)) here (bound.places x)) in it.2 ∙ is_bound (bound_to e x) (declared program x) (values program A e ts) it.0 it.1;
-    some = λ e rs ls A bound. let it = at e ls (subst (λ o. IsPlace o ls (bound_to e x)) here (bound.places x)) in ap is_some it.2;
+    means = λ e rs ls A bound. let it = at e ls (subst (λ o. IsLocationAt o ls (bound_to e x)) here (bound.places x)) in it.2 ∙ is_bound (bound_to e x) (declared program x) (values program A e ts) it.0 it.1;
+    some = λ e rs ls A bound. let it = at e ls (subst (λ o. IsLocationAt o ls (bound_to e x)) here (bound.places x)) in ap is_some it.2;
   }
     where
-      at : (e : Environment) (ls : Locations) → IsPlace (Some i) ls (bound_to e x) → (l : Location) × (bound_to e x ≡ Some (ToLocation l)) × (slice_index_or ls i None ≡ Some l)
+      at : (e : Environment) (ls : Locations) → IsLocationAt (Some i) ls (bound_to e x) → (l : Location) × (bound_to e x ≡ Some (ToLocation l)) × (slice_index_or ls i None ≡ Some l)
       at e ls it = it
 
-  -- a name without an answer's position, of anything else
-  pub nowhere_resolved : (slots : List Slot) (x : Name) (ts : Terms) → answer_position slots x ≡ None → ((vs : List Value) → location_of (declared program x) vs ≡ None) → IsResolvedPlace program shape slots x ts None
+  -- a name without a result's position, of anything else
+  pub nowhere_resolved : (slots : List Slot) (x : Name) (ts : Terms) → result_position slots x ≡ None → ((vs : List Value) → location_of (declared program x) vs ≡ None) → IsResolvedTarget program shape slots x ts None
   nowhere_resolved slots x ts none other = record {
     sound = tt;
-    means = λ e rs ls A bound. sym (not_bound (bound_to e x) (declared program x) (values program A e ts) (subst (λ o. IsPlace o ls (bound_to e x)) none (bound.places x)) ∙ other (values program A e ts));
+    means = λ e rs ls A bound. sym (not_bound (bound_to e x) (declared program x) (values program A e ts) (subst (λ o. IsLocationAt o ls (bound_to e x)) none (bound.places x)) ∙ other (values program A e ts));
     some = λ e rs ls A bound. refl;
   }
 
-  pub assign_resolved : (slots : List Slot) (x : Name) (ts : Terms) (to : Place) → IsResolvedPlace program shape slots x ts (Some to) → (t : Term) (c : Code) → IsResolved program shape (names_in slots) t c
+  pub assign_resolved : (slots : List Slot) (x : Name) (ts : Terms) (to : Place) → IsResolvedTarget program shape slots x ts (Some to) → (t : Term) (c : Code) → IsResolved program shape (names_in slots) t c
       → IsResolvedRule program shape slots (tree.Assign x ts t) (codes.Assign to c)
   unfolding meaning
   assign_resolved slots x ts to place t c term = record {
@@ -275,7 +276,7 @@ module _ (spec : Spec) (good : IsWellFormed spec) where
   }
 
   -- of no location
-  pub assign_nowhere : (slots : List Slot) (x : Name) (ts : Terms) → IsResolvedPlace program shape slots x ts None → (t : Term) → IsResolvedRule program shape slots (tree.Assign x ts t) codes.Skip
+  pub assign_nowhere : (slots : List Slot) (x : Name) (ts : Terms) → IsResolvedTarget program shape slots x ts None → (t : Term) → IsResolvedRule program shape slots (tree.Assign x ts t) codes.Skip
   unfolding meaning
   assign_nowhere slots x ts place t = record {
     sound = tt;
@@ -300,7 +301,8 @@ module _ (spec : Spec) (good : IsWellFormed spec) where
       free = λ y is. free_before program names e rs agrees (ToTerm t caller) y (is_name x y) (position_of names y) refl is;
     })
 
-  -- each parameter that has a term has its value, in the caller's environment and in each state; the others aren't bound
+  -- each parameter that has a term has its value, in the caller's environment and in each state;
+  -- the others aren't bound
   pub agrees_terms : (callers_names : List Name) (caller : Environment) (callers : List Reading) → Agrees program callers_names caller callers → (xs : List Name) (ts : Terms) (cs : Codes)
       → AreResolved program shape callers_names ts cs → Agrees program (take (how_many ts) xs) (bind_terms xs ts caller) (named_readings shape cs callers)
   agrees_terms callers_names caller callers calls [] no_terms cs are = agrees_nothing program (named_readings shape cs callers)
@@ -320,18 +322,18 @@ module _ (spec : Spec) (good : IsWellFormed spec) where
   answering_is A e None inner = refl
   answering_is A e (Some (f, ts)) inner = refl
 
-  target_sound : (slots : List Slot) (target : Option (Name × Terms)) (to : Option Place) → resolved_target_in spec slots target to → IsSoundAnswer shape to
-  target_sound slots None to is = subst (IsSoundAnswer shape) (sym is) tt
+  target_sound : (slots : List Slot) (target : Option (Name × Terms)) (to : Option Place) → resolved_target_in spec slots target to → IsSoundOptionalTarget shape to
+  target_sound slots None to is = subst (IsSoundOptionalTarget shape) (sym is) tt
   target_sound slots (Some (f, ts)) to it = it.sound
 
   target_means : (slots : List Slot) (target : Option (Name × Terms)) (to : Option Place) → resolved_target_in spec slots target to → (e : Environment) (rs : List Reading) (ls : Locations) (A : State)
-      → Stands program slots e rs ls → located_at shape to rs ls A ≡ answer_location A e target
-  target_means slots None to is e rs ls A stands = ap (λ to. located_at shape to rs ls A) is
+      → PositionsStand program slots e rs ls → optional_target_location shape to rs ls A ≡ answer_location A e target
+  target_means slots None to is e rs ls A stands = ap (λ to. optional_target_location shape to rs ls A) is
   target_means slots (Some (f, ts)) to it e rs ls A stands = it.means e rs ls A stands
 
   target_some : (slots : List Slot) (target : Option (Name × Terms)) (to : Option Place) → resolved_target_in spec slots target to → (e : Environment) (rs : List Reading) (ls : Locations) (A : State)
-      → Stands program slots e rs ls → is_some (located_at shape to rs ls A) ≡ is_some to
-  target_some slots None to is e rs ls A stands = ap (λ to. is_some (located_at shape to rs ls A)) is ∙ ap is_some (sym is)
+      → PositionsStand program slots e rs ls → is_some (optional_target_location shape to rs ls A) ≡ is_some to
+  target_some slots None to is e rs ls A stands = ap (λ to. is_some (optional_target_location shape to rs ls A)) is ∙ ap is_some (sym is)
   target_some slots (Some (f, ts)) to it e rs ls A stands = it.some e rs ls A stands
 
   pub call_resolved : (slots : List Slot) (target : Option (Name × Terms)) (to : Option Place) → resolved_target_in spec slots target to → (f : Name) (ts : Terms) (cs : Codes) → AreResolved program shape (names_in slots) ts cs
@@ -341,12 +343,12 @@ module _ (spec : Spec) (good : IsWellFormed spec) where
   call_resolved slots target to answer f ts cs are xs P says c body = record {
     sound = (body.sound, target_sound slots target to answer, all_sound spec good (names_in slots) ts cs are);
     means = λ turns script step e rs ls A p stands.
-        let l = located_at shape to rs ls A in
+        let l = optional_target_location shape to rs ls A in
         let inner = bind_terms xs ts e in
         let names = take (how_many ts) xs in
         let called = stands_called program names xs ts e (named_readings shape cs rs) (agrees_terms (names_in slots) e rs stands.values xs ts cs are) l in
-        body.means turns script step (located l inner) (answer_readings l ++ named_readings shape cs rs) (answer_locations l) A (at p 0)
-        (subst (λ b. Stands program (called_slots b names) (located l inner) (answer_readings l ++ named_readings shape cs rs) (answer_locations l)) (target_some slots target to answer e rs ls A stands) called)
+        body.means turns script step (located l inner) (result_readings l ++ named_readings shape cs rs) (result_locations l) A (at p 0)
+        (subst (λ b. PositionsStand program (called_slots b names) (located l inner) (result_readings l ++ named_readings shape cs rs) (result_locations l)) (target_some slots target to answer e rs ls A stands) called)
         ∙ ap (λ there. runs program turns script step P A there (at p 0)) (ap (λ l. located l inner) (target_means slots target to answer e rs ls A stands) ∙ answering_is A e target inner)
         ∙ sym ((cases_of turns script step).of_call target f ts xs P A e p says (rule_rank_low spec f good));
   }

@@ -1,15 +1,15 @@
--- The names of a scope, in an environment in which they are bound.
+-- Free. The names of a scope, in an environment in which they are bound.
 use Rattle.std.proofs.Common.{◌≡◌, false, List, [], ◌∷◌, map, None, refl, ap, ◌∙◌}
 use Rattle.asm_syntax.specs.Tree.{Name}
 use Rattle.asm_syntax.specs.declared.name.Name as syntax
-use Rattle.asm_meaning.specs.Meant.{text_of}
+use Rattle.asm_meaning.specs.code.MeantTrees.{text_of}
 use Rattle.asm_meaning.specs.Program.{Program, bound_to}
-use Rattle.asm_code.specs.Readings.{always}
-use Rattle.asm_resolve.specs.Resolved.{Agrees}
-use Rattle.asm_resolve.specs.Scopes.{names_of, scope_environment}
-use Rattle.asm_resolve.specs.Slots.{Slot, value_slot, names_in, position_of, called_slots}
+use Rattle.asm_code.specs.code.Readings.{always}
+use Rattle.asm_resolve.specs.code.ResolvedTerms.{Agrees}
+use Rattle.asm_resolve.specs.code.Scopes.{names_of, scope_environment}
+use Rattle.asm_resolve.specs.code.Slots.{Slot, value_slot, names_in, position_of, called_slots}
 use Rattle.asm_resolve.specs.declared.scope.Scope.{Scope}
-use Rattle.asm_resolve.proofs.Agreeing.{agrees_values}
+use Rattle.asm_resolve.proofs.FramesAgree.{agrees_values}
 
 scope_agrees : (program : Program) (s : Scope) → Agrees program (names_of s) (scope_environment s) (map always [])
 scope_agrees program s = agrees_values program (names_of s) []

@@ -1,4 +1,4 @@
--- An ordered map by texts.
+-- Free. An ordered map by texts.
 --     spelled_same        a search ends where the texts are the same
 --     lookup_inserted     what it finds after one more text was put there
 use Rattle.std.proofs.Common.{◌≡◌, ℕ, Bool, true, false, cond, List, [], ◌∷◌, Option, Some, Ordering, Less, Equal, Greater, refl, sym, ap, ◌∙◌, true≢false, nat_eq}
@@ -7,7 +7,7 @@ use Rattle.std.specs.Cmp.Lexicographic.{pointwise, slice_cmp, lists_ties, bytes_
 use Rattle.std.specs.Map.{lookup}
 use Rattle.std.specs.BTreeMap.{insert_entry}
 use Rattle.std.specs.Ordering.{is_eq, match_ordering, nat_cmp}
-use Rattle.asm_resolve.specs.Slots.{is_spelled}
+use Rattle.asm_resolve.specs.code.Slots.{is_spelled}
 
 pub spelled_same : (x y : List ℕ) → is_spelled x y ≡ pointwise nat_eq x y
 spelled_same x y = sym (lists_ties nat_cmp unsigned_ties x y)

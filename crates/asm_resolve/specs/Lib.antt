@@ -1,7 +1,1 @@
-pub mod FunctionCodes
-pub mod Slots
-pub mod Resolved
-pub mod Scopes
-pub mod RulesResolved
-pub mod RuleScopes
-pub mod ResolvingLaws
+pub mod code

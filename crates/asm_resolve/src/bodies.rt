@@ -7,11 +7,11 @@ ghost use Rattle.std.specs.Prelude.{◌≡◌, ◌<◌, IfOk, IfSome, OnOk, leng
 ghost use Rattle.std.specs.Arc.{arc_value};
 ghost use Rattle.asm_check.specs.Numbers.{derived_of, rules_of};
 ghost use Rattle.asm_syntax.specs.SourceTree as source;
-ghost use Rattle.asm_syntax.specs.Views.{spec_of};
-ghost use Rattle.asm_code.specs.CodeViews.{code_of};
-ghost use Rattle.asm_code.specs.RuleViews.{rule_of};
-ghost use Rattle.asm_resolve.specs.RuleScopes.{AreKnown, AreRuleBodies, IsRuleBody};
-ghost use Rattle.asm_resolve.specs.Scopes.{AreBodies, IsBody};
+ghost use Rattle.asm_syntax.specs.code.Views.{spec_of};
+ghost use Rattle.asm_code.specs.code.CodeViews.{code_of};
+ghost use Rattle.asm_code.specs.code.RuleViews.{rule_of};
+ghost use Rattle.asm_resolve.specs.code.RuleScopes.{AreKnown, AreRuleBodies, IsRuleBody};
+ghost use Rattle.asm_resolve.specs.code.Scopes.{AreResolvedBodies, IsBody};
 
 use asm_check::Checked;
 use asm_code::code::Code;
@@ -19,7 +19,7 @@ use asm_code::rule_code::RuleCode;
 use std::alloc::{AllocError, Global};
 use std::sync::Arc;
 
-/// The body of a rule where a call binds so many of its parameters, and has a target or none.
+/// The body of a rule for a call that binds `bound` of its parameters, and has a target or none.
 #[derive(Drop)]
 pub struct RuleBody {
     pub answers: bool,
@@ -53,12 +53,12 @@ impl Bodies {
 }
 
 /// The body of the derived function with this number, if it is known.
-pub(crate) fn known(
+pub(crate) fn known_body(
     terms: &[Option<Arc<Code, Global>>],
     number: usize,
 ) -> Result<Option<Arc<Code, Global>>, AllocError>
     requires { number < length terms.now }
-    ensures { (spec : source.Spec) → AreBodies spec terms.now → IfOk result (λ o. IfSome o (λ c. IsBody spec number (code_of (arc_value c)))) }
+    ensures { (spec : source.Spec) → AreResolvedBodies spec terms.now → IfOk result (λ o. IfSome o (λ c. IsBody spec number (code_of (arc_value c)))) }
 {
     match &terms[number] {
         None => Ok(None),
@@ -73,7 +73,7 @@ pub(crate) fn keep(
     code: Arc<Code, Global>,
 )
     requires { number < length terms.old.items }
-    ensures { (spec : source.Spec) → AreBodies spec terms.old.items → IsBody spec number (code_of (arc_value code)) → AreBodies spec terms.new.items }
+    ensures { (spec : source.Spec) → AreResolvedBodies spec terms.old.items → IsBody spec number (code_of (arc_value code)) → AreResolvedBodies spec terms.new.items }
 {
     terms[number] = Some(code);
 }

@@ -2,24 +2,24 @@
 //! its first location.
 ghost use Rattle.std.specs.Prelude.{◌≡◌, ◌<◌, [], ◌∷◌, length, map, true, IfOk, IfSome};
 ghost use Rattle.asm_state.specs.declared.function.FunctionKind.TheVariants.{Controlled};
-ghost use Rattle.asm_state.specs.Fits.{Fits};
+ghost use Rattle.asm_state.specs.SignatureLimits.{Fits};
 ghost use Rattle.asm_state.specs.Signature.{HasKind, functions_of};
-ghost use Rattle.asm_code.specs.CodeTree as tree;
-ghost use Rattle.asm_code.specs.CodeViews.{code_of, codes_of};
-ghost use Rattle.asm_code.specs.RuleViews.{place_of};
-ghost use Rattle.asm_code.specs.Spans.{IsSpan};
-ghost use Rattle.asm_resolve.specs.FunctionCodes.{HasDomain, IsGridOf, IsLocated, IsRead, IsRowOf};
+ghost use Rattle.asm_code.specs.code.CodeTree as tree;
+ghost use Rattle.asm_code.specs.code.CodeViews.{code_of, codes_of};
+ghost use Rattle.asm_code.specs.code.RuleViews.{target_code_of};
+ghost use Rattle.asm_code.specs.code.CodeRanges.{IsCodeRange};
+ghost use Rattle.asm_resolve.specs.code.FunctionCodes.{HasDomain, IsGridOf, IsLocated, IsRead, IsRowOf};
 
-use asm_code::code::{Code, Grid, Span};
-use asm_code::rule_code::Place;
+use asm_code::code::{Code, CodeRange, Grid};
+use asm_code::rule_code::TargetCode;
 use asm_state::function::FunctionKind;
 use asm_state::signature::Signature;
 use asm_state::universe::Universe;
 use asm_state::word::Word;
 use std::alloc::{AllocError, Global};
 
-/// A function has at most so many arguments.
-const FEW: usize = 4;
+/// The most arguments that a function has.
+const MAX_ARGUMENTS: usize = 4;
 
 /// The code of a function without arguments.
 pub(crate) fn make_cell(alloc: Global, signature: &Signature, f: usize) -> Code
@@ -30,7 +30,7 @@ pub(crate) fn make_cell(alloc: Global, signature: &Signature, f: usize) -> Code
     if is_single(signature, f) {
         return Code::Cell(signature.first(f));
     }
-    Code::Held {
+    Code::FunctionAt {
         function: f,
         arguments: Vec::new(alloc),
     }
@@ -56,7 +56,7 @@ pub(crate) fn make_row(
     }
     let mut arguments = Vec::with_capacity(alloc, 1)?;
     arguments.push(argument)?;
-    Ok(Code::Held {
+    Ok(Code::FunctionAt {
         function: f,
         arguments,
     })
@@ -84,20 +84,20 @@ pub(crate) fn make_grid(
     let mut arguments = Vec::with_capacity(alloc, 2)?;
     arguments.push(row)?;
     arguments.push(column)?;
-    Ok(Code::Held {
+    Ok(Code::FunctionAt {
         function: f,
         arguments,
     })
 }
 
 /// The code of a function with any arguments. With more than a domain has it is undef.
-pub(crate) fn make_held(signature: &Signature, f: usize, arguments: Vec<Code>) -> Code
+pub(crate) fn make_function(signature: &Signature, f: usize, arguments: Vec<Code>) -> Code
     requires fits { Fits signature.now }
     requires known { f < functions_of signature.now }
     ensures { IsRead signature.now f (codes_of (map code_of arguments.items)) (code_of result) }
 {
-    if arguments.len() <= FEW {
-        return Code::Held {
+    if arguments.len() <= MAX_ARGUMENTS {
+        return Code::FunctionAt {
             function: f,
             arguments,
         };
@@ -106,33 +106,33 @@ pub(crate) fn make_held(signature: &Signature, f: usize, arguments: Vec<Code>) -
 }
 
 /// The location of a controlled function without arguments.
-pub(crate) fn cell_place(alloc: Global, signature: &Signature, f: usize) -> Place
+pub(crate) fn cell_target(alloc: Global, signature: &Signature, f: usize) -> TargetCode
     requires fits { Fits signature.now }
     requires kind { HasKind Controlled signature.now f }
-    ensures { IsLocated signature.now f tree.no_codes (place_of result) }
+    ensures { IsLocated signature.now f tree.no_codes (target_code_of result) }
 {
     if is_single(signature, f) {
-        return Place::Cell(signature.first(f));
+        return TargetCode::Cell(signature.first(f));
     }
-    Place::Held {
+    TargetCode::FunctionAt {
         function: f,
         arguments: Vec::new(alloc),
     }
 }
 
 /// The location of a controlled function with one argument.
-pub(crate) fn row_place(
+pub(crate) fn row_target(
     alloc: Global,
     signature: &Signature,
     f: usize,
     argument: Code,
-) -> Result<Place, AllocError>
+) -> Result<TargetCode, AllocError>
     requires fits { Fits signature.now }
     requires kind { HasKind Controlled signature.now f }
-    ensures { IfOk result (λ to. IsLocated signature.now f (tree.code_then (code_of argument) tree.no_codes) (place_of to)) }
+    ensures { IfOk result (λ to. IsLocated signature.now f (tree.code_then (code_of argument) tree.no_codes) (target_code_of to)) }
 {
     if let Some((first, over)) = row_of(signature, f) {
-        return Ok(Place::Row {
+        return Ok(TargetCode::Row {
             first,
             over,
             argument: Box::new(alloc, argument)?,
@@ -140,26 +140,26 @@ pub(crate) fn row_place(
     }
     let mut arguments = Vec::with_capacity(alloc, 1)?;
     arguments.push(argument)?;
-    Ok(Place::Held {
+    Ok(TargetCode::FunctionAt {
         function: f,
         arguments,
     })
 }
 
 /// The location of a controlled function with two arguments.
-pub(crate) fn grid_place(
+pub(crate) fn grid_target(
     alloc: Global,
     signature: &Signature,
     f: usize,
     row: Code,
     column: Code,
-) -> Result<Place, AllocError>
+) -> Result<TargetCode, AllocError>
     requires fits { Fits signature.now }
     requires kind { HasKind Controlled signature.now f }
-    ensures { IfOk result (λ to. IsLocated signature.now f (tree.code_then (code_of row) (tree.code_then (code_of column) tree.no_codes)) (place_of to)) }
+    ensures { IfOk result (λ to. IsLocated signature.now f (tree.code_then (code_of row) (tree.code_then (code_of column) tree.no_codes)) (target_code_of to)) }
 {
     if let Some(place) = grid_of(signature, f) {
-        return Ok(Place::Grid {
+        return Ok(TargetCode::Grid {
             place,
             row: Box::new(alloc, row)?,
             column: Box::new(alloc, column)?,
@@ -168,7 +168,7 @@ pub(crate) fn grid_place(
     let mut arguments = Vec::with_capacity(alloc, 2)?;
     arguments.push(row)?;
     arguments.push(column)?;
-    Ok(Place::Held {
+    Ok(TargetCode::FunctionAt {
         function: f,
         arguments,
     })
@@ -176,13 +176,13 @@ pub(crate) fn grid_place(
 
 /// The number of the first location of a controlled function with one argument, and the codes of
 /// the argument's values.
-fn row_of(signature: &Signature, f: usize) -> Option<(usize, Span)>
+fn row_of(signature: &Signature, f: usize) -> Option<(usize, CodeRange)>
     requires fits { Fits signature.now }
     requires known { f < functions_of signature.now }
     ensures { IfSome result (λ r. IsRowOf signature.now f r.0 r.1) }
 {
     let universe = row_universe(signature, f)?;
-    let over = span_of(signature.universe(universe));
+    let over = code_range_of(signature.universe(universe));
     Some((signature.first(f), over))
 }
 
@@ -195,16 +195,16 @@ fn grid_of(signature: &Signature, f: usize) -> Option<Grid>
     let (rows, columns) = grid_universes(signature, f)?;
     Some(Grid {
         first: signature.first(f),
-        rows: span_of(signature.universe(rows)),
-        columns: span_of(signature.universe(columns)),
+        rows: code_range_of(signature.universe(rows)),
+        columns: code_range_of(signature.universe(columns)),
     })
 }
 
 /// The codes of a universe's values, which follow each other.
-fn span_of(universe: &Universe) -> Span
-    ensures { IsSpan result universe.now }
+fn code_range_of(universe: &Universe) -> CodeRange
+    ensures { IsCodeRange result universe.now }
 {
-    Span {
+    CodeRange {
         low: universe.first_code(),
         count: universe.size(),
     }

@@ -7,10 +7,10 @@ ghost use Rattle.asm_state.specs.Signature.{Shape};
 ghost use Rattle.asm_state.specs.declared.operation.Op.TheVariants.{Remainder};
 ghost use Rattle.asm_state.specs.declared.value.Value.TheVariants.{Number as Whole};
 ghost use Rattle.asm_meaning.specs.Value.{Reading};
-ghost use Rattle.asm_code.specs.CodeTree as tree;
-ghost use Rattle.asm_code.specs.CodeViews.{code_of, codes_of};
-ghost use Rattle.asm_code.specs.Readings.{reading};
-ghost use Rattle.asm_code.specs.Sound.{IsSound};
+ghost use Rattle.asm_code.specs.code.CodeTree as tree;
+ghost use Rattle.asm_code.specs.code.CodeViews.{code_of, codes_of};
+ghost use Rattle.asm_code.specs.code.Readings.{reading};
+ghost use Rattle.asm_code.specs.code.SoundCodes.{IsSound};
 
 use asm_code::code::Code;
 use asm_code::modulus::Modulus;

@@ -3,29 +3,29 @@ ghost use Rattle.std.specs.Prelude.{◌≡◌, ◌≤◌, ◌+◌, ◌^◌, IfOk
 ghost use Rattle.std.specs.List.{position};
 ghost use Rattle.std.specs.Option.{ForSome};
 ghost use Rattle.asm_syntax.specs.Tree as tree;
-ghost use Rattle.asm_meaning.specs.Meant.{text_of};
+ghost use Rattle.asm_meaning.specs.code.MeantTrees.{text_of};
 ghost use Rattle.asm_meaning.specs.Program.{is_name};
-ghost use Rattle.asm_resolve.specs.Slots.{AreFirst, called_slots, found_from, position_of, value_slot};
+ghost use Rattle.asm_resolve.specs.code.Slots.{AreFirst, called_slots, found_from, position_of, value_slot};
 
 use asm_syntax::name::Name;
 use std::alloc::{AllocError, Global};
 use std::collections::BTreeMap;
 
-/// So many names are looked through one by one.
-const FEW: usize = 8;
+/// The most names that are looked through one by one.
+const MAX_SCANNED: usize = 8;
 
-/// The parameters of a body, behind `result` where a call has a target.
+/// The parameters of a body, after `result` if a call has a target.
 #[derive(Drop)]
 pub struct Parameters<'a> {
     pub answers: bool,
     pub names: &'a [Name],
-    /// Where the first of each text stands, if there are more than a few names.
+    /// Where the first of each text is, if there are more than a few names.
     positions: Option<BTreeMap<Vec<u8>, usize>>,
     ghost first: { ForSome positions (λ m. AreFirst (map text_of names.now) m.entries) },
 }
 
 impl<'a> Parameters<'a> {
-    ghost use Rattle.asm_resolve.specs.Scopes.{slots_in};
+    ghost use Rattle.asm_resolve.specs.code.Scopes.{slots_in};
 
     /// These parameters, for calls with a target or without.
     pub fn new(
@@ -43,7 +43,7 @@ impl<'a> Parameters<'a> {
         })
     }
 
-    /// The position of a name behind so many others, and whether the name stands for a location
+    /// The position of a name after `before` others, and whether the name stands for a location
     /// there.
     pub(crate) fn find(
         &self,
@@ -64,8 +64,8 @@ impl<'a> Parameters<'a> {
     }
 }
 
-/// The position so many behind another one. It is refused where 64 bits can't hold it: no memory
-/// has so many names.
+/// The position `count` after another one. It is refused if 64 bits can't hold it: no memory has
+/// that many names.
 pub(crate) fn behind(position: usize, count: usize) -> Result<usize, AllocError>
     ensures position { IfOk result (λ n. n ≡ position + count) }
     ensures refused { IfErr result (λ e. 2 ^ 64 ≤ position + count) }
@@ -73,7 +73,7 @@ pub(crate) fn behind(position: usize, count: usize) -> Result<usize, AllocError>
     position.checked_add(count).ok_or(AllocError)
 }
 
-/// The position of a name among parameters, where the first of them has this one.
+/// The position of a name among parameters, when the first of them has this one.
 fn find_among(
     first: usize,
     names: &[Name],
@@ -96,7 +96,7 @@ fn find_among(
 fn positions(alloc: Global, names: &[Name]) -> Result<Option<BTreeMap<Vec<u8>, usize>>, AllocError>
     ensures { IfOk result (λ o. ForSome o (λ m. AreFirst (map text_of names.now) m.entries)) }
 {
-    if names.len() <= FEW {
+    if names.len() <= MAX_SCANNED {
         return Ok(None);
     }
     let positions = first_positions(alloc, names)?;
@@ -136,7 +136,7 @@ fn index_of(
 fn index_among(names: &[Name], name: &Name) -> Option<usize>
     ensures { result ≡ position (λ it. is_name (text_of it) name.now.text) names.now }
 {
-    names.iter().position(|it| it.text.is(&name.text))
+    names.iter().position(|it| it.text.is_same_text(&name.text))
 }
 
 /// Whether the name is the word `result`.

@@ -2,22 +2,22 @@
 ghost use Rattle.std.specs.Prelude.{◌≡◌, ◌<◌, [], length, IfOk, IfSome, IfNone, Some, None, OnOk};
 ghost use Rattle.std.specs.Arc.{arc_value};
 ghost use Rattle.asm_state.specs.Signature.{functions_of};
-ghost use Rattle.asm_syntax.specs.Views.{spec_of};
+ghost use Rattle.asm_syntax.specs.code.Views.{spec_of};
 ghost use Rattle.asm_check.specs.Numbers.{derived_of, named};
 ghost use Rattle.asm_check.specs.Shapes.{shape_of};
-ghost use Rattle.asm_check.specs.declared.checked.Named.TheVariants as number;
+ghost use Rattle.asm_check.specs.declared.checked.NameNumber.TheVariants as number;
 ghost use Rattle.asm_meaning.specs.Declarations.{program_of, universe_number};
 ghost use Rattle.asm_meaning.specs.Value as spec;
-ghost use Rattle.asm_code.specs.CodeViews.{code_of};
-ghost use Rattle.asm_resolve.specs.Slots.{position_of};
-ghost use Rattle.asm_resolve.specs.Scopes.{AreBodies, IsBody, all_resolved, chain_resolved, inner_resolved, names_of, named_resolved, term_resolved};
+ghost use Rattle.asm_code.specs.code.CodeViews.{code_of};
+ghost use Rattle.asm_resolve.specs.code.Slots.{position_of};
+ghost use Rattle.asm_resolve.specs.code.Scopes.{AreResolvedBodies, IsBody, all_resolved, chain_resolved, inner_resolved, names_of, named_resolved, term_resolved};
 
-use crate::bodies::{keep, known, shared};
-use crate::functions::{make_cell, make_grid, make_held, make_row};
+use crate::bodies::{keep, known_body, shared};
+use crate::functions::{make_cell, make_function, make_grid, make_row};
 use crate::make::{make_derived, make_link};
 use crate::parameters::Parameters;
 use crate::scope::{Scope, position};
-use asm_check::{Checked, Named};
+use asm_check::{Checked, NameNumber};
 use asm_code::code::Code;
 use asm_state::element::Element;
 use asm_state::operation::Op;
@@ -38,9 +38,9 @@ pub fn resolve<'e>(
     scope: &'e Scope<'e>,
     term: &'e Term,
 ) -> Result<Code, AllocError>
-    requires bodies { AreBodies (spec_of checked.now.spec) bodies.old.items }
+    requires bodies { AreResolvedBodies (spec_of checked.now.spec) bodies.old.items }
     ensures resolved { IfOk result (term_resolved checked.now scope.now term.now) }
-    ensures bodies { OnOk result (AreBodies (spec_of checked.now.spec) bodies.new.items) }
+    ensures bodies { OnOk result (AreResolvedBodies (spec_of checked.now.spec) bodies.new.items) }
 {
     match term {
         Term::Constant(literal) => Ok(Code::Constant(literal.value())),
@@ -80,7 +80,7 @@ pub fn resolve<'e>(
                 Ok(Code::Every { over, test })
             }
         },
-        Term::Answer(name) => resolve_name(alloc, checked, bodies, scope, name, &[]),
+        Term::Result(name) => resolve_name(alloc, checked, bodies, scope, name, &[]),
     }
 }
 
@@ -94,9 +94,9 @@ fn resolve_within<'e>(
     name: &'e Name,
     term: &'e Term,
 ) -> Result<Box<Code>, AllocError>
-    requires bodies { AreBodies (spec_of checked.now.spec) bodies.old.items }
+    requires bodies { AreResolvedBodies (spec_of checked.now.spec) bodies.old.items }
     ensures resolved { IfOk result (λ b. inner_resolved checked.now scope.now name.now.text term.now b.value) }
-    ensures bodies { OnOk result (AreBodies (spec_of checked.now.spec) bodies.new.items) }
+    ensures bodies { OnOk result (AreResolvedBodies (spec_of checked.now.spec) bodies.new.items) }
 {
     let inner = Scope::Within { name, outer: scope };
     let code = resolve(alloc, checked, bodies, &inner, term)?;
@@ -113,9 +113,9 @@ fn resolve_chain<'e>(
     first: &'e Term,
     rest: &'e [(Op, Term)],
 ) -> Result<Code, AllocError>
-    requires bodies { AreBodies (spec_of checked.now.spec) bodies.old.items }
+    requires bodies { AreResolvedBodies (spec_of checked.now.spec) bodies.old.items }
     ensures resolved { IfOk result (chain_resolved checked.now scope.now first.now rest.now) }
-    ensures bodies { OnOk result (AreBodies (spec_of checked.now.spec) bodies.new.items) }
+    ensures bodies { OnOk result (AreResolvedBodies (spec_of checked.now.spec) bodies.new.items) }
 {
     if rest.len() == 1 {
         let (operation, right) = &rest[0];
@@ -145,27 +145,27 @@ fn resolve_name<'e>(
     name: &'e Name,
     arguments: &'e [Term],
 ) -> Result<Code, AllocError>
-    requires bodies { AreBodies (spec_of checked.now.spec) bodies.old.items }
+    requires bodies { AreResolvedBodies (spec_of checked.now.spec) bodies.old.items }
     ensures resolved { IfOk result (named_resolved checked.now scope.now name.now.text arguments.now) }
-    ensures bodies { OnOk result (AreBodies (spec_of checked.now.spec) bodies.new.items) }
+    ensures bodies { OnOk result (AreResolvedBodies (spec_of checked.now.spec) bodies.new.items) }
 {
     if let Some(i) = position(scope, name)? {
         return Ok(Code::Local(i));
     }
     match checked.named_text(&name.text) {
-        Some(Named::Function(f)) => {
+        Some(NameNumber::Function(f)) => {
             resolve_function(alloc, checked, bodies, scope, name, f, arguments)
         }
-        Some(Named::Element(e)) => Ok(Code::Constant(Word::of(Value::Element(Element {
+        Some(NameNumber::Element(e)) => Ok(Code::Constant(Word::of(Value::Element(Element {
             index: e as u32,
         })))),
-        Some(Named::Derived(d)) => {
+        Some(NameNumber::Derived(d)) => {
             let body = resolve_body(alloc, checked, bodies, d)?;
             let arguments = resolve_all(alloc, checked, bodies, scope, name, arguments)?;
             make_derived(alloc, body, arguments)
         }
-        Some(Named::Universe(_)) => Ok(Code::Constant(Word::undef())),
-        Some(Named::Rule(_)) => Ok(Code::Constant(Word::undef())),
+        Some(NameNumber::Universe(_)) => Ok(Code::Constant(Word::undef())),
+        Some(NameNumber::Rule(_)) => Ok(Code::Constant(Word::undef())),
         None => Ok(Code::Constant(Word::undef())),
     }
 }
@@ -181,12 +181,12 @@ fn resolve_function<'e>(
     f: usize,
     arguments: &'e [Term],
 ) -> Result<Code, AllocError>
-    requires bodies { AreBodies (spec_of checked.now.spec) bodies.old.items }
+    requires bodies { AreResolvedBodies (spec_of checked.now.spec) bodies.old.items }
     requires free { position_of (names_of scope.now) name.now.text ≡ None }
     requires stands { Some (number.Function f) ≡ named (spec_of checked.now.spec) name.now.text }
     requires known { f < functions_of (shape_of (spec_of checked.now.spec)) }
     ensures resolved { IfOk result (named_resolved checked.now scope.now name.now.text arguments.now) }
-    ensures bodies { OnOk result (AreBodies (spec_of checked.now.spec) bodies.new.items) }
+    ensures bodies { OnOk result (AreResolvedBodies (spec_of checked.now.spec) bodies.new.items) }
 {
     let signature = checked.signature();
     if arguments.is_empty() {
@@ -202,7 +202,7 @@ fn resolve_function<'e>(
         return make_grid(alloc, signature, f, row, column);
     }
     let arguments = resolve_all(alloc, checked, bodies, scope, name, arguments)?;
-    Ok(make_held(signature, f, arguments))
+    Ok(make_function(signature, f, arguments))
 }
 
 /// The codes of the arguments of a name.
@@ -215,9 +215,9 @@ pub(crate) fn resolve_all<'e>(
     name: &'e Name,
     arguments: &'e [Term],
 ) -> Result<Vec<Code>, AllocError>
-    requires bodies { AreBodies (spec_of checked.now.spec) bodies.old.items }
+    requires bodies { AreResolvedBodies (spec_of checked.now.spec) bodies.old.items }
     ensures resolved { IfOk result (λ cs. all_resolved checked.now scope.now arguments.now cs.items) }
-    ensures bodies { OnOk result (AreBodies (spec_of checked.now.spec) bodies.new.items) }
+    ensures bodies { OnOk result (AreResolvedBodies (spec_of checked.now.spec) bodies.new.items) }
 {
     let mut codes = Vec::with_capacity(alloc, arguments.len())?;
     for argument in arguments {
@@ -234,12 +234,12 @@ pub(crate) fn resolve_body<'e>(
     bodies: &mut Vec<Option<Arc<Code, Global>>>,
     d: usize,
 ) -> Result<Arc<Code, Global>, AllocError>
-    requires bodies { AreBodies (spec_of checked.now.spec) bodies.old.items }
+    requires bodies { AreResolvedBodies (spec_of checked.now.spec) bodies.old.items }
     requires known { d < length (derived_of (spec_of checked.now.spec)) }
     ensures body { IfOk result (λ c. IsBody (spec_of checked.now.spec) d (code_of (arc_value c))) }
-    ensures bodies { OnOk result (AreBodies (spec_of checked.now.spec) bodies.new.items) }
+    ensures bodies { OnOk result (AreResolvedBodies (spec_of checked.now.spec) bodies.new.items) }
 {
-    if let Some(body) = known(bodies.as_slice(), d)? {
+    if let Some(body) = known_body(bodies.as_slice(), d)? {
         return Ok(body);
     }
     let (names, term) = checked.derived(d);
@@ -265,11 +265,11 @@ pub(crate) fn universe_numbered(checked: &Checked, name: &Name) -> Option<usize>
 }
 
 /// The number of a universe.
-fn number_of_universe(it: Option<Named>) -> Option<usize>
+fn number_of_universe(it: Option<NameNumber>) -> Option<usize>
     ensures { result ≡ universe_number it }
 {
     match it {
-        Some(Named::Universe(n)) => Some(n),
+        Some(NameNumber::Universe(n)) => Some(n),
         _ => None,
     }
 }

@@ -3,32 +3,33 @@
 //! The body of a rule is resolved for the parameters that a call binds, so each name that has a
 //! position is bound in each call. The pass refuses nothing: only memory can be short. It ends
 //! because ranks fall with calls and uses (`declared_ranks`, `tree_weights`). The proof has one
-//! lemma for each form of term (`proofs/Resolving.antt`) and of rule (`proofs/RuleResolving.antt`).
+//! lemma for each form of term (`proofs/TermPasses.antt`) and of rule
+//! (`proofs/RuleResolving.antt`).
 ghost use Rattle.std.specs.Prelude.{◌≡◌, ◌<◌, List, Some, None, IfOk, IfSome, IfNone, OnOk, length, take};
 ghost use Rattle.std.specs.Arc.{arc_value};
 ghost use Rattle.asm_state.specs.declared.function.FunctionKind.TheVariants.{Controlled};
 ghost use Rattle.asm_state.specs.declared.value.Value.{Value as ValueHere};
 ghost use Rattle.asm_state.specs.Signature.{HasKind, domain_of};
-ghost use Rattle.asm_syntax.specs.Views.{spec_of};
+ghost use Rattle.asm_syntax.specs.code.Views.{spec_of};
 ghost use Rattle.asm_check.specs.Numbers.{named, rules_of};
 ghost use Rattle.asm_check.specs.Shapes.{shape_of};
-ghost use Rattle.asm_check.specs.declared.checked.Named.TheVariants as number;
+ghost use Rattle.asm_check.specs.declared.checked.NameNumber.TheVariants as number;
 ghost use Rattle.asm_meaning.specs.Declarations.{program_of, rule_number};
 ghost use Rattle.asm_meaning.specs.Program as declared;
 ghost use Rattle.asm_meaning.specs.Targets.{location_of};
-ghost use Rattle.asm_code.specs.RuleViews as views;
-ghost use Rattle.asm_resolve.specs.RuleScopes.{AreKnown, IsRuleBody, assign_resolved, call_resolved, choose_resolved, forall_resolved, other_resolved, parts_resolved, place_resolved, rule_resolved, target_resolved, test_resolved, while_resolved};
-ghost use Rattle.asm_resolve.specs.Scopes.{slots_of};
-ghost use Rattle.asm_resolve.specs.Slots as slots;
+ghost use Rattle.asm_code.specs.code.RuleViews as views;
+ghost use Rattle.asm_resolve.specs.code.RuleScopes.{AreKnown, IsRuleBody, assign_resolved, call_resolved, choose_resolved, forall_resolved, other_resolved, parts_resolved, named_target_resolved, rule_resolved, target_resolved, test_resolved, while_resolved};
+ghost use Rattle.asm_resolve.specs.code.Scopes.{slots_of};
+ghost use Rattle.asm_resolve.specs.code.Slots as slots;
 
 use crate::bodies::{Bodies, RuleBody, keep_rule, known_rule, shared_rule};
-use crate::functions::{cell_place, grid_place, row_place};
+use crate::functions::{cell_target, grid_target, row_target};
 use crate::parameters::Parameters;
 use crate::resolve::{resolve, resolve_all, universe_numbered};
-use crate::scope::{Scope, answer_position};
-use asm_check::{Checked, Named};
+use crate::scope::{Scope, result_position};
+use asm_check::{Checked, NameNumber};
 use asm_code::code::Code;
-use asm_code::rule_code::{Place, RuleCode};
+use asm_code::rule_code::{RuleCode, TargetCode};
 use asm_state::function::FunctionKind;
 use asm_state::word::Word;
 use asm_syntax::name::Name;
@@ -152,7 +153,7 @@ fn resolve_forall<'e>(
     Ok(RuleCode::Forall { over, test, body })
 }
 
-/// The code of a rule for one candidate, or of another one where there is none.
+/// The code of a rule for one candidate, or of another one if there is none.
 #[cycle(resolve_rule)]
 fn resolve_choose<'e>(
     alloc: Global,
@@ -189,7 +190,7 @@ fn resolve_choose<'e>(
     })
 }
 
-/// The code of turns behind a condition.
+/// The code of turns under a condition.
 #[cycle(resolve_rule)]
 fn resolve_while<'e>(
     alloc: Global,
@@ -300,7 +301,8 @@ fn resolve_call<'e>(
     })
 }
 
-/// Resolves the body of a rule for a call with a target or without, and with so many arguments.
+/// Resolves the body of a rule for a call with a target or without, and with that many
+/// arguments.
 pub(crate) fn resolve_named_rule<'e>(
     alloc: Global,
     checked: &'e Checked,
@@ -321,16 +323,16 @@ pub(crate) fn resolve_named_rule<'e>(
 }
 
 /// The number of a rule.
-fn number_of_rule(it: Option<Named>) -> Option<usize>
+fn number_of_rule(it: Option<NameNumber>) -> Option<usize>
     ensures { result ≡ rule_number it }
 {
     match it {
-        Some(Named::Rule(r)) => Some(r),
+        Some(NameNumber::Rule(r)) => Some(r),
         _ => None,
     }
 }
 
-/// The code of the body of the rule with this name and number, where a call binds so many
+/// The code of the body of the rule with this name and number, for a call that binds `bound`
 /// parameters, and has a target or none.
 #[cycle(resolve_rule)]
 fn resolve_rule_body<'e>(
@@ -365,7 +367,7 @@ fn resolve_rule_body<'e>(
     Ok(body)
 }
 
-/// So many of the names, or all where there are fewer.
+/// The first `count` of the names, or all if there are fewer.
 fn first_of<'a>(names: &'a [Name], count: usize) -> &'a [Name]
     ensures { result.now ≡ take count names.now }
 {
@@ -410,7 +412,7 @@ fn resolve_assign<'e>(
     ensures resolved { IfOk result (assign_resolved checked.now scope.now name.now.text arguments.now value.now) }
     ensures known { OnOk result (AreKnown (spec_of checked.now.spec) known.new) }
 {
-    match resolve_place(alloc, checked, known, scope, name, arguments)? {
+    match resolve_named_target(alloc, checked, known, scope, name, arguments)? {
         None => Ok(RuleCode::Skip),
         Some(place) => {
             let value = resolve(alloc, checked, &mut known.terms, scope, value)?;
@@ -419,21 +421,21 @@ fn resolve_assign<'e>(
     }
 }
 
-/// Where a call's answer goes.
+/// Where a call's result goes.
 fn resolve_target<'e>(
     alloc: Global,
     checked: &'e Checked,
     known: &mut Bodies,
     scope: &'e Scope<'e>,
     target: &'e Option<Target>,
-) -> Result<Option<Place>, AllocError>
+) -> Result<Option<TargetCode>, AllocError>
     requires known { AreKnown (spec_of checked.now.spec) known.old }
     ensures resolved { IfOk result (target_resolved checked.now scope.now target.now) }
     ensures known { OnOk result (AreKnown (spec_of checked.now.spec) known.new) }
 {
     match target {
         None => Ok(None),
-        Some(target) => resolve_place(
+        Some(target) => resolve_named_target(
             alloc,
             checked,
             known,
@@ -445,20 +447,20 @@ fn resolve_target<'e>(
 }
 
 /// The location that a name with arguments stands for, if it stands for one.
-fn resolve_place<'e>(
+fn resolve_named_target<'e>(
     alloc: Global,
     checked: &'e Checked,
     known: &mut Bodies,
     scope: &'e Scope<'e>,
     name: &'e Name,
     arguments: &'e [Term],
-) -> Result<Option<Place>, AllocError>
+) -> Result<Option<TargetCode>, AllocError>
     requires known { AreKnown (spec_of checked.now.spec) known.old }
-    ensures resolved { IfOk result (place_resolved checked.now scope.now name.now.text arguments.now) }
+    ensures resolved { IfOk result (named_target_resolved checked.now scope.now name.now.text arguments.now) }
     ensures known { OnOk result (AreKnown (spec_of checked.now.spec) known.new) }
 {
-    if let Some(i) = answer_position(scope, name)? {
-        return Ok(Some(Place::Answer(i)));
+    if let Some(i) = result_position(scope, name)? {
+        return Ok(Some(TargetCode::ResultAt(i)));
     }
     let Some(function) = controlled(checked, name) else {
         return Ok(None);
@@ -476,30 +478,30 @@ fn resolve_located<'e>(
     name: &'e Name,
     f: usize,
     arguments: &'e [Term],
-) -> Result<Place, AllocError>
+) -> Result<TargetCode, AllocError>
     requires known { AreKnown (spec_of checked.now.spec) known.old }
-    requires free { slots.answer_position (slots_of scope.now) name.now.text ≡ None }
+    requires free { slots.result_position (slots_of scope.now) name.now.text ≡ None }
     requires stands { declared.declared (program_of (spec_of checked.now.spec)) name.now.text ≡ Some (declared.Controlled f (domain_of (shape_of (spec_of checked.now.spec)) f)) }
     requires kind { HasKind Controlled (shape_of (spec_of checked.now.spec)) f }
-    ensures resolved { IfOk result (λ to. place_resolved checked.now scope.now name.now.text arguments.now (Some to)) }
+    ensures resolved { IfOk result (λ to. named_target_resolved checked.now scope.now name.now.text arguments.now (Some to)) }
     ensures known { OnOk result (AreKnown (spec_of checked.now.spec) known.new) }
 {
     let signature = checked.signature();
     let terms = &mut known.terms;
     if arguments.is_empty() {
-        return Ok(cell_place(alloc, signature, f));
+        return Ok(cell_target(alloc, signature, f));
     }
     if arguments.len() == 1 {
         let argument = resolve(alloc, checked, terms, scope, &arguments[0])?;
-        return row_place(alloc, signature, f, argument);
+        return row_target(alloc, signature, f, argument);
     }
     if arguments.len() == 2 {
         let row = resolve(alloc, checked, terms, scope, &arguments[0])?;
         let column = resolve(alloc, checked, terms, scope, &arguments[1])?;
-        return grid_place(alloc, signature, f, row, column);
+        return grid_target(alloc, signature, f, row, column);
     }
     let arguments = resolve_all(alloc, checked, terms, scope, name, arguments)?;
-    Ok(Place::Held {
+    Ok(TargetCode::FunctionAt {
         function: f,
         arguments,
     })
@@ -512,7 +514,7 @@ fn controlled(checked: &Checked, name: &Name) -> Option<usize>
     ensures none { IfNone result ((vs : List ValueHere) → location_of (declared.declared (program_of (spec_of checked.now.spec)) name.now.text) vs ≡ None) }
 {
     match checked.named_text(&name.text) {
-        Some(Named::Function(f)) => match checked.signature().function(f).kind {
+        Some(NameNumber::Function(f)) => match checked.signature().function(f).kind {
             FunctionKind::Controlled => Some(f),
             FunctionKind::Static => None,
         },

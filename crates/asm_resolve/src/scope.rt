@@ -3,9 +3,9 @@
 //! A scope is linked as a frame is. A use of a name takes one step for each binder inside of the
 //! name's own; among more than eight parameters it is then looked up in a map (`Parameters`).
 ghost use Rattle.std.specs.Prelude.{◌≡◌, IfOk};
-ghost use Rattle.asm_resolve.specs.Scopes.{names_of, slots_of};
-ghost use Rattle.asm_resolve.specs.Slots as slots;
-ghost use Rattle.asm_resolve.specs.Slots.{found_from};
+ghost use Rattle.asm_resolve.specs.code.Scopes.{names_of, slots_of};
+ghost use Rattle.asm_resolve.specs.code.Slots as slots;
+ghost use Rattle.asm_resolve.specs.code.Slots.{found_from};
 
 use crate::parameters::{Parameters, behind};
 use asm_syntax::name::Name;
@@ -35,12 +35,12 @@ pub(crate) fn position<'a>(scope: &'a Scope<'a>, name: &Name) -> Result<Option<u
     }
 }
 
-/// The same where the first of its text stands for a location.
-pub(crate) fn answer_position<'a>(
+/// The same if the first of its text stands for a location.
+pub(crate) fn result_position<'a>(
     scope: &'a Scope<'a>,
     name: &Name,
 ) -> Result<Option<usize>, AllocError>
-    ensures { IfOk result (λ o. o ≡ slots.answer_position (slots_of scope.now) name.now.text) }
+    ensures { IfOk result (λ o. o ≡ slots.result_position (slots_of scope.now) name.now.text) }
 {
     match find(scope, name)? {
         None => Ok(None),
@@ -60,7 +60,7 @@ fn find<'a>(scope: &'a Scope<'a>, name: &Name) -> Result<Option<(usize, bool)>, 
     let mut rest = scope;
     let mut before = 0;
     while let Scope::Within { name: inner, outer } = rest {
-        if inner.text.is(&name.text) {
+        if inner.text.is_same_text(&name.text) {
             return Ok(Some((before, false)));
         }
         before = behind(before, 1)?;

@@ -1,18 +1,18 @@
 //! The bodies that a rule uses, resolved before it. The pass goes down into a body where it first
-//! meets its use. Where each body that a body uses is known by then, it nests no deeper than the
+//! meets its use. If each body that a body uses is known by then, it nests no deeper than the
 //! text of one body does.
 //!
 //! The uses wait in a list on the heap, not in nested calls. A use that the pass still meets is
 //! resolved already, or is one more body of a rule that is called in two ways, so the pass nests no
 //! deeper than two bodies do. The drop of a code does go down through all bodies.
 ghost use Rattle.std.specs.Prelude.{OnOk};
-ghost use Rattle.asm_syntax.specs.Views.{spec_of};
-ghost use Rattle.asm_resolve.specs.RuleScopes.{AreKnown};
+ghost use Rattle.asm_syntax.specs.code.Views.{spec_of};
+ghost use Rattle.asm_resolve.specs.code.RuleScopes.{AreKnown};
 
 use crate::bodies::Bodies;
 use crate::resolve::resolve_body;
 use crate::resolve_rule::resolve_named_rule;
-use asm_check::{Checked, Named};
+use asm_check::{Checked, NameNumber};
 use asm_syntax::name::Name;
 use asm_syntax::rule::{Rule, Target};
 use asm_syntax::term::Term;
@@ -20,11 +20,11 @@ use std::alloc::{AllocError, Global};
 
 /// A use of a body.
 #[derive(Clone, Copy)]
-enum Use<'e> {
+enum BodyUse<'e> {
     /// Of the derived function with this number.
     Derived(usize),
-    /// Of the rule with this name and number, by a call with a target or without, and with so many
-    /// arguments.
+    /// Of the rule with this name and number, by a call with a target or without, and with that
+    /// many arguments.
     Rule {
         name: &'e Name,
         number: usize,
@@ -35,17 +35,17 @@ enum Use<'e> {
 
 /// What is still to be resolved.
 #[derive(Drop)]
-struct Waiting<'e> {
+struct Unresolved<'e> {
     checked: &'e Checked,
     /// Whether the body of a derived function was looked through, by its number.
     terms: Vec<bool>,
     /// The same of rules.
     rules: Vec<bool>,
-    /// The last use is the next one. Whether its own uses stood behind it.
-    uses: Vec<(Use<'e>, bool)>,
+    /// The last use is the next one. Whether its own uses were after it.
+    uses: Vec<(BodyUse<'e>, bool)>,
 }
 
-/// Resolves the bodies that the rule uses, each behind those that it uses itself. It is no fault to
+/// Resolves the bodies that the rule uses, each after those that it uses itself. It is no fault to
 /// leave one out: the pass resolves it where it meets the use.
 pub(crate) fn resolve_used<'e>(
     alloc: Global,
@@ -56,7 +56,7 @@ pub(crate) fn resolve_used<'e>(
     requires { AreKnown (spec_of checked.now.spec) known.old }
     ensures { OnOk result (AreKnown (spec_of checked.now.spec) known.new) }
 {
-    let mut waiting = Waiting {
+    let mut waiting = Unresolved {
         checked,
         terms: vec![in alloc; false; checked.derived_functions()]?,
         rules: vec![in alloc; false; checked.rules()]?,
@@ -72,8 +72,8 @@ pub(crate) fn resolve_used<'e>(
             continue;
         }
         let is_new = match used {
-            Use::Derived(d) => is_new(&mut waiting.terms, d),
-            Use::Rule { number, .. } => is_new(&mut waiting.rules, number),
+            BodyUse::Derived(d) => is_new(&mut waiting.terms, d),
+            BodyUse::Rule { number, .. } => is_new(&mut waiting.rules, number),
         };
         if is_new {
             waiting.uses.push((used, true))?;
@@ -88,19 +88,19 @@ fn resolve_use<'e>(
     alloc: Global,
     checked: &'e Checked,
     known: &mut Bodies,
-    used: Use<'e>,
+    used: BodyUse<'e>,
 ) -> Result<(), AllocError>
     requires { AreKnown (spec_of checked.now.spec) known.old }
     ensures { OnOk result (AreKnown (spec_of checked.now.spec) known.new) }
 {
     match used {
-        Use::Derived(d) => {
+        BodyUse::Derived(d) => {
             if d < checked.derived_functions() {
                 resolve_body(alloc, checked, &mut known.terms, d)?;
             }
             Ok(())
         }
-        Use::Rule {
+        BodyUse::Rule {
             name,
             answers,
             arguments,
@@ -119,16 +119,16 @@ fn is_new(looked_through: &mut Vec<bool>, number: usize) -> bool {
 }
 
 /// Notes the uses in a body.
-fn open_use<'e>(waiting: &mut Waiting<'e>, used: Use<'e>) -> Result<(), AllocError> {
+fn open_use<'e>(waiting: &mut Unresolved<'e>, used: BodyUse<'e>) -> Result<(), AllocError> {
     let checked = waiting.checked;
     match used {
-        Use::Derived(d) => {
+        BodyUse::Derived(d) => {
             if d < checked.derived_functions() {
                 let (_names, term) = checked.derived(d);
                 meet_term(waiting, term)?;
             }
         }
-        Use::Rule { number, .. } => {
+        BodyUse::Rule { number, .. } => {
             if number < checked.rules() {
                 let (_names, rule) = checked.rule(number);
                 meet_rule(waiting, rule)?;
@@ -140,7 +140,7 @@ fn open_use<'e>(waiting: &mut Waiting<'e>, used: Use<'e>) -> Result<(), AllocErr
 
 /// Notes the uses in a rule.
 #[cycle(meet_rule)]
-fn meet_rule<'e>(waiting: &mut Waiting<'e>, rule: &'e Rule) -> Result<(), AllocError> {
+fn meet_rule<'e>(waiting: &mut Unresolved<'e>, rule: &'e Rule) -> Result<(), AllocError> {
     match rule {
         Rule::Skip => Ok(()),
         Rule::Assign {
@@ -197,7 +197,7 @@ fn meet_rule<'e>(waiting: &mut Waiting<'e>, rule: &'e Rule) -> Result<(), AllocE
 /// Notes those in another rule, if there is one.
 #[cycle(meet_rule)]
 fn meet_other<'e>(
-    waiting: &mut Waiting<'e>,
+    waiting: &mut Unresolved<'e>,
     rule: &'e Option<Box<Rule>>,
 ) -> Result<(), AllocError> {
     match rule {
@@ -208,7 +208,7 @@ fn meet_other<'e>(
 
 /// Notes a call of a rule, and the uses in its terms.
 fn meet_call<'e>(
-    waiting: &mut Waiting<'e>,
+    waiting: &mut Unresolved<'e>,
     target: &'e Option<Target>,
     name: &'e Name,
     arguments: &'e [Term],
@@ -217,8 +217,8 @@ fn meet_call<'e>(
         meet_terms(waiting, target.arguments.as_slice())?;
     }
     meet_terms(waiting, arguments)?;
-    if let Some(Named::Rule(number)) = waiting.checked.named_text(&name.text) {
-        let call = Use::Rule {
+    if let Some(NameNumber::Rule(number)) = waiting.checked.named_text(&name.text) {
+        let call = BodyUse::Rule {
             name,
             number,
             answers: target.is_some(),
@@ -230,7 +230,7 @@ fn meet_call<'e>(
 }
 
 /// Notes the uses in a condition, if there is one.
-fn meet_test<'e>(waiting: &mut Waiting<'e>, test: &'e Option<Term>) -> Result<(), AllocError> {
+fn meet_test<'e>(waiting: &mut Unresolved<'e>, test: &'e Option<Term>) -> Result<(), AllocError> {
     match test {
         Some(test) => meet_term(waiting, test),
         None => Ok(()),
@@ -239,12 +239,12 @@ fn meet_test<'e>(waiting: &mut Waiting<'e>, test: &'e Option<Term>) -> Result<()
 
 /// Notes the uses in a term.
 #[cycle(meet_term)]
-fn meet_term<'e>(waiting: &mut Waiting<'e>, term: &'e Term) -> Result<(), AllocError> {
+fn meet_term<'e>(waiting: &mut Unresolved<'e>, term: &'e Term) -> Result<(), AllocError> {
     match term {
-        Term::Constant(_) | Term::Answer(_) => Ok(()),
+        Term::Constant(_) | Term::Result(_) => Ok(()),
         Term::Named { name, arguments } => {
-            if let Some(Named::Derived(d)) = waiting.checked.named_text(&name.text) {
-                waiting.uses.push((Use::Derived(d), false))?;
+            if let Some(NameNumber::Derived(d)) = waiting.checked.named_text(&name.text) {
+                waiting.uses.push((BodyUse::Derived(d), false))?;
             }
             meet_terms(waiting, arguments.as_slice())
         }
@@ -262,7 +262,7 @@ fn meet_term<'e>(waiting: &mut Waiting<'e>, term: &'e Term) -> Result<(), AllocE
 
 /// Notes those in some terms.
 #[cycle(meet_term)]
-fn meet_terms<'e>(waiting: &mut Waiting<'e>, terms: &'e [Term]) -> Result<(), AllocError> {
+fn meet_terms<'e>(waiting: &mut Unresolved<'e>, terms: &'e [Term]) -> Result<(), AllocError> {
     for term in terms {
         meet_term(waiting, term)?;
     }

@@ -1,4 +1,4 @@
--- Refusals exclude one another, and runs.
+-- Free. Refusals exclude one another, and runs.
 use Rattle.std.proofs.Common.{◌≡◌, ℕ, nat_eq, cond, false, List, refl, sym, ap, subst, ◌∙◌}
 use Rattle.asm_syntax.specs.SourceTree.{Spec}
 use Rattle.asm_reader.specs.declared.error.ReadError.{ReadError}
@@ -16,7 +16,7 @@ use Rattle.asm_check.specs.Laws.{LeastIsOnly}
 use Rattle.asm_run.specs.declared.error.RunError.TheVariants as error
 use Rattle.asm_limits.specs.Limits.{are_in_range}
 use Rattle.asm_run.specs.Headline.{IsAccepted, IsFaulty}
-use Rattle.asm_run.specs.Exclusion.{OneNamedRefusal, NoRunBesideARefusal}
+use Rattle.asm_run.specs.code.Exclusion.{OneNamedRefusal, NoRunBesideARefusal}
 
 -- ---- kinds of faults have different numbers
 
@@ -55,7 +55,7 @@ same_error e f at number =
 module _ (one_tree : (text : List ℕ) (s t : Spec) → IsSpecification text s → IsSpecification text t → s ≡ t)
     (no_tree : (text : List ℕ) (s : Spec) (e : ReadError) → IsSpecification text s → ¬ IsRefusal text e)
     (no_script : (text : List ℕ) (s : Script) (e : ScriptError) → IsScript text s → ¬ IsScriptRefusal text e) where
-  -- no fault stands where there is none
+  -- a specification without faults isn't faulty
   faulty_or_faultless : (text : List ℕ) (e : CheckError) (s : Spec) → IsFaulty text e → IsSpecification text s → IsWellFormed s → ⊥
   faulty_or_faultless text e s h spelled faultless =
       let least : IsLeastFault s e.at (number_of e.kind) = subst (λ t. IsLeastFault t e.at (number_of e.kind)) (one_tree text h.0 s h.1 spelled) h.2 in

@@ -1,14 +1,14 @@
--- The functions of locations, and of faults.
+-- Free. The functions of locations, and of faults.
 use Rattle.std.proofs.Common.{◌≡◌, ℕ, ◌<◌, length, sym, subst}
 use Rattle.asm_state.specs.declared.location.Location as code
 use Rattle.asm_state.specs.Location.{function_of}
-use Rattle.asm_state.specs.CodeLocations.{location_of}
+use Rattle.asm_state.specs.code.CodeLocations.{location_of}
 use Rattle.asm_state.specs.Signature.{Shape, count_of, location_at}
 use Rattle.asm_syntax.specs.SourceTree.{Spec}
 use Rattle.asm_check.specs.Faults.{IsWellFormed}
 use Rattle.asm_check.specs.Numbers.{functions_of}
 use Rattle.asm_check.specs.Shapes.{shape_of}
-use Rattle.asm_run.proofs.Stepping.{function_below}
+use Rattle.asm_run.proofs.TextLemmas.StepText.{function_below}
 
 -- the function of a location that has a number
 pub location_function_below : (s : Spec) (shape : Shape) (location : code.Location) (n : ℕ) → IsWellFormed s → shape ≡ shape_of s → n < count_of shape → location_of location ≡ location_at shape n

@@ -1,4 +1,4 @@
--- What is written of the proper locations, and which function a location is of.
+-- Free. What is written of the proper locations, and which function a location is of.
 use Rattle.std.proofs.Common.{◌≡◌, ℕ, ◌+◌, ◌<◌, cond, List, [], get_or, All, Option, Some, None, inl, inr, refl, sym, ap, subst, ◌∙◌, arith}
 use Rattle.std.specs.List.{filter, flat_map, range_with_len}
 use Rattle.std.specs.List.Sorted.{IsStrictlyIncreasing}
@@ -11,14 +11,14 @@ use Rattle.asm_state.specs.declared.value.Value.{Value}
 use Rattle.asm_state.specs.declared.value.Value.TheVariants.{Undef}
 use Rattle.asm_state.specs.Location.{Location, Proper, Stray, function_of}
 use Rattle.asm_state.specs.Signature.{Shape, IsSound, functions_of, locations, count_of, location_at, number_at, IsLocationOf, state_of}
-use Rattle.asm_state.specs.SignatureLaws.{IsHeld}
+use Rattle.asm_state.specs.code.SignatureLaws.{IsHeld}
 use Rattle.asm_state.specs.Updates.{UpdateSet, Has, IsConsistent, Range, range_at, IsRangeOf, Clash, IsFirstFault, is_proper}
-use Rattle.asm_state.proofs.NumberedLocations.{number_laws}
-use Rattle.asm_state.proofs.Summaries.{summary_laws}
-use Rattle.asm_updates.specs.Entries.{Entries, range, AreEntries}
-use Rattle.asm_updates.specs.Stands.{Stands}
-use Rattle.asm_run.specs.Trace.{Names, update_text, set_text, content_text}
-use Rattle.asm_run.proofs.SortedLines.{lines_kept, lines_numbered, rise_within, lines_sorted}
+use Rattle.asm_state.proofs.LocationLemmas.NumberedLocations.{number_laws}
+use Rattle.asm_state.proofs.UpdateLemmas.Summaries.{summary_laws}
+use Rattle.asm_updates.specs.code.SummaryRanges.{SummaryRanges, range, AreRanges}
+use Rattle.asm_updates.specs.code.Stands.{Stands}
+use Rattle.asm_run.specs.Trace.{TraceNames, update_text, set_text, content_text}
+use Rattle.asm_run.proofs.TextLemmas.SortedLines.{lines_kept, lines_numbered, rise_within, lines_sorted}
 
 -- ---- the functions of locations
 
@@ -40,8 +40,9 @@ clash_inside shape U n r first =
 
 -- ---- the lines of a set
 
--- a consistent set has no update of a stray location, so that the line of each location is that of a proper one
-proper_line : (names : Names) (U : UpdateSet) (l : Location) → IsConsistent U → cond (is_proper l) (update_text names l (range_at U l)) [] ≡ update_text names l (range_at U l)
+-- a consistent set has no update of a stray location, so that the line of each location is that of
+-- a proper one
+proper_line : (names : TraceNames) (U : UpdateSet) (l : Location) → IsConsistent U → cond (is_proper l) (update_text names l (range_at U l)) [] ≡ update_text names l (range_at U l)
 proper_line names U (Proper f vs) consistent = refl
 proper_line names U (Stray f) consistent = ap (update_text names (Stray f)) (sym (absent (range_at U (Stray f)) (summary_laws.exists U (Stray f))))
   where
@@ -49,9 +50,9 @@ proper_line names U (Stray f) consistent = ap (update_text names (Stray f)) (sym
     absent None is = refl
     absent (Some r) is = absurd (consistent.no_stray f r.least is.has_least)
 
-module _ (names : Names) (shape : Shape) where
+module _ (names : TraceNames) (shape : Shape) where
   -- the lines of the proper locations, in order, are those of the entries that rise
-  pub entries_are_set : (summary : Entries) (U : UpdateSet) → Stands shape summary U → IsConsistent U → AreEntries summary.count summary.ranges → IsStrictlyIncreasing (keys_of summary.ranges)
+  pub entries_are_set : (summary : SummaryRanges) (U : UpdateSet) → Stands shape summary U → IsConsistent U → AreRanges summary.count summary.ranges → IsStrictlyIncreasing (keys_of summary.ranges)
       → flat_map (λ e. update_text names (location_at shape e.0) (Some (range e.1))) summary.ranges ≡ set_text names (filter is_proper (locations shape)) U
   entries_are_set summary U stands consistent entries rising =
       let line : Location → List ℕ = λ l. update_text names l (range_at U l) in

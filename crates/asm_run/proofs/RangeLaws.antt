@@ -1,4 +1,4 @@
--- The ranges that the constants are.
+-- Free. The ranges that the constants are.
 use Rattle.std.proofs.Common.{refl}
 use Rattle.asm_run.specs.RangeLaws.{RangeLaws}
 

@@ -1,4 +1,4 @@
--- Each text, script and limits have a run or a refusal.
+-- Free. Each text, script and limits have a run or a refusal.
 use Rattle.std.proofs.Common.{◌≡◌, ◌⊎◌, ℕ, Bool, true, false, List, [], Some, inl, inr, refl, sym, subst}
 use Rattle.asm_state.specs.Updates.{Fault, Clash, Outside, IsFirstFault}
 use Rattle.asm_syntax.specs.SourceTree.{Spec}
@@ -20,21 +20,21 @@ use Rattle.asm_run.specs.declared.end.End.{End}
 use Rattle.asm_run.specs.declared.end.End.TheVariants as end
 use Rattle.asm_run.specs.declared.error.RunError.{RunError}
 use Rattle.asm_run.specs.declared.error.RunError.TheVariants as error
-use Rattle.asm_limits.specs.declared.limits.Limits.{Limits}
-use Rattle.asm_run.specs.Exclusion.{IsNamed}
-use Rattle.asm_run.specs.Headline.{IsAccepted, IsAnswer, IsDone, Explains, book_run}
+use Rattle.asm_limits.specs.declared.run_limits.Limits.{Limits}
+use Rattle.asm_run.specs.code.Exclusion.{IsNamed}
+use Rattle.asm_run.specs.Headline.{IsAccepted, IsReturned, IsDone, Explains, book_run}
 use Rattle.asm_limits.specs.Limits.{are_in_range}
-use Rattle.asm_run.specs.Trace.{Names, IsEndText}
+use Rattle.asm_run.specs.Trace.{TraceNames, IsEndText}
 use Rattle.asm_run.specs.Written.{names_in}
 use Rattle.asm_run.proofs.Traces.{some_trace}
 
--- an end that has a line has an answer
-answer_of : (names : Names) (e : run.End) (line : List ℕ) → IsEndText names e line → (answer : End) × IsAnswer e answer
+-- an end that has a line has a result
+answer_of : (names : TraceNames) (e : run.End) (line : List ℕ) → IsEndText names e line → (answer : End) × IsReturned e answer
 answer_of names AtLimit line is = (end.Limit, refl)
 answer_of names (AtExhausted i p) line is = (end.Exhausted, refl)
 answer_of names (AtFault i U) line is = by_fault is.0 is.1
   where
-    by_fault : (f : Fault) → IsFirstFault U f → (answer : End) × IsAnswer (AtFault i U) answer
+    by_fault : (f : Fault) → IsFirstFault U f → (answer : End) × IsReturned (AtFault i U) answer
     by_fault (Clash l r) first = (end.Clash, (l, r, first))
     by_fault (Outside f) first = (end.Outside, (f, first))
 

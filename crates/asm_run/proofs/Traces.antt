@@ -1,9 +1,9 @@
--- A run of a specification has just one trace.
+-- Free. A run of a specification has just one trace.
 use Rattle.std.proofs.Common.{◌≡◌, ℕ, zero, suc, Bool, true, false, cond, List, [], ◌++◌, refl, sym, ap, ◌∙◌}
 use Rattle.asm_state.specs.Location.{State}
 use Rattle.asm_state.specs.Updates.{UpdateSet, is_consistent, fire}
-use Rattle.asm_state.proofs.Faults.{fault_laws}
-use Rattle.asm_state.proofs.Updates.{test_laws}
+use Rattle.asm_state.proofs.UpdateLemmas.Faults.{fault_laws}
+use Rattle.asm_state.proofs.UpdateLemmas.Updates.{test_laws}
 use Rattle.asm_syntax.specs.Tree.{Rule}
 use Rattle.asm_meaning.specs.Declarations.{specification_of}
 use Rattle.asm_meaning.specs.Program.{Program, nothing_bound}
@@ -11,20 +11,20 @@ use Rattle.asm_meaning.specs.Yields.{Result, Gives, Exhausted}
 use Rattle.asm_reader.specs.ScriptLines.{Script}
 use Rattle.asm_meaning.specs.Does.{does}
 use Rattle.asm_meaning.specs.Run.{Run, End, AtFault, ended, fired, step_and, run_from}
-use Rattle.asm_run.specs.Trace.{Names, IsEndText, fault_text, steps_text, state_text}
-use Rattle.asm_run.specs.Traces.{OneTrace, SomeTrace}
+use Rattle.asm_run.specs.Trace.{TraceNames, IsEndText, fault_text, steps_text, state_text}
+use Rattle.asm_run.specs.code.Traces.{OneTrace, SomeTrace}
 use Rattle.asm_run.specs.Written.{names_in, locations_in}
 use Rattle.asm_run.specs.Headline.{book_run}
-use Rattle.asm_run.proofs.Reached.{one_end_text}
+use Rattle.asm_run.proofs.RunSoFar.{one_end_text}
 
 pub one_trace : OneTrace
 one_trace names ls i r a b p q =
     p.whole ∙ ap (λ e. steps_text names ls i r.steps ++ (e ++ state_text names ls r.last)) (one_end_text names r.end p.end_text q.end_text p.is_end q.is_end) ∙ sym q.whole
 
-abbrev HasLine : Names → End → Type 0
+abbrev HasLine : TraceNames → End → Type 0
 HasLine names e = (text : List ℕ) × IsEndText names e text
 
-module _ (names : Names) (program : Program) (turns : ℕ) (main : Rule) where
+module _ (names : TraceNames) (program : Program) (turns : ℕ) (main : Rule) where
   by_test : (U : UpdateSet) (m i : ℕ) (A : State) (rest : Run) (b : Bool) → is_consistent U ≡ b → HasLine names rest.end → HasLine names (cond b (fired U m rest) (ended (AtFault i U) A)).end
   by_test U m i A rest true e h = h
   by_test U m i A rest false e h =

@@ -1,9 +1,11 @@
--- What a run writes and answers.
---     IsAccepted text s                the text is that of the specification s, which has no fault
---     IsFaulty text e                  the text is that of a specification whose first fault is this
---     book_run s turns script steps    the run of s under the script
---     IsWritten, IsCut, AreWholeSteps  what the bytes of the sink grew by
---     Explains                         what a refusal says
+-- Definition. What a run writes and returns.
+--     IsAccepted text s                  the text is that of the specification s, which has no
+--                                        fault
+--     IsFaulty text e                    the text is that of a specification whose first fault is
+--                                        this
+--     book_run s turns script steps      the run of s under the script
+--     IsWritten, IsCut, AreWholeSteps    what the bytes of the sink grew by
+--     Explains                           what a refusal says
 use Rattle.std.specs.Prelude.{◌≡◌, ◌⊎◌, ℕ, false, true, List, [], ◌++◌, take, Option}
 use Rattle.std.specs.Io.KnownBytes.{Appends}
 use Rattle.asm_state.specs.Location.{Location}
@@ -20,13 +22,13 @@ use Rattle.asm_reader.specs.ScriptText.{IsScript, IsScriptRefusal}
 use Rattle.asm_meaning.specs.Run as run
 use Rattle.asm_meaning.specs.Run.{Run, AtLimit, AtExhausted, AtFault}
 use Rattle.asm_limits.specs.Limits.{are_in_range}
-use Rattle.asm_run.specs.Trace.{Names, IsTrace, steps_text}
+use Rattle.asm_run.specs.Trace.{TraceNames, IsTrace, steps_text}
 use Rattle.asm_run.specs.Written.{names_in, locations_in}
 use Rattle.asm_run.specs.declared.end.End.{End}
 use Rattle.asm_run.specs.declared.end.End.TheVariants as end
 use Rattle.asm_run.specs.declared.error.RunError.{RunError}
 use Rattle.asm_run.specs.declared.error.RunError.TheVariants as error
-use Rattle.asm_limits.specs.declared.limits.Limits.{Limits}
+use Rattle.asm_limits.specs.declared.run_limits.Limits.{Limits}
 
 pub record IsAccepted (text : List ℕ) (s : Spec) : Type 0 where
   pub spelled : IsSpecification text s
@@ -40,16 +42,16 @@ book_run s turns script steps = run.run (specification_of s) turns script steps
 
 -- ---- runs from any step on, with these names and locations
 
--- the answer for an end
-abbrev pub IsAnswer : run.End → End → Type 0
-IsAnswer AtLimit e = e ≡ end.Limit
-IsAnswer (AtExhausted i p) e = e ≡ end.Exhausted
-IsAnswer (AtFault i U) end.Limit = ⊥
-IsAnswer (AtFault i U) end.Exhausted = ⊥
-IsAnswer (AtFault i U) end.Clash = (l : Location) × (r : Range) × IsFirstFault U (Clash l r)
-IsAnswer (AtFault i U) end.Outside = (f : ℕ) × IsFirstFault U (Outside f)
+-- the result for an end
+abbrev pub IsReturned : run.End → End → Type 0
+IsReturned AtLimit e = e ≡ end.Limit
+IsReturned (AtExhausted i p) e = e ≡ end.Exhausted
+IsReturned (AtFault i U) end.Limit = ⊥
+IsReturned (AtFault i U) end.Exhausted = ⊥
+IsReturned (AtFault i U) end.Clash = (l : Location) × (r : Range) × IsFirstFault U (Clash l r)
+IsReturned (AtFault i U) end.Outside = (f : ℕ) × IsFirstFault U (Outside f)
 
-module _ (names : Names) (ls : List Location) (first : ℕ) where
+module _ (names : TraceNames) (ls : List Location) (first : ℕ) where
   -- known bytes grow by the trace of the run
   pub record IsWritten (old new : Option (List ℕ)) (r : Run) : Type 0 where
     pub trace : List ℕ
@@ -62,7 +64,7 @@ module _ (names : Names) (ls : List Location) (first : ℕ) where
     pub appended : Appends old new front
     pub is_front : (trace : List ℕ) → IsTrace names ls first r trace → (rest : List ℕ) × (trace ≡ front ++ rest)
 
-  -- known bytes grow by the text of the first fired steps of the run, so many
+  -- known bytes grow by the text of the first `count` fired steps of the run
   pub record AreWholeSteps (old new : Option (List ℕ)) (r : Run) : Type 0 where
     pub count : ℕ
     pub appended : Appends old new (steps_text names ls first (take count r.steps))
@@ -74,7 +76,7 @@ abbrev pub IsUnwritten : (old new : Option (List ℕ)) → Type 0
 IsUnwritten old new = Appends old new []
 
 module _ (text script_text : List ℕ) (limits : Limits) (old new : Option (List ℕ)) where
-  -- The whole trace is written, and the answer is the end of the run.
+  -- The whole trace is written, and the result is the end of the run.
   pub record IsDone (answer : End) : Type 0 where
     pub tree : Spec
     pub accepted : IsAccepted text tree
@@ -82,7 +84,7 @@ module _ (text script_text : List ℕ) (limits : Limits) (old new : Option (List
     pub spelled : IsScript script_text script
     pub in_range : are_in_range limits ≡ true
     pub written : IsWritten (names_in tree) (locations_in tree) 1 old new (book_run tree limits.turns script limits.steps)
-    pub answered : IsAnswer (book_run tree limits.turns script limits.steps).end answer
+    pub answered : IsReturned (book_run tree limits.turns script limits.steps).end answer
 
   -- A run was begun, and what was written of it.
   pub record IsBegun (P : Spec → Run → Type 0) : Type 0 where

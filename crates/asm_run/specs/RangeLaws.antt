@@ -1,6 +1,6 @@
--- The ranges of the limits of a run, which the constants of the code are.
+-- Law. The ranges of the limits of a run, which the constants of the code are.
 use Rattle.std.specs.Prelude.{◌≡◌}
-use Rattle.asm_limits.specs.declared.limits.TheConstants.{STEPS, TURNS, WORKERS, CUT, ROUNDS}
+use Rattle.asm_limits.specs.declared.run_limits.TheConstants.{STEPS, TURNS, WORKERS, CUT, ROUNDS}
 
 pub record RangeLaws : Type 0 where
   pub steps : STEPS ≡ record { least = 0; most = 1_000_000 }

@@ -1,4 +1,4 @@
--- What a write to a sink does to the bytes that it holds, where those are known.
+-- Definition. What a write to a sink does to the bytes that it holds, if those are known.
 use Rattle.std.specs.Prelude.{◌<◌, ℕ, Bool, true, ◌&&◌, ◌==◌, nat_lt, List, length, take, Result, Ok, Err, Option}
 use Rattle.std.specs.Io.KnownBytes.{Appends}
 

@@ -1,4 +1,4 @@
--- What a sink over a writer shows.
+-- Definition. What a sink over a writer shows.
 use Rattle.std.specs.Prelude.{Bool}
 use Rattle.asm_run.specs.declared.through.Through.{Through}
 

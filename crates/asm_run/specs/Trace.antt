@@ -1,9 +1,11 @@
--- The trace of a run, as bytes.
---     Names                          what functions and elements are called
---     value_text, location_text      how values and locations are written
---     steps_text                     the fired steps, each with a line for each location that its set names
---     IsEndText, state_text          the line at the end;  the last state, without what is undef
---     IsTrace names ls i run bytes   these bytes are the trace of the run from step i on, with the locations ls in their order
+-- Definition. The trace of a run, as bytes.
+--     TraceNames                      what functions and elements are called
+--     value_text, location_text       how values and locations are written
+--     steps_text                      the fired steps, each with a line for each location that its
+--                                     set names
+--     IsEndText, state_text           the line at the end; the last state, without what is undef
+--     IsTrace names ls i run bytes    these bytes are the trace of the run from step i on, with the
+--                                     locations ls in their order
 use Rattle.std.specs.Prelude.{◌≡◌, ℕ, suc, min, true, false, List, [], ◌∷◌, ◌++◌, Option, Some, None, slice_index_or, codes, decimal}
 use Rattle.std.specs.List.{flat_map}
 use Rattle.std.specs.Fmt.{signed_decimal}
@@ -11,11 +13,11 @@ use Rattle.asm_state.specs.declared.value.Value.{Value}
 use Rattle.asm_state.specs.declared.value.Value.TheVariants.{Undef, Truth, Number, Element}
 use Rattle.asm_state.specs.Location.{Location, Proper, Stray, State}
 use Rattle.asm_state.specs.Updates.{UpdateSet, Range, range_at, Fault, Clash, Outside, IsFirstFault}
-use Rattle.asm_meaning.specs.Formed.{greatest_count}
+use Rattle.asm_meaning.specs.code.FormedOutcomes.{greatest_count}
 use Rattle.asm_meaning.specs.Yields.{Path}
 use Rattle.asm_meaning.specs.Run.{End, AtLimit, AtExhausted, AtFault, FiredStep, Run}
 
-pub record Names : Type 0 where
+pub record TraceNames : Type 0 where
   pub functions : List (List ℕ)
   pub elements : List (List ℕ)
 
@@ -24,7 +26,7 @@ line_end = 10 ∷ []
 
 -- ---- values, locations, paths
 
-abbrev pub function_text : Names → ℕ → List ℕ
+abbrev pub function_text : TraceNames → ℕ → List ℕ
 function_text names f = slice_index_or names.functions f []
 
 -- with the names of the elements
@@ -41,7 +43,7 @@ values_text elements v [] = value_text elements v
 values_text elements v (w ∷ vs) = value_text elements v ++ (codes ", " ++ values_text elements w vs)
 
 -- a function without arguments is written as its name
-abbrev pub location_text : Names → Location → List ℕ
+abbrev pub location_text : TraceNames → Location → List ℕ
 location_text names (Proper f []) = function_text names f
 location_text names (Proper f (v ∷ vs)) = function_text names f ++ (codes "(" ++ (values_text names.elements v vs ++ codes ")"))
 location_text names (Stray f) = function_text names f
@@ -57,27 +59,27 @@ path_text (k ∷ ks) = numbers_text k ks
 
 -- ---- steps
 
-abbrev pub update_text : Names → Location → Option Range → List ℕ
+abbrev pub update_text : TraceNames → Location → Option Range → List ℕ
 update_text names l None = []
 update_text names l (Some r) = location_text names l ++ (codes " := " ++ (value_text names.elements r.least ++ line_end))
 
 -- a line for each of these locations that the set names
-abbrev pub set_text : Names → List Location → UpdateSet → List ℕ
+abbrev pub set_text : TraceNames → List Location → UpdateSet → List ℕ
 set_text names ls U = flat_map (λ l. update_text names l (range_at U l)) ls
 
--- the number of instances is cut off where it doesn't fit 64 bits
-abbrev pub step_text : Names → List Location → ℕ → FiredStep → List ℕ
+-- the number of instances is cut off if it doesn't fit 64 bits
+abbrev pub step_text : TraceNames → List Location → ℕ → FiredStep → List ℕ
 step_text names ls i step =
     codes "step " ++ (decimal i ++ (codes " instances " ++ (decimal (min step.instances greatest_count) ++ (line_end ++ set_text names ls step.set))))
 
 -- the fired steps, from number i on
-abbrev pub steps_text : Names → List Location → ℕ → List FiredStep → List ℕ
+abbrev pub steps_text : TraceNames → List Location → ℕ → List FiredStep → List ℕ
 steps_text names ls i [] = []
 steps_text names ls i (step ∷ steps) = step_text names ls i step ++ steps_text names ls (suc i) steps
 
 -- ---- the end
 
-abbrev pub fault_text : Names → ℕ → Fault → List ℕ
+abbrev pub fault_text : TraceNames → ℕ → Fault → List ℕ
 fault_text names i (Clash l r) =
     codes "end clash step " ++ (decimal i ++ (codes " " ++ (location_text names l
     ++ (codes " least " ++ (value_text names.elements r.least ++ (codes " greatest " ++ (value_text names.elements r.greatest ++ line_end)))))))
@@ -86,21 +88,21 @@ fault_text names i (Outside f) = codes "end outside step " ++ (decimal i ++ (cod
 abbrev pub exhausted_line : (step : ℕ) → Path → List ℕ
 exhausted_line i p = codes "end exhausted step " ++ (decimal i ++ (codes " place " ++ (path_text p ++ line_end)))
 
-abbrev pub IsEndText : Names → End → List ℕ → Type 0
+abbrev pub IsEndText : TraceNames → End → List ℕ → Type 0
 IsEndText names AtLimit text = text ≡ codes "end limit" ++ line_end
 IsEndText names (AtExhausted i p) text = text ≡ exhausted_line i p
 IsEndText names (AtFault i U) text = (fault : Fault) × IsFirstFault U fault × (text ≡ fault_text names i fault)
 
-abbrev pub content_text : Names → Location → Value → List ℕ
+abbrev pub content_text : TraceNames → Location → Value → List ℕ
 content_text names l Undef = []
 content_text names l v = location_text names l ++ (codes " = " ++ (value_text names.elements v ++ line_end))
 
-abbrev pub state_text : Names → List Location → State → List ℕ
+abbrev pub state_text : TraceNames → List Location → State → List ℕ
 state_text names ls A = codes "state" ++ (line_end ++ flat_map (λ l. content_text names l (A l)) ls)
 
 -- ---- the whole
 
-pub record IsTrace (names : Names) (ls : List Location) (i : ℕ) (run : Run) (bytes : List ℕ) : Type 0 where
+pub record IsTrace (names : TraceNames) (ls : List Location) (i : ℕ) (run : Run) (bytes : List ℕ) : Type 0 where
   pub end_text : List ℕ
   pub is_end : IsEndText names run.end end_text
   pub whole : bytes ≡ steps_text names ls i run.steps ++ (end_text ++ state_text names ls run.last)

@@ -1,10 +1,12 @@
--- What is written of a specification's locations.
---     names_in s, locations_in s      what its functions and elements are called;  its proper locations, in order
---     text_of_location s n            the text of the location with this number
---     AreTextsOf s texts              texts are those of the locations with their numbers, where there are any
---     step_line                       the first line of a step
---     assigned_text                   what follows the location in the line of an update
---     entries_text, contents_text     the lines of the entries of a set;  the last state
+-- Definition. What is written of a specification's locations.
+--     names_in s, locations_in s     what its functions and elements are called; its proper
+--                                    locations, in order
+--     text_of_location s n           the text of the location with this number
+--     AreTextsOf s texts             texts are those of the locations with their numbers, if there
+--                                    are any
+--     step_line                      the first line of a step
+--     assigned_text                  what follows the location in the line of an update
+--     entries_text, contents_text    the lines of the entries of a set; the last state
 use Rattle.std.specs.Prelude.{◌≡◌, ◌⊎◌, ℕ, cond, List, [], ◌++◌, map, filter, slice_index_or, Some, codes, decimal}
 use Rattle.std.specs.List.{flat_map, range_with_len}
 use Rattle.asm_state.specs.declared.value.Value.{Value}
@@ -16,14 +18,14 @@ use Rattle.asm_syntax.specs.SourceTree.{Spec}
 use Rattle.asm_check.specs.Names.{Declaration}
 use Rattle.asm_check.specs.Numbers.{functions_of, elements_of}
 use Rattle.asm_check.specs.Shapes.{shape_of}
-use Rattle.asm_updates.specs.Entries.{NamedRanges, range}
-use Rattle.asm_run.specs.KeptTexts.{kept}
-use Rattle.asm_run.specs.Trace.{Names, line_end, location_text, value_text, update_text, content_text}
+use Rattle.asm_updates.specs.code.SummaryRanges.{NamedRanges, range}
+use Rattle.asm_run.specs.code.KeptTexts.{kept}
+use Rattle.asm_run.specs.Trace.{TraceNames, line_end, location_text, value_text, update_text, content_text}
 
 abbrev pub texts_of : List Declaration → List (List ℕ)
 texts_of ds = map (λ (d : Declaration). d.name.text) ds
 
-abbrev pub names_in : Spec → Names
+abbrev pub names_in : Spec → TraceNames
 names_in s = record { functions = texts_of (functions_of s); elements = texts_of (elements_of s) }
 
 abbrev pub locations_in : Spec → List Location

@@ -1,17 +1,17 @@
 //! Why a specification didn't run to its end.
 ghost use Rattle.std.specs.Prelude.{◌≡◌};
-ghost use Rattle.asm_run.specs.Refusal.{read_answer, check_answer, script_answer};
+ghost use Rattle.asm_run.specs.code.RefusedRuns.{run_error_of_read, run_error_of_check, run_error_of_script};
 ghost use Rattle.asm_run.specs.declared.error.RunError.TheVariants.{Memory, Write};
 
 use crate::sink::SinkFault;
 pub use asm_check::{CheckError, FaultKind};
 pub use asm_reader::{ReadError, ScriptError};
-use asm_syntax::Refused;
+use asm_syntax::InputError;
 use std::alloc::AllocError;
 use thiserror::Error;
 
-/// A refusal. The first that applies is answered, in the order `Read`, `Check`, `Script`, `Limits`, and then `Memory` and `Write`;
-/// `Memory` can come before any.
+/// A refusal. The first that applies is returned, in the order `Read`, `Check`, `Script`, `Limits`,
+/// and then `Memory` and `Write`; `Memory` can come before any.
 #[derive(Debug, Drop, Error)]
 pub enum RunError {
     /// The text isn't a specification.
@@ -42,35 +42,35 @@ impl From<AllocError> for RunError {
     }
 }
 
-impl From<Refused<ReadError>> for RunError {
-    ghost from_gives = { λ refused e. e ≡ read_answer refused };
+impl From<InputError<ReadError>> for RunError {
+    ghost from_gives = { λ refused e. e ≡ run_error_of_read refused };
 
-    fn from(refused: Refused<ReadError>) -> RunError {
+    fn from(refused: InputError<ReadError>) -> RunError {
         match refused {
-            Refused::Memory => RunError::Memory,
-            Refused::Named(error) => RunError::Read(error),
+            InputError::Memory => RunError::Memory,
+            InputError::Named(error) => RunError::Read(error),
         }
     }
 }
 
-impl From<Refused<CheckError>> for RunError {
-    ghost from_gives = { λ refused e. e ≡ check_answer refused };
+impl From<InputError<CheckError>> for RunError {
+    ghost from_gives = { λ refused e. e ≡ run_error_of_check refused };
 
-    fn from(refused: Refused<CheckError>) -> RunError {
+    fn from(refused: InputError<CheckError>) -> RunError {
         match refused {
-            Refused::Memory => RunError::Memory,
-            Refused::Named(error) => RunError::Check(error),
+            InputError::Memory => RunError::Memory,
+            InputError::Named(error) => RunError::Check(error),
         }
     }
 }
 
-impl From<Refused<ScriptError>> for RunError {
-    ghost from_gives = { λ refused e. e ≡ script_answer refused };
+impl From<InputError<ScriptError>> for RunError {
+    ghost from_gives = { λ refused e. e ≡ run_error_of_script refused };
 
-    fn from(refused: Refused<ScriptError>) -> RunError {
+    fn from(refused: InputError<ScriptError>) -> RunError {
         match refused {
-            Refused::Memory => RunError::Memory,
-            Refused::Named(error) => RunError::Script(error),
+            InputError::Memory => RunError::Memory,
+            InputError::Named(error) => RunError::Script(error),
         }
     }
 }

@@ -1,17 +1,17 @@
 //! The last lines of a run.
 ghost use Rattle.std.specs.Prelude.{◌≡◌, ◌++◌, false, length, OnOk, codes};
 ghost use Rattle.asm_state.specs.Signature.{count_of};
-ghost use Rattle.asm_syntax.specs.Views.{spec_of};
+ghost use Rattle.asm_syntax.specs.code.Views.{spec_of};
 ghost use Rattle.asm_check.specs.Shapes.{shape_of};
 ghost use Rattle.asm_run.specs.declared.end.End.TheVariants.{Limit};
 ghost use Rattle.asm_run.specs.Trace.{line_end};
 ghost use Rattle.asm_run.specs.Written.{contents_text};
-ghost use Rattle.asm_run.specs.Step.{IsStopBelow, stop_line, end_of_stop, Finishes};
+ghost use Rattle.asm_run.specs.code.Step.{IsStopBelow, stop_line, end_of_stop, Finishes};
 
 use crate::end::End;
 use crate::error::RunError;
 use crate::sink::Sink;
-use crate::step::Stop;
+use crate::step::StepStop;
 use crate::trace::{push_clash, push_exhausted, push_limit, push_outside, push_state};
 use crate::write_all::write_all;
 use asm_check::Checked;
@@ -25,33 +25,33 @@ fn push_stop(
     out: &mut Vec<u8>,
     checked: &Checked,
     step: u64,
-    stop: &Stop,
+    stop: &StepStop,
     path: &[u64],
 ) -> Result<(), AllocError>
     requires { IsStopBelow (spec_of checked.now.spec) stop.now }
     ensures { OnOk result (out.new.items ≡ out.old.items ++ stop_line (spec_of checked.now.spec) step stop.now path.now) }
 {
     match stop {
-        Stop::Fault(
+        StepStop::Fault(
             Fault::Clash {
                 location,
                 low,
                 high,
             },
         ) => push_clash(alloc, out, checked, step, *location, *low, *high),
-        Stop::Fault(Fault::Outside { function }) => push_outside(out, checked, step, *function),
-        Stop::Exhausted => push_exhausted(out, step, path),
+        StepStop::Fault(Fault::Outside { function }) => push_outside(out, checked, step, *function),
+        StepStop::Exhausted => push_exhausted(out, step, path),
     }
 }
 
-/// The answer for a step at which the run ends.
-fn end_of(stop: &Stop) -> End
+/// The result for a step at which the run ends.
+fn end_of(stop: &StepStop) -> End
     ensures { result ≡ end_of_stop stop.now }
 {
     match stop {
-        Stop::Fault(Fault::Clash { .. }) => End::Clash,
-        Stop::Fault(Fault::Outside { .. }) => End::Outside,
-        Stop::Exhausted => End::Exhausted,
+        StepStop::Fault(Fault::Clash { .. }) => End::Clash,
+        StepStop::Fault(Fault::Outside { .. }) => End::Outside,
+        StepStop::Exhausted => End::Exhausted,
     }
 }
 
@@ -61,7 +61,7 @@ pub fn finish_at_stop<S: Sink>(
     text: &mut Vec<u8>,
     checked: &Checked,
     step: u64,
-    stop: Stop,
+    stop: StepStop,
     path: &[u64],
     state: &State,
     out: &mut S,

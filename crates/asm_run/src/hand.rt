@@ -1,8 +1,8 @@
 //! What workers have for themselves while they share the pieces of a region.
 ghost use Rattle.std.specs.Prelude.{◌≡◌, ◌+◌, ◌++◌, All, IfOk, OnOk, vec_len};
 ghost use Rattle.asm_state.specs.Updates.{none};
-ghost use Rattle.asm_updates.specs.Stands.{Stands};
-ghost use Rattle.asm_run.specs.Hands.{IsNewHand, logs_of, parts_of};
+ghost use Rattle.asm_updates.specs.code.Stands.{Stands};
+ghost use Rattle.asm_run.specs.code.Hands.{IsNewHand, logs_of, parts_of};
 
 use asm_meaning::Forming;
 use asm_state::signature::Signature;
@@ -10,8 +10,8 @@ use asm_striped::{StripeSeat, Striped};
 use asm_updates::summary::Summary;
 use std::alloc::{AllocError, Global};
 
-/// A worker's seat at the table of a region, and where it forms the set of a piece. Between two pieces its set is empty, and keeps its
-/// memory for the next one.
+/// A worker's seat at the table of a region, and where it forms the set of a piece. Between two
+/// pieces its set is empty, and keeps its memory for the next one.
 #[derive(Drop)]
 pub struct RegionHand {
     pub seat: StripeSeat,

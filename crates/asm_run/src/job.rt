@@ -6,21 +6,21 @@
 ghost use Rattle.std.specs.Prelude.{◌≡◌, ◌<◌, IfErr, IfOk, IfSome, None, [], false};
 ghost use Rattle.asm_state.specs.Signature.{count_of};
 ghost use Rattle.asm_state.specs.Updates.{none};
-ghost use Rattle.asm_updates.specs.Stands.{Stands};
-ghost use Rattle.asm_code.specs.RuleViews.{rule_of};
-ghost use Rattle.asm_eval.specs.OpenedPieces.{Gives, is_closed_part};
-ghost use Rattle.asm_eval.specs.Pieces.{IsPiece, piece_yields};
-ghost use Rattle.asm_eval.specs.Running.{shape_at};
-ghost use Rattle.asm_run.specs.Hands.{Grows, TakesHand};
-ghost use Rattle.asm_run.specs.Rounds.{IsTask, IsWorked, Leaves, RunsPiece, is_short};
+ghost use Rattle.asm_updates.specs.code.Stands.{Stands};
+ghost use Rattle.asm_code.specs.code.RuleViews.{rule_of};
+ghost use Rattle.asm_eval.specs.code.OpenedPieces.{Gives, is_closed_part};
+ghost use Rattle.asm_eval.specs.code.Pieces.{IsPiece, piece_yields};
+ghost use Rattle.asm_eval.specs.code.Evaluation.{evaluation_shape};
+ghost use Rattle.asm_run.specs.code.Hands.{LogGrows, TakesHand};
+ghost use Rattle.asm_run.specs.code.Rounds.{IsTask, IsTaskRun, Leaves, RunsPiece, is_short};
 
 use crate::hand::RegionHand;
 use crate::put_set::put_set;
+use asm_eval::evaluation::Evaluation;
 use asm_eval::laws::opening_laws;
 use asm_eval::open::{Opened, open_piece};
 use asm_eval::piece::{Piece, form_piece};
-use asm_eval::positions::positions_of;
-use asm_eval::running::Running;
+use asm_eval::piece_positions::positions_of;
 use asm_meaning::{Path, Stopped};
 use asm_pool::Job;
 use asm_reader::Picks;
@@ -28,7 +28,7 @@ use asm_striped::Striped;
 use std::alloc::{AllocError, Global};
 use std::mem;
 
-/// What a task answers.
+/// What a task returns.
 #[derive(Drop)]
 pub enum RegionOut<'a> {
     /// The piece was opened: the new pieces, and how many elements were counted in opening it.
@@ -36,7 +36,7 @@ pub enum RegionOut<'a> {
         pieces: Vec<Piece<'a>>,
         instances: u64,
     },
-    /// It was worked whole, with so many elements counted, and its set is in the table.
+    /// It was worked whole, with that many elements counted, and its set is in the table.
     Done(u64),
     /// It is exhausted at this path.
     Exhausted(Path),
@@ -47,9 +47,9 @@ pub enum RegionOut<'a> {
 #[derive(Drop)]
 pub struct RegionJob<'a, P: Picks> {
     pub alloc: Global,
-    pub running: &'a Running<'a, 'a, P>,
+    pub evaluation: &'a Evaluation<'a, 'a, P>,
     pub pieces: &'a [Piece<'a>],
-    /// At most so many elements are one piece. None: the pieces are worked whole.
+    /// At most `cut` elements are one piece. None: the pieces are worked whole.
     pub cut: Option<usize>,
     /// There are enough pieces for all workers: a `forall` that isn't longer than the cut is worked
     /// whole.
@@ -58,16 +58,16 @@ pub struct RegionJob<'a, P: Picks> {
 }
 
 impl<'a, P: Picks> RegionJob<'a, P> {
-    /// A round that opens each piece that can be opened, or one that works all of them whole where
+    /// A round that opens each piece that can be opened, or one that works all of them whole if
     /// there is no cut. It takes no memory.
     pub fn new(
         alloc: Global,
-        running: &'a Running<'a, 'a, P>,
+        evaluation: &'a Evaluation<'a, 'a, P>,
         pieces: &'a [Piece<'a>],
         cut: Option<usize>,
         striped: &'a Striped,
     ) -> RegionJob<'a, P>
-        ensures running { result.running.now ≡ running.now }
+        ensures evaluation { result.evaluation.now ≡ evaluation.now }
         ensures pieces { result.pieces.now ≡ pieces.now }
         ensures cut { result.cut ≡ cut }
         ensures opens_all { result.are_enough ≡ false }
@@ -75,7 +75,7 @@ impl<'a, P: Picks> RegionJob<'a, P> {
     {
         RegionJob {
             alloc,
-            running,
+            evaluation,
             pieces,
             cut,
             are_enough: false,
@@ -91,17 +91,17 @@ fn put_piece<'a, P: Picks>(
     task: u64,
     hand: &mut RegionHand,
 ) -> Result<RegionOut<'a>, AllocError>
-    requires piece { IsPiece (shape_at job.now.running.now) piece.now }
-    requires count { job.now.striped.now.count ≡ count_of (shape_at job.now.running.now) }
-    requires hand { TakesHand (shape_at job.now.running.now) job.now.striped.now.table hand.old }
+    requires piece { IsPiece (evaluation_shape job.now.evaluation.now) piece.now }
+    requires count { job.now.striped.now.count ≡ count_of (evaluation_shape job.now.evaluation.now) }
+    requires hand { TakesHand (evaluation_shape job.now.evaluation.now) job.now.striped.now.table hand.old }
     ensures table { hand.new.seat.table ≡ hand.old.seat.table }
     ensures count { hand.new.own.set.count ≡ hand.old.own.set.count }
-    ensures worked { let at = job.now.running.now in let o = piece_yields at piece.now in
-        IfOk result (λ out. IsWorked at (shape_at at) None task o hand.old.seat out hand.new.seat) }
-    ensures refused { IfErr result (λ _. Grows hand.old.seat [] hand.new.seat) }
+    ensures worked { let at = job.now.evaluation.now in let o = piece_yields at piece.now in
+        IfOk result (λ out. IsTaskRun at (evaluation_shape at) None task o hand.old.seat out hand.new.seat) }
+    ensures refused { IfErr result (λ _. LogGrows hand.old.seat [] hand.new.seat) }
 {
     hand.own.instances = 0;
-    match form_piece(job.alloc, job.running, piece, &mut hand.own) {
+    match form_piece(job.alloc, job.evaluation, piece, &mut hand.own) {
         Ok(()) => {
             put_set(job.striped, &mut hand.seat, task, &hand.own.set);
             Ok(RegionOut::Done(hand.own.instances))
@@ -121,13 +121,13 @@ fn close_piece<'a, P: Picks>(
     task: u64,
     hand: &mut RegionHand,
 ) -> Result<RegionOut<'a>, AllocError>
-    requires piece { IsPiece (shape_at job.now.running.now) piece.now }
-    requires count { job.now.striped.now.count ≡ count_of (shape_at job.now.running.now) }
-    requires hand { TakesHand (shape_at job.now.running.now) job.now.striped.now.table hand.old }
-    ensures hand { TakesHand (shape_at job.now.running.now) job.now.striped.now.table hand.new }
-    ensures worked { let at = job.now.running.now in let o = piece_yields at piece.now in
-        IfOk result (λ out. IsWorked at (shape_at at) None task o hand.old.seat out hand.new.seat) }
-    ensures refused { IfErr result (λ _. Grows hand.old.seat [] hand.new.seat) }
+    requires piece { IsPiece (evaluation_shape job.now.evaluation.now) piece.now }
+    requires count { job.now.striped.now.count ≡ count_of (evaluation_shape job.now.evaluation.now) }
+    requires hand { TakesHand (evaluation_shape job.now.evaluation.now) job.now.striped.now.table hand.old }
+    ensures hand { TakesHand (evaluation_shape job.now.evaluation.now) job.now.striped.now.table hand.new }
+    ensures worked { let at = job.now.evaluation.now in let o = piece_yields at piece.now in
+        IfOk result (λ out. IsTaskRun at (evaluation_shape at) None task o hand.old.seat out hand.new.seat) }
+    ensures refused { IfErr result (λ _. LogGrows hand.old.seat [] hand.new.seat) }
 {
     let worked = put_piece(job, piece, task, hand);
     hand.own.set.clear();
@@ -135,52 +135,56 @@ fn close_piece<'a, P: Picks>(
 }
 
 /// Whether a piece has elements of a `forall`, and no more of them than are one piece.
-fn is_short_piece<P: Picks>(running: &Running<'_, '_, P>, piece: &Piece<'_>, most: usize) -> bool
-    requires { IsPiece (shape_at running.now) piece.now }
-    ensures { result ≡ is_short (shape_at running.now) most piece.now }
+fn is_short_piece<P: Picks>(
+    evaluation: &Evaluation<'_, '_, P>,
+    piece: &Piece<'_>,
+    most: usize,
+) -> bool
+    requires { IsPiece (evaluation_shape evaluation.now) piece.now }
+    ensures { result ≡ is_short (evaluation_shape evaluation.now) most piece.now }
 {
-    match positions_of(running.view.signature, piece) {
+    match positions_of(evaluation.view.signature, piece) {
         Some(positions) => positions <= most,
         None => false,
     }
 }
 
-/// What a piece is opened to: its parts, or nothing where it is closed.
+/// What a piece is opened to: its parts, or nothing if it is closed.
 fn open_into_parts<'a, P: Picks>(
     alloc: Global,
-    running: &Running<'_, '_, P>,
+    evaluation: &Evaluation<'_, '_, P>,
     piece: &'a Piece<'a>,
     cut: usize,
 ) -> Result<Opened<'a>, AllocError>
     requires cut { 0 < cut }
-    requires piece { IsPiece (shape_at running.now) piece.now }
-    ensures { IfOk result (Gives running.now cut (is_closed_part (rule_of piece.now.rule.now) piece.now.part) (piece_yields running.now piece.now)) }
+    requires piece { IsPiece (evaluation_shape evaluation.now) piece.now }
+    ensures { IfOk result (Gives evaluation.now cut (is_closed_part (rule_of piece.now.rule.now) piece.now.part) (piece_yields evaluation.now piece.now)) }
 {
     opening_laws::<P>();
-    open_piece(alloc, running, piece, cut)
+    open_piece(alloc, evaluation, piece, cut)
 }
 
-/// Opens a piece where there is a cut and it can be opened, or else works it whole. So is one that
-/// has too few elements to be cut, where there are enough pieces besides.
+/// Opens a piece if there is a cut and it can be opened, or else works it whole. So is one that has
+/// too few elements to be cut, if there are enough pieces besides.
 fn work_piece<'a, P: Picks>(
     job: &RegionJob<'a, P>,
     piece: &'a Piece<'a>,
     task: u64,
     hand: &mut RegionHand,
 ) -> Result<RegionOut<'a>, AllocError>
-    requires piece { IsPiece (shape_at job.now.running.now) piece.now }
+    requires piece { IsPiece (evaluation_shape job.now.evaluation.now) piece.now }
     requires cut { IfSome job.now.cut (λ k. 0 < k) }
-    requires count { job.now.striped.now.count ≡ count_of (shape_at job.now.running.now) }
-    requires hand { TakesHand (shape_at job.now.running.now) job.now.striped.now.table hand.old }
-    ensures hand { TakesHand (shape_at job.now.running.now) job.now.striped.now.table hand.new }
-    ensures leaves { let at = job.now.running.now in
-        Leaves at (shape_at at) job.now.cut job.now.are_enough piece.now task hand.old result hand.new }
+    requires count { job.now.striped.now.count ≡ count_of (evaluation_shape job.now.evaluation.now) }
+    requires hand { TakesHand (evaluation_shape job.now.evaluation.now) job.now.striped.now.table hand.old }
+    ensures hand { TakesHand (evaluation_shape job.now.evaluation.now) job.now.striped.now.table hand.new }
+    ensures leaves { let at = job.now.evaluation.now in
+        Leaves at (evaluation_shape at) job.now.cut job.now.are_enough piece.now task hand.old result hand.new }
 {
     if let Some(most) = job.cut
-        && !(job.are_enough && is_short_piece(job.running, piece, most))
+        && !(job.are_enough && is_short_piece(job.evaluation, piece, most))
         && let Opened::Pieces { pieces, instances } = open_into_parts(
             job.alloc,
-            job.running,
+            job.evaluation,
             piece,
             most,
         )?
@@ -195,11 +199,11 @@ impl<'a, P: Picks> Job for RegionJob<'a, P> {
 
     type Out = Result<RegionOut<'a>, AllocError>;
 
-    ghost has_task = { λ job n. IsTask (shape_at job.running.now) job.cut job.pieces.now n × (job.striped.now.count ≡ count_of (shape_at job.running.now)) };
+    ghost has_task = { λ job n. IsTask (evaluation_shape job.evaluation.now) job.cut job.pieces.now n × (job.striped.now.count ≡ count_of (evaluation_shape job.evaluation.now)) };
 
-    ghost takes_hand = { λ job hand. TakesHand (shape_at job.running.now) job.striped.now.table hand };
+    ghost takes_hand = { λ job hand. TakesHand (evaluation_shape job.evaluation.now) job.striped.now.table hand };
 
-    ghost runs = { λ job n before out after. RunsPiece job.running.now (shape_at job.running.now) job.cut job.are_enough job.pieces.now n before out after };
+    ghost runs = { λ job n before out after. RunsPiece job.evaluation.now (evaluation_shape job.evaluation.now) job.cut job.are_enough job.pieces.now n before out after };
 
     fn run(&self, n: usize, hand: &mut RegionHand) -> Result<RegionOut<'a>, AllocError> {
         let pieces = self.pieces;

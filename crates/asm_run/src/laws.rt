@@ -1,8 +1,8 @@
 //! Laws of traces, of refusals and of limits.
-ghost use Rattle.asm_run.specs.Traces.{OneTrace, SomeTrace};
+ghost use Rattle.asm_run.specs.code.Traces.{OneTrace, SomeTrace};
 ghost use Rattle.asm_run.specs.RangeLaws.{RangeLaws};
-ghost use Rattle.asm_run.specs.Ends.{AnswersTell};
-ghost use Rattle.asm_run.specs.Exclusion.{OneNamedRefusal, NoRunBesideARefusal, RunOrRefusal};
+ghost use Rattle.asm_run.specs.ResultsTell.{ResultsTell};
+ghost use Rattle.asm_run.specs.code.Exclusion.{OneNamedRefusal, NoRunBesideARefusal, RunOrRefusal};
 
 use asm_check::laws::{least_exists, least_is_only};
 use asm_reader::{
@@ -50,9 +50,10 @@ pub fn run_or_refusal()
     script_or_a_refusal();
 }
 
-/// The answer of a run says whether it makes all its steps, ends before, or is one of a text that is refused.
-pub fn answers_tell()
-    ensures { AnswersTell }
+/// The result of a run says whether it makes all its steps, ends before, or is one of a text that
+/// is refused.
+pub fn results_tell()
+    ensures { ResultsTell }
 {}
 
 /// The ranges of the limits.

@@ -2,6 +2,7 @@
 #![tactic(auto)]
 
 mod add_set;
+mod buffer;
 pub mod end;
 pub mod error;
 mod finish;
@@ -11,18 +12,17 @@ pub mod laws;
 mod line;
 mod location_texts;
 mod locations;
-mod machine;
 pub mod pooled;
 mod put_set;
 mod region;
+mod resolved_specification;
 mod rounds;
 pub mod run;
 pub mod sink;
 mod step;
 mod steps;
-mod text;
 pub mod through;
 mod trace;
-mod update;
-mod weight;
+mod update_line;
+mod work_budget;
 mod write_all;

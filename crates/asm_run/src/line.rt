@@ -6,12 +6,12 @@ use itoa::write_digits;
 use std::marker::Model;
 
 /// The longest line that is written so.
-const ROOM: usize = 64;
+const MAX_LINE: usize = 64;
 
 /// The last bytes of a line, 64 at most.
 #[derive(Drop)]
 pub(crate) struct Line {
-    bytes: [u8; ROOM],
+    bytes: [u8; MAX_LINE],
     start: usize,
 }
 
@@ -31,8 +31,8 @@ impl Line {
         ensures { result ≡ [] }
     {
         Line {
-            bytes: [0; ROOM],
-            start: ROOM,
+            bytes: [0; MAX_LINE],
+            start: MAX_LINE,
         }
     }
 

@@ -1,13 +1,13 @@
 //! How values and locations are written.
 ghost use Rattle.std.specs.Prelude.{◌≡◌, ◌<◌, ◌++◌, [], length, slice_index_or, OnOk};
 ghost use Rattle.asm_state.specs.Location.{function_of};
-ghost use Rattle.asm_state.specs.CodeLocations.{location_of};
-ghost use Rattle.asm_syntax.specs.Views.{spec_of};
+ghost use Rattle.asm_state.specs.code.CodeLocations.{location_of};
+ghost use Rattle.asm_syntax.specs.code.Views.{spec_of};
 ghost use Rattle.asm_check.specs.Numbers.{functions_of};
 ghost use Rattle.asm_run.specs.Trace.{value_text, values_text, function_text, location_text};
 ghost use Rattle.asm_run.specs.Written.{names_in};
 
-use crate::text::{push_number, push_text};
+use crate::buffer::{push_number, push_text};
 use asm_check::Checked;
 use asm_state::location::Location;
 use asm_state::value::Value;
@@ -79,7 +79,7 @@ fn push_values(
     Ok(())
 }
 
-/// Adds a location: the name of its function, and behind it the arguments, if there are any.
+/// Adds a location: the name of its function, and after it the arguments, if there are any.
 pub(crate) fn push_location(
     out: &mut Vec<u8>,
     checked: &Checked,

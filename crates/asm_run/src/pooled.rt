@@ -1,27 +1,27 @@
 //! Regions worked by many workers.
 ghost use Rattle.std.specs.Prelude.{◌≡◌, IfOk, IsTrue};
 ghost use Rattle.asm_state.specs.Signature.{count_of};
-ghost use Rattle.asm_meaning.specs.Formed.{Follows, IsFormed};
-ghost use Rattle.asm_code.specs.RuleMeaning.{IsSoundRule};
-ghost use Rattle.asm_code.specs.RuleViews.{rule_of};
-ghost use Rattle.asm_eval.specs.Frames.{IsSoundFrame};
-ghost use Rattle.asm_eval.specs.Regions.{IsTaken};
-ghost use Rattle.asm_eval.specs.Running.{Fits, rule_at, rule_shown, shape_at};
+ghost use Rattle.asm_meaning.specs.code.FormedOutcomes.{Follows, IsFormed};
+ghost use Rattle.asm_code.specs.code.RuleMeaning.{IsSoundRule};
+ghost use Rattle.asm_code.specs.code.RuleViews.{rule_of};
+ghost use Rattle.asm_eval.specs.code.Frames.{IsSoundFrame};
+ghost use Rattle.asm_eval.specs.code.Regions.{IsFormedOrLeft};
+ghost use Rattle.asm_eval.specs.code.Evaluation.{HasLocations, rule_at, rule_shown, evaluation_shape};
 ghost use Rattle.asm_limits.specs.Limits.{are_in_range};
 
 use crate::add_set::add_set;
 use crate::region::work_region;
-use crate::rounds::Shares;
-use crate::weight::{is_little, may_be_shared};
+use crate::rounds::Cutting;
+use crate::work_budget::{is_little, may_be_shared};
 use asm_code::rule_code::RuleCode;
+use asm_eval::evaluation::Evaluation;
 use asm_eval::form::form;
 use asm_eval::frame::Frame;
 use asm_eval::outcome::whole;
 use asm_eval::piece::Piece;
-use asm_eval::regions::{FormedBy, Plain, Region};
-use asm_eval::running::Running;
-use asm_limits::limits::Limits;
-use asm_meaning::from_nothing::{nothing_formed, outcome_of};
+use asm_eval::regions::{FormedBy, OnThisThread, RegionOutcome};
+use asm_limits::run_limits::Limits;
+use asm_meaning::new_forming::{new_forming, outcome_of};
 use asm_meaning::{Choices, Forming, Outcome, Part, Path, Stopped, View};
 use asm_pool::{Gate, PoolError};
 use asm_reader::Picks;
@@ -29,13 +29,13 @@ use asm_state::signature::Signature;
 use std::alloc::{AllocError, Global};
 use std::thread::Threads;
 
-/// Works a region by many workers: in so many rounds it is cut into pieces, which the workers
+/// Works a region by many workers: in `rounds` rounds it is cut into pieces, which the workers
 /// share.
 #[derive(Drop)]
 pub struct Pooled<'r, R, G> {
     rt: &'r R,
     gate: &'r G,
-    shares: Shares,
+    shares: Cutting,
 }
 
 impl<'r, R: Threads + Sync, G: Gate + Sync> Pooled<'r, R, G> {
@@ -46,7 +46,7 @@ impl<'r, R: Threads + Sync, G: Gate + Sync> Pooled<'r, R, G> {
         Pooled {
             rt,
             gate,
-            shares: Shares {
+            shares: Cutting {
                 workers: limits.workers as usize,
                 cut: limits.cut as usize,
                 rounds: limits.rounds,
@@ -54,8 +54,8 @@ impl<'r, R: Threads + Sync, G: Gate + Sync> Pooled<'r, R, G> {
         }
     }
 
-    /// The same for runs of this rule alone: where no region that it comes to may be worth a thread,
-    /// one worker does all of it. Where there is one round of opening at most, nothing changes.
+    /// The same for runs of this rule alone: if no region that it comes to may be worth a thread,
+    /// one worker does all of it. If there is one round of opening at most, nothing changes.
     pub(crate) fn for_rule(self, signature: &Signature, rule: &RuleCode) -> Pooled<'r, R, G>
         requires { IsSoundRule signature.now (rule_of rule.now) }
     {
@@ -63,8 +63,8 @@ impl<'r, R: Threads + Sync, G: Gate + Sync> Pooled<'r, R, G> {
         if shares.rounds <= 1 || may_be_shared(signature, rule) {
             return Pooled { rt, gate, shares };
         }
-        let Shares { cut, rounds, .. } = shares;
-        let shares = Shares {
+        let Cutting { cut, rounds, .. } = shares;
+        let shares = Cutting {
             workers: 1,
             cut,
             rounds,
@@ -77,76 +77,76 @@ impl<'r, R: Threads + Sync, G: Gate + Sync> Pooled<'r, R, G> {
     pub fn region<'e, P: Picks + Sync>(
         &self,
         alloc: Global,
-        running: &Running<'_, '_, P>,
+        evaluation: &Evaluation<'_, '_, P>,
         frame: &'e Frame<'e>,
         rule: &'e RuleCode,
         path: &[u64],
     ) -> Result<Outcome, AllocError>
-        requires sound { IsSoundRule (shape_at running.now) (rule_of rule.now) }
-        requires framed { IsSoundFrame (shape_at running.now) frame.now }
-        ensures { IfOk result (IsFormed (shape_at running.now) (rule_at running.now frame.now path.now (rule_of rule.now))) }
+        requires sound { IsSoundRule (evaluation_shape evaluation.now) (rule_of rule.now) }
+        requires framed { IsSoundFrame (evaluation_shape evaluation.now) frame.now }
+        ensures { IfOk result (IsFormed (evaluation_shape evaluation.now) (rule_at evaluation.now frame.now path.now (rule_of rule.now))) }
     {
-        if self.shares.workers == 1 || self.is_left_whole(running.view.signature, rule) {
-            return whole(alloc, running, frame, rule, path);
+        if self.shares.workers == 1 || self.is_formed_here(evaluation.view.signature, rule) {
+            return whole(alloc, evaluation, frame, rule, path);
         }
-        self.work(alloc, running, frame, rule, path)
+        self.work(alloc, evaluation, frame, rule, path)
     }
 
-    /// What the rule yields at this path, as `whole` answers it. The workers share each of its
+    /// What the rule yields at this path, as `whole` returns it. The workers share each of its
     /// regions, and this thread does the rest.
     pub fn outcome<'e, P: Picks + Sync>(
         &self,
         alloc: Global,
-        running: &Running<'_, '_, P>,
+        evaluation: &Evaluation<'_, '_, P>,
         frame: &'e Frame<'e>,
         rule: &'e RuleCode,
         path: &[u64],
     ) -> Result<Outcome, AllocError>
-        requires sound { IsSoundRule (shape_at running.now) (rule_of rule.now) }
-        requires framed { IsSoundFrame (shape_at running.now) frame.now }
-        ensures { IfOk result (IsFormed (shape_at running.now) (rule_at running.now frame.now path.now (rule_of rule.now))) }
+        requires sound { IsSoundRule (evaluation_shape evaluation.now) (rule_of rule.now) }
+        requires framed { IsSoundFrame (evaluation_shape evaluation.now) frame.now }
+        ensures { IfOk result (IsFormed (evaluation_shape evaluation.now) (rule_at evaluation.now frame.now path.now (rule_of rule.now))) }
     {
-        let mut made = nothing_formed(alloc, running.view.signature, path)?;
-        let formed = self.form(alloc, running, frame, rule, &mut made);
-        outcome_of(made, formed)
+        let mut forming = new_forming(alloc, evaluation.view.signature, path)?;
+        let formed = self.form(alloc, evaluation, frame, rule, &mut forming);
+        outcome_of(forming, formed)
     }
 
-    /// Forms what the rule yields at the path where the evaluation stands, as `form` does. The
+    /// Forms what the rule yields at the path where the evaluation is, as `form` does. The
     /// workers share each of its regions, and this thread does the rest.
     pub fn form<'e, P: Picks + Sync>(
         &self,
         alloc: Global,
-        running: &Running<'_, '_, P>,
+        evaluation: &Evaluation<'_, '_, P>,
         frame: &'e Frame<'e>,
         rule: &'e RuleCode,
-        made: &mut Forming,
+        forming: &mut Forming,
     ) -> Result<(), Stopped>
-        requires sound { IsSoundRule (shape_at running.now) (rule_of rule.now) }
-        requires framed { IsSoundFrame (shape_at running.now) frame.now }
-        requires fits { Fits running.now made.old }
-        ensures { Follows (shape_at running.now) (rule_at running.now frame.now made.old.path.items (rule_of rule.now)) made.old made.new result }
+        requires sound { IsSoundRule (evaluation_shape evaluation.now) (rule_of rule.now) }
+        requires framed { IsSoundFrame (evaluation_shape evaluation.now) frame.now }
+        requires fits { HasLocations evaluation.now forming.old }
+        ensures { Follows (evaluation_shape evaluation.now) (rule_at evaluation.now frame.now forming.old.path.items (rule_of rule.now)) forming.old forming.new result }
     {
         if self.shares.workers == 1 {
-            return form(alloc, &mut Plain, running, frame, rule, made);
+            return form(alloc, &mut OnThisThread, evaluation, frame, rule, forming);
         }
         let (rt, gate, shares) = (self.rt, self.gate, self.shares);
         let regions = |alloc: Global, view: &View<'_>, choices: &Choices<
             '_,
             P,
-        >, turns: u32, frame: &Frame<'_>, rule: &RuleCode, made: &mut Forming| -> Result<
-            Region,
+        >, turns: u32, frame: &Frame<'_>, rule: &RuleCode, forming: &mut Forming| -> Result<
+            RegionOutcome,
             Stopped,
         >
             requires sound { IsSoundRule view.now.signature.now (rule_of rule.now) }
             requires framed { IsSoundFrame view.now.signature.now frame.now }
-            requires fits { made.old.set.count ≡ count_of view.now.signature.now }
-            ensures { IsTaken view.now.signature.now (rule_shown P.script view.now choices.now turns frame.now made.old.path.items (rule_of rule.now)) made.old made.new result }
+            requires fits { forming.old.set.count ≡ count_of view.now.signature.now }
+            ensures { IsFormedOrLeft view.now.signature.now (rule_shown P.script view.now choices.now turns frame.now forming.old.path.items (rule_of rule.now)) forming.old forming.new result }
         {
             let pooled = Pooled { rt, gate, shares };
-            pooled.take_region(alloc, view, choices, turns, frame, rule, made)
+            pooled.take_region(alloc, view, choices, turns, frame, rule, forming)
         };
         let mut by = FormedBy { form: &regions };
-        form(alloc, &mut by, running, frame, rule, made)
+        form(alloc, &mut by, evaluation, frame, rule, forming)
     }
 
     /// Forms a region, as a function by which regions are formed. It leaves none.
@@ -158,52 +158,52 @@ impl<'r, R: Threads + Sync, G: Gate + Sync> Pooled<'r, R, G> {
         turns: u32,
         frame: &'e Frame<'e>,
         rule: &'e RuleCode,
-        made: &mut Forming,
-    ) -> Result<Region, Stopped>
+        forming: &mut Forming,
+    ) -> Result<RegionOutcome, Stopped>
         requires sound { IsSoundRule view.now.signature.now (rule_of rule.now) }
         requires framed { IsSoundFrame view.now.signature.now frame.now }
-        requires fits { made.old.set.count ≡ count_of view.now.signature.now }
-        ensures { IsTaken view.now.signature.now (rule_shown P.script view.now choices.now turns frame.now made.old.path.items (rule_of rule.now)) made.old made.new result }
+        requires fits { forming.old.set.count ≡ count_of view.now.signature.now }
+        ensures { IsFormedOrLeft view.now.signature.now (rule_shown P.script view.now choices.now turns frame.now forming.old.path.items (rule_of rule.now)) forming.old forming.new result }
     {
-        let running = Running {
+        let evaluation = Evaluation {
             view,
             choices,
             turns,
         };
-        self.form_region(alloc, &running, frame, rule, made)?;
-        Ok(Region::Formed)
+        self.form_region(alloc, &evaluation, frame, rule, forming)?;
+        Ok(RegionOutcome::Formed)
     }
 
-    /// Whether a region takes so little work that it isn't shared. Where there is one round of
+    /// Whether a region takes so little work that it isn't shared. If there is one round of
     /// opening at most, each region is.
-    fn is_left_whole(&self, signature: &Signature, rule: &RuleCode) -> bool
+    fn is_formed_here(&self, signature: &Signature, rule: &RuleCode) -> bool
         requires { IsSoundRule signature.now (rule_of rule.now) }
     {
         self.shares.rounds > 1 && is_little(signature, rule)
     }
 
-    /// Forms what a region yields at the path where the evaluation stands, by rounds of workers.
+    /// Forms what a region yields at the path where the evaluation is, by rounds of workers.
     fn form_region<'e, P: Picks + Sync>(
         &self,
         alloc: Global,
-        running: &Running<'_, '_, P>,
+        evaluation: &Evaluation<'_, '_, P>,
         frame: &'e Frame<'e>,
         rule: &'e RuleCode,
-        made: &mut Forming,
+        forming: &mut Forming,
     ) -> Result<(), Stopped>
-        requires sound { IsSoundRule (shape_at running.now) (rule_of rule.now) }
-        requires framed { IsSoundFrame (shape_at running.now) frame.now }
-        requires fits { Fits running.now made.old }
-        ensures { Follows (shape_at running.now) (rule_at running.now frame.now made.old.path.items (rule_of rule.now)) made.old made.new result }
+        requires sound { IsSoundRule (evaluation_shape evaluation.now) (rule_of rule.now) }
+        requires framed { IsSoundFrame (evaluation_shape evaluation.now) frame.now }
+        requires fits { HasLocations evaluation.now forming.old }
+        ensures { Follows (evaluation_shape evaluation.now) (rule_at evaluation.now frame.now forming.old.path.items (rule_of rule.now)) forming.old forming.new result }
     {
-        if self.is_left_whole(running.view.signature, rule) {
-            return form(alloc, &mut Plain, running, frame, rule, made);
+        if self.is_formed_here(evaluation.view.signature, rule) {
+            return form(alloc, &mut OnThisThread, evaluation, frame, rule, forming);
         }
-        let outcome = self.work(alloc, running, frame, rule, made.path.as_slice())?;
+        let outcome = self.work(alloc, evaluation, frame, rule, forming.path.as_slice())?;
         match outcome {
-            Outcome::Set { set, instances } => add_set(made, set, instances),
+            Outcome::Set { set, instances } => add_set(forming, set, instances),
             Outcome::Exhausted(path) => {
-                made.path = path.into_vec();
+                forming.path = path.into_vec();
                 Err(Stopped::Exhausted)
             }
         }
@@ -213,14 +213,14 @@ impl<'r, R: Threads + Sync, G: Gate + Sync> Pooled<'r, R, G> {
     fn work<'a, P: Picks + Sync>(
         &self,
         alloc: Global,
-        running: &'a Running<'a, 'a, P>,
+        evaluation: &'a Evaluation<'a, 'a, P>,
         frame: &'a Frame<'a>,
         rule: &'a RuleCode,
         path: &[u64],
     ) -> Result<Outcome, AllocError>
-        requires sound { IsSoundRule (shape_at running.now) (rule_of rule.now) }
-        requires framed { IsSoundFrame (shape_at running.now) frame.now }
-        ensures { IfOk result (IsFormed (shape_at running.now) (rule_at running.now frame.now path.now (rule_of rule.now))) }
+        requires sound { IsSoundRule (evaluation_shape evaluation.now) (rule_of rule.now) }
+        requires framed { IsSoundFrame (evaluation_shape evaluation.now) frame.now }
+        ensures { IfOk result (IsFormed (evaluation_shape evaluation.now) (rule_at evaluation.now frame.now path.now (rule_of rule.now))) }
     {
         let mut pieces = Vec::with_capacity(alloc, 1)?;
         pieces.push(Piece {
@@ -232,7 +232,7 @@ impl<'r, R: Threads + Sync, G: Gate + Sync> Pooled<'r, R, G> {
         match work_region(
             self.rt,
             alloc,
-            &*running,
+            &*evaluation,
             self.shares,
             pieces.as_slice(),
             self.gate,

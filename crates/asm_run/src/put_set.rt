@@ -1,7 +1,7 @@
 //! Update sets put into the table of a region.
 ghost use Rattle.std.specs.Prelude.{◌≡◌};
-ghost use Rattle.asm_updates.specs.Entries.{AreEntries};
-ghost use Rattle.asm_run.specs.Hands.{Grows, puts};
+ghost use Rattle.asm_updates.specs.code.SummaryRanges.{AreRanges};
+ghost use Rattle.asm_run.specs.code.Hands.{LogGrows, puts};
 
 use asm_striped::{StripeSeat, Striped};
 use asm_updates::summary::Summary;
@@ -10,8 +10,8 @@ use asm_updates::summary::Summary;
 pub(crate) fn put_set(striped: &Striped, seat: &mut StripeSeat, task: u64, set: &Summary)
     requires table { seat.old.table ≡ striped.now.table }
     requires count { set.now.count ≡ striped.now.count }
-    ensures seat { Grows seat.old (puts task set.now.ranges) seat.new }
-    ensures sound { AreEntries set.now.count set.now.ranges }
+    ensures seat { LogGrows seat.old (puts task set.now.ranges) seat.new }
+    ensures sound { AreRanges set.now.count set.now.ranges }
 {
     for i in 0..set.len() {
         let (n, low, high) = set.entry_at(i);

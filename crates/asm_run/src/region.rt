@@ -1,14 +1,14 @@
 //! The outcome of a region, by rounds.
 ghost use Rattle.std.specs.Prelude.{◌≡◌, All, IfOk};
-ghost use Rattle.asm_meaning.specs.Formed.{IsFormed};
-ghost use Rattle.asm_eval.specs.OpenedPieces.{pieces_yield};
-ghost use Rattle.asm_eval.specs.Pieces.{IsPiece};
-ghost use Rattle.asm_eval.specs.Running.{shape_at};
+ghost use Rattle.asm_meaning.specs.code.FormedOutcomes.{IsFormed};
+ghost use Rattle.asm_eval.specs.code.OpenedPieces.{pieces_yield};
+ghost use Rattle.asm_eval.specs.code.Pieces.{IsPiece};
+ghost use Rattle.asm_eval.specs.code.Evaluation.{evaluation_shape};
 
 use crate::hand::{join_hands, split_hands};
-use crate::rounds::{Region, Shares, SoFar, work_rounds};
+use crate::rounds::{Cutting, RegionWork, RoundsSoFar, work_rounds};
+use asm_eval::evaluation::Evaluation;
 use asm_eval::piece::Piece;
-use asm_eval::running::Running;
 use asm_meaning::Outcome;
 use asm_pool::{Gate, PoolError};
 use asm_reader::Picks;
@@ -17,31 +17,31 @@ use std::alloc::Global;
 use std::thread::Threads;
 
 /// What the pieces yield beside each other. The workers put it into a table, which this thread
-/// opens, and closes behind the last round.
+/// opens, and closes after the last round.
 pub(crate) fn work_region<'a, R: Threads + Sync, G: Gate + Sync, P: Picks + Sync>(
     rt: &R,
     alloc: Global,
-    running: &'a Running<'a, 'a, P>,
-    shares: Shares,
+    evaluation: &'a Evaluation<'a, 'a, P>,
+    shares: Cutting,
     pieces: &'a [Piece<'a>],
     gate: &G,
 ) -> Result<Outcome, PoolError>
-    requires { All (IsPiece (shape_at running.now)) pieces.now }
-    ensures { let at = running.now in IfOk result (IsFormed (shape_at at) (pieces_yield at pieces.now)) }
+    requires { All (IsPiece (evaluation_shape evaluation.now)) pieces.now }
+    ensures { let at = evaluation.now in IfOk result (IsFormed (evaluation_shape at) (pieces_yield at pieces.now)) }
 {
-    let signature = running.view.signature;
+    let signature = evaluation.view.signature;
     let (striped, mut seat) = Striped::open(alloc, signature.count(), shares.workers as u64 + 1)?;
-    let region = Region {
-        running,
+    let region = RegionWork {
+        evaluation,
         striped: &striped,
         shares,
     };
-    let none = SoFar {
+    let none = RoundsSoFar {
         hands: split_hands(alloc, &striped, &mut seat, signature, shares.workers)?,
         instances: 0,
         exhausted: None,
     };
-    let SoFar {
+    let RoundsSoFar {
         hands,
         instances,
         exhausted,

@@ -1,23 +1,23 @@
 //! The run of a specification, from the bytes of its text to the bytes of its trace.
 ghost use Rattle.std.specs.Prelude.{◌≡◌, ◌↔◌, ◌<◌, false, length, IsTrue, IfOk, IfErr, Err};
 ghost use Rattle.asm_syntax.specs.declared.error.LexError.TheVariants.{TooLong};
-ghost use Rattle.asm_syntax.specs.Lexing.{HasFirstToken};
+ghost use Rattle.asm_syntax.specs.code.Lexing.{HasFirstToken};
 ghost use Rattle.asm_reader.specs.declared.error.ReadError.TheVariants.{Lex};
 ghost use Rattle.asm_run.specs.Headline.{IsDone, Explains};
 ghost use Rattle.asm_run.specs.declared.error.RunError.TheVariants.{Read, Memory, Write};
 
 use crate::end::End;
 use crate::error::RunError;
-use crate::machine::Machine;
 use crate::pooled::Pooled;
+use crate::resolved_specification::ResolvedSpecification;
 use crate::sink::Sink;
 use crate::steps::run_steps;
 use asm_check::check;
-use asm_limits::limits::Limits;
+use asm_limits::run_limits::Limits;
 use asm_pool::{Gate, NoGate};
 use asm_reader::{read, read_script};
 use asm_resolve::laws::resolving_laws;
-use asm_resolve::whole::resolve_main;
+use asm_resolve::main_rule::resolve_main;
 use std::alloc::Global;
 use std::thread::Threads;
 
@@ -44,9 +44,9 @@ pub fn run<R: Threads + Sync, S: Sink>(
     ensures refused { IfErr result (Explains spec.now script.now limits.now (S.bytes out.old) (S.bytes out.new)) }
     // A text that is too long is refused as that, whatever memory there is.
     ensures too_long { 1_048_576 < length spec.now → result ≡ Err (Read (Lex TooLong)) }
-    // Memory is asked for where the text has a first token, and nowhere before.
+    // Memory is asked for only if the text has a first token, and not before it.
     ensures memory { IfErr result (λ e. e ≡ Memory → HasFirstToken spec.now) }
-    // The sink failed just where that is the answer.
+    // The sink failed exactly if that is the result.
     ensures failed { IsTrue (S.has_failed out.new) ↔ (result ≡ Err Write) }
 {
     run_gated(rt, alloc, &NoGate, spec, script, limits, out)
@@ -71,9 +71,9 @@ pub fn run_gated<R: Threads + Sync, G: Gate + Sync, S: Sink>(
     ensures refused { IfErr result (Explains spec.now script.now limits.now (S.bytes out.old) (S.bytes out.new)) }
     // A text that is too long is refused as that, whatever memory there is.
     ensures too_long { 1_048_576 < length spec.now → result ≡ Err (Read (Lex TooLong)) }
-    // Memory is asked for where the text has a first token, and nowhere before.
+    // Memory is asked for only if the text has a first token, and not before it.
     ensures memory { IfErr result (λ e. e ≡ Memory → HasFirstToken spec.now) }
-    // The sink failed just where that is the answer.
+    // The sink failed exactly if that is the result.
     ensures failed { IsTrue (S.has_failed out.new) ↔ (result ≡ Err Write) }
 {
     let tree = read(alloc, spec)?;
@@ -83,12 +83,12 @@ pub fn run_gated<R: Threads + Sync, G: Gate + Sync, S: Sink>(
         return Err(RunError::Limits);
     }
     let code = resolve_main(alloc, &checked)?;
-    let machine = Machine {
+    let resolved = ResolvedSpecification {
         checked: &checked,
         code: &code,
         turns: limits.turns,
     };
     resolving_laws();
     let pooled = Pooled::new(rt, limits, gate).for_rule(checked.signature(), &code);
-    run_steps(alloc, &pooled, &machine, &script, limits.steps, out)
+    run_steps(alloc, &pooled, &resolved, &script, limits.steps, out)
 }

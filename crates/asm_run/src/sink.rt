@@ -1,4 +1,4 @@
-//! Where a trace is written.
+//! The sink that a trace is written to.
 ghost use Rattle.std.specs.Prelude.{◌≡◌, ℕ, Bool, List, Option, ◌||◌};
 ghost use Rattle.std.specs.Io.{WritesAtMost};
 ghost use Rattle.std.specs.Io.KnownBytes.{WriteAppends};
@@ -10,13 +10,13 @@ pub struct SinkFault;
 
 /// Takes bytes, a piece at a time, and remembers whether it has failed.
 pub trait Sink {
-    // The bytes that the sink holds, where they are known.
+    // The bytes that the sink holds, if they are known.
     ghost bytes: { Self → Option (List ℕ) };
 
     // Whether a write to it has failed.
     ghost has_failed: { Self → Bool };
 
-    /// Takes the front of the piece and answers how many bytes that were.
+    /// Takes the front of the piece and returns how many bytes that were.
     fn write(&mut self, piece: &[u8]) -> Result<usize, SinkFault>
         ensures within { WritesAtMost result piece.now }
         ensures bytes { WriteAppends (bytes self.old) (bytes self.new) result piece.now }

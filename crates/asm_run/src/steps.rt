@@ -1,17 +1,17 @@
 //! The steps of a run, one after the other.
 ghost use Rattle.std.specs.Prelude.{◌≡◌, false};
-ghost use Rattle.asm_syntax.specs.Views.{spec_of};
+ghost use Rattle.asm_syntax.specs.code.Views.{spec_of};
 ghost use Rattle.asm_run.specs.Headline.{book_run};
-ghost use Rattle.asm_run.specs.Machine.{HasMainRule};
-ghost use Rattle.asm_run.specs.Reached.{Runs};
+ghost use Rattle.asm_run.specs.code.Machine.{HasMainRule};
+ghost use Rattle.asm_run.specs.code.RunSoFar.{Runs};
 ghost use Rattle.asm_run.specs.Written.{names_in, locations_in};
 
 use crate::end::End;
 use crate::error::RunError;
 use crate::finish::{finish_at_limit, finish_at_stop};
 use crate::location_texts::LocationTexts;
-use crate::machine::Machine;
 use crate::pooled::Pooled;
+use crate::resolved_specification::ResolvedSpecification;
 use crate::sink::Sink;
 use crate::step::make_step;
 use crate::write_all::write_all;
@@ -23,24 +23,24 @@ use asm_updates::summary::Summary;
 use std::alloc::Global;
 use std::thread::Threads;
 
-/// Makes so many steps under the script, and writes each one's text when it is whole.
+/// Makes `steps` steps under the script, and writes each one's text when it is whole.
 pub fn run_steps<R: Threads + Sync, G: Gate + Sync, S: Sink, P: Picks + Sync>(
     alloc: Global,
     pooled: &Pooled<'_, R, G>,
-    machine: &Machine<'_>,
+    resolved: &ResolvedSpecification<'_>,
     script: &P,
     steps: u32,
     out: &mut S,
 ) -> Result<End, RunError>
     requires open { S.has_failed out.old ≡ false }
-    requires main { HasMainRule machine.now }
-    ensures { let s = spec_of machine.now.checked.now.spec in
-        Runs (names_in s) (locations_in s) (S.bytes out.old) (S.bytes out.new) (S.has_failed out.new) (book_run s machine.now.turns (P.script script.now) steps) result }
+    requires main { HasMainRule resolved.now }
+    ensures { let s = spec_of resolved.now.checked.now.spec in
+        Runs (names_in s) (locations_in s) (S.bytes out.old) (S.bytes out.new) (S.has_failed out.new) (book_run s resolved.now.turns (P.script script.now) steps) result }
 {
-    let checked = machine.checked;
+    let checked = resolved.checked;
     let signature = checked.signature();
     let mut state = State::initial(alloc, signature)?;
-    let mut made = Forming {
+    let mut forming = Forming {
         set: Summary::new(alloc, signature.count()),
         instances: 0,
         path: Vec::new(alloc),
@@ -54,10 +54,17 @@ pub fn run_steps<R: Threads + Sync, G: Gate + Sync, S: Sink, P: Picks + Sync>(
             step: u64::from(done) + 1,
         };
         let stop = make_step(
-            alloc, pooled, machine, &choices, &mut state, &mut made, &mut text, &mut texts,
+            alloc,
+            pooled,
+            resolved,
+            &choices,
+            &mut state,
+            &mut forming,
+            &mut text,
+            &mut texts,
         )?;
         if let Some(stop) = stop {
-            let path = made.path.as_slice();
+            let path = forming.path.as_slice();
             return finish_at_stop(
                 alloc,
                 &mut text,

@@ -5,19 +5,19 @@
 //! location.
 ghost use Rattle.std.specs.Prelude.{◌≡◌, ◌<◌, ◌++◌, length, OnOk, codes};
 ghost use Rattle.asm_state.specs.Signature.{count_of};
-ghost use Rattle.asm_syntax.specs.Views.{spec_of};
+ghost use Rattle.asm_syntax.specs.code.Views.{spec_of};
 ghost use Rattle.asm_check.specs.Numbers.{functions_of};
 ghost use Rattle.asm_check.specs.Shapes.{shape_of};
 ghost use Rattle.asm_updates.specs.declared.fault.Fault.TheVariants as fault;
-ghost use Rattle.asm_run.specs.Step.{fault_line};
+ghost use Rattle.asm_run.specs.code.Step.{fault_line};
 ghost use Rattle.asm_run.specs.Trace.{line_end, numbers_text, path_text, exhausted_line};
 ghost use Rattle.asm_run.specs.Written.{AreTextsOf, step_line, entries_text, content_line, contents_text};
 
+use crate::buffer::{push_count, push_text};
 use crate::line::Line;
 use crate::location_texts::LocationTexts;
 use crate::locations::{push_function, push_location, push_value};
-use crate::text::{push_count, push_text};
-use crate::update::push_update;
+use crate::update_line::push_update;
 use asm_check::Checked;
 use asm_state::state::State;
 use asm_state::value::Value;
@@ -53,7 +53,7 @@ fn push_line(
 }
 
 /// Adds the last state.
-#[tactic(auto, using(crate::proofs::Ranges::text_more))]
+#[tactic(auto, using(crate::proofs::TextLemmas::TextsByNumber::text_more))]
 pub fn push_state(
     alloc: Global,
     out: &mut Vec<u8>,
@@ -172,7 +172,7 @@ pub fn push_outside(
     push_text(out, b"\n")
 }
 
-/// Adds a path: its numbers with dots between them, or a hyphen where it has none.
+/// Adds a path: its numbers with dots between them, or a hyphen if it has none.
 fn push_path(out: &mut Vec<u8>, path: &[u64]) -> Result<(), AllocError>
     ensures { OnOk result (out.new.items ≡ out.old.items ++ path_text path.now) }
 {

@@ -6,7 +6,7 @@ ghost use Rattle.asm_run.specs.Sink.{AppendsFront};
 use crate::sink::{Sink, SinkFault};
 
 /// Writes the whole text, in as many pieces as the sink takes.
-#[tactic(auto, using(crate::proofs::Appending::appending))]
+#[tactic(auto, using(crate::proofs::TextLemmas::Appending::appending))]
 pub(crate) fn write_all<S: Sink>(out: &mut S, text: &[u8]) -> Result<(), SinkFault>
     requires { IsFalse (S.has_failed out.old) }
 

@@ -1,5 +1,5 @@
 //! Runs of specifications, from bytes to bytes.
-use asm_limits::limits::Limits;
+use asm_limits::run_limits::Limits;
 
 mod beginnings;
 mod refusals;

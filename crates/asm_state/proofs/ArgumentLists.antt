@@ -1,4 +1,4 @@
--- The argument lists of a domain rise.
+-- Free. The argument lists of a domain rise.
 use Rattle.std.proofs.Common.{◌≡◌, List, [], ◌∷◌, All, AllPairs, Contains, ap, subst, ◌∙◌}
 use Rattle.std.specs.Cmp.{tied_itself}
 use Rattle.std.specs.Cmp.Lexicographic.{slice_cmp}
@@ -9,7 +9,7 @@ use Rattle.asm_state.specs.declared.value.Value.{Value}
 use Rattle.asm_state.specs.Value.{value_cmp, value_cmp-total}
 use Rattle.asm_state.specs.Universe.{IsUniverse}
 use Rattle.asm_state.specs.Tables.{Domain, argument_lists}
-use Rattle.asm_state.proofs.Containing.{lists_after}
+use Rattle.asm_state.proofs.ListsInDomain.{lists_after}
 use Rattle.asm_state.proofs.Lists.{Contains-from_map, AllPairs-single, AllPairs-map, AllPairs-flat_map}
 
 abbrev pub ValuesRise : Value → Value → Type 0
@@ -25,7 +25,7 @@ rest_rises v us vs h = ap (λ o. ordering_then o (slice_cmp value_cmp us vs)) (t
 first_rises : (v w : Value) (us vs : List Value) → ValuesRise v w → ListsRise (v ∷ us) (w ∷ vs)
 first_rises v w us vs h = ap (λ o. ordering_then o (slice_cmp value_cmp us vs)) h
 
--- lists after a lesser value stand before those after a greater one
+-- lists after a lesser value are before those after a greater one
 pieces_rise : (domain : Domain) (v w : Value) (us vs : List Value) → ValuesRise v w → Contains (lists_after domain v) us → Contains (lists_after domain w) vs → ListsRise us vs
 pieces_rise domain v w us vs h at_first at_second =
     let a = Contains-from_map (λ rest. v ∷ rest) (argument_lists domain) us at_first in

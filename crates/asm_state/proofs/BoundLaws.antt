@@ -1,9 +1,9 @@
--- The bounds that the constants are.
+-- Free. The bounds that the constants give.
 use Rattle.std.proofs.Common.{◌<◌, ◌≤ℤ◌, refl, subst}
-use Rattle.asm_state.specs.declared.element.TheConstants.{ELEMENTS}
+use Rattle.asm_state.specs.declared.element.TheConstants.{MAX_ELEMENTS}
 use Rattle.asm_state.specs.Bounds.{least_number, greatest_number}
 use Rattle.asm_state.specs.BoundLaws.{IsWithinBounds, BoundLaws}
-use Rattle.asm_state.specs.Fits.{Fits}
+use Rattle.asm_state.specs.SignatureLimits.{Fits}
 use Rattle.asm_state.specs.Signature.{Shape}
 
 bounds_from : (shape : Shape) → Fits shape → IsWithinBounds shape
@@ -45,7 +45,7 @@ bound_laws = record {
     λ (low, high). (record { value = z; low = low; high = high }, refl),
   );
   indices = λ k. (
-    λ (e, same). subst (λ n. n < ELEMENTS) same e.in_range,
+    λ (e, same). subst (λ n. n < MAX_ELEMENTS) same e.in_range,
     λ below. (record { index = k; in_range = below }, refl),
   );
 }

@@ -1,4 +1,4 @@
--- Codes rise with values, and tell them apart.
+-- Free. Codes rise with values, and tell them apart.
 use Rattle.std.proofs.Common.{◌-◌, ◌≡◌, ◌<◌, ◌≤◌, ℕ, ℤ, pos, negsuc, ◌<ℤ◌, ◌≤ℤ◌, Bool, true, false, refl, ap, arith}
 use Rattle.std.specs.Cmp.{nat_cmp_is, int_ranks}
 use Rattle.std.specs.Ordering.{int_cmp, nat_cmp, ordering_then, MatchOrdering}
@@ -10,7 +10,7 @@ use Rattle.asm_state.specs.declared.number.Number.{Number as WholeNumber}
 use Rattle.asm_state.specs.declared.element.Element.{Element as Member}
 use Rattle.asm_state.specs.declared.value.Value.{Value}
 use Rattle.asm_state.specs.declared.value.Value.TheVariants.{Undef, Truth, Number, Element}
-use Rattle.asm_state.specs.Codes.{number_code, code_of}
+use Rattle.asm_state.specs.code.Codes.{number_code, code_of}
 use Rattle.asm_state.specs.Value.{value_cmp, value_cmp-antisymmetric}
 
 number_codes_rise : (x y : ℤ) → least_number ≤ℤ x → x <ℤ y → number_code x < number_code y

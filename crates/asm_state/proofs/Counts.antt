@@ -1,18 +1,18 @@
--- How many locations, and how many argument lists of static functions, there are so far.
+-- Free. How many locations, and how many argument lists of static functions, there are so far.
 use Rattle.std.proofs.Common.{◌≡◌, ℕ, ◌+◌, ◌*◌, ◌^◌, ◌<◌, ◌≤◌, ◌↔◌, nat_le, IsTrue, All, List, length, get_or, refl, sym, ap, subst, ◌∙◌, arith}
 use Rattle.std.proofs.lemmas.Bool.Decides.{nat_tests}
 use Rattle.std.proofs.lemmas.List.{length-append}
-use Rattle.asm_state.specs.declared.limits.TheConstants.{LOCATIONS, STATIC_LISTS}
+use Rattle.asm_state.specs.declared.signature_limits.TheConstants.{MAX_LOCATIONS, MAX_STATIC_LISTS}
 use Rattle.asm_state.specs.declared.function.Function.{Function}
 use Rattle.asm_state.specs.declared.function.FunctionKind.TheVariants.{Controlled, Static}
-use Rattle.asm_state.specs.Fits.{IsDomainOf, static_lists, static_lists_by, static_count}
-use Rattle.asm_state.specs.Layout.{static_values}
+use Rattle.asm_state.specs.SignatureLimits.{IsDomainOf, static_lists, static_lists_by, static_count}
+use Rattle.asm_state.specs.code.Layout.{static_values}
 use Rattle.asm_state.specs.Signature.{Shape, domain_in, function_locations, locations_by, count_of}
 use Rattle.asm_state.specs.Tables.{argument_lists}
 use Rattle.asm_state.proofs.GivenValues.{static_length, given_count}
 use Rattle.asm_state.proofs.LayoutsSoFar.{locations_before, given_before, locations_up, given_up, all_locations, all_given}
 use Rattle.asm_state.proofs.ListPositions.{few_lists}
-use Rattle.asm_state.proofs.NumberedLocations.{how_many}
+use Rattle.asm_state.proofs.LocationLemmas.NumberedLocations.{how_many}
 
 pub record CountsTo (shape : Shape) (f locations static_lists : ℕ) : Type 0 where
   pub locations_are : locations ≡ length (locations_before shape f)
@@ -74,14 +74,14 @@ known_lists shape f function domain lists domains h is same are bound =
     )
 
 -- two bounds by the tests of two numbers
-pub both_within : (a b m n : ℕ) → a ≡ m → b ≡ n → a ≤ LOCATIONS → IsTrue (nat_le b STATIC_LISTS) ↔ ((m ≤ LOCATIONS) × (n ≤ STATIC_LISTS))
+pub both_within : (a b m n : ℕ) → a ≡ m → b ≡ n → a ≤ MAX_LOCATIONS → IsTrue (nat_le b MAX_STATIC_LISTS) ↔ ((m ≤ MAX_LOCATIONS) × (n ≤ MAX_STATIC_LISTS))
 both_within a b m n e f h = (
-  λ t. let low : b ≤ STATIC_LISTS = grind (arith, nat_tests) in (omega (arith, e, h), omega (arith, f, low)),
-  λ both. let low : b ≤ STATIC_LISTS = omega (arith, f, both.1) in grind (arith, nat_tests),
+  λ t. let low : b ≤ MAX_STATIC_LISTS = grind (arith, nat_tests) in (omega (arith, e, h), omega (arith, f, low)),
+  λ both. let low : b ≤ MAX_STATIC_LISTS = omega (arith, f, both.1) in grind (arith, nat_tests),
 )
 
-pub first_past : (a m n : ℕ) → a ≡ m → LOCATIONS < a → IsTrue (nat_le a LOCATIONS) ↔ ((m ≤ LOCATIONS) × (n ≤ STATIC_LISTS))
+pub first_past : (a m n : ℕ) → a ≡ m → MAX_LOCATIONS < a → IsTrue (nat_le a MAX_LOCATIONS) ↔ ((m ≤ MAX_LOCATIONS) × (n ≤ MAX_STATIC_LISTS))
 first_past a m n e h = (
-  λ t. let low : a ≤ LOCATIONS = grind (arith, nat_tests) in absurd (omega (arith, low, h)),
+  λ t. let low : a ≤ MAX_LOCATIONS = grind (arith, nat_tests) in absurd (omega (arith, low, h)),
   λ both. absurd (omega (arith, e, both.0, h)),
 )

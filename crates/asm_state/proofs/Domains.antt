@@ -1,4 +1,4 @@
--- Positions in universes, and the argument lists of domains.
+-- Free. Positions in universes, and the argument lists of domains.
 use Rattle.std.proofs.Common.{◌≡◌, ℕ, ◌<◌, true, false, List, length, get_or, refl, sym, ap, subst, ◌∙◌, arith, Some, None, nat_lt, cond}
 use Rattle.std.specs.Prelude.{slice_get}
 use Rattle.std.specs.List.{position, position_or_len}
@@ -15,11 +15,11 @@ use Rattle.asm_state.specs.Tables.{argument_lists}
 use Rattle.asm_state.specs.Universe.{elements, numbers, IsUniverse}
 use Rattle.asm_state.specs.Value.{value_cmp, value_cmp-total}
 use Rattle.asm_state.proofs.ArgumentLists.{lists_apart}
-use Rattle.asm_state.proofs.Containing.{contains_in, in_contains, same_contained}
+use Rattle.asm_state.proofs.ListsInDomain.{contains_in, in_contains, same_contained}
 use Rattle.asm_state.proofs.ListPositions.{length-rows}
 use Rattle.asm_state.proofs.Positions.{position_found, position_missed}
 use Rattle.asm_state.proofs.UniverseValues.{length-elements, length-numbers, at_elements, at_numbers, elements_rise, numbers_rise}
-use Rattle.asm_state.proofs.Updates.{same_value, value_itself}
+use Rattle.asm_state.proofs.UpdateLemmas.Updates.{same_value, value_itself}
 
 value_at : (vs : List Value) (v : Value) (i : ℕ) → position (is_same v) vs ≡ Some i → slice_get vs i ≡ Some v
 value_at vs v i e =

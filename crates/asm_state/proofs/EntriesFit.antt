@@ -1,4 +1,4 @@
--- Whether the entries of a table are in a domain, each argument list once.
+-- Free. Whether the entries of a table are in a domain, each argument list once.
 use Rattle.std.proofs.Common.{◌≡◌, ◌≢◌, ℕ, ◌+◌, ◌<◌, ◌≤◌, true, false, nat_eq, List, [], length, get_or, refl, sym, ap, subst, ◌∙◌, arith, IsTrue, All}
 use Rattle.std.proofs.lemmas.Bool.{false≢true}
 use Rattle.std.proofs.lemmas.Bool.Decides.{nat_tests}

@@ -1,4 +1,4 @@
--- Examples of operations, and of locations and their numbers.
+-- Law. Examples of operations, and of locations and their numbers.
 use Rattle.std.proofs.Common.{◌≡◌, refl, List, [], ◌∷◌, ℤ, true, false, pos, negsuc}
 use Rattle.asm_state.specs.Bounds.{greatest_number}
 use Rattle.asm_state.specs.declared.value.Value.TheVariants.{Undef, Truth}

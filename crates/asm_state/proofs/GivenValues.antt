@@ -1,4 +1,4 @@
--- Where the values of static functions stand.
+-- Free. Where the values of static functions are.
 use Rattle.std.proofs.Common.{◌≡◌, ℕ, ◌+◌, ◌<◌, ◌≤◌, true, false, cond, List, [], map, length, get_or, refl, sym, ap, subst, ◌∙◌, arith, Some}
 use Rattle.std.specs.Prelude.{slice_get, sum_by}
 use Rattle.std.specs.List.{flat_map}
@@ -6,21 +6,21 @@ use Rattle.std.proofs.lemmas.List.{length-map, get_or-map}
 use Rattle.std.proofs.lemmas.List.Concat.{get_or-flat_map, length-flat_map}
 use Rattle.std.proofs.lemmas.List.Folds.{length-flat_map-take}
 use Rattle.std.proofs.lemmas.Option.{slice_get_within}
-use Rattle.asm_state.specs.declared.limits.TheConstants.{STATIC_LISTS}
+use Rattle.asm_state.specs.declared.signature_limits.TheConstants.{MAX_STATIC_LISTS}
 use Rattle.asm_state.specs.declared.function.Function.{Function}
 use Rattle.asm_state.specs.declared.function.FunctionKind.{FunctionKind}
 use Rattle.asm_state.specs.declared.function.FunctionKind.TheVariants.{Controlled, Static}
-use Rattle.asm_state.specs.declared.layout.Extent.{Extent}
+use Rattle.asm_state.specs.declared.layout.Stretch.{Stretch}
 use Rattle.asm_state.specs.declared.layout.Layout.{Layout}
 use Rattle.asm_state.specs.declared.value.Value.{Value}
 use Rattle.asm_state.specs.declared.value.Value.TheVariants.{Undef}
-use Rattle.asm_state.specs.Fits.{static_lists, static_lists_by, static_count}
-use Rattle.asm_state.specs.Layout.{IsLayoutOf, static_values, static_values_by, start_by}
+use Rattle.asm_state.specs.SignatureLimits.{static_lists, static_lists_by, static_count}
+use Rattle.asm_state.specs.code.Layout.{IsLayoutOf, static_values, static_values_by, start_by}
 use Rattle.asm_state.specs.Signature.{Shape, HasKind, domain_in, held_value, held_by}
 use Rattle.asm_state.specs.Tables.{argument_lists, is_in, table_value}
 use Rattle.asm_state.proofs.LayoutsSoFar.{given_before, listed_in}
-use Rattle.asm_state.proofs.LocationIndices.{lists_of}
-use Rattle.asm_state.proofs.Owners.{same_function, any_extent}
+use Rattle.asm_state.proofs.LocationLemmas.LocationIndices.{lists_of}
+use Rattle.asm_state.proofs.LocationLemmas.FunctionOfLocation.{same_function, any_extent}
 
 pub static_length : (universes : List (List Value)) (function : Function) → length (static_values universes function) ≡ static_lists universes function
 static_length universes function = by_kind function.kind
@@ -40,16 +40,16 @@ given_count shape =
 
 pub record IsGiven (shape : Shape) (layout : Layout) (f n : ℕ) (arguments : List Value) : Type 0 where
   pub in_range : n < length layout.given.items
-  pub few : length layout.given.items ≤ STATIC_LISTS
+  pub few : length layout.given.items ≤ MAX_STATIC_LISTS
   pub value : (d : Value) → get_or layout.given.items n d ≡ held_value shape f arguments
 
 -- the value of a static function for a list in its domain
-pub given_here : (shape : Shape) (layout : Layout) → IsLayoutOf shape layout → (f : ℕ) (function : Function) (extent : Extent) (arguments : List Value) (k : ℕ) → HasKind Static shape f
+pub given_here : (shape : Shape) (layout : Layout) → IsLayoutOf shape layout → (f : ℕ) (function : Function) (extent : Stretch) (arguments : List Value) (k : ℕ) → HasKind Static shape f
     → function ≡ get_or shape.functions f function → extent ≡ get_or layout.extents.items f extent
     → k < length (lists_of shape function) → get_or (lists_of shape function) k [] ≡ arguments → IsGiven shape layout f (extent.start + k) arguments
 given_here shape layout laid_out f function extent arguments k has is of h at = record {
   in_range = subst (λ vs. extent.start + k < length vs) (sym laid_out.given) below;
-  few = subst (λ n. n ≤ STATIC_LISTS) (sym (ap length laid_out.given ∙ given_count shape)) laid_out.fits.few_static_lists;
+  few = subst (λ n. n ≤ MAX_STATIC_LISTS) (sym (ap length laid_out.given ∙ given_count shape)) laid_out.fits.few_static_lists;
   value = λ d.
       ap (λ vs. get_or vs (extent.start + k) d) laid_out.given
       ∙ ap (λ n. get_or (flat_map (static_values shape.universes) shape.functions) (n + k) d) start

@@ -1,4 +1,4 @@
--- Layouts, function after function.
+-- Free. Layouts, function after function.
 use Rattle.std.proofs.Common.{◌≡◌, ℕ, suc, ◌+◌, List, [], ◌∷◌, ◌++◌, map, replicate, length, refl, sym, ap, ◌∙◌, arith, append_assoc, append-nil, Result, Ok, Err}
 use Rattle.std.specs.Prelude.{OnOk}
 use Rattle.asm_state.specs.declared.function.Function.{Function}
@@ -6,7 +6,7 @@ use Rattle.asm_state.specs.declared.function.FunctionKind.TheVariants.{Controlle
 use Rattle.asm_state.specs.declared.layout.Layout.{Layout}
 use Rattle.asm_state.specs.declared.value.Value.{Value}
 use Rattle.asm_state.specs.declared.value.Value.TheVariants.{Undef}
-use Rattle.asm_state.specs.Layout.{IsNext, initial_values_by, next_start, static_values_by}
+use Rattle.asm_state.specs.code.Layout.{IsNext, initial_values_by, next_start, static_values_by}
 use Rattle.asm_state.specs.Location.{Proper, Stray, function_of}
 use Rattle.asm_state.specs.Signature.{domain_in, locations_by}
 use Rattle.asm_state.specs.Tables.{Domain, argument_lists, table_value}

@@ -1,4 +1,4 @@
--- The layout of the first functions of a signature, and where its locations stand in it.
+-- Free. The layout of the first functions of a signature, and where its locations are in it.
 use Rattle.std.proofs.Common.{◌≡◌, ℕ, suc, ◌+◌, ◌<◌, ◌≤◌, true, false, cond, nat_eq, List, [], ◌∷◌, ◌++◌, map, take, length, get_or, refl, sym, ap, subst, ◌∙◌, arith, Some}
 use Rattle.std.specs.Prelude.{slice_get}
 use Rattle.std.specs.List.{flat_map, enumerate_from}
@@ -12,18 +12,18 @@ use Rattle.std.proofs.lemmas.Option.{slice_get-get_or}
 use Rattle.asm_state.specs.declared.function.Function.{Function}
 use Rattle.asm_state.specs.declared.function.FunctionKind.{FunctionKind}
 use Rattle.asm_state.specs.declared.function.FunctionKind.TheVariants.{Controlled, Static}
-use Rattle.asm_state.specs.declared.layout.Extent.{Extent}
+use Rattle.asm_state.specs.declared.layout.Stretch.{Stretch}
 use Rattle.asm_state.specs.declared.layout.Layout.{Layout}
 use Rattle.asm_state.specs.declared.value.Value.{Value}
 use Rattle.asm_state.specs.declared.value.Value.TheVariants.{Undef}
-use Rattle.asm_state.specs.Fits.{Fits}
-use Rattle.asm_state.specs.Layout.{IsNext, IsLayoutOf, IsExtentOf, initial_values, initial_values_by, next_start, static_values, start_by}
+use Rattle.asm_state.specs.SignatureLimits.{Fits}
+use Rattle.asm_state.specs.code.Layout.{IsNext, IsLayoutOf, IsStretchOf, initial_values, initial_values_by, next_start, static_values, start_by}
 use Rattle.asm_state.specs.Location.{Location, Proper, Stray, function_of}
 use Rattle.asm_state.specs.Signature.{Shape, IsSound, domain_in, locations_by, function_locations, locations, initial_state, initial_value}
 use Rattle.asm_state.specs.Tables.{Domain, argument_lists, is_in, table_value, value_in}
-use Rattle.asm_state.proofs.Containing.{in_contains}
+use Rattle.asm_state.proofs.ListsInDomain.{in_contains}
 
--- ---- what stands before a function
+-- ---- what is before a function
 
 abbrev pub locations_before : Shape → ℕ → List Location
 locations_before shape f = flat_map (function_locations shape.universes) (take f (enumerate_from 0 shape.functions))
@@ -100,7 +100,7 @@ initial_contents shape f function at = by_kind function.kind refl
 
 pub record UpTo (shape : Shape) (f : ℕ) (layout : Layout) : Type 0 where
   pub beside : length layout.extents.items ≡ f
-  pub extents : (k : ℕ) (function : Function) (d : Extent) → k < f → IsExtentOf shape k (get_or shape.functions k function) (get_or layout.extents.items k d)
+  pub extents : (k : ℕ) (function : Function) (d : Stretch) → k < f → IsStretchOf shape k (get_or shape.functions k function) (get_or layout.extents.items k d)
   pub owners : layout.owners.items ≡ map function_of (locations_before shape f)
   pub initial : layout.initial.items ≡ map (initial_state shape) (locations_before shape f)
   pub given : layout.given.items ≡ given_before shape f
@@ -124,19 +124,19 @@ step_up shape f function old new so_far h is next =
       given = next.given ∙ ap (λ vs. vs ++ static_values shape.universes function) so_far.given ∙ sym (given_up shape f function h is);
     }
   where
-    last : Extent
+    last : Stretch
     last = record { start = next_start function.kind old; lists = length (argument_lists (domain_in shape.universes function.domain)) }
 
-    each : (k : ℕ) (other : Function) (d : Extent) → k < f + 1 → IsExtentOf shape k (get_or shape.functions k other) (get_or new.extents.items k d)
+    each : (k : ℕ) (other : Function) (d : Stretch) → k < f + 1 → IsStretchOf shape k (get_or shape.functions k other) (get_or new.extents.items k d)
     each k other d below =
-        elim (nat_eq k f) as (λ b. nat_eq k f ≡ b → IsExtentOf shape k (get_or shape.functions k other) (get_or new.extents.items k d)) [
+        elim (nat_eq k f) as (λ b. nat_eq k f ≡ b → IsStretchOf shape k (get_or shape.functions k other) (get_or new.extents.items k d)) [
           | true ↦ λ e.
               let same : k ≡ f = grind (arith, nat_tests) in
-              subst (λ k. IsExtentOf shape k (get_or shape.functions k other) (get_or new.extents.items k d)) (sym same) here
+              subst (λ k. IsStretchOf shape k (get_or shape.functions k other) (get_or new.extents.items k d)) (sym same) here
           | false ↦ λ e.
               let before : k < f = grind (arith, nat_tests) in
               let stands : k < length old.extents.items = subst (λ n. k < n) (sym so_far.beside) before in
-              subst (IsExtentOf shape k (get_or shape.functions k other)) (sym (ap (λ es. get_or es k d) next.extents ∙ get_or-append old.extents.items (last ∷ []) d k stands)) (so_far.extents k other d before)
+              subst (IsStretchOf shape k (get_or shape.functions k other)) (sym (ap (λ es. get_or es k d) next.extents ∙ get_or-append old.extents.items (last ∷ []) d k stands)) (so_far.extents k other d before)
         ] refl
       where
         last_is : get_or new.extents.items f d ≡ last
@@ -145,10 +145,10 @@ step_up shape f function old new so_far h is next =
         function_is : get_or shape.functions f other ≡ function
         function_is = get_or_default shape.functions f other function h ∙ sym is
 
-        here : IsExtentOf shape f (get_or shape.functions f other) (get_or new.extents.items f d)
+        here : IsStretchOf shape f (get_or shape.functions f other) (get_or new.extents.items f d)
         here =
-            subst (λ g. IsExtentOf shape f g (get_or new.extents.items f d)) (sym function_is)
-            (subst (IsExtentOf shape f function) (sym last_is) (record { start = start_is function.kind shape f old so_far; lists = refl }))
+            subst (λ g. IsStretchOf shape f g (get_or new.extents.items f d)) (sym function_is)
+            (subst (IsStretchOf shape f function) (sym last_is) (record { start = start_is function.kind shape f old so_far; lists = refl }))
 
 pub none_so_far : (shape : Shape) (layout : Layout) → layout.extents.items ≡ [] → layout.owners.items ≡ [] → layout.initial.items ≡ [] → layout.given.items ≡ [] → UpTo shape 0 layout
 none_so_far shape layout extents owners initial given = record {

@@ -1,4 +1,5 @@
--- Argument lists by their positions: those of a domain are rows, one for each value of its first universe.
+-- Free. Argument lists by their positions: those of a domain are rows, one for each value of its
+-- first universe.
 use Rattle.std.proofs.Common.{append_assoc, ◌≡◌, false, ◌&&◌, ℕ, zero, suc, ◌+◌, ◌*◌, ◌^◌, ◌/◌, ◌%◌, ◌<◌, ◌≤◌, List, [], ◌∷◌, ◌++◌, map, take, length, get_or, refl, sym, ap, subst, ◌∙◌, arith, le_trans}
 use Rattle.std.specs.Prelude.{All}
 use Rattle.std.specs.List.{flat_map, list_any}
@@ -91,7 +92,7 @@ quotient_below k n (suc m) h =
     let positive : 0 < suc m = omega arith in
     (positive, (div-lt_iff_lt-mul positive).1 h, mod-lt k positive)
 
--- the universe that stands at a number which there is
+-- the universe at a number that exists
 pub universe_at : (universes : List (List Value)) (domain : List ℕ) (n : ℕ) (ns : List ℕ) (vs : List Value) → domain ≡ n ∷ ns
     → All (λ n. n < length universes) domain → vs ≡ get_or universes n vs → vs ≡ get_or universes n []
 universe_at universes domain n ns vs e known is =
@@ -136,7 +137,7 @@ row_here universes domain n ns k count e is h =
       list = ap (λ m. get_or (argument_lists (domain_in universes domain)) m []) (sym (div-add-mod' k count)) ∙ split.1;
     }
 
--- a value and then the rest, behind what is there, are the whole list behind it
+-- a value and then the rest, after what is there, are the whole list after it
 pub pushed_before : (old pushed : List Value) (v : Value) (vs whole : List Value) → pushed ≡ old ++ (v ∷ []) → whole ≡ v ∷ vs → pushed ++ vs ≡ old ++ whole
 pushed_before old pushed v vs whole e f =
     ap (λ us. us ++ vs) e ∙ append_assoc old (v ∷ []) vs ∙ ap (λ us. old ++ us) (sym f)

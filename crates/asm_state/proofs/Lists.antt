@@ -1,5 +1,6 @@
--- General lemmas on lists and orders, which say nothing of this product: what a list contains, what holds of each element,
--- what holds of each element and each later one, and what tests of an order say. The crates above may cite them too.
+-- Free. General lemmas on lists and orders, which say nothing of this product: what a list
+-- contains, what holds of each element, what holds of each element and each later one, and what
+-- tests of an order say. The crates above may cite them too.
 use Rattle.std.proofs.Common.{◌≡◌, zero, suc, true, false, List, [], ◌∷◌, ◌++◌, map, flat_map, get_or, All, AllPairs, Contains, ◌⊎◌, inl, inr, refl, sym, subst, arith}
 use Rattle.std.specs.Ordering.{is_lt, is_gt, ordering_reverse}
 use Rattle.std.specs.declared.cmp.Ordering.{Ordering}
@@ -80,7 +81,7 @@ module _ {X : Type 0} (R : X → X → Type 0) where
   pub AllPairs-tail : (x : X) (xs : List X) → AllPairs R (x ∷ xs) → AllPairs R xs
   AllPairs-tail x xs h i j d below inside = h (suc i) (suc j) d (omega arith) (omega arith)
 
-  -- each element of the one list stands before each of the other
+  -- each element of the one list is before each of the other
   pub AllPairs-append : (xs ys : List X) → AllPairs R xs → AllPairs R ys → ((x y : X) → Contains xs x → Contains ys y → R x y) → AllPairs R (xs ++ ys)
   AllPairs-append [] ys first second across = second
   AllPairs-append (x ∷ xs) ys first second across =
@@ -99,7 +100,7 @@ module _ {X Y : Type 0} (R : X → X → Type 0) (S : Y → Y → Type 0) where
       (All-map (S (f x)) f xs (λ k d below. keeps x (get_or xs k d) (AllPairs-head R x xs h k d below)))
       (AllPairs-map f keeps xs (AllPairs-tail R x xs h))
 
-  -- pieces that keep to S, of which those of earlier elements stand before those of later ones
+  -- pieces that keep to S, those of earlier elements before those of later ones
   pub AllPairs-flat_map : (f : X → List Y) → ((x : X) → AllPairs S (f x)) → ((x y : X) (a b : Y) → R x y → Contains (f x) a → Contains (f y) b → S a b) → (xs : List X) → AllPairs R xs → AllPairs S (flat_map f xs)
   AllPairs-flat_map f inner across [] h = AllPairs-none S
   AllPairs-flat_map f inner across (x ∷ xs) h =
@@ -119,7 +120,7 @@ is_gt-from_lt Less e = refl
 is_gt-from_lt Equal e = refl
 is_gt-from_lt Greater e = absurd (false≢true e)
 
--- two of which neither is above the other
+-- two, neither of them above the other
 pub equal-from_neither : (r : Ordering) → is_gt r ≡ false → is_gt (ordering_reverse r) ≡ false → r ≡ Equal
 equal-from_neither Less e f = absurd (false≢true (sym f))
 equal-from_neither Equal e f = refl

@@ -1,5 +1,6 @@
--- A number in the range is its own value, and what the code's arithmetic gives is the number that is meant.
-pub use Rattle.asm_state.specs.WordCodes.{number_is, number_in_range}
+-- Free. A number in the range is its own value, and what the code's arithmetic gives is the number
+-- that is meant.
+pub use Rattle.asm_state.specs.code.WordCodes.{number_is, number_in_range}
 use Rattle.std.proofs.Common.{◌≡◌, Bool, true, false, Some, None, refl, sym, ap, ◌∙◌, subst, ℤ, pos, ◌≤ℤ◌, ◌+ℤ◌, ◌-ℤ◌, ◌*ℤ◌, neg_ℤ, to_z, of_z, w64, FitsSigned, arith}
 use Rattle.std.specs.Prelude.{int_le}
 use Rattle.std.proofs.lemmas.Int.{ints}

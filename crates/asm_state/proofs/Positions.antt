@@ -1,4 +1,4 @@
--- What the position of a value in a list says: the value stands there, or nowhere.
+-- Free. What the position of a value in a list says: the value is there, or nowhere.
 use Rattle.std.proofs.Common.{◌≡◌, ℕ, ◌<◌, ◌≤◌, Bool, true, false, List, length, slice_index_or, Some, None, refl, sym, ap, ◌∙◌, arith}
 use Rattle.std.specs.List.{list_any, position, position_or_len}
 use Rattle.std.proofs.lemmas.Bool.{false≢true}
@@ -9,9 +9,9 @@ use Rattle.std.proofs.lemmas.List.Sums.{fails_before_first}
 use Rattle.asm_state.specs.declared.value.Value.{Value}
 use Rattle.asm_state.specs.declared.value.Value.TheVariants.{Undef}
 use Rattle.asm_state.specs.Operation.{is_same}
-use Rattle.asm_state.proofs.Updates.{same_value}
+use Rattle.asm_state.proofs.UpdateLemmas.Updates.{same_value}
 
--- where it has one, the value stands there
+-- if it has one, the value is there
 pub position_found : (v : Value) (vs : List Value) (p : ℕ) → position (is_same v) vs ≡ Some p → (p < length vs) × (slice_index_or vs p Undef ≡ v)
 position_found v vs p e =
     let at = position-Some (is_same v) vs p Undef e in
@@ -21,7 +21,7 @@ position_found v vs p e =
 past_end : (p : Value → Bool) (vs : List Value) → position p vs ≡ None → length vs ≤ position_or_len p vs
 past_end p vs e = grind (arith, common_steps)
 
--- where it has none, the value stands nowhere
+-- if it has none, the value is nowhere
 pub position_missed : (v : Value) (vs : List Value) → position (is_same v) vs ≡ None → list_any (is_same v) vs ≡ false
 position_missed v vs e =
     elim (list_any (is_same v) vs) as (λ b. list_any (is_same v) vs ≡ b → b ≡ false) [

@@ -1,16 +1,16 @@
--- What a signature of the code has inside.
+-- Free. What a signature of the code has inside.
 use Rattle.std.proofs.Common.{◌≡◌, ◌≢◌, ℕ, ◌-◌, ◌<◌, List, [], length, get_or, ap, subst, sym, ◌∙◌}
 use Rattle.std.proofs.lemmas.Option.{get_or_from_slice_get, slice_get_within}
 use Rattle.asm_state.specs.declared.function.Function.{Function}
 use Rattle.asm_state.specs.declared.value.Value.{Value}
-use Rattle.asm_state.specs.Fits.{IsDomainOf}
+use Rattle.asm_state.specs.SignatureLimits.{IsDomainOf}
 use Rattle.asm_state.specs.Location.{Proper}
 use Rattle.asm_state.specs.Tables.{argument_lists}
 use Rattle.asm_state.specs.declared.signature.Signature.TheInside.{Inside}
-use Rattle.asm_state.specs.Layout.{IsLayoutOf}
+use Rattle.asm_state.specs.code.Layout.{IsLayoutOf}
 use Rattle.asm_state.specs.Signature.{Shape, count_of, domain_in, location_at}
-use Rattle.asm_state.specs.declared.layout.Extent.{Extent}
-use Rattle.asm_state.proofs.Owners.{Owned, IsAt, owner_here, index_here}
+use Rattle.asm_state.specs.declared.layout.Stretch.{Stretch}
+use Rattle.asm_state.proofs.LocationLemmas.FunctionOfLocation.{Owned, IsAt, owner_here, index_here}
 
 abbrev pub shape_of : Inside → Shape
 shape_of s = record { universes = s.universes.items; functions = s.functions.items }
@@ -23,7 +23,7 @@ module _ (inside : Inside) (laid_out : IsLayoutOf (shape_of inside) inside.layou
   pub owned : Owned (shape_of inside) n f
   owned = owner_here (shape_of inside) inside.layout laid_out n f below_inside is
 
-  pub index : (extent : Extent) → extent ≡ get_or inside.layout.extents.items f extent → IsAt (shape_of inside) n f extent.start extent.lists
+  pub index : (extent : Stretch) → extent ≡ get_or inside.layout.extents.items f extent → IsAt (shape_of inside) n f extent.start extent.lists
   index extent of = index_here (shape_of inside) inside.layout laid_out n f extent below_inside is of
 
 -- the location with a number, by the universes and the domain that the code reads

@@ -1,4 +1,4 @@
--- The states that lists of contents are.
+-- Free. The states that lists of contents are.
 use Rattle.std.proofs.Common.{◌≡◌, ◌≢◌, ℕ, ◌<◌, ◌≤◌, Bool, true, false, cond, List, map, length, get_or, set, slice_get, Option, Some, None, IsTrue, inl, inr, refl, sym, ap, subst, ◌∙◌, arith}
 use Rattle.std.proofs.lemmas.Bool.{cases_lt, false_from_ne_true, false≢true}
 use Rattle.std.proofs.lemmas.List.{get_or_past, get_or-map, length-map, length-set, get_or-set_same, get_or-set_other}
@@ -7,14 +7,14 @@ use Rattle.asm_state.specs.declared.function.FunctionKind.{FunctionKind}
 use Rattle.asm_state.specs.declared.function.FunctionKind.TheVariants.{Controlled, Static}
 use Rattle.asm_state.specs.declared.value.Value.{Value}
 use Rattle.asm_state.specs.declared.value.Value.TheVariants.{Undef}
-use Rattle.asm_state.specs.Contents.{IsStateOf}
+use Rattle.asm_state.specs.code.Contents.{IsStateOf}
 use Rattle.asm_state.specs.Location.{Location, Proper, Stray, changed}
 use Rattle.asm_state.specs.Tables.{is_in}
 use Rattle.asm_state.specs.Updates.{is_proper}
 use Rattle.asm_state.specs.Signature.{Shape, IsSound, domain_in, domain_by, locations, count_of, location_at, is_location, number_at, IsLocationOf, state_of, initial_value, initial_state}
-use Rattle.asm_state.specs.SignatureLaws.{StateLaws}
-use Rattle.asm_state.proofs.Updates.{same_location, location_itself}
-use Rattle.asm_state.proofs.NumberedLocations.{has_held, is_location_at, number, in_range, location_below}
+use Rattle.asm_state.specs.code.SignatureLaws.{StateLaws}
+use Rattle.asm_state.proofs.UpdateLemmas.Updates.{same_location, location_itself}
+use Rattle.asm_state.proofs.LocationLemmas.NumberedLocations.{has_held, is_location_at, number, in_range, location_below}
 
 content : (shape : Shape) (contents : List Value) (l : Location) → IsTrue (is_proper l) → state_of shape contents l ≡ get_or contents (number_at shape l) Undef
 content shape contents l h = ap (λ b. cond b (get_or contents (number_at shape l) Undef) Undef) h

@@ -1,4 +1,5 @@
--- The values of a table for all argument lists of a domain, written entry after entry from the last one on.
+-- Free. The values of a table for all argument lists of a domain, written entry after entry from
+-- the last one on.
 use Rattle.std.proofs.Common.{◌≡◌, ◌≢◌, ℕ, suc, ◌<◌, ◌≤◌, true, false, cond, nat_eq, nat_lt, ◌+◌, ◌-◌, drop, List, [], ◌∷◌, map, length, get_or, set, refl, sym, ap, subst, ◌∙◌, arith, All, Some, unwrap_or}
 use Rattle.std.specs.Cmp.{tied_itself}
 use Rattle.std.specs.Cmp.Lexicographic.{slice_cmp, lists_total}
@@ -13,11 +14,12 @@ use Rattle.asm_state.specs.Tables.{Domain, argument_lists, is_in, is_list, entry
 use Rattle.asm_state.specs.Universe.{IsUniverse}
 use Rattle.asm_state.specs.Value.{value_cmp, value_cmp-total}
 use Rattle.asm_state.proofs.ArgumentLists.{lists_apart}
-use Rattle.asm_state.proofs.Containing.{in_contains}
+use Rattle.asm_state.proofs.ListsInDomain.{in_contains}
 use Rattle.asm_state.proofs.ValueLaws.{value_laws}
 
 module _ {X Y : Type 0} where
-  -- a list of images under f, with one of them changed, is that under g, if these differ nowhere else
+  -- a list of images under f, with one of them changed, is that under g, if these differ nowhere
+  -- else
   pub set_map : (f g : X → Y) (xs : List X) (k : ℕ) (v : Y) (d : X) → k < length xs → g (get_or xs k d) ≡ v
       → ((j : ℕ) → j < length xs → j ≢ k → f (get_or xs j d) ≡ g (get_or xs j d)) → set (map f xs) k v ≡ map g xs
   set_map f g xs k v d inside at others =
@@ -54,7 +56,7 @@ less_differs us vs less same =
     apart : Equal ≡ Less → ⊥
     apart e = cc
 
--- no argument list stands at two positions
+-- no argument list is at two positions
 pub stands_once : (domain : Domain) → All IsUniverse domain → (i j : ℕ) → i < length (argument_lists domain) → j < length (argument_lists domain) → j ≢ i
     → get_or (argument_lists domain) i [] ≢ get_or (argument_lists domain) j []
 stands_once domain sound i j h g apart same =

@@ -1,4 +1,4 @@
--- The laws of values.
+-- Free. The laws of values.
 use Rattle.std.proofs.Common.{◌≡◌, true, subst, sym}
 use Rattle.std.specs.Bool.{Decides}
 use Rattle.std.specs.Cmp.Lexicographic.{pointwise_decides}
@@ -6,7 +6,7 @@ use Rattle.asm_state.specs.declared.value.Value.{Value}
 use Rattle.asm_state.specs.Operation.{is_same}
 use Rattle.asm_state.specs.ValueLaws.{ValueLaws}
 use Rattle.asm_state.proofs.Numbers.{number_has, number_in_range, number_is}
-use Rattle.asm_state.proofs.Updates.{same_value, value_itself}
+use Rattle.asm_state.proofs.UpdateLemmas.Updates.{same_value, value_itself}
 use Rattle.asm_state.proofs.UniverseValues.{element_in_range, element_code}
 
 same : (v w : Value) → Decides (is_same v w) (v ≡ w)

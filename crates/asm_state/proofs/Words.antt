@@ -1,12 +1,13 @@
--- Each value is the one that its code stands for, and each code is that of the value that it stands for.
+-- Free. Each value is the one that its code stands for, and each code is that of the value that it
+-- stands for.
 use Rattle.std.proofs.Common.{◌≡◌, ◌≢◌, to_z, of_z, w64, nat_eq, ℕ, zero, suc, ◌-◌, ◌<◌, ◌≤◌, ℤ, pos, negsuc, ◌≤ℤ◌, ◌-ℤ◌, true, false, refl, sym, ap, ◌∙◌, arith}
 use Rattle.std.proofs.lemmas.Int.{ints}
 use Rattle.asm_state.specs.declared.value.Value.{Value}
 use Rattle.asm_state.specs.declared.value.Value.TheVariants.{Undef, Truth, Number, Element}
 use Rattle.asm_state.specs.Bounds.{least_number, code_of_zero, code_of_first_element}
-use Rattle.asm_state.specs.Codes.{number_code, code_of}
+use Rattle.asm_state.specs.code.Codes.{number_code, code_of}
 use Rattle.asm_state.specs.Words.{value_of_code, IsCode}
-use Rattle.asm_state.specs.WordCodes.{number_in_range, element_in_range, at_plain, at_number, at_element, encoded, same_code}
+use Rattle.asm_state.specs.code.WordCodes.{number_in_range, element_in_range, code_of_plain, at_number, at_element, encoded, same_code}
 use Rattle.asm_state.proofs.Codes.{codes_apart, number_bounds}
 
 -- the number of a code
@@ -16,9 +17,9 @@ decoded (negsuc n) low = omega (arith, ints)
 
 -- each value is the one at its code
 pub value_itself : (v : Value) → value_of_code (code_of v) ≡ v
-value_itself Undef = at_plain 1 (omega arith)
-value_itself (Truth false) = at_plain 2 (omega arith)
-value_itself (Truth true) = at_plain 3 (omega arith)
+value_itself Undef = code_of_plain 1 (omega arith)
+value_itself (Truth false) = code_of_plain 2 (omega arith)
+value_itself (Truth true) = code_of_plain 3 (omega arith)
 value_itself (Number n) =
     let bounds = number_bounds n in
     at_number (code_of (Number n)) bounds.0 (omega (arith, bounds.1)) ∙ sym (number_in_range _ n (sym (decoded n.value n.low)))

@@ -3,7 +3,7 @@ use Rattle.std.specs.Prelude.{◌≡◌, ◌<◌, ◌≤◌, ◌↔◌, ℕ, ◌
 use Rattle.std.specs.Cmp.Lexicographic.{slice_cmp}
 use Rattle.std.specs.List.{position}
 use Rattle.std.specs.declared.cmp.Ordering.TheVariants.{Less}
-use Rattle.asm_state.specs.declared.element.TheConstants.{ELEMENTS}
+use Rattle.asm_state.specs.declared.element.TheConstants.{MAX_ELEMENTS}
 use Rattle.asm_state.specs.declared.number.Number.{Number as WholeNumber}
 use Rattle.asm_state.specs.declared.value.Value.{Value}
 use Rattle.asm_state.specs.Operation.{is_same, number_or_undef}
@@ -18,15 +18,17 @@ pub record UniverseLaws : Type 0 where
   pub number_count : (first : ℤ) (count : ℕ) → length (numbers first count) ≡ count
   pub number_at : (first : ℤ) (count i : ℕ) → i < count → slice_get (numbers first count) i ≡ Some (number_or_undef (first +ℤ pos i))
   -- elements and numbers in their range rise
-  pub elements_rise : (first count : ℕ) → first + count ≤ ELEMENTS → IsUniverse (elements first count)
+  pub elements_rise : (first count : ℕ) → first + count ≤ MAX_ELEMENTS → IsUniverse (elements first count)
   pub numbers_rise : (first last : WholeNumber) → IsUniverse (numbers_between first.value last.value)
-  -- the value at the position of a value is that value, and the position of the value at a position is that position
+  -- the value at the position of a value is that value, and the position of the value at a position
+  -- is that position
   pub value : (vs : List Value) (v : Value) (i : ℕ) → position (is_same v) vs ≡ Some i → slice_get vs i ≡ Some v
   pub position_of : (vs : List Value) (v : Value) (i : ℕ) → IsUniverse vs → slice_get vs i ≡ Some v → position (is_same v) vs ≡ Some i
   pub without : (vs : List Value) (v : Value) → position (is_same v) vs ≡ None → ¬ (Contains vs v)
 
 pub record DomainLaws : Type 0 where
-  -- no universe has one argument list, and a universe more has the lists of the rest for each of its values
+  -- no universe has one argument list, and a universe more has the lists of the rest for each of
+  -- its values
   pub count_of_none : length (argument_lists []) ≡ 1
   pub count : (vs : List Value) (domain : Domain) → length (argument_lists (vs ∷ domain)) ≡ length vs * length (argument_lists domain)
   -- the argument lists of a domain are those that are in it

@@ -1,7 +1,9 @@
--- The locations of a state, and their order.
---     Location          a controlled function, by its number in the order of declaration, with arguments from its domain, or
---                       alone: the stray location, for all arguments outside the domain
---     location_cmp      the order of locations: by function, then the proper ones by their arguments, and the stray one last
+-- Definition. The locations of a state, and their order.
+--     Location          a controlled function, by its number in the order of declaration, with
+--                       arguments from its domain, or alone: the stray location, for all arguments
+--                       outside the domain
+--     location_cmp      the order of locations: by function, then the proper ones by their
+--                       arguments, and the stray one last
 --     State             the content of each location;  changed A l v      A with v at l
 use Rattle.std.specs.Prelude.{◌≡◌, ℕ, zero, suc, cond, List, []}
 use Rattle.std.specs.Cmp.{IsTotalOrder, nat_cmp_total}

@@ -1,5 +1,5 @@
--- Numbers, by their values.
---     number_with z     the number with this value, where it is in the range
+-- Definition. Numbers, by their values.
+--     number_with z     the number with this value, if it is in the range
 use Rattle.std.specs.Prelude.{◌≡◌, refl, Bool, true, false, ℤ, int_le, ◌≤ℤ◌, Option, Some, None}
 use Rattle.std.proofs.Common.{subst, sym}
 use lib.Dec.{T}

@@ -1,5 +1,6 @@
--- Operations on values.
---     op o a b      the value of an operation, undef where an operand is of the wrong kind. One operand alone is a
+-- Definition. Operations on values.
+--     op o a b      the value of an operation, undef if an operand is of the wrong kind. One
+--                   operand alone is `a`
 use Rattle.std.specs.Prelude.{zero, suc, Bool, not, ◌&&◌, ◌||◌, ℤ, pos, negsuc, ◌+ℤ◌, ◌-ℤ◌, ◌*ℤ◌, neg_ℤ, int_lt, int_le, Option, Some, None}
 use Rattle.std.specs.Int.{int_div_euclid, int_rem_euclid}
 use Rattle.std.specs.Ordering.{eq_by_cmp}
@@ -11,16 +12,17 @@ use Rattle.asm_state.specs.declared.value.Value.TheVariants.{Undef, Truth, Numbe
 use Rattle.asm_state.specs.Numbers.{number_with}
 use Rattle.asm_state.specs.Value.{value_cmp}
 
--- the value of a number, and undef where there is none
+-- the value of a number, and undef if there is none
 abbrev pub value_or_undef : Option WholeNumber → Value
 value_or_undef (Some n) = Number n
 value_or_undef None = Undef
 
--- a number, or undef where it is out of the range
+-- a number, or undef if it is out of the range
 abbrev pub number_or_undef : ℤ → Value
 number_or_undef n = value_or_undef (number_with n)
 
--- the quotient q and the remainder r of m by n other than 0: m is n * q + r, and r isn't below 0 and is below the size of n
+-- the quotient q and the remainder r of m by n other than 0: m is n * q + r, and r isn't below 0
+-- and is below the size of n
 abbrev pub quotient_or_undef : ℤ → ℤ → Value
 quotient_or_undef m (pos zero) = Undef
 quotient_or_undef m (pos (suc n)) = number_or_undef (int_div_euclid m (pos (suc n)))

@@ -1,10 +1,14 @@
--- Signatures as contracts see them, the locations and their numbers, and the states that lists of contents are.
+-- Definition. Signatures as contracts see them, the locations and their numbers, and the states
+-- that lists of contents are.
 --     Shape                        the universes, and the functions, in the order of declaration
---     locations shape              all locations, in order: functions as they are declared, of each its argument lists and then the stray location
+--     locations shape              all locations, in order: functions as they are declared, of each
+--                                  its argument lists and then the stray location
 --     count_of shape               how many locations there are
---     location_at shape n          the location with the number n;  number_at shape l      the number of the location l
+--     location_at shape n          the location with the number n
+--     number_at shape l            the number of the location l
 --     state_of shape contents      the state whose locations have these contents, by their numbers
---     initial_state shape          the state in which each location has the value of its function's table
+--     initial_state shape          the state in which each location has the value of its function's
+--                                  table
 use Rattle.std.specs.Prelude.{◌≡◌, ℕ, Bool, cond, List, [], ◌∷◌, ◌++◌, map, length, slice_get, slice_index_or, Option, Some, None, All, Contains}
 use Rattle.std.specs.List.{flat_map, enumerate_from, position_or_len}
 use Rattle.std.specs.Ordering.{eq_by_cmp}

@@ -1,8 +1,10 @@
--- Domains, and tables that give argument lists their values.
+-- Definition. Domains, and tables that give argument lists their values.
 --     Domain                  a list of universes
---     argument_lists domain   the argument lists in a domain, in lexicographic order of the positions
+--     argument_lists domain   the argument lists in a domain, in lexicographic order of the
+--                             positions
 --     is_in domain vs         vs is one of them
---     location_in f domain vs the location of a function with these arguments: the stray one where they are outside the domain
+--     location_in f domain vs the location of a function with these arguments: the stray one if
+--                             they are outside the domain
 --     table_value table vs    the value that a table has for vs
 --     value_in domain table vs    the same, but undef outside the domain
 use Rattle.std.specs.Prelude.{◌≡◌, ℕ, Bool, true, false, ◌&&◌, cond, List, [], ◌∷◌, map, Option, Some, None, unwrap_or, All, AllPairs, IsTrue}

@@ -8,7 +8,7 @@ use Rattle.asm_state.specs.Updates.{UpdateSet, Has, Names, IsConsistent, is_cons
 abbrev pub Summary : Type 0
 Summary = Location → Option Range
 
--- ---- what the operations have in them
+-- ---- what is in the results of the operations
 
 pub record MemberLaws : Type 0 where
   pub of_none : (l : Location) (v : Value) → ¬ (Has none l v)
@@ -25,11 +25,11 @@ pub record TestLaws : Type 0 where
 
 -- ---- summaries
 
--- a range is settled where it leaves no fault
-abbrev pub IsSettled : Location → Option Range → Type 0
-IsSettled l None = Unit {0}
-IsSettled (Proper f vs) (Some r) = r.least ≡ r.greatest
-IsSettled (Stray f) (Some r) = ⊥
+-- a range is settled if it leaves no fault
+abbrev pub LeavesNoFault : Location → Option Range → Type 0
+LeavesNoFault l None = Unit {0}
+LeavesNoFault (Proper f vs) (Some r) = r.least ≡ r.greatest
+LeavesNoFault (Stray f) (Some r) = ⊥
 
 pub record SummaryLaws : Type 0 where
   -- each set has just one summary
@@ -41,11 +41,11 @@ pub record SummaryLaws : Type 0 where
   pub of_one : (l : Location) (v : Value) → IsSummary (one l v) (range_of_one l v)
   -- that of a union is the pointwise least and greatest
   pub of_union : (U V : UpdateSet) (s t : Summary) → IsSummary U s → IsSummary V t → IsSummary (together U V) (λ l. widen (s l) (t l))
-  -- that of a merge has the later entry where there is one, and else the earlier one
+  -- that of a merge has the later entry if there is one, and else the earlier one
   pub of_merge : (U V : UpdateSet) (s t : Summary) → IsSummary U s → IsSummary V t → IsSummary (merge U V) (λ l. later_range (s l) (t l))
   -- emptiness, consistency, the first fault and the fired state depend on the summary alone
   pub emptiness : (U : UpdateSet) (s : Summary) → IsSummary U s → (U ≡ none) ↔ ((l : Location) → s l ≡ None)
-  pub consistency : (U : UpdateSet) (s : Summary) → IsSummary U s → IsConsistent U ↔ ((l : Location) → IsSettled l (s l))
+  pub consistency : (U : UpdateSet) (s : Summary) → IsSummary U s → IsConsistent U ↔ ((l : Location) → LeavesNoFault l (s l))
   pub first_fault : (U V : UpdateSet) (s : Summary) → IsSummary U s → IsSummary V s → (fault : Fault) → IsFirstFault U fault → IsFirstFault V fault
   pub firing : (A : State) (U : UpdateSet) (s : Summary) → IsSummary U s → (l : Location) → fire A U l ≡ overwritten (s l) (A l)
 
@@ -70,14 +70,15 @@ pub record MergeLaws : Type 0 where
   pub first_unit : (U : UpdateSet) → merge none U ≡ U
   pub last_unit : (U : UpdateSet) → merge U none ≡ U
   pub group : (U V W : UpdateSet) → merge (merge U V) W ≡ merge U (merge V W)
-  -- the merge of consistent sets is consistent, and to fire it is to fire the one and then the other
+  -- the merge of consistent sets is consistent, and to fire it is to fire the one and then the
+  -- other
   pub consistent : (U V : UpdateSet) → IsConsistent U → IsConsistent V → IsConsistent (merge U V)
   pub firing : (A : State) (U V : UpdateSet) → fire A (merge U V) ≡ fire (fire A U) V
 
 pub record FaultLaws : Type 0 where
-  -- a location is faulty just where its range isn't settled
-  pub by_summary : (U : UpdateSet) (s : Summary) → IsSummary U s → (l : Location) → IsFaulty U l ↔ (¬ (IsSettled l (s l)))
-  -- a set has no faulty location just where it is consistent, and else just one first fault
+  -- a location is faulty exactly if its range isn't settled
+  pub by_summary : (U : UpdateSet) (s : Summary) → IsSummary U s → (l : Location) → IsFaulty U l ↔ (¬ (LeavesNoFault l (s l)))
+  -- a set has no faulty location exactly if it is consistent, and else just one first fault
   pub no_fault : (U : UpdateSet) → IsConsistent U ↔ ((l : Location) → ¬ (IsFaulty U l))
   pub has_first : (U : UpdateSet) → ¬ (IsConsistent U) → (fault : Fault) × IsFirstFault U fault
   pub one_first : (U : UpdateSet) (f g : Fault) → IsFirstFault U f → IsFirstFault U g → f ≡ g

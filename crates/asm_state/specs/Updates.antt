@@ -1,8 +1,12 @@
--- Update sets, as finite sets of pairs of a location and a value.
---     UpdateSet              a finite set of updates;  Has U l v      the update of l with v is in U;  Names U l      some update of l is
---     IsConsistent U         no location has two values in U, and no stray location has any;  is_consistent      the test of it
+-- Definition. Update sets, as finite sets of pairs of a location and a value.
+--     UpdateSet              a finite set of updates
+--     Has U l v              the update of l with v is in U
+--     Names U l              some update of l is
+--     IsConsistent U         no location has two values in U, and no stray location has any
+--     is_consistent          the test of it
 --     none, one, together    no update, one update, the union
---     merge U V              the turbo merge: V, with those updates of U whose location V doesn't name
+--     merge U V              the turbo merge: V, with those updates of U whose location V doesn't
+--                            name
 --     range_at U l           the least and the greatest value of l in U
 --     fire A U               the state A with the values of U
 use Rattle.std.specs.Prelude.{◌≡◌, ◌≢◌, ℕ, Bool, true, false, cond, not, ◌&&◌, ◌||◌, List, [], ◌∷◌, map, nat_eq, Option, Some, None}
@@ -87,12 +91,12 @@ widen None s = s
 widen (Some r) None = Some r
 widen (Some r) (Some s) = Some (record { least = lesser r.least s.least; greatest = greater r.greatest s.greatest })
 
--- the later range, where there is one
+-- the later range, if there is one
 abbrev pub later_range : Option Range → Option Range → Option Range
 later_range r None = r
 later_range r (Some s) = Some s
 
--- the range of a location where this value is the only one there is, at its own location
+-- the range of a location if this value is the only one there is, at its own location
 abbrev pub range_of_one : Location → Value → Location → Option Range
 range_of_one l v m = cond (eq_by_cmp location_cmp l m) (Some (record { least = v; greatest = v })) None
 
@@ -130,7 +134,7 @@ IsRangeOf M (Some r) = IsRange M r
 abbrev pub IsSummary : UpdateSet → (Location → Option Range) → Type 0
 IsSummary U summary = (l : Location) → IsRangeOf (Has U l) (summary l)
 
--- a location is faulty where it has two different values, or is stray and has any
+-- a location is faulty if it has two different values, or is stray and has any
 abbrev pub IsFaulty : UpdateSet → Location → Type 0
 IsFaulty U (Proper f vs) = (v w : Value) × Has U (Proper f vs) v × Has U (Proper f vs) w × (v ≢ w)
 IsFaulty U (Stray f) = Names U (Stray f)
@@ -139,7 +143,8 @@ pub data Fault : Type 0 where
   Clash : Location → Range → Fault
   Outside : (function : ℕ) → Fault
 
--- the first fault of an inconsistent set: its least faulty location, with the least and the greatest value there if it is proper
+-- the first fault of an inconsistent set: its least faulty location, with the least and the
+-- greatest value there if it is proper
 pub record IsFirstFaulty (U : UpdateSet) (l : Location) : Type 0 where
   pub is_faulty : IsFaulty U l
   pub is_first : (m : Location) → IsFaulty U m → is_gt (location_cmp l m) ≡ false

@@ -1,5 +1,6 @@
--- The order of values.
---     value_cmp      values rise by their kind, undef, truth values, numbers, elements, and in a kind as they do by themselves
+-- Definition. The order of values.
+--     value_cmp      values rise by their kind, undef, truth values, numbers, elements, and in a
+--                    kind as they do by themselves
 use Rattle.std.specs.Prelude.{◌≡◌, List, [], ◌∷◌, ℤ, pos, true, false, cond}
 use Rattle.std.specs.Cmp.{IsTotalOrder, int_cmp_total}
 use Rattle.std.specs.Cmp.Lexicographic.{slice_cmp, lists_total}
@@ -10,7 +11,7 @@ use Rattle.std.proofs.Common.{refl, ap}
 use Rattle.std.proofs.lemmas.Cmp.{on_total}
 use Rattle.asm_state.specs.declared.value.Value.{Value}
 use Rattle.asm_state.specs.declared.value.Value.TheVariants.{Undef, Truth, Number, Element}
-use Rattle.asm_state.specs.Kinds.{same_number, same_element}
+use Rattle.asm_state.specs.code.ByNumber.{same_number, same_element}
 
 -- the kind of a value, and its number in that kind
 abbrev pub value_key : Value → List ℤ

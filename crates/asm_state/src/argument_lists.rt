@@ -3,7 +3,7 @@
 //! Argument lists are numbered in mixed radix: the position of a list is the position of its first
 //! argument, times the number of lists of the rest, plus the position of the rest.
 ghost use Rattle.std.specs.Prelude.{◌≡◌, ◌<◌, ◌≤◌, ◌^◌, ◌++◌, [], false, length, slice_index_or, All, IfSome, IfNone, OnOk};
-ghost use Rattle.asm_state.specs.declared.limits.TheConstants.{VALUES};
+ghost use Rattle.asm_state.specs.declared.signature_limits.TheConstants.{MAX_VALUES};
 ghost use Rattle.asm_state.specs.Signature.{domain_in};
 ghost use Rattle.asm_state.specs.Tables.{argument_lists, is_in};
 
@@ -16,7 +16,7 @@ pub(crate) fn list_count(universes: &[Universe], domain: &[usize]) -> usize
     requires few { length domain.now ≤ 4 }
     requires known { All (λ n. n < length universes.now) domain.now }
     ensures count { result ≡ length (argument_lists (domain_in universes.now domain.now)) }
-    ensures bound { result ≤ VALUES ^ length domain.now }
+    ensures bound { result ≤ MAX_VALUES ^ length domain.now }
 {
     match domain.split_first() {
         None => 1,
@@ -48,7 +48,7 @@ pub(crate) fn list_position(
     }
 }
 
-/// Writes the argument list at a position behind what is there.
+/// Writes the argument list at a position after what is there.
 pub(crate) fn push_list(
     universes: &[Universe],
     domain: &[usize],

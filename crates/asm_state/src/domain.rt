@@ -3,8 +3,8 @@ ghost use Rattle.std.specs.Prelude.{◌≡◌};
 
 use std::marker::Model;
 
-/// The universes that a function's arguments are from, by their numbers in the order of declaration. A function
-/// without arguments has none.
+/// The universes that a function's arguments are from, by their numbers in the order of
+/// declaration. A function without arguments has none.
 #[derive(Debug, Drop)]
 pub struct Domain {
     universes: Vec<usize>,

@@ -10,8 +10,8 @@ pub enum FunctionKind {
     Static,
 }
 
-/// What a function's argument lists have as their values: one value for all, or entries, and `Undef` where there is none.
-/// For a controlled function these are the initial values.
+/// What a function's argument lists have as their values: one value for all, or entries, and
+/// `Undef` if there is none. For a controlled function these are the initial values.
 #[derive(Debug, Drop)]
 pub enum Table {
     Same(Word),

@@ -2,15 +2,15 @@
 ghost use Rattle.std.specs.Prelude.{◌≡◌};
 ghost use Rattle.std.specs.Ordering.{nat_cmp};
 ghost use Rattle.asm_state.specs.declared.value.Value.{Value};
-ghost use Rattle.asm_state.specs.Codes.{code_of};
+ghost use Rattle.asm_state.specs.code.Codes.{code_of};
 ghost use Rattle.asm_state.specs.Value.{value_cmp};
 ghost use Rattle.asm_state.specs.OperationLaws.{DivisionLaw};
 ghost use Rattle.asm_state.specs.ValueLaws.{ValueLaws};
 ghost use Rattle.asm_state.specs.BoundLaws.{BoundLaws};
 ghost use Rattle.asm_state.specs.DomainLaws.{UniverseLaws, DomainLaws};
-ghost use Rattle.asm_state.specs.TurnLaws.{TurnLaws};
-ghost use Rattle.asm_state.specs.SignatureLaws.{NumberLaws, StateLaws};
-ghost use Rattle.asm_state.specs.FirstLocationLaws.{FirstLocationLaws};
+ghost use Rattle.asm_state.specs.code.ConsecutiveLaws.{ConsecutiveLaws};
+ghost use Rattle.asm_state.specs.code.SignatureLaws.{NumberLaws, StateLaws};
+ghost use Rattle.asm_state.specs.code.FirstLocationLaws.{FirstLocationLaws};
 ghost use Rattle.asm_state.specs.UpdateLaws.{MemberLaws, TestLaws, SummaryLaws, FireLaws, UnionLaws, MergeLaws, FaultLaws};
 
 /// Codes rise with values.
@@ -33,12 +33,13 @@ pub fn bound_laws()
     ensures { BoundLaws }
 {}
 
-/// A number is its quotient by another, taken that many times, and its remainder, which is never negative.
+/// A number is its quotient by another, taken that many times, and its remainder, which is never
+/// negative.
 pub fn division_law()
     ensures { DivisionLaw }
 {}
 
-/// What the operations on update sets have in them.
+/// What is in the results of the operations on update sets.
 pub fn member_laws()
     ensures { MemberLaws }
 {}
@@ -68,7 +69,7 @@ pub fn merge_laws()
     ensures { MergeLaws }
 {}
 
-/// A set is consistent where it has no faulty location, and has one first fault at most.
+/// A set is consistent if it has no faulty location, and has one first fault at most.
 pub fn fault_laws()
     ensures { FaultLaws }
 {}
@@ -84,8 +85,8 @@ pub fn domain_laws()
 {}
 
 /// The position of a value among values whose codes follow each other is that of its code.
-pub fn turn_laws()
-    ensures { TurnLaws }
+pub fn consecutive_laws()
+    ensures { ConsecutiveLaws }
 {}
 
 /// Locations and the numbers below their count are one to one, in order.
@@ -93,7 +94,8 @@ pub fn number_laws()
     ensures { NumberLaws }
 {}
 
-/// Behind the first location of a function stand the others, at the positions of their arguments, and then the stray one.
+/// After the first location of a function come the others, at the positions of their arguments, and
+/// then the stray one.
 pub fn first_location_laws()
     ensures { FirstLocationLaws }
 {}

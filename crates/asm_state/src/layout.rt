@@ -1,9 +1,9 @@
 //! Where a signature keeps the values of functions.
 ghost use Rattle.std.specs.Prelude.{◌≡◌, ◌<◌, ◌≤◌, ◌+◌, ◌^◌, ◌++◌, [], ◌∷◌, length, map, replicate, All, IfOk, OnOk};
-ghost use Rattle.asm_state.specs.declared.limits.TheConstants.{VALUES};
+ghost use Rattle.asm_state.specs.declared.signature_limits.TheConstants.{MAX_VALUES};
 ghost use Rattle.asm_state.specs.declared.value.Value.TheVariants.{Undef};
-ghost use Rattle.asm_state.specs.Fits.{Fits, IsDomainOf};
-ghost use Rattle.asm_state.specs.Layout.{IsLayoutOf, IsNext};
+ghost use Rattle.asm_state.specs.SignatureLimits.{Fits, IsDomainOf};
+ghost use Rattle.asm_state.specs.code.Layout.{IsLayoutOf, IsNext};
 ghost use Rattle.asm_state.specs.Signature.{domain_in};
 ghost use Rattle.asm_state.specs.Tables.{argument_lists, table_value};
 ghost use Rattle.asm_state.specs.Universe.{IsUniverse};
@@ -16,15 +16,16 @@ use std::alloc::{AllocError, Global};
 
 /// The values of a function: the position of the first one, and how many argument lists there are.
 #[derive(Clone, Copy, Debug)]
-pub(crate) struct Extent {
+pub(crate) struct Stretch {
     pub start: usize,
     pub lists: usize,
 }
 
-/// The extent of each function, the function and the initial content of each location, and the values of static functions.
+/// The extent of each function, the function and the initial content of each location, and the
+/// values of static functions.
 #[derive(Debug, Drop)]
 pub(crate) struct Layout {
-    pub extents: Vec<Extent>,
+    pub extents: Vec<Stretch>,
     pub owners: Vec<usize>,
     pub initial: Vec<Word>,
     pub given: Vec<Word>,
@@ -121,7 +122,7 @@ impl Layout {
         self.owners.extend_from_slice(&owners)?;
         self.initial.extend_from_slice(values)?;
         self.initial.push(Word::undef())?;
-        self.extents.push(Extent { start, lists })?;
+        self.extents.push(Stretch { start, lists })?;
         Ok(())
     }
 
@@ -133,7 +134,7 @@ impl Layout {
     {
         let start = self.given.len();
         self.given.extend_from_slice(values)?;
-        self.extents.push(Extent { start, lists })?;
+        self.extents.push(Stretch { start, lists })?;
         Ok(())
     }
 }
@@ -141,7 +142,7 @@ impl Layout {
 /// A universe has no value twice, and no more of them than the bound says.
 pub(crate) fn check_universes(universes: &[Universe])
     ensures sound { All IsUniverse universes.now }
-    ensures few { All (λ vs. length vs ≤ VALUES) universes.now }
+    ensures few { All (λ vs. length vs ≤ MAX_VALUES) universes.now }
 {
     for universe in universes {
         let _size = universe.size();

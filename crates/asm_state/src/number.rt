@@ -3,7 +3,7 @@ ghost use Rattle.std.specs.Prelude.{◌≡◌, ◌≤ℤ◌};
 ghost use Rattle.asm_state.specs.Bounds.{greatest_number, least_number};
 
 /// The greatest number. The least one is its negative.
-pub const GREATEST: i64 = 100_000_000_000_000_000;
+pub const MAX_NUMBER: i64 = 100_000_000_000_000_000;
 
 /// A whole number from the least to the greatest.
 #[derive(Clone, Copy, Debug, PartialEq, Eq)]
@@ -22,7 +22,7 @@ impl Number {
     pub fn with_value(value: i64) -> Option<Number>
         ensures { result ≡ number_with value }
     {
-        if -GREATEST <= value && value <= GREATEST {
+        if -MAX_NUMBER <= value && value <= MAX_NUMBER {
             Some(Number { value })
         } else {
             None

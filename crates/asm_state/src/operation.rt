@@ -25,8 +25,8 @@ pub enum Op {
     Not,
 }
 
-/// The value of an operation, which is `Undef` where an operand is of the wrong kind. An operation with one operand
-/// has it as `a`.
+/// The value of an operation, which is `Undef` if an operand is of the wrong kind. An operation
+/// with one operand has it as `a`.
 // Inlined, so that operands and results need no way through memory.
 #[inline(always)]
 pub fn apply(operation: Op, a: Value, b: Value) -> Value

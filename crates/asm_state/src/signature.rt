@@ -6,12 +6,12 @@
 //! The initial contents and the values of static functions are computed once, when the signature is
 //! built (`layout`).
 ghost use Rattle.std.specs.Prelude.{◌≡◌, ◌<◌, ◌≤◌, Some, IsTrue, IfOk, IfSome, IfNone, length, map, slice_get};
-ghost use Rattle.asm_state.specs.declared.limits.TheConstants.{LOCATIONS};
+ghost use Rattle.asm_state.specs.declared.signature_limits.TheConstants.{MAX_LOCATIONS};
 ghost use Rattle.asm_state.specs.declared.function.FunctionKind.TheVariants.{Controlled, Static};
-ghost use Rattle.asm_state.specs.FirstLocations.{first_of};
-ghost use Rattle.asm_state.specs.Fits.{Fits};
+ghost use Rattle.asm_state.specs.code.FirstLocations.{first_of};
+ghost use Rattle.asm_state.specs.SignatureLimits.{Fits};
 ghost use Rattle.asm_state.specs.Location.{Stray};
-ghost use Rattle.asm_state.specs.CodeLocations.{location_of};
+ghost use Rattle.asm_state.specs.code.CodeLocations.{location_of};
 ghost use Rattle.asm_state.specs.Signature.{Shape, IsSound, HasKind, domain_of, functions_of, locations, count_of, location_at, number_at, initial_state, held_value};
 ghost use Rattle.asm_state.specs.Tables.{location_in};
 ghost use Rattle.asm_state.specs.Updates.{is_proper};
@@ -26,7 +26,8 @@ use crate::word::Word;
 use std::alloc::{AllocError, Global};
 use std::marker::Model;
 
-/// The universes and the controlled and static functions, in the order of their declaration. They go by their numbers in it.
+/// The universes and the controlled and static functions, in the order of their declaration. They
+/// go by their numbers in it.
 #[derive(Debug, Drop)]
 pub struct Signature {
     universes: Vec<Universe>,
@@ -39,7 +40,7 @@ impl Model for Signature {
 
     ghost Value = { Shape };
 
-    ghost use Rattle.asm_state.specs.Layout.{IsLayoutOf};
+    ghost use Rattle.asm_state.specs.code.Layout.{IsLayoutOf};
 
     ghost view = { λ s. record { universes = s.universes.items; functions = s.functions.items } };
 
@@ -90,14 +91,14 @@ impl Signature {
     /// How many locations there are, stray ones with them.
     pub fn count(&self) -> usize
         ensures count { result ≡ count_of self.now }
-        ensures few { result ≤ LOCATIONS }
+        ensures few { result ≤ MAX_LOCATIONS }
         ensures sound { IsSound self.now }
     {
         self.layout.owners.len()
     }
 
-    /// The number of the location of a controlled function with these arguments: the stray one where they are outside
-    /// its domain.
+    /// The number of the location of a controlled function with these arguments: the stray one if
+    /// they are outside its domain.
     pub fn number_of(&self, f: usize, arguments: &[Word]) -> usize
         requires { HasKind Controlled self.now f }
         ensures number { result ≡ number_at self.now (location_in f (domain_of self.now f) arguments.now) }
@@ -110,7 +111,8 @@ impl Signature {
         extent.start + list.unwrap_or(extent.lists)
     }
 
-    /// The number of the location of a controlled function with these arguments, where they are in its domain.
+    /// The number of the location of a controlled function with these arguments, if they are in its
+    /// domain.
     pub fn proper_number(&self, f: usize, arguments: &[Word]) -> Option<usize>
         requires { HasKind Controlled self.now f }
         ensures some { let l = location_in f (domain_of self.now f) arguments.now in
@@ -123,8 +125,8 @@ impl Signature {
         Some(extent.start + list)
     }
 
-    /// The number of the first location of a controlled function. Its others have the numbers behind it: first those with
-    /// arguments, in order, and then the stray one.
+    /// The number of the first location of a controlled function. Its others have the numbers after
+    /// it: first those with arguments, in order, and then the stray one.
     pub fn first(&self, f: usize) -> usize
         requires { HasKind Controlled self.now f }
         ensures { result ≡ first_of self.now f }

@@ -1,6 +1,6 @@
 //! States: the content of each location, by its number.
 ghost use Rattle.std.specs.Prelude.{◌≡◌, ◌<◌, length, map, slice_index_or, slice_set, IfOk, IsTrue};
-ghost use Rattle.asm_state.specs.Contents.{IsStateOf};
+ghost use Rattle.asm_state.specs.code.Contents.{IsStateOf};
 ghost use Rattle.asm_state.specs.Location.{changed};
 ghost use Rattle.asm_state.specs.Signature.{Shape, count_of, location_at, locations, state_of, initial_state};
 ghost use Rattle.asm_state.specs.Updates.{is_proper};

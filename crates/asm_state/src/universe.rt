@@ -3,17 +3,17 @@
 //! A universe is kept as its first value and a count, so a position in it is a difference of codes.
 ghost use Rattle.std.specs.Prelude.{◌≡◌, ◌+◌, ◌≤◌, ◌<◌, Some, IfSome, length, slice_get};
 ghost use Rattle.std.specs.List.{position};
-ghost use Rattle.asm_state.specs.declared.element.TheConstants.{ELEMENTS};
-ghost use Rattle.asm_state.specs.declared.limits.TheConstants.{VALUES};
+ghost use Rattle.asm_state.specs.declared.element.TheConstants.{MAX_ELEMENTS};
+ghost use Rattle.asm_state.specs.declared.signature_limits.TheConstants.{MAX_VALUES};
 ghost use Rattle.asm_state.specs.Operation.{is_same};
-ghost use Rattle.asm_state.specs.Turns.{AreInTurn};
+ghost use Rattle.asm_state.specs.code.ConsecutiveCodes.{AreConsecutive};
 ghost use Rattle.asm_state.specs.Universe.{elements, count_between, numbers_between, IsUniverse};
-ghost use Rattle.asm_state.specs.UniverseView.{first_code, IsFirst};
+ghost use Rattle.asm_state.specs.code.UniverseView.{first_code, IsFirst};
 
-use crate::element::{ELEMENTS, Element};
-use crate::limits::VALUES;
+use crate::element::{Element, MAX_ELEMENTS};
 use crate::number::Number;
-use crate::value::{FIRST_ELEMENT, Value, ZERO};
+use crate::signature_limits::MAX_VALUES;
+use crate::value::{CODE_OF_ZERO, FIRST_ELEMENT, Value};
 use crate::word::Word;
 use std::marker::Model;
 
@@ -32,12 +32,13 @@ impl First {
     {
         match self {
             First::Element(index) => FIRST_ELEMENT + index as u64,
-            First::Number(value) => (value + ZERO) as u64,
+            First::Number(value) => (value + CODE_OF_ZERO) as u64,
         }
     }
 }
 
-/// The elements of an enumeration or the numbers of a range, in order. A value's position counts from 0.
+/// The elements of an enumeration or the numbers of a range, in order. A value's position counts
+/// from 0.
 #[derive(Debug, Drop)]
 pub struct Universe {
     first: First,
@@ -50,7 +51,7 @@ impl Model for Universe {
 
     ghost Value = { List Member };
 
-    ghost use Rattle.asm_state.specs.UniverseView.{values_from, IsWithin};
+    ghost use Rattle.asm_state.specs.code.UniverseView.{values_from, IsWithin};
 
     ghost view = { λ u. values_from u.first u.count };
 
@@ -58,10 +59,11 @@ impl Model for Universe {
 }
 
 impl Universe {
-    /// The elements from the number `first` on. Elements are numbered through over all enumerations.
+    /// The elements from the number `first` on. Elements are numbered through over all
+    /// enumerations.
     pub fn elements(first: u32, count: usize) -> Universe
-        requires few { count ≤ VALUES }
-        requires in_range { first + count ≤ ELEMENTS }
+        requires few { count ≤ MAX_VALUES }
+        requires in_range { first + count ≤ MAX_ELEMENTS }
         ensures { result ≡ elements first count }
     {
         Universe {
@@ -70,9 +72,10 @@ impl Universe {
         }
     }
 
-    /// The numbers from the first to the last, both among them. There are none where the last is below the first.
+    /// The numbers from the first to the last, both among them. There are none if the last is below
+    /// the first.
     pub fn range(first: Number, last: Number) -> Universe
-        requires few { count_between first.value last.value ≤ VALUES }
+        requires few { count_between first.value last.value ≤ MAX_VALUES }
         ensures { result ≡ numbers_between first.value last.value }
     {
         let count = if first.value <= last.value {
@@ -89,15 +92,15 @@ impl Universe {
     /// How many values there are.
     pub fn size(&self) -> usize
         ensures size { result ≡ length self.now }
-        ensures few { result ≤ VALUES }
+        ensures few { result ≤ MAX_VALUES }
         ensures sound { IsUniverse self.now }
     {
         self.count
     }
 
-    /// The code of the first value. The others have the codes behind it, in turn.
+    /// The code of the first value. The others have the codes after it, in turn.
     pub fn first_code(&self) -> u64
-        ensures { AreInTurn result self.now }
+        ensures { AreConsecutive result self.now }
     {
         self.first.code()
     }
@@ -127,7 +130,7 @@ impl Universe {
     /// The position of a value, if the universe has it.
     pub fn position(&self, value: Word) -> Option<usize>
         ensures position { result ≡ position (is_same value) self.now }
-        ensures few { IfSome result (λ i. i < VALUES) }
+        ensures few { IfSome result (λ i. i < MAX_VALUES) }
     {
         let first = self.first.code();
         let code = value.code();

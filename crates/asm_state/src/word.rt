@@ -4,17 +4,17 @@
 //! values, not of words. Only this file makes words, and code that looks at a value takes it out of
 //! its word (`Word::value`).
 ghost use Rattle.std.specs.Prelude.{◌≡◌, ◌≢◌, ◌<◌, ◌≤◌, ◌^◌, IfNone, IfSome};
-ghost use Rattle.asm_state.specs.Codes.{code_of};
+ghost use Rattle.asm_state.specs.code.Codes.{code_of};
 ghost use Rattle.asm_state.specs.Operation.{op};
 ghost use Rattle.asm_state.specs.Words.{value_of_code};
 ghost use Rattle.asm_state.specs.declared.value.Value.{Value};
 ghost use Rattle.asm_state.specs.declared.value.Value.TheVariants.{Undef, Truth};
 
-use crate::code::Code;
 use crate::element::Element;
 use crate::number::Number;
 use crate::operation::{Op, apply};
-use crate::value::{FIRST_ELEMENT, PAST_ELEMENTS, Value, ZERO};
+use crate::value::{CODE_OF_ZERO, END_OF_CODES, FIRST_ELEMENT, Value};
+use crate::value_code::ValueCode;
 use std::marker::Model;
 
 /// A value, held as its code.
@@ -28,9 +28,9 @@ impl Model for Word {
 
     ghost Value = { Content };
 
-    ghost use Rattle.asm_state.specs.Codes.{code_of};
+    ghost use Rattle.asm_state.specs.code.Codes.{code_of};
     ghost use Rattle.asm_state.specs.Words.{value_of_code, IsCode};
-    ghost use Rattle.asm_state.specs.WordCodes.{same_code};
+    ghost use Rattle.asm_state.specs.code.WordCodes.{same_code};
 
     ghost view = { λ w. value_of_code w.code };
 
@@ -76,28 +76,28 @@ impl Word {
         self.code
     }
 
-    /// The code, to be kept beside references.
+    /// The code, to be kept next to references.
     #[inline(always)]
-    pub fn kept(self) -> Code
+    pub fn unbranded_code(self) -> ValueCode
         ensures { value_of_code result.value ≡ self }
     {
-        Code { value: self.code }
+        ValueCode { value: self.code }
     }
 
     /// The word that was kept as this code.
     #[inline(always)]
-    pub fn again(code: Code) -> Word
+    pub fn of_code(code: ValueCode) -> Word
         ensures { result ≡ value_of_code code.value }
     {
         Word { code: code.value }
     }
 
-    /// The word that has this code, where there is one.
+    /// The word that has this code, if there is one.
     pub fn from_code(code: u64) -> Option<Word>
         ensures value { IfSome result (λ v. code_of v ≡ code) }
         ensures none { IfNone result ((v : Value) → code_of v ≢ code) }
     {
-        if 1 <= code && code < PAST_ELEMENTS {
+        if 1 <= code && code < END_OF_CODES {
             Some(Word { code })
         } else {
             None
@@ -115,7 +115,7 @@ impl Word {
             })
         } else if self.code >= 4 {
             Value::Number(Number {
-                value: self.code as i64 - ZERO,
+                value: self.code as i64 - CODE_OF_ZERO,
             })
         } else if self.code == 1 {
             Value::Undef

@@ -1,8 +1,8 @@
--- The rule of the table meets the laws of such rules.
+-- Free. The rule of the table meets the laws of such rules.
 use Rattle.std.proofs.Common.{[], ◌∙◌}
 use Rattle.atomic_table.proofs.Lists.{set_else}
-use Rattle.asm_striped.specs.Board.{IsBoard, joined}
-use Rattle.asm_striped.specs.BoardLaws.{RuleLaws}
+use Rattle.asm_striped.specs.code.Board.{IsBoard, joined}
+use Rattle.asm_striped.specs.code.BoardLaws.{RuleLaws}
 use Rattle.asm_striped.proofs.Steps.{begins, ends, splits, joins, opens}
 
 pub rule_laws : RuleLaws IsBoard

@@ -1,10 +1,10 @@
--- The codes of the lesser and of the greater of two values.
+-- Free. The codes of the lesser and of the greater of two values.
 use Rattle.std.proofs.Common.{◌≡◌, ℕ, ◌<◌, ◌≤◌, min, max, cond, ap, ◌∙◌, arith, ⊎_elim}
 use Rattle.std.proofs.lemmas.Bool.{cases_lt}
 use Rattle.std.proofs.lemmas.Bool.Decides.{nat_tests}
 use Rattle.std.specs.Ordering.{is_lt, nat_cmp}
 use Rattle.asm_state.specs.declared.value.Value.{Value}
-use Rattle.asm_state.specs.Codes.{code_of}
+use Rattle.asm_state.specs.code.Codes.{code_of}
 use Rattle.asm_state.specs.Updates.{lesser, greater}
 use Rattle.asm_state.proofs.Codes.{codes_rise}
 

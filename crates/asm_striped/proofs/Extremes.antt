@@ -1,8 +1,8 @@
--- The least and the greatest of a list, by its members.
+-- Free. The least and the greatest of a list, by its members.
 use Rattle.std.proofs.Common.{◌≡◌, ◌⊎◌, ℕ, ◌≤◌, min, max, List, [], ◌∷◌, refl, subst, inl, inr, ⊎_elim, arith}
 use mathlib.Core.Logic.{dite}
 use native.Mathlib.Decide.{dec_le}
-use Rattle.asm_striped.specs.Log.{low_mark, high_mark, least, greatest}
+use Rattle.asm_striped.specs.code.Log.{low_mark, high_mark, least, greatest}
 use Rattle.asm_striped.proofs.Members.{In, Same, Grows}
 
 pub least_mark : (xs : List ℕ) → least xs ≤ low_mark

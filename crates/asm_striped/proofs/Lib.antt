@@ -1,10 +1,10 @@
 pub mod CodeOrder
 pub mod Members
 pub mod Extremes
-pub mod Shares
+pub mod Parts
 pub mod Steps
 pub mod Ranges
-pub mod Filling
-pub mod Closing
+pub mod FilledSummaries
+pub mod ClosedTables
 pub mod BoardLaws
 pub mod LogLaws

@@ -1,14 +1,14 @@
--- Laws of logs.
+-- Free. Laws of logs.
 use Rattle.std.proofs.Common.{◌≡◌, List, [], ◌∷◌, ◌++◌, refl, sym, ◌∙◌, subst}
 use Rattle.asm_state.proofs.Codes.{codes_apart}
-use Rattle.asm_updates.specs.Entries.{NamedRanges}
-use Rattle.asm_updates.specs.EntryLists.{IsSummaryOf}
-use Rattle.asm_striped.specs.declared.board.Entry.{Entry}
-use Rattle.asm_striped.specs.Log.{AreValuesOf}
-use Rattle.asm_striped.specs.LogLaws.{LogLaws}
+use Rattle.asm_updates.specs.code.SummaryRanges.{NamedRanges}
+use Rattle.asm_updates.specs.code.EntryLists.{IsSummaryOf}
+use Rattle.asm_striped.specs.declared.board.Put.{Put}
+use Rattle.asm_striped.specs.code.Log.{AreValuesOf}
+use Rattle.asm_striped.specs.code.LogLaws.{LogLaws}
 use Rattle.asm_striped.proofs.Ranges.{code_is_no_mark}
 
-one_list : (log : List Entry) (es fs : NamedRanges) → AreValuesOf log es → AreValuesOf log fs → es ≡ fs
+one_list : (log : List Put) (es fs : NamedRanges) → AreValuesOf log es → AreValuesOf log fs → es ≡ fs
 one_list [] [] [] a b = refl
 one_list [] [] (_ ∷ _) a b = absurd b
 one_list [] (_ ∷ _) fs a b = absurd a
@@ -21,7 +21,7 @@ one_list (e ∷ log) (x ∷ es) (y ∷ fs) (at, low, high, rest) (at_too, low_to
     let tails : es ≡ fs = one_list log es fs rest rest_too in
     λ i. (location i, (least i, greatest i)) ∷ tails i
 
-of_append : (log more : List Entry) (es fs : NamedRanges) → AreValuesOf log es → AreValuesOf more fs → AreValuesOf (log ++ more) (es ++ fs)
+of_append : (log more : List Put) (es fs : NamedRanges) → AreValuesOf log es → AreValuesOf more fs → AreValuesOf (log ++ more) (es ++ fs)
 of_append [] more [] fs a b = b
 of_append [] more (_ ∷ _) fs a b = absurd a
 of_append (_ ∷ _) more [] fs a b = absurd a

@@ -1,13 +1,13 @@
--- The members of a list, of the values at a location, and of the lists of all views.
+-- Free. The members of a list, of the values at a location, and of the lists of all views.
 use Rattle.std.proofs.Common.{◌≡◌, ◌≢◌, ◌⊎◌, ℕ, zero, suc, ◌<◌, List, [], ◌∷◌, ◌++◌, length, get_or, set, cond, refl, sym, ap, ◌∙◌, subst, inl, inr, ⊎_elim, arith, eq-eqb, ne_eqb}
 use Rattle.std.specs.Prelude.{All, Contains, flat_map}
 use mathlib.Core.Option.{some, some-injective, some-ne-none}
 use mathlib.Core.Logic.{dite}
 use native.Mathlib.Decide.{ℕ_discrete}
 use lib.ListN.{get_elem?}
-use Rattle.asm_striped.specs.declared.board.Entry.{Entry}
+use Rattle.asm_striped.specs.declared.board.Put.{Put}
 use Rattle.atomic_table.proofs.Lists.{at_set, at_snoc, at_longer, set_else}
-use Rattle.asm_striped.specs.Log.{values_at}
+use Rattle.asm_striped.specs.code.Log.{values_at}
 
 module _ {A : Type 0} where
   -- x is one of the list
@@ -50,24 +50,24 @@ module _ {A : Type 0} where
   member xs x c = subst (λ y. In y xs) c.2 (get_in xs c.0 x c.1)
 
 -- the values at a location
-module _ (value : Entry → ℕ) (n : ℕ) where
-  pub hit : (e : Entry) (es : List Entry) → e.location ≡ n → values_at value n (e ∷ es) ≡ value e ∷ values_at value n es
+module _ (value : Put → ℕ) (n : ℕ) where
+  pub hit : (e : Put) (es : List Put) → e.location ≡ n → values_at value n (e ∷ es) ≡ value e ∷ values_at value n es
   hit e es h = ap (λ b. cond b (value e ∷ values_at value n es) (values_at value n es)) (eq-eqb e.location n h)
 
-  pub miss : (e : Entry) (es : List Entry) → e.location ≢ n → values_at value n (e ∷ es) ≡ values_at value n es
+  pub miss : (e : Put) (es : List Put) → e.location ≢ n → values_at value n (e ∷ es) ≡ values_at value n es
   miss e es h = ap (λ b. cond b (value e ∷ values_at value n es) (values_at value n es)) (ne_eqb e.location n h)
 
-  pub value_in : (e : Entry) (es : List Entry) → In e es → e.location ≡ n → In (value e) (values_at value n es)
+  pub value_in : (e : Put) (es : List Put) → In e es → e.location ≡ n → In (value e) (values_at value n es)
   value_in e [] h at = absurd h
   value_in e (f ∷ es) h at =
       ⊎_elim
-      (λ same. subst (In (value e)) (sym (hit f es (ap (λ (x : Entry). x.location) (sym same) ∙ at))) (inl (ap value same)))
+      (λ same. subst (In (value e)) (sym (hit f es (ap (λ (x : Put). x.location) (sym same) ∙ at))) (inl (ap value same)))
       (λ r. dite (ℕ_discrete f.location n)
       (λ here. subst (In (value e)) (sym (hit f es here)) (inr (value_in e es r at)))
       (λ other. subst (In (value e)) (sym (miss f es other)) (value_in e es r at)))
       h
 
-  pub entry_of : (x : ℕ) (es : List Entry) → In x (values_at value n es) → (e : Entry) × In e es × (e.location ≡ n) × (x ≡ value e)
+  pub entry_of : (x : ℕ) (es : List Put) → In x (values_at value n es) → (e : Put) × In e es × (e.location ≡ n) × (x ≡ value e)
   entry_of x [] h = absurd h
   entry_of x (f ∷ es) h =
       dite (ℕ_discrete f.location n)
@@ -105,32 +105,32 @@ module _ {A : Type 0} where
   pub grows_snoc : (xs : List A) (a : A) → Grows xs (xs ++ a ∷ []) a
   grows_snoc xs a = record { kept = λ x i. in_left x xs (a ∷ []) i; added = in_right a xs (a ∷ []) (inl refl); only = λ x i. in_snoc x a xs i }
 
-module _ (value : Entry → ℕ) (n : ℕ) (es fs : List Entry) where
-  pub values_kept : ((e : Entry) → In e es → In e fs) → (x : ℕ) → In x (values_at value n es) → In x (values_at value n fs)
+module _ (value : Put → ℕ) (n : ℕ) (es fs : List Put) where
+  pub values_kept : ((e : Put) → In e es → In e fs) → (x : ℕ) → In x (values_at value n es) → In x (values_at value n fs)
   values_kept kept x i = let e = entry_of value n x es i in subst (λ y. In y (values_at value n fs)) (sym e.3) (value_in value n e.0 fs (kept e.0 e.1) e.2)
 
-  values_only : (e : Entry) → Grows es fs e → (x : ℕ) → In x (values_at value n fs) → In x (values_at value n es) ⊎ ((e.location ≡ n) × (x ≡ value e))
+  values_only : (e : Put) → Grows es fs e → (x : ℕ) → In x (values_at value n fs) → In x (values_at value n es) ⊎ ((e.location ≡ n) × (x ≡ value e))
   values_only e g x i =
       let f = entry_of value n x fs i in
       ⊎_elim
       (λ old. inl (subst (λ y. In y (values_at value n es)) (sym f.3) (value_in value n f.0 es old f.2)))
-      (λ new. inr (ap (λ (y : Entry). y.location) (sym new) ∙ f.2, f.3 ∙ ap value new))
+      (λ new. inr (ap (λ (y : Put). y.location) (sym new) ∙ f.2, f.3 ∙ ap value new))
       (g.only f.0 f.1)
 
-  pub values_grow : (e : Entry) → Grows es fs e → e.location ≡ n → Grows (values_at value n es) (values_at value n fs) (value e)
+  pub values_grow : (e : Put) → Grows es fs e → e.location ≡ n → Grows (values_at value n es) (values_at value n fs) (value e)
   values_grow e g at = record {
     kept = values_kept g.kept;
     added = value_in value n e fs g.added at;
     only = λ x i. ⊎_elim (λ old. inl old) (λ new. inr new.1) (values_only e g x i);
   }
 
-  pub values_other : (e : Entry) → Grows es fs e → e.location ≢ n → Same (values_at value n es) (values_at value n fs)
+  pub values_other : (e : Put) → Grows es fs e → e.location ≢ n → Same (values_at value n es) (values_at value n fs)
   values_other e g other = record {
     there = values_kept g.kept;
     back = λ x i. ⊎_elim (λ old. old) (λ new. absurd (other new.0)) (values_only e g x i);
   }
 
-pub values_same : (value : Entry → ℕ) (n : ℕ) (es fs : List Entry) → Same es fs → Same (values_at value n es) (values_at value n fs)
+pub values_same : (value : Put → ℕ) (n : ℕ) (es fs : List Put) → Same es fs → Same (values_at value n es) (values_at value n fs)
 values_same value n es fs s = record { there = values_kept value n es fs s.there; back = values_kept value n fs es s.back }
 
 pub set_hits : {A : Type 0} (l : List A) (i : ℕ) (a b : A) → get_elem? l i ≡ some a → get_elem? (set l i b) i ≡ some b

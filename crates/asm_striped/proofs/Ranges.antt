@@ -1,4 +1,4 @@
--- What is put has a range at each location, and the words are those of the range.
+-- Free. What is put has a range at each location, and the words are those of the range.
 use Rattle.std.proofs.Common.{◌≡◌, ℕ, ℤ, pos, negsuc, ◌≤ℤ◌, ◌<◌, ◌≤◌, min, max, true, false, cond, List, [], ◌∷◌, All, Option, Some, None, refl, sym, ap, ◌∙◌, subst, inl, inr, arith, eq-eqb, ne_eqb}
 use Rattle.std.proofs.lemmas.Int.{ints}
 use Rattle.std.proofs.lemmas.List.Elements.{All-cons, All-nil, All-head, All-tail}
@@ -8,14 +8,14 @@ use native.Mathlib.Decide.{ℕ_discrete}
 use Rattle.asm_state.specs.Bounds.{least_number, greatest_number}
 use Rattle.asm_state.specs.declared.value.Value.{Value}
 use Rattle.asm_state.specs.declared.value.Value.TheVariants.{Undef, Truth, Number, Element}
-use Rattle.asm_state.specs.Codes.{number_code, code_of}
+use Rattle.asm_state.specs.code.Codes.{number_code, code_of}
 use Rattle.asm_state.specs.Updates.{Range, widen}
 use Rattle.asm_state.proofs.Codes.{codes_apart}
-use Rattle.asm_updates.specs.Entries.{NamedRanges, range}
-use Rattle.asm_updates.specs.EntryLists.{range_of_entry, range_in, AreInOrder}
+use Rattle.asm_updates.specs.code.SummaryRanges.{NamedRanges, range}
+use Rattle.asm_updates.specs.code.EntryLists.{range_of_entry, range_in, AreInOrder}
 use Rattle.asm_striped.proofs.CodeOrder.{code_of-lesser, code_of-greater}
-use Rattle.asm_striped.specs.declared.board.Entry.{Entry}
-use Rattle.asm_striped.specs.Log.{low_mark, high_mark, IsCode, IsEntry, lows_at, highs_at, least, greatest, low_word_of, high_word_of, AreWordsOf, AreValuesOf}
+use Rattle.asm_striped.specs.declared.board.Put.{Put}
+use Rattle.asm_striped.specs.code.Log.{low_mark, high_mark, IsCode, IsPut, lows_at, highs_at, least, greatest, low_word_of, high_word_of, AreWordsOf, AreValuesOf}
 use Rattle.asm_striped.proofs.Members.{In, hit, miss}
 
 -- ---- no mark is a code
@@ -62,7 +62,7 @@ here_range b n h = ap (λ t. cond t (Some (range b.1)) None) (eq-eqb n b.0 h)
 no_range : (b : ℕ × (Value × Value)) (n : ℕ) → (n ≡ b.0 → ⊥) → range_of_entry b n ≡ None
 no_range b n h = ap (λ t. cond t (Some (range b.1)) None) (ne_eqb n b.0 h)
 
-pub lows_say : (n : ℕ) (log : List Entry) (es : NamedRanges) → AreValuesOf log es → least (lows_at n log) ≡ low_word_of (range_in es n)
+pub lows_say : (n : ℕ) (log : List Put) (es : NamedRanges) → AreValuesOf log es → least (lows_at n log) ≡ low_word_of (range_in es n)
 lows_say n [] [] are = refl
 lows_say n [] (b ∷ es) are = absurd are
 lows_say n (e ∷ log) [] are = absurd are
@@ -78,7 +78,7 @@ lows_say n (e ∷ log) (b ∷ es) (at, low, high, rest) =
     ∙ lows_say n log es rest
     ∙ ap (λ r. low_word_of (widen r (range_in es n))) (sym (no_range b n (λ same. other (sym (same ∙ at))))))
 
-pub highs_say : (n : ℕ) (log : List Entry) (es : NamedRanges) → AreValuesOf log es → greatest (highs_at n log) ≡ high_word_of (range_in es n)
+pub highs_say : (n : ℕ) (log : List Put) (es : NamedRanges) → AreValuesOf log es → greatest (highs_at n log) ≡ high_word_of (range_in es n)
 highs_say n [] [] are = refl
 highs_say n [] (b ∷ es) are = absurd are
 highs_say n (e ∷ log) [] are = absurd are
@@ -96,12 +96,12 @@ highs_say n (e ∷ log) (b ∷ es) (at, low, high, rest) =
 
 -- ---- the entries with their values
 
-pub record Valued (count : ℕ) (log : List Entry) : Type 0 where
+pub record Valued (count : ℕ) (log : List Put) : Type 0 where
   pub entries : NamedRanges
   pub are_values : AreValuesOf log entries
   pub in_order : AreInOrder count entries
 
-pub valued : (count : ℕ) (log : List Entry) → ((e : Entry) → In e log → IsEntry count e) → Valued count log
+pub valued : (count : ℕ) (log : List Put) → ((e : Put) → In e log → IsPut count e) → Valued count log
 valued count [] all = record { entries = []; are_values = tt; in_order = record { in_range = All-nil (λ e. e.0 < count); ordered = All-nil (λ e. code_of e.1.0 ≤ code_of e.1.1) } }
 valued count (e ∷ log) all =
     let is = all e (inl refl) in

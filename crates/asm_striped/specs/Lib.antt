@@ -1,5 +1,1 @@
-pub mod Log
-pub mod Board
-pub mod Seats
-pub mod BoardLaws
-pub mod LogLaws
+pub mod code

@@ -4,7 +4,8 @@ ghost use Rattle.asm_striped.specs.contracts.striped.Striped as striped;
 
 use crate::Striped;
 
-/// Threads may share a table. A function that hands one to threads within another type calls this before.
+/// Threads may share a table. A function that hands one to threads within another type calls this
+/// before.
 pub fn striped_is_shared()
     ensures { IsSync striped.the_row }
 {

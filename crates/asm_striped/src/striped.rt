@@ -8,27 +8,28 @@
 //! proofs, and takes no memory.
 ghost use Rattle.std.specs.Prelude.{◌≡◌, ◌+◌, ◌*◌, ◌^◌, ◌<◌, ◌≤◌, None, IfOk};
 ghost use Rattle.asm_state.specs.Signature.{Shape};
-ghost use Rattle.asm_updates.specs.Stands.{MarksFaults};
-ghost use Rattle.asm_striped.specs.Log.{IsCode, IsEntry, entry, IsSummaryOfLog};
-ghost use Rattle.asm_striped.specs.Board.{after_begin, after_end, AtMostKnown, AtLeastKnown, LowsWerePut, HighsWerePut};
-ghost use Rattle.asm_striped.specs.Seats.{first_seat, after_put, without_part, new_seat, both_seats};
+ghost use Rattle.asm_updates.specs.code.Stands.{MarksFaults};
+ghost use Rattle.asm_striped.specs.code.Log.{IsCode, IsPut, put_of, IsSummaryOfLog};
+ghost use Rattle.asm_striped.specs.code.Board.{after_begin, after_end, AtMostKnown, AtLeastKnown, LowsWerePut, HighsWerePut};
+ghost use Rattle.asm_striped.specs.code.Seats.{first_seat, after_put, without_part, new_seat, both_seats};
 
-use crate::board::{Begins, Board, Ends, Extent, NamesEntry, Shares, View};
-use crate::words::{marks, summary_of};
+use crate::board::{Board, Known, NamesPut, PutsHigh, PutsLow, SplitAndJoin, TableSize};
+use crate::table_words::{marks, summary_of};
 use asm_updates::summary::Summary;
 use atomic_table::{Seat, Shared, Table};
 use std::alloc::{AllocError, Global};
 use std::marker::{Brand, Model};
 
-/// The low and the high word of each location. The low word begins as the greatest `u64`, and the high word as 0.
+/// The low and the high word of each location. The low word begins as the greatest `u64`, and the
+/// high word as 0.
 #[derive(Drop)]
 pub struct Striped {
-    table: Table<(), View, Extent, Board, Global>,
+    table: Table<(), Known, TableSize, Board, Global>,
 }
 
 impl Model for Striped {
     ghost use Rattle.std.specs.Prelude.{◌≡◌, ◌+◌, ◌*◌, ◌^◌, ◌≤◌};
-    ghost use Rattle.asm_striped.specs.Seats.{Stripes};
+    ghost use Rattle.asm_striped.specs.code.Seats.{Stripes};
 
     ghost Value = { Stripes };
 
@@ -40,12 +41,12 @@ impl Model for Striped {
 /// The right to put into a table, and what its holder knows. It has no bytes.
 #[derive(Drop)]
 pub struct StripeSeat {
-    seat: Seat<(), View>,
+    seat: Seat<(), Known>,
 }
 
 impl Model for StripeSeat {
     ghost use Rattle.std.specs.Prelude.{◌≡◌, ◌<◌, None, []};
-    ghost use Rattle.asm_striped.specs.Seats.{SeatState, seat_state};
+    ghost use Rattle.asm_striped.specs.code.Seats.{SeatState, seat_state};
 
     ghost Value = { SeatState };
 
@@ -56,32 +57,32 @@ impl Model for StripeSeat {
 
 /// The two words of a location as a put found them.
 #[derive(Clone, Copy, Debug, PartialEq, Eq)]
-pub struct Met {
+pub struct WordsBefore {
     pub low_before: u64,
     pub high_before: u64,
 }
 
 /// Both steps of a put.
-fn put_entry<E: NamesEntry>(
-    shared: &Shared<(), View, Extent, Board>,
-    seat: &mut Seat<(), View>,
+fn put_entry<E: NamesPut>(
+    shared: &Shared<(), Known, TableSize, Board>,
+    seat: &mut Seat<(), Known>,
     task: u64,
     n: usize,
     low: u64,
     high: u64,
-) -> Met
-    requires entry { E.entry ≡ entry task n low high }
-    requires fits { IsEntry shared.now.key.count E.entry }
+) -> WordsBefore
+    requires entry { E.put ≡ put_of task n low high }
+    requires fits { IsPut shared.now.key.count E.put }
     requires table { (seat.old.table_id ≡ shared.now.table_id) × (shared.now.table_id.words ≡ 2 * shared.now.key.count + 1) × (shared.now.key.count ≤ 2 ^ 32) }
     requires seat { (seat.old.me.0.begun ≡ None) × (0 < seat.old.me.0.parts) }
     ensures table { seat.new.table_id ≡ seat.old.table_id }
-    ensures seat { seat.new.me ≡ (after_end (after_begin seat.old.me.0 E.entry result.low_before) E.entry result.high_before, seat.old.me.1) }
+    ensures seat { seat.new.me ≡ (after_end (after_begin seat.old.me.0 E.put result.low_before) E.put result.high_before, seat.old.me.1) }
     ensures low { AtMostKnown seat.old.me.0.lows n result.low_before }
     ensures high { AtLeastKnown seat.old.me.0.highs n result.high_before }
 {
-    let low_before = shared.fetch_min::<Begins<E>>(seat, 2 * n + 1, low);
-    let high_before = shared.fetch_max::<Ends<E>>(seat, 2 * n + 2, high);
-    Met {
+    let low_before = shared.fetch_min::<PutsLow<E>>(seat, 2 * n + 1, low);
+    let high_before = shared.fetch_max::<PutsHigh<E>>(seat, 2 * n + 2, high);
+    WordsBefore {
         low_before,
         high_before,
     }
@@ -100,11 +101,11 @@ impl Striped {
         ensures seat { IfOk result (λ r. r.1 ≡ first_seat r.0.table parts) }
     {
         let words = marks(alloc, count)?;
-        let extent = Extent {
+        let table_size = TableSize {
             count: count as u64,
             parts,
         };
-        let (table, seat) = Table::of_words(alloc, words.as_slice(), &extent)?;
+        let (table, seat) = Table::of_words(alloc, words.as_slice(), &table_size)?;
         Ok((Striped { table }, StripeSeat { seat }))
     }
 
@@ -116,7 +117,7 @@ impl Striped {
         ensures new { result ≡ new_seat seat.old }
     {
         StripeSeat {
-            seat: self.table.shared.split_seat::<Shares>(&mut seat.seat),
+            seat: self.table.shared.split_seat::<SplitAndJoin>(&mut seat.seat),
         }
     }
 
@@ -126,23 +127,33 @@ impl Striped {
         ensures { seat.new ≡ both_seats seat.old other }
     {
         let StripeSeat { seat: other } = other;
-        self.table.shared.join_seat::<Shares>(&mut seat.seat, other);
+        self.table
+            .shared
+            .join_seat::<SplitAndJoin>(&mut seat.seat, other);
     }
 
-    /// Lowers the low word and raises the high word of a location, and answers both as they were found. It is two atomic
-    /// steps, one on each word, and no more.
-    pub fn put(&self, seat: &mut StripeSeat, task: u64, n: usize, low: u64, high: u64) -> Met
+    /// Lowers the low word and raises the high word of a location, and returns both as they were
+    /// found. It is two atomic steps, one on each word, and no more.
+    pub fn put(
+        &self,
+        seat: &mut StripeSeat,
+        task: u64,
+        n: usize,
+        low: u64,
+        high: u64,
+    ) -> WordsBefore
         requires table { seat.old.table ≡ self.now.table }
         requires location { n < self.now.count }
         requires codes { IsCode low × IsCode high × (low ≤ high) }
-        ensures seat { seat.new ≡ after_put seat.old (entry task n low high) result.low_before result.high_before }
+        ensures seat { seat.new ≡ after_put seat.old (put_of task n low high) result.low_before result.high_before }
         ensures low { AtMostKnown seat.old.lows n result.low_before }
         ensures high { AtLeastKnown seat.old.highs n result.high_before }
     {
         put_entry::<Brand>(&self.table.shared, &mut seat.seat, task, n, low, high)
     }
 
-    /// Gives the table up, and answers the least and the greatest value that were put at each location.
+    /// Gives the table up, and returns the least and the greatest value that were put at each
+    /// location.
     pub fn close(self, alloc: Global, seat: StripeSeat) -> Result<Summary, AllocError>
         requires table { seat.table ≡ self.table }
         requires parts { seat.parts ≡ self.parts }

@@ -1,4 +1,4 @@
--- What kinds of bytes exclude one another.
+-- Free. What kinds of bytes exclude one another.
 use Rattle.std.proofs.Common.{◌≡◌, ℕ, Bool, true, arith}
 use Rattle.std.specs.Prelude.{◌||◌, nat_eq}
 use Rattle.std.specs.Char.{is_ascii_digit}

@@ -1,4 +1,5 @@
--- A lexer of lists, which computes. What it answers for a text are the text's tokens, or its fault.
+-- Free. A lexer of lists, which computes. What it returns for a text are the text's tokens, or its
+-- fault.
 --     front_at               what a text begins with
 --     lexed                  the tokens of a text, or its fault
 use Rattle.std.proofs.Common.{◌≡◌, ◌≢◌, ℕ, zero, suc, ◌+◌, ◌-◌, ◌≤◌, ◌<◌, List, [], ◌∷◌, ◌++◌, length, take, drop, Bool, true, false, refl, ap, sym, subst, ◌∙◌, inl, inr, length-drop, take-append-drop, arith}
@@ -10,14 +11,14 @@ use Rattle.std.specs.Char.{is_ascii_digit}
 use Rattle.asm_syntax.specs.declared.token.Kind.TheVariants as kind
 use Rattle.asm_syntax.specs.declared.token.Symbol.{Symbol}
 use Rattle.asm_syntax.specs.declared.token.Token.{Token}
-use Rattle.asm_syntax.specs.declared.token.Word.{Word}
+use Rattle.asm_syntax.specs.declared.token.Keyword.{Keyword}
 use Rattle.asm_syntax.specs.declared.error.LexError.{LexError}
 use Rattle.asm_syntax.specs.declared.error.LexError.TheVariants as fault
 use Rattle.asm_syntax.specs.declared.front.Front.{Front}
 use Rattle.asm_syntax.specs.declared.front.Front.TheVariants as front
 use Rattle.asm_syntax.specs.Spellings.{symbol_text, word_text}
 use Rattle.asm_syntax.specs.Tokens.{max_length, max_number, is_blank, is_letter, is_letter_or_digit, BeginsBy, AreTokens, IsFault}
-use Rattle.asm_syntax.specs.Fronts.{value_of, line_length, length_before_close, begins_by_letter, IsPlain, IsFront}
+use Rattle.asm_syntax.specs.code.Fronts.{value_of, line_length, length_before_close, begins_by_letter, IsPlain, IsFront}
 use Rattle.asm_syntax.proofs.OneKind.{first_with, all_symbols, all_words, symbol_found, word_found}
 use Rattle.asm_syntax.proofs.NameFronts.{name_front, number_front, bad_number_front}
 use Rattle.asm_syntax.proofs.FillerFronts.{FillerParts, blank_front, line_front, block_front, never_closed}
@@ -26,8 +27,8 @@ use Rattle.asm_syntax.proofs.Steps.{Lexed, start, filler_step, token_step, done,
 
 -- ---- what a text begins with
 
-abbrev name_by : ℕ → Option Word → Front
-name_by n (Some w) = front.Token (kind.Word w) n
+abbrev name_by : ℕ → Option Keyword → Front
+name_by n (Some w) = front.Token (kind.Keyword w) n
 name_by n None = front.Token kind.Name n
 
 abbrev name_length : List ℕ → ℕ
@@ -63,11 +64,11 @@ symbol_at [] = front.BadByte
 symbol_at (a ∷ []) = single_at a
 symbol_at (a ∷ b ∷ bytes) = symbol_by 2 (first_with symbol_text all_symbols (a ∷ b ∷ [])) (single_at a)
 
--- the two bytes stand first
+-- the two bytes come first
 abbrev has_mark : List ℕ → List ℕ → Bool
 has_mark mark text = bytes_eq (take 2 text) mark
 
--- by whether a blank, a letter, a digit, `//` or `/*` stands first
+-- by whether a blank, a letter, a digit, `//` or `/*` comes first
 abbrev front_by : (blank letter digit line block : Bool) → List ℕ → Front
 front_by true letter digit line block text = front.Filler 1
 front_by false true digit line block text = name_at text
@@ -91,7 +92,7 @@ module _ {A : Type 0} (f : A → List ℕ) where
       by true h later g = let same : b ≡ a = cc in sym ((bytes_eq-Decides (f b) text).0 h) ∙ ap f same
       by false h later g = later g
 
-  -- where none is found, no one has it
+  -- if none is found, no one has it
   none_has : (all : List A) (text : List ℕ) → ((a : A) → first_with f all (f a) ≡ Some a) → first_with f all text ≡ None → (a : A) → text ≢ f a
   none_has all text found none a e = let both : None ≡ Some a = sym none ∙ ap (first_with f all) e ∙ found a in absurd cc
 
@@ -101,8 +102,8 @@ is_name text letter = by (first_with word_text all_words (take n text)) refl
     n : ℕ
     n = name_length text
 
-    by : (o : Option Word) → first_with word_text all_words (take n text) ≡ o → IsFront text (name_by n o)
-    by (Some w) e = name_front text n (kind.Word w) letter refl (λ named. has_text word_text all_words (take n text) w e) (λ behind bad. bad)
+    by : (o : Option Keyword) → first_with word_text all_words (take n text) ≡ o → IsFront text (name_by n o)
+    by (Some w) e = name_front text n (kind.Keyword w) letter refl (λ named. has_text word_text all_words (take n text) w e) (λ behind bad. bad)
     by None e = name_front text n kind.Name letter refl (λ named. (named, none_has word_text all_words (take n text) word_found e)) (λ behind bad. bad)
 
 within_is : (a b : ℕ) → nat_le a b ≡ true → a ≤ b
@@ -174,17 +175,17 @@ is_front b bytes = by (is_blank b) (is_letter b) (is_ascii_digit b) (has_mark (c
 
 -- ---- whole texts
 
-abbrev Answer : Type 0
-Answer = Result (List Token) LexError
+abbrev LexResult : Type 0
+LexResult = Result (List Token) LexError
 
 abbrev Lexer : Type 0
-Lexer = List Token → ℕ → List ℕ → Answer
+Lexer = List Token → ℕ → List ℕ → LexResult
 
--- what is behind the first bytes
+-- what is after the first bytes
 abbrev behind : ℕ → List ℕ → List ℕ
 behind m rest = take (length rest - m) (drop m rest)
 
--- on from this front, by a lexer of what is behind it
+-- on from this front, by a lexer of what is after it
 abbrev from_front : Lexer → Front → Lexer
 from_front more (front.Filler m) ts at rest = more ts (at + m) (behind m rest)
 from_front more (front.Token k m) ts at rest = more (ts ++ (record { kind = k; start = at; end = at + m }) ∷ []) (at + m) (behind m rest)
@@ -192,17 +193,17 @@ from_front more front.BadNumber ts at rest = Err (fault.BadNumber at)
 from_front more front.OpenComment ts at rest = Err (fault.OpenComment at)
 from_front more front.BadByte ts at rest = Err (fault.BadByte at)
 
--- Behind these tokens, up to the offset `at`. Each turn takes a byte at least.
+-- After these tokens, up to the offset `at`. Each turn takes a byte at least.
 abbrev lexed_within : ℕ → Lexer
 lexed_within zero ts at rest = Ok ts
 lexed_within (suc n) ts at [] = Ok ts
 lexed_within (suc n) ts at (b ∷ bytes) = from_front (lexed_within n) (front_at b bytes) ts at (b ∷ bytes)
 
-abbrev pub lexed : List ℕ → Answer
+abbrev pub lexed : List ℕ → LexResult
 lexed text = if nat_le (length text) max_length then lexed_within (suc (length text)) [] 0 text else Err fault.TooLong
 
--- the answer is right
-abbrev pub IsRight : List ℕ → Answer → Type 0
+-- the result is right
+abbrev pub IsRight : List ℕ → LexResult → Type 0
 IsRight text (Ok ts) = AreTokens text ts
 IsRight text (Err e) = IsFault text e
 
@@ -236,13 +237,13 @@ is_right text = by (nat_le (length text) max_length) refl
     by true h = let short = within_is (length text) max_length h in right_within text short (suc (length text)) [] 0 text (omega arith) (start text)
     by false h = above_is (length text) max_length h
 
--- what the lexer answers, where it is known
-pub answers : (text : List ℕ) (r : Answer) → lexed text ≡ r → IsRight text r
+-- what the lexer returns, if it is known
+pub answers : (text : List ℕ) (r : LexResult) → lexed text ≡ r → IsRight text r
 answers text r e = subst (IsRight text) e (is_right text)
 
 pub tokens_or_a_fault : (text : List ℕ) → ((ts : List Token) × AreTokens text ts) ⊎ ((e : LexError) × IsFault text e)
 tokens_or_a_fault text = by (lexed text) (is_right text)
   where
-    by : (r : Answer) → IsRight text r → ((ts : List Token) × AreTokens text ts) ⊎ ((e : LexError) × IsFault text e)
+    by : (r : LexResult) → IsRight text r → ((ts : List Token) × AreTokens text ts) ⊎ ((e : LexError) × IsFault text e)
     by (Ok ts) right = inl (ts, right)
     by (Err e) right = inr (e, right)

@@ -1,10 +1,10 @@
--- Examples of texts with their tokens, and of texts with their first fault.
+-- Law. Examples of texts with their tokens, and of texts with their first fault.
 use Rattle.std.proofs.Common.{ℕ, ◌<◌, List, [], ◌∷◌, length, Ok, Err, refl}
 use Rattle.std.specs.Prelude.{codes}
 use Rattle.asm_syntax.specs.declared.token.Kind.{Kind}
-use Rattle.asm_syntax.specs.declared.token.Kind.TheVariants.{Name, Number, Symbol, Word}
+use Rattle.asm_syntax.specs.declared.token.Kind.TheVariants.{Name, Number, Symbol, Keyword}
 use Rattle.asm_syntax.specs.declared.token.Symbol.TheVariants.{Assign, Less, LeftArrow, Minus, Dots}
-use Rattle.asm_syntax.specs.declared.token.Word.TheVariants.{Par, While}
+use Rattle.asm_syntax.specs.declared.token.Keyword.TheVariants.{Par, While}
 use Rattle.asm_syntax.specs.declared.token.Token.{Token}
 use Rattle.asm_syntax.specs.declared.error.LexError.TheVariants.{TooLong, BadByte, OpenComment, BadNumber}
 use Rattle.asm_syntax.specs.Tokens.{AreTokens, IsFault}
@@ -30,7 +30,7 @@ less_than_a_negative = answers (codes "a < -1") (Ok _) refl
 range : AreTokens (codes "0..3") (token (Number 0) 0 1 ∷ token (Symbol Dots) 1 3 ∷ token (Number 3) 3 4 ∷ [])
 range = answers (codes "0..3") (Ok _) refl
 
-words_and_names : AreTokens (codes "while par1 _par Par par") (token (Word While) 0 5 ∷ token Name 6 10 ∷ token Name 11 15 ∷ token Name 16 19 ∷ token (Word Par) 20 23 ∷ [])
+words_and_names : AreTokens (codes "while par1 _par Par par") (token (Keyword While) 0 5 ∷ token Name 6 10 ∷ token Name 11 15 ∷ token Name 16 19 ∷ token (Keyword Par) 20 23 ∷ [])
 words_and_names = answers (codes "while par1 _par Par par") (Ok _) refl
 
 leading_zeros : AreTokens (codes "007") (token (Number 7) 0 3 ∷ [])

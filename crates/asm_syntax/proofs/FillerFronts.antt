@@ -1,10 +1,10 @@
--- Blanks and comments at the front of a text.
+-- Free. Blanks and comments at the front of a text.
 use Rattle.std.proofs.Common.{◌≡◌, ◌≢◌, ℕ, suc, ◌+◌, ◌<◌, List, [], ◌∷◌, ◌++◌, length, length-append, get_or, Bool, true, false, refl, ap, sym, subst, ◌∙◌, inl, inr, ⊎_elim, append_assoc, arith}
 use Rattle.std.proofs.lemmas.Bool.{and_parts, both_ways, eqb-true}
 use Rattle.std.proofs.lemmas.List.{append-nil}
 use Rattle.std.specs.Prelude.{◌⊎◌, nat_eq, codes, Option, Some, None, option_map}
 use Rattle.asm_syntax.specs.Tokens.{newline, is_blank, BeginsBy, StandsIn, IsLineComment, IsFiller}
-use Rattle.asm_syntax.specs.Fronts.{Parts, line_length, closes, length_before_close}
+use Rattle.asm_syntax.specs.code.Fronts.{Parts, line_length, closes, length_before_close}
 
 abbrev pub FillerParts : List ℕ → ℕ → Type 0
 FillerParts text n = Parts text n (λ piece behind. IsFiller piece ⊎ (IsLineComment piece × (behind ≡ [])))
@@ -89,12 +89,12 @@ closes_is : (a : ℕ) (bytes : List ℕ) → closes (a ∷ bytes) ≡ true → (
 closes_is a [] h = absurd (cc)
 closes_is a (b ∷ bytes) h = (bytes, λ i. eqb-true a 42 (and_parts (nat_eq a 42) (nat_eq b 47) h).0 i ∷ eqb-true b 47 (and_parts (nat_eq a 42) (nat_eq b 47) h).1 i ∷ bytes)
 
--- where the text doesn't close at its first byte, an end stands behind that
+-- if the text doesn't close at its first byte, an end is after that
 end_behind : (a : ℕ) (bytes : List ℕ) → closes (a ∷ bytes) ≡ false → StandsIn (codes "*/") (a ∷ bytes) → StandsIn (codes "*/") bytes
 end_behind a bytes stays ([], back, e) = absurd (both_ways (closes (a ∷ bytes)) stays (ap closes e))
 end_behind a bytes stays (x ∷ front, back, e) = (front, back, let rest : bytes ≡ front ++ codes "*/" ++ back = cc in rest)
 
--- the same of a front of the bytes, with an end behind it
+-- the same of a front of the bytes, with an end after it
 end_inside : (a : ℕ) (inside behind : List ℕ) → closes (a ∷ inside ++ 42 ∷ 47 ∷ behind) ≡ false → StandsIn (codes "*/") (a ∷ inside) → StandsIn (codes "*/") inside
 end_inside a inside behind stays ([], back, e) = absurd (both_ways (closes (a ∷ inside ++ 42 ∷ 47 ∷ behind)) stays (ap (λ l. closes (l ++ 42 ∷ 47 ∷ behind)) e))
 end_inside a inside behind stays (x ∷ front, back, e) = (front, back, let rest : inside ≡ front ++ codes "*/" ++ back = cc in rest)

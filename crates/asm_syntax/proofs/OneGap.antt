@@ -1,4 +1,4 @@
--- The gap at the front of a text ends in one offset.
+-- Free. The gap at the front of a text ends in one offset.
 use Rattle.std.proofs.Common.{◌≡◌, ℕ, List, [], ◌∷◌, ◌++◌, true, ap, sym, subst, ◌∙◌, inl, inr, append_assoc, arith}
 use Rattle.std.proofs.lemmas.List.{append_cancel_right}
 use Rattle.std.proofs.lemmas.List.Concat.{flat_map-cons}
@@ -22,7 +22,7 @@ one_line (a ∷ i) (b ∷ j) x y e first second =
 pub second_same : (a b c d : ℕ) (x y : List ℕ) → a ∷ b ∷ x ≡ c ∷ d ∷ y → b ≡ d
 second_same a b c d x y e = cc
 
--- bytes that go on by `*/` where others have it at once
+-- bytes that go on by `*/` when others have it at once
 no_end_later : (b : ℕ) (j x y : List ℕ) → 42 ∷ 47 ∷ x ≡ b ∷ j ++ 42 ∷ 47 ∷ y → ¬ StandsIn (codes "*/") (b ∷ j) → ⊥
 no_end_later b [] x y e clean = let same : ◌≡◌ {A = ℕ} 47 42 = second_same 42 47 b 42 x (47 ∷ y) e in omega arith
 no_end_later b (c ∷ j) x y e clean =
@@ -76,7 +76,7 @@ one_filling x y text other (inr (inr (i, e, _))) (inr (inl (j, f, _))) same = ab
 
 -- ---- gaps
 
--- no blank and no closed comment stands at the front
+-- no blank and no closed comment is at the front
 abbrev pub IsSolid : List ℕ → Type 0
 IsSolid text = (behind : List ℕ) → ¬ Filled behind text
 

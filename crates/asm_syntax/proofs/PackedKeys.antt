@@ -1,9 +1,9 @@
--- Short texts of one length with one key are the same.
+-- Free. Short texts of one length with one key are the same.
 use Rattle.std.proofs.Common.{◌≡◌, ℕ, suc, ◌+◌, ◌-◌, ◌*◌, ◌<◌, ◌≤◌, ◌^◌, List, [], ◌∷◌, get_or, take, drop, take_all, length, subst, true, refl, ap, sym, ◌∙◌, arith}
 use Rattle.std.specs.Prelude.{nat_eq, nat_le}
 use Rattle.std.specs.Cmp.Lexicographic.{pointwise, bytes_decides}
 use Rattle.std.proofs.Math.Nat.{pow-suc, mul_assoc, pow-le-pow_right, mul-le-mul_left, mul-le-mul_right}
-use Rattle.asm_syntax.specs.Keys.{packed, key_of, AreBytes}
+use Rattle.asm_syntax.specs.code.Keys.{packed, key_of, AreBytes}
 
 digits_alike : (k l a b : ℕ) → a < 256 → b < 256 → 256 * k + a ≡ 256 * l + b → (k ≡ l) × (a ≡ b)
 digits_alike k l a b small_a small_b same = (omega (arith, small_a, small_b, same), omega (arith, small_a, small_b, same))
@@ -42,7 +42,7 @@ room_behind n key byte small room =
     let whole : 256 ^ n * (256 * (key + 1)) ≡ 256 ^ suc n * (key + 1) = sym (mul_assoc (256 ^ n) 256 (key + 1)) ∙ ap (λ m. m * (key + 1)) (sym (pow-suc 256 n)) in
     omega (arith, more, whole, room)
 
--- what the loop keeps where the text goes on
+-- what the loop keeps if the text goes on
 abbrev pub IsKept : ℕ → List ℕ → ℕ → Type 0
 IsKept key text whole = (packed key text ≡ whole) × ((256 ^ length text * (key + 1) ≤ 256 ^ 8) × AreBytes text)
 

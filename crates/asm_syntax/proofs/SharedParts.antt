@@ -1,4 +1,4 @@
--- Threads may share a rule, since they may share its parts.
+-- Free. Threads may share a rule, since they may share its parts.
 use denote.Param.Send.{IsSync, sendable}
 use denote.Param.SendFields.{as_row_sync, declared_sync}
 use Rattle.std.proofs.Crossing.{Box-sync, Vec-sync}

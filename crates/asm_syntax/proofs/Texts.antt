@@ -1,10 +1,10 @@
--- What the bytes of words and symbols begin with.
+-- Free. What the bytes of words and symbols begin with.
 use Rattle.std.proofs.Common.{◌≡◌, ℕ, List, [], ◌∷◌, Bool, true, false, not, refl}
 use Rattle.std.specs.Prelude.{◌&&◌}
 use Rattle.asm_syntax.specs.declared.token.Symbol.{Symbol}
 use Rattle.asm_syntax.specs.declared.token.Symbol.TheVariants as symbol
-use Rattle.asm_syntax.specs.declared.token.Word.{Word}
-use Rattle.asm_syntax.specs.declared.token.Word.TheVariants as word
+use Rattle.asm_syntax.specs.declared.token.Keyword.{Keyword}
+use Rattle.asm_syntax.specs.declared.token.Keyword.TheVariants as word
 use Rattle.asm_syntax.specs.Tokens.{is_letter, is_letter_or_digit}
 use Rattle.asm_syntax.specs.Spellings.{symbol_text, word_text}
 use Rattle.asm_syntax.proofs.Bytes.{begins_filler}
@@ -97,7 +97,7 @@ symbol_is_no_filler symbol.Times = refl
 symbol_is_no_filler symbol.Arrow = refl
 symbol_is_no_filler symbol.Dots = refl
 
-pub word_is_name : (w : Word) → is_name (word_text w) ≡ true
+pub word_is_name : (w : Keyword) → is_name (word_text w) ≡ true
 word_is_name word.CoreAsm = refl
 word_is_name word.Use = refl
 word_is_name word.Init = refl

@@ -1,4 +1,4 @@
--- Where the tokens of a text stand, and how great their numbers are.
+-- Free. Where the tokens of a text are, and how great their numbers are.
 use Rattle.std.proofs.Common.{◌≡◌, ℕ, ◌+◌, ◌<◌, List, [], ◌∷◌, ◌++◌, length, length-append, ap, subst, inl, ⊎_elim, arith}
 use Rattle.std.proofs.lemmas.List.Elements.{All-nil, All-cons}
 use Rattle.std.proofs.str.Laws.{order}
@@ -6,7 +6,7 @@ use Rattle.std.specs.Prelude.{All}
 use Rattle.asm_syntax.specs.declared.token.Kind.{Kind}
 use Rattle.asm_syntax.specs.declared.token.Token.{Token}
 use Rattle.asm_syntax.specs.Tokens.{max_number, Begins, AreTokens, IsBadNumber, Next, Spells, HasNumberInRange, StandInOrder}
-use Rattle.asm_syntax.proofs.Pieces.{no_empty_token}
+use Rattle.asm_syntax.proofs.TokenLengths.{no_empty_token}
 
 number_in_range : (t : Token) (behind : List ℕ) → ¬ IsBadNumber t.kind behind → HasNumberInRange t
 number_in_range t behind good n e =

@@ -1,5 +1,6 @@
--- Faults of texts, as a user meets them.
---     fault_number, fault_offset      the number of a fault, and the offset where it stands, if it has one
+-- Definition. Faults of texts, as they are reported to a user.
+--     fault_number, fault_offset      the number of a fault, and the offset where it is, if it has
+--                                     one
 use Rattle.std.specs.Prelude.{ℕ, Option, Some, None}
 use Rattle.asm_syntax.specs.declared.error.LexError.{LexError}
 use Rattle.asm_syntax.specs.declared.error.LexError.TheVariants.{TooLong, BadByte, OpenComment, BadNumber}

@@ -1,11 +1,7 @@
 pub mod Tree
 pub mod SourceTree
-pub mod Views
-pub mod ViewCases
 pub mod PlainTree
 pub mod Spellings
 pub mod Tokens
-pub mod Fronts
-pub mod Lexing
 pub mod Faults
-pub mod Keys
+pub mod code

@@ -1,6 +1,7 @@
--- A tree without its offsets: what it means doesn't depend on where its names stand.
---     plain_term, plain_rule     a rule that is left out does nothing. `while c do P endwhile` is `iterate if c then P endif enditerate`,
---                                and `result` is a name, to which something can be assigned
+-- Definition. A tree without its offsets: what it means doesn't depend on where its names are.
+--     plain_term, plain_rule     a rule that is left out does nothing. `while c do P endwhile` is
+--                                `iterate if c then P endif enditerate`, and `result` is a name, to
+--                                which something can be assigned
 use Rattle.std.specs.Prelude.{Option, Some, None, option_map}
 use Rattle.asm_state.specs.declared.value.Value.{Value}
 use Rattle.asm_state.specs.declared.value.Value.TheVariants as value
@@ -23,7 +24,7 @@ abbrev mutual
   plain_term (source.Negative t) = tree.Negative (plain_term t)
   plain_term (source.Exists x u t) = tree.Exists x.text u.text (plain_term t)
   plain_term (source.Every x u t) = tree.Every x.text u.text (plain_term t)
-  plain_term (source.Answer x) = tree.Named x.text tree.no_terms
+  plain_term (source.Result x) = tree.Named x.text tree.no_terms
 
   pub plain_terms : source.Terms → tree.Terms
   plain_terms source.no_terms = tree.no_terms

@@ -1,9 +1,13 @@
--- Specifications as the reader makes them: each name with its offset in the text.
+-- Definition. Specifications as the reader makes them: each name with its offset in the text.
 --     Name                        a name, with the offset of its first byte
---     Term, Terms, Links          a term;  a list of terms;  the rest of a chain. An `Answer` is the word `result`
---     Rule, Rules, Branch         a rule;  a list of rules;  a rule that may be left out. A call may have the target of a `<-`
---     Const, Entry, Given         a constant of a table;  an entry, with the offset of its `(`;  a table
---     Item, Spec                  a declaration or another line;  a specification, with the length of its text
+--     Term, Terms, Links          a term;  a list of terms;  the rest of a chain. A `Result` is the
+--                                 word `result`
+--     Rule, Rules, Branch         a rule;  a list of rules;  a rule that may be left out. A call
+--                                 may have the target of a `<-`
+--     Const, Entry, Given         a constant of a table;  an entry, with the offset of its `(`;  a
+--                                 table
+--     Item, Spec                  a declaration or another line;  a specification, with the length
+--                                 of its text
 use Rattle.std.specs.Prelude.{ℕ, List, Option}
 use Rattle.asm_state.specs.declared.number.Number.{Number}
 use Rattle.asm_state.specs.declared.operation.Op.{Op}
@@ -23,7 +27,7 @@ mutual
     Negative : Term → Term
     Exists : (x over : Name) → Term → Term
     Every : (x over : Name) → Term → Term
-    Answer : Name → Term
+    Result : Name → Term
 
   pub data Terms : Type 0 where
     no_terms : Terms

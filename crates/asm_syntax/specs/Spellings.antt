@@ -1,9 +1,9 @@
--- The bytes of reserved words and symbols.
+-- Definition. The bytes of reserved words and symbols.
 use Rattle.std.specs.Prelude.{ℕ, List, codes}
 use Rattle.asm_syntax.specs.declared.token.Symbol.{Symbol}
 use Rattle.asm_syntax.specs.declared.token.Symbol.TheVariants as symbol
-use Rattle.asm_syntax.specs.declared.token.Word.{Word}
-use Rattle.asm_syntax.specs.declared.token.Word.TheVariants as word
+use Rattle.asm_syntax.specs.declared.token.Keyword.{Keyword}
+use Rattle.asm_syntax.specs.declared.token.Keyword.TheVariants as word
 
 -- the bytes of a symbol
 abbrev pub symbol_text : Symbol → List ℕ
@@ -28,7 +28,7 @@ symbol_text symbol.Arrow = codes "->"
 symbol_text symbol.Dots = codes ".."
 
 -- the bytes of a reserved word
-abbrev pub word_text : Word → List ℕ
+abbrev pub word_text : Keyword → List ℕ
 word_text word.CoreAsm = codes "CoreASM"
 word_text word.Use = codes "use"
 word_text word.Init = codes "init"

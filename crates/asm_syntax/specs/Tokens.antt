@@ -1,16 +1,16 @@
--- What the tokens of a text are, and what its first fault is. A text is its bytes.
+-- Definition. What the tokens of a text are, and what its first fault is. A text is its bytes.
 use Rattle.std.specs.Prelude.{◌≡◌, ◌≢◌, ℕ, ◌+◌, ◌-◌, ◌*◌, ◌<◌, ◌≤◌, ◌⊎◌, Bool, ◌||◌, IsTrue, nat_eq, unsigned_abs, List, [], ◌∷◌, ◌++◌, length, All, fold, flat_map, codes}
 use Rattle.std.specs.Char.{is_ascii_digit, is_ascii_alphabetic}
 use Rattle.asm_state.specs.Bounds.{greatest_number}
 use Rattle.asm_syntax.specs.declared.token.Kind.{Kind}
-use Rattle.asm_syntax.specs.declared.token.Kind.TheVariants.{Name, Number, Symbol, Word}
-use Rattle.asm_syntax.specs.declared.token.Word as word
+use Rattle.asm_syntax.specs.declared.token.Kind.TheVariants.{Name, Number, Symbol, Keyword}
+use Rattle.asm_syntax.specs.declared.token.Keyword as word
 use Rattle.asm_syntax.specs.declared.token.Token.{Token}
 use Rattle.asm_syntax.specs.declared.error.LexError.{LexError}
 use Rattle.asm_syntax.specs.declared.error.LexError.TheVariants.{TooLong, BadByte, OpenComment, BadNumber}
 use Rattle.asm_syntax.specs.Spellings.{symbol_text, word_text}
 
--- so many bytes a text has at most
+-- how many bytes a text has at most
 abbrev pub max_length : ℕ
 max_length = 1048576
 
@@ -32,7 +32,7 @@ is_blank b = nat_eq b 32 || nat_eq b 9 || nat_eq b 13 || nat_eq b newline
 abbrev pub is_letter : ℕ → Bool
 is_letter b = is_ascii_alphabetic b || nat_eq b 95
 
--- a byte of a name behind its first one
+-- a byte of a name after its first one
 abbrev pub is_letter_or_digit : ℕ → Bool
 is_letter_or_digit b = is_letter b || is_ascii_digit b
 
@@ -41,9 +41,9 @@ abbrev pub BeginsBy : (ℕ → Bool) → List ℕ → Type 0
 BeginsBy p [] = ⊥
 BeginsBy p (b ∷ bytes) = IsTrue (p b)
 
--- ---- what stands between tokens
+-- ---- what is between tokens
 
--- the bytes stand somewhere in the text
+-- the bytes are somewhere in the text
 abbrev pub StandsIn : List ℕ → List ℕ → Type 0
 StandsIn bytes text = (front back : List ℕ) × (text ≡ front ++ bytes ++ back)
 
@@ -67,7 +67,7 @@ IsFiller text = IsBlank text ⊎ IsBlockComment text ⊎ ((comment : List ℕ) �
 abbrev pub IsGap : List ℕ → Type 0
 IsGap text = (parts : List (List ℕ)) × All IsFiller parts × (text ≡ flat_map (λ part. part) parts)
 
--- behind the last token a line comment may go up to the end of the text
+-- after the last token a line comment may go up to the end of the text
 abbrev pub IsLastGap : List ℕ → Type 0
 IsLastGap text = IsGap text ⊎ ((gap comment : List ℕ) × IsGap gap × IsLineComment comment × (text ≡ gap ++ comment))
 
@@ -84,16 +84,16 @@ IsName (b ∷ bytes) = IsTrue (is_letter b) × All (λ c. IsTrue (is_letter_or_d
 
 -- the bytes are those of such a token; a reserved word is no name
 abbrev pub Spells : List ℕ → Kind → Type 0
-Spells text Name = IsName text × ((w : word.Word) → text ≢ word_text w)
+Spells text Name = IsName text × ((w : word.Keyword) → text ≢ word_text w)
 Spells text (Number n) = IsNumber text n
 Spells text (Symbol s) = text ≡ symbol_text s
-Spells text (Word w) = text ≡ word_text w
+Spells text (Keyword w) = text ≡ word_text w
 
 -- no longer front of the text spells a token
 abbrev pub IsLongest : List ℕ → List ℕ → Type 0
 IsLongest piece behind = (more rest : List ℕ) (k : Kind) → behind ≡ more ++ rest → Spells (piece ++ more) k → more ≡ []
 
--- The text from the offset `at` on is a gap, the token, and what is behind it.
+-- The text from the offset `at` on is a gap, the token, and what is after it.
 pub record Next (at : ℕ) (text : List ℕ) (t : Token) (behind : List ℕ) : Type 0 where
   pub gap : List ℕ
   pub piece : List ℕ
@@ -109,11 +109,12 @@ abbrev pub IsBadNumber : Kind → List ℕ → Type 0
 IsBadNumber Name behind = ⊥
 IsBadNumber (Number n) behind = (max_number < n) ⊎ BeginsBy is_letter behind
 IsBadNumber (Symbol s) behind = ⊥
-IsBadNumber (Word w) behind = ⊥
+IsBadNumber (Keyword w) behind = ⊥
 
 -- ---- texts
 
--- The text from the offset `at` on begins with these tokens. `behind` is what follows them, from the offset `end` on.
+-- The text from the offset `at` on begins with these tokens. `behind` is what follows them, from
+-- the offset `end` on.
 abbrev pub Begins : ℕ → List ℕ → List Token → ℕ → List ℕ → Type 0
 Begins at text [] end behind = (end ≡ at) × (behind ≡ text)
 Begins at text (t ∷ ts) end behind = (between : List ℕ) × Next at text t between × ¬ IsBadNumber t.kind between × Begins t.end between ts end behind
@@ -129,7 +130,7 @@ pub record BeginsNothing (text : List ℕ) : Type 0 where
   pub line_comment : (behind : List ℕ) → text ≢ codes "//" ++ behind
   pub block_comment : (behind : List ℕ) → text ≢ codes "/*" ++ behind
 
--- Behind a gap, the text from the offset `at` on has this fault.
+-- After a gap, the text from the offset `at` on has this fault.
 abbrev pub IsFaultAt : ℕ → List ℕ → LexError → Type 0
 IsFaultAt at text TooLong = ⊥
 IsFaultAt at text (BadByte offset) = (gap rest : List ℕ) × (text ≡ gap ++ rest) × IsGap gap × (rest ≢ []) × BeginsNothing rest × (offset ≡ at + length gap)
@@ -147,7 +148,8 @@ IsFault text e = (length text ≤ max_length) × (ts : List Token) × (end : ℕ
 abbrev pub HasNumberInRange : Token → Type 0
 HasNumberInRange t = (n : ℕ) → t.kind ≡ Number n → n ≤ max_number
 
--- From the offset `at` on the tokens stand one behind another, none of them empty, and end at the offset `end` or before.
+-- From the offset `at` on the tokens are one after another, none of them empty, and end at the
+-- offset `end` or before.
 abbrev pub StandInOrder : ℕ → List Token → ℕ → Type 0
 StandInOrder at [] end = at ≤ end
 StandInOrder at (t ∷ ts) end = (at ≤ t.start) × (t.start < t.end) × StandInOrder t.end ts end

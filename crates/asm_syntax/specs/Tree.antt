@@ -1,7 +1,9 @@
--- Terms and rules as trees without offsets. A name is the list of its bytes.
---     Term, Terms, Links      a term;  a list of terms;  the rest of a chain: operations, each with its right operand
---     Rule, Rules             a rule;  a list of rules. A rule without `else` or `ifnone` has `Skip` there. A call may have a target: the
---                             location that `result` stands for in the body of the rule
+-- Definition. Terms and rules as trees without offsets. A name is the list of its bytes.
+--     Term, Terms, Links      a term;  a list of terms;  the rest of a chain: operations, each with
+--                             its right operand
+--     Rule, Rules             a rule;  a list of rules. A rule without `else` or `ifnone` has
+--                             `Skip` there. A call may have a target: the location that `result`
+--                             stands for in the body of the rule
 --     result                  the word `result` as a name, which no text can declare
 use Rattle.std.specs.Prelude.{ℕ, List, Option, codes}
 use Rattle.asm_state.specs.declared.value.Value.{Value}

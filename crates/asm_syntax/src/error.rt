@@ -17,7 +17,7 @@ pub enum LexError {
 }
 
 impl LexError {
-    /// Its number, by which it is told to a user.
+    /// Its number, by which it is reported to a user.
     pub fn number(self) -> u8
         ensures { result ≡ fault_number self }
     {
@@ -29,7 +29,7 @@ impl LexError {
         }
     }
 
-    /// The offset of the byte where it stands; a text that is too long has none.
+    /// The offset of the byte where it is; a text that is too long has none.
     pub fn at(self) -> Option<usize>
         ensures { result ≡ fault_offset self }
     {

@@ -7,7 +7,7 @@ ghost use Rattle.asm_syntax.specs.declared.token.Token.{Token};
 ghost use Rattle.asm_syntax.specs.Tokens.{Spells, IsLongest, AreTokens, IsFault, HasNumberInRange, StandInOrder};
 
 /// A text has one longest token at its front at most.
-pub fn one_piece()
+pub fn one_token()
     ensures { (piece behind other rest : List ℕ) (k l : Kind) → piece ++ behind ≡ other ++ rest
         → Spells piece k → Spells other l → IsLongest piece behind → IsLongest other rest
         → (piece ≡ other) × (behind ≡ rest) }
@@ -43,7 +43,7 @@ pub fn numbers_in_range()
     ensures { (text : List ℕ) (ts : List Token) → AreTokens text ts → All HasNumberInRange ts }
 {}
 
-/// The tokens of a text stand in it one behind another.
+/// The tokens of a text are in it one after another.
 pub fn tokens_in_order()
     ensures { (text : List ℕ) (ts : List Token) → AreTokens text ts → StandInOrder 0 ts (length text) }
 {}

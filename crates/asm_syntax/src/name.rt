@@ -1,5 +1,5 @@
-//! Names, and the offsets where they stand.
-pub use crate::text::Text;
+//! Names, and the offsets where they are.
+pub use crate::name_text::Text;
 
 /// A name, with the offset of its first byte in the text of the specification.
 #[derive(Drop)]

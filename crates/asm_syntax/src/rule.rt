@@ -2,7 +2,7 @@
 use crate::name::Name;
 use crate::term::Term;
 
-/// The location into which a called rule's answer goes: a function with its arguments.
+/// The location into which a called rule's result goes: a function with its arguments.
 #[derive(Drop)]
 pub struct Target {
     pub name: Name,

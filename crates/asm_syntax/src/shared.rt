@@ -4,7 +4,8 @@ ghost use Rattle.asm_syntax.specs.contracts.rule.Rule.{the_row};
 
 use crate::term::Term;
 
-/// Threads may share a rule. A function that hands one to threads, or what holds one, calls this before.
+/// Threads may share a rule. A function that hands one to threads, or what holds one, calls this
+/// before.
 pub fn rules_are_shared()
     ensures { IsSync the_row }
 {

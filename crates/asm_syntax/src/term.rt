@@ -58,6 +58,6 @@ pub enum Term {
         over: Name,
         test: Box<Term>,
     },
-    /// The word `result`: the content of the location into which the rule's answer goes.
-    Answer(Name),
+    /// The word `result`: the content of the location into which the rule's result goes.
+    Result(Name),
 }

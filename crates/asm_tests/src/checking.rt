@@ -1,7 +1,7 @@
-//! What a checked specification answers.
+//! What calls of a checked specification return.
 
-use crate::text::checked_of;
-use asm_check::{Checked, Named};
+use crate::checked_text::checked_of;
+use asm_check::{Checked, NameNumber};
 use asm_syntax::name::Text;
 use asm_syntax::rule::Rule;
 use asm_syntax::term::Term;
@@ -12,16 +12,16 @@ const TEXT: &[u8] =
     b"CoreASM T init M enum E = { a, b } universe U = 0 .. 3 function controlled f : U -> E initially a \
 function static g : E * U initially { (b, 3) -> 7 } derived d(x) = x + 1 rule M = r(d(1)) rule r(p) = f(p) := b";
 
-static NAMES: [(&str, Option<Named>); 12] = [
-    ("E", Some(Named::Universe(0))),
-    ("U", Some(Named::Universe(1))),
-    ("a", Some(Named::Element(0))),
-    ("b", Some(Named::Element(1))),
-    ("f", Some(Named::Function(0))),
-    ("g", Some(Named::Function(1))),
-    ("d", Some(Named::Derived(0))),
-    ("M", Some(Named::Rule(0))),
-    ("r", Some(Named::Rule(1))),
+static NAMES: [(&str, Option<NameNumber>); 12] = [
+    ("E", Some(NameNumber::Universe(0))),
+    ("U", Some(NameNumber::Universe(1))),
+    ("a", Some(NameNumber::Element(0))),
+    ("b", Some(NameNumber::Element(1))),
+    ("f", Some(NameNumber::Function(0))),
+    ("g", Some(NameNumber::Function(1))),
+    ("d", Some(NameNumber::Derived(0))),
+    ("M", Some(NameNumber::Rule(0))),
+    ("r", Some(NameNumber::Rule(1))),
     ("NUMBER", None),
     ("p", None),
     ("T", None),
@@ -38,7 +38,8 @@ fn first_wrong_name(alloc: Global, checked: &Checked) -> Result<Option<&'static 
     Ok(None)
 }
 
-/// Whether the names of a specification stand for their numbers, that of the whole for none, and its main rule is the first.
+/// Whether the names of a specification stand for their numbers, that of the whole for none, and
+/// its main rule is the first.
 fn numbers_names(alloc: Global) -> Result<bool, Fail> {
     let checked = checked_of(alloc, TEXT)?;
     let first_wrong = first_wrong_name(alloc, &checked)?;
@@ -58,8 +59,8 @@ fn names_stand_for_numbers(rt: HostRuntime) -> Result<(), Fail> {
 /// Whether a function or an element has this name by the number that the name stands for.
 fn is_named_again(checked: &Checked, name: &str) -> bool {
     match checked.named(name) {
-        Some(Named::Function(f)) => checked.function_name(f) == name.as_bytes(),
-        Some(Named::Element(e)) => checked.element_name(e) == name.as_bytes(),
+        Some(NameNumber::Function(f)) => checked.function_name(f) == name.as_bytes(),
+        Some(NameNumber::Element(e)) => checked.element_name(e) == name.as_bytes(),
         _ => false,
     }
 }
@@ -67,11 +68,11 @@ fn is_named_again(checked: &Checked, name: &str) -> bool {
 /// Whether a rule has one parameter and assigns, or a derived function has one and is a chain.
 fn has_its_body(checked: &Checked, name: &str) -> bool {
     match checked.named(name) {
-        Some(Named::Rule(r)) => {
+        Some(NameNumber::Rule(r)) => {
             let (parameters, body) = checked.rule(r);
             parameters.len() == 1 && matches!(body, Rule::Assign { .. })
         }
-        Some(Named::Derived(d)) => {
+        Some(NameNumber::Derived(d)) => {
             let (parameters, body) = checked.derived(d);
             parameters.len() == 1 && matches!(body, Term::Chain { .. })
         }

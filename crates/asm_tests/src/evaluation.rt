@@ -6,13 +6,13 @@ mod rows;
 mod terms;
 
 ghost use Rattle.std.specs.Prelude.{◌≡◌};
-ghost use Rattle.asm_syntax.specs.Views.{spec_of};
+ghost use Rattle.asm_syntax.specs.code.Views.{spec_of};
 ghost use Rattle.asm_check.specs.Shapes.{shape_of};
 
-use asm_by_code::whole::outcome_by_code;
+use asm_by_code::by_code::outcome_by_code;
 use asm_check::Checked;
-use asm_eval::running::Running;
-use asm_meaning::from_nothing::{nothing_formed, outcome_of};
+use asm_eval::evaluation::Evaluation;
+use asm_meaning::new_forming::{new_forming, outcome_of};
 use asm_meaning::{Choices, Outcome, View};
 use asm_reader::Picks;
 use std::alloc::{AllocError, Global};
@@ -28,12 +28,12 @@ fn outcome_at<'a, P: Picks>(
 ) -> Result<Outcome, AllocError>
     requires { view.now.signature.now ≡ shape_of (spec_of checked.now.spec) }
 {
-    let mut made = nothing_formed(alloc, view.signature, path)?;
-    let running = Running {
+    let mut forming = new_forming(alloc, view.signature, path)?;
+    let evaluation = Evaluation {
         view,
         choices,
         turns,
     };
-    let formed = outcome_by_code(alloc, checked, &running, &mut made)?;
-    outcome_of(made, formed)
+    let formed = outcome_by_code(alloc, checked, &evaluation, &mut forming)?;
+    outcome_of(forming, formed)
 }

@@ -1,7 +1,9 @@
-//! Tests of the public functions of the libraries below `asm_run`, and what the tests of that need too.
+//! Tests of the public functions of the libraries below `asm_run`, and what the tests of that need
+//! too.
 #![tactic(auto)]
 
 pub mod beginning;
+pub mod checked_text;
 #[cfg(test)]
 mod checking;
 #[cfg(test)]
@@ -16,7 +18,6 @@ mod state;
 mod striped;
 #[cfg(test)]
 mod syntax;
-pub mod text;
 #[cfg(test)]
 mod two;
 #[cfg(test)]

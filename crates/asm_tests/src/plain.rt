@@ -23,7 +23,7 @@ pub enum Plain {
 /// The number of a location, and the least and the greatest value at it.
 pub type Entry = (usize, Plain, Plain);
 
-/// The contents of seven locations where there are none.
+/// The contents of seven locations if there are none.
 pub static NOTHING: [Plain; 7] = [Plain::Undef; 7];
 
 pub const ONE: Plain = Plain::Number(1);
@@ -72,7 +72,8 @@ pub fn has_contents(signature: &Signature, state: &State, contents: &[Plain]) ->
     true
 }
 
-/// A summary to which these entries were added, one after the other, but for those that are out of range or of order.
+/// A summary to which these entries were added, one after the other, except those that are out of
+/// range or of order.
 pub fn summary_of(alloc: Global, count: usize, entries: &[Entry]) -> Result<Summary, AllocError>
     ensures { IfOk result (λ s. s.count ≡ count) }
 {

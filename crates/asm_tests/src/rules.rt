@@ -1,15 +1,15 @@
 //! Rules and what they yield in the initial state, and how often a `choose` asks for its number.
 ghost use Rattle.asm_reader.specs.ScriptLines.{no_lines};
 
+use crate::checked_text::{Unchecked, checked_of_both};
 use crate::plain::{Entry, FIVE, ONE, Plain, TWO, has_entries};
-use crate::text::{Unchecked, checked_of_both};
 use asm_check::Checked;
 use asm_meaning::Outcome;
 use asm_reader::Picks;
 use std::alloc::Global;
 use std::sync::atomic::{AtomicU64, Ordering};
 
-/// Answers 0 as a script without lines does, and counts how often it is asked.
+/// Returns 0 as a script without lines does, and counts how often it is asked.
 #[derive(Drop)]
 pub struct Counting {
     asked: AtomicU64,
@@ -37,7 +37,7 @@ impl Picks for Counting {
     }
 }
 
-/// What stands before the main rule's body.
+/// What is before the main rule's body.
 const BEFORE: &str = "CoreASM T init M \
 enum Color = { red, green, blue } enum Two = { one, two } universe Idx = 0 .. 2 universe Empty = 1 .. 0 \
 function controlled c : Idx function controlled x \
@@ -141,7 +141,7 @@ const CLASHES: &str = "forall i in Idx do par x := i c(i + 1) := i endpar endfor
 const SEQUENCE: &str = "seq x := 1 forall i in Idx with i <= x do c(i) := x + i endforall \
 iterate if x < 5 then x := x + 2 endif enditerate endseq";
 
-/// Answers into two locations, and a `while`.
+/// Results into two locations, and a `while`.
 const ANSWERS: &str =
     "seq x <- Count(3) c(1) <- Count(x - 3) while x < 5 do x := x + 1 endwhile endseq";
 
@@ -153,7 +153,7 @@ pub static YIELDED: [Yielded; 4] = [
         ALL,
         1,
         5,
-        // The stray location of `c` stands between.
+        // The stray location of `c` is between.
         &[
             (0, FIVE, FIVE),
             (1, Plain::Number(6), Plain::Number(6)),

@@ -1,4 +1,5 @@
-//! Values, universes and signatures: codes, positions, limits, locations by number, and the contents and values at the beginning.
+//! Values, universes and signatures: codes, positions, limits, locations by number, and the
+//! contents and values at the beginning.
 ghost use Rattle.std.specs.Prelude.{◌≡◌, IfOk};
 
 use crate::plain::{Plain, has_contents, value, values_of};
@@ -6,10 +7,10 @@ use asm_state::arguments::Arguments;
 use asm_state::domain::Domain;
 use asm_state::entries::Entries;
 use asm_state::function::{Function, FunctionKind, Table};
-use asm_state::limits::fits;
 use asm_state::location::Location;
 use asm_state::number::Number;
 use asm_state::signature::Signature;
+use asm_state::signature_limits::fits;
 use asm_state::universe::Universe;
 use asm_state::word::Word;
 use std::alloc::{AllocError, Global};

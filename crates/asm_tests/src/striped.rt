@@ -2,7 +2,7 @@
 ghost use Rattle.std.specs.Prelude.{◌≡◌, ◌<◌, ◌≤◌};
 
 use asm_state::word::Word;
-use asm_striped::{Met, StripeSeat, Striped};
+use asm_striped::{StripeSeat, Striped, WordsBefore};
 use asm_updates::summary::Summary;
 use std::alloc::{AllocError, Global};
 use std::test::Fail;
@@ -10,9 +10,9 @@ use std::thread::join;
 
 mod random;
 
-const MOST_TURNS: u64 = 100_000_000;
+const MAX_TURNS: u64 = 100_000_000;
 
-/// Puts two codes, or nothing where they are none.
+/// Puts two codes, or nothing if they are none.
 fn put_codes(
     table: &Striped,
     seat: &mut StripeSeat,
@@ -20,7 +20,7 @@ fn put_codes(
     n: usize,
     low: u64,
     high: u64,
-) -> Option<Met>
+) -> Option<WordsBefore>
     requires table { seat.old.table ≡ table.now.table }
     requires location { n < table.now.count }
     ensures { (seat.new.table ≡ seat.old.table) × (seat.new.parts ≡ seat.old.parts) }
@@ -45,15 +45,15 @@ fn has_bounds(summary: &Summary, n: usize, low: u64, high: u64) -> bool {
     least.code() == low && greatest.code() == high
 }
 
-fn met(low_before: u64, high_before: u64) -> Option<Met> {
-    Some(Met {
+fn met(low_before: u64, high_before: u64) -> Option<WordsBefore> {
+    Some(WordsBefore {
         low_before,
         high_before,
     })
 }
 
 /// What three puts of two seats met at one location of two, and the summary of all.
-fn met_by_two(alloc: Global) -> Result<([Option<Met>; 3], Summary), AllocError> {
+fn met_by_two(alloc: Global) -> Result<([Option<WordsBefore>; 3], Summary), AllocError> {
     let (table, mut s) = Striped::open(alloc, 2, 2)?;
     let mut t = table.split(&mut s);
     let first = put_codes(&table, &mut s, 0, 1, 7, 7);
@@ -74,8 +74,8 @@ fn seats_meet(rt: HostRuntime) -> Result<(), Fail> {
     Ok(())
 }
 
-/// Puts a thousand codes from `first` on, rising or falling. The answer tells whether it found a code of the other thread,
-/// which begins with `other`.
+/// Puts a thousand codes from `first` on, rising or falling. The result tells whether it found a
+/// code of the other thread, which begins with `other`.
 fn put_thousand(
     table: &Striped,
     mut seat: StripeSeat,
@@ -123,8 +123,8 @@ fn rising_and_falling_puts(rt: HostRuntime) -> Result<(), Fail> {
     Ok(())
 }
 
-/// Puts a code until an answer is as wanted. False after too many turns.
-fn put_until<F: Fn(Met) -> bool>(
+/// Puts a code until a result is as wanted. False after too many turns.
+fn put_until<F: Fn(WordsBefore) -> bool>(
     table: &Striped,
     mut seat: StripeSeat,
     code: u64,
@@ -134,7 +134,7 @@ fn put_until<F: Fn(Met) -> bool>(
     requires wanted { F.IsAlwaysCallable wanted }
     ensures { (result.0.table ≡ seat.table) × (result.0.parts ≡ seat.parts) }
 {
-    for _ in 0..MOST_TURNS {
+    for _ in 0..MAX_TURNS {
         if let Some(met) = put_codes(table, &mut seat, 0, 0, code, code)
             && wanted(met)
         {
@@ -185,7 +185,7 @@ fn unused_tables(rt: HostRuntime) -> Result<(), Fail> {
     Ok(())
 }
 
-/// Opens a table, puts into it and closes it. The answer is whether it is right, or a refusal.
+/// Opens a table, puts into it and closes it. The result is whether it is right, or a refusal.
 fn opens_and_closes(alloc: Global) -> Result<bool, AllocError> {
     let (table, mut seat) = Striped::open(alloc, 20, 1)?;
     for n in 0..20usize {

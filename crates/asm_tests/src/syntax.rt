@@ -1,6 +1,6 @@
 //! Tokens of texts, and faults of their bytes.
 use asm_syntax::name::Text;
-use asm_syntax::{Kind, LexError, Refused, Symbol, Token, Word, tokens};
+use asm_syntax::{InputError, Keyword, Kind, LexError, Symbol, Token, tokens};
 use std::alloc::{AllocError, Global};
 use std::test::Fail;
 
@@ -15,7 +15,7 @@ fn gives(alloc: Global, text: &[u8], wanted: &[Token]) -> bool {
 /// Whether the text has this fault.
 fn fails(alloc: Global, text: &[u8], wanted: LexError) -> bool {
     match tokens(alloc, text) {
-        Err(Refused::Named(fault)) => fault == wanted,
+        Err(InputError::Named(fault)) => fault == wanted,
         _ => false,
     }
 }
@@ -48,7 +48,7 @@ fn longest_tokens(rt: HostRuntime) -> Result<(), Fail> {
     ];
     assert!(rt; gives(alloc, b"a < -", &spaced));
     let words = [
-        token(Kind::Word(Word::CoreAsm), 0, 7),
+        token(Kind::Keyword(Keyword::CoreAsm), 0, 7),
         token(Kind::Name, 8, 15),
         token(Kind::Name, 16, 18),
     ];
@@ -102,8 +102,8 @@ fn compares_bytes(alloc: Global) -> Result<bool, AllocError> {
     let text = Text::new(alloc, b"temperature")?;
     let same = text.copy(alloc)?;
     let other = Text::new(alloc, b"temperaturf")?;
-    let is_same = text.is(&same) && text == same && text.key() == same.key();
-    let is_other = !text.is(&other) && text != other && text.key() != other.key();
+    let is_same = text.is_same_text(&same) && text == same && text.key() == same.key();
+    let is_other = !text.is_same_text(&other) && text != other && text.key() != other.key();
     Ok(is_same && is_other && same.as_bytes() == b"temperature".as_slice())
 }
 
@@ -126,7 +126,7 @@ static TEXTS: [&[u8]; 7] = [
 fn is_same(alloc: Global, bytes: &[u8], others: &[u8]) -> Result<bool, AllocError> {
     let text = Text::new(alloc, bytes)?;
     let other = Text::new(alloc, others)?;
-    Ok(text.is(&other))
+    Ok(text.is_same_text(&other))
 }
 
 #[test]

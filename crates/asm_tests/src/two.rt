@@ -4,16 +4,16 @@ ghost use Rattle.asm_state.specs.Signature.{count_of};
 
 use asm_state::domain::Domain;
 use asm_state::function::{Function, FunctionKind, Table};
-use asm_state::limits::fits;
 use asm_state::number::Number;
 use asm_state::signature::Signature;
+use asm_state::signature_limits::fits;
 use asm_state::universe::Universe;
 use asm_state::word::Word;
 use std::alloc::Global;
 use std::test::Fail;
 
-/// A function over the numbers from 0 to 3, with the locations 0 to 4, and one without arguments, with 5 and 6. The
-/// last of each is its stray one.
+/// A function over the numbers from 0 to 3, with the locations 0 to 4, and one without arguments,
+/// with 5 and 6. The last of each is its stray one.
 pub fn signature_of_two(alloc: Global) -> Result<Signature, Fail>
     ensures { IfOk result (λ s. count_of s ≡ 7) }
 {

@@ -38,7 +38,7 @@ fn later(alloc: Global) -> Result<Summary, AllocError>
 /// Whether the later set overrides the earlier one.
 fn merges(alloc: Global) -> Result<bool, AllocError> {
     let mut summary = earlier(alloc)?;
-    summary.then(&later(alloc)?)?;
+    summary.merge_with(&later(alloc)?)?;
     Ok(has_entries(&summary, &MERGED))
 }
 
@@ -48,7 +48,7 @@ fn turbo_merge(rt: HostRuntime) -> Result<(), Fail> {
     Ok(())
 }
 
-/// Whether the entries of a summary stand in this order.
+/// Whether the entries of a summary are in this order.
 fn has_in_order(summary: &Summary, entries: &[Entry]) -> bool {
     if summary.len() != entries.len() {
         return false;
@@ -88,7 +88,7 @@ fn a_union_has_both_values(rt: HostRuntime) -> Result<(), Fail> {
     Ok(())
 }
 
-/// Whether a copy has the entries, and keeps them where the set that was copied is cleared.
+/// Whether a copy has the entries, and keeps them when the set that was copied is cleared.
 fn copies(alloc: Global) -> Result<bool, AllocError> {
     let mut summary = later(alloc)?;
     let copy = summary.copy(alloc)?;
@@ -127,7 +127,8 @@ fn thirds(alloc: Global) -> Result<Summary, AllocError>
     Ok(summary)
 }
 
-/// Whether a summary has 1 at the even locations, 2 at every third one, and these values where both are.
+/// Whether a summary has 1 at the even locations, 2 at every third one, and these values where both
+/// are.
 fn has_evens_and_thirds(summary: &Summary, both: (Plain, Plain)) -> bool {
     for n in 0..LOCATIONS {
         let expected = match (n % 2, n % 3) {
@@ -159,7 +160,7 @@ fn large_sets_are_united(rt: HostRuntime) -> Result<(), Fail> {
 /// Whether a set with many entries overrides another.
 fn merges_many(alloc: Global) -> Result<bool, AllocError> {
     let mut summary = evens(alloc)?;
-    summary.then(&thirds(alloc)?)?;
+    summary.merge_with(&thirds(alloc)?)?;
     Ok(has_evens_and_thirds(&summary, (TWO, TWO)))
 }
 

@@ -1,4 +1,4 @@
--- What several writes in a row do to the known bytes of standard error.
+-- Free. What several writes in a row do to the known bytes of standard error.
 use Rattle.std.proofs.Common.{ℕ, ◌+◌, List, ◌++◌, Option, None, Some, length, take, drop, ap, sym, subst, ◌∙◌, append_assoc, length-append, arith}
 use Rattle.std.proofs.Math.Seq.{take-add, take-append-add}
 use Rattle.std.proofs.lemmas.List.{take-append-le, take_rest}

@@ -1,4 +1,5 @@
--- A command whose rules are known has, after a parse, a number of each option that takes one and is required or has a default.
+-- Free. A command whose rules are known has, after a parse, a number of each option that takes one
+-- and is required or has a default.
 use Rattle.std.proofs.Common.{◌≡◌, ◌⊎◌, ◌∙◌, ◌<◌, ◌≤◌, ap, ℕ, true, false, not, List, [], ◌∷◌, length, map, is_some, Some, None, codes, sym, subst, inl, inr, arith}
 use Rattle.std.specs.Prelude.{pos}
 use Rattle.std.specs.List.{All, list_all, slice_index_or}
@@ -19,7 +20,7 @@ use Rattle.clap.proofs.CallerLemmas.{default_present, present_has_entry, require
 use Rattle.clap.proofs.SimpleLemmas.{is_false, is_nil}
 use Rattle.clap.proofs.TakesLemmas.{each_rule}
 use Rattle.clap.proofs.WalkLemmas.{both}
-use Rattle.asm_limits.specs.declared.limits.Bounds.{Bounds}
+use Rattle.asm_limits.specs.declared.run_limits.Bounds.{Bounds}
 use Rattle.asm_arguments.specs.Numbers.{HasNumber}
 use Rattle.asm_arguments.proofs.GivenValues.{is_found, is_read}
 use Rattle.asm_arguments.proofs.Rules.{alone, is_alone, index_low, plain_arg, undelimited, unconditional, rule_at}

@@ -2,6 +2,6 @@ pub mod Appending
 pub mod GivenNumbers
 pub mod Options
 pub mod ReadNumbers
-pub mod Shown
-pub mod Told
+pub mod ToolPromises
+pub mod StatusTells
 pub mod WorkedWords

@@ -1,4 +1,4 @@
--- After a parse of the program's words each option with a number has one in its range.
+-- Free. After a parse of the program's words each option with a number has one in its range.
 use Rattle.std.proofs.Common.{◌≡◌, [], codes, slice_index, ap, true, refl, inl, inr, arith}
 use Rattle.clap.specs.Built.{IsParsedFrom}
 use Rattle.clap.specs.Faults.{is_simple_and_free}
@@ -7,7 +7,7 @@ use Rattle.clap.specs.Simple.{app_of, is_simple}
 use Rattle.clap.specs.Walk.{Rule, Text}
 use Rattle.clap.specs.declared.builder.command.Command.{Command}
 use Rattle.clap.specs.declared.parser.matches.ArgMatches.{ArgMatches}
-use Rattle.asm_limits.specs.declared.limits.TheConstants.{STEPS, TURNS, WORKERS, CUT, ROUNDS}
+use Rattle.asm_limits.specs.declared.run_limits.TheConstants.{STEPS, TURNS, WORKERS, CUT, ROUNDS}
 use Rattle.asm_arguments.specs.Arguments.{positional}
 use Rattle.asm_tool.specs.CommandLine.{command}
 use Rattle.asm_arguments.specs.Numbers.{HasNumber}

@@ -1,4 +1,4 @@
--- The definitions at words that are written out.
+-- Free. The definitions at words that are written out.
 use Rattle.std.proofs.Common.{◌≡◌, List, [], ◌∷◌, Some, None, codes, refl}
 use Rattle.clap.specs.Simple.{matches_of}
 use Rattle.clap.specs.Walk.{Text, first_of}

@@ -1,12 +1,13 @@
--- The words that the program takes, in the terms of the library that reads them.
---     command      it has a version; its arguments: the text's file, and an option for each limit and for the script's file
---     refusals words    the kinds of what is wrong with the words, none where they are taken
+-- Definition. The words that the program takes, in the terms of the library that reads them.
+--     command           it has a version; its arguments: the text's file, and an option for each
+--                       limit and for the script's file
+--     refusals words    the kinds of what is wrong with the words, none if they are taken
 use Rattle.std.specs.Prelude.{true, List, [], ◌∷◌, codes}
 use Rattle.clap.specs.Faults.{fault_of}
 use Rattle.clap.specs.Kinds.{Kinds}
 use Rattle.clap.specs.Simple.{App, new_shape}
 use Rattle.clap.specs.Walk.{Text}
-use Rattle.asm_limits.specs.declared.limits.TheConstants.{STEPS, TURNS, WORKERS, CUT, ROUNDS}
+use Rattle.asm_limits.specs.declared.run_limits.TheConstants.{STEPS, TURNS, WORKERS, CUT, ROUNDS}
 use Rattle.asm_arguments.specs.Arguments.{positional, option, number, required, or_else}
 
 unfoldable pub command : App

@@ -1,5 +1,5 @@
 pub mod CommandLine
 pub mod Output
-pub mod Said
-pub mod Shown
+pub mod WordsSaid
+pub mod ToolPromises
 pub mod Statuses

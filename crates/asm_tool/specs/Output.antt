@@ -1,4 +1,4 @@
--- What a clause reads of an output.
+-- Definition. What a clause reads of an output.
 use Rattle.std.specs.Prelude.{Bool}
 use Rattle.asm_tool.specs.declared.output.Output.{Output}
 

@@ -1,21 +1,23 @@
--- The statuses that the program ends with.
---     status_of fault                              the status of a fault
---     word_fault, read_fault, buffer_fault         the fault of words, of a read or of a buffer that failed with an error of this kind
---     run_fault error                              the fault of a refused run
---     Tells text script_text limits status         0: their run makes all its steps; 1: it ends before; 2: one of the texts is refused
---     OfWords words contents input P               P holds of the texts that the words name
---     TellsOfWords words contents input status     what the status tells of them
+-- Definition. The statuses that the program ends with.
+--     status_of fault                               the status of a fault
+--     word_fault, read_fault, buffer_fault          the fault of words, of a read or of a buffer
+--                                                   that failed with an error of this kind
+--     run_fault error                               the fault of a refused run
+--     StatusTells text script_text limits status    0: their run makes all its steps; 1: it ends
+--                                                   before; 2: one of the texts is refused
+--     OfWords words contents input P                P holds of the texts that the words name
+--     TellsOfWords words contents input status      what the status tells of them
 use Rattle.std.specs.Prelude.{◌≡◌, ◌≢◌, ◌≤◌, ◌⊎◌, ℕ, List, [], Option, None, Some, IfSome, Ok, Err, Result, codes, take}
 use Rattle.std.specs.declared.io.ErrorKind.{ErrorKind}
 use Rattle.std.specs.declared.io.ErrorKind.TheVariants.{OutOfMemory}
 use Rattle.clap.specs.Simple.{matches_of}
 use Rattle.clap.specs.Walk.{Row, Text, first_of}
-use Rattle.asm_run.specs.Ends.{EndsEarly, IsRefused, MakesAllSteps}
+use Rattle.asm_run.specs.ResultsTell.{EndsEarly, IsRefused, MakesAllSteps}
 use Rattle.asm_run.specs.declared.end.End.{End}
 use Rattle.asm_run.specs.declared.end.End.TheVariants.{Limit, Clash, Outside, Exhausted}
 use Rattle.asm_run.specs.declared.error.RunError.{RunError}
 use Rattle.asm_run.specs.declared.error.RunError.TheVariants as run
-use Rattle.asm_limits.specs.declared.limits.Limits.{Limits}
+use Rattle.asm_limits.specs.declared.run_limits.Limits.{Limits}
 use Rattle.asm_tool.specs.CommandLine.{command, refusals}
 use Rattle.asm_arguments.specs.Numbers.{IsNumber}
 use Rattle.asm_tool.specs.declared.fault.Fault.{Fault}
@@ -62,7 +64,8 @@ run_fault run.Limits = Write
 run_fault run.Memory = Memory
 run_fault run.Write = Write
 
--- a fault where these words were to be taken: of the words only where they are refused, and then no other but that memory ran out
+-- a fault when these words were to be taken: of the words only if they are refused, and then no
+-- other except that memory ran out
 pub record IsFaultOfWords (words : List Text) (fault : Fault) : Type 0 where
   pub taken : refusals words ≡ [] → status_of fault ≤ 3
   pub refused : refusals words ≢ [] → (fault ≡ Memory) ⊎ (status_of fault ≡ 4)
@@ -70,7 +73,7 @@ pub record IsFaultOfWords (words : List Text) (fault : Fault) : Type 0 where
 -- ---- what a status says of the texts and the limits
 
 module _ (text script_text : List ℕ) (limits : Limits) where
-  pub record Tells (status : ℕ) : Type 0 where
+  pub record StatusTells (status : ℕ) : Type 0 where
     pub whole : status ≡ 0 → MakesAllSteps text script_text limits
     pub early : status ≡ 1 → EndsEarly text script_text limits
     pub refused : status ≡ 2 → IsRefused text script_text
@@ -87,16 +90,16 @@ status_in (Err fault) = status_of fault
 
 -- ---- of words
 
--- the bytes of the file with this name, or these where there is no name
+-- the bytes of the file with this name, or these if there is no name
 abbrev pub bytes_of : (contents : Text → Option (List ℕ)) → Option (List ℕ) → Option Text → Option (List ℕ)
 bytes_of contents others None = others
 bytes_of contents others (Some name) = contents name
 
--- known bytes, or so many of them where there are more
+-- known bytes, or `most` of them if there are more
 abbrev pub IsFront : Option (List ℕ) → ℕ → List ℕ → Type 0
 IsFront known most text = IfSome known (λ bytes. text ≡ take most bytes)
 
--- this holds of the text and of the script that these words name, where their bytes are known, and
+-- this holds of the text and of the script that these words name, if their bytes are known, and
 -- of limits with the steps and turns that the words give; a script that isn't named has no bytes
 abbrev pub OfWords : List Text → (contents : Text → Option (List ℕ)) → (input : Option (List ℕ)) → (List ℕ → List ℕ → Limits → Type 0) → Type 0
 OfWords words contents input P =
@@ -107,4 +110,4 @@ OfWords words contents input P =
     → P text script_text limits))
 
 abbrev pub TellsOfWords : List Text → (contents : Text → Option (List ℕ)) → (input : Option (List ℕ)) → ℕ → Type 0
-TellsOfWords words contents input status = OfWords words contents input (λ text script_text limits. Tells text script_text limits status)
+TellsOfWords words contents input status = OfWords words contents input (λ text script_text limits. StatusTells text script_text limits status)

@@ -10,7 +10,7 @@ pub trait Folder {
     /// A file that is open.
     type File: Read + Drop;
 
-    // The bytes of the file with a name, where they are known.
+    // The bytes of the file with a name, if they are known.
     ghost contents: { Self → List ℕ → Option (List ℕ) };
 
     /// The file of this name.
@@ -18,7 +18,7 @@ pub trait Folder {
         ensures bytes { IfOk result (λ file. IfSome (contents self.now name.now) (λ bytes. Self.File.remaining file ≡ Some bytes)) };
 }
 
-/// The files of the system, of which nothing is known.
+/// The files of the system. Nothing is known of them.
 #[derive(Drop)]
 pub struct Disk<'a, R> {
     rt: &'a R,

@@ -1,6 +1,6 @@
 //! What the program says of itself.
 
-/// What `--version` prints behind the program's name.
+/// What `--version` prints after the program's name.
 pub const VERSION: &str = "1.0.0";
 
 pub const ABOUT: &str =
@@ -21,7 +21,7 @@ pub const CUT: &str = "Put at most N elements of a forall into one piece of work
 
 pub const ROUNDS: &str = "Cut work into pieces at most N times: 0 to 64";
 
-/// What stands below the options.
+/// What is below the options.
 pub const AFTER: &str = "\
 A specification, for `asm --steps 3 counter.asm`:
   CoreASM Counter

@@ -9,7 +9,7 @@ use std::env;
 use std::io::Read;
 use std::rt::Env;
 
-/// The words behind the program's name.
+/// The words after the program's name.
 pub fn words<R: Env + AllocGlobal>(rt: &R) -> Result<Vec<String>, Fault> {
     match env::args(rt) {
         Ok(words) => Ok(words.skip(1).collect(rt.alloc())?),
@@ -17,7 +17,7 @@ pub fn words<R: Env + AllocGlobal>(rt: &R) -> Result<Vec<String>, Fault> {
     }
 }
 
-/// The front of the text: of its file, or of the input where no file is named.
+/// The front of the text: of its file, or of the input if no file is named.
 pub fn text<F: Folder, I: Read + Drop>(
     folder: &F,
     alloc: Global,
@@ -34,7 +34,7 @@ pub fn text<F: Folder, I: Read + Drop>(
     }
 }
 
-/// The front of the script: of its file, or nothing where no file is named.
+/// The front of the script: of its file, or nothing if no file is named.
 pub fn script<F: Folder>(
     folder: &F,
     alloc: Global,
@@ -61,7 +61,7 @@ fn named<F: Folder>(folder: &F, alloc: Global, name: &str, most: u64) -> Result<
     }
 }
 
-/// The input to its end, or so many bytes of it where it is longer.
+/// The input to its end, or `most` bytes of it if it is longer.
 pub fn front<I: Read + Drop>(alloc: Global, input: I, most: u64) -> Result<Vec<u8>, Fault>
     ensures read { IfOk result (λ text. IsFront (I.remaining input) most text.items) }
     ensures failed { IfErr result IsReadFault }

@@ -1,12 +1,12 @@
 //! The program over any reader and writers: its words, its files, its trace and its status.
 #![tactic(auto)]
 
+pub mod command_line;
 pub mod fault;
+mod fault_line;
 pub mod folder;
 mod help;
 pub mod input;
-mod line;
 pub mod output;
 pub mod settings;
 pub mod status;
-pub mod words;

@@ -1,4 +1,4 @@
-//! Where the trace goes.
+//! The output that the trace is written to.
 ghost use Rattle.std.specs.Prelude.{◌≡◌, ◌==◌, Bool, length, IsTrue, IsFalse, IfOk, IfErr};
 ghost use Rattle.std.specs.Io.Buffered.{writer_buffer, writer_contents};
 ghost use Rattle.std.specs.Io.KnownBytes.{Keeps, WriteAppends};
@@ -13,8 +13,8 @@ pub use asm_run::through::Through;
 use std::alloc::Global;
 use std::io::{BufWriter, Write};
 
-/// So many bytes of the trace are written at a time.
-const BUFFER: usize = 1 << 16;
+/// This many bytes of the trace are written at a time.
+const BUFFER_BYTES: usize = 1 << 16;
 
 /// A sink that may keep back what it took.
 pub trait Finish: Sink {
@@ -70,7 +70,7 @@ pub fn buffered<W: Write + Drop>(alloc: Global, writer: W) -> Result<Output<W>, 
     ensures fresh { IfOk result (λ o. IsFalse (output_has_failed o)) }
     ensures failed { IfErr result (λ fault. status_of fault ≡ 3) }
 {
-    match BufWriter::with_capacity(alloc, BUFFER, writer) {
+    match BufWriter::with_capacity(alloc, BUFFER_BYTES, writer) {
         Ok(writer) => Ok(Output {
             writer,
             has_failed: false,

@@ -1,9 +1,9 @@
 //! What the program is asked to do.
 ghost use Rattle.std.specs.Prelude.{◌≡◌};
-ghost use Rattle.asm_tool.specs.Said.{IsFaultOf};
+ghost use Rattle.asm_tool.specs.WordsSaid.{IsFaultOf};
 ghost use Rattle.asm_tool.specs.declared.settings.WordFault.TheVariants.{Memory};
 
-use asm_limits::limits::Limits;
+use asm_limits::run_limits::Limits;
 use clap::Error;
 use clap::error::ErrorKind;
 use std::alloc::AllocError;
@@ -11,9 +11,9 @@ use std::alloc::AllocError;
 /// What the words ask for.
 #[derive(Clone, Copy, Debug, PartialEq, Eq)]
 pub struct Settings<'w> {
-    /// The name of the text's file, where there is one; else the text is on standard input.
+    /// The name of the text's file, if there is one; else the text is on standard input.
     pub spec: Option<&'w str>,
-    /// The name of the script's file, where there is one.
+    /// The name of the script's file, if there is one.
     pub script: Option<&'w str>,
     /// How far the run goes, and how its work is cut.
     pub limits: Limits,

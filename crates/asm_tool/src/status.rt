@@ -3,19 +3,19 @@ ghost use Rattle.std.specs.Prelude.{◌≡◌, ◌≢◌, ◌≤◌, ◌⊎◌, 
 ghost use Rattle.asm_limits.specs.Limits.{are_in_range};
 ghost use Rattle.asm_tool.specs.CommandLine.{refusals};
 ghost use Rattle.std.specs.Io.KnownBytes.{Keeps};
-ghost use Rattle.asm_tool.specs.Shown.{Explains, ExplainsOfWords, IsExplained, IsSaid, IsWholeTrace, LeavesUnwritten, line_of};
-ghost use Rattle.asm_tool.specs.Statuses.{IsFaultOfWords, OfWords, Tells, TellsOfWords, run_fault, status_at, status_in, status_of};
+ghost use Rattle.asm_tool.specs.ToolPromises.{Explains, ExplainsOfWords, IsExplained, IsSaid, IsWholeTrace, LeavesUnwritten, line_of};
+ghost use Rattle.asm_tool.specs.Statuses.{IsFaultOfWords, OfWords, StatusTells, TellsOfWords, run_fault, status_at, status_in, status_of};
 
+use crate::command_line::settings;
 use crate::fault::Fault;
+use crate::fault_line::say;
 use crate::folder::Folder;
 use crate::input;
-use crate::line::say;
 use crate::output::Finish;
-use crate::words::settings;
-use asm_limits::limits::Limits;
+use asm_limits::run_limits::Limits;
 use asm_run::end::End;
 use asm_run::error::RunError;
-use asm_run::laws::answers_tell;
+use asm_run::laws::results_tell;
 use asm_run::run::run;
 use asm_run::sink::Sink;
 use std::alloc::Global;
@@ -23,11 +23,13 @@ use std::convert::AsStr;
 use std::io::Read;
 use std::thread::Threads;
 
-/// One more than the bytes of the longest text, and of the longest script: reading goes no further, and what is of this length is too long.
-const MOST_BYTES: u64 = 1_048_577;
+/// One more than the bytes of the longest text, and of the longest script: reading goes no further,
+/// and what is of this length is too long.
+const MAX_BYTES_READ: u64 = 1_048_577;
 
-/// Runs the specification of the file that the words name, or of the input where they name none, and writes its trace to `out` and
-/// the line of a fault to `err`. The words are those behind the program's name.
+/// Runs the specification of the file that the words name, or of the input if they name none, and
+/// writes its trace to `out` and the line of a fault to `err`. The words are those after the
+/// program's name.
 pub fn status<
     R: Threads + Sync + AllocGlobal,
     F: Folder,
@@ -37,7 +39,7 @@ pub fn status<
     E: Sink,
 >(rt: &R, folder: &F, words: &[S], input: I, out: &mut O, err: &mut E) -> u8
     requires { O.has_failed out.old ≡ false }
-    // Words that are taken end with 3 at most, and others with 4, or 3 where memory ran out.
+    // Words that are taken end with 3 at most, and others with 4, or 3 if memory ran out.
     ensures taken { refusals (map S.text words.entry.now) ≡ [] → result ≤ 3 }
     ensures refused { refusals (map S.text words.entry.now) ≢ [] → (result ≡ 3) ⊎ (result ≡ 4) }
     // How the run of the texts ends that the words name.
@@ -51,7 +53,7 @@ pub fn status<
     // alone is said.
     ensures explained { 2 ≤ result → IsExplained (map S.text words.entry.now) (F.contents folder.now) (I.remaining input) (O.bytes out.old) (O.bytes out.new) result (E.bytes err.old) (E.bytes err.new) (E.has_failed err.new) }
 {
-    match end(rt, folder, words, input, out) {
+    match run_words(rt, folder, words, input, out) {
         Ok(end) => whole_trace(end),
         Err(fault) => refusal(&fault, err),
     }
@@ -67,7 +69,7 @@ fn whole_trace(end: End) -> u8
     }
 }
 
-/// Says why there is no whole trace, and answers the status of that.
+/// Says why there is no whole trace, and returns the status of that.
 pub fn refusal<E: Sink>(fault: &Fault, err: &mut E) -> u8
     ensures status { result ≡ status_of fault.now }
     ensures said { IsSaid (E.bytes err.old) (E.bytes err.new) (E.has_failed err.new) (line_of fault.now) }
@@ -76,8 +78,9 @@ pub fn refusal<E: Sink>(fault: &Fault, err: &mut E) -> u8
     fault.status()
 }
 
-/// The end of the run, once its whole trace is written. The words come first, then the text, then the script.
-fn end<R: Threads + Sync + AllocGlobal, F: Folder, S: AsStr, I: Read + Drop, O: Finish>(
+/// The end of the run, once its whole trace is written. The words come first, then the text, then
+/// the script.
+fn run_words<R: Threads + Sync + AllocGlobal, F: Folder, S: AsStr, I: Read + Drop, O: Finish>(
     rt: &R,
     folder: &F,
     words: &[S],
@@ -94,9 +97,9 @@ fn end<R: Threads + Sync + AllocGlobal, F: Folder, S: AsStr, I: Read + Drop, O: 
 {
     let alloc = rt.alloc();
     let settings = settings(alloc, words)?;
-    let text = input::text(folder, alloc, settings.spec, input, MOST_BYTES)?;
-    let script = input::script(folder, alloc, settings.script, MOST_BYTES)?;
-    written(
+    let text = input::text(folder, alloc, settings.spec, input, MAX_BYTES_READ)?;
+    let script = input::script(folder, alloc, settings.script, MAX_BYTES_READ)?;
+    run_texts(
         rt,
         alloc,
         text.as_slice(),
@@ -107,7 +110,7 @@ fn end<R: Threads + Sync + AllocGlobal, F: Folder, S: AsStr, I: Read + Drop, O: 
 }
 
 /// The end of the run of this text with this script, once its whole trace is written.
-fn written<R: Threads + Sync, O: Finish>(
+fn run_texts<R: Threads + Sync, O: Finish>(
     rt: &R,
     alloc: Global,
     text: &[u8],
@@ -121,10 +124,10 @@ fn written<R: Threads + Sync, O: Finish>(
     ensures wrote { IfOk result (λ _. IsWholeTrace (O.bytes out.old) (O.bytes out.new) text.now script.now limits.now) }
     ensures explained { IfErr result (λ fault. Explains fault (O.bytes out.old) (O.bytes out.new) text.now script.now limits.now) }
     ensures unwritten { IfErr result (λ fault. LeavesUnwritten fault (O.bytes out.old) (O.bytes out.new)) }
-    ensures told { Tells text.now script.now limits.now (status_in result) }
+    ensures told { StatusTells text.now script.now limits.now (status_in result) }
     ensures finished { IfOk result (λ _. IsTrue (O.is_finished out.new)) }
 {
-    answers_tell();
+    results_tell();
     let answer = run(rt, alloc, text, script, limits, out);
     // What a run wrote before a refusal is shown too.
     let finished = out.finish();

@@ -31,8 +31,8 @@ impl Write for Unflushed {
     }
 }
 
-/// Takes a byte a call, and is interrupted before each; once it has so many it takes nothing, or is refused in this way. It sees whether
-/// they are the front of the counter's trace.
+/// Takes a byte a call, and is interrupted before each; once it has `most` it takes nothing, or is
+/// refused in this way. It sees whether they are the front of the counter's trace.
 #[derive(Drop)]
 struct Narrow {
     taken: usize,

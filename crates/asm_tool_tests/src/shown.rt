@@ -38,7 +38,7 @@ pub fn status_by<
     }
 }
 
-/// What the program shows where both writers take everything.
+/// What the program shows if both writers take everything.
 pub fn shown_by<R: Threads + Sync + Files + AllocGlobal, I: Read + Drop>(
     rt: &R,
     words: &[&str],

@@ -1,4 +1,4 @@
--- The least and the greatest values that a list of entries has at a location.
+-- Free. The least and the greatest values that a list of entries has at a location.
 use Rattle.std.proofs.Common.{◌≡◌, ℕ, ◌<◌, ◌≤◌, true, eqb, nat_eq, [], ◌∷◌, ◌++◌, All, Option, Some, None, refl, sym, ap, ◌∙◌, subst, inl, inr, arith}
 use Rattle.std.proofs.lemmas.Bool.{cases_Bool}
 use Rattle.std.proofs.lemmas.Bool.Decides.{nat_tests}
@@ -8,18 +8,18 @@ use Rattle.std.specs.List.{AllByRecursion, IsDistinct}
 use Rattle.std.specs.List.Sorted.{IsPermutation}
 use Rattle.std.specs.Map.{keys_of}
 use Rattle.asm_state.specs.declared.value.Value.{Value}
-use Rattle.asm_state.specs.Codes.{code_of}
+use Rattle.asm_state.specs.code.Codes.{code_of}
 use Rattle.asm_state.specs.Location.{Location}
 use Rattle.asm_state.specs.Signature.{Shape, IsSound, IsLocationOf, count_of, location_at}
 use Rattle.asm_state.specs.Updates.{UpdateSet, Names, one, together, Range, widen, range_at}
-use Rattle.asm_state.proofs.Members.{member_laws}
-use Rattle.asm_state.proofs.NumberedLocations.{number_laws}
-use Rattle.asm_updates.specs.Entries.{Entries, NamedRanges, found, range, AreEntries}
-use Rattle.asm_updates.specs.EntryLists.{range_of_entry, range_in, IsSummaryOf, AreInOrder, updates_of, OrderFree, EntryListLaws}
-use Rattle.asm_updates.specs.Stands.{Stands, MarksFaults}
-use Rattle.asm_updates.proofs.Found.{AreEntries-tail, AreEntries-permutation, found-after}
-use Rattle.asm_updates.proofs.Standing.{none_range, union_range, lone_range, bounds_range, bounds_alone}
-use Rattle.asm_updates.proofs.Widening.{widen-swap, widen-group, widen-itself}
+use Rattle.asm_state.proofs.UpdateLemmas.Members.{member_laws}
+use Rattle.asm_state.proofs.LocationLemmas.NumberedLocations.{number_laws}
+use Rattle.asm_updates.specs.code.SummaryRanges.{SummaryRanges, NamedRanges, first_range, range, AreRanges}
+use Rattle.asm_updates.specs.code.EntryLists.{range_of_entry, range_in, IsSummaryOf, AreInOrder, updates_of, OrderFree, EntryListLaws}
+use Rattle.asm_updates.specs.code.Stands.{Stands, MarksFaults}
+use Rattle.asm_updates.proofs.RangesFound.{AreEntries-tail, AreEntries-permutation, found-after}
+use Rattle.asm_updates.proofs.StandingSummaries.{none_range, union_range, lone_range, bounds_range, bounds_alone}
+use Rattle.asm_updates.proofs.WideningLaws.{widen-swap, widen-group, widen-itself}
 
 -- ---- order
 
@@ -63,18 +63,18 @@ order_free es fs same n =
 
 -- ---- the entries of a summary
 
-alone : (count : ℕ) (es : NamedRanges) → AreEntries count es → (n : ℕ) → found es n ≡ range_in es n
+alone : (count : ℕ) (es : NamedRanges) → AreRanges count es → (n : ℕ) → first_range es n ≡ range_in es n
 alone count [] are n = refl
 alone count (e ∷ es) are n = elim (cases_Bool (eqb n e.0)) [
   | inl here ↦ rw here (sym (ap (widen (Some (range e.1))) (sym (alone count es (AreEntries-tail count e es are) n) ∙ none_else here)))
   | inr other ↦ rw other (alone count es (AreEntries-tail count e es are) n)
 ]
   where
-    none_else : eqb n e.0 ≡ true → found es n ≡ None
-    none_else here = let is : n ≡ e.0 = grind (arith, nat_tests) in ap (found es) is ∙ found-after e es are.unique
+    none_else : eqb n e.0 ≡ true → first_range es n ≡ None
+    none_else here = let is : n ≡ e.0 = grind (arith, nat_tests) in ap (first_range es) is ∙ found-after e es are.unique
 
 -- entries in another order are found alike
-pub found-permuted : (count : ℕ) (es fs : NamedRanges) → IsPermutation es fs → IsDistinct nat_eq (keys_of fs) → AreEntries count es → (n : ℕ) → found fs n ≡ found es n
+pub found-permuted : (count : ℕ) (es fs : NamedRanges) → IsPermutation es fs → IsDistinct nat_eq (keys_of fs) → AreRanges count es → (n : ℕ) → first_range fs n ≡ first_range es n
 found-permuted count es fs moves unique are n =
     alone count fs (AreEntries-permutation count es fs moves unique are) n ∙ sym (order_free es fs moves n) ∙ sym (alone count es are n)
 
@@ -104,7 +104,7 @@ names_within shape (e ∷ es) all l (v, m) =
       | inr y ↦ subst (IsLocationOf shape) (sym (bounds_alone at e.1.0 e.1.1 l (v, y))) (number_laws.is_location shape e.0 all.0)
     ]
 
-summary_stands : (shape : Shape) (s : Entries) (es : NamedRanges) → IsSound shape → s.count ≡ count_of shape → AreInOrder s.count es → IsSummaryOf es s → MarksFaults shape s → Stands shape s (updates_of shape es)
+summary_stands : (shape : Shape) (s : SummaryRanges) (es : NamedRanges) → IsSound shape → s.count ≡ count_of shape → AreInOrder s.count es → IsSummaryOf es s → MarksFaults shape s → Stands shape s (updates_of shape es)
 summary_stands shape s es sound is are summary marks = record {
   is_sound = sound;
   has_count = is;

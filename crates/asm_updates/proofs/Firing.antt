@@ -1,23 +1,23 @@
--- What comes of a state where each named location gets its value.
+-- Free. What comes of a state when each named location gets its value.
 use Rattle.std.proofs.Common.{◌≡◌, ℕ, ◌<◌, true, false, eqb, cond, List, length, get_or, set, Option, Some, None, IsTrue, refl, sym, ap, subst, ◌∙◌, inl, inr, ⊎_elim, arith, get_or-set_same, get_or-set_other}
 use Rattle.std.proofs.lemmas.Bool.Decides.{nat_tests}
 use Rattle.std.proofs.lemmas.Bool.{false≢true, cases_eq}
 use Rattle.asm_state.specs.declared.value.Value.{Value}
 use Rattle.asm_state.specs.declared.value.Value.TheVariants.{Undef}
-use Rattle.asm_state.specs.Codes.{code_of}
-use Rattle.asm_state.specs.Contents.{IsStateOf}
+use Rattle.asm_state.specs.code.Codes.{code_of}
+use Rattle.asm_state.specs.code.Contents.{IsStateOf}
 use Rattle.asm_state.specs.Location.{Location, Proper, Stray}
 use Rattle.asm_state.specs.Signature.{Shape, count_of, number_at, IsLocationOf, state_of}
 use Rattle.asm_state.specs.Updates.{UpdateSet, Has, IsConsistent, Range, range_at, IsRangeOf, overwritten, fire, is_proper}
-use Rattle.asm_state.proofs.NumberedLocations.{number_laws}
+use Rattle.asm_state.proofs.LocationLemmas.NumberedLocations.{number_laws}
 use Rattle.asm_state.proofs.StatesByNumbers.{state_laws}
-use Rattle.asm_state.proofs.Summaries.{summary_laws}
+use Rattle.asm_state.proofs.UpdateLemmas.Summaries.{summary_laws}
 use Rattle.asm_state.proofs.Codes.{codes_apart}
-use Rattle.asm_updates.specs.Entries.{Entries, entry}
-use Rattle.asm_updates.specs.Stands.{Stands}
-use Rattle.asm_updates.proofs.Standing.{range_cases}
+use Rattle.asm_updates.specs.code.SummaryRanges.{SummaryRanges, summary_range}
+use Rattle.asm_updates.specs.code.Stands.{Stands}
+use Rattle.asm_updates.proofs.StandingSummaries.{range_cases}
 
--- values are equal where they can't differ
+-- values are equal if they can't differ
 same_unless : (v w : Value) → ((v ≡ w → ⊥) → ⊥) → v ≡ w
 same_unless v w never = ⊎_elim
     (λ same. codes_apart v w same)
@@ -32,10 +32,10 @@ no_stray_range U f consistent = absent (range_at U (Stray f)) (summary_laws.exis
     absent None is = refl
     absent (Some r) is = absurd (consistent.no_stray f r.least is.has_least)
 
-module _ (shape : Shape) (s : Entries) (U : UpdateSet) (old new : List Value) (stands : Stands shape s U) (old_len : length old ≡ count_of shape) (new_len : length new ≡ count_of shape) (each : (n : ℕ) → get_or new n Undef ≡ overwritten (entry s n) (get_or old n Undef)) where
+module _ (shape : Shape) (s : SummaryRanges) (U : UpdateSet) (old new : List Value) (stands : Stands shape s U) (old_len : length old ≡ count_of shape) (new_len : length new ≡ count_of shape) (each : (n : ℕ) → get_or new n Undef ≡ overwritten (summary_range s n) (get_or old n Undef)) where
   in_place : (l : Location) → IsLocationOf shape l → IsTrue (is_proper l) → state_of shape new l ≡ overwritten (range_at U l) (state_of shape old l)
   in_place l here proper =
-      let ranges : entry s (number_at shape l) ≡ range_at U l =
+      let ranges : summary_range s (number_at shape l) ≡ range_at U l =
       stands.has_ranges (number_at shape l) (number_laws.in_range shape l here) ∙ ap (range_at U) (number_laws.location shape l here) in
       state_laws.content shape new l proper
       ∙ each (number_at shape l)
@@ -63,13 +63,13 @@ module _ (shape : Shape) (s : Entries) (U : UpdateSet) (old new : List Value) (s
   unfolding fire
   fired_state consistent = λ i l. fired_at consistent l i
 
-  -- a stray location has no content after it where it had none before
+  -- a stray location has no content after it if it had none before
   pub fired_is_state : IsConsistent U → IsStateOf shape old → IsStateOf shape new
   fired_is_state consistent before = record {
     sound = before.sound;
     whole = new_len;
     no_stray = λ n f below e.
-        let unnamed : entry s n ≡ None = stands.has_ranges n below ∙ ap (range_at U) e ∙ no_stray_range U f consistent in
+        let unnamed : summary_range s n ≡ None = stands.has_ranges n below ∙ ap (range_at U) e ∙ no_stray_range U f consistent in
         each n ∙ ap (λ r. overwritten r (get_or old n Undef)) unnamed ∙ before.no_stray n f below e;
   }
 

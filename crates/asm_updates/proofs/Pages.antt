@@ -1,9 +1,9 @@
--- Positions in pages: each page that is made has places of its own.
+-- Free. Positions in pages: each page that is made has places of its own.
 use Rattle.std.proofs.Common.{◌≡◌, ℕ, ◌<◌, ◌≤◌, ◌+◌, ◌*◌, ◌/◌, ◌%◌, true, false, eqb, cond, List, length, get_or, set, refl, sym, ap, subst, ◌∙◌, arith, inl, inr, get_or-set_same, get_or-set_other}
 use Rattle.std.proofs.lemmas.Bool.{cases_eq}
 use Rattle.std.proofs.lemmas.Bool.Decides.{nat_tests}
 use Rattle.std.proofs.lemmas.List.{get_or_past}
-use Rattle.asm_updates.specs.Positions.{page_in, slot_in, position_in, IsMade, ArePages}
+use Rattle.asm_updates.specs.code.Positions.{page_in, slot_in, position_in, IsMade, ArePages}
 
 pub slot_within : (ps qs : List ℕ) (n : ℕ) → ArePages ps qs → IsMade ps n → slot_in ps n < length qs
 slot_within ps qs n are made = omega (arith, are.within (n / 64) made)

@@ -1,4 +1,4 @@
--- Unions of many sets.
+-- Free. Unions of many sets.
 use Rattle.std.proofs.Common.{◌≡◌, ℕ, List, [], ◌∷◌, ◌++◌, map, refl, sym, ap, ◌∙◌, inl, inr}
 use Rattle.std.specs.List.{AllByRecursion, concat}
 use Rattle.std.specs.List.Sorted.{IsPermutation}
@@ -7,10 +7,10 @@ use Rattle.std.proofs.lemmas.List.Elements.{All-from_recursion, recursion_from_A
 use Rattle.asm_state.specs.declared.value.Value.{Value}
 use Rattle.asm_state.specs.Location.{Location}
 use Rattle.asm_state.specs.Updates.{UpdateSet, Has, together}
-use Rattle.asm_state.proofs.Algebra.{union_laws}
-use Rattle.asm_state.proofs.Members.{member_laws}
-use Rattle.asm_updates.specs.Unions.{union_of, united}
-use Rattle.asm_updates.specs.UnitedLaws.{UnitedLaws}
+use Rattle.asm_state.proofs.UpdateLemmas.UnionsAndMerges.{union_laws}
+use Rattle.asm_state.proofs.UpdateLemmas.Members.{member_laws}
+use Rattle.asm_updates.specs.code.Unions.{union_of, united}
+use Rattle.asm_updates.specs.code.UnitedLaws.{UnitedLaws}
 
 united-append : (f : ℕ → UpdateSet) (ns ms : List ℕ) → united f (ns ++ ms) ≡ together (united f ns) (united f ms)
 united-append f [] ms = sym (union_laws.unit (united f ms))

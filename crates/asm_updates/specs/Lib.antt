@@ -1,9 +1,1 @@
-pub mod Entries
-pub mod Positions
-pub mod Listed
-pub mod Stands
-pub mod Faults
-pub mod StandingLaws
-pub mod Unions
-pub mod UnitedLaws
-pub mod EntryLists
+pub mod code

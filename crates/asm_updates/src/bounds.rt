@@ -1,7 +1,7 @@
 //! Bounds of values at one location.
 ghost use Rattle.std.specs.Prelude.{◌≡◌, Some, false};
 ghost use Rattle.asm_state.specs.Updates.{lesser, greater, widen};
-ghost use Rattle.asm_updates.specs.Entries.{range};
+ghost use Rattle.asm_updates.specs.code.SummaryRanges.{range};
 
 use asm_state::word::Word;
 
@@ -22,7 +22,7 @@ pub(crate) fn differ(low: Word, high: Word) -> bool
 
 /// Whether one of two marks is there.
 #[inline(always)]
-pub(crate) fn either(first: bool, second: bool) -> bool
+pub(crate) fn is_either(first: bool, second: bool) -> bool
     ensures first { result ≡ false → first ≡ false }
     ensures second { result ≡ false → second ≡ false }
 {

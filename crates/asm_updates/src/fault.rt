@@ -1,14 +1,15 @@
 //! Faults of update sets.
 ghost use Rattle.std.specs.Prelude.{◌<◌, Some, IfNone, IfSome};
 ghost use Rattle.asm_state.specs.Signature.{count_of, location_at};
-ghost use Rattle.asm_state.specs.UpdateLaws.{IsSettled};
-ghost use Rattle.asm_updates.specs.Entries.{range};
-ghost use Rattle.asm_updates.specs.Faults.{IsFaultAt};
+ghost use Rattle.asm_state.specs.UpdateLaws.{LeavesNoFault};
+ghost use Rattle.asm_updates.specs.code.SummaryRanges.{range};
+ghost use Rattle.asm_updates.specs.code.Faults.{IsFaultAt};
 
 use asm_state::signature::Signature;
 use asm_state::word::Word;
 
-/// Why a set can't be fired: a location has two values, or a function is updated outside its domain.
+/// Why a set can't be fired: a location has two values, or a function is updated outside its
+/// domain.
 #[derive(Clone, Copy, Debug, PartialEq, Eq)]
 pub enum Fault {
     Clash {
@@ -29,7 +30,7 @@ pub(crate) fn fault_at(
     high: Word,
 ) -> Option<Fault>
     requires { location < count_of signature.now }
-    ensures settled { IfNone result (IsSettled (location_at signature.now location) (Some (range (low, high)))) }
+    ensures settled { IfNone result (LeavesNoFault (location_at signature.now location) (Some (range (low, high)))) }
     ensures fault { IfSome result (IsFaultAt signature.now location low high) }
 {
     if let Some(function) = signature.stray(location) {

@@ -1,7 +1,7 @@
 //! Laws of summaries, of unions, and of lists of entries.
-ghost use Rattle.asm_updates.specs.EntryLists.{OrderFree, EntryListLaws};
-ghost use Rattle.asm_updates.specs.StandingLaws.{StandingLaws};
-ghost use Rattle.asm_updates.specs.UnitedLaws.{UnitedLaws};
+ghost use Rattle.asm_updates.specs.code.EntryLists.{OrderFree, EntryListLaws};
+ghost use Rattle.asm_updates.specs.code.StandingLaws.{StandingLaws};
+ghost use Rattle.asm_updates.specs.code.UnitedLaws.{UnitedLaws};
 
 /// Which sets a summary stands for is said by its entries alone.
 pub fn standing_laws()
@@ -18,8 +18,8 @@ pub fn order_free()
     ensures { OrderFree }
 {}
 
-/// Two lists of entries have the union of their summaries, the entries of a summary have that summary, and the summary of
-/// a list stands for the updates of its entries.
+/// Two lists of entries have the union of their summaries, the entries of a summary have that
+/// summary, and the summary of a list stands for the updates of its entries.
 pub fn entry_list_laws()
     ensures { EntryListLaws }
 {}

@@ -1,24 +1,24 @@
 //! Positions by location, in pages that are made when one of their locations gets its position.
 ghost use Rattle.std.specs.Prelude.{◌≡◌, ◌==◌, ◌<◌, ◌≤◌, ◌*◌, ◌/◌, ◌%◌, ◌⊎◌, ℕ, true, if◌then◌else◌, slice_index_or, length as size};
-ghost use Rattle.asm_updates.specs.Positions.{page_in, slot_in, position_in, position_of, ArePages, IsMade};
+ghost use Rattle.asm_updates.specs.code.Positions.{page_in, slot_in, position_in, position_of, ArePages, IsMade};
 
 use std::alloc::Global;
 use std::marker::Model;
 
 /// How many locations share a page.
-const PAGE: usize = 64;
+const PAGE_LENGTH: usize = 64;
 
-/// A position for each location, which is 0 where none was given.
+/// A position for each location, which is 0 if none was given.
 #[derive(Debug, Drop)]
 pub(crate) struct Positions {
-    /// The number of each page, or 0 where it isn't made.
+    /// The number of each page, or 0 if it isn't made.
     pages: Vec<u32>,
     /// The positions, page by page. Page 0 has 0 at each place.
     positions: Vec<u32>,
 }
 
 impl Model for Positions {
-    ghost use Rattle.asm_updates.specs.Positions.{Paged, ArePages};
+    ghost use Rattle.asm_updates.specs.code.Positions.{Paged, ArePages};
 
     ghost Value = { Paged };
 
@@ -42,7 +42,7 @@ impl Positions {
     pub fn pages(&self) -> usize
         ensures { result ≡ size self.now.positions / 64 }
     {
-        self.positions.len() / PAGE
+        self.positions.len() / PAGE_LENGTH
     }
 
     /// The position of a location.
@@ -58,8 +58,9 @@ impl Positions {
         }
     }
 
-    /// Gives a location a position, where it fits in 32 bits and there is memory for its page. Answers whether it did.
-    pub fn place(&mut self, n: usize, position: usize) -> bool
+    /// Gives a location a position, if it fits in 32 bits and there is memory for its page. Returns
+    /// whether it did.
+    pub fn set_position(&mut self, n: usize, position: usize) -> bool
         ensures { result ≡ true → (k : ℕ) → position_of self.new k ≡ (if k == n then position else position_of self.old k) }
     {
         if position > u32::MAX as usize || !make_page(&mut self.pages, &mut self.positions, n) {
@@ -81,7 +82,7 @@ impl Positions {
     }
 }
 
-/// The number of a page, or 0 where it isn't made.
+/// The number of a page, or 0 if it isn't made.
 #[inline(always)]
 fn number_of(pages: &[u32], page: usize) -> usize
     ensures { result ≡ page_in pages.now page }
@@ -93,28 +94,28 @@ fn number_of(pages: &[u32], page: usize) -> usize
     }
 }
 
-/// Where the position of a location stands.
+/// Where the position of a location is.
 #[inline(always)]
 fn slot_of(pages: &[u32], n: usize) -> usize
     ensures { result ≡ slot_in pages.now n }
 {
-    number_of(pages, n / PAGE) * PAGE + n % PAGE
+    number_of(pages, n / PAGE_LENGTH) * PAGE_LENGTH + n % PAGE_LENGTH
 }
 
-/// Makes the page of a location, if it isn't made. Answers whether it is made then.
+/// Makes the page of a location, if it isn't made. Returns whether it is made then.
 fn make_page(pages: &mut Vec<u32>, positions: &mut Vec<u32>, n: usize) -> bool
     requires { ArePages pages.old.items positions.old.items }
     ensures sound { ArePages pages.new.items positions.new.items }
     ensures made { result ≡ true → IsMade pages.new.items n }
     ensures same { (k : ℕ) → position_in pages.new.items positions.new.items k ≡ position_in pages.old.items positions.old.items k }
 {
-    let page = n / PAGE;
+    let page = n / PAGE_LENGTH;
     if number_of(pages, page) != 0 {
         return true;
     }
     let number = next_number(positions.len());
     if number > u32::MAX as usize
-        || !lengthen(positions, (number + 1) * PAGE)
+        || !lengthen(positions, (number + 1) * PAGE_LENGTH)
         || !lengthen(pages, page + 1)
     {
         return false;
@@ -123,16 +124,16 @@ fn make_page(pages: &mut Vec<u32>, positions: &mut Vec<u32>, n: usize) -> bool
     true
 }
 
-/// The number of the next page, where the pages that are made, page 0 with them, have so many places.
+/// The number of the next page, if the pages that are made, page 0 with them, have `places` places.
 fn next_number(places: usize) -> usize
     requires { places % 64 ≡ 0 }
     ensures positive { 0 < result }
     ensures behind { (places ≡ 0) ⊎ (places ≡ result * 64) }
 {
-    if places == 0 { 1 } else { places / PAGE }
+    if places == 0 { 1 } else { places / PAGE_LENGTH }
 }
 
-/// Lengthens a list that is shorter with zeros. Answers whether it has this length at least.
+/// Lengthens a list that is shorter with zeros. Returns whether it has this length at least.
 fn lengthen(list: &mut Vec<u32>, length: usize) -> bool
     ensures same { (k : ℕ) → slice_index_or list.new.items k 0 ≡ slice_index_or list.old.items k 0 }
     ensures long { result ≡ true → length ≤ size list.new.items }

@@ -13,11 +13,11 @@ ghost use Rattle.std.specs.List.{IsDistinct};
 ghost use Rattle.std.specs.List.Sorted.{IsStrictlyIncreasing};
 ghost use Rattle.std.specs.Map.{keys_of};
 ghost use Rattle.std.specs.Option.{option_map};
-ghost use Rattle.asm_state.specs.Codes.{code_of};
+ghost use Rattle.asm_state.specs.code.Codes.{code_of};
 ghost use Rattle.asm_state.specs.Updates.{widen};
-ghost use Rattle.asm_updates.specs.Entries.{found, range, AreEntries};
-ghost use Rattle.asm_updates.specs.Listed.{put, HasOneValue, IsAt, ArePlaced};
-ghost use Rattle.asm_updates.specs.Positions.{position_of};
+ghost use Rattle.asm_updates.specs.code.SummaryRanges.{first_range, range, AreRanges};
+ghost use Rattle.asm_updates.specs.code.IndexedRanges.{put, HasOneValue, IsAt, HavePositions};
+ghost use Rattle.asm_updates.specs.code.Positions.{position_of};
 
 use crate::bounds::{differ, widened};
 use crate::positions::Positions;
@@ -25,37 +25,40 @@ use asm_state::word::Word;
 use std::alloc::{AllocError, Global};
 use std::marker::Model;
 
-/// Up to so many entries are looked through one after the other.
-const FEW: usize = 16;
+/// Up to this many entries are looked through one after the other.
+const MAX_SCANNED: usize = 16;
 
-/// Where one of so many locations has an entry, looking all of them up is cheaper than sorting the entries.
-const MANY: usize = 8;
+/// If one of this many locations has an entry, looking all of them up is cheaper than sorting the
+/// entries.
+const MAX_LOCATIONS_PER_ENTRY: usize = 8;
 
-/// How many pages of positions are kept for each entry that was there, and how many besides.
-const PAGES_FOR_EACH: usize = 2;
+/// How many pages of positions are kept for each entry that was there, and how many more.
+const MAX_PAGES_PER_ENTRY: usize = 2;
 
-const PAGES_BESIDES: usize = 16;
+const MAX_MORE_PAGES: usize = 16;
 
-/// Locations, each once, with the least and the greatest value there, in the order in which they came.
+/// Locations, each once, with the least and the greatest value there, in the order in which they
+/// came.
 #[derive(Debug, Drop)]
 pub(crate) struct Ranges {
     entries: Vec<(usize, (Word, Word))>,
-    /// Where each location stands in the entries.
+    /// Where each location is in the entries.
     positions: Positions,
-    /// Whether the positions are those of all entries. Where few entries are there, or memory was refused, they aren't.
+    /// Whether the positions are those of all entries. They aren't if there are few entries, or
+    /// memory was refused.
     placed: bool,
 }
 
 impl Model for Ranges {
     ghost use Rattle.std.specs.Prelude.{◌-◌, vec_len, vec_capacity};
-    ghost use Rattle.asm_updates.specs.Listed.{Listed, AreListed};
-    ghost use Rattle.asm_updates.specs.Positions.{position_of};
+    ghost use Rattle.asm_updates.specs.code.IndexedRanges.{IndexedRanges, AreIndexed};
+    ghost use Rattle.asm_updates.specs.code.Positions.{position_of};
 
-    ghost Value = { Listed };
+    ghost Value = { IndexedRanges };
 
     ghost view = { λ r. record { entries = r.entries.items; spare = vec_capacity r.entries - vec_len r.entries } };
 
-    ghost invariant = { λ r. AreListed r.entries.items r.placed (position_of r.positions) };
+    ghost invariant = { λ r. AreIndexed r.entries.items r.placed (position_of r.positions) };
 }
 
 impl Ranges {
@@ -75,7 +78,7 @@ impl Ranges {
         self.entries.len()
     }
 
-    /// Whether there is memory for an entry. Where there is none, there are no entries.
+    /// Whether there is memory for an entry. If there is none, there are no entries.
     pub fn has_memory(&self) -> bool
         ensures { IsTrue result ⊎ (self.now.entries ≡ []) }
     {
@@ -85,7 +88,7 @@ impl Ranges {
     /// The bounds at a location, if it has any.
     #[inline(always)]
     pub fn get(&self, n: usize) -> Option<(Word, Word)>
-        ensures { option_map range result ≡ found self.now.entries n }
+        ensures { option_map range result ≡ first_range self.now.entries n }
     {
         match self.position(n) {
             Some(i) => Some(self.entries[i].1),
@@ -98,19 +101,19 @@ impl Ranges {
     pub fn entry_at(&self, i: usize) -> (usize, (Word, Word))
         requires { i < length self.now.entries }
         ensures entry { slice_get self.now.entries i ≡ Some result }
-        ensures found { found self.now.entries result.0 ≡ Some (range result.1) }
+        ensures found { first_range self.now.entries result.0 ≡ Some (range result.1) }
     {
         self.entries[i]
     }
 
-    /// Where a location stands in the entries, if it does.
+    /// Where a location is in the entries, if it is there.
     #[inline(always)]
     fn position(&self, n: usize) -> Option<usize>
         ensures some { IfSome result (λ i. IsAt self.now.entries i n) }
-        ensures none { IfNone result (found self.now.entries n ≡ None) }
+        ensures none { IfNone result (first_range self.now.entries n ≡ None) }
     {
         if self.placed {
-            placed_position(&self.entries, &self.positions, n)
+            known_position(&self.entries, &self.positions, n)
         } else {
             position_among(&self.entries, n)
         }
@@ -138,15 +141,15 @@ impl Ranges {
         }
     }
 
-    /// Widens the bounds of a location by these, or gives it these, and answers whether it has two values then. There is room for one more
-    /// entry.
+    /// Widens the bounds of a location by these, or gives it these, and returns whether it has two
+    /// values then. There is room for one more entry.
     pub fn widen(&mut self, n: usize, bounds: (Word, Word)) -> bool
         requires { 0 < self.old.spare }
-        ensures sound { (count : ℕ) → n < count → code_of bounds.0 ≤ code_of bounds.1 → AreEntries count self.old.entries → AreEntries count self.new.entries }
-        ensures entries { (k : ℕ) → found self.new.entries k
-            ≡ (if k == n then widen (found self.old.entries n) (Some (range bounds)) else found self.old.entries k) }
+        ensures sound { (count : ℕ) → n < count → code_of bounds.0 ≤ code_of bounds.1 → AreRanges count self.old.entries → AreRanges count self.new.entries }
+        ensures entries { (k : ℕ) → first_range self.new.entries k
+            ≡ (if k == n then widen (first_range self.old.entries n) (Some (range bounds)) else first_range self.old.entries k) }
         ensures room { self.old.spare ≤ self.new.spare + 1 }
-        ensures alike { result ≡ false → HasOneValue (found self.new.entries n) }
+        ensures alike { result ≡ false → HasOneValue (first_range self.new.entries n) }
     {
         match self.position(n) {
             Some(i) => {
@@ -163,14 +166,14 @@ impl Ranges {
         }
     }
 
-    /// Widens the bounds of a location by one value, or gives it this one, and answers whether it has two values then. There is room for one
-    /// more entry.
+    /// Widens the bounds of a location by one value, or gives it this one, and returns whether it
+    /// has two values then. There is room for one more entry.
     pub fn widen_by(&mut self, n: usize, value: Word) -> bool
         requires { 0 < self.old.spare }
-        ensures sound { (count : ℕ) → n < count → AreEntries count self.old.entries → AreEntries count self.new.entries }
-        ensures entries { (k : ℕ) → found self.new.entries k
-            ≡ (if k == n then widen (found self.old.entries n) (Some (range (value, value))) else found self.old.entries k) }
-        ensures alike { result ≡ false → HasOneValue (found self.new.entries n) }
+        ensures sound { (count : ℕ) → n < count → AreRanges count self.old.entries → AreRanges count self.new.entries }
+        ensures entries { (k : ℕ) → first_range self.new.entries k
+            ≡ (if k == n then widen (first_range self.old.entries n) (Some (range (value, value))) else first_range self.old.entries k) }
+        ensures alike { result ≡ false → HasOneValue (first_range self.new.entries n) }
     {
         match self.position(n) {
             Some(i) => {
@@ -199,41 +202,43 @@ impl Ranges {
     /// Adds a location that isn't there. There is room for one more entry.
     fn push(&mut self, n: usize, bounds: (Word, Word))
         requires room { 0 < self.old.spare }
-        requires new { found self.old.entries n ≡ None }
+        requires new { first_range self.old.entries n ≡ None }
         ensures entries { self.new.entries ≡ put self.old.entries n bounds }
         ensures unique { IsDistinct nat_eq (keys_of self.new.entries) }
         ensures room { self.old.spare ≤ self.new.spare + 1 }
     {
         self.entries.push_reserved((n, bounds));
-        self.placed = place_last(&self.entries, self.placed, &mut self.positions);
+        self.placed = set_last_position(&self.entries, self.placed, &mut self.positions);
     }
 
-    /// Brings the entries, whose locations are below a count, into the rising order of their locations.
+    /// Brings the entries, whose locations are below a count, into the rising order of their
+    /// locations.
     pub fn sort(&mut self, count: usize) -> Result<(), AllocError>
-        requires { AreEntries count self.old.entries }
+        requires { AreRanges count self.old.entries }
         ensures len { length self.new.entries ≡ length self.old.entries }
-        ensures sound { AreEntries count self.new.entries }
-        ensures same { (n : ℕ) → found self.new.entries n ≡ found self.old.entries n }
+        ensures sound { AreRanges count self.new.entries }
+        ensures same { (n : ℕ) → first_range self.new.entries n ≡ first_range self.old.entries n }
         ensures rising { OnOk result (IsStrictlyIncreasing (keys_of self.new.entries)) }
         ensures err { OnErr result (self.new.entries ≡ self.old.entries) }
     {
         if are_rising(&self.entries) {
             return Ok(());
         }
-        if self.placed && count / MANY <= self.entries.len() {
+        if self.placed && count / MAX_LOCATIONS_PER_ENTRY <= self.entries.len() {
             gather_entries(&mut self.entries, &self.positions, count)?;
         } else {
             sort_entries(&mut self.entries, count)?;
         }
-        self.placed = self.placed && place_all(&self.entries, &mut self.positions);
+        self.placed = self.placed && set_all_positions(&self.entries, &mut self.positions);
         Ok(())
     }
 
-    /// Forgets all entries. Their memory is kept, but for pages of positions that are many more than the entries were.
+    /// Forgets all entries. Their memory is kept, except pages of positions that are many more than
+    /// the entries were.
     pub fn clear(&mut self)
         ensures { self.new.entries ≡ [] }
     {
-        if self.positions.pages() / PAGES_FOR_EACH > self.entries.len() + PAGES_BESIDES {
+        if self.positions.pages() / MAX_PAGES_PER_ENTRY > self.entries.len() + MAX_MORE_PAGES {
             self.positions.forget();
             self.placed = false;
         }
@@ -253,10 +258,10 @@ impl Ranges {
     }
 }
 
-/// Where a location stands in entries, if it does, found by looking through them.
+/// Where a location is in entries, if it is there, found by looking through them.
 fn position_among(entries: &[(usize, (Word, Word))], n: usize) -> Option<usize>
     ensures some { IfSome result (λ i. IsAt entries.now i n) }
-    ensures none { IfNone result (found entries.now n ≡ None) }
+    ensures none { IfNone result (first_range entries.now n ≡ None) }
 {
     for i in 0..entries.len() {
         if entries[i].0 == n {
@@ -278,16 +283,16 @@ fn are_rising(entries: &[(usize, (Word, Word))]) -> bool
     true
 }
 
-/// Where a location stands in entries all of which are placed, if it does.
+/// Where a location is in entries that all have their positions, if it is there.
 #[inline(always)]
-fn placed_position(
+fn known_position(
     entries: &[(usize, (Word, Word))],
     positions: &Positions,
     n: usize,
 ) -> Option<usize>
-    requires { ArePlaced entries.now true (position_of positions.now) }
+    requires { HavePositions entries.now true (position_of positions.now) }
     ensures some { IfSome result (λ i. IsAt entries.now i n) }
-    ensures none { IfNone result (found entries.now n ≡ None) }
+    ensures none { IfNone result (first_range entries.now n ≡ None) }
 {
     let i = positions.at(n);
     if i < entries.len() && entries[i].0 == n {
@@ -297,23 +302,24 @@ fn placed_position(
     }
 }
 
-/// Brings entries that are placed into the rising order of their locations, by looking each location up.
+/// Brings entries that have their positions into the rising order of their locations, by looking
+/// each location up.
 fn gather_entries(
     entries: &mut Vec<(usize, (Word, Word))>,
     positions: &Positions,
     count: usize,
 ) -> Result<(), AllocError>
-    requires sound { AreEntries count entries.old.items }
-    requires placed { ArePlaced entries.old.items true (position_of positions.now) }
+    requires sound { AreRanges count entries.old.items }
+    requires placed { HavePositions entries.old.items true (position_of positions.now) }
     ensures len { length entries.new.items ≡ length entries.old.items }
-    ensures sound { AreEntries count entries.new.items }
-    ensures same { (n : ℕ) → found entries.new.items n ≡ found entries.old.items n }
+    ensures sound { AreRanges count entries.new.items }
+    ensures same { (n : ℕ) → first_range entries.new.items n ≡ first_range entries.old.items n }
     ensures rising { OnOk result (IsStrictlyIncreasing (keys_of entries.new.items)) }
     ensures err { OnErr result (entries.new.items ≡ entries.old.items) }
 {
     let mut gathered = Vec::with_capacity(*entries.allocator(), entries.len())?;
     for n in 0..count {
-        if let Some(i) = placed_position(entries, positions, n) {
+        if let Some(i) = known_position(entries, positions, n) {
             gathered.push(entries[i])?;
         }
     }
@@ -326,41 +332,45 @@ fn gather_entries(
 
 /// Brings entries into the rising order of their locations.
 fn sort_entries(entries: &mut Vec<(usize, (Word, Word))>, count: usize) -> Result<(), AllocError>
-    requires { AreEntries count entries.old.items }
+    requires { AreRanges count entries.old.items }
     ensures len { length entries.new.items ≡ length entries.old.items }
-    ensures sound { AreEntries count entries.new.items }
-    ensures same { (n : ℕ) → found entries.new.items n ≡ found entries.old.items n }
+    ensures sound { AreRanges count entries.new.items }
+    ensures same { (n : ℕ) → first_range entries.new.items n ≡ first_range entries.old.items n }
     ensures rising { OnOk result (IsStrictlyIncreasing (keys_of entries.new.items)) }
     ensures err { OnErr result (entries.new.items ≡ entries.old.items) }
 {
     entries.sort_by_key(|entry| entry.0)
 }
 
-/// Gives each location of the entries its position there. Answers whether it did.
-fn place_all(entries: &[(usize, (Word, Word))], positions: &mut Positions) -> bool
+/// Gives each location of the entries its position there. Returns whether it did.
+fn set_all_positions(entries: &[(usize, (Word, Word))], positions: &mut Positions) -> bool
     requires { IsDistinct nat_eq (keys_of entries.now) }
-    ensures { ArePlaced entries.now result (position_of positions.new) }
+    ensures { HavePositions entries.now result (position_of positions.new) }
 {
     for i in 0..entries.len() {
-        if !positions.place(entries[i].0, i) {
+        if !positions.set_position(entries[i].0, i) {
             return false;
         }
     }
     true
 }
 
-/// Gives the last location its position, where the others have theirs, or else all of them where they are no longer few. Answers whether
-/// all have theirs then.
-fn place_last(entries: &[(usize, (Word, Word))], placed: bool, positions: &mut Positions) -> bool
+/// Gives the last location its position, if the others have theirs, or else all of them, if they
+/// are no longer few. Returns whether all have theirs then.
+fn set_last_position(
+    entries: &[(usize, (Word, Word))],
+    placed: bool,
+    positions: &mut Positions,
+) -> bool
     requires some { 0 < length entries.now }
     requires unique { IsDistinct nat_eq (keys_of entries.now) }
     requires before { placed ≡ true → (i : ℕ) → i + 1 < length entries.now → position_of positions.old (slice_index_or (keys_of entries.now) i 0) ≡ i }
-    ensures { ArePlaced entries.now result (position_of positions.new) }
+    ensures { HavePositions entries.now result (position_of positions.new) }
 {
     let last = entries.len() - 1;
     if placed {
-        positions.place(entries[last].0, last)
+        positions.set_position(entries[last].0, last)
     } else {
-        last >= FEW && place_all(entries, positions)
+        last >= MAX_SCANNED && set_all_positions(entries, positions)
     }
 }

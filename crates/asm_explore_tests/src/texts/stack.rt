@@ -1,6 +1,6 @@
 //! A stack of cells that two threads share.
 
-/// A thread takes the top for the one that it saw where it is the same cell again.
+/// A thread takes the top for the one that it saw if it is the same cell again.
 pub const STACK_WRONG: &str = "
 CoreASM StackAba
 init Schedule

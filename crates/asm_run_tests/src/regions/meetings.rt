@@ -1,7 +1,7 @@
-//! Two that wait for each other, for so many turns at most.
+//! Two that wait for each other, for `MAX_TURNS` turns at most.
 use std::sync::atomic::{AtomicBool, AtomicU64, Ordering};
 
-const MOST_TURNS: u32 = 100_000_000;
+const MAX_TURNS: u32 = 100_000_000;
 
 /// Whether each of two has come, how often, and whether one waited in vain.
 #[derive(Drop)]
@@ -33,7 +33,7 @@ impl Meeting {
     }
 
     fn wait_for(&self, other: &AtomicU64) {
-        for _ in 0..MOST_TURNS {
+        for _ in 0..MAX_TURNS {
             if other.load(Ordering::SeqCst) > 0 {
                 return;
             }

@@ -1,15 +1,15 @@
-//! What rules yield where workers share their regions.
+//! What rules yield when workers share their regions.
 ghost use Rattle.std.specs.Prelude.{◌≡◌};
-ghost use Rattle.asm_syntax.specs.Views.{spec_of};
+ghost use Rattle.asm_syntax.specs.code.Views.{spec_of};
 ghost use Rattle.asm_check.specs.Shapes.{shape_of};
 
 use asm_check::Checked;
+use asm_eval::evaluation::Evaluation;
 use asm_eval::frame::Frame;
-use asm_eval::running::Running;
-use asm_limits::limits::Limits;
+use asm_limits::run_limits::Limits;
 use asm_meaning::{Choices, Outcome, View};
 use asm_pool::NoGate;
-use asm_resolve::whole::resolve_main;
+use asm_resolve::main_rule::resolve_main;
 use asm_run::pooled::Pooled;
 use asm_tests::beginning::Beginning;
 use asm_tests::plain::{FIVE, ONE, Plain, TWO};
@@ -43,7 +43,7 @@ static CUTTINGS: [Limits; 3] = [
     },
 ];
 
-/// What the main rule yields in what the view shows: as one region, or where each of its regions is
+/// What the main rule yields in what the view shows: as one region, or with each of its regions
 /// shared.
 fn main_outcome<'a, R: Threads + Sync>(
     alloc: Global,
@@ -57,15 +57,15 @@ fn main_outcome<'a, R: Threads + Sync>(
     requires { view.now.signature.now ≡ shape_of (spec_of checked.now.spec) }
 {
     let code = resolve_main(alloc, checked)?;
-    let running = Running {
+    let evaluation = Evaluation {
         view,
         choices,
         turns,
     };
     if is_region {
-        pooled.region(alloc, &running, &Frame::Empty, &code, &[])
+        pooled.region(alloc, &evaluation, &Frame::Empty, &code, &[])
     } else {
-        pooled.outcome(alloc, &running, &Frame::Empty, &code, &[])
+        pooled.outcome(alloc, &evaluation, &Frame::Empty, &code, &[])
     }
 }
 
@@ -136,7 +136,7 @@ fn workers_ask_each_question_once(rt: HostRuntime) -> Result<(), Fail> {
     Ok(())
 }
 
-/// Rules with regions behind others and within others, and with updates of pieces that clash.
+/// Rules with regions after others and within others, and with updates of pieces that clash.
 static SHARED: [Yielded; 8] = [
     // A region beneath a sequence that is within a region: a worker forms it whole.
     (
@@ -145,7 +145,7 @@ static SHARED: [Yielded; 8] = [
         3,
         &[(0, TWO, TWO), (1, TWO, TWO), (2, TWO, TWO), (4, TWO, TWO)],
     ),
-    // Regions that stand behind others, and see what those yield.
+    // Regions that come after others, and see what those yield.
     (
         "seq x := 1 if x = 1 then forall i in Idx with i >= x do c(i) := i endforall endif endseq",
         0,
@@ -207,8 +207,8 @@ fn each_rule_is_worked_as_one_region(rt: HostRuntime) -> Result<(), Fail> {
     Ok(())
 }
 
-/// Bodies, and the path at which each is exhausted: the least one, wherever the others stand. Where work is cut in several rounds, the
-/// deeper ones are met later.
+/// Bodies, and the path at which each is exhausted: the least one, wherever the others are. If
+/// work is cut in several rounds, the deeper ones are met later.
 static EXHAUSTED: [(&str, &[u64]); 5] = [
     (
         "par par iterate x := 1 enditerate endpar iterate x := 2 enditerate endpar",

@@ -1,29 +1,29 @@
 //! Two workers ask which candidates are taken.
 ghost use Rattle.std.specs.Prelude.{◌≡◌};
-ghost use Rattle.asm_syntax.specs.Views.{spec_of};
+ghost use Rattle.asm_syntax.specs.code.Views.{spec_of};
 ghost use Rattle.asm_check.specs.Shapes.{shape_of};
 ghost use Rattle.asm_reader.specs.ScriptLines.{no_lines};
 
 use super::meetings::Meeting;
 use asm_check::Checked;
+use asm_eval::evaluation::Evaluation;
 use asm_eval::frame::Frame;
-use asm_eval::running::Running;
-use asm_limits::limits::Limits;
+use asm_limits::run_limits::Limits;
 use asm_meaning::{Choices, Outcome, View};
 use asm_pool::NoGate;
 use asm_reader::Picks;
-use asm_resolve::whole::resolve_main;
+use asm_resolve::main_rule::resolve_main;
 use asm_run::pooled::Pooled;
 use asm_tests::beginning::Beginning;
+use asm_tests::checked_text::checked_of;
 use asm_tests::plain::{Entry, Plain};
 use asm_tests::rules::is_set;
-use asm_tests::text::checked_of;
 use std::alloc::{AllocError, Global};
 use std::sync::atomic::{AtomicU64, Ordering};
 use std::test::Fail;
 use std::thread::Threads;
 
-/// Answers 0, and holds the question at each of two paths until that at the other is asked.
+/// Returns 0, and holds the question at each of two paths until that at the other is asked.
 #[derive(Drop)]
 struct Holding {
     meeting: Meeting,
@@ -68,13 +68,13 @@ fn main_outcome<'a, R: Threads + Sync>(
     requires { view.now.signature.now ≡ shape_of (spec_of checked.now.spec) }
 {
     let code = resolve_main(alloc, checked)?;
-    let running = Running {
+    let evaluation = Evaluation {
         view,
         choices,
         turns: 1000,
     };
     let pooled = Pooled::new(rt, &LIMITS, &NoGate);
-    pooled.outcome(alloc, &running, &Frame::Empty, &code, &[])
+    pooled.outcome(alloc, &evaluation, &Frame::Empty, &code, &[])
 }
 
 /// The same in the initial state.

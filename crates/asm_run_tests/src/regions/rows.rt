@@ -1,5 +1,5 @@
 //! Worked rows at many numbers of workers, cuts and rounds.
-use asm_limits::limits::Limits;
+use asm_limits::run_limits::Limits;
 use asm_run::end::End;
 use asm_run::error::RunError;
 use asm_run::run::run;

@@ -1,5 +1,5 @@
 //! Two workers make one step of a run.
-use asm_limits::limits::Limits;
+use asm_limits::run_limits::Limits;
 use asm_pool::Gate;
 use asm_run::end::End;
 use asm_run::error::RunError;
@@ -9,10 +9,10 @@ use std::sync::atomic::{AtomicBool, AtomicU64, Ordering};
 use std::test::Fail;
 use std::thread::Threads;
 
-const MOST_TURNS: u32 = 100_000_000;
+const MAX_TURNS: u32 = 100_000_000;
 
-/// Holds task 1 until task 0 is taken a second time, and that taking until task 1 is taken. The first
-/// round has task 0 alone.
+/// Holds task 1 until task 0 is taken a second time, and that taking until task 1 is taken. The
+/// first round has task 0 alone.
 #[derive(Drop)]
 struct Second {
     zero_taken: AtomicU64,
@@ -31,7 +31,7 @@ impl Second {
         }
     }
 
-    /// Whether so many tasks were done, two of them at the same time, and none was held in vain.
+    /// Whether `tasks` tasks were done, two of them at the same time, and none was held in vain.
     fn has_happened(&self, tasks: u64) -> bool {
         self.zero_taken.load(Ordering::SeqCst) == 2
             && self.one_taken.load(Ordering::SeqCst) == 1
@@ -40,7 +40,7 @@ impl Second {
     }
 
     fn wait_for(&self, other: &AtomicU64, times: u64) {
-        for _ in 0..MOST_TURNS {
+        for _ in 0..MAX_TURNS {
             if other.load(Ordering::SeqCst) >= times {
                 return;
             }
@@ -102,7 +102,7 @@ const ONE_ROUND: Limits = Limits {
     rounds: 1,
 };
 
-/// Two workers, and what else the program takes where no word says it.
+/// Two workers, and what else the program takes if no word says it.
 const DEFAULT: Limits = Limits {
     steps: 1,
     turns: 1000,
@@ -111,7 +111,7 @@ const DEFAULT: Limits = Limits {
     rounds: 4,
 };
 
-/// Whether two workers make the step at the same time, by so many tasks, and the run ends so with
+/// Whether two workers make the step at the same time, by `tasks` tasks, and the run ends so with
 /// this trace.
 fn is_shared<R: Threads + Sync + AllocGlobal>(
     rt: &R,
@@ -146,7 +146,7 @@ fn turns_meet_by_the_default_rounds(rt: HostRuntime) -> Result<(), Fail> {
     Ok(())
 }
 
-/// And so are many elements with much work, where three of four workers are worth it.
+/// And so are many elements with much work, for which three of four workers are worth it.
 #[test]
 fn elements_meet_by_the_default_rounds(rt: HostRuntime) -> Result<(), Fail> {
     let four = Limits {

@@ -1,16 +1,16 @@
 //! A region that comes to what was formed before.
 ghost use Rattle.std.specs.Prelude.{◌≡◌, IfOk};
 ghost use Rattle.asm_state.specs.Signature.{count_of};
-ghost use Rattle.asm_syntax.specs.Views.{spec_of};
+ghost use Rattle.asm_syntax.specs.code.Views.{spec_of};
 ghost use Rattle.asm_check.specs.Shapes.{shape_of};
 
 use asm_check::Checked;
+use asm_eval::evaluation::Evaluation;
 use asm_eval::frame::Frame;
-use asm_eval::running::Running;
-use asm_limits::limits::Limits;
+use asm_limits::run_limits::Limits;
 use asm_meaning::{Choices, Forming, Stopped, View};
 use asm_pool::NoGate;
-use asm_resolve::whole::resolve_main;
+use asm_resolve::main_rule::resolve_main;
 use asm_run::pooled::Pooled;
 use asm_tests::beginning::Beginning;
 use asm_tests::plain::{Entry, FIVE, ONE, THREE, TWO, has_entries, summary_of};
@@ -41,26 +41,26 @@ const UNION: [Entry; 4] = [
     (4, FIVE, FIVE),
 ];
 
-/// What the region that is the main rule comes to behind what was formed.
+/// What the region that is the main rule comes to after what was formed.
 fn formed<'a, R: Threads + Sync>(
     alloc: Global,
     pooled: &Pooled<'_, R, NoGate>,
     checked: &'a Checked,
     view: &'a View<'_>,
     choices: &'a Choices<'a, Counting>,
-    mut made: Forming,
+    mut forming: Forming,
 ) -> Result<Forming, Stopped>
     requires view { view.now.signature.now ≡ shape_of (spec_of checked.now.spec) }
-    requires before { made.set.count ≡ count_of view.now.signature.now }
+    requires before { forming.set.count ≡ count_of view.now.signature.now }
 {
     let code = resolve_main(alloc, checked)?;
-    let running = Running {
+    let evaluation = Evaluation {
         view,
         choices,
         turns: 3,
     };
-    pooled.form(alloc, &running, &Frame::Empty, &code, &mut made)?;
-    Ok(made)
+    pooled.form(alloc, &evaluation, &Frame::Empty, &code, &mut forming)?;
+    Ok(forming)
 }
 
 /// A set, and one instance less than can be counted.
@@ -75,7 +75,7 @@ fn before(alloc: Global, count: usize) -> Result<Forming, AllocError>
     })
 }
 
-/// What that region comes to in the initial state, by two workers, where there is a set before.
+/// What that region comes to in the initial state, by two workers, with a set before.
 fn formed_by_two<R: Threads + Sync + AllocGlobal>(rt: &R) -> Result<Forming, Fail> {
     let limits = LIMITS;
     if !limits.are_in_range() {
@@ -100,9 +100,9 @@ fn formed_by_two<R: Threads + Sync + AllocGlobal>(rt: &R) -> Result<Forming, Fai
 
 #[test]
 fn a_region_comes_to_what_was_formed(rt: HostRuntime) -> Result<(), Fail> {
-    let made = formed_by_two(&rt)?;
-    assert!(rt; has_entries(&made.set, &UNION));
-    assert!(rt; made.instances == u64::MAX);
-    assert!(rt; made.path.is_empty());
+    let forming = formed_by_two(&rt)?;
+    assert!(rt; has_entries(&forming.set, &UNION));
+    assert!(rt; forming.instances == u64::MAX);
+    assert!(rt; forming.path.is_empty());
     Ok(())
 }

@@ -8,7 +8,7 @@ use asm_run::through::Through;
 use std::test::Fail;
 use std::thread::Threads;
 
-/// What is answered to a beginning, with the number and the offset of its refusal.
+/// What is returned for a beginning, with the number and the offset of its refusal.
 #[derive(Clone, Copy, Debug, PartialEq, Eq)]
 enum Told {
     Read(u8, Option<usize>),
@@ -56,7 +56,8 @@ fn answer_to<R: Threads + Sync + AllocGlobal>(
     Ok((told, out.into_inner().len()))
 }
 
-/// Whether what is told of a beginning of a text that has no fault can be told of one, and nothing is written where it is refused.
+/// Whether what is told of a beginning of a text that has no fault can be told of one, and nothing
+/// is written if it is refused.
 fn is_of_beginning(told: Told, written: usize, length: usize) -> bool {
     match told {
         Told::Read(2 | 3 | 5, Some(at)) => at < length && written == 0,
@@ -100,7 +101,7 @@ fn beginnings_of_choices_in_forall(rt: HostRuntime) -> Result<(), Fail> {
     Ok(())
 }
 
-/// A text with each rule that has to do with answers, and a `while`.
+/// A text with each rule that has to do with results, and a `while`.
 const ANSWERS: &[u8] =
     b"CoreASM T\ninit M\nfunction controlled x initially 0\nfunction controlled y initially 0\n\
 rule M = while x < 3 do seq x <- r(y, 1) y := -x endseq endwhile\n\

@@ -1,6 +1,6 @@
 //! What a trace shows of locations, the first time and again.
 use super::LIMITS;
-use asm_limits::limits::Limits;
+use asm_limits::run_limits::Limits;
 use asm_run::end::End;
 use asm_run::run::run;
 use asm_run::through::Through;

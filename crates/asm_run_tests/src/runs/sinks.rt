@@ -1,6 +1,6 @@
 //! When the text of a step reaches the sink.
 use super::LIMITS;
-use asm_limits::limits::Limits;
+use asm_limits::run_limits::Limits;
 use asm_run::error::RunError;
 use asm_run::run::run;
 use asm_run::through::Through;
@@ -8,7 +8,7 @@ use std::io;
 use std::io::Write;
 use std::test::Fail;
 
-/// Takes so many pieces whole, and refuses the next.
+/// Takes `left` pieces whole, and refuses the next.
 #[derive(Drop)]
 struct Pieces {
     taken: Vec<u8>,

@@ -11,7 +11,8 @@ use std::io::Write;
 use std::test::Fail;
 use std::thread::Threads;
 
-/// Takes one byte a call, until it holds so many; then each call is refused in this way, or takes nothing.
+/// Takes one byte a call, until it holds `most`; then each call is refused in this way, or takes
+/// nothing.
 #[derive(Drop)]
 struct ByteByByte {
     taken: Vec<u8>,
@@ -91,8 +92,8 @@ fn a_write_that_fails_ends_the_run(rt: HostRuntime) -> Result<(), Fail> {
     Ok(())
 }
 
-/// Whether a run into a writer that is refused so behind so many bytes leaves them, and says that it failed, or that it ended where
-/// they are the whole trace.
+/// Whether a run into a writer that is refused so after `most` bytes leaves them, and says that it
+/// failed, or that it ended if they are the whole trace.
 fn leaves_front<R: Threads + Sync + AllocGlobal>(
     rt: &R,
     most: usize,
@@ -117,7 +118,7 @@ fn leaves_front<R: Threads + Sync + AllocGlobal>(
 
 #[test]
 fn each_front_of_a_trace_is_left_where_the_next_byte_is_refused(rt: HostRuntime) {
-    // An interrupted write counts as failed, as each that answers an error.
+    // An interrupted write counts as failed, as each that returns an error.
     for refusal in [FULL, Some(io::ErrorKind::Interrupted), None] {
         for most in 0..=CHOICES_IN_FORALL.trace.len() {
             assert!(rt; leaves_front(&rt, most, refusal), "{most} {refusal:?}");

@@ -1,7 +1,7 @@
 //! Main rules of every kind, whose steps are fired.
 use super::outcome_at;
 use crate::beginning::Beginning;
-use crate::text::checked_of_both;
+use crate::checked_text::checked_of_both;
 use asm_check::Checked;
 use asm_meaning::{Choices, Outcome};
 use asm_reader::{Picks, Script, read_script};
@@ -10,7 +10,7 @@ use asm_updates::summary::Summary;
 use std::alloc::{AllocError, Global};
 use std::test::Fail;
 
-/// What stands before the main rule's body.
+/// What is before the main rule's body.
 const BEFORE: &str = "CoreASM T init M \
 enum Color = { red, green, blue } enum Two = { one, two } \
 universe Idx = 0 .. 2 universe Near = -1 .. 1 universe Empty = 1 .. 0 \
@@ -62,9 +62,9 @@ fn read_off(signature: &Signature, outcome: Outcome) -> Given {
 enum End {
     /// All steps were fired.
     Going,
-    /// The step behind those that were fired has a faulty set.
+    /// The step after those that were fired has a faulty set.
     Faulty,
-    /// The step behind those that were fired is exhausted.
+    /// The step after those that were fired is exhausted.
     Exhausted,
 }
 

@@ -1,26 +1,26 @@
 //! Pieces of resolved rules: what they are opened to, and what they yield whole.
 ghost use Rattle.std.specs.Prelude.{◌≡◌};
 ghost use Rattle.asm_state.specs.Signature.{Shape};
-ghost use Rattle.asm_syntax.specs.Views.{spec_of};
+ghost use Rattle.asm_syntax.specs.code.Views.{spec_of};
 ghost use Rattle.asm_check.specs.Shapes.{shape_of};
-ghost use Rattle.asm_code.specs.RuleMeaning.{IsSoundRule};
-ghost use Rattle.asm_code.specs.RuleViews.{rule_of};
-ghost use Rattle.asm_eval.specs.Pieces.{IsPiece};
-ghost use Rattle.asm_eval.specs.Running.{shape_at};
+ghost use Rattle.asm_code.specs.code.RuleMeaning.{IsSoundRule};
+ghost use Rattle.asm_code.specs.code.RuleViews.{rule_of};
+ghost use Rattle.asm_eval.specs.code.Pieces.{IsPiece};
+ghost use Rattle.asm_eval.specs.code.Evaluation.{evaluation_shape};
 
 use crate::beginning::Beginning;
 use crate::plain::{Entry, ONE, TWO};
 use crate::rules::{Counting, is_set, specification};
 use asm_check::Checked;
 use asm_code::rule_code::RuleCode;
+use asm_eval::evaluation::Evaluation;
 use asm_eval::frame::Frame;
 use asm_eval::open::{Opened, open_piece};
 use asm_eval::outcome::whole;
 use asm_eval::piece::{Piece, whole_piece};
-use asm_eval::positions::positions_of;
-use asm_eval::running::Running;
+use asm_eval::piece_positions::positions_of;
 use asm_meaning::{Choices, Part, Path};
-use asm_resolve::whole::resolve_main;
+use asm_resolve::main_rule::resolve_main;
 use std::alloc::{AllocError, Global};
 use std::test::Fail;
 
@@ -39,16 +39,16 @@ fn piece_of(alloc: Global, code: &RuleCode) -> Piece<'_>
 /// How many pieces something is opened to, and how many elements are counted in opening it.
 type Parts = (usize, u64);
 
-/// How many parts all of a rule is opened to, where two elements are one piece. None: it is closed.
+/// How many parts all of a rule is opened to, if two elements are one piece. None: it is closed.
 fn parts_in(
     alloc: Global,
     code: &RuleCode,
-    running: &Running<'_, '_, Counting>,
+    evaluation: &Evaluation<'_, '_, Counting>,
 ) -> Result<Option<Parts>, AllocError>
-    requires { IsSoundRule (shape_at running.now) (rule_of code.now) }
+    requires { IsSoundRule (evaluation_shape evaluation.now) (rule_of code.now) }
 {
     let piece = piece_of(alloc, code);
-    match open_piece(alloc, running, &piece, 2)? {
+    match open_piece(alloc, evaluation, &piece, 2)? {
         Opened::Pieces { pieces, instances } => Ok(Some((pieces.len(), instances))),
         Opened::Closed => Ok(None),
     }
@@ -63,17 +63,17 @@ fn opened(alloc: Global, checked: &Checked) -> Result<Option<Parts>, AllocError>
         script: &picks,
         step: 1,
     };
-    let running = Running {
+    let evaluation = Evaluation {
         view: &view,
         choices: &choices,
         turns: 1000,
     };
     let code = resolve_main(alloc, checked)?;
-    parts_in(alloc, &code, &running)
+    parts_in(alloc, &code, &evaluation)
 }
 
-/// Bodies, and what each is opened to. A branch that is left out is a `skip`, and so is an answer
-/// to a choice without candidates.
+/// Bodies, and what each is opened to. A branch that is left out is a `skip`, and so is what a
+/// choice without candidates gives.
 static OPENED: [(&str, Option<Parts>); 15] = [
     ("skip", None),
     ("x := 1", None),
@@ -130,13 +130,13 @@ fn a_forall_is_evaluated_at_each_position(rt: HostRuntime) -> Result<(), Fail> {
 fn both_yield(
     alloc: Global,
     code: &RuleCode,
-    running: &Running<'_, '_, Counting>,
+    evaluation: &Evaluation<'_, '_, Counting>,
 ) -> Result<bool, AllocError>
-    requires { IsSoundRule (shape_at running.now) (rule_of code.now) }
+    requires { IsSoundRule (evaluation_shape evaluation.now) (rule_of code.now) }
 {
-    let piece = whole_piece(alloc, running, &piece_of(alloc, code))?;
+    let piece = whole_piece(alloc, evaluation, &piece_of(alloc, code))?;
     let as_piece = is_set(piece, 2, &SET);
-    let rule = whole(alloc, running, &Frame::Empty, code, &[])?;
+    let rule = whole(alloc, evaluation, &Frame::Empty, code, &[])?;
     Ok(as_piece && is_set(rule, 2, &SET))
 }
 
@@ -149,13 +149,13 @@ fn main_yields(alloc: Global, checked: &Checked) -> Result<bool, AllocError> {
         script: &picks,
         step: 1,
     };
-    let running = Running {
+    let evaluation = Evaluation {
         view: &view,
         choices: &choices,
         turns: 1000,
     };
     let code = resolve_main(alloc, checked)?;
-    both_yield(alloc, &code, &running)
+    both_yield(alloc, &code, &evaluation)
 }
 
 /// Two regions in a sequence.

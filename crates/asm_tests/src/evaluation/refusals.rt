@@ -1,13 +1,13 @@
-//! Codes where a call may be refused for want of memory. The tests say more where it is:
+//! Codes for which a call may find no memory. The tests say more if it does:
 //! `rt try --test --fail-alloc N`.
 use super::outcome_at;
 use crate::beginning::Beginning;
+use crate::checked_text::{Unchecked, checked_of};
 use crate::plain::{Entry, FIVE, TWO};
 use crate::rules::{Counting, is_set};
-use crate::text::{Unchecked, checked_of};
 use asm_check::Checked;
 use asm_meaning::{Choices, Outcome};
-use asm_resolve::whole::resolve_main;
+use asm_resolve::main_rule::resolve_main;
 use std::alloc::{AllocError, Global};
 use std::test::Fail;
 
@@ -39,7 +39,7 @@ fn specification(alloc: Global) -> Result<Checked, AllocError> {
     }
 }
 
-/// Whether a code is made, or is refused for want of memory.
+/// Whether a code is made, or there is no memory for it.
 fn resolves_or_is_refused(alloc: Global) -> Result<bool, AllocError> {
     let checked = specification(alloc)?;
     match resolve_main(alloc, &checked) {
@@ -65,7 +65,7 @@ fn outcome_of(alloc: Global, checked: &Checked) -> Result<Outcome, AllocError> {
     outcome_at(alloc, checked, &view, &choices, &[], 10)
 }
 
-/// Whether it is that set, or is refused for want of memory.
+/// Whether it is that set, or there is no memory for it.
 fn is_the_set_or_refused(alloc: Global) -> Result<bool, AllocError> {
     let checked = specification(alloc)?;
     match outcome_of(alloc, &checked) {

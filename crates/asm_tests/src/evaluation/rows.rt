@@ -1,13 +1,14 @@
-//! What rules yield in the initial state, how often a `choose` asks for its number, and what is formed behind other updates.
+//! What rules yield in the initial state, how often a `choose` asks for its number, and what is
+//! formed after other updates.
 ghost use Rattle.std.specs.Prelude.{◌≡◌, IfOk};
 
 use super::outcome_at;
 use crate::beginning::Beginning;
 use crate::plain::{Entry, ONE, Plain, TWO, has_entries, summary_of};
 use crate::rules::{ASKING, Counting, YIELDED, Yielded, is_exhausted, is_set, specification};
-use asm_by_code::whole::outcome_by_code;
+use asm_by_code::by_code::outcome_by_code;
 use asm_check::Checked;
-use asm_eval::running::Running;
+use asm_eval::evaluation::Evaluation;
 use asm_meaning::{Choices, Forming, Outcome};
 use std::alloc::{AllocError, Global};
 use std::test::Fail;
@@ -65,7 +66,7 @@ fn a_rule_yields_its_set_and_its_instances(rt: HostRuntime) -> Result<(), Fail> 
     Ok(())
 }
 
-/// Bodies, and the paths at which they are exhausted where they stand at the path 4.2.
+/// Bodies, and the paths at which they are exhausted if they are at the path 4.2.
 static EXHAUSTED: [(&str, &[u64]); 9] = [
     ("iterate x := 1 enditerate", &[4, 2]),
     ("par skip iterate x := 1 enditerate endpar", &[4, 2, 1]),
@@ -126,7 +127,7 @@ fn formed_before(alloc: Global, count: usize) -> Result<Forming, AllocError>
     })
 }
 
-/// Forms what the main rule yields behind that.
+/// Forms what the main rule yields after that.
 fn formed_behind(alloc: Global, checked: &Checked) -> Result<Forming, Fail> {
     let beginning = Beginning::of(alloc, checked)?;
     let view = beginning.view();
@@ -135,14 +136,14 @@ fn formed_behind(alloc: Global, checked: &Checked) -> Result<Forming, Fail> {
         script: &picks,
         step: 1,
     };
-    let running = Running {
+    let evaluation = Evaluation {
         view: &view,
         choices: &choices,
         turns: 1,
     };
-    let mut made = formed_before(alloc, view.signature.count())?;
-    match outcome_by_code(alloc, checked, &running, &mut made)? {
-        Ok(()) => Ok(made),
+    let mut forming = formed_before(alloc, view.signature.count())?;
+    match outcome_by_code(alloc, checked, &evaluation, &mut forming)? {
+        Ok(()) => Ok(forming),
         Err(_) => Err(Fail::new("the rule gives a set")),
     }
 }
@@ -161,9 +162,9 @@ const WIDENED: [Entry; 3] = [
 /// Whether that comes to what was formed before.
 fn is_added(alloc: Global) -> Result<bool, Fail> {
     let checked = specification(alloc, BESIDE)?;
-    let made = formed_behind(alloc, &checked)?;
-    let counted = made.instances == 8 && made.path.as_slice() == [3u64].as_slice();
-    Ok(counted && has_entries(&made.set, &WIDENED))
+    let forming = formed_behind(alloc, &checked)?;
+    let counted = forming.instances == 8 && forming.path.as_slice() == [3u64].as_slice();
+    Ok(counted && has_entries(&forming.set, &WIDENED))
 }
 
 #[test]

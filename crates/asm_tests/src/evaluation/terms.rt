@@ -1,15 +1,15 @@
 //! Values of terms in the initial state, by way of their codes.
 use crate::beginning::{Beginning, main_of};
+use crate::checked_text::checked_of_both;
 use crate::plain::{FOUR, ONE, Plain, THREE, TWO, value};
-use crate::text::checked_of_both;
-use asm_by_code::whole::value_by_code;
+use asm_by_code::by_code::value_by_code;
 use asm_check::Checked;
 use asm_state::word::Word;
 use asm_syntax::rule::Rule;
 use std::alloc::{AllocError, Global};
 use std::test::Fail;
 
-/// What stands before a term.
+/// What is before a term.
 const BEFORE: &str = "CoreASM T init M \
 universe Idx = 0 .. 3 universe Near = -2 .. 2 universe One = 7 .. 7 universe Empty = 1 .. 0 \
 enum Color = { red, green, blue } enum Two = { one, two } \
@@ -144,7 +144,7 @@ static VALUED: [(&str, Plain); 82] = [
     ),
 ];
 
-/// The value that the main rule assigns, where it is an assignment.
+/// The value that the main rule assigns, if it is an assignment.
 fn assigned(alloc: Global, checked: &Checked) -> Result<Option<Word>, AllocError> {
     let Rule::Assign { value: term, .. } = main_of(checked) else {
         return Ok(None);

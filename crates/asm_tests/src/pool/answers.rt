@@ -1,12 +1,12 @@
-//! What `work` and `work_by` answer, against plain arithmetic.
+//! What `work` and `work_by` return, against plain arithmetic.
 ghost use Rattle.std.specs.Prelude.{◌≤◌, ◌<◌, length};
 
 use super::Adding;
-use asm_pool::{NoGate, PoolError, Worked, work, work_by};
+use asm_pool::{NoGate, PoolError, PoolResult, work, work_by};
 use std::test::Fail;
 use std::thread::Threads;
 
-/// The hand behind the runs of one worker's tasks, where each out is the hand's sum before that run.
+/// The hand after the runs of one worker's tasks, if each out is the hand's sum before that run.
 fn replayed(hand: u64, list: &[usize], outs: &[u64]) -> Option<u64> {
     let mut sum = hand;
     for task in list {
@@ -19,7 +19,7 @@ fn replayed(hand: u64, list: &[usize], outs: &[u64]) -> Option<u64> {
 }
 
 /// Each worker's list tells its hand and the outs, from the hands before.
-fn tells_its_runs(before: &[u64], worked: &Worked<u64, u64>) -> bool {
+fn tells_its_runs(before: &[u64], worked: &PoolResult<u64, u64>) -> bool {
     for (worker, hand) in before.iter().enumerate() {
         let Some(list) = worked.lists.get(worker) else {
             return false;
@@ -35,7 +35,7 @@ fn tells_its_runs(before: &[u64], worked: &Worked<u64, u64>) -> bool {
 }
 
 /// How many tasks all lists have together.
-fn tasks_in_lists(worked: &Worked<u64, u64>) -> usize {
+fn tasks_in_lists(worked: &PoolResult<u64, u64>) -> usize {
     let mut tasks = 0usize;
     for list in worked.lists.iter() {
         tasks = tasks.wrapping_add(list.len());
@@ -43,29 +43,29 @@ fn tasks_in_lists(worked: &Worked<u64, u64>) -> usize {
     tasks
 }
 
-/// What as many workers as there are hands do with so many tasks.
+/// What as many workers as there are hands do with `count` tasks.
 fn worked_by_all<R: Threads + AllocGlobal + Sync>(
     rt: &R,
     hands: &[u64],
     count: usize,
-) -> Result<Worked<u64, u64>, PoolError>
+) -> Result<PoolResult<u64, u64>, PoolError>
     requires { (0 < length hands.now) × (length hands.now ≤ 32) }
 {
     let own = hands.to_vec(rt.alloc())?;
     work(rt, rt.alloc(), hands.len(), count, &Adding, own, &NoGate)
 }
 
-/// Whether this is what workers with these hands can do with so many tasks.
-fn tells_one_run(before: &[u64], count: usize, worked: &Worked<u64, u64>) -> bool {
+/// Whether this is what workers with these hands can do with `count` tasks.
+fn tells_one_run(before: &[u64], count: usize, worked: &PoolResult<u64, u64>) -> bool {
     worked.outs.len() == count
         && tasks_in_lists(worked) == count
         && worked.hands.len() == before.len()
         && tells_its_runs(before, worked)
 }
 
-/// Whether this is what one worker with the hand 100 does with five tasks, beside others who do
+/// Whether this is what one worker with the hand 100 does with five tasks, next to others who do
 /// nothing, whose hands stay these.
-fn is_in_order(worked: &Worked<u64, u64>, others: &[u64]) -> bool {
+fn is_in_order(worked: &PoolResult<u64, u64>, others: &[u64]) -> bool {
     first_in_order(worked, others.len())
         && worked.outs.as_slice() == IN_ORDER.as_slice()
         && match worked.hands.split_first() {
@@ -102,8 +102,8 @@ fn thousands_of_tasks(rt: HostRuntime) -> Result<(), Fail> {
 /// The outs of five tasks that one worker runs in order, whose hand is 100.
 static IN_ORDER: [u64; 5] = [100, 100, 101, 103, 106];
 
-/// Whether the first list has five tasks in order, and there are so many more, all without tasks.
-fn first_in_order(worked: &Worked<u64, u64>, idle: usize) -> bool {
+/// Whether the first list has five tasks in order, and there are `idle` more, all without tasks.
+fn first_in_order(worked: &PoolResult<u64, u64>, idle: usize) -> bool {
     match worked.lists.split_first() {
         Some((first, others)) => {
             first.as_slice() == [0, 1, 2, 3, 4].as_slice()
@@ -124,12 +124,12 @@ fn one_lane_in_order(rt: HostRuntime) -> Result<(), Fail> {
 /// The hands of three workers.
 static OF_THREE: [u64; 3] = [100, 200, 300];
 
-/// What at most so many of three workers do with so many tasks.
+/// What at most `most` of three workers do with `count` tasks.
 fn worked_by_three<R: Threads + AllocGlobal + Sync>(
     rt: &R,
     most: usize,
     count: usize,
-) -> Result<Worked<u64, u64>, PoolError>
+) -> Result<PoolResult<u64, u64>, PoolError>
     requires { 0 < most }
 {
     let hands = OF_THREE.as_slice().to_vec(rt.alloc())?;
@@ -154,9 +154,9 @@ fn two_of_three_work(rt: HostRuntime) -> Result<(), Fail> {
 /// The hands of four workers.
 static OF_FOUR: [u64; 4] = [7, 8, 9, 10];
 
-/// Whether this is what four workers do with so many tasks, fewer than there are workers: the last
+/// Whether this is what four workers do with `count` tasks, fewer than there are workers: the last
 /// does none.
-fn leaves_one_idle(worked: &Worked<u64, u64>, count: usize) -> bool {
+fn leaves_one_idle(worked: &PoolResult<u64, u64>, count: usize) -> bool {
     tells_one_run(&OF_FOUR, count, worked)
         && worked.lists.len() == 4
         && worked.lists.last().is_some_and(|list| list.is_empty())

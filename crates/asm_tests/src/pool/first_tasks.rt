@@ -4,7 +4,7 @@ use asm_pool::{Gate, work};
 use std::sync::atomic::{AtomicBool, AtomicU64, Ordering};
 use std::test::Fail;
 
-const MOST_TURNS: u32 = 100_000_000;
+const MAX_TURNS: u32 = 100_000_000;
 
 /// Holds each of the first four tasks that are taken until all four are, so that four workers take
 /// one each. It counts how many of them lie in each lane.
@@ -30,7 +30,7 @@ impl FirstFour {
     }
 
     fn wait_for_four(&self) {
-        for _ in 0..MOST_TURNS {
+        for _ in 0..MAX_TURNS {
             if self.taken.load(Ordering::SeqCst) >= 4 {
                 return;
             }
@@ -60,7 +60,7 @@ impl Gate for FirstFour {
     fn done(&self, _task: usize) {}
 }
 
-/// Where all began at the same lane, they would stand in each other's way.
+/// If all began at the same lane, they would stand in each other's way.
 #[test]
 fn each_worker_begins_at_its_own_lane(rt: HostRuntime) -> Result<(), Fail> {
     let gate = FirstFour::new();

@@ -2,12 +2,12 @@
 ghost use Rattle.std.specs.Prelude.{◌≡◌, ◌<◌};
 
 use super::Adding;
-use asm_pool::{Gate, Job, NoGate, PoolError, Worked, work};
+use asm_pool::{Gate, Job, NoGate, PoolError, PoolResult, work};
 use std::sync::atomic::{AtomicBool, AtomicU8, AtomicU64, Ordering};
 use std::test::Fail;
 use std::thread::Threads;
 
-const MOST_TURNS: u32 = 100_000_000;
+const MAX_TURNS: u32 = 100_000_000;
 
 /// Where two tasks meet: who comes waits for the other.
 #[derive(Drop)]
@@ -40,7 +40,7 @@ impl Meeting {
 
     fn wait(&self, mine: &AtomicBool, other: &AtomicBool) {
         mine.store(true, Ordering::SeqCst);
-        for _ in 0..MOST_TURNS {
+        for _ in 0..MAX_TURNS {
             if other.load(Ordering::SeqCst) {
                 self.met.fetch_add(1, Ordering::SeqCst);
                 return;
@@ -58,7 +58,8 @@ impl Meeting {
     }
 }
 
-/// How far each of two tasks is: 0 at first, 1 once it is taken, 2 once it is run, 3 once it is done.
+/// How far each of two tasks is: 0 at first, 1 once it is taken, 2 once it is run, 3 once it is
+/// done.
 #[derive(Drop)]
 struct Steps {
     tasks: [usize; 2],
@@ -120,7 +121,7 @@ impl Gate for Holding<'_> {
     }
 }
 
-/// Tasks of which two are seen to run.
+/// Tasks, two of which are seen to run.
 #[derive(Clone, Copy)]
 struct Seen<'a> {
     steps: &'a Steps,
@@ -143,7 +144,7 @@ impl Job for Seen<'_> {
     }
 }
 
-/// Tasks of which two meet while they run.
+/// Tasks, two of which meet while they run.
 #[derive(Clone, Copy)]
 struct Joined<'a> {
     meeting: &'a Meeting,
@@ -166,13 +167,13 @@ impl Job for Joined<'_> {
     }
 }
 
-/// What two workers answer of so many tasks, where each of two tasks that are taken is held until the other is; and whether these
-/// met, and went from step to step.
+/// What two workers return for `count` tasks, if each of two tasks that are taken is held until the
+/// other is; and whether these met, and went from step to step.
 fn held<R: Threads + AllocGlobal + Sync>(
     rt: &R,
     count: usize,
     tasks: [usize; 2],
-) -> Result<(bool, Worked<u64, usize>), PoolError> {
+) -> Result<(bool, PoolResult<u64, usize>), PoolError> {
     let steps = Steps::of(tasks);
     let meeting = Meeting::of(tasks);
     let gate = Holding {
@@ -185,12 +186,13 @@ fn held<R: Threads + AllocGlobal + Sync>(
     Ok((meeting.met() == 2 && steps.are_done(), worked))
 }
 
-/// What two workers answer of so many tasks, two of which wait for each other while they run; and whether these met.
+/// What two workers return for `count` tasks, two of which wait for each other while they run; and
+/// whether these met.
 fn waiting<R: Threads + AllocGlobal + Sync>(
     rt: &R,
     count: usize,
     tasks: [usize; 2],
-) -> Result<(bool, Worked<u64, usize>), PoolError> {
+) -> Result<(bool, PoolResult<u64, usize>), PoolError> {
     let meeting = Meeting::of(tasks);
     let job = Joined { meeting: &meeting };
     let hands = vec![in rt.alloc(); 0u64, 0]?;
@@ -199,7 +201,7 @@ fn waiting<R: Threads + AllocGlobal + Sync>(
 }
 
 /// Whether there are two lists of tasks, and these.
-fn lists_are(worked: &Worked<u64, usize>, first: &[usize], second: &[usize]) -> bool {
+fn lists_are(worked: &PoolResult<u64, usize>, first: &[usize], second: &[usize]) -> bool {
     match worked.lists.as_slice() {
         [one, other] => one.as_slice() == first && other.as_slice() == second,
         _ => false,
@@ -207,7 +209,7 @@ fn lists_are(worked: &Worked<u64, usize>, first: &[usize], second: &[usize]) -> 
 }
 
 /// Whether there are two lists of tasks, and the first has one of these two tasks.
-fn ran_one_of(worked: &Worked<u64, usize>, task: usize, other: usize) -> bool {
+fn ran_one_of(worked: &PoolResult<u64, usize>, task: usize, other: usize) -> bool {
     match worked.lists.as_slice() {
         [first, _] => first.contains(&task) != first.contains(&other),
         _ => false,
@@ -270,7 +272,7 @@ impl Gate for HoldingOne {
         if task != 0 {
             return;
         }
-        for _ in 0..MOST_TURNS {
+        for _ in 0..MAX_TURNS {
             if self.done.load(Ordering::SeqCst) == self.others {
                 self.held.store(true, Ordering::SeqCst);
                 return;

@@ -1,11 +1,12 @@
-//! Work that is refused memory. The test says more where it is: `.ci/refusals` refuses each of its requests in turn.
+//! Work that is refused memory. The test says more if it is: `.ci/refusals` refuses each of its
+//! requests in turn.
 ghost use Rattle.std.specs.Prelude.{◌≡◌};
 
 use asm_pool::{Job, NoGate, PoolError, work};
 use std::sync::atomic::{AtomicU64, Ordering};
 use std::test::Fail;
 
-/// So many turns a task takes, more than a thread needs to start.
+/// How many turns a task takes, more than a thread needs to start.
 const TURNS: u32 = 100_000;
 
 /// Counts the runs that began, and those that ended.

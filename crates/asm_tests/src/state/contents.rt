@@ -2,7 +2,8 @@
 use super::*;
 use asm_state::state::State;
 
-/// A function with a table over the numbers from 0 to 2, and one with the same value for each of them.
+/// A function with a table over the numbers from 0 to 2, and one with the same value for each of
+/// them.
 fn controlled_functions(alloc: Global) -> Result<Signature, Fail> {
     let universes = vec![in alloc; Universe::range(Number { value: 0 }, Number { value: 2 })]?;
     let table = table_of(
@@ -35,7 +36,8 @@ static CONTENTS: [Plain; 8] = [
     Plain::Undef,
 ];
 
-/// Whether the initial state and a copy of it have the contents of the tables, and stray locations are told.
+/// Whether the initial state and a copy of it have the contents of the tables, and stray locations
+/// are told.
 fn begins_with_tables(alloc: Global) -> Result<bool, Fail> {
     let signature = controlled_functions(alloc)?;
     let state = State::initial(alloc, &signature)?;
@@ -58,8 +60,8 @@ fn initial_contents(rt: HostRuntime) -> Result<(), Fail> {
     Ok(())
 }
 
-/// The static functions 0, the same everywhere on the numbers from 0 to 2, and 2, with a table over them and two elements.
-/// Between them stands a controlled one.
+/// The static functions 0, the same everywhere on the numbers from 0 to 2, and 2, with a table over
+/// them and two elements. Between them is a controlled one.
 fn static_functions(alloc: Global) -> Result<Signature, Fail> {
     let universes = vec![in alloc;
         Universe::range(Number { value: 0 }, Number { value: 2 }),
@@ -133,7 +135,8 @@ fn first_wrong_value(alloc: Global, signature: &Signature) -> Result<Option<usiz
     Ok(None)
 }
 
-/// Whether static functions have the values of their tables, and a controlled one has none but a location.
+/// Whether static functions have the values of their tables, and a controlled one has none but a
+/// location.
 fn gives_values(alloc: Global) -> Result<bool, Fail> {
     let signature = static_functions(alloc)?;
     let first_wrong = first_wrong_value(alloc, &signature)?;

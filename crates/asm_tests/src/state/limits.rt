@@ -4,8 +4,9 @@ use super::*;
 /// The domains of functions, and whether they fit.
 type Domains = (&'static [&'static [usize]], bool);
 
-/// How many controlled functions over universe 0, and others behind them. There are 4,096 locations over universe 0, 4,097 over
-/// universe 1, the stray one alone over universe 2, and two without arguments.
+/// How many controlled functions over universe 0, and others after them. There are 4,096 locations
+/// over universe 0, 4,097 over universe 1, the stray one alone over universe 2, and two without
+/// arguments.
 static CONTROLLED: [(usize, Domains); 22] = [
     (0, (&[], true)),
     (0, (&[&[]], true)),
@@ -34,7 +35,8 @@ static CONTROLLED: [(usize, Domains); 22] = [
     (1, (&[&[5]], false)),
 ];
 
-/// Static functions: 4,096 argument lists over universe 1, none over universe 2, and one without arguments.
+/// Static functions: 4,096 argument lists over universe 1, none over universe 2, and one without
+/// arguments.
 static STATIC: [Domains; 8] = [
     // From 16,384 argument lists on.
     (&[&[1], &[1], &[1], &[1]], true),
@@ -53,7 +55,7 @@ static TABLES: [(&[&[u16]], bool); 14] = [
     (&[&[0], &[1], &[2]], true),
     (&[&[2], &[1], &[0]], true),
     (&[&[1], &[2], &[0]], true),
-    // Outside the domain, also behind an entry within it.
+    // Outside the domain, also after an entry within it.
     (&[&[3]], false),
     (&[&[0], &[3]], false),
     // Other numbers of arguments.
@@ -91,7 +93,7 @@ fn push_functions(
     Ok(())
 }
 
-/// Whether functions of one kind over these domains fit, behind so many over universe 0.
+/// Whether functions of one kind over these domains fit, after `before` over universe 0.
 fn domains_fit(
     alloc: Global,
     kind: FunctionKind,
@@ -159,7 +161,7 @@ fn the_last_location_and_list(rt: HostRuntime) -> Result<(), Fail> {
     Ok(())
 }
 
-/// Whether so many universes fit.
+/// Whether `count` universes fit.
 fn universes_fit(alloc: Global, count: usize) -> Result<bool, AllocError> {
     let mut universes = Vec::new(alloc);
     for _ in 0..count {
@@ -175,7 +177,7 @@ fn as_many_universes_as_fit(rt: HostRuntime) -> Result<(), Fail> {
     Ok(())
 }
 
-/// Whether so many functions fit.
+/// Whether `count` functions fit.
 fn functions_fit(alloc: Global, count: usize) -> Result<bool, AllocError> {
     let mut functions = Vec::new(alloc);
     for _ in 0..count {
@@ -191,7 +193,8 @@ fn as_many_functions_as_fit(rt: HostRuntime) -> Result<(), Fail> {
     Ok(())
 }
 
-/// Whether a table over the numbers from 0 to 2 fits, which has the value 5 for these lists of numbers.
+/// Whether a table over the numbers from 0 to 2 fits, which has the value 5 for these lists of
+/// numbers.
 fn table_fits(alloc: Global, lists: &[&[u16]]) -> Result<bool, AllocError> {
     let mut entries = Vec::new(alloc);
     for list in lists {

@@ -125,7 +125,8 @@ static TWO_UNIVERSES: [Numbered; 8] = [
     (0, &[Plain::Number(1)], 6, false),
 ];
 
-/// Whether a function over two universes has a location for each pair of their values, and a stray one.
+/// Whether a function over two universes has a location for each pair of their values, and a stray
+/// one.
 fn numbers_two_universes(alloc: Global) -> Result<bool, Fail> {
     let universes = vec![in alloc;
         Universe::range(Number { value: 0 }, Number { value: 1 }),

@@ -1,6 +1,6 @@
 //! Universes, and positions in them.
 use asm_state::element::Element;
-use asm_state::number::{GREATEST, Number};
+use asm_state::number::{MAX_NUMBER, Number};
 use asm_state::universe::Universe;
 use asm_state::value::Value;
 use asm_state::word::Word;
@@ -32,7 +32,7 @@ fn numbers_of_a_range(rt: HostRuntime) {
 
 #[test]
 fn the_least_number_alone(rt: HostRuntime) {
-    let least = Number { value: -GREATEST };
+    let least = Number { value: -MAX_NUMBER };
     let universe = Universe::range(least, least);
     assert_eq!(rt; universe.size(), 1);
     assert!(rt; universe.element(0) == Word::of(Value::Number(least)));

@@ -1,6 +1,6 @@
 //! Codes of values.
-use asm_state::element::{ELEMENTS, Element};
-use asm_state::number::{GREATEST, Number};
+use asm_state::element::{Element, MAX_ELEMENTS};
+use asm_state::number::{MAX_NUMBER, Number};
 use asm_state::value::Value;
 use asm_state::word::Word;
 
@@ -10,10 +10,10 @@ fn code_edges(rt: HostRuntime) {
         (Value::Undef, 1),
         (Value::Truth(false), 2),
         (Value::Truth(true), 3),
-        (Value::Number(Number { value: -GREATEST }), 4),
+        (Value::Number(Number { value: -MAX_NUMBER }), 4),
         (Value::Number(Number { value: 0 }), 100_000_000_000_000_004),
         (
-            Value::Number(Number { value: GREATEST }),
+            Value::Number(Number { value: MAX_NUMBER }),
             200_000_000_000_000_004,
         ),
         (
@@ -22,7 +22,7 @@ fn code_edges(rt: HostRuntime) {
         ),
         (
             Value::Element(Element {
-                index: ELEMENTS - 1,
+                index: MAX_ELEMENTS - 1,
             }),
             200_000_000_000_262_148,
         ),
@@ -38,7 +38,7 @@ fn code_edges(rt: HostRuntime) {
 
 #[test]
 fn the_largest_number(rt: HostRuntime) {
-    assert_eq!(rt; GREATEST, 100_000_000_000_000_000);
+    assert_eq!(rt; MAX_NUMBER, 100_000_000_000_000_000);
 }
 
 #[test]

@@ -70,7 +70,7 @@ fn put_by_two<R: Threads + Sync>(
     )
 }
 
-/// What four threads put, two of which are started by each of two.
+/// What four threads put, two of them started by each of two.
 fn summary_of_four<R: Threads + Sync>(
     rt: &R,
     alloc: Global,

@@ -3,7 +3,7 @@ ghost use Rattle.std.specs.Prelude.{◌≡◌, ◌<◌};
 
 use super::*;
 
-/// So many locations there are.
+/// How many locations there are.
 const ALL: usize = 8192;
 
 /// Adds 40 locations that lie 200 apart, from the last one down, each with this value.
@@ -41,7 +41,7 @@ fn rises(summary: &Summary) -> bool {
     true
 }
 
-/// Whether a set that was cleared has what is added behind it, and nothing of what it had.
+/// Whether a set that was cleared has what is added after that, and nothing of what it had.
 fn serves_again(alloc: Global) -> Result<bool, AllocError> {
     let mut summary = Summary::new(alloc, ALL);
     add_apart(&mut summary, 7, ONE)?;

@@ -47,7 +47,8 @@ fn the_first_clash_is_the_one_at_the_least_location(rt: HostRuntime) -> Result<(
     Ok(())
 }
 
-/// Whether a set of proper locations has no fault until a union gives one of them a second value, and none once a later set has replaced it.
+/// Whether a set of proper locations has no fault until a union gives one of them a second value,
+/// and none once a later set has replaced it.
 fn clashes_by_union(alloc: Global) -> Result<bool, Fail> {
     let signature = signature_of_two(alloc)?;
     let (one, two) = (value(ONE), value(TWO));
@@ -63,7 +64,7 @@ fn clashes_by_union(alloc: Global) -> Result<bool, Fail> {
         high: two,
     };
     let clashes = first.first_fault(&signature) == Some(clash);
-    first.then(&second)?;
+    first.merge_with(&second)?;
     Ok(has_no_fault && clashes && first.first_fault(&signature) == None)
 }
 
@@ -73,7 +74,8 @@ fn a_union_of_proper_locations_clashes(rt: HostRuntime) -> Result<(), Fail> {
     Ok(())
 }
 
-/// Whether a union with a set that names a stray location has its fault, and so has a turbo merge with it.
+/// Whether a union with a set that names a stray location has its fault, and so has a turbo merge
+/// with it.
 fn strays_by_union(alloc: Global) -> Result<bool, Fail> {
     let signature = signature_of_two(alloc)?;
     let one = value(ONE);
@@ -84,7 +86,7 @@ fn strays_by_union(alloc: Global) -> Result<bool, Fail> {
     merged.add_proper(2, one)?;
     stray.add(4, one, one)?;
     united.union(&stray)?;
-    merged.then(&stray)?;
+    merged.merge_with(&stray)?;
     let outside = Some(Fault::Outside { function: 0 });
     Ok(united.first_fault(&signature) == outside && merged.first_fault(&signature) == outside)
 }

@@ -1,4 +1,5 @@
-//! Summaries where a call may be refused for want of memory. The tests say more where it is: `rt try --test --fail-alloc N`.
+//! Summaries for which a call may find no memory. The tests say more if it does:
+//! `rt try --test --fail-alloc N`.
 ghost use Rattle.std.specs.Prelude.{◌≡◌, ◌<◌};
 
 use super::*;
@@ -16,7 +17,7 @@ fn are_alike(a: &Summary, b: &Summary) -> bool {
     a.len() == b.len()
 }
 
-/// Adds a location. The answer is whether it is there, or a refusal left the entries as they were.
+/// Adds a location. The result is whether it is there, or a refusal left the entries as they were.
 fn adds_or_leaves(alloc: Global, summary: &mut Summary, n: usize) -> Result<bool, AllocError>
     requires { n < summary.old.count }
     ensures { summary.new.count ≡ summary.old.count }
@@ -63,7 +64,7 @@ fn a_refused_union_leaves_the_entries(rt: HostRuntime) -> Result<(), Fail> {
 fn merges_or_leaves(alloc: Global) -> Result<bool, AllocError> {
     let mut summary = earlier(alloc)?;
     let before = summary.copy(alloc)?;
-    let merged = summary.then(&evens(alloc)?);
+    let merged = summary.merge_with(&evens(alloc)?);
     Ok(merged.is_ok() || are_alike(&summary, &before))
 }
 

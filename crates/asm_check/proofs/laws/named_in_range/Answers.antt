@@ -1,4 +1,4 @@
-use Rattle.asm_check.proofs.Readers.{named_in_range}
+use Rattle.asm_check.proofs.CheckedCalls.{named_in_range}
 use Rattle.asm_check.proofs.laws.named_in_range.Goals as goal
 
 pub returns : goal.returns

@@ -1,4 +1,4 @@
-use Rattle.asm_check.proofs.NumberedBodies.{numbered_domains_are_few}
+use Rattle.asm_check.proofs.NumberLemmas.NumberedBodies.{numbered_domains_are_few}
 use Rattle.asm_check.proofs.laws.numbered_domains_are_few.Goals as goal
 
 pub returns : goal.returns

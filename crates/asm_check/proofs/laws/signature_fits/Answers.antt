@@ -1,4 +1,4 @@
-use Rattle.asm_check.proofs.ShapeFits.{signature_fits}
+use Rattle.asm_check.proofs.NumberLemmas.ShapeFits.{signature_fits}
 use Rattle.asm_check.proofs.laws.signature_fits.Goals as goal
 
 pub returns : goal.returns

@@ -1,4 +1,4 @@
-use Rattle.asm_check.proofs.Collecting.{terms_are_counted}
+use Rattle.asm_check.proofs.UseLemmas.CollectorSteps.{terms_are_counted}
 use Rattle.asm_check.proofs.laws.terms_are_counted.Goals as goal
 
 pub returns : goal.returns

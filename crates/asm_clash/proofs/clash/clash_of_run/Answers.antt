@@ -1,13 +1,13 @@
 use Rattle.std.proofs.Common.{◌≡◌, ◌+◌, ◌∙◌, sym, ap, subst}
 use Rattle.asm_state.specs.Signature.{Shape, count_of, initial_state, state_of}
 use Rattle.asm_reader.specs.ScriptLines.{pick}
-use Rattle.asm_syntax.specs.Views.{spec_of}
+use Rattle.asm_syntax.specs.code.Views.{spec_of}
 use Rattle.asm_check.specs.Shapes.{shape_of}
 use Rattle.asm_meaning.specs.Declarations.{specification_of}
-use Rattle.asm_code.specs.RuleMeaning.{IsSoundRule}
-use Rattle.asm_code.specs.RuleViews.{rule_of}
-use Rattle.asm_clash.specs.ClashOfRun.{IsMade}
-use Rattle.asm_clash.specs.declared.step.Made.TheVariants as made
+use Rattle.asm_code.specs.code.RuleMeaning.{IsSoundRule}
+use Rattle.asm_code.specs.code.RuleViews.{rule_of}
+use Rattle.asm_clash.specs.ClashOfRun.{IsStepEnd}
+use Rattle.asm_clash.specs.declared.step_end.StepEnd.TheVariants as made
 use Rattle.asm_clash.proofs.Runs.{rest_begin}
 use Rattle.asm_clash.proofs.Steps.{goes_on, ends_exhausted, ends_faulty}
 use Rattle.asm_clash.proofs.clash.clash_of_run.Goals as goal
@@ -23,11 +23,11 @@ loop-done-init c =
           (subst (λ (sh : Shape). state_of sh c.in_ok-state.state ≡ initial_state sh) same c.in_ok-state.ensures.initial);
     }
 
-pub made_by_step-requires-clause-whole : goal.made_by_step-requires-clause-whole
-made_by_step-requires-clause-whole c = c.loop-done.invariant.whole ∙ ap count_of (sym c.signature-signature.ensures)
+pub step_end_from-requires-clause-whole : goal.step_end_from-requires-clause-whole
+step_end_from-requires-clause-whole c = c.loop-done.invariant.whole ∙ ap count_of (sym c.signature-signature.ensures)
 
-pub made_by_step-requires-clause-sound : goal.made_by_step-requires-clause-sound
-made_by_step-requires-clause-sound c = subst (λ (sh : Shape). IsSoundRule sh (rule_of c.in_ok-main.main)) (sym c.signature-signature.ensures) c.in_ok-main.ensures.sound
+pub step_end_from-requires-clause-sound : goal.step_end_from-requires-clause-sound
+step_end_from-requires-clause-sound c = subst (λ (sh : Shape). IsSoundRule sh (rule_of c.in_ok-main.main)) (sym c.signature-signature.ensures) c.in_ok-main.ensures.sound
 
 pub returns-in-Exhausted : goal.returns-in-Exhausted
 returns-in-Exhausted c =
@@ -36,11 +36,11 @@ returns-in-Exhausted c =
     let l = c.loop-done in
     let chosen = pick a.script.now (c.from-step.result + 1) in
     let R = rule_of c.in_ok-main.main in
-    let there : IsMade (shape_of s) a.turns chosen R (state_of (shape_of s) l.state) c.in_ok-made.made =
-    subst (λ (sh : Shape). IsMade sh a.turns chosen R (state_of sh l.state) c.in_ok-made.made) c.signature-signature.ensures c.in_ok-made.ensures in
+    let there : IsStepEnd (shape_of s) a.turns chosen R (state_of (shape_of s) l.state) c.in_ok-step_end.step_end =
+    subst (λ (sh : Shape). IsStepEnd sh a.turns chosen R (state_of sh l.state) c.in_ok-step_end.step_end) c.signature-signature.ensures c.in_ok-step_end.ensures in
     ends_exhausted c.resolving_laws.ensures s a.turns a.script.now a.steps l.done (c.from-step.result + 1) (state_of (shape_of s) l.state) R c.in_ok-main.ensures
     (ap (λ k. k + 1) c.from-step.ensures) c.loop-done-test.true l.invariant.rest c.in-Exhausted.path
-    (subst (IsMade (shape_of s) a.turns chosen R (state_of (shape_of s) l.state)) c.in-Exhausted.is there)
+    (subst (IsStepEnd (shape_of s) a.turns chosen R (state_of (shape_of s) l.state)) c.in-Exhausted.is there)
 
 pub returns-in-Faulty : goal.returns-in-Faulty
 returns-in-Faulty c =
@@ -49,11 +49,11 @@ returns-in-Faulty c =
     let l = c.loop-done in
     let chosen = pick a.script.now (c.from-step.result + 1) in
     let R = rule_of c.in_ok-main.main in
-    let there : IsMade (shape_of s) a.turns chosen R (state_of (shape_of s) l.state) c.in_ok-made.made =
-    subst (λ (sh : Shape). IsMade sh a.turns chosen R (state_of sh l.state) c.in_ok-made.made) c.signature-signature.ensures c.in_ok-made.ensures in
+    let there : IsStepEnd (shape_of s) a.turns chosen R (state_of (shape_of s) l.state) c.in_ok-step_end.step_end =
+    subst (λ (sh : Shape). IsStepEnd sh a.turns chosen R (state_of sh l.state) c.in_ok-step_end.step_end) c.signature-signature.ensures c.in_ok-step_end.ensures in
     ends_faulty c.resolving_laws.ensures s a.turns a.script.now a.steps l.done (c.from-step.result + 1) (state_of (shape_of s) l.state) R c.in_ok-main.ensures
     (ap (λ k. k + 1) c.from-step.ensures) c.loop-done-test.true l.invariant.rest c.in-Faulty.fault c.in-Faulty.assignments
-    (subst (IsMade (shape_of s) a.turns chosen R (state_of (shape_of s) l.state)) c.in-Faulty.is there)
+    (subst (IsStepEnd (shape_of s) a.turns chosen R (state_of (shape_of s) l.state)) c.in-Faulty.is there)
 
 pub loop-done-preserved : goal.loop-done-preserved
 loop-done-preserved c =
@@ -63,10 +63,10 @@ loop-done-preserved c =
     let l = c.loop-done in
     let chosen = pick a.script.now (c.from-step.result + 1) in
     let R = rule_of c.in_ok-main.main in
-    let there : IsMade shape a.turns chosen R (state_of shape l.state) c.in_ok-made.made =
-    subst (λ (sh : Shape). IsMade sh a.turns chosen R (state_of sh l.state) c.in_ok-made.made) c.signature-signature.ensures c.in_ok-made.ensures in
-    let on : IsMade shape a.turns chosen R (state_of shape l.state) (made.Consistent c.in-Consistent.set) =
-    subst (IsMade shape a.turns chosen R (state_of shape l.state)) c.in-Consistent.is there in
+    let there : IsStepEnd shape a.turns chosen R (state_of shape l.state) c.in_ok-step_end.step_end =
+    subst (λ (sh : Shape). IsStepEnd sh a.turns chosen R (state_of sh l.state) c.in_ok-step_end.step_end) c.signature-signature.ensures c.in_ok-step_end.ensures in
+    let on : IsStepEnd shape a.turns chosen R (state_of shape l.state) (made.Consistent c.in-Consistent.set) =
+    subst (IsStepEnd shape a.turns chosen R (state_of shape l.state)) c.in-Consistent.is there in
     record {
       whole = c.fire_into.ensures.len ∙ l.invariant.whole;
       rest = goes_on c.resolving_laws.ensures s a.turns a.script.now a.steps l.done (c.from-step.result + 1) (state_of shape l.state) R c.in_ok-main.ensures

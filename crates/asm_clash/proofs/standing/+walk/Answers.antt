@@ -2,20 +2,20 @@ use Rattle.std.proofs.Common.{rules, ◌≡◌, ◌<◌, ◌∙◌, ◌++◌, Li
 use Rattle.std.specs.Prelude.{IfOk}
 use Rattle.asm_state.specs.Signature.{location_at}
 use Rattle.asm_state.specs.Updates.{fire}
-use Rattle.asm_meaning.specs.Formed.{IsFormed}
-use Rattle.asm_meaning.specs.Valued.{shown}
+use Rattle.asm_meaning.specs.code.FormedOutcomes.{IsFormed}
+use Rattle.asm_meaning.specs.code.TermValues.{shown}
 use Rattle.asm_meaning.specs.Yields.{at}
-use Rattle.asm_code.specs.RuleMeaning.{meaning}
-use Rattle.asm_code.specs.RuleViews.{rule_of}
-use Rattle.asm_eval.specs.Frames.{readings_of}
-use Rattle.asm_eval.specs.Opening.{work_of}
-use Rattle.asm_eval.specs.Running.{chosen_at, places_of, shape_at, state_at}
-use Rattle.asm_clash.specs.Walks.{all_assigned}
+use Rattle.asm_code.specs.code.RuleMeaning.{meaning}
+use Rattle.asm_code.specs.code.RuleViews.{rule_of}
+use Rattle.asm_eval.specs.code.Frames.{readings_of}
+use Rattle.asm_eval.specs.code.Opening.{work_of}
+use Rattle.asm_eval.specs.code.Evaluation.{evaluation_choices, frame_locations, evaluation_shape, evaluation_state}
+use Rattle.asm_clash.specs.code.StandingRules.{all_assigned}
 use Rattle.asm_clash.specs.declared.assignment.Assignment.{Assignment}
 use Rattle.asm_clash.proofs.ClosedRules.{assign_here, seq_here, other_here, closed_here, pieces_here, piece_here, sound_part, size_of_part}
 use Rattle.asm_clash.proofs.OpenedRules.{works_stand}
-use Rattle.asm_clash.proofs.Upon.{next_set}
-use Rattle.asm_clash.proofs.Walked.{order_begin, order_none, order_off, order_on, order_finish, turns_start, turn_none, turn_off, turn_on}
+use Rattle.asm_clash.proofs.NextParts.{next_set}
+use Rattle.asm_clash.proofs.StandingSequences.{order_begin, order_none, order_off, order_on, order_finish, turns_start, turn_none, turn_off, turn_on}
 use Rattle.asm_clash.proofs.standing.+walk.Goals as goal
 
 -- ---- pieces
@@ -23,18 +23,18 @@ use Rattle.asm_clash.proofs.standing.+walk.Goals as goal
 pub standing_in-loop-i-init : goal.standing_in-loop-i-init
 standing_in-loop-i-init g t c =
     let a = c.args in
-    let r = a.running.now in
-    let shape = shape_at r in
+    let r = a.evaluation.now in
+    let shape = evaluation_shape r in
     let l = location_at shape a.n in
     let pieces = c.in-Pieces.pieces in
     (pieces_here r a.piece.now c.requires.whole _ _ c.in_ok-pieces.ensures l pieces c.in-Pieces.instances c.in-Pieces.is c.cut_of-cut.ensures.long).0
-    ∙ ap (λ (found : List Assignment). all_assigned found ++ works_stand shape r.turns (chosen_at r) l (state_at r) (map (work_of shape) pieces.items)) (sym c.new-all.ensures.items)
+    ∙ ap (λ (found : List Assignment). all_assigned found ++ works_stand shape r.turns (evaluation_choices r) l (evaluation_state r) (map (work_of shape) pieces.items)) (sym c.new-all.ensures.items)
 
 pub standing_in-standing_in-requires : goal.standing_in-standing_in-requires
 standing_in-standing_in-requires g t c κs within =
     let a = c.args in
-    let r = a.running.now in
-    let l = location_at (shape_at r) a.n in
+    let r = a.evaluation.now in
+    let l = location_at (evaluation_shape r) a.n in
     let pieces = c.in-Pieces.pieces in
     let low : c.loop-i.i < length pieces.items = omega (arith, c.loop-i-test.true, c.len-i-end.ensures, pieces.ok) in
     let one = piece_here r a.piece.now c.requires.whole _ _ c.in_ok-pieces.ensures l pieces c.in-Pieces.instances c.in-Pieces.is c.cut_of-cut.ensures.long c.loop-i.i c.index.result.now low c.index.ensures in
@@ -43,34 +43,34 @@ standing_in-standing_in-requires g t c κs within =
 pub standing_in-returns-in-Assign : goal.standing_in-returns-in-Assign
 standing_in-returns-in-Assign g t c =
     let a = c.args in
-    let r = a.running.now in
-    let shape = shape_at r in
+    let r = a.evaluation.now in
+    let shape = evaluation_shape r in
     let l = location_at shape a.n in
     subst (λ xs. IfOk c.assigned.result (λ (found : Vec Assignment Global). all_assigned found.items ≡ xs))
-    (assign_here shape r.turns (chosen_at r) l (readings_of shape a.piece.now.frame) (places_of shape a.piece.now.frame) (state_at r) a.piece.now.path c.as_slice-path.result.now c.as_slice-path.ensures
+    (assign_here shape r.turns (evaluation_choices r) l (readings_of shape a.piece.now.frame) (frame_locations shape a.piece.now.frame) (evaluation_state r) a.piece.now.path c.as_slice-path.result.now c.as_slice-path.ensures
     a.piece.now.rule.now c.in-Assign.place c.in-Assign.value c.in-Assign.is)
     c.assigned.ensures
 
 pub standing_in-returns-in-Seq : goal.standing_in-returns-in-Seq
 standing_in-returns-in-Seq g t c =
     let a = c.args in
-    let r = a.running.now in
-    let shape = shape_at r in
+    let r = a.evaluation.now in
+    let shape = evaluation_shape r in
     let l = location_at shape a.n in
     subst (λ xs. IfOk c.standing_in_order.result (λ (found : Vec Assignment Global). all_assigned found.items ≡ xs))
-    (seq_here shape r.turns (chosen_at r) l (readings_of shape a.piece.now.frame) (places_of shape a.piece.now.frame) (state_at r) a.piece.now.path c.as_slice-path.result.now c.as_slice-path.ensures
+    (seq_here shape r.turns (evaluation_choices r) l (readings_of shape a.piece.now.frame) (frame_locations shape a.piece.now.frame) (evaluation_state r) a.piece.now.path c.as_slice-path.result.now c.as_slice-path.ensures
     a.piece.now.rule.now c.in-Seq.parts c.in-Seq.is c.as_slice.result.now c.as_slice.ensures.value)
     c.standing_in_order.ensures
 
 pub standing_in-returns-in_default : goal.standing_in-returns-in_default
 standing_in-returns-in_default g t c =
     let a = c.args in
-    let r = a.running.now in
-    let shape = shape_at r in
+    let r = a.evaluation.now in
+    let shape = evaluation_shape r in
     let l = location_at shape a.n in
     let closed = closed_here r a.piece.now c.requires.whole _ _ c.in_ok-pieces.ensures (c.opening_laws.ensures r) c.requires.piece c.in-Closed.is c.cut_of-cut.ensures.some in
     ap all_assigned c.new.ensures.items
-    ∙ other_here shape r.turns (chosen_at r) l (readings_of shape a.piece.now.frame) (places_of shape a.piece.now.frame) (state_at r) a.piece.now.path a.piece.now.path refl
+    ∙ other_here shape r.turns (evaluation_choices r) l (readings_of shape a.piece.now.frame) (frame_locations shape a.piece.now.frame) (evaluation_state r) a.piece.now.path a.piece.now.path refl
     a.piece.now.rule.now closed c.in_default.not-Assign c.in_default.not-Seq c.in_default.not-Iterate
 
 -- ---- parts in order
@@ -78,12 +78,12 @@ standing_in-returns-in_default g t c =
 pub standing_in_order-loop-i-init : goal.standing_in_order-loop-i-init
 standing_in_order-loop-i-init g t c =
     let a = c.args in
-    let r = a.running.now in
-    let shape = shape_at r in
+    let r = a.evaluation.now in
+    let shape = evaluation_shape r in
     let l = location_at shape a.n in
     record {
       counted = c.new-so_far.ensures.count ∙ c.count.ensures.count;
-      walked = order_begin shape r.turns (chosen_at r) l (readings_of shape a.frame.now) (places_of shape a.frame.now) a.path.now (state_at r) a.parts.now
+      walked = order_begin shape r.turns (evaluation_choices r) l (readings_of shape a.frame.now) (frame_locations shape a.frame.now) a.path.now (evaluation_state r) a.parts.now
           (all_assigned c.new-found.result.items) c.new-so_far.result (ap all_assigned c.new-found.ensures.items) (c.new-so_far.ensures.empty shape c.count.ensures.sound c.count.ensures.count);
     }
 
@@ -92,29 +92,29 @@ standing_in_order-standing_next-requires g t c κs within =
     let a = c.args in
     let l = c.loop-i in
     let small = size_of_part a.parts.now l.i c.index-parts-i.result c.loop-i-test.true c.index-parts-i.is in
-    (omega (arith, c.decreases, small), (search rules, (sound_part (shape_at a.running.now) a.parts.now l.i c.index-parts-i.result c.loop-i-test.true c.index-parts-i.is c.requires.sound, (c.requires.framed, (c.requires.number, l.invariant.counted)))))
+    (omega (arith, c.decreases, small), (search rules, (sound_part (evaluation_shape a.evaluation.now) a.parts.now l.i c.index-parts-i.result c.loop-i-test.true c.index-parts-i.is c.requires.sound, (c.requires.framed, (c.requires.number, l.invariant.counted)))))
 
 pub standing_in_order-returns-in_default : goal.standing_in_order-returns-in_default
 standing_in_order-returns-in_default g t c =
     let a = c.args in
-    let r = a.running.now in
-    let shape = shape_at r in
+    let r = a.evaluation.now in
+    let shape = evaluation_shape r in
     let l = location_at shape a.n in
     let i = c.loop-i in
     let under = i.invariant.walked in
-    order_none shape r.turns (chosen_at r) l (readings_of shape a.frame.now) (places_of shape a.frame.now) a.path.now (state_at r) a.parts.now
+    order_none shape r.turns (evaluation_choices r) l (readings_of shape a.frame.now) (frame_locations shape a.frame.now) a.path.now (evaluation_state r) a.parts.now
     i.i c.index-parts-i.result c.loop-i-test.true c.index-parts-i.is (all_assigned i.found.items) i.so_far under
     _ (all_assigned c.standing_next.new.found.items) c.standing_next.new.so_far (c.in_ok-next.ensures.next under.set under.stands under.consistent) c.in_default.not-Some
 
 pub standing_in_order-returns-then-ends_parts : goal.standing_in_order-returns-then-ends_parts
 standing_in_order-returns-then-ends_parts g t c =
     let a = c.args in
-    let r = a.running.now in
-    let shape = shape_at r in
+    let r = a.evaluation.now in
+    let shape = evaluation_shape r in
     let l = location_at shape a.n in
     let i = c.loop-i in
     let under = i.invariant.walked in
-    order_off shape r.turns (chosen_at r) l (readings_of shape a.frame.now) (places_of shape a.frame.now) a.path.now (state_at r) a.parts.now
+    order_off shape r.turns (evaluation_choices r) l (readings_of shape a.frame.now) (frame_locations shape a.frame.now) a.path.now (evaluation_state r) a.parts.now
     i.i c.index-parts-i.result c.loop-i-test.true c.index-parts-i.is (all_assigned i.found.items) i.so_far under
     _ (all_assigned c.standing_next.new.found.items) c.standing_next.new.so_far (c.in_ok-next.ensures.next under.set under.stands under.consistent)
     c.in-Some.part c.in-Some.is (sym c.ends_parts.ensures ∙ c.if-ends_parts.true)
@@ -122,14 +122,14 @@ standing_in_order-returns-then-ends_parts g t c =
 pub standing_in_order-loop-i-preserved : goal.standing_in_order-loop-i-preserved
 standing_in_order-loop-i-preserved g t c =
     let a = c.args in
-    let r = a.running.now in
-    let shape = shape_at r in
+    let r = a.evaluation.now in
+    let shape = evaluation_shape r in
     let l = location_at shape a.n in
     let i = c.loop-i in
     let under = i.invariant.walked in
     record {
       counted = c.in_ok-next.ensures.count ∙ i.invariant.counted;
-      walked = order_on shape r.turns (chosen_at r) l (readings_of shape a.frame.now) (places_of shape a.frame.now) a.path.now (state_at r) a.parts.now
+      walked = order_on shape r.turns (evaluation_choices r) l (readings_of shape a.frame.now) (frame_locations shape a.frame.now) a.path.now (evaluation_state r) a.parts.now
           i.i c.index-parts-i.result c.loop-i-test.true c.index-parts-i.is (all_assigned i.found.items) i.so_far under
           _ (all_assigned c.standing_next.new.found.items) c.standing_next.new.so_far (c.in_ok-next.ensures.next under.set under.stands under.consistent)
           c.in-Some.part c.in-Some.is (sym c.ends_parts.ensures ∙ c.if-ends_parts.false);
@@ -138,11 +138,11 @@ standing_in_order-loop-i-preserved g t c =
 pub standing_in_order-returns : goal.standing_in_order-returns
 standing_in_order-returns g t c =
     let a = c.args in
-    let r = a.running.now in
-    let shape = shape_at r in
+    let r = a.evaluation.now in
+    let shape = evaluation_shape r in
     let l = location_at shape a.n in
     let i = c.loop-i in
-    order_finish shape r.turns (chosen_at r) l (readings_of shape a.frame.now) (places_of shape a.frame.now) a.path.now (state_at r) a.parts.now
+    order_finish shape r.turns (evaluation_choices r) l (readings_of shape a.frame.now) (frame_locations shape a.frame.now) a.path.now (evaluation_state r) a.parts.now
     i.i (all_assigned i.found.items) i.so_far i.invariant.walked (omega (arith, c.loop-i-test.false))
 
 -- ---- turns
@@ -150,36 +150,36 @@ standing_in_order-returns g t c =
 pub standing_in_turns-loop-turn-init : goal.standing_in_turns-loop-turn-init
 standing_in_turns-loop-turn-init g t c =
     let a = c.args in
-    let r = a.running.now in
-    let shape = shape_at r in
+    let r = a.evaluation.now in
+    let shape = evaluation_shape r in
     let l = location_at shape a.n in
     record {
       counted = c.new-so_far.ensures.count ∙ c.count.ensures.count;
-      walked = turns_start shape r.turns (chosen_at r) l (readings_of shape a.frame.now) (places_of shape a.frame.now) a.path.now (state_at r) (rule_of a.body.now)
+      walked = turns_start shape r.turns (evaluation_choices r) l (readings_of shape a.frame.now) (frame_locations shape a.frame.now) a.path.now (evaluation_state r) (rule_of a.body.now)
           (all_assigned c.new-found.result.items) c.new-so_far.result (ap all_assigned c.new-found.ensures.items) (c.new-so_far.ensures.empty shape c.count.ensures.sound c.count.ensures.count);
     }
 
 pub standing_in_turns-returns-in_default : goal.standing_in_turns-returns-in_default
 standing_in_turns-returns-in_default g t c =
     let a = c.args in
-    let r = a.running.now in
-    let shape = shape_at r in
+    let r = a.evaluation.now in
+    let shape = evaluation_shape r in
     let l = location_at shape a.n in
     let i = c.loop-turn in
     let under = i.invariant.walked in
-    turn_none shape r.turns (chosen_at r) l (readings_of shape a.frame.now) (places_of shape a.frame.now) a.path.now (state_at r) (rule_of a.body.now)
+    turn_none shape r.turns (evaluation_choices r) l (readings_of shape a.frame.now) (frame_locations shape a.frame.now) a.path.now (evaluation_state r) (rule_of a.body.now)
     i.turn c.from-number.result c.loop-turn-test.true c.from-number.ensures (all_assigned i.found.items) i.so_far under
     _ (all_assigned c.standing_next.new.found.items) c.standing_next.new.so_far (c.in_ok-next.ensures.next under.set under.stands under.consistent) c.in_default.not-Some
 
 pub standing_in_turns-returns-then-ends_turns : goal.standing_in_turns-returns-then-ends_turns
 standing_in_turns-returns-then-ends_turns g t c =
     let a = c.args in
-    let r = a.running.now in
-    let shape = shape_at r in
+    let r = a.evaluation.now in
+    let shape = evaluation_shape r in
     let l = location_at shape a.n in
     let i = c.loop-turn in
     let under = i.invariant.walked in
-    turn_off shape r.turns (chosen_at r) l (readings_of shape a.frame.now) (places_of shape a.frame.now) a.path.now (state_at r) (rule_of a.body.now)
+    turn_off shape r.turns (evaluation_choices r) l (readings_of shape a.frame.now) (frame_locations shape a.frame.now) a.path.now (evaluation_state r) (rule_of a.body.now)
     i.turn c.from-number.result c.loop-turn-test.true c.from-number.ensures (all_assigned i.found.items) i.so_far under
     _ (all_assigned c.standing_next.new.found.items) c.standing_next.new.so_far (c.in_ok-next.ensures.next under.set under.stands under.consistent)
     c.in-Some.part c.in-Some.is (sym c.ends_turns.ensures ∙ c.if-ends_turns.true)
@@ -187,14 +187,14 @@ standing_in_turns-returns-then-ends_turns g t c =
 pub standing_in_turns-loop-turn-preserved : goal.standing_in_turns-loop-turn-preserved
 standing_in_turns-loop-turn-preserved g t c =
     let a = c.args in
-    let r = a.running.now in
-    let shape = shape_at r in
+    let r = a.evaluation.now in
+    let shape = evaluation_shape r in
     let l = location_at shape a.n in
     let i = c.loop-turn in
     let under = i.invariant.walked in
     record {
       counted = c.in_ok-next.ensures.count ∙ i.invariant.counted;
-      walked = turn_on shape r.turns (chosen_at r) l (readings_of shape a.frame.now) (places_of shape a.frame.now) a.path.now (state_at r) (rule_of a.body.now)
+      walked = turn_on shape r.turns (evaluation_choices r) l (readings_of shape a.frame.now) (frame_locations shape a.frame.now) a.path.now (evaluation_state r) (rule_of a.body.now)
           i.turn c.from-number.result c.loop-turn-test.true c.from-number.ensures (all_assigned i.found.items) i.so_far under
           _ (all_assigned c.standing_next.new.found.items) c.standing_next.new.so_far (c.in_ok-next.ensures.next under.set under.stands under.consistent)
           c.in-Some.part c.in-Some.is (sym c.ends_turns.ensures ∙ c.if-ends_turns.false);
@@ -205,14 +205,14 @@ standing_in_turns-loop-turn-preserved g t c =
 pub standing_next-returns-clause-next : goal.standing_next-returns-clause-next
 standing_next-returns-clause-next g t c = λ U stands consistent.
     let a = c.args in
-    let r = a.running.now in
-    let shape = shape_at r in
+    let r = a.evaluation.now in
+    let shape = evaluation_shape r in
     let v = c.upon-view.result in
     let upper = v.signature.now in
-    let yielded = meaning upper r.turns (chosen_at r) (rule_of a.rule.now) (readings_of upper a.frame.now) (places_of upper a.frame.now) (shown v) c.in_ok-path.path in
-    next_set r.turns (chosen_at r) (rule_of a.rule.now) a.frame.now a.n shape upper c.upon-view.ensures.signature (fire (state_at r) U) (shown v) (c.upon-view.ensures.fired U stands consistent)
+    let yielded = meaning upper r.turns (evaluation_choices r) (rule_of a.rule.now) (readings_of upper a.frame.now) (frame_locations upper a.frame.now) (shown v) c.in_ok-path.path in
+    next_set r.turns (evaluation_choices r) (rule_of a.rule.now) a.frame.now a.n shape upper c.upon-view.ensures.signature (fire (evaluation_state r) U) (shown v) (c.upon-view.ensures.fired U stands consistent)
     (at a.path.now a.number) c.in_ok-path.path c.in_ok-path.ensures
-    U (all_assigned a.found.now.items) (all_assigned c.put_later.new.found.items) c.then.new.self (Some c.of-part.result)
+    U (all_assigned a.found.now.items) (all_assigned c.put_later.new.found.items) c.merge_with.new.self (Some c.of-part.result)
     c.of-part.result c.in-Set.set c.in-Set.instances (all_assigned c.in_ok-own-in-Set.own.items) refl
     (subst (IsFormed upper yielded) c.in-Set.is c.in_ok-outcome.ensures) c.in_ok-own-in-Set.ensures c.of-part.ensures
-    (λ V there. c.in_ok-then-in-Set.ensures.merge shape U V stands there) c.put_later.ensures
+    (λ V there. c.in_ok-merge_with-in-Set.ensures.merge shape U V stands there) c.put_later.ensures

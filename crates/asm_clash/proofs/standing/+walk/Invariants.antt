@@ -1,12 +1,12 @@
 use Rattle.std.proofs.Common.{◌≡◌, ◌+◌, ◌*◌, ◌++◌, map, drop}
 use Rattle.asm_state.specs.Signature.{count_of, location_at}
-use Rattle.asm_code.specs.RuleMeaning.{rule_size, rule_sizes}
-use Rattle.asm_code.specs.RuleTree as tree
-use Rattle.asm_code.specs.RuleViews.{rule_of, rules_of}
-use Rattle.asm_eval.specs.Frames.{readings_of}
-use Rattle.asm_eval.specs.Opening.{work_of}
-use Rattle.asm_eval.specs.Running.{chosen_at, places_of, shape_at, state_at}
-use Rattle.asm_clash.specs.Walks.{all_assigned, order_in, stands_at}
+use Rattle.asm_code.specs.code.RuleMeaning.{rule_size, rule_sizes}
+use Rattle.asm_code.specs.code.RuleTree as tree
+use Rattle.asm_code.specs.code.RuleViews.{rule_of, rules_of}
+use Rattle.asm_eval.specs.code.Frames.{readings_of}
+use Rattle.asm_eval.specs.code.Opening.{work_of}
+use Rattle.asm_eval.specs.code.Evaluation.{evaluation_choices, frame_locations, evaluation_shape, evaluation_state}
+use Rattle.asm_clash.specs.code.StandingRules.{all_assigned, order_in, stands_at}
 use Rattle.asm_clash.proofs.OpenedRules.{works_stand}
 use Rattle.asm_clash.proofs.Sequences.{IsWalked, order_left, turns_left}
 use Rattle.asm_clash.proofs.standing.+walk.Given as goal
@@ -30,34 +30,34 @@ decreases-standing_next g l = 5 * rule_size (rule_of l.rule.now) + 4
 -- what stands of the first pieces, and of those that are left
 abbrev pub invariant-standing_in-loop-i : goal.invariant-standing_in-loop-i
 invariant-standing_in-loop-i g l =
-    let r = l.running in
-    let shape = shape_at r in
+    let r = l.evaluation in
+    let shape = evaluation_shape r in
     let at = location_at shape l.n in
     stands_at r at l.piece.frame l.piece.path (rule_of l.piece.rule.now)
-    ≡ all_assigned l.all.items ++ works_stand shape r.turns (chosen_at r) at (state_at r) (map (work_of shape) (drop l.i l.pieces.items))
+    ≡ all_assigned l.all.items ++ works_stand shape r.turns (evaluation_choices r) at (evaluation_state r) (map (work_of shape) (drop l.i l.pieces.items))
 
 -- the sets of the parts so far, and what is left of the parts
 abbrev pub invariant-standing_in_order-loop-i : goal.invariant-standing_in_order-loop-i
 invariant-standing_in_order-loop-i g l =
-    let r = l.running in
-    let shape = shape_at r in
+    let r = l.evaluation in
+    let shape = evaluation_shape r in
     let at = location_at shape l.n in
     record {
       counted : l.so_far.count ≡ count_of shape;
-      walked : IsWalked shape (state_at r) (order_in r at l.frame l.path 0 (rules_of (map rule_of l.parts)) (state_at r))
-          (order_left shape r.turns (chosen_at r) at (readings_of shape l.frame) (places_of shape l.frame) l.path l.parts l.i)
+      walked : IsWalked shape (evaluation_state r) (order_in r at l.frame l.path 0 (rules_of (map rule_of l.parts)) (evaluation_state r))
+          (order_left shape r.turns (evaluation_choices r) at (readings_of shape l.frame) (frame_locations shape l.frame) l.path l.parts l.i)
           (all_assigned l.found.items) l.so_far;
     }
 
 -- the sets of the turns so far, and what is left of the turns
 abbrev pub invariant-standing_in_turns-loop-turn : goal.invariant-standing_in_turns-loop-turn
 invariant-standing_in_turns-loop-turn g l =
-    let r = l.running in
-    let shape = shape_at r in
+    let r = l.evaluation in
+    let shape = evaluation_shape r in
     let at = location_at shape l.n in
     record {
       counted : l.so_far.count ≡ count_of shape;
-      walked : IsWalked shape (state_at r) (stands_at r at l.frame l.path (tree.Iterate (rule_of l.body)))
-          (turns_left shape r.turns (chosen_at r) at (readings_of shape l.frame) (places_of shape l.frame) l.path (rule_of l.body) l.turn)
+      walked : IsWalked shape (evaluation_state r) (stands_at r at l.frame l.path (tree.Iterate (rule_of l.body)))
+          (turns_left shape r.turns (evaluation_choices r) at (readings_of shape l.frame) (frame_locations shape l.frame) l.path (rule_of l.body) l.turn)
           (all_assigned l.found.items) l.so_far;
     }

@@ -1,13 +1,13 @@
 use Rattle.std.proofs.Common.{sym, ap, subst, ◌∙◌, arith}
-use Rattle.asm_code.specs.Readings.{at_position}
-use Rattle.asm_eval.specs.Frames.{IsSoundFrame, load, readings_of}
-use Rattle.asm_eval.proofs.Cases.{later}
+use Rattle.asm_code.specs.code.Readings.{at_position}
+use Rattle.asm_eval.specs.code.Frames.{IsSoundFrame, frame_size, readings_of}
+use Rattle.asm_eval.proofs.ValueCases.{later}
 use Rattle.asm_eval.proofs.FramePositions.{behind_values}
 use Rattle.asm_eval.proofs.find.find.Goals as goal
 
 pub loop-rest-preserved-in-One : goal.loop-rest-preserved-in-One
 loop-rest-preserved-in-One c =
-    let same = ap load c.in-One.is in record {
+    let same = ap frame_size c.in-One.is in record {
       reading = λ shape. sym (later _ _ c.loop-rest.left c.if-left-eq0.false) ∙ ap (λ f. at_position (readings_of shape f) c.loop-rest.left) (sym c.in-One.is) ∙ c.loop-rest.invariant.reading shape;
       sound = λ shape s. subst (IsSoundFrame shape) c.in-One.is (c.loop-rest.invariant.sound shape s);
       load = omega (arith, c.loop-rest.invariant.load, same);
@@ -15,7 +15,7 @@ loop-rest-preserved-in-One c =
 
 pub loop-rest-preserved : goal.loop-rest-preserved
 loop-rest-preserved c =
-    let same = ap load c.in-Values.is in
+    let same = ap frame_size c.in-Values.is in
     let past = c.in_default.ensures.lookup in record {
       reading = λ shape. behind_values c.in-Values.values.now (readings_of shape c.in-Values.outer.now) c.loop-rest.left (omega (arith, past))
           ∙ ap (λ f. at_position (readings_of shape f) c.loop-rest.left) (sym c.in-Values.is) ∙ c.loop-rest.invariant.reading shape;

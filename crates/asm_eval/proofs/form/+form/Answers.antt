@@ -2,151 +2,151 @@ use Rattle.std.proofs.Common.{◌≡◌, ℕ, ◌∷◌, Some, None, sym, ap, su
 use Rattle.std.specs.Prelude.{Ok, option_map}
 use Rattle.asm_state.specs.Signature.{Shape, location_at}
 use Rattle.asm_state.specs.Updates.{one}
-use Rattle.asm_updates.specs.Entries.{Entries}
+use Rattle.asm_updates.specs.code.SummaryRanges.{SummaryRanges}
 use Rattle.asm_state.specs.Words.{value_of_code}
 use Rattle.asm_meaning.specs.Does.{Outcome}
-use Rattle.asm_meaning.specs.Formed.{Follows, Forms, GoesOn}
+use Rattle.asm_meaning.specs.code.FormedOutcomes.{Follows, Forms, IsMergedPart}
 use Rattle.asm_meaning.specs.Taken.{taken}
-use Rattle.asm_meaning.specs.Valued.{shown}
+use Rattle.asm_meaning.specs.code.TermValues.{shown}
 use Rattle.asm_meaning.specs.declared.outcome.Forming.{Forming}
 use Rattle.asm_meaning.specs.Yields.{Path, at, Exhausted}
-use Rattle.asm_meaning.proofs.Following.{following_laws-same as follows_same, following_laws-nothing as follows_nothing, following_laws-both as follows_both, following_laws-counted as follows_counted, following_laws-stopped as follows_stopped, following_laws-forms_same as forms_same}
+use Rattle.asm_meaning.proofs.FollowsLaws.{following_laws-same as follows_same, following_laws-nothing as follows_nothing, following_laws-both as follows_both, following_laws-counted as follows_counted, following_laws-stopped as follows_stopped, following_laws-forms_same as forms_same}
 use Rattle.asm_meaning.proofs.Sequences.{sequence_laws-begins as begins, sequence_laws-goes_upon as goes_upon, part_laws-consistent_part as consistent_part, part_laws-ending_part as ending_part, part_laws-some_turn as some_turn, part_laws-consistent_turn as consistent_turn, part_laws-ending_turn as ending_turn, stopping_laws-memory as stopped_for_memory}
-use Rattle.asm_code.specs.CodeViews.{code_of}
-use Rattle.asm_eval.specs.Frames.{readings_of}
+use Rattle.asm_code.specs.code.CodeViews.{code_of}
+use Rattle.asm_eval.specs.code.Frames.{readings_of}
 use Rattle.asm_reader.specs.declared.picks.Picks.{Ghosts}
 use Rattle.asm_state.specs.declared.value.Value.{Value}
 use Rattle.asm_code.specs.declared.rule_code.RuleCode.{RuleCode}
-use Rattle.asm_code.specs.Readings.{always, universe_at}
-use Rattle.asm_code.specs.RuleMeaning.{meaning}
-use Rattle.asm_code.specs.RuleTree as tree
-use Rattle.asm_code.specs.RuleViews.{rule_of}
+use Rattle.asm_code.specs.code.Readings.{always, universe_at}
+use Rattle.asm_code.specs.code.RuleMeaning.{meaning}
+use Rattle.asm_code.specs.code.RuleTree as tree
+use Rattle.asm_code.specs.code.RuleViews.{rule_of}
 use Rattle.asm_eval.specs.declared.frame.Frame.{Frame}
-use Rattle.asm_eval.specs.declared.running.Running.{Running}
-use Rattle.asm_eval.specs.Regions.{IsTaken}
-use Rattle.asm_eval.specs.declared.regions.Region.{Region}
-use Rattle.asm_eval.specs.declared.regions.Region.TheVariants as regions
-use Rattle.asm_eval.specs.Running.{shape_at, state_at, chosen_at, places_of, rule_at, rule_in, rule_upon, passing_in}
+use Rattle.asm_eval.specs.declared.evaluation.Evaluation.{Evaluation}
+use Rattle.asm_eval.specs.code.Regions.{IsFormedOrLeft}
+use Rattle.asm_eval.specs.declared.regions.RegionOutcome.{RegionOutcome}
+use Rattle.asm_eval.specs.declared.regions.RegionOutcome.TheVariants as regions
+use Rattle.asm_eval.specs.code.Evaluation.{evaluation_shape, evaluation_state, evaluation_choices, frame_locations, rule_at, rule_in, rule_upon, passing_in}
 use Rattle.asm_eval.proofs.RuleYields.{skip_yields, assign_yields, par_yields, seq_yields, if_is, if_yes, if_no, if_left_out, let_is, let_with, choose_is, choose_some, choose_none, call_is, call_with, iterate_yields, forall_yields, next_yields, none_yields, exhausted_yields, element_yields, passed_yields, exhausted_element_yields, no_element_yields, value_here, size_here, sound_part, size_of_part}
 use Rattle.asm_eval.proofs.CodeSequences.{parts_left, turns_left, part_goes_on, part_ends, part_stops, parts_end, turn_goes_on, turn_ends, turn_stops, turns_stop, iterate_yields_turns}
 use Rattle.asm_eval.proofs.SingleUpdates.{single_shown, single_upon, goes_by_none, goes_by_one}
-use Rattle.asm_eval.specs.declared.single.Single.TheVariants as single
+use Rattle.asm_eval.specs.declared.one_update.OneUpdate.TheVariants as single
 use Rattle.std.proofs.lemmas.Result.{on_ok_weaker}
 use Rattle.asm_eval.proofs.form.+form.Goals as goal
 use Rattle.asm_eval.proofs.form.+form.Goals.{form_span-then-passes+in_ok-form_part, form_span-else-passes}
 
 -- what the body yields for a value
-abbrev element_does : {P : Type 0} {picks : Ghosts P} → Running P picks → Frame → Path → ℕ → Value → RuleCode → Outcome
-element_does r f q k v body = meaning (shape_at r) r.turns (chosen_at r) (rule_of body) (always v ∷ readings_of (shape_at r) f) (None ∷ places_of (shape_at r) f) (state_at r) (at q k)
+abbrev element_does : {P : Type 0} {picks : Ghosts P} → Evaluation P picks → Frame → Path → ℕ → Value → RuleCode → Outcome
+element_does r f q k v body = meaning (evaluation_shape r) r.turns (evaluation_choices r) (rule_of body) (always v ∷ readings_of (evaluation_shape r) f) (None ∷ frame_locations (evaluation_shape r) f) (evaluation_state r) (at q k)
 
--- where a region was left
-nothing_done : (shape : Shape) (o : Outcome) (old new : Forming) (region : Region) → region ≡ regions.Left → IsTaken shape o old new (Ok region) → new ≡ old
-nothing_done shape o old new region is taken = subst (λ it. IsTaken shape o old new (Ok it)) is taken
+-- if a region was left
+nothing_done : (shape : Shape) (o : Outcome) (old new : Forming) (region : RegionOutcome) → region ≡ regions.Left → IsFormedOrLeft shape o old new (Ok region) → new ≡ old
+nothing_done shape o old new region is taken = subst (λ it. IsFormedOrLeft shape o old new (Ok it)) is taken
 
 pub form-returns-in-Skip-clause-formed : goal.form-returns-in-Skip-clause-formed
 form-returns-in-Skip-clause-formed g t c =
     let a = c.args in
-    let r = a.running.now in
-    let shape = shape_at r in
-    follows_nothing shape tt _ a.made.now (skip_yields shape r.turns (chosen_at r) (readings_of shape a.frame.now) (places_of shape a.frame.now) (state_at r) a.made.now.path.items a.rule.now c.in-Skip.is)
+    let r = a.evaluation.now in
+    let shape = evaluation_shape r in
+    follows_nothing shape tt _ a.forming.now (skip_yields shape r.turns (evaluation_choices r) (readings_of shape a.frame.now) (frame_locations shape a.frame.now) (evaluation_state r) a.forming.now.path.items a.rule.now c.in-Skip.is)
 
 pub form-returns-in-Assign-clause-formed : goal.form-returns-in-Assign-clause-formed
 form-returns-in-Assign-clause-formed g t c =
     let a = c.args in
-    let r = a.running.now in
-    let shape = shape_at r in
-    follows_same shape c.assign.result _ _ _ _ (assign_yields shape r.turns (chosen_at r) (readings_of shape a.frame.now) (places_of shape a.frame.now) (state_at r) a.made.now.path.items a.rule.now c.in-Assign.place c.in-Assign.value c.in-Assign.is _ _ refl refl) c.assign.ensures
+    let r = a.evaluation.now in
+    let shape = evaluation_shape r in
+    follows_same shape c.assign.result _ _ _ _ (assign_yields shape r.turns (evaluation_choices r) (readings_of shape a.frame.now) (frame_locations shape a.frame.now) (evaluation_state r) a.forming.now.path.items a.rule.now c.in-Assign.place c.in-Assign.value c.in-Assign.is _ _ refl refl) c.assign.ensures
 
 pub form-returns-in-Left-clause-formed : goal.form-returns-in-Left-clause-formed
 form-returns-in-Left-clause-formed g t c =
     let a = c.args in
-    let r = a.running.now in
-    let shape = shape_at r in
-    let left = c.region.new.made in
-    let same = nothing_done shape _ a.made.now left _ c.in-Left.is c.in_ok-region-in-Par.ensures.taken in
-    subst (λ (m : Forming). Follows shape (rule_at r a.frame.now m.path.items (rule_of a.rule.now)) m c.form_all.new.made c.form_all.result) same (
+    let r = a.evaluation.now in
+    let shape = evaluation_shape r in
+    let left = c.region.new.forming in
+    let same = nothing_done shape _ a.forming.now left _ c.in-Left.is c.in_ok-region-in-Par.ensures.taken in
+    subst (λ (m : Forming). Follows shape (rule_at r a.frame.now m.path.items (rule_of a.rule.now)) m c.form_all.new.forming c.form_all.result) same (
     follows_same shape c.form_all.result _ _ _ _
-    (par_yields shape r.turns (chosen_at r) (readings_of shape a.frame.now) (places_of shape a.frame.now) (state_at r) left.path.items a.rule.now c.in-Par.parts c.in-Par.is c.as_slice.result.now c.as_slice.ensures.value)
+    (par_yields shape r.turns (evaluation_choices r) (readings_of shape a.frame.now) (frame_locations shape a.frame.now) (evaluation_state r) left.path.items a.rule.now c.in-Par.parts c.in-Par.is c.as_slice.result.now c.as_slice.ensures.value)
     c.form_all.ensures.formed)
 
 pub form-returns-in-Seq-clause-formed : goal.form-returns-in-Seq-clause-formed
 form-returns-in-Seq-clause-formed g t c =
     let a = c.args in
-    let r = a.running.now in
-    let shape = shape_at r in
+    let r = a.evaluation.now in
+    let shape = evaluation_shape r in
     follows_same shape c.form_in_order.result _ _ _ _
-    (seq_yields shape r.turns (chosen_at r) (readings_of shape a.frame.now) (places_of shape a.frame.now) (state_at r) a.made.now.path.items a.rule.now c.in-Seq.parts c.in-Seq.is c.as_slice-in-Seq.result.now c.as_slice-in-Seq.ensures.value)
+    (seq_yields shape r.turns (evaluation_choices r) (readings_of shape a.frame.now) (frame_locations shape a.frame.now) (evaluation_state r) a.forming.now.path.items a.rule.now c.in-Seq.parts c.in-Seq.is c.as_slice-in-Seq.result.now c.as_slice-in-Seq.ensures.value)
     c.form_in_order.ensures.formed
 
 pub form-returns-in-If-clause-formed : goal.form-returns-in-If-clause-formed
 form-returns-in-If-clause-formed g t c =
     let a = c.args in
-    let r = a.running.now in
-    let shape = shape_at r in
+    let r = a.evaluation.now in
+    let shape = evaluation_shape r in
     follows_same shape c.form_if.result _ _ _ _
-    (if_is shape r.turns (chosen_at r) (readings_of shape a.frame.now) (places_of shape a.frame.now) (state_at r) a.made.now.path.items a.rule.now c.in-If.test c.in-If.yes c.in-If.no c.in-If.is _ c.deref.result.now c.deref-in-If.result.now refl c.deref.ensures c.deref-in-If.ensures)
+    (if_is shape r.turns (evaluation_choices r) (readings_of shape a.frame.now) (frame_locations shape a.frame.now) (evaluation_state r) a.forming.now.path.items a.rule.now c.in-If.test c.in-If.yes c.in-If.no c.in-If.is _ c.deref.result.now c.deref-in-If.result.now refl c.deref.ensures c.deref-in-If.ensures)
     c.form_if.ensures.formed
 
 pub form_if-returns-then-holds-clause-formed : goal.form_if-returns-then-holds-clause-formed
 form_if-returns-then-holds-clause-formed g t c =
     let a = c.args in
-    let r = a.running.now in
-    let shape = shape_at r in
+    let r = a.evaluation.now in
+    let shape = evaluation_shape r in
     follows_same shape c.form_part.result _ _ _ _
-    (if_yes shape r.turns (chosen_at r) (readings_of shape a.frame.now) (places_of shape a.frame.now) (state_at r) a.made.now.path.items a.test.now a.yes.now a.no.now (sym c.holds.ensures ∙ c.if-holds.true)) c.form_part.ensures.formed
+    (if_yes shape r.turns (evaluation_choices r) (readings_of shape a.frame.now) (frame_locations shape a.frame.now) (evaluation_state r) a.forming.now.path.items a.test.now a.yes.now a.no.now (sym c.holds.ensures ∙ c.if-holds.true)) c.form_part.ensures.formed
 
 pub form_if-returns-in-Skip-clause-formed : goal.form_if-returns-in-Skip-clause-formed
 form_if-returns-in-Skip-clause-formed g t c =
     let a = c.args in
-    let r = a.running.now in
-    let shape = shape_at r in
-    follows_nothing shape tt _ _ (if_left_out shape r.turns (chosen_at r) (readings_of shape a.frame.now) (places_of shape a.frame.now) (state_at r) a.made.now.path.items a.test.now a.yes.now a.no.now (sym c.holds.ensures ∙ c.if-holds.false) c.in-Skip.is)
+    let r = a.evaluation.now in
+    let shape = evaluation_shape r in
+    follows_nothing shape tt _ _ (if_left_out shape r.turns (evaluation_choices r) (readings_of shape a.frame.now) (frame_locations shape a.frame.now) (evaluation_state r) a.forming.now.path.items a.test.now a.yes.now a.no.now (sym c.holds.ensures ∙ c.if-holds.false) c.in-Skip.is)
 
 pub form_if-returns-in_default-clause-formed : goal.form_if-returns-in_default-clause-formed
 form_if-returns-in_default-clause-formed g t c =
     let a = c.args in
-    let r = a.running.now in
-    let shape = shape_at r in
+    let r = a.evaluation.now in
+    let shape = evaluation_shape r in
     follows_same shape c.form_part-in_default.result _ _ _ _
-    (if_no shape r.turns (chosen_at r) (readings_of shape a.frame.now) (places_of shape a.frame.now) (state_at r) a.made.now.path.items a.test.now a.yes.now a.no.now (sym c.holds.ensures ∙ c.if-holds.false)) c.form_part-in_default.ensures.formed
+    (if_no shape r.turns (evaluation_choices r) (readings_of shape a.frame.now) (frame_locations shape a.frame.now) (evaluation_state r) a.forming.now.path.items a.test.now a.yes.now a.no.now (sym c.holds.ensures ∙ c.if-holds.false)) c.form_part-in_default.ensures.formed
 
 pub form-returns-in-Let-clause-formed : goal.form-returns-in-Let-clause-formed
 form-returns-in-Let-clause-formed g t c =
     let a = c.args in
-    let r = a.running.now in
-    let shape = shape_at r in
+    let r = a.evaluation.now in
+    let shape = evaluation_shape r in
     follows_same shape c.form_let.result _ _ _ _
-    (let_is shape r.turns (chosen_at r) (readings_of shape a.frame.now) (places_of shape a.frame.now) (state_at r) a.made.now.path.items a.rule.now c.in-Let.value c.in-Let.body c.in-Let.is _ c.deref-in-Let.result.now refl c.deref-in-Let.ensures)
+    (let_is shape r.turns (evaluation_choices r) (readings_of shape a.frame.now) (frame_locations shape a.frame.now) (evaluation_state r) a.forming.now.path.items a.rule.now c.in-Let.value c.in-Let.body c.in-Let.is _ c.deref-in-Let.result.now refl c.deref-in-Let.ensures)
     c.form_let.ensures.formed
 
 pub form_let-returns-clause-formed : goal.form_let-returns-clause-formed
 form_let-returns-clause-formed g t c =
     let a = c.args in
-    let r = a.running.now in
-    let shape = shape_at r in
+    let r = a.evaluation.now in
+    let shape = evaluation_shape r in
     follows_same shape c.form_part.result _ _ _ _
-    (let_with shape r.turns (chosen_at r) (readings_of shape a.frame.now) (places_of shape a.frame.now) (state_at r) a.made.now.path.items a.term.now a.body.now (value_of_code c.kept.result.value) (c.kept.ensures ∙ c.value-value.ensures)) c.form_part.ensures.formed
+    (let_with shape r.turns (evaluation_choices r) (readings_of shape a.frame.now) (frame_locations shape a.frame.now) (evaluation_state r) a.forming.now.path.items a.term.now a.body.now (value_of_code c.unbranded_code.result.value) (c.unbranded_code.ensures ∙ c.value-value.ensures)) c.form_part.ensures.formed
 
 pub form_all-form_part-requires : goal.form_all-form_part-requires
 form_all-form_part-requires g t c κs within =
     let a = c.args in
-    let r = a.running.now in
-    let shape = shape_at r in
+    let r = a.evaluation.now in
+    let shape = evaluation_shape r in
     let small = size_of_part a.parts.now c.loop-i.i c.index-parts-i.result c.loop-i-test.true c.index-parts-i.is in
     (omega (arith, c.decreases, small), (search rules, (search rules, (sound_part shape a.parts.now c.loop-i.i c.index-parts-i.result c.loop-i-test.true c.index-parts-i.is c.requires.sound, (c.requires.framed, (c.loop-i.invariant.ready, c.loop-i.invariant.same_count ∙ c.requires.fits))))))
 
 pub form_all-loop-i-preserved : goal.form_all-loop-i-preserved
 form_all-loop-i-preserved g t c =
     let a = c.args in
-    let r = a.running.now in
-    let shape = shape_at r in
+    let r = a.evaluation.now in
+    let shape = evaluation_shape r in
     let l = c.loop-i in
     record {
       ready = c.in_ok-form_part.ensures.ready;
       same_count = c.in_ok-form_part.ensures.formed.count ∙ l.invariant.same_count;
       same_path = c.in_ok-form_part.ensures.formed.path ∙ l.invariant.same_path;
       follows = λ new result rest. l.invariant.follows new result (follows_same shape result _ _ _ _
-          (next_yields shape r.turns (chosen_at r) (readings_of shape a.frame.now) (places_of shape a.frame.now) (state_at r) a.made.now.path.items a.parts.now l.i c.index-parts-i.result c.loop-i-test.true c.index-parts-i.is)
+          (next_yields shape r.turns (evaluation_choices r) (readings_of shape a.frame.now) (frame_locations shape a.frame.now) (evaluation_state r) a.forming.now.path.items a.parts.now l.i c.index-parts-i.result c.loop-i-test.true c.index-parts-i.is)
           (follows_both shape tt result _ _ _ _ _
           (follows_same shape _ _ _ _ _ (ap (λ q. rule_at r a.frame.now (at q l.i) (rule_of c.index-parts-i.result)) l.invariant.same_path) c.in_ok-form_part.ensures.formed)
           rest));
@@ -155,19 +155,19 @@ form_all-loop-i-preserved g t c =
 pub form_all-returns-clause-formed : goal.form_all-returns-clause-formed
 form_all-returns-clause-formed g t c =
     let a = c.args in
-    let r = a.running.now in
-    let shape = shape_at r in
+    let r = a.evaluation.now in
+    let shape = evaluation_shape r in
     let l = c.loop-i in
-    l.invariant.follows _ _ (follows_nothing shape tt _ _ (none_yields shape r.turns (chosen_at r) (readings_of shape a.frame.now) (places_of shape a.frame.now) (state_at r) a.made.now.path.items a.parts.now l.i (omega arith)))
+    l.invariant.follows _ _ (follows_nothing shape tt _ _ (none_yields shape r.turns (evaluation_choices r) (readings_of shape a.frame.now) (frame_locations shape a.frame.now) (evaluation_state r) a.forming.now.path.items a.parts.now l.i (omega arith)))
 
 pub form_all-returns-in_err-form_part-clause-formed : goal.form_all-returns-in_err-form_part-clause-formed
 form_all-returns-in_err-form_part-clause-formed g t c =
     let a = c.args in
-    let r = a.running.now in
-    let shape = shape_at r in
+    let r = a.evaluation.now in
+    let shape = evaluation_shape r in
     let l = c.loop-i in
     l.invariant.follows _ _ (follows_stopped shape c.form_part.result c.from_residual.result c.in_err-form_part.field-0.0 _ _ _ _ _ refl c.in_err-form_part.was c.from_residual.ensures.1
-    (λ last ends. exhausted_yields shape r.turns (chosen_at r) (readings_of shape a.frame.now) (places_of shape a.frame.now) (state_at r) a.made.now.path.items a.parts.now l.i c.index-parts-i.result last c.loop-i-test.true c.index-parts-i.is
+    (λ last ends. exhausted_yields shape r.turns (evaluation_choices r) (readings_of shape a.frame.now) (frame_locations shape a.frame.now) (evaluation_state r) a.forming.now.path.items a.parts.now l.i c.index-parts-i.result last c.loop-i-test.true c.index-parts-i.is
     (sym (ap (λ q. (rule_at r a.frame.now (at q l.i) (rule_of c.index-parts-i.result)).result) l.invariant.same_path) ∙ ends))
     c.form_part.ensures.formed)
 
@@ -176,24 +176,24 @@ form_all-returns-in_err-form_part-clause-formed g t c =
 pub form_in_order-loop-i-init : goal.form_in_order-loop-i-init
 form_in_order-loop-i-init g t c =
     let a = c.args in
-    let r = a.running.now in
-    let shape = shape_at r in
+    let r = a.evaluation.now in
+    let shape = evaluation_shape r in
     record {
       ready = c.requires.ready;
       same_count = refl;
       same_path = refl;
       same_before = refl;
       counted = c.new-so_far.ensures.count ∙ c.count.ensures.count;
-      underway = begins shape (state_at r) _
-          (parts_left shape r.turns (chosen_at r) (readings_of shape a.frame.now) (places_of shape a.frame.now) a.made.now.path.items a.parts.now 0)
-          c.new-so_far.result a.made.now.instances refl (omega (arith, a.made.now.in_range)) (c.new-so_far.ensures.empty shape c.count.ensures.sound c.count.ensures.count);
+      underway = begins shape (evaluation_state r) _
+          (parts_left shape r.turns (evaluation_choices r) (readings_of shape a.frame.now) (frame_locations shape a.frame.now) a.forming.now.path.items a.parts.now 0)
+          c.new-so_far.result a.forming.now.instances refl (omega (arith, a.forming.now.in_range)) (c.new-so_far.ensures.empty shape c.count.ensures.sound c.count.ensures.count);
     }
 
 pub form_in_order-form_next-requires : goal.form_in_order-form_next-requires
 form_in_order-form_next-requires g t c κs within =
     let a = c.args in
-    let r = a.running.now in
-    let shape = shape_at r in
+    let r = a.evaluation.now in
+    let shape = evaluation_shape r in
     let l = c.loop-i in
     let small = size_of_part a.parts.now l.i c.index-parts-i.result c.loop-i-test.true c.index-parts-i.is in
     let alone = l.invariant.same_count ∙ c.set_aside-before.ensures.count ∙ c.requires.fits in
@@ -202,8 +202,8 @@ form_in_order-form_next-requires g t c κs within =
 pub form_in_order-loop-i-preserved : goal.form_in_order-loop-i-preserved
 form_in_order-loop-i-preserved g t c =
     let a = c.args in
-    let r = a.running.now in
-    let shape = shape_at r in
+    let r = a.evaluation.now in
+    let shape = evaluation_shape r in
     let l = c.loop-i in
     let under = l.invariant.underway in
     let on = c.in_ok-part.ensures.formed.formed under.set under.stands under.consistent in
@@ -213,135 +213,135 @@ form_in_order-loop-i-preserved g t c =
       same_path = c.in_ok-part.ensures.formed.path ∙ l.invariant.same_path;
       same_before = l.invariant.same_before;
       counted = c.in_ok-part.ensures.formed.so_far_count ∙ l.invariant.counted;
-      underway = part_goes_on shape r.turns (chosen_at r) (readings_of shape a.frame.now) (places_of shape a.frame.now) a.made.now.path.items (state_at r) _ _ _ _ a.parts.now l.i under
-          l.made.path.items c.index-parts-i.result l.invariant.same_path c.loop-i-test.true c.index-parts-i.is
-          c.form_next.new.so_far c.in_ok-part.part c.form_next.new.made.instances on
+      underway = part_goes_on shape r.turns (evaluation_choices r) (readings_of shape a.frame.now) (frame_locations shape a.frame.now) a.forming.now.path.items (evaluation_state r) _ _ _ _ a.parts.now l.i under
+          l.forming.path.items c.index-parts-i.result l.invariant.same_path c.loop-i-test.true c.index-parts-i.is
+          c.form_next.new.so_far c.in_ok-part.part c.form_next.new.forming.instances on
           (consistent_part on.set c.in_ok-part.part on.is (sym c.ends_parts.ensures ∙ c.if-ends_parts.false));
     }
 
 pub form_in_order-put_back-requires : goal.form_in_order-put_back-requires
 form_in_order-put_back-requires g t c =
     let l = c.loop-i.invariant in
-    c.in_ok-part.ensures.formed.so_far_count ∙ l.counted ∙ sym c.requires.fits ∙ sym (ap (λ (s : Entries). s.count) (l.same_before ∙ c.set_aside-before.ensures.before))
+    c.in_ok-part.ensures.formed.so_far_count ∙ l.counted ∙ sym c.requires.fits ∙ sym (ap (λ (s : SummaryRanges). s.count) (l.same_before ∙ c.set_aside-before.ensures.before))
 
 pub form_in_order-put_back-requires-2 : goal.form_in_order-put_back-requires-2
 form_in_order-put_back-requires-2 g t c =
     let l = c.loop-i.invariant in
-    l.counted ∙ sym c.requires.fits ∙ sym (ap (λ (s : Entries). s.count) (l.same_before ∙ c.set_aside-before.ensures.before))
+    l.counted ∙ sym c.requires.fits ∙ sym (ap (λ (s : SummaryRanges). s.count) (l.same_before ∙ c.set_aside-before.ensures.before))
 
 pub form_in_order-returns-clause-formed : goal.form_in_order-returns-clause-formed
 form_in_order-returns-clause-formed g t c =
     let a = c.args in
-    let r = a.running.now in
-    let shape = shape_at r in
+    let r = a.evaluation.now in
+    let shape = evaluation_shape r in
     let l = c.loop-i in
     record {
-      count = c.put_back-2.ensures.count ∙ ap (λ (s : Entries). s.count) (c.loop-i.invariant.same_before ∙ c.set_aside-before.ensures.before);
+      count = c.put_back-2.ensures.count ∙ ap (λ (s : SummaryRanges). s.count) (c.loop-i.invariant.same_before ∙ c.set_aside-before.ensures.before);
       path = search rules;
-      formed = parts_end shape r.turns (chosen_at r) (readings_of shape a.frame.now) (places_of shape a.frame.now) a.made.now.path.items (state_at r) _ _ _ _ a.parts.now l.i l.invariant.underway
-          l.before a.made.now.set c.put_back-2.new.made.set c.put_back-2.new.made.instances c.put_back-2.result c.loop-i-test.false (l.invariant.same_before ∙ c.set_aside-before.ensures.before)
+      formed = parts_end shape r.turns (evaluation_choices r) (readings_of shape a.frame.now) (frame_locations shape a.frame.now) a.forming.now.path.items (evaluation_state r) _ _ _ _ a.parts.now l.i l.invariant.underway
+          l.before a.forming.now.set c.put_back-2.new.forming.set c.put_back-2.new.forming.instances c.put_back-2.result c.loop-i-test.false (l.invariant.same_before ∙ c.set_aside-before.ensures.before)
           c.put_back-2.ensures.instances (c.put_back-2.ensures.adds shape);
       exhausted = stopped_for_memory
-          (parts_left shape r.turns (chosen_at r) (readings_of shape a.frame.now) (places_of shape a.frame.now) a.made.now.path.items a.parts.now 0 (state_at r)) _ c.put_back-2.result c.put_back-2.ensures.stopped;
+          (parts_left shape r.turns (evaluation_choices r) (readings_of shape a.frame.now) (frame_locations shape a.frame.now) a.forming.now.path.items a.parts.now 0 (evaluation_state r)) _ c.put_back-2.result c.put_back-2.ensures.stopped;
     }
 
 pub form_in_order-returns-then-ends_parts-clause-formed : goal.form_in_order-returns-then-ends_parts-clause-formed
 form_in_order-returns-then-ends_parts-clause-formed g t c =
     let a = c.args in
-    let r = a.running.now in
-    let shape = shape_at r in
+    let r = a.evaluation.now in
+    let shape = evaluation_shape r in
     let l = c.loop-i in
     let under = l.invariant.underway in
     let on = c.in_ok-part.ensures.formed.formed under.set under.stands under.consistent in
     record {
-      count = c.put_back.ensures.count ∙ ap (λ (s : Entries). s.count) (c.loop-i.invariant.same_before ∙ c.set_aside-before.ensures.before);
+      count = c.put_back.ensures.count ∙ ap (λ (s : SummaryRanges). s.count) (c.loop-i.invariant.same_before ∙ c.set_aside-before.ensures.before);
       path = search rules;
-      formed = part_ends shape r.turns (chosen_at r) (readings_of shape a.frame.now) (places_of shape a.frame.now) a.made.now.path.items (state_at r) _ _ _ _ a.parts.now l.i under
-          l.made.path.items c.index-parts-i.result l.invariant.same_path c.loop-i-test.true c.index-parts-i.is
-          c.form_next.new.so_far c.in_ok-part.part l.before a.made.now.set c.put_back.new.made.set c.form_next.new.made.instances c.put_back.new.made.instances c.put_back.result on
+      formed = part_ends shape r.turns (evaluation_choices r) (readings_of shape a.frame.now) (frame_locations shape a.frame.now) a.forming.now.path.items (evaluation_state r) _ _ _ _ a.parts.now l.i under
+          l.forming.path.items c.index-parts-i.result l.invariant.same_path c.loop-i-test.true c.index-parts-i.is
+          c.form_next.new.so_far c.in_ok-part.part l.before a.forming.now.set c.put_back.new.forming.set c.form_next.new.forming.instances c.put_back.new.forming.instances c.put_back.result on
           (ending_part on.set c.in_ok-part.part on.is (sym c.ends_parts.ensures ∙ c.if-ends_parts.true))
           (l.invariant.same_before ∙ c.set_aside-before.ensures.before) c.put_back.ensures.instances (c.put_back.ensures.adds shape);
       exhausted = stopped_for_memory
-          (parts_left shape r.turns (chosen_at r) (readings_of shape a.frame.now) (places_of shape a.frame.now) a.made.now.path.items a.parts.now 0 (state_at r)) _ c.put_back.result c.put_back.ensures.stopped;
+          (parts_left shape r.turns (evaluation_choices r) (readings_of shape a.frame.now) (frame_locations shape a.frame.now) a.forming.now.path.items a.parts.now 0 (evaluation_state r)) _ c.put_back.result c.put_back.ensures.stopped;
     }
 
 pub form_in_order-returns-in_err-part-clause-formed : goal.form_in_order-returns-in_err-part-clause-formed
 form_in_order-returns-in_err-part-clause-formed g t c =
     let a = c.args in
-    let r = a.running.now in
-    let shape = shape_at r in
+    let r = a.evaluation.now in
+    let shape = evaluation_shape r in
     let l = c.loop-i in
     let under = l.invariant.underway in
     record {
       count = search rules;
       path = search rules;
       formed = search rules;
-      exhausted = part_stops shape r.turns (chosen_at r) (readings_of shape a.frame.now) (places_of shape a.frame.now) a.made.now.path.items (state_at r) _ _ _ _ a.parts.now l.i under
-          l.made.path.items c.index-parts-i.result l.invariant.same_path c.loop-i-test.true c.index-parts-i.is
-          c.form_next.new.made.path.items c.form_next.result c.from_residual.result c.in_err-part.field-0.0 c.in_err-part.was c.from_residual.ensures.1
+      exhausted = part_stops shape r.turns (evaluation_choices r) (readings_of shape a.frame.now) (frame_locations shape a.frame.now) a.forming.now.path.items (evaluation_state r) _ _ _ _ a.parts.now l.i under
+          l.forming.path.items c.index-parts-i.result l.invariant.same_path c.loop-i-test.true c.index-parts-i.is
+          c.form_next.new.forming.path.items c.form_next.result c.from_residual.result c.in_err-part.field-0.0 c.in_err-part.was c.from_residual.ensures.1
           (c.form_next.ensures.formed.exhausted under.set under.stands under.consistent);
     }
 
-pub form_next-go_on_by-requires-clause-location : goal.form_next-go_on_by-requires-clause-location
-form_next-go_on_by-requires-clause-location g t c =
+pub form_next-merge_update-requires-clause-location : goal.form_next-merge_update-requires-clause-location
+form_next-merge_update-requires-clause-location g t c =
     let a = c.args in
-    (single_shown a.running.now c.upon-view.result a.frame.now (rule_of a.rule.now) (at a.made.now.path.items a.number) c.upon-view.ensures.signature
+    (single_shown a.evaluation.now c.upon-view.result a.frame.now (rule_of a.rule.now) (at a.forming.now.path.items a.number) c.upon-view.ensures.signature
     c.in_ok-single_update.field-0 (single.Update c.in-Update.n c.in-Update.value) c.in-Update.is c.in_ok-single_update.ensures).0
 
 pub form_next-returns-in-Nothing-clause-formed : goal.form_next-returns-in-Nothing-clause-formed
 form_next-returns-in-Nothing-clause-formed g t c =
     let a = c.args in
-    let r = a.running.now in
+    let r = a.evaluation.now in
     record {
       count = refl;
       so_far_count = refl;
       path = refl;
       formed = λ U stands consistent.
-          goes_by_none (shape_at r) _ U a.so_far.now a.made.now.instances
-          (single_upon r c.upon-view.result a.frame.now (rule_of a.rule.now) (at a.made.now.path.items a.number) c.upon-view.ensures.signature
+          goes_by_none (evaluation_shape r) _ U a.so_far.now a.forming.now.instances
+          (single_upon r c.upon-view.result a.frame.now (rule_of a.rule.now) (at a.forming.now.path.items a.number) c.upon-view.ensures.signature
           c.in_ok-single_update.field-0 single.Nothing U c.in-Nothing.is (c.upon-view.ensures.fired U stands consistent) c.in_ok-single_update.ensures)
-          (omega (arith, a.made.now.in_range)) stands;
+          (omega (arith, a.forming.now.in_range)) stands;
       exhausted = λ U stands consistent. tt;
     }
 
 pub form_next-returns-in-Update-clause-formed : goal.form_next-returns-in-Update-clause-formed
 form_next-returns-in-Update-clause-formed g t c =
     let a = c.args in
-    let r = a.running.now in
-    let shape = shape_at r in
+    let r = a.evaluation.now in
+    let shape = evaluation_shape r in
     record {
-      count = c.go_on_by.ensures.count;
+      count = c.merge_update.ensures.count;
       so_far_count = search rules;
       path = search rules;
       formed = λ U stands consistent.
-          goes_by_one shape _ U (one (location_at shape c.in-Update.n) c.in-Update.value) c.go_on_by.new.so_far a.made.now.instances c.go_on_by.new.made.instances c.go_on_by.result
-          (single_upon r c.upon-view.result a.frame.now (rule_of a.rule.now) (at a.made.now.path.items a.number) c.upon-view.ensures.signature
+          goes_by_one shape _ U (one (location_at shape c.in-Update.n) c.in-Update.value) c.merge_update.new.so_far a.forming.now.instances c.merge_update.new.forming.instances c.merge_update.result
+          (single_upon r c.upon-view.result a.frame.now (rule_of a.rule.now) (at a.forming.now.path.items a.number) c.upon-view.ensures.signature
           c.in_ok-single_update.field-0 (single.Update c.in-Update.n c.in-Update.value) U c.in-Update.is (c.upon-view.ensures.fired U stands consistent) c.in_ok-single_update.ensures).1
-          (omega (arith, a.made.now.in_range)) c.go_on_by.ensures.instances c.go_on_by.ensures.part
-          (on_ok_weaker c.go_on_by.result (λ merges. merges U stands) c.go_on_by.ensures.merge);
-      exhausted = λ U stands consistent. stopped_for_memory (rule_upon r U a.frame.now (at a.made.now.path.items a.number) (rule_of a.rule.now)) _ c.go_on_by.result c.go_on_by.ensures.stopped;
+          (omega (arith, a.forming.now.in_range)) c.merge_update.ensures.instances c.merge_update.ensures.part
+          (on_ok_weaker c.merge_update.result (λ merges. merges U stands) c.merge_update.ensures.merge);
+      exhausted = λ U stands consistent. stopped_for_memory (rule_upon r U a.frame.now (at a.forming.now.path.items a.number) (rule_of a.rule.now)) _ c.merge_update.result c.merge_update.ensures.stopped;
     }
 
 pub form_upon-returns-clause-formed : goal.form_upon-returns-clause-formed
 form_upon-returns-clause-formed g t c =
     let a = c.args in
-    let r = a.running.now in
-    let shape = shape_at r in
+    let r = a.evaluation.now in
+    let shape = evaluation_shape r in
     record {
       count = search rules;
       so_far_count = search rules;
       path = search rules;
       formed = λ U stands consistent.
           let v = c.upon-view.result in
-          subst (λ n. GoesOn shape (rule_upon r U a.frame.now (at a.made.now.path.items a.number) (rule_of a.rule.now)) U c.go_on.new.so_far c.of-part.result a.made.now.instances n) (sym c.go_on.ensures.instances)
-          (goes_upon shape _ U c.clear.new.self a.so_far.now c.go_on.new.so_far c.form_part.new.made.set c.of-part.result a.made.now.instances c.form_part.new.made.instances
+          subst (λ n. IsMergedPart shape (rule_upon r U a.frame.now (at a.forming.now.path.items a.number) (rule_of a.rule.now)) U c.merge_part.new.so_far c.of-part.result a.forming.now.instances n) (sym c.merge_part.ensures.instances)
+          (goes_upon shape _ U c.clear.new.self a.so_far.now c.merge_part.new.so_far c.form_part.new.forming.set c.of-part.result a.forming.now.instances c.form_part.new.forming.instances
           (c.clear.ensures.empty shape r.view.now.sound c.requires.fits)
           stands
-          (c.in_ok-go_on.ensures.merge shape)
+          (c.in_ok-merge_part.ensures.merge shape)
           c.of-part.ensures
           (forms_same shape _ _ _ _ _ _
-          (ap (rule_in r a.frame.now (at a.made.now.path.items a.number) (rule_of a.rule.now)) (c.upon-view.ensures.fired U stands consistent))
-          (subst (λ s. Forms s (meaning s r.turns (chosen_at r) (rule_of a.rule.now) (readings_of s a.frame.now) (places_of s a.frame.now) (shown v) (at a.made.now.path.items a.number)) c.clear.new.self c.form_part.new.made.set a.made.now.instances c.form_part.new.made.instances) c.upon-view.ensures.signature
+          (ap (rule_in r a.frame.now (at a.forming.now.path.items a.number) (rule_of a.rule.now)) (c.upon-view.ensures.fired U stands consistent))
+          (subst (λ s. Forms s (meaning s r.turns (evaluation_choices r) (rule_of a.rule.now) (readings_of s a.frame.now) (frame_locations s a.frame.now) (shown v) (at a.forming.now.path.items a.number)) c.clear.new.self c.form_part.new.forming.set a.forming.now.instances c.form_part.new.forming.instances) c.upon-view.ensures.signature
           c.in_ok-form_part.ensures.formed.formed)));
       exhausted = λ U stands consistent. tt;
     }
@@ -351,26 +351,26 @@ form_upon-returns-clause-formed g t c =
 pub form_turns-loop-turn-init : goal.form_turns-loop-turn-init
 form_turns-loop-turn-init g t c =
     let a = c.args in
-    let r = a.running.now in
-    let shape = shape_at r in
+    let r = a.evaluation.now in
+    let shape = evaluation_shape r in
     record {
       ready = c.requires.ready;
       same_count = refl;
       same_path = refl;
       same_before = refl;
       counted = c.new-so_far.ensures.count ∙ c.count.ensures.count;
-      underway = begins shape (state_at r) _
-          (turns_left shape r.turns (chosen_at r) (readings_of shape a.frame.now) (places_of shape a.frame.now) a.made.now.path.items r.turns (rule_of a.body.now) 0)
-          c.new-so_far.result a.made.now.instances
-          (sym (iterate_yields_turns shape r.turns (chosen_at r) (readings_of shape a.frame.now) (places_of shape a.frame.now) a.made.now.path.items (rule_of a.body.now) (state_at r)))
-          (omega (arith, a.made.now.in_range)) (c.new-so_far.ensures.empty shape c.count.ensures.sound c.count.ensures.count);
+      underway = begins shape (evaluation_state r) _
+          (turns_left shape r.turns (evaluation_choices r) (readings_of shape a.frame.now) (frame_locations shape a.frame.now) a.forming.now.path.items r.turns (rule_of a.body.now) 0)
+          c.new-so_far.result a.forming.now.instances
+          (sym (iterate_yields_turns shape r.turns (evaluation_choices r) (readings_of shape a.frame.now) (frame_locations shape a.frame.now) a.forming.now.path.items (rule_of a.body.now) (evaluation_state r)))
+          (omega (arith, a.forming.now.in_range)) (c.new-so_far.ensures.empty shape c.count.ensures.sound c.count.ensures.count);
     }
 
 pub form_turns-loop-turn-preserved : goal.form_turns-loop-turn-preserved
 form_turns-loop-turn-preserved g t c =
     let a = c.args in
-    let r = a.running.now in
-    let shape = shape_at r in
+    let r = a.evaluation.now in
+    let shape = evaluation_shape r in
     let l = c.loop-turn in
     let under = l.invariant.underway in
     let on = c.in_ok-part.ensures.formed.formed under.set under.stands under.consistent in
@@ -380,9 +380,9 @@ form_turns-loop-turn-preserved g t c =
       same_path = c.in_ok-part.ensures.formed.path ∙ l.invariant.same_path;
       same_before = l.invariant.same_before;
       counted = c.in_ok-part.ensures.formed.so_far_count ∙ l.invariant.counted;
-      underway = turn_goes_on shape r.turns (chosen_at r) (readings_of shape a.frame.now) (places_of shape a.frame.now) a.made.now.path.items (state_at r) _ _ _ _ r.turns (rule_of a.body.now) l.turn under
-          l.made.path.items c.from.result l.invariant.same_path c.loop-turn-test.true c.from.ensures
-          c.form_next.new.so_far c.in_ok-part.part c.form_next.new.made.instances on
+      underway = turn_goes_on shape r.turns (evaluation_choices r) (readings_of shape a.frame.now) (frame_locations shape a.frame.now) a.forming.now.path.items (evaluation_state r) _ _ _ _ r.turns (rule_of a.body.now) l.turn under
+          l.forming.path.items c.from.result l.invariant.same_path c.loop-turn-test.true c.from.ensures
+          c.form_next.new.so_far c.in_ok-part.part c.form_next.new.forming.instances on
           (some_turn on.set c.in_ok-part.part on.is (sym c.ends_turns.ensures ∙ c.if-ends_turns.false))
           (consistent_turn on.set c.in_ok-part.part on.is (sym c.ends_turns.ensures ∙ c.if-ends_turns.false));
     }
@@ -390,63 +390,63 @@ form_turns-loop-turn-preserved g t c =
 pub form_turns-put_back-requires : goal.form_turns-put_back-requires
 form_turns-put_back-requires g t c =
     let l = c.loop-turn.invariant in
-    c.in_ok-part.ensures.formed.so_far_count ∙ l.counted ∙ sym c.requires.fits ∙ sym (ap (λ (s : Entries). s.count) (l.same_before ∙ c.set_aside-before.ensures.before))
+    c.in_ok-part.ensures.formed.so_far_count ∙ l.counted ∙ sym c.requires.fits ∙ sym (ap (λ (s : SummaryRanges). s.count) (l.same_before ∙ c.set_aside-before.ensures.before))
 
 pub form_turns-returns-then-ends_turns-clause-formed : goal.form_turns-returns-then-ends_turns-clause-formed
 form_turns-returns-then-ends_turns-clause-formed g t c =
     let a = c.args in
-    let r = a.running.now in
-    let shape = shape_at r in
+    let r = a.evaluation.now in
+    let shape = evaluation_shape r in
     let l = c.loop-turn in
     let under = l.invariant.underway in
     let on = c.in_ok-part.ensures.formed.formed under.set under.stands under.consistent in
     record {
-      count = c.put_back.ensures.count ∙ ap (λ (s : Entries). s.count) (c.loop-turn.invariant.same_before ∙ c.set_aside-before.ensures.before);
+      count = c.put_back.ensures.count ∙ ap (λ (s : SummaryRanges). s.count) (c.loop-turn.invariant.same_before ∙ c.set_aside-before.ensures.before);
       path = search rules;
-      formed = turn_ends shape r.turns (chosen_at r) (readings_of shape a.frame.now) (places_of shape a.frame.now) a.made.now.path.items (state_at r) _ _ _ _ r.turns (rule_of a.body.now) l.turn under
-          l.made.path.items c.from.result l.invariant.same_path c.loop-turn-test.true c.from.ensures
-          c.form_next.new.so_far c.in_ok-part.part l.before a.made.now.set c.put_back.new.made.set c.form_next.new.made.instances c.put_back.new.made.instances c.put_back.result on
+      formed = turn_ends shape r.turns (evaluation_choices r) (readings_of shape a.frame.now) (frame_locations shape a.frame.now) a.forming.now.path.items (evaluation_state r) _ _ _ _ r.turns (rule_of a.body.now) l.turn under
+          l.forming.path.items c.from.result l.invariant.same_path c.loop-turn-test.true c.from.ensures
+          c.form_next.new.so_far c.in_ok-part.part l.before a.forming.now.set c.put_back.new.forming.set c.form_next.new.forming.instances c.put_back.new.forming.instances c.put_back.result on
           (ending_turn on.set c.in_ok-part.part on.is (sym c.ends_turns.ensures ∙ c.if-ends_turns.true)) (l.invariant.same_before ∙ c.set_aside-before.ensures.before) c.put_back.ensures.instances (c.put_back.ensures.adds shape);
-      exhausted = stopped_for_memory (rule_at r a.frame.now a.made.now.path.items (tree.Iterate (rule_of a.body.now))) _ c.put_back.result c.put_back.ensures.stopped;
+      exhausted = stopped_for_memory (rule_at r a.frame.now a.forming.now.path.items (tree.Iterate (rule_of a.body.now))) _ c.put_back.result c.put_back.ensures.stopped;
     }
 
 pub form_turns-returns-in_err-part-clause-formed : goal.form_turns-returns-in_err-part-clause-formed
 form_turns-returns-in_err-part-clause-formed g t c =
     let a = c.args in
-    let r = a.running.now in
-    let shape = shape_at r in
+    let r = a.evaluation.now in
+    let shape = evaluation_shape r in
     let l = c.loop-turn in
     let under = l.invariant.underway in
     record {
       count = search rules;
       path = search rules;
       formed = search rules;
-      exhausted = turn_stops shape r.turns (chosen_at r) (readings_of shape a.frame.now) (places_of shape a.frame.now) a.made.now.path.items (state_at r) _ _ _ _ r.turns (rule_of a.body.now) l.turn under
-          l.made.path.items c.from.result l.invariant.same_path c.loop-turn-test.true c.from.ensures
-          c.form_next.new.made.path.items c.form_next.result c.from_residual.result c.in_err-part.field-0.0 c.in_err-part.was c.from_residual.ensures.1
+      exhausted = turn_stops shape r.turns (evaluation_choices r) (readings_of shape a.frame.now) (frame_locations shape a.frame.now) a.forming.now.path.items (evaluation_state r) _ _ _ _ r.turns (rule_of a.body.now) l.turn under
+          l.forming.path.items c.from.result l.invariant.same_path c.loop-turn-test.true c.from.ensures
+          c.form_next.new.forming.path.items c.form_next.result c.from_residual.result c.in_err-part.field-0.0 c.in_err-part.was c.from_residual.ensures.1
           (c.form_next.ensures.formed.exhausted under.set under.stands under.consistent);
     }
 
 pub form_turns-returns-clause-formed : goal.form_turns-returns-clause-formed
 form_turns-returns-clause-formed g t c =
     let a = c.args in
-    let r = a.running.now in
-    let shape = shape_at r in
+    let r = a.evaluation.now in
+    let shape = evaluation_shape r in
     let l = c.loop-turn in
     record {
       count = search rules;
       path = search rules;
       formed = search rules;
-      exhausted = turns_stop shape r.turns (chosen_at r) (readings_of shape a.frame.now) (places_of shape a.frame.now) a.made.now.path.items (state_at r) _ _ _ _ r.turns (rule_of a.body.now) l.turn l.invariant.underway c.loop-turn-test.false ∙ ap Exhausted (sym l.invariant.same_path);
+      exhausted = turns_stop shape r.turns (evaluation_choices r) (readings_of shape a.frame.now) (frame_locations shape a.frame.now) a.forming.now.path.items (evaluation_state r) _ _ _ _ r.turns (rule_of a.body.now) l.turn l.invariant.underway c.loop-turn-test.false ∙ ap Exhausted (sym l.invariant.same_path);
     }
 
 pub form-returns-in-Iterate-clause-formed : goal.form-returns-in-Iterate-clause-formed
 form-returns-in-Iterate-clause-formed g t c =
     let a = c.args in
-    let r = a.running.now in
-    let shape = shape_at r in
+    let r = a.evaluation.now in
+    let shape = evaluation_shape r in
     follows_same shape c.form_turns.result _ _ _ _
-    (iterate_yields shape r.turns (chosen_at r) (readings_of shape a.frame.now) (places_of shape a.frame.now) (state_at r) a.made.now.path.items a.rule.now c.in-Iterate.body c.in-Iterate.is c.deref-in-Iterate.result.now c.deref-in-Iterate.ensures)
+    (iterate_yields shape r.turns (evaluation_choices r) (readings_of shape a.frame.now) (frame_locations shape a.frame.now) (evaluation_state r) a.forming.now.path.items a.rule.now c.in-Iterate.body c.in-Iterate.is c.deref-in-Iterate.result.now c.deref-in-Iterate.ensures)
     c.form_turns.ensures.formed
 
 -- ---- values of a universe
@@ -454,30 +454,30 @@ form-returns-in-Iterate-clause-formed g t c =
 pub form_span-loop-i-preserved : goal.form_span-loop-i-preserved
 form_span-loop-i-preserved g t c =
     let a = c.args in
-    let r = a.running.now in
-    let shape = shape_at r in
+    let r = a.evaluation.now in
+    let shape = evaluation_shape r in
     let l = c.loop-i in
     let test = c.loop-i-test.true in
     let us = universe_at shape a.over in
-    let there = value_here shape.universes a.over c.universe-universe.result.now l.i (value_of_code c.kept.result.value) c.universe-universe.ensures (c.element.ensures ∙ ap Some (sym c.kept.ensures)) in
+    let there = value_here shape.universes a.over c.universe-universe.result.now l.i (value_of_code c.unbranded_code.result.value) c.universe-universe.ensures (c.element.ensures ∙ ap Some (sym c.unbranded_code.ensures)) in
     elim c.if-passes.branch [
-      | form_span-then-passes+in_ok-form_part w ↦ rw w.made-is (record {
+      | form_span-then-passes+in_ok-form_part w ↦ rw w.forming-is (record {
         ready = rw w.regions-is w.in_ok-form_part.ensures.ready;
         same_count = w.in_ok-form_part.ensures.formed.count ∙ l.invariant.same_count;
         same_path = w.in_ok-form_part.ensures.formed.path ∙ l.invariant.same_path;
         follows = λ new result rest. l.invariant.follows new result (follows_same shape result _ _ _ _
-            (element_yields shape r.turns (chosen_at r) (readings_of shape a.frame.now) (places_of shape a.frame.now) (state_at r) a.made.now.path.items a.over (option_map code_of a.test.now) a.body.now a.to us l.i (value_of_code c.kept.result.value) test there (sym w.if-passes.true ∙ c.passes.ensures))
-            (follows_counted shape result _ _ _ _ refl refl w.saturating_add-made.ensures
+            (element_yields shape r.turns (evaluation_choices r) (readings_of shape a.frame.now) (frame_locations shape a.frame.now) (evaluation_state r) a.forming.now.path.items a.over (option_map code_of a.test.now) a.body.now a.to us l.i (value_of_code c.unbranded_code.result.value) test there (sym w.if-passes.true ∙ c.passes.ensures))
+            (follows_counted shape result _ _ _ _ refl refl w.saturating_add-forming.ensures
             (follows_both shape tt result _ _ _ _ _
-            (follows_same shape _ _ _ _ _ (ap (λ q. element_does r a.frame.now q l.i (value_of_code c.kept.result.value) a.body.now) l.invariant.same_path) w.in_ok-form_part.ensures.formed)
+            (follows_same shape _ _ _ _ _ (ap (λ q. element_does r a.frame.now q l.i (value_of_code c.unbranded_code.result.value) a.body.now) l.invariant.same_path) w.in_ok-form_part.ensures.formed)
             rest)));
       })
-      | form_span-else-passes w ↦ rw w.made-is (record {
+      | form_span-else-passes w ↦ rw w.forming-is (record {
         ready = rw w.regions-is l.invariant.ready;
         same_count = l.invariant.same_count;
         same_path = l.invariant.same_path;
         follows = λ new result rest. l.invariant.follows new result (follows_same shape result _ _ _ _
-            (passed_yields shape r.turns (chosen_at r) (readings_of shape a.frame.now) (places_of shape a.frame.now) (state_at r) a.made.now.path.items a.over (option_map code_of a.test.now) a.body.now a.to us l.i (value_of_code c.kept.result.value) test there (sym w.if-passes.false ∙ c.passes.ensures))
+            (passed_yields shape r.turns (evaluation_choices r) (readings_of shape a.frame.now) (frame_locations shape a.frame.now) (evaluation_state r) a.forming.now.path.items a.over (option_map code_of a.test.now) a.body.now a.to us l.i (value_of_code c.unbranded_code.result.value) test there (sym w.if-passes.false ∙ c.passes.ensures))
             rest);
       })
     ]
@@ -485,64 +485,64 @@ form_span-loop-i-preserved g t c =
 pub form_span-returns-clause-formed : goal.form_span-returns-clause-formed
 form_span-returns-clause-formed g t c =
     let a = c.args in
-    let r = a.running.now in
-    let shape = shape_at r in
+    let r = a.evaluation.now in
+    let shape = evaluation_shape r in
     let l = c.loop-i in
-    l.invariant.follows _ _ (follows_nothing shape tt _ _ (no_element_yields shape r.turns (chosen_at r) (readings_of shape a.frame.now) (places_of shape a.frame.now) (state_at r) a.made.now.path.items a.over (option_map code_of a.test.now) a.body.now a.to (universe_at shape a.over) l.i (omega arith)))
+    l.invariant.follows _ _ (follows_nothing shape tt _ _ (no_element_yields shape r.turns (evaluation_choices r) (readings_of shape a.frame.now) (frame_locations shape a.frame.now) (evaluation_state r) a.forming.now.path.items a.over (option_map code_of a.test.now) a.body.now a.to (universe_at shape a.over) l.i (omega arith)))
 
 pub form_span-returns-in_err-form_part-clause-formed : goal.form_span-returns-in_err-form_part-clause-formed
 form_span-returns-in_err-form_part-clause-formed g t c =
     let a = c.args in
-    let r = a.running.now in
-    let shape = shape_at r in
+    let r = a.evaluation.now in
+    let shape = evaluation_shape r in
     let l = c.loop-i in
-    let there = value_here shape.universes a.over c.universe-universe.result.now l.i (value_of_code c.kept.result.value) c.universe-universe.ensures (c.element.ensures ∙ ap Some (sym c.kept.ensures)) in
+    let there = value_here shape.universes a.over c.universe-universe.result.now l.i (value_of_code c.unbranded_code.result.value) c.universe-universe.ensures (c.element.ensures ∙ ap Some (sym c.unbranded_code.ensures)) in
     let residual = c.from_residual in
     l.invariant.follows _ _ (follows_stopped shape c.form_part.result residual.result c.in_err-form_part.field-0.0 _ _ _ _ _ refl c.in_err-form_part.was residual.ensures.1
-    (λ last ends. exhausted_element_yields shape r.turns (chosen_at r) (readings_of shape a.frame.now) (places_of shape a.frame.now) (state_at r) a.made.now.path.items a.over (option_map code_of a.test.now) a.body.now a.to (universe_at shape a.over) l.i (value_of_code c.kept.result.value) last c.loop-i-test.true there (sym c.if-passes.true ∙ c.passes.ensures)
-    (sym (ap (λ q. (element_does r a.frame.now q l.i (value_of_code c.kept.result.value) a.body.now).result) l.invariant.same_path) ∙ ends))
+    (λ last ends. exhausted_element_yields shape r.turns (evaluation_choices r) (readings_of shape a.frame.now) (frame_locations shape a.frame.now) (evaluation_state r) a.forming.now.path.items a.over (option_map code_of a.test.now) a.body.now a.to (universe_at shape a.over) l.i (value_of_code c.unbranded_code.result.value) last c.loop-i-test.true there (sym c.if-passes.true ∙ c.passes.ensures)
+    (sym (ap (λ q. (element_does r a.frame.now q l.i (value_of_code c.unbranded_code.result.value) a.body.now).result) l.invariant.same_path) ∙ ends))
     c.form_part.ensures.formed)
 
 pub form-returns-in-Left-2-clause-formed : goal.form-returns-in-Left-2-clause-formed
 form-returns-in-Left-2-clause-formed g t c =
     let a = c.args in
-    let r = a.running.now in
-    let shape = shape_at r in
-    let left = c.region-in-Forall.new.made in
-    let same = nothing_done shape _ a.made.now left _ c.in-Left-2.is c.in_ok-region-in-Forall.ensures.taken in
-    subst (λ (m : Forming). Follows shape (rule_at r a.frame.now m.path.items (rule_of a.rule.now)) m c.form_span.new.made c.form_span.result) same (
+    let r = a.evaluation.now in
+    let shape = evaluation_shape r in
+    let left = c.region-in-Forall.new.forming in
+    let same = nothing_done shape _ a.forming.now left _ c.in-Left-2.is c.in_ok-region-in-Forall.ensures.taken in
+    subst (λ (m : Forming). Follows shape (rule_at r a.frame.now m.path.items (rule_of a.rule.now)) m c.form_span.new.forming c.form_span.result) same (
     follows_same shape c.form_span.result _ _ _ _
-    (forall_yields shape r.turns (chosen_at r) (readings_of shape a.frame.now) (places_of shape a.frame.now) (state_at r) left.path.items a.rule.now c.in-Forall.over c.in-Forall.test c.in-Forall.body c.in-Forall.is _ refl c.deref-in-Left-2.result.now c.deref-in-Left-2.ensures _
+    (forall_yields shape r.turns (evaluation_choices r) (readings_of shape a.frame.now) (frame_locations shape a.frame.now) (evaluation_state r) left.path.items a.rule.now c.in-Forall.over c.in-Forall.test c.in-Forall.body c.in-Forall.is _ refl c.deref-in-Left-2.result.now c.deref-in-Left-2.ensures _
     (size_here shape.universes c.in-Forall.over c.universe.result.now c.size-size.result c.universe.ensures c.size-size.ensures.size))
     c.form_span.ensures.formed)
 
 pub form-returns-in-Choose-clause-formed : goal.form-returns-in-Choose-clause-formed
 form-returns-in-Choose-clause-formed g t c =
     let a = c.args in
-    let r = a.running.now in
-    let shape = shape_at r in
+    let r = a.evaluation.now in
+    let shape = evaluation_shape r in
     follows_same shape c.form_choose.result _ _ _ _
-    (choose_is shape r.turns (chosen_at r) (readings_of shape a.frame.now) (places_of shape a.frame.now) (state_at r) a.made.now.path.items a.rule.now c.in-Choose.over c.in-Choose.test c.in-Choose.body c.in-Choose.none c.in-Choose.is _ c.deref-in-Choose.result.now c.deref-in-Choose-2.result.now refl c.deref-in-Choose.ensures c.deref-in-Choose-2.ensures)
+    (choose_is shape r.turns (evaluation_choices r) (readings_of shape a.frame.now) (frame_locations shape a.frame.now) (evaluation_state r) a.forming.now.path.items a.rule.now c.in-Choose.over c.in-Choose.test c.in-Choose.body c.in-Choose.none c.in-Choose.is _ c.deref-in-Choose.result.now c.deref-in-Choose-2.result.now refl c.deref-in-Choose.ensures c.deref-in-Choose-2.ensures)
     c.form_choose.ensures.formed
 
 pub form_choose-returns-clause-formed : goal.form_choose-returns-clause-formed
 form_choose-returns-clause-formed g t c =
     let a = c.args in
-    let r = a.running.now in
-    let shape = shape_at r in
+    let r = a.evaluation.now in
+    let shape = evaluation_shape r in
     follows_same shape c.form_part-2.result _ _ _ _
-    (choose_some shape r.turns (chosen_at r) (readings_of shape a.frame.now) (places_of shape a.frame.now) (state_at r) a.made.now.path.items a.over a.test.now a.body.now a.none.now (value_of_code c.kept.result.value)
-    (ap Some c.kept.ensures ∙ sym c.in-Some.is ∙ c.chosen.ensures ∙ ap (λ q. taken (chosen_at r q) (passing_in r.view.now a.frame.now a.over a.test.now)) c.as_slice.ensures.value))
+    (choose_some shape r.turns (evaluation_choices r) (readings_of shape a.frame.now) (frame_locations shape a.frame.now) (evaluation_state r) a.forming.now.path.items a.over a.test.now a.body.now a.none.now (value_of_code c.unbranded_code.result.value)
+    (ap Some c.unbranded_code.ensures ∙ sym c.in-Some.is ∙ c.chosen.ensures ∙ ap (λ q. taken (evaluation_choices r q) (passing_in r.view.now a.frame.now a.over a.test.now)) c.as_slice.ensures.value))
     c.form_part-2.ensures.formed
 
 pub form_choose-returns-in_default-clause-formed : goal.form_choose-returns-in_default-clause-formed
 form_choose-returns-in_default-clause-formed g t c =
     let a = c.args in
-    let r = a.running.now in
-    let shape = shape_at r in
+    let r = a.evaluation.now in
+    let shape = evaluation_shape r in
     follows_same shape c.form_part.result _ _ _ _
-    (choose_none shape r.turns (chosen_at r) (readings_of shape a.frame.now) (places_of shape a.frame.now) (state_at r) a.made.now.path.items a.over a.test.now a.body.now a.none.now
-    (sym c.in_default.is ∙ c.chosen.ensures ∙ ap (λ q. taken (chosen_at r q) (passing_in r.view.now a.frame.now a.over a.test.now)) c.as_slice.ensures.value))
+    (choose_none shape r.turns (evaluation_choices r) (readings_of shape a.frame.now) (frame_locations shape a.frame.now) (evaluation_state r) a.forming.now.path.items a.over a.test.now a.body.now a.none.now
+    (sym c.in_default.is ∙ c.chosen.ensures ∙ ap (λ q. taken (evaluation_choices r q) (passing_in r.view.now a.frame.now a.over a.test.now)) c.as_slice.ensures.value))
     c.form_part.ensures.formed
 
 -- ---- calls
@@ -550,16 +550,16 @@ form_choose-returns-in_default-clause-formed g t c =
 pub form-returns-in-Call-clause-formed : goal.form-returns-in-Call-clause-formed
 form-returns-in-Call-clause-formed g t c =
     let a = c.args in
-    let r = a.running.now in
-    let shape = shape_at r in
+    let r = a.evaluation.now in
+    let shape = evaluation_shape r in
     follows_same shape c.form_call.result _ _ _ _
-    (call_is shape r.turns (chosen_at r) (readings_of shape a.frame.now) (places_of shape a.frame.now) (state_at r) a.made.now.path.items a.rule.now c.in-Call.body c.in-Call.answer c.in-Call.arguments c.in-Call.is c.deref-in-Call.result.now _ c.as_slice-in-Call.result.now c.deref-in-Call.ensures refl c.as_slice-in-Call.ensures.value)
+    (call_is shape r.turns (evaluation_choices r) (readings_of shape a.frame.now) (frame_locations shape a.frame.now) (evaluation_state r) a.forming.now.path.items a.rule.now c.in-Call.body c.in-Call.answer c.in-Call.arguments c.in-Call.is c.deref-in-Call.result.now _ c.as_slice-in-Call.result.now c.deref-in-Call.ensures refl c.as_slice-in-Call.ensures.value)
     c.form_call.ensures.formed
 
 pub form_call-returns-clause-formed : goal.form_call-returns-clause-formed
 form_call-returns-clause-formed g t c =
     let a = c.args in
-    let r = a.running.now in
-    let shape = shape_at r in
+    let r = a.evaluation.now in
+    let shape = evaluation_shape r in
     follows_same shape c.form_part.result _ _ _ _
-    (call_with shape r.turns (chosen_at r) (readings_of shape a.frame.now) (places_of shape a.frame.now) (state_at r) a.made.now.path.items a.body.now a.answer.now a.arguments.now c.in_ok-answer.answer c.in_ok-answer.ensures.location) c.form_part.ensures.formed
+    (call_with shape r.turns (evaluation_choices r) (readings_of shape a.frame.now) (frame_locations shape a.frame.now) (evaluation_state r) a.forming.now.path.items a.body.now a.answer.now a.arguments.now c.in_ok-answer.answer c.in_ok-answer.ensures.location) c.form_part.ensures.formed

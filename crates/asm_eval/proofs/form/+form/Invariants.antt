@@ -3,15 +3,15 @@ use Rattle.std.specs.Prelude.{Result, option_map}
 use Rattle.asm_state.specs.Signature.{count_of}
 use Rattle.asm_meaning.specs.declared.outcome.Forming.{Forming}
 use Rattle.asm_meaning.specs.declared.stopped.Stopped.{Stopped}
-use Rattle.asm_meaning.specs.Formed.{Follows}
-use Rattle.asm_meaning.specs.Underway.{IsUnderway}
-use Rattle.asm_code.specs.CodeViews.{code_of}
-use Rattle.asm_code.specs.Readings.{universe_at}
-use Rattle.asm_code.specs.RuleMeaning.{rule_size, rule_sizes}
-use Rattle.asm_code.specs.RuleTree as tree
-use Rattle.asm_code.specs.RuleViews.{rule_of, rules_of}
-use Rattle.asm_eval.specs.Frames.{readings_of}
-use Rattle.asm_eval.specs.Running.{shape_at, state_at, chosen_at, places_of, parts_at, in_order_at, rule_at}
+use Rattle.asm_meaning.specs.code.FormedOutcomes.{Follows}
+use Rattle.asm_meaning.specs.code.SequenceUnderway.{IsUnderway}
+use Rattle.asm_code.specs.code.CodeViews.{code_of}
+use Rattle.asm_code.specs.code.Readings.{universe_at}
+use Rattle.asm_code.specs.code.RuleMeaning.{rule_size, rule_sizes}
+use Rattle.asm_code.specs.code.RuleTree as tree
+use Rattle.asm_code.specs.code.RuleViews.{rule_of, rules_of}
+use Rattle.asm_eval.specs.code.Frames.{readings_of}
+use Rattle.asm_eval.specs.code.Evaluation.{evaluation_shape, evaluation_state, evaluation_choices, frame_locations, parts_at, in_order_at, rule_at}
 use Rattle.asm_eval.proofs.CodeSequences.{parts_left, turns_left}
 use Rattle.asm_eval.proofs.RuleYields.{span_yields}
 use Rattle.asm_eval.proofs.form.+form.Given as goal
@@ -56,58 +56,59 @@ decreases-form_upon g l = 5 * rule_size (rule_of l.rule.now) + 3
 
 -- ---- the loops
 
--- whatever follows what the parts yield that are left follows what all of them yield, from the start on
+-- whatever follows what the parts yield that are left follows what all of them yield, from the
+-- start on
 abbrev pub invariant-form_all-loop-i : goal.invariant-form_all-loop-i
 invariant-form_all-loop-i g l = record {
   ready : g.G.Regions.is_ready l.regions;
-  same_count : l.made.set.count ≡ l.initial.made.set.count;
-  same_path : l.made.path.items ≡ l.initial.made.path.items;
+  same_count : l.forming.set.count ≡ l.initial.forming.set.count;
+  same_path : l.forming.path.items ≡ l.initial.forming.path.items;
   follows : (new : Forming) (r : Result (Unit {0}) Stopped)
-      → Follows (shape_at l.running) (parts_at l.running l.frame l.initial.made.path.items l.i (rules_of (map rule_of (drop l.i l.parts)))) l.made new r
-      → Follows (shape_at l.running) (parts_at l.running l.frame l.initial.made.path.items 0 (rules_of (map rule_of l.parts))) l.initial.made new r;
+      → Follows (evaluation_shape l.evaluation) (parts_at l.evaluation l.frame l.initial.forming.path.items l.i (rules_of (map rule_of (drop l.i l.parts)))) l.forming new r
+      → Follows (evaluation_shape l.evaluation) (parts_at l.evaluation l.frame l.initial.forming.path.items 0 (rules_of (map rule_of l.parts))) l.initial.forming new r;
 }
 
 -- the same of the values of an interval
 abbrev pub invariant-form_span-loop-i : goal.invariant-form_span-loop-i
 invariant-form_span-loop-i g l =
-    let shape = shape_at l.running in
-    let left = span_yields shape l.running.turns (chosen_at l.running) (readings_of shape l.frame) (places_of shape l.frame) (state_at l.running) l.initial.made.path.items
+    let shape = evaluation_shape l.evaluation in
+    let left = span_yields shape l.evaluation.turns (evaluation_choices l.evaluation) (readings_of shape l.frame) (frame_locations shape l.frame) (evaluation_state l.evaluation) l.initial.forming.path.items
     l.over (option_map code_of l.test) l.body l.to (universe_at shape l.over) in
     record {
       ready : g.G.Regions.is_ready l.regions;
-      same_count : l.made.set.count ≡ l.initial.made.set.count;
-      same_path : l.made.path.items ≡ l.initial.made.path.items;
-      follows : (new : Forming) (r : Result (Unit {0}) Stopped) → Follows shape (left l.i) l.made new r → Follows shape (left l.from) l.initial.made new r;
+      same_count : l.forming.set.count ≡ l.initial.forming.set.count;
+      same_path : l.forming.path.items ≡ l.initial.forming.path.items;
+      follows : (new : Forming) (r : Result (Unit {0}) Stopped) → Follows shape (left l.i) l.forming new r → Follows shape (left l.from) l.initial.forming new r;
     }
 
 -- the sets of the parts so far, and what is left of the parts
 abbrev pub invariant-form_in_order-loop-i : goal.invariant-form_in_order-loop-i
 invariant-form_in_order-loop-i g l =
-    let shape = shape_at l.running in
+    let shape = evaluation_shape l.evaluation in
     record {
       ready : g.G.Regions.is_ready l.regions;
-      same_count : l.made.set.count ≡ l.initial.made.set.count;
-      same_path : l.made.path.items ≡ l.initial.made.path.items;
+      same_count : l.forming.set.count ≡ l.initial.forming.set.count;
+      same_path : l.forming.path.items ≡ l.initial.forming.path.items;
       same_before : l.before ≡ l.initial.before;
       counted : l.so_far.count ≡ count_of shape;
-      underway : IsUnderway shape (state_at l.running)
-          (in_order_at l.running l.frame l.initial.made.path.items (rules_of (map rule_of l.parts)))
-          (parts_left shape l.running.turns (chosen_at l.running) (readings_of shape l.frame) (places_of shape l.frame) l.initial.made.path.items l.parts l.i)
-          l.so_far l.initial.made.instances l.made.instances;
+      underway : IsUnderway shape (evaluation_state l.evaluation)
+          (in_order_at l.evaluation l.frame l.initial.forming.path.items (rules_of (map rule_of l.parts)))
+          (parts_left shape l.evaluation.turns (evaluation_choices l.evaluation) (readings_of shape l.frame) (frame_locations shape l.frame) l.initial.forming.path.items l.parts l.i)
+          l.so_far l.initial.forming.instances l.forming.instances;
     }
 
 -- the sets of the turns so far, and what is left of the turns
 abbrev pub invariant-form_turns-loop-turn : goal.invariant-form_turns-loop-turn
 invariant-form_turns-loop-turn g l =
-    let shape = shape_at l.running in
+    let shape = evaluation_shape l.evaluation in
     record {
       ready : g.G.Regions.is_ready l.regions;
-      same_count : l.made.set.count ≡ l.initial.made.set.count;
-      same_path : l.made.path.items ≡ l.initial.made.path.items;
+      same_count : l.forming.set.count ≡ l.initial.forming.set.count;
+      same_path : l.forming.path.items ≡ l.initial.forming.path.items;
       same_before : l.before ≡ l.initial.before;
       counted : l.so_far.count ≡ count_of shape;
-      underway : IsUnderway shape (state_at l.running)
-          (rule_at l.running l.frame l.initial.made.path.items (tree.Iterate (rule_of l.body)))
-          (turns_left shape l.running.turns (chosen_at l.running) (readings_of shape l.frame) (places_of shape l.frame) l.initial.made.path.items l.running.turns (rule_of l.body) l.turn)
-          l.so_far l.initial.made.instances l.made.instances;
+      underway : IsUnderway shape (evaluation_state l.evaluation)
+          (rule_at l.evaluation l.frame l.initial.forming.path.items (tree.Iterate (rule_of l.body)))
+          (turns_left shape l.evaluation.turns (evaluation_choices l.evaluation) (readings_of shape l.frame) (frame_locations shape l.frame) l.initial.forming.path.items l.evaluation.turns (rule_of l.body) l.turn)
+          l.so_far l.initial.forming.instances l.forming.instances;
     }

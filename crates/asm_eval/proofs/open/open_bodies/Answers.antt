@@ -3,26 +3,26 @@ use Rattle.std.specs.Prelude.{option_map}
 use Rattle.std.proofs.lemmas.List.{length-map, length_push}
 use Rattle.std.proofs.lemmas.List.Elements.{All-nil}
 use Rattle.asm_state.specs.Words.{value_of_code}
-use Rattle.asm_code.specs.CodeViews.{code_of}
-use Rattle.asm_code.specs.Readings.{always, universe_at}
-use Rattle.asm_code.specs.RuleViews.{rule_of}
+use Rattle.asm_code.specs.code.CodeViews.{code_of}
+use Rattle.asm_code.specs.code.Readings.{always, universe_at}
+use Rattle.asm_code.specs.code.RuleViews.{rule_of}
 use Rattle.asm_eval.proofs.Lists.{all_more}
 use Rattle.asm_eval.proofs.OpenedRules.{bodies_from, body_more, body_passed, given, no_bodies, none_left, none_yet, one_more}
 use Rattle.asm_eval.proofs.RuleYields.{value_here}
-use Rattle.asm_eval.specs.Frames.{readings_of}
-use Rattle.asm_eval.specs.Opening.{all_of, counted_works, work_of}
-use Rattle.asm_eval.specs.Pieces.{IsPiece}
-use Rattle.asm_eval.specs.Running.{places_of, shape_at, state_at}
+use Rattle.asm_eval.specs.code.Frames.{readings_of}
+use Rattle.asm_eval.specs.code.Opening.{all_of, counted_works, work_of}
+use Rattle.asm_eval.specs.code.Pieces.{IsPiece}
+use Rattle.asm_eval.specs.code.Evaluation.{frame_locations, evaluation_shape, evaluation_state}
 use Rattle.asm_eval.proofs.open.open_bodies.Goals as goal
 use Rattle.asm_eval.proofs.open.open_bodies.Goals.{then-passes+in_ok-below+in_ok-push, else-passes}
 
 pub loop-i-init : goal.loop-i-init
 loop-i-init g c =
     let a = c.args in
-    let r = a.running.now in
-    let shape = shape_at r in
+    let r = a.evaluation.now in
+    let shape = evaluation_shape r in
     let none = c.new-pieces.ensures.items in
-    let all = bodies_from shape (state_at r) (option_map code_of a.test.now) (rule_of a.body.now) (readings_of shape a.frame.now) (places_of shape a.frame.now) a.path.now a.to (universe_at shape a.over) a.from in
+    let all = bodies_from shape (evaluation_state r) (option_map code_of a.test.now) (rule_of a.body.now) (readings_of shape a.frame.now) (frame_locations shape a.frame.now) a.path.now a.to (universe_at shape a.over) a.from in
     record {
       low = omega arith;
       few = omega arith;
@@ -34,17 +34,17 @@ loop-i-init g c =
 pub loop-i-preserved : goal.loop-i-preserved
 loop-i-preserved g c =
     let a = c.args in
-    let r = a.running.now in
-    let shape = shape_at r in
-    let A = state_at r in
+    let r = a.evaluation.now in
+    let shape = evaluation_shape r in
+    let A = evaluation_state r in
     let l = c.loop-i in
     let rs = readings_of shape a.frame.now in
-    let ls = places_of shape a.frame.now in
+    let ls = frame_locations shape a.frame.now in
     let us = universe_at shape a.over in
     let test = option_map code_of a.test.now in
     let body = rule_of a.body.now in
-    let v = value_of_code c.kept.result.value in
-    let there = value_here shape.universes a.over c.universe-universe.result.now l.i v c.universe-universe.ensures (c.element.ensures ∙ ap Some (sym c.kept.ensures)) in
+    let v = value_of_code c.unbranded_code.result.value in
+    let there = value_here shape.universes a.over c.universe-universe.result.now l.i v c.universe-universe.ensures (c.element.ensures ∙ ap Some (sym c.unbranded_code.ensures)) in
     let rest = bodies_from shape A test body rs ls a.path.now a.to us in
     elim c.if-passes.branch [
       | then-passes+in_ok-below+in_ok-push w ↦
@@ -77,10 +77,10 @@ loop-i-preserved g c =
 pub returns : goal.returns
 returns g c =
     let a = c.args in
-    let r = a.running.now in
-    let shape = shape_at r in
+    let r = a.evaluation.now in
+    let shape = evaluation_shape r in
     let l = c.loop-i in
-    let none = no_bodies shape (state_at r) (option_map code_of a.test.now) (rule_of a.body.now) (readings_of shape a.frame.now) (places_of shape a.frame.now) a.path.now a.to (universe_at shape a.over) l.i (omega (arith, c.loop-i-test.false)) in
+    let none = no_bodies shape (evaluation_state r) (option_map code_of a.test.now) (rule_of a.body.now) (readings_of shape a.frame.now) (frame_locations shape a.frame.now) a.path.now a.to (universe_at shape a.over) l.i (omega (arith, c.loop-i-test.false)) in
     record {
       works = ap (λ n. given n (map (work_of shape) l.pieces.items)) (l.invariant.counted ∙ sym (length-map l.pieces.items (work_of shape)))
           ∙ ap counted_works (none_left (work_of shape) l.pieces.items _ _ none l.invariant.works);

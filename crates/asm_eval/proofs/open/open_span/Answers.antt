@@ -1,28 +1,28 @@
 use Rattle.std.proofs.Common.{◌∙◌, ap, sym, arith}
 use Rattle.std.specs.Prelude.{option_map}
-use Rattle.asm_meaning.specs.Intervals.{between}
+use Rattle.asm_meaning.specs.code.Intervals.{between}
 use Rattle.asm_meaning.specs.declared.part.Part.TheVariants as part
 use Rattle.asm_code.proofs.RuleForms.{rule_laws-forall_form as forall_form}
-use Rattle.asm_code.specs.CodeViews.{code_of}
-use Rattle.asm_code.specs.Readings.{universe_at}
-use Rattle.asm_code.specs.RuleTree as tree
-use Rattle.asm_code.specs.RuleViews.{rule_of}
+use Rattle.asm_code.specs.code.CodeViews.{code_of}
+use Rattle.asm_code.specs.code.Readings.{universe_at}
+use Rattle.asm_code.specs.code.RuleTree as tree
+use Rattle.asm_code.specs.code.RuleViews.{rule_of}
 use Rattle.asm_code.specs.declared.rule_code.RuleCode.{RuleCode}
 use Rattle.asm_eval.proofs.OpenedRules.{bodies_opened, opens_same}
-use Rattle.asm_eval.specs.Frames.{readings_of}
-use Rattle.asm_eval.specs.Opening.{body_works, counted_works, part_opened}
-use Rattle.asm_eval.specs.Running.{chosen_at, places_of, shape_at, state_at}
+use Rattle.asm_eval.specs.code.Frames.{readings_of}
+use Rattle.asm_eval.specs.code.Opening.{body_works, counted_works, part_opened}
+use Rattle.asm_eval.specs.code.Evaluation.{evaluation_choices, frame_locations, evaluation_shape, evaluation_state}
 use Rattle.asm_eval.proofs.open.open_span.Goals as goal
 
 pub returns : goal.returns
 returns g c =
     let a = c.args in
-    let r = a.running.now in
-    let shape = shape_at r in
-    let A = state_at r in
+    let r = a.evaluation.now in
+    let shape = evaluation_shape r in
+    let A = evaluation_state r in
     let it = c.in-Forall in
     let rs = readings_of shape a.piece.now.frame in
-    let ls = places_of shape a.piece.now.frame in
+    let ls = frame_locations shape a.piece.now.frame in
     let p = a.piece.now.path in
     let test = option_map code_of it.test in
     let body = rule_of c.deref.result.now in
@@ -30,5 +30,5 @@ returns g c =
     opens_same r c.open_bodies.result _ _
     (ap (λ q. counted_works (body_works shape A test body rs ls q a.from (between a.from a.to (universe_at shape it.over)))) c.as_slice.ensures
     ∙ bodies_opened a.cut shape A rs ls p a.from a.to it.over test body (omega arith)
-    ∙ ap (λ R. part_opened shape A (chosen_at r) a.cut R rs ls p (part.Span a.from a.to)) (sym is))
+    ∙ ap (λ R. part_opened shape A (evaluation_choices r) a.cut R rs ls p (part.Span a.from a.to)) (sym is))
     c.open_bodies.ensures

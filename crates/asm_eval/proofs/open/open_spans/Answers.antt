@@ -2,22 +2,22 @@ use Rattle.std.proofs.Common.{◌+◌, ◌-◌, ◌≤◌, ◌≡◌, ◌∙◌,
 use Rattle.std.specs.Prelude.{min}
 use Rattle.std.proofs.lemmas.List.Elements.{All-nil}
 use Rattle.asm_meaning.specs.declared.part.Part.TheVariants as part
-use Rattle.asm_code.specs.RuleViews.{rule_of}
+use Rattle.asm_code.specs.code.RuleViews.{rule_of}
 use Rattle.asm_eval.proofs.Lists.{all_more}
 use Rattle.asm_eval.proofs.OpenedRules.{given, no_spans, none_left, none_yet, one_more, part_of_part, span_next, spans_from, spans_opened}
-use Rattle.asm_eval.specs.Frames.{readings_of}
-use Rattle.asm_eval.specs.Opening.{part_of, work_of}
-use Rattle.asm_eval.specs.Pieces.{IsPiece}
-use Rattle.asm_eval.specs.Running.{chosen_at, places_of, shape_at, state_at}
+use Rattle.asm_eval.specs.code.Frames.{readings_of}
+use Rattle.asm_eval.specs.code.Opening.{part_of, work_of}
+use Rattle.asm_eval.specs.code.Pieces.{IsPiece}
+use Rattle.asm_eval.specs.code.Evaluation.{evaluation_choices, frame_locations, evaluation_shape, evaluation_state}
 use Rattle.asm_eval.proofs.open.open_spans.Goals as goal
 
 pub loop-next-init : goal.loop-next-init
 loop-next-init g c =
     let a = c.args in
-    let shape = shape_at a.running.now in
+    let shape = evaluation_shape a.evaluation.now in
     let f = a.piece.now.frame in
     let none = c.in_ok-pieces.ensures.items in
-    let all = spans_from a.cut (rule_of a.piece.now.rule.now) (readings_of shape f) (places_of shape f) a.piece.now.path a.to a.from in
+    let all = spans_from a.cut (rule_of a.piece.now.rule.now) (readings_of shape f) (frame_locations shape f) a.piece.now.path a.to a.from in
     record {
       low = omega arith;
       high = c.requires.rises;
@@ -28,13 +28,13 @@ loop-next-init g c =
 pub loop-next-preserved : goal.loop-next-preserved
 loop-next-preserved g c =
     let a = c.args in
-    let shape = shape_at a.running.now in
+    let shape = evaluation_shape a.evaluation.now in
     let l = c.loop-next in
     let f = a.piece.now.frame in
     let p = a.piece.now.path in
     let R = rule_of a.piece.now.rule.now in
     let rs = readings_of shape f in
-    let ls = places_of shape f in
+    let ls = frame_locations shape f in
     let more = c.in_ok-push.ensures.items in
     let least = c.min.ensures in
     let before = c.loop-next-test.true in
@@ -60,16 +60,16 @@ loop-next-preserved g c =
 pub returns : goal.returns
 returns g c =
     let a = c.args in
-    let r = a.running.now in
-    let shape = shape_at r in
+    let r = a.evaluation.now in
+    let shape = evaluation_shape r in
     let l = c.loop-next in
     let f = a.piece.now.frame in
     let rs = readings_of shape f in
-    let ls = places_of shape f in
+    let ls = frame_locations shape f in
     let R = rule_of a.piece.now.rule.now in
     let none = ap (map (part_of R rs ls a.piece.now.path)) (no_spans a.cut (a.to - l.next) l.next a.to (omega (arith, c.loop-next-test.false))) in
     record {
       works = ap (given 0) (none_left (work_of shape) l.pieces.items _ _ none l.invariant.works)
-          ∙ spans_opened a.cut shape (state_at r) rs ls a.piece.now.path a.from a.to (chosen_at r) R c.requires.part c.requires.long;
+          ∙ spans_opened a.cut shape (evaluation_state r) rs ls a.piece.now.path a.from a.to (evaluation_choices r) R c.requires.part c.requires.long;
       are_pieces = l.invariant.are_pieces;
     }

@@ -5,25 +5,25 @@ use Rattle.asm_state.specs.declared.operation.Op.{Op}
 use Rattle.asm_state.specs.declared.operation.Op.TheVariants.{Add, Remainder, Equal}
 use Rattle.asm_state.specs.declared.value.Value.TheVariants.{Number}
 use Rattle.asm_state.specs.Words.{value_of_code}
-use Rattle.asm_meaning.specs.Valued.{shown}
-use Rattle.asm_code.specs.CodeViews.{code_of}
-use Rattle.asm_code.specs.Readings.{at_position, reading}
-use Rattle.asm_code.specs.Sizes.{size, sizes}
-use Rattle.asm_code.specs.Sound.{IsSound, AreSound, count}
-use Rattle.asm_code.specs.CodeViews.{codes_of, link_of, links_of}
+use Rattle.asm_meaning.specs.code.TermValues.{shown}
+use Rattle.asm_code.specs.code.CodeViews.{code_of}
+use Rattle.asm_code.specs.code.Readings.{at_position, reading}
+use Rattle.asm_code.specs.code.Sizes.{size, sizes}
+use Rattle.asm_code.specs.code.SoundCodes.{IsSound, AreSound, count}
+use Rattle.asm_code.specs.code.CodeViews.{codes_of, link_of, links_of}
 use Rattle.asm_code.specs.declared.code.Code.{Code}
-use Rattle.asm_eval.specs.Founds.{found_load, IsSoundFound}
-use Rattle.asm_eval.specs.Frames.{AllSound, bound_value, code_value, load, readings_of}
+use Rattle.asm_eval.specs.code.FrameBindings.{binding_load, IsSoundBinding}
+use Rattle.asm_eval.specs.code.Frames.{AllSound, bound_value, code_value, frame_size, readings_of}
 use Rattle.std.specs.List.{list_all}
 use Rattle.std.proofs.lemmas.Grind.{common_steps}
 use Rattle.std.proofs.lemmas.List.{append-nil, take_all}
 use Rattle.std.proofs.lemmas.List.Folds.{list_all_at}
-use Rattle.asm_code.specs.CodeTree as tree
+use Rattle.asm_code.specs.code.CodeTree as tree
 use Rattle.asm_code.proofs.CodeForms.{code_laws-count_of_codes as count_of_codes, code_laws-every_form as every_form, code_laws-exists_form as exists_form, code_laws-held_form as held_form}
-use Rattle.asm_eval.proofs.Ands.{not_holds, not_of, both_or, or_false, or_neither, or_true, both_and, chain_true, holds_in}
+use Rattle.asm_eval.proofs.AndChains.{not_holds, not_of, both_or, or_false, or_neither, or_true, both_and, chain_true, holds_in}
 use Rattle.asm_eval.proofs.Arguments.{all_valued}
-use Rattle.asm_eval.proofs.Cases.{of_constant, of_local, of_cell, with_is, turned_is, one_is, two_is, both_is, row_is, grid_is, chain_begins, chain_ends, chain_goes_on, of_held, of_derived}
-use Rattle.asm_eval.specs.Ands.{is_false}
+use Rattle.asm_eval.proofs.ValueCases.{of_constant, of_local, of_cell, with_is, turned_is, one_is, two_is, both_is, row_is, grid_is, chain_begins, chain_ends, chain_goes_on, of_held, of_derived}
+use Rattle.asm_eval.specs.code.AndChains.{is_false}
 use Rattle.asm_eval.proofs.Members.{size_within, sound_within, link_size_within, link_sound_within, sizes_some, sizes_parts, sound_parts}
 use Rattle.asm_eval.proofs.BoundValues.{alone_bound, lasts_bound, values_are}
 use Rattle.asm_eval.proofs.FramePositions.{within_values}
@@ -41,7 +41,7 @@ value-returns-in-Local t c =
 pub value-returns-in-Cell : goal.value-returns-in-Cell
 value-returns-in-Cell t c =
     let a = c.args in
-    of_cell a.view.now.signature.now (readings_of a.view.now.signature.now a.frame.now) (shown a.view.now) a.code.now c.in-Cell.n c.far_cell.result c.in-Cell.is c.far_cell.ensures
+    of_cell a.view.now.signature.now (readings_of a.view.now.signature.now a.frame.now) (shown a.view.now) a.code.now c.in-Cell.n c.cell_by_call.result c.in-Cell.is c.cell_by_call.ensures
 
 pub operand-returns-in-Constant : goal.operand-returns-in-Constant
 operand-returns-in-Constant t c = let a = c.args in of_constant a.view.now.signature.now (readings_of a.view.now.signature.now a.frame.now) (shown a.view.now) a.code.now c.in-Constant.value c.in-Constant.is
@@ -54,12 +54,12 @@ operand-returns-in-Local t c =
 pub operand-returns-in-Cell : goal.operand-returns-in-Cell
 operand-returns-in-Cell t c =
     let a = c.args in
-    of_cell a.view.now.signature.now (readings_of a.view.now.signature.now a.frame.now) (shown a.view.now) a.code.now c.in-Cell.n c.far_cell.result c.in-Cell.is c.far_cell.ensures
+    of_cell a.view.now.signature.now (readings_of a.view.now.signature.now a.frame.now) (shown a.view.now) a.code.now c.in-Cell.n c.cell_by_call.result c.in-Cell.is c.cell_by_call.ensures
 
 pub with-returns : goal.with-returns
 with-returns t c =
     let a = c.args in
-    with_is a.view.now.signature.now (readings_of a.view.now.signature.now a.frame.now) (shown a.view.now) a.operation (code_of a.left.now) a.right c.operand-left.result c.far_applied.result c.operand-left.ensures c.far_applied.ensures
+    with_is a.view.now.signature.now (readings_of a.view.now.signature.now a.frame.now) (shown a.view.now) a.operation (code_of a.left.now) a.right c.operand-left.result c.applied_by_call.result c.operand-left.ensures c.applied_by_call.ensures
 
 pub plus-returns : goal.plus-returns
 plus-returns t c =
@@ -102,14 +102,14 @@ both-returns t c =
 pub compared_with-returns : goal.compared_with-returns
 compared_with-returns t c =
     let a = c.args in
-    c.is_so.ensures
+    c.is_true_of.ensures
     ∙ ap spec.is_true (with_is a.view.now.signature.now (readings_of a.view.now.signature.now a.frame.now) (shown a.view.now) a.operation (code_of a.left.now) a.right c.operand-left.result
     (op a.operation c.operand-left.result a.right) c.operand-left.ensures refl)
 
 pub compared-returns : goal.compared-returns
 compared-returns t c =
     let a = c.args in
-    c.is_so.ensures
+    c.is_true_of.ensures
     ∙ ap spec.is_true (both_is a.view.now.signature.now (readings_of a.view.now.signature.now a.frame.now) (shown a.view.now) a.operation (code_of a.left.now) (code_of a.right.now) c.operand-a.result c.operand-b.result
     (op a.operation c.operand-a.result c.operand-b.result) c.operand-a.ensures c.operand-b.ensures refl)
 
@@ -156,20 +156,20 @@ local-returns-in-Some t c =
     ap (λ r. r (shown a.view.now)) (within_values c.in-Values.values.now (readings_of shape c.in-Values.outer.now) a.position c.in-Some.value.now here.3.0 here.1
     ∙ sym (ap (λ f. at_position (readings_of shape f) a.position) c.in-Values.is))
 
-pub far_local-value-requires : goal.far_local-value-requires
-far_local-value-requires t c =
-    let sound = subst (IsSoundFound c.args.view.now.signature.now) c.in-ByName.is (c.find.ensures.sound c.args.view.now.signature.now c.requires.framed) in
-    let lighter = subst (λ f. found_load f ≤ load c.args.frame.now) c.in-ByName.is c.find.ensures.load in
+pub local_by_call-value-requires : goal.local_by_call-value-requires
+local_by_call-value-requires t c =
+    let sound = subst (IsSoundBinding c.args.view.now.signature.now) c.in-ByName.is (c.find.ensures.sound c.args.view.now.signature.now c.requires.framed) in
+    let lighter = subst (λ f. binding_load f ≤ frame_size c.args.frame.now) c.in-ByName.is c.find.ensures.load in
     (omega (arith, c.decreases, lighter), (sound.0, sound.1))
 
-pub held-returns : goal.held-returns
-held-returns t c =
+pub function_at-returns : goal.function_at-returns
+function_at-returns t c =
     let a = c.args in
     of_held a.view.now.signature.now (readings_of a.view.now.signature.now a.frame.now) (shown a.view.now) a.function a.arguments.now _ _
     (all_valued (code_value a.view.now a.frame.now) a.arguments.now c.loop-i.values c.loop-i.i c.loop-i-test.false c.loop-i.auto.i-end c.loop-i.invariant.valued) c.function_value.ensures
 
-pub held-operand-requires : goal.held-operand-requires
-held-operand-requires t c =
+pub function_at-operand-requires : goal.function_at-operand-requires
+function_at-operand-requires t c =
     let a = c.args in
     let small = size_within a.arguments.now c.loop-i.i c.index-arguments-i.result c.loop-i-test.true c.index-arguments-i.is in
     (omega (arith, c.decreases, small), (sound_within a.view.now.signature.now a.arguments.now c.loop-i.i c.index-arguments-i.result c.loop-i-test.true c.index-arguments-i.is c.requires.sound, c.requires.framed))
@@ -180,8 +180,8 @@ derived-operand-requires t c =
     let small = size_within a.arguments.now c.loop-i.i c.index-arguments-i.result c.loop-i-test.true c.index-arguments-i.is in
     (omega (arith, c.decreases, small), (sound_within a.view.now.signature.now a.arguments.now c.loop-i.i c.index-arguments-i.result c.loop-i-test.true c.index-arguments-i.is c.requires.sound, c.requires.framed))
 
-pub derived-returns-then-arguments-le-FEW : goal.derived-returns-then-arguments-le-FEW
-derived-returns-then-arguments-le-FEW t c =
+pub derived-returns-then-arguments-le-MAX_ARGUMENTS : goal.derived-returns-then-arguments-le-MAX_ARGUMENTS
+derived-returns-then-arguments-le-MAX_ARGUMENTS t c =
     let a = c.args in
     let are = all_valued (code_value a.view.now a.frame.now) a.arguments.now c.loop-i.values c.loop-i.i c.loop-i-test.false c.loop-i.auto.i-end c.loop-i.invariant.valued in
     let it = of_derived a.view.now.signature.now (readings_of a.view.now.signature.now a.frame.now) (shown a.view.now) a.body.now a.arguments.now _ are in
@@ -191,13 +191,13 @@ pub every-returns-then-not-tested : goal.every-returns-then-not-tested
 every-returns-then-not-tested t c =
     let a = c.args in
     let fails = sym c.holds-tested.ensures ∙ c.if-not-tested.true in
-    fails_at a.view.now.signature.now (readings_of a.view.now.signature.now a.frame.now) (shown a.view.now) a.over (code_of a.test.now) c.universe-universe.result.now c.loop-i.i (value_of_code c.kept.result.value) c.universe-universe.ensures (c.element.ensures ∙ ap Some (sym c.kept.ensures)) fails
+    fails_at a.view.now.signature.now (readings_of a.view.now.signature.now a.frame.now) (shown a.view.now) a.over (code_of a.test.now) c.universe-universe.result.now c.loop-i.i (value_of_code c.unbranded_code.result.value) c.universe-universe.ensures (c.element.ensures ∙ ap Some (sym c.unbranded_code.ensures)) fails
 
 pub every-loop-i-preserved : goal.every-loop-i-preserved
 every-loop-i-preserved t c =
     let a = c.args in
     let passed = sym c.holds-tested.ensures ∙ c.if-not-tested.false in
-    all_more (passes a.view.now.signature.now (readings_of a.view.now.signature.now a.frame.now) (shown a.view.now) a.over (code_of a.test.now)) c.universe-universe.result.now c.loop-i.i (value_of_code c.kept.result.value) (c.element.ensures ∙ ap Some (sym c.kept.ensures)) c.loop-i.invariant passed
+    all_more (passes a.view.now.signature.now (readings_of a.view.now.signature.now a.frame.now) (shown a.view.now) a.over (code_of a.test.now)) c.universe-universe.result.now c.loop-i.i (value_of_code c.unbranded_code.result.value) (c.element.ensures ∙ ap Some (sym c.unbranded_code.ensures)) c.loop-i.invariant passed
 
 pub every-returns : goal.every-returns
 every-returns t c =
@@ -208,13 +208,13 @@ pub exists-returns-then-tested : goal.exists-returns-then-tested
 exists-returns-then-tested t c =
     let a = c.args in
     let passed = sym c.holds-tested.ensures ∙ c.if-tested.true in
-    exists_at a.view.now.signature.now (readings_of a.view.now.signature.now a.frame.now) (shown a.view.now) a.over (code_of a.test.now) c.universe-universe.result.now c.loop-i.i (value_of_code c.kept.result.value) c.universe-universe.ensures (c.element.ensures ∙ ap Some (sym c.kept.ensures)) passed
+    exists_at a.view.now.signature.now (readings_of a.view.now.signature.now a.frame.now) (shown a.view.now) a.over (code_of a.test.now) c.universe-universe.result.now c.loop-i.i (value_of_code c.unbranded_code.result.value) c.universe-universe.ensures (c.element.ensures ∙ ap Some (sym c.unbranded_code.ensures)) passed
 
 pub exists-loop-i-preserved : goal.exists-loop-i-preserved
 exists-loop-i-preserved t c =
     let a = c.args in
     let fails = sym c.holds-tested.ensures ∙ c.if-tested.false in
-    none_more (passes a.view.now.signature.now (readings_of a.view.now.signature.now a.frame.now) (shown a.view.now) a.over (code_of a.test.now)) c.universe-universe.result.now c.loop-i.i (value_of_code c.kept.result.value) (c.element.ensures ∙ ap Some (sym c.kept.ensures)) c.loop-i.invariant fails
+    none_more (passes a.view.now.signature.now (readings_of a.view.now.signature.now a.frame.now) (shown a.view.now) a.over (code_of a.test.now)) c.universe-universe.result.now c.loop-i.i (value_of_code c.unbranded_code.result.value) (c.element.ensures ∙ ap Some (sym c.unbranded_code.ensures)) c.loop-i.invariant fails
 
 pub exists-returns : goal.exists-returns
 exists-returns t c =
@@ -278,11 +278,11 @@ linked-returns t c =
     ∙ ap (λ rs. reading shape (code_of a.body.now) rs (shown a.view.now)) (lasts_bound f (readings_of shape a.bound.now) c.split_at.result.0.now c.split_at.result.1.now _ are)
     ∙ ap (bound_value a.view.now a.frame.now a.bound.now a.body.now) (sym c.split_at.ensures.by_index.0)
 
-pub value-held-requires : goal.value-held-requires
-value-held-requires t c =
+pub value-function_at-requires : goal.value-function_at-requires
+value-function_at-requires t c =
     let a = c.args in
     let shape = a.view.now.signature.now in
-    let form = held_form a.code.now c.in-Held.function c.in-Held.arguments c.in-Held.is in
+    let form = held_form a.code.now c.in-FunctionAt.function c.in-FunctionAt.arguments c.in-FunctionAt.is in
     let same = c.as_slice.ensures.value in
     let sound = subst (IsSound shape) form c.requires.sound in
     let whole = ap size form in

@@ -1,4 +1,4 @@
-use Rattle.asm_explore.proofs.Choosing.{choice_laws}
+use Rattle.asm_explore.proofs.OutcomeLemmas.ChoiceLawOfLists.{choice_laws}
 use Rattle.asm_explore.proofs.laws.choice_laws.Goals as goal
 
 pub returns : goal.returns

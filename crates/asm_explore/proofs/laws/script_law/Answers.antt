@@ -1,4 +1,4 @@
-use Rattle.asm_explore.proofs.LinesTo.{lines_apart, lines_make, needed_make}
+use Rattle.asm_explore.proofs.ScriptLemmas.ScriptToState.{lines_apart, lines_make, needed_make}
 use Rattle.asm_explore.proofs.laws.script_law.Goals as goal
 
 pub returns-clause-apart : goal.returns-clause-apart

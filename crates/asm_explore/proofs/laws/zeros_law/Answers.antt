@@ -1,4 +1,4 @@
-use Rattle.asm_explore.proofs.LeftOut.{apart_of, same_picks}
+use Rattle.asm_explore.proofs.ScriptLemmas.LinesLeftOut.{apart_of, same_picks}
 use Rattle.asm_explore.proofs.laws.zeros_law.Goals as goal
 
 pub returns : goal.returns

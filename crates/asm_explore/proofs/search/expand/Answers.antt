@@ -1,24 +1,24 @@
 use Rattle.std.proofs.Common.{◌≡◌, ℕ, ◌+◌, ◌≤◌, Bool, List, ap, sym, subst, arith}
 use Rattle.std.specs.Prelude.{Some, IfNone, IfSome, slice_get}
 use Rattle.std.proofs.lemmas.Option.{slice_get_within}
-use Rattle.asm_state.specs.Contents.{IsStateOf}
+use Rattle.asm_state.specs.code.Contents.{IsStateOf}
 use Rattle.asm_state.specs.Location.{State}
 use Rattle.asm_state.specs.Signature.{Shape, state_of}
 use Rattle.asm_meaning.specs.Run.{Specification}
-use Rattle.asm_explore.specs.declared.found.Found.{Found}
+use Rattle.asm_explore.specs.declared.outcomes.listed_outcome.ListedOutcome.{ListedOutcome}
 use Rattle.asm_explore.specs.declared.search.BadOutcome.{BadOutcome}
-use Rattle.asm_explore.specs.Kept.{Node}
-use Rattle.asm_explore.specs.Lists.{Each, Shown, IsSound}
-use Rattle.asm_explore.specs.Placed.{AreApart}
-use Rattle.asm_explore.specs.Reached.{Follows, IsGood, IsOutcome, IsBadStep, steps_from, state_at}
-use Rattle.asm_explore.proofs.ListLemmas.{each_weaker}
-use Rattle.asm_explore.proofs.Reaching.{each_got, some_at}
+use Rattle.asm_explore.specs.code.PackedNodes.{Node}
+use Rattle.asm_explore.specs.code.OutcomeLists.{Each, Shown, IsSound}
+use Rattle.asm_explore.specs.code.ChoicePaths.{HaveOwnPaths}
+use Rattle.asm_explore.specs.code.ReachedStates.{FollowsStep, IsGood, IsOutcome, IsBadStep, steps_from, state_at}
+use Rattle.asm_explore.proofs.OutcomeLemmas.ListLemmas.{each_weaker}
+use Rattle.asm_explore.proofs.StateLemmas.MoreNodes.{each_got, some_at}
 use Rattle.asm_explore.proofs.search.expand.Goals as goal
 
 abbrev IsWrongAt : {M : Type 0} (shape : M → Shape) (specification : M → Specification) (turns : M → ℕ) (right rests : M → State → Bool) (m : M)
-    → List Node → (from : ℕ) → List Found → BadOutcome → Type 0
+    → List Node → (from : ℕ) → List ListedOutcome → BadOutcome → Type 0
 IsWrongAt shape specification turns right rests m nodes from outcomes b =
-    (f : Found) × (slice_get outcomes b.number ≡ Some f) × IsBadStep (shape m) (specification m) (turns m) (right m) (rests m) nodes from f.choices.items b.fault
+    (f : ListedOutcome) × (slice_get outcomes b.number ≡ Some f) × IsBadStep (shape m) (specification m) (turns m) (right m) (rests m) nodes from f.choices.items b.fault
 
 pub overflow_add-below : goal.overflow_add-below
 overflow_add-below g c =
@@ -63,10 +63,10 @@ returns-in-None-clause-expanded g c = λ n there s.
     let shape = g.M.Machine.shape a.machine.now in
     let steps = steps_from (g.M.Machine.specification a.machine.now) (g.M.Machine.turns a.machine.now) in
     let deep = c.depth-below.ensures n there in
-    let follows : Follows shape a.nodes.now c.follow_all.new.nodes a.from (c.depth-below.result + 1) a.outcomes.now =
-    subst (λ o. IfNone o (Follows shape a.nodes.now c.follow_all.new.nodes a.from (c.depth-below.result + 1) a.outcomes.now)) c.in-None.is c.in_ok-follow_all.ensures.leads in
-    let shallow : Follows shape a.nodes.now c.follow_all.new.nodes a.from (n.depth + 1) a.outcomes.now =
-    subst (λ d. Follows shape a.nodes.now c.follow_all.new.nodes a.from (d + 1) a.outcomes.now) deep follows in
+    let follows : FollowsStep shape a.nodes.now c.follow_all.new.nodes a.from (c.depth-below.result + 1) a.outcomes.now =
+    subst (λ o. IfNone o (FollowsStep shape a.nodes.now c.follow_all.new.nodes a.from (c.depth-below.result + 1) a.outcomes.now)) c.in-None.is c.in_ok-follow_all.ensures.leads in
+    let shallow : FollowsStep shape a.nodes.now c.follow_all.new.nodes a.from (n.depth + 1) a.outcomes.now =
+    subst (λ d. FollowsStep shape a.nodes.now c.follow_all.new.nodes a.from (d + 1) a.outcomes.now) deep follows in
     shallow n (steps (state_at shape n) s) there
     (subst (λ xs. Shown shape a.outcomes.now (steps (state_of shape xs) s)) (sym (c.requires.here n there)) (c.requires.step.lists.complete s))
 
@@ -75,5 +75,5 @@ returns-in_ok-choices-in-Some-clause-apart g c =
     let a = c.args in
     let wrong : IsWrongAt g.M.Machine.shape g.M.Machine.specification g.M.Machine.turns g.M.Machine.right g.M.Machine.rests a.machine.now a.nodes.now a.from a.outcomes.now c.in-Some.bad =
     subst (λ o. IfSome o (IsWrongAt g.M.Machine.shape g.M.Machine.specification g.M.Machine.turns g.M.Machine.right g.M.Machine.rests a.machine.now a.nodes.now a.from a.outcomes.now)) c.in-Some.is c.in_ok-follow_all.ensures.wrong in
-    subst AreApart (sym (c.in_ok-choices-in-Some.ensures wrong.0 wrong.1))
-    (each_got (λ f. AreApart f.choices.items) a.outcomes.now c.in-Some.bad.number wrong.0 c.requires.step.apart wrong.1)
+    subst HaveOwnPaths (sym (c.in_ok-choices-in-Some.ensures wrong.0 wrong.1))
+    (each_got (λ f. HaveOwnPaths f.choices.items) a.outcomes.now c.in-Some.bad.number wrong.0 c.requires.step.apart wrong.1)

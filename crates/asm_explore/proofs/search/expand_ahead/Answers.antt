@@ -1,17 +1,17 @@
 use Rattle.std.proofs.Common.{◌≡◌, ◌+◌, ◌≤◌, ◌∙◌, [], length, ap, sym, subst, arith}
-use Rattle.asm_state.specs.Contents.{IsStateOf}
+use Rattle.asm_state.specs.code.Contents.{IsStateOf}
 use Rattle.asm_state.specs.Signature.{state_of}
-use Rattle.asm_explore.specs.Ahead.{IsAhead, IsFound}
-use Rattle.asm_explore.specs.declared.explored.Bad.{Bad}
+use Rattle.asm_explore.specs.code.StepsAhead.{IsAhead, IsFound}
+use Rattle.asm_explore.specs.declared.search_result.BadStep.{BadStep}
 use Rattle.asm_explore.specs.declared.fault.Fault.TheVariants as fault
-use Rattle.asm_explore.specs.Kept.{Node}
-use Rattle.asm_explore.specs.Lists.{Each}
-use Rattle.asm_explore.specs.Reached.{Extends, GoesWrong, IsBadStep, IsGood, Known, steps_from, state_at}
+use Rattle.asm_explore.specs.code.PackedNodes.{Node}
+use Rattle.asm_explore.specs.code.OutcomeLists.{Each}
+use Rattle.asm_explore.specs.code.ReachedStates.{Extends, GoesWrong, IsBadStep, IsGood, Known, steps_from, state_at}
 use Rattle.asm_explore.specs.Search.{IsDeadlock}
-use Rattle.asm_explore.proofs.Endings.{found_weaker, none_any, none_weaker}
-use Rattle.asm_explore.proofs.ListLemmas.{each_weaker}
+use Rattle.asm_explore.proofs.SearchEnds.{found_weaker, none_any, none_weaker}
+use Rattle.asm_explore.proofs.OutcomeLemmas.ListLemmas.{each_weaker}
 use Rattle.asm_explore.proofs.LookedAhead.{ahead_expands, found_led}
-use Rattle.asm_explore.proofs.Reaching.{at_less, at_more, bad_step_less, begun_both, each_got, extends_both, shallow_more, some_at}
+use Rattle.asm_explore.proofs.StateLemmas.MoreNodes.{at_less, at_more, bad_step_less, begun_both, each_got, extends_both, shallow_more, some_at}
 use Rattle.asm_explore.proofs.search.expand_ahead.Goals as goal
 
 pub overflow_add-below : goal.overflow_add-below
@@ -130,8 +130,8 @@ returns-then-branch-clause-wrong g c =
     let rests = g.M.Machine.rests a.machine.now in
     let dead = IsDeadlock specification turns rests in
     found_weaker
-    (λ (b : Bad). (b.from ≡ a.from) × (b.choices.items ≡ []) × (b.fault ≡ fault.Deadlock) × dead (state_of shape a.state.now))
-    (λ (b : Bad). (b.from ≡ a.from) × IsBadStep shape specification turns right rests a.nodes.now a.from b.choices.items b.fault)
+    (λ (b : BadStep). (b.from ≡ a.from) × (b.choices.items ≡ []) × (b.fault ≡ fault.Deadlock) × dead (state_of shape a.state.now))
+    (λ (b : BadStep). (b.from ≡ a.from) × IsBadStep shape specification turns right rests a.nodes.now a.from b.choices.items b.fault)
     c.rest.result
     (λ b is. (
       is.0,
@@ -194,8 +194,8 @@ returns-else-branch-clause-wrong g c =
     let extends = c.in_ok-reach_all.ensures.extends in
     let rests = g.M.Machine.rests a.machine.now in
     found_weaker
-    (λ (b : Bad). (b.from ≡ a.from) × IsBadStep shape specification turns right rests mid a.from b.choices.items b.fault)
-    (λ (b : Bad). (b.from ≡ a.from) × IsBadStep shape specification turns right rests a.nodes.now a.from b.choices.items b.fault)
+    (λ (b : BadStep). (b.from ≡ a.from) × IsBadStep shape specification turns right rests mid a.from b.choices.items b.fault)
+    (λ (b : BadStep). (b.from ≡ a.from) × IsBadStep shape specification turns right rests a.nodes.now a.from b.choices.items b.fault)
     c.expand_listed.result
     (λ b is. (is.0, bad_step_less shape specification turns right below a.nodes.now mid extends rests a.from b.choices.items b.fault c.requires.from is.1))
     c.expand_listed.ensures.wrong

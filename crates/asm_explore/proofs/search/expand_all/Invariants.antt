@@ -1,6 +1,6 @@
 use Rattle.std.proofs.Common.{◌≤◌, ◌-◌, length}
-use Rattle.asm_explore.specs.Quiet.{IsRested}
-use Rattle.asm_explore.specs.Reached.{IsLooked, IsNear}
+use Rattle.asm_explore.specs.code.QuietStates.{IsRested}
+use Rattle.asm_explore.specs.code.ReachedStates.{IsLooked, IsNear}
 use Rattle.asm_explore.proofs.search.expand_all.Given as goal
 
 -- the first nodes are expanded

@@ -2,17 +2,17 @@ use Rattle.std.proofs.Common.{◌≡◌, ◌≤◌, ◌+◌, ◌<◌, ◌∙◌,
 use Rattle.std.specs.Prelude.{Some, IfNone, IfSome, slice_get}
 use Rattle.std.proofs.lemmas.Option.{slice_get_within}
 use Rattle.asm_state.specs.Signature.{state_of}
-use Rattle.asm_explore.specs.declared.explored.Bad.{Bad}
-use Rattle.asm_explore.specs.Kept.{Node}
-use Rattle.asm_explore.specs.Placed.{AreApart}
-use Rattle.asm_explore.specs.Quiet.{IsRested, RestsSo}
-use Rattle.asm_explore.specs.Reached.{Expanded, IsBad, IsBadStep, IsLooked, IsNear, state_at}
-use Rattle.asm_explore.specs.Steps.{IsCrowdOf}
-use Rattle.asm_explore.proofs.Batches.{batch_at, shallow_at, same_node}
-use Rattle.asm_explore.proofs.Endings.{refused_done, refused_closed, refused_bad, halts_full, ends_crowded}
+use Rattle.asm_explore.specs.declared.search_result.BadStep.{BadStep}
+use Rattle.asm_explore.specs.code.PackedNodes.{Node}
+use Rattle.asm_explore.specs.code.ChoicePaths.{HaveOwnPaths}
+use Rattle.asm_explore.specs.code.QuietStates.{IsRested, RestsSo}
+use Rattle.asm_explore.specs.code.ReachedStates.{Expanded, IsBad, IsBadStep, IsLooked, IsNear, state_at}
+use Rattle.asm_explore.specs.code.StepOutcomes.{IsOverLimitOf}
+use Rattle.asm_explore.proofs.StateLemmas.Batches.{batch_at, shallow_at, same_node}
+use Rattle.asm_explore.proofs.SearchEnds.{refused_done, refused_closed, refused_bad, halts_full, ends_crowded}
 use Rattle.asm_explore.proofs.LookedAhead.{ahead_at, ahead_count, ahead_more}
-use Rattle.asm_explore.proofs.Reaching.{looked_more, looked_same, long_more, at_more, some_at}
-use Rattle.asm_explore.proofs.Resting.{rested_more, rested_same}
+use Rattle.asm_explore.proofs.StateLemmas.MoreNodes.{looked_more, looked_same, long_more, at_more, some_at}
+use Rattle.asm_explore.proofs.StateLemmas.QuietNodes.{rested_more, rested_same}
 use Rattle.asm_explore.proofs.search.expand_batch.Goals as goal
 
 pub bounds-ahead-k : goal.bounds-ahead-k
@@ -113,14 +113,14 @@ returns-in-Ok-Some-clause-stopped g c =
     let extends = c.in-Ok-Some.ensures.extends n.0 there in
     let longer = long_more shape specification turns right (n.0.depth + 1) l.nodes c.expand_step.new.nodes extends in
     let wrong : (c.in-Ok-Some.bad.from ≡ i) × IsBadStep shape specification turns right rests l.nodes i c.in-Ok-Some.bad.choices.items c.in-Ok-Some.bad.fault =
-    subst (λ o. IfSome o (λ (b : Bad). (b.from ≡ i) × IsBadStep shape specification turns right rests l.nodes i b.choices.items b.fault)) c.in-Ok-Some.field-0-is c.in-Ok-Some.ensures.wrong in
+    subst (λ o. IfSome o (λ (b : BadStep). (b.from ≡ i) × IsBadStep shape specification turns right rests l.nodes i b.choices.items b.fault)) c.in-Ok-Some.field-0-is c.in-Ok-Some.ensures.wrong in
     let at : slice_get c.expand_step.new.nodes c.in-Ok-Some.bad.from ≡ Some n.0 =
     ap (slice_get c.expand_step.new.nodes) wrong.0 ∙ at_more shape specification turns right (n.0.depth + 1) l.nodes c.expand_step.new.nodes extends i n.0 there in
     let deep = shallow_at (λ (n : Node). n.depth < a.steps) a.nodes.now a.first (length a.states.now) l.k n.0 c.requires.shallow c.loop-k-test.true n.1 in
     let bad : IsBad shape specification turns right rests c.expand_step.new.nodes c.in-Ok-Some.bad = record {
       from = n.0;
       there = at;
-      apart = subst (λ o. IfSome o (λ (b : Bad). AreApart b.choices.items)) c.in-Ok-Some.field-0-is c.in-Ok-Some.ensures.apart;
+      apart = subst (λ o. IfSome o (λ (b : BadStep). HaveOwnPaths b.choices.items)) c.in-Ok-Some.field-0-is c.in-Ok-Some.ensures.apart;
       wrong = wrong.1 n.0 there;
     } in
     record {
@@ -168,14 +168,14 @@ returns-in-Err-clause-stopped g c =
       all = λ done. absurd (refused_done c.cut_off.result refused done);
       closed = λ closed. absurd (refused_closed c.cut_off.result refused closed);
       wrong = refused_bad _ c.cut_off.result refused;
-      full = λ full. halts_full (a.limit ≤ length c.expand_step.new.nodes) (IsCrowdOf makes limit A) c.in-Err.halt (c.cut_off.ensures.states full) c.in-Err.ensures.full;
-      crowded = ends_crowded (a.limit ≤ length c.expand_step.new.nodes) (IsCrowdOf makes limit A) (λ crowd. (m : Node) × (slice_get c.expand_step.new.nodes i ≡ Some m) × (m.depth < a.steps) × IsCrowdOf makes limit (state_at shape m) crowd)
+      full = λ full. halts_full (a.limit ≤ length c.expand_step.new.nodes) (IsOverLimitOf makes limit A) c.in-Err.halt (c.cut_off.ensures.states full) c.in-Err.ensures.full;
+      crowded = ends_crowded (a.limit ≤ length c.expand_step.new.nodes) (IsOverLimitOf makes limit A) (λ crowd. (m : Node) × (slice_get c.expand_step.new.nodes i ≡ Some m) × (m.depth < a.steps) × IsOverLimitOf makes limit (state_at shape m) crowd)
           c.cut_off.result c.in-Err.halt c.cut_off.ensures.crowd
           (λ crowd so. (
             n.0,
             at_more shape specification turns right (n.0.depth + 1) l.nodes c.expand_step.new.nodes extends i n.0 there,
             deep,
-            subst (λ xs. IsCrowdOf makes limit (state_of shape xs) crowd) (sym here) so,
+            subst (λ xs. IsOverLimitOf makes limit (state_of shape xs) crowd) (sym here) so,
           )) c.in-Err.ensures.full;
     }
 
@@ -230,7 +230,7 @@ returns-in-Ok-Some-clause-rests g c =
     let extends = c.in-Ok-Some.ensures.extends n.0 there in
     rested_same shape specification turns rests within a.steps i l.nodes c.expand_step.new.nodes extends.more l.quiet.items c.expand_step.new.quiet.items
     (omega (arith, slice_get_within l.nodes i n.0 there)) extends.is
-    (subst (λ o. IfSome o (λ (_ : Bad). c.expand_step.new.quiet.items ≡ l.quiet.items)) c.in-Ok-Some.field-0-is c.in-Ok-Some.ensures.listed) l.invariant.rested
+    (subst (λ o. IfSome o (λ (_ : BadStep). c.expand_step.new.quiet.items ≡ l.quiet.items)) c.in-Ok-Some.field-0-is c.in-Ok-Some.ensures.listed) l.invariant.rested
 
 pub returns-in-Err-clause-rests : goal.returns-in-Err-clause-rests
 returns-in-Err-clause-rests g c =

@@ -1,11 +1,11 @@
 use Rattle.std.proofs.Common.{◌≡◌, ℕ, ◌+◌, ◌≤◌, length}
 use Rattle.std.specs.Prelude.{slice_get, Some}
-use Rattle.asm_explore.specs.Kept.{Node}
-use Rattle.asm_explore.specs.Quiet.{IsRested}
-use Rattle.asm_explore.specs.Reached.{IsLooked, IsNear}
+use Rattle.asm_explore.specs.code.PackedNodes.{Node}
+use Rattle.asm_explore.specs.code.QuietStates.{IsRested}
+use Rattle.asm_explore.specs.code.ReachedStates.{IsLooked, IsNear}
 use Rattle.asm_explore.proofs.search.expand_batch.Given as goal
 
--- the first of these nodes are expanded, and all stand where they stood
+-- the first of these nodes are expanded, and all are where they were
 abbrev pub invariant-loop-k : goal.invariant-loop-k
 invariant-loop-k g l = record {
   room : length l.nodes ≤ l.limit;

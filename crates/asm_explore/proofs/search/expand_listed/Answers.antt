@@ -1,12 +1,12 @@
 use Rattle.std.proofs.Common.{◌≡◌, ◌∙◌, [], ap, length, sym, subst}
-use Rattle.asm_state.specs.Contents.{IsStateOf}
+use Rattle.asm_state.specs.code.Contents.{IsStateOf}
 use Rattle.asm_state.specs.Signature.{state_of}
-use Rattle.asm_explore.specs.declared.explored.Bad.{Bad}
+use Rattle.asm_explore.specs.declared.search_result.BadStep.{BadStep}
 use Rattle.asm_explore.specs.declared.fault.Fault.TheVariants as fault
-use Rattle.asm_explore.specs.Reached.{GoesWrong, IsBadStep, IsGood, steps_from, state_at}
+use Rattle.asm_explore.specs.code.ReachedStates.{GoesWrong, IsBadStep, IsGood, steps_from, state_at}
 use Rattle.asm_explore.specs.Search.{IsDeadlock}
-use Rattle.asm_explore.proofs.Endings.{found_weaker}
-use Rattle.asm_explore.proofs.Reaching.{begun_none, each_got, some_at}
+use Rattle.asm_explore.proofs.SearchEnds.{found_weaker}
+use Rattle.asm_explore.proofs.StateLemmas.MoreNodes.{begun_none, each_got, some_at}
 use Rattle.asm_explore.proofs.search.expand_listed.Goals as goal
 
 pub rest-requires-clause-state : goal.rest-requires-clause-state
@@ -27,8 +27,8 @@ returns-in-None-clause-wrong g c =
     let rests = g.M.Machine.rests a.machine.now in
     let dead = IsDeadlock specification turns rests in
     found_weaker
-    (λ (b : Bad). (b.from ≡ a.from) × (b.choices.items ≡ []) × (b.fault ≡ fault.Deadlock) × dead (state_of shape a.state.now))
-    (λ (b : Bad). (b.from ≡ a.from) × IsBadStep shape specification turns right rests a.nodes.now a.from b.choices.items b.fault)
+    (λ (b : BadStep). (b.from ≡ a.from) × (b.choices.items ≡ []) × (b.fault ≡ fault.Deadlock) × dead (state_of shape a.state.now))
+    (λ (b : BadStep). (b.from ≡ a.from) × IsBadStep shape specification turns right rests a.nodes.now a.from b.choices.items b.fault)
     c.rest.result
     (λ b is. (
       is.0,

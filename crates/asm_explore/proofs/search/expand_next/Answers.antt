@@ -1,13 +1,13 @@
 use Rattle.std.proofs.Common.{◌+◌, ◌∙◌, refl, sym, arith}
 use Rattle.std.proofs.lemmas.Bool.{false≢true}
 use Rattle.std.proofs.lemmas.Option.{slice_get_within}
-use Rattle.asm_state.specs.Contents.{IsStateOf}
-use Rattle.asm_explore.specs.Kept.{Node}
-use Rattle.asm_explore.specs.Reached.{IsGood}
-use Rattle.asm_explore.proofs.Batches.{no_items}
-use Rattle.asm_explore.proofs.ListLemmas.{each_weaker}
-use Rattle.asm_explore.proofs.Reaching.{looked_more, extends_none, some_at}
-use Rattle.asm_explore.proofs.Resting.{rested_past}
+use Rattle.asm_state.specs.code.Contents.{IsStateOf}
+use Rattle.asm_explore.specs.code.PackedNodes.{Node}
+use Rattle.asm_explore.specs.code.ReachedStates.{IsGood}
+use Rattle.asm_explore.proofs.StateLemmas.Batches.{no_items}
+use Rattle.asm_explore.proofs.OutcomeLemmas.ListLemmas.{each_weaker}
+use Rattle.asm_explore.proofs.StateLemmas.MoreNodes.{looked_more, extends_none, some_at}
+use Rattle.asm_explore.proofs.StateLemmas.QuietNodes.{rested_past}
 use Rattle.asm_explore.proofs.search.expand_next.Goals as goal
 
 pub next_batch-requires-clause-nodes : goal.next_batch-requires-clause-nodes

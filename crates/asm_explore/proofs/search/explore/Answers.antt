@@ -1,14 +1,14 @@
 use Rattle.std.proofs.Common.{◌<◌, ◌≡◌, sym, subst, arith}
 use Rattle.std.specs.Prelude.{slice_get, Some}
-use Rattle.asm_explore.specs.declared.explored.Bad.{Bad}
-use Rattle.asm_explore.specs.Kept.{Node}
-use Rattle.asm_explore.specs.Reached.{AtNode, GoesWrongSo, state_at}
-use Rattle.asm_explore.specs.Steps.{IsCrowdOf}
+use Rattle.asm_explore.specs.declared.search_result.BadStep.{BadStep}
+use Rattle.asm_explore.specs.code.PackedNodes.{Node}
+use Rattle.asm_explore.specs.code.ReachedStates.{AtNode, GoesWrongSo, state_at}
+use Rattle.asm_explore.specs.code.StepOutcomes.{IsOverLimitOf}
 use Rattle.asm_explore.specs.Search.{IsQuiet, IsDeadlock}
-use Rattle.asm_explore.proofs.Chains.{bad_runs}
-use Rattle.asm_explore.proofs.Endings.{if_bad_weaker, closed_done, crowd_weaker}
-use Rattle.asm_explore.proofs.Reaching.{looked_whole, looked_done, search_covers, closure_covers, holds_before, holds_always}
-use Rattle.asm_explore.proofs.Resting.{alive_whole, alive_all, quiet_none, first_quiet}
+use Rattle.asm_explore.proofs.StateLemmas.RunsAlongChoices.{bad_runs}
+use Rattle.asm_explore.proofs.SearchEnds.{if_bad_weaker, closed_done, crowd_weaker}
+use Rattle.asm_explore.proofs.StateLemmas.MoreNodes.{looked_whole, looked_done, search_covers, closure_covers, holds_before, holds_always}
+use Rattle.asm_explore.proofs.StateLemmas.QuietNodes.{alive_whole, alive_all, quiet_none, first_quiet}
 use Rattle.asm_explore.proofs.search.explore.Goals as goal
 
 pub returns-clause-safe : goal.returns-clause-safe
@@ -59,7 +59,7 @@ pub returns-clause-deep : goal.returns-clause-deep
 returns-clause-deep g c =
     let a = c.args in
     let nodes = c.expand_all-looked.new.nodes in
-    if_bad_weaker _ (λ (bad : Bad). (n : Node) → slice_get nodes bad.from ≡ Some n → (n.depth ≡ c.whole_depth-whole.result) × (n.depth < a.steps)) c.expand_all-looked.result.ended
+    if_bad_weaker _ (λ (bad : BadStep). (n : Node) → slice_get nodes bad.from ≡ Some n → (n.depth ≡ c.whole_depth-whole.result) × (n.depth < a.steps)) c.expand_all-looked.result.ended
     (λ bad is n there. (sym (c.whole_depth-whole.ensures.next n (subst (λ i. slice_get nodes i ≡ Some n) is.1 there) (is.2 n there).0), (is.2 n there).0)) c.expand_all-looked.ensures.stopped.wrong
 
 pub returns-clause-alive : goal.returns-clause-alive
@@ -137,7 +137,7 @@ pub returns-clause-crowded : goal.returns-clause-crowded
 returns-clause-crowded g c =
     let a = c.args in
     let shape = g.M.Machine.shape a.machine.now in
-    let crowds = IsCrowdOf (g.M.Machine.made a.machine.now) (g.M.Machine.limit a.machine.now) in
+    let crowds = IsOverLimitOf (g.M.Machine.made a.machine.now) (g.M.Machine.limit a.machine.now) in
     let nodes = c.expand_all-looked.new.nodes in
     let i = c.expand_all-looked.result.expanded in
     let whole = c.whole_depth-whole.result in

@@ -1,17 +1,17 @@
 use Rattle.std.proofs.Common.{◌≡◌, ◌≤◌, ◌∙◌, length, refl, false, ap, sym, subst}
-use Rattle.asm_state.specs.Contents.{IsStateOf}
+use Rattle.asm_state.specs.code.Contents.{IsStateOf}
 use Rattle.asm_state.specs.Signature.{state_of}
 use Rattle.asm_state.specs.Updates.{fire}
-use Rattle.asm_updates.specs.Stands.{Stands}
-use Rattle.asm_explore.specs.declared.refusal.Crowd.{Crowd}
-use Rattle.asm_explore.specs.Ends.{HaltsSo}
-use Rattle.asm_explore.specs.Lists.{Situation, AreTaken}
-use Rattle.asm_explore.specs.Reached.{Known, steps_from, state_at}
+use Rattle.asm_updates.specs.code.Stands.{Stands}
+use Rattle.asm_explore.specs.declared.outcomes.outcomes_error.RuleOverLimit.{RuleOverLimit}
+use Rattle.asm_explore.specs.code.SearchEnds.{HaltsSo}
+use Rattle.asm_explore.specs.code.OutcomeLists.{Situation, AreTaken}
+use Rattle.asm_explore.specs.code.ReachedStates.{Known, steps_from, state_at}
 use Rattle.asm_explore.specs.Search.{LeadsOn}
-use Rattle.asm_explore.proofs.Endings.{full_on}
-use Rattle.asm_explore.proofs.LinesTo.{some_script}
-use Rattle.asm_explore.proofs.Reaching.{set_leads, set_stands, set_wrong, path_wrong, some_at}
-use Rattle.asm_explore.proofs.Sequenced.{no_fault_found, fault_found}
+use Rattle.asm_explore.proofs.SearchEnds.{full_on}
+use Rattle.asm_explore.proofs.ScriptLemmas.ScriptToState.{some_script}
+use Rattle.asm_explore.proofs.StateLemmas.MoreNodes.{set_leads, set_stands, set_wrong, path_wrong, some_at}
+use Rattle.asm_explore.proofs.OutcomeLemmas.SequenceOutcomes.{no_fault_found, fault_found}
 use Rattle.asm_explore.proofs.search.follow.Goals as goal
 
 pub reach-requires-clause-state : goal.reach-requires-clause-state
@@ -103,4 +103,4 @@ returns-clause-wrong g c = λ n there s taken.
 
 pub returns-in_err-fine-clause-full : goal.returns-in_err-fine-clause-full
 returns-in_err-fine-clause-full g c =
-    full_on (HaltsSo (c.args.limit ≤ length c.reach.new.nodes) (λ (_ : Crowd). ⊥)) c.reach.result c.from_residual-in_err-fine.result c.in_err-fine.field-0.0 c.in_err-fine.was c.from_residual-in_err-fine.ensures.1 c.reach.ensures.full
+    full_on (HaltsSo (c.args.limit ≤ length c.reach.new.nodes) (λ (_ : RuleOverLimit). ⊥)) c.reach.result c.from_residual-in_err-fine.result c.in_err-fine.field-0.0 c.in_err-fine.was c.from_residual-in_err-fine.ensures.1 c.reach.ensures.full

@@ -2,16 +2,16 @@ use Rattle.std.proofs.Common.{◌≡◌, ◌≤◌, ◌∙◌, length, ap, sym, 
 use Rattle.std.specs.Prelude.{Some, IfNone, IfSome, slice_get}
 use Rattle.std.proofs.lemmas.Option.{slice_get-get_or}
 use Rattle.asm_meaning.specs.Yields.{Result}
-use Rattle.asm_explore.specs.Kept.{Node}
-use Rattle.asm_explore.specs.Lists.{Shows}
-use Rattle.asm_explore.specs.Placed.{AreApart}
-use Rattle.asm_explore.specs.Reached.{IsOutcome, IsBadStep, Known, state_at}
+use Rattle.asm_explore.specs.code.PackedNodes.{Node}
+use Rattle.asm_explore.specs.code.OutcomeLists.{Shows}
+use Rattle.asm_explore.specs.code.ChoicePaths.{HaveOwnPaths}
+use Rattle.asm_explore.specs.code.ReachedStates.{IsOutcome, IsBadStep, Known, state_at}
 use Rattle.asm_explore.specs.Search.{LeadsOn}
-use Rattle.asm_explore.proofs.ListLemmas.{each_at}
-use Rattle.asm_explore.proofs.Reaching.{begun_none, begun_both, extends_none, extends_both, outcome_more, bad_step_less, follows_none, follows_more, follows_all, shallow_more}
-use Rattle.asm_explore.specs.declared.refusal.Crowd.{Crowd}
-use Rattle.asm_explore.specs.Ends.{HaltsSo}
-use Rattle.asm_explore.proofs.Endings.{full_on}
+use Rattle.asm_explore.proofs.OutcomeLemmas.ListLemmas.{each_at}
+use Rattle.asm_explore.proofs.StateLemmas.MoreNodes.{begun_none, begun_both, extends_none, extends_both, outcome_more, bad_step_less, follows_none, follows_more, follows_all, shallow_more}
+use Rattle.asm_explore.specs.declared.outcomes.outcomes_error.RuleOverLimit.{RuleOverLimit}
+use Rattle.asm_explore.specs.code.SearchEnds.{HaltsSo}
+use Rattle.asm_explore.proofs.SearchEnds.{full_on}
 use Rattle.asm_explore.proofs.search.follow_all.Goals as goal
 
 pub loop-k-init : goal.loop-k-init
@@ -101,11 +101,11 @@ follow-requires-clause-near g c =
 
 pub returns-in_err-fault-clause-full : goal.returns-in_err-fault-clause-full
 returns-in_err-fault-clause-full g c =
-    full_on (HaltsSo (c.args.limit ≤ length c.follow.new.nodes) (λ (_ : Crowd). ⊥)) c.follow.result c.from_residual.result c.in_err-fault.field-0.0 c.in_err-fault.was c.from_residual.ensures.1 c.follow.ensures.full
+    full_on (HaltsSo (c.args.limit ≤ length c.follow.new.nodes) (λ (_ : RuleOverLimit). ⊥)) c.follow.result c.from_residual.result c.in_err-fault.field-0.0 c.in_err-fault.was c.from_residual.ensures.1 c.follow.ensures.full
 
 pub follow-requires-clause-apart : goal.follow-requires-clause-apart
 follow-requires-clause-apart g c =
-    each_at (λ f. AreApart f.choices.items) c.args.outcomes.now c.loop-k.k c.index-outcomes-k.result c.loop-k-test.true c.index-outcomes-k.is c.requires.apart
+    each_at (λ f. HaveOwnPaths f.choices.items) c.args.outcomes.now c.loop-k.k c.index-outcomes-k.result c.loop-k-test.true c.index-outcomes-k.is c.requires.apart
 
 pub returns-in_err-fault-clause-begun : goal.returns-in_err-fault-clause-begun
 returns-in_err-fault-clause-begun g c =

@@ -1,6 +1,6 @@
 use Rattle.std.proofs.Common.{◌∙◌, refl, sym, arith}
-use Rattle.asm_explore.specs.Kept.{Node}
-use Rattle.asm_explore.proofs.Reaching.{found_known, pushed_known, extends_one, comes_from}
+use Rattle.asm_explore.specs.code.PackedNodes.{Node}
+use Rattle.asm_explore.proofs.StateLemmas.MoreNodes.{found_known, pushed_known, extends_one, comes_from}
 use Rattle.asm_explore.proofs.search.reach.Goals as goal
 
 pub returns-then-is_reached-clause-known : goal.returns-then-is_reached-clause-known

@@ -1,12 +1,12 @@
 use Rattle.std.proofs.Common.{◌<◌, ◌≤◌, length, sym, arith}
 use Rattle.std.proofs.lemmas.Option.{get_or_from_slice_get}
-use Rattle.asm_explore.specs.declared.refusal.Crowd.{Crowd}
-use Rattle.asm_explore.specs.Ends.{HaltsSo}
-use Rattle.asm_explore.specs.Kept.{Node}
-use Rattle.asm_explore.specs.Reached.{Known, LeadsTo, state_at}
-use Rattle.asm_explore.proofs.Endings.{full_on}
-use Rattle.asm_explore.proofs.ListLemmas.{each_weaker}
-use Rattle.asm_explore.proofs.Reaching.{at_less, begun_both, begun_none, each_taken, each_taken_more, extends_both, extends_none, good_more, known_more, shallow_more, some_at}
+use Rattle.asm_explore.specs.declared.outcomes.outcomes_error.RuleOverLimit.{RuleOverLimit}
+use Rattle.asm_explore.specs.code.SearchEnds.{HaltsSo}
+use Rattle.asm_explore.specs.code.PackedNodes.{Node}
+use Rattle.asm_explore.specs.code.ReachedStates.{Known, LeadsTo, state_at}
+use Rattle.asm_explore.proofs.SearchEnds.{full_on}
+use Rattle.asm_explore.proofs.OutcomeLemmas.ListLemmas.{each_weaker}
+use Rattle.asm_explore.proofs.StateLemmas.MoreNodes.{at_less, begun_both, begun_none, each_taken, each_taken_more, extends_both, extends_none, good_more, known_more, shallow_more, some_at}
 use Rattle.asm_explore.proofs.search.reach_all.Goals as goal
 
 pub loop-k-init : goal.loop-k-init
@@ -115,7 +115,7 @@ returns-in_err-reach_next-clause-begun g c =
 
 pub returns-in_err-reach_next-clause-full : goal.returns-in_err-reach_next-clause-full
 returns-in_err-reach_next-clause-full g c =
-    full_on (HaltsSo (c.args.limit ≤ length c.reach_next.new.nodes) (λ (_ : Crowd). ⊥)) c.reach_next.result c.from_residual.result c.in_err-reach_next.field-0.0 c.in_err-reach_next.was c.from_residual.ensures.1 c.reach_next.ensures.full
+    full_on (HaltsSo (c.args.limit ≤ length c.reach_next.new.nodes) (λ (_ : RuleOverLimit). ⊥)) c.reach_next.result c.from_residual.result c.in_err-reach_next.field-0.0 c.in_err-reach_next.was c.from_residual.ensures.1 c.reach_next.ensures.full
 
 pub returns-clause-known : goal.returns-clause-known
 returns-clause-known g c = λ yes.

@@ -1,6 +1,6 @@
 use Rattle.std.proofs.Common.{◌≤◌, length, take}
-use Rattle.asm_explore.specs.Lists.{Each}
-use Rattle.asm_explore.specs.Reached.{AreBegun, Extends, Known, state_at}
+use Rattle.asm_explore.specs.code.OutcomeLists.{Each}
+use Rattle.asm_explore.specs.code.ReachedStates.{AreBegun, Extends, Known, state_at}
 use Rattle.asm_explore.proofs.search.reach_all.Given as goal
 
 -- the first states are known

@@ -1,9 +1,9 @@
 use Rattle.std.proofs.Common.{◌∙◌, sym, subst}
-use Rattle.asm_state.specs.Contents.{IsStateOf}
+use Rattle.asm_state.specs.code.Contents.{IsStateOf}
 use Rattle.asm_state.specs.Signature.{state_of}
-use Rattle.asm_explore.specs.Kept.{Node}
-use Rattle.asm_explore.specs.Reached.{LeadsTo, state_at}
-use Rattle.asm_explore.proofs.Reaching.{each_got, found_known, some_at}
+use Rattle.asm_explore.specs.code.PackedNodes.{Node}
+use Rattle.asm_explore.specs.code.ReachedStates.{LeadsTo, state_at}
+use Rattle.asm_explore.proofs.StateLemmas.MoreNodes.{each_got, found_known, some_at}
 use Rattle.asm_explore.proofs.search.reach_next.Goals as goal
 
 pub returns-then-is_there-clause-known : goal.returns-then-is_there-clause-known

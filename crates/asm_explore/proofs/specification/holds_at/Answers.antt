@@ -1,9 +1,9 @@
 use Rattle.std.proofs.Common.{◌≡◌, ◌∙◌, [], refl, sym, subst}
 use Rattle.std.specs.Prelude.{option_map}
 use Rattle.asm_state.specs.Signature.{state_of}
-use Rattle.asm_meaning.specs.Valued.{shown}
-use Rattle.asm_code.specs.CodeViews.{code_of}
-use Rattle.asm_code.specs.RuleMeaning.{IsSoundTest, passes}
+use Rattle.asm_meaning.specs.code.TermValues.{shown}
+use Rattle.asm_code.specs.code.CodeViews.{code_of}
+use Rattle.asm_code.specs.code.RuleMeaning.{IsSoundTest, passes}
 use Rattle.asm_explore.proofs.Specifications.{nothing_over}
 use Rattle.asm_explore.proofs.specification.holds_at.Goals as goal
 

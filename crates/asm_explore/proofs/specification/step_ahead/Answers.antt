@@ -1,11 +1,11 @@
 use Rattle.std.proofs.Common.{sym, subst}
 use Rattle.asm_state.specs.Signature.{state_of}
-use Rattle.asm_syntax.specs.Views.{spec_of}
+use Rattle.asm_syntax.specs.code.Views.{spec_of}
 use Rattle.asm_check.specs.Shapes.{shape_of}
 use Rattle.asm_meaning.specs.Declarations.{specification_of}
-use Rattle.asm_code.specs.RuleViews.{rule_of}
-use Rattle.asm_explore.specs.Made.{made_in}
-use Rattle.asm_explore.specs.Steps.{IsListed, IsStep}
+use Rattle.asm_code.specs.code.RuleViews.{rule_of}
+use Rattle.asm_explore.specs.code.ChoicesMade.{made_in}
+use Rattle.asm_explore.specs.code.StepOutcomes.{IsListed, IsStep}
 use Rattle.asm_explore.proofs.specification.step_ahead.Goals as goal
 
 pub look_ahead-requires-clause-step : goal.look_ahead-requires-clause-step

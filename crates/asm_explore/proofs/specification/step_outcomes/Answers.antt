@@ -1,20 +1,20 @@
 use Rattle.std.proofs.Common.{◌≡◌, ◌∙◌, [], sym, ap, subst}
 use Rattle.asm_state.specs.Signature.{Shape, state_of}
-use Rattle.asm_syntax.specs.Views.{spec_of}
+use Rattle.asm_syntax.specs.code.Views.{spec_of}
 use Rattle.asm_check.specs.Faults.{inits}
 use Rattle.asm_check.specs.Shapes.{shape_of}
 use Rattle.asm_meaning.specs.Declarations.{main_rule, program_of, specification_of}
 use Rattle.asm_meaning.specs.Does.{Outcome, does}
 use Rattle.asm_meaning.specs.Program.{nothing_bound}
-use Rattle.asm_meaning.specs.Valued.{shown}
-use Rattle.asm_code.specs.RuleMeaning.{IsSoundRule, meaning}
-use Rattle.asm_code.specs.RuleViews.{rule_of}
-use Rattle.asm_explore.specs.Lists.{picked, Lists}
-use Rattle.asm_explore.specs.Made.{made_in}
-use Rattle.asm_explore.specs.Placed.{AreApart, IsPlaced}
-use Rattle.asm_explore.specs.Reached.{steps_from}
-use Rattle.asm_explore.proofs.ListLemmas.{lists_same}
-use Rattle.asm_explore.proofs.Placing.{have_weaker}
+use Rattle.asm_meaning.specs.code.TermValues.{shown}
+use Rattle.asm_code.specs.code.RuleMeaning.{IsSoundRule, meaning}
+use Rattle.asm_code.specs.code.RuleViews.{rule_of}
+use Rattle.asm_explore.specs.code.OutcomeLists.{picked, Lists}
+use Rattle.asm_explore.specs.code.ChoicesMade.{made_in}
+use Rattle.asm_explore.specs.code.ChoicePaths.{HaveOwnPaths, LieBelow}
+use Rattle.asm_explore.specs.code.ReachedStates.{steps_from}
+use Rattle.asm_explore.proofs.OutcomeLemmas.ListLemmas.{lists_same}
+use Rattle.asm_explore.proofs.ChoiceLemmas.ChoicePaths.{have_weaker}
 use Rattle.asm_explore.proofs.Specifications.{nothing_over, refused_listed}
 use Rattle.asm_explore.proofs.specification.step_outcomes.Goals as goal
 
@@ -48,7 +48,7 @@ returns c =
             (c.resolving_laws.ensures.means s R (rule_of m.code.now) m.turns q.script q.step A [] c.requires.sound.main))
             ∙ ap (λ B. steps_from (specification_of s) m.turns B q) shows)
             c.in_ok-found.ensures.lists);
-        apart = have_weaker (IsPlaced []) AreApart (λ cs placed. placed.apart) c.in_ok-found.found.items c.in_ok-found.ensures.placed;
+        apart = have_weaker (LieBelow []) HaveOwnPaths (λ cs placed. placed.apart) c.in_ok-found.found.items c.in_ok-found.ensures.placed;
       };
       refuses = tt;
     }

@@ -1,5 +1,5 @@
 use Rattle.std.proofs.Common.{◌∙◌, subst}
-use Rattle.asm_syntax.specs.Views.{spec_of}
+use Rattle.asm_syntax.specs.code.Views.{spec_of}
 use Rattle.asm_reader.specs.Specification.{IsSpecification}
 use Rattle.asm_check.specs.Faults.{IsWellFormed}
 use Rattle.asm_explore_texts.specs.Conditions.{extended}

@@ -1,5 +1,5 @@
 use Rattle.std.proofs.Common.{◌≡◌, take}
-use Rattle.asm_explore.specs.Written.{lines_said}
+use Rattle.asm_explore.specs.code.WrittenScripts.{lines_said}
 use Rattle.asm_explore_tool.specs.Commented.{said_by}
 use Rattle.asm_explore_tool.proofs.choices_report.entries.Given as goal
 

@@ -2,8 +2,8 @@ use Rattle.std.proofs.Common.{◌≡◌, sym, subst}
 use Rattle.asm_reader.specs.ScriptLines.{Script}
 use Rattle.asm_explore.specs.RunChoices.{choices_in}
 use Rattle.asm_syntax.specs.SourceTree.{Spec}
-use Rattle.asm_syntax.specs.Views.{spec_of}
-use Rattle.asm_run.specs.Headline.{IsAnswer, book_run}
+use Rattle.asm_syntax.specs.code.Views.{spec_of}
+use Rattle.asm_run.specs.Headline.{IsReturned, book_run}
 use Rattle.asm_explore_tool.specs.RunReport.{IsRunStatus}
 use Rattle.asm_explore_tool.proofs.RunTold.{choices_told}
 use Rattle.asm_explore_tool.proofs.choices_report.report_of.Goals as goal
@@ -19,9 +19,9 @@ returns g c =
     let ends = c.in_ok-ended.ensures in
     let same_tree : ends.tree ≡ tree = c.one_tree.ensures c.args.text.now _ _ ends.accepted.spelled c.requires.accepted.spelled in
     let same_script : ends.script ≡ script = c.one_script.ensures c.args.script_text.now _ _ ends.spelled spelled in
-    let answered : IsAnswer (book_run tree settings.turns script settings.steps).end c.in_ok-ended.ended.end =
-    subst (λ (s : Script). IsAnswer (book_run tree settings.turns s settings.steps).end c.in_ok-ended.ended.end) same_script
-    (subst (λ (t : Spec). IsAnswer (book_run t settings.turns ends.script settings.steps).end c.in_ok-ended.ended.end) same_tree ends.answered) in
+    let answered : IsReturned (book_run tree settings.turns script settings.steps).end c.in_ok-ended.ended.end =
+    subst (λ (s : Script). IsReturned (book_run tree settings.turns s settings.steps).end c.in_ok-ended.ended.end) same_script
+    (subst (λ (t : Spec). IsReturned (book_run t settings.turns ends.script settings.steps).end c.in_ok-ended.ended.end) same_tree ends.answered) in
     let status = c.in_ok-report.ensures.status in
     record {
       tree = tree;

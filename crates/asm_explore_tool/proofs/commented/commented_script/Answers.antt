@@ -1,7 +1,7 @@
 use Rattle.std.proofs.Common.{◌≡◌, ◌≤◌, length, IfSome, inl, subst}
-use Rattle.asm_reader.specs.ExactLines.{exactly}
+use Rattle.asm_reader.specs.code.ExactLines.{exactly}
 use Rattle.asm_reader.specs.ScriptText.{IsScript, max_script}
-use Rattle.asm_explore.specs.Written.{lines_text}
+use Rattle.asm_explore.specs.code.WrittenScripts.{lines_text}
 use Rattle.asm_explore_tool.specs.Comments.{lines_of}
 use Rattle.asm_explore_tool.specs.Commented.{commented, said_by}
 use Rattle.asm_explore_tool.proofs.BetweenLines.{commented_says}

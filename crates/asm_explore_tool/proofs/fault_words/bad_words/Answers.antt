@@ -1,9 +1,9 @@
 use Rattle.std.specs.String.{string_bytes}
 use Rattle.std.proofs.lemmas.Result.{IfOk-weaker}
 use Rattle.asm_state.specs.Signature.{state_of}
-use Rattle.asm_syntax.specs.Views.{spec_of}
+use Rattle.asm_syntax.specs.code.Views.{spec_of}
 use Rattle.asm_check.specs.Shapes.{shape_of}
-use Rattle.asm_explore_tool.proofs.Told.{wrong_tells}
+use Rattle.asm_explore_tool.proofs.WordsOfRuns.{wrong_tells}
 use Rattle.asm_explore_tool.proofs.fault_words.bad_words.Goals as goal
 
 pub returns-in_ok-last-in-Wrong : goal.returns-in_ok-last-in-Wrong

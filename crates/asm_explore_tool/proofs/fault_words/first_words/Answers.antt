@@ -1,9 +1,9 @@
 use Rattle.std.proofs.Common.{◌≡◌, subst}
 use Rattle.asm_state.specs.Location.{State}
 use Rattle.asm_state.specs.Signature.{Shape, initial_state, state_of}
-use Rattle.asm_syntax.specs.Views.{spec_of}
+use Rattle.asm_syntax.specs.code.Views.{spec_of}
 use Rattle.asm_check.specs.Shapes.{shape_of}
-use Rattle.asm_explore_tool.specs.Words.{IsBroken}
+use Rattle.asm_explore_tool.specs.FaultWords.{IsBroken}
 use Rattle.asm_explore_tool.proofs.fault_words.first_words.Goals as goal
 
 pub returns : goal.returns

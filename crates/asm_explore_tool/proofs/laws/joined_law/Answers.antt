@@ -1,7 +1,7 @@
-use Rattle.asm_syntax.specs.Views.{spec_of}
+use Rattle.asm_syntax.specs.code.Views.{spec_of}
 use Rattle.asm_check.specs.Ranks.{derived_rank}
 use Rattle.asm_meaning.specs.Program.{nothing_bound}
-use Rattle.asm_meaning.specs.Valued.{program}
+use Rattle.asm_meaning.specs.code.TermValues.{program}
 use Rattle.asm_explore_tool.proofs.JoinedTerms.{all_hold}
 use Rattle.asm_explore_tool.proofs.laws.joined_law.Goals as goal
 

@@ -3,16 +3,16 @@ use Rattle.std.specs.Prelude.{IfNone}
 use Rattle.asm_state.specs.Location.{State}
 use Rattle.asm_state.specs.Signature.{Shape, state_of}
 use Rattle.asm_state.specs.Updates.{IsConsistent, UpdateSet, fire}
-use Rattle.asm_syntax.specs.Views.{spec_of}
+use Rattle.asm_syntax.specs.code.Views.{spec_of}
 use Rattle.asm_check.specs.Faults.{inits}
 use Rattle.asm_check.specs.Shapes.{shape_of}
-use Rattle.asm_updates.specs.Stands.{Stands}
+use Rattle.asm_updates.specs.code.Stands.{Stands}
 use Rattle.asm_meaning.specs.Declarations.{main_rule, program_of}
 use Rattle.asm_meaning.specs.Does.{Outcome, does}
-use Rattle.asm_meaning.specs.Formed.{IsFormed, IsSet}
+use Rattle.asm_meaning.specs.code.FormedOutcomes.{IsFormed, IsSet}
 use Rattle.asm_meaning.specs.Program.{nothing_bound}
-use Rattle.asm_meaning.specs.Valued.{shown}
-use Rattle.asm_explore_tool.proofs.Views.{nothing_over}
+use Rattle.asm_meaning.specs.code.TermValues.{shown}
+use Rattle.asm_explore_tool.proofs.BareViews.{nothing_over}
 use Rattle.asm_explore_tool.proofs.replay.next_state.Goals as goal
 
 where_none : {X : Type 0} (o : Option X) (P : Type 0) → is_some o ≡ false → IfNone o P → P

@@ -1,10 +1,10 @@
 use Rattle.std.proofs.Common.{◌∷◌, List, ℕ, Option, subst}
 use Rattle.std.specs.Prelude.{option_map}
-use Rattle.asm_explore.specs.declared.answer.BadRun.{BadRun}
+use Rattle.asm_explore.specs.declared.exploration_result.BadRun.{BadRun}
 use Rattle.asm_explore_tool.specs.Comments.{comments, lines_of}
 use Rattle.asm_explore_tool.specs.Report.{IsWholeOr, script_in}
 use Rattle.asm_explore_tool.specs.TraceLines.{MayShowTrace}
-use Rattle.asm_explore_tool.proofs.Printed.{printed_says}
+use Rattle.asm_explore_tool.proofs.PrintedScripts.{printed_says}
 use Rattle.asm_explore_tool.proofs.report.printed.Goals as goal
 
 pub returns : goal.returns

@@ -1,6 +1,6 @@
 use Rattle.std.proofs.Common.{◌≡◌, ◌∙◌, List, ℕ, Option, ap, subst}
 use Rattle.std.specs.Prelude.{option_map}
-use Rattle.asm_explore.specs.declared.answer.BadRun.{BadRun}
+use Rattle.asm_explore.specs.declared.exploration_result.BadRun.{BadRun}
 use Rattle.asm_explore_tool.specs.FirstLine.{first_line}
 use Rattle.asm_explore_tool.specs.Report.{IsPrinted}
 use Rattle.asm_explore_tool.proofs.report.reported.Goals as goal

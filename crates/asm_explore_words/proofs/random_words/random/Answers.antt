@@ -2,8 +2,8 @@ use Rattle.std.proofs.Common.{◌≡◌, ◌∙◌, true, ap, codes, refl}
 use Rattle.std.proofs.lemmas.Result.{IfOk-weaker}
 use Rattle.clap.specs.Simple.{App, app_of, app_of_fields, new_app, on_top}
 use Rattle.clap.specs.Walk.{rule_of}
-use Rattle.asm_limits.specs.declared.limits.TheConstants.{STEPS, TURNS}
-use Rattle.asm_explore_words.specs.declared.words.TheConstants.{RUNS}
+use Rattle.asm_limits.specs.declared.run_limits.TheConstants.{STEPS, TURNS}
+use Rattle.asm_explore_words.specs.declared.command_line.TheConstants.{RUNS}
 use Rattle.asm_explore_words.specs.CommandLine.{flag, random_command, repeated, unsigned}
 use Rattle.asm_arguments.specs.Arguments.{option, number, positional, required, or_else}
 use Rattle.asm_arguments.proofs.Rules.{grown}

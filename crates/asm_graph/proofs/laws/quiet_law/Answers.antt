@@ -1,4 +1,4 @@
-use Rattle.asm_graph.proofs.Returning.{quiet_law}
+use Rattle.asm_graph.proofs.QuietNodes.{quiet_law}
 use Rattle.asm_graph.proofs.laws.quiet_law.Goals as goal
 
 pub returns : goal.returns

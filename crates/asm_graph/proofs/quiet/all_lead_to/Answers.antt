@@ -3,9 +3,9 @@ use Rattle.std.specs.Prelude.{Some}
 use Rattle.std.proofs.lemmas.Bool.{false≢true}
 use Rattle.std.proofs.lemmas.List.{take_all}
 use Rattle.std.proofs.lemmas.Option.{slice_get-get_or}
-use Rattle.asm_explore.specs.Elements.{Each}
+use Rattle.asm_explore.specs.code.ListElements.{Each}
 use Rattle.asm_graph.specs.declared.graph.Edge.{Edge}
-use Rattle.asm_graph.specs.declared.graph.Target.TheVariants as target
+use Rattle.asm_graph.specs.declared.graph.EdgeEnd.TheVariants as target
 use Rattle.asm_graph.proofs.Paired.{each_got, each_take_more}
 use Rattle.asm_graph.proofs.quiet.all_lead_to.Goals as goal
 

@@ -1,7 +1,7 @@
 use Rattle.std.proofs.Common.{◌≡◌, take}
-use Rattle.asm_explore.specs.Elements.{Each}
+use Rattle.asm_explore.specs.code.ListElements.{Each}
 use Rattle.asm_graph.specs.declared.graph.Edge.{Edge}
-use Rattle.asm_graph.specs.declared.graph.Target.TheVariants as target
+use Rattle.asm_graph.specs.declared.graph.EdgeEnd.TheVariants as target
 use Rattle.asm_graph.proofs.quiet.all_lead_to.Given as goal
 
 -- the first edges do

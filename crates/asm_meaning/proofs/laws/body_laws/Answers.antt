@@ -1,4 +1,4 @@
-use Rattle.asm_meaning.proofs.Groups.{body_laws-begin, body_laws-counted, body_laws-passed, body_laws-end}
+use Rattle.asm_meaning.proofs.BesideLemmas.GroupsBeside.{body_laws-begin, body_laws-counted, body_laws-passed, body_laws-end}
 use Rattle.asm_meaning.proofs.laws.body_laws.Goals as goal
 
 pub returns-clause-begin : goal.returns-clause-begin

@@ -1,4 +1,4 @@
-use Rattle.asm_meaning.proofs.Ranked.{declared_ranks-derived, declared_ranks-derived_low, declared_ranks-rules, declared_ranks-rule_low}
+use Rattle.asm_meaning.proofs.RanksInPrograms.{declared_ranks-derived, declared_ranks-derived_low, declared_ranks-rules, declared_ranks-rule_low}
 use Rattle.asm_meaning.proofs.laws.declared_ranks.Goals as goal
 
 pub returns-clause-derived : goal.returns-clause-derived

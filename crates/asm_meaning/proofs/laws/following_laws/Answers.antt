@@ -1,4 +1,4 @@
-use Rattle.asm_meaning.proofs.Following.{following_laws-forms_same, following_laws-stopped_with, following_laws-same, following_laws-nothing, following_laws-both, following_laws-counted, following_laws-stopped}
+use Rattle.asm_meaning.proofs.FollowsLaws.{following_laws-forms_same, following_laws-stopped_with, following_laws-same, following_laws-nothing, following_laws-both, following_laws-counted, following_laws-stopped}
 use Rattle.asm_meaning.proofs.laws.following_laws.Goals as goal
 
 pub returns-clause-forms_same : goal.returns-clause-forms_same

@@ -1,4 +1,4 @@
-use Rattle.asm_meaning.proofs.Scripted.{free_has_script}
+use Rattle.asm_meaning.proofs.ChoiceLemmas.FreeHasScript.{free_has_script}
 use Rattle.asm_meaning.proofs.laws.free_has_script.Goals as goal
 
 pub returns : goal.returns

@@ -1,4 +1,4 @@
-use Rattle.asm_meaning.proofs.Groups.{group_laws-counting_none, group_laws-more, group_laws-one, group_laws-none}
+use Rattle.asm_meaning.proofs.BesideLemmas.GroupsBeside.{group_laws-counting_none, group_laws-more, group_laws-one, group_laws-none}
 use Rattle.asm_meaning.proofs.laws.group_laws.Goals as goal
 
 pub returns-clause-counting_none : goal.returns-clause-counting_none

@@ -1,5 +1,5 @@
 use Rattle.asm_meaning.proofs.NestedPaths.{nested_paths-behind_is_within, nested_paths-descent_is_within, nested_paths-parts, nested_paths-in_order, nested_paths-turns, nested_paths-elements, nested_paths-one_of}
-use Rattle.asm_meaning.proofs.ExhaustedPaths.{nested_paths-first}
+use Rattle.asm_meaning.proofs.BesideLemmas.ExhaustedPaths.{nested_paths-first}
 use Rattle.asm_meaning.proofs.laws.nested_paths.Goals as goal
 
 pub returns-clause-behind_is_within : goal.returns-clause-behind_is_within

@@ -1,4 +1,4 @@
-use Rattle.asm_meaning.proofs.Free.{scripted_is_free}
+use Rattle.asm_meaning.proofs.ChoiceLemmas.ScriptedIsFree.{scripted_is_free}
 use Rattle.asm_meaning.proofs.laws.scripted_is_free.Goals as goal
 
 pub returns : goal.returns

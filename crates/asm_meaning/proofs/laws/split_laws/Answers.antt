@@ -1,4 +1,4 @@
-use Rattle.asm_meaning.proofs.Beside.{split_laws}
+use Rattle.asm_meaning.proofs.BesideLemmas.PartsBeside.{split_laws}
 use Rattle.asm_meaning.proofs.laws.split_laws.Goals as goal
 
 pub returns : goal.returns

@@ -1,4 +1,4 @@
-use Rattle.asm_meaning.proofs.Meant.{universe_names-some, universe_names-none, universe_names-in_range}
+use Rattle.asm_meaning.proofs.MeantDeclarations.{universe_names-some, universe_names-none, universe_names-in_range}
 use Rattle.asm_meaning.proofs.laws.universe_names.Goals as goal
 
 pub returns-clause-some : goal.returns-clause-some

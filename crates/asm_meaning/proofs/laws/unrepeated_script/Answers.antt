@@ -1,4 +1,4 @@
-use Rattle.asm_meaning.proofs.Unrepeated.{unrepeated_script}
+use Rattle.asm_meaning.proofs.ChoiceLemmas.UnrepeatedScripts.{unrepeated_script}
 use Rattle.asm_meaning.proofs.laws.unrepeated_script.Goals as goal
 
 pub returns : goal.returns

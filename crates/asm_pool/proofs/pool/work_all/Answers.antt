@@ -1,7 +1,7 @@
 use Rattle.std.proofs.Common.{All, subst, sym, arith}
 use Rattle.std.proofs.lemmas.List.Elements.{All-append, All-drop}
-use Rattle.asm_pool.specs.Pool.{IsRun}
-use Rattle.asm_pool.proofs.Halves.{both-hands, idle-behind, idle-done, idle-fit, idle-once, zip-length}
+use Rattle.asm_pool.specs.code.Pool.{IsRun}
+use Rattle.asm_pool.proofs.JoinedWorkers.{both-hands, idle-behind, idle-done, idle-fit, idle-once, zip-length}
 use Rattle.asm_pool.proofs.pool.work_all.Goals as goal
 
 pub returns-clause-fit : goal.returns-clause-fit
@@ -30,5 +30,5 @@ returns-clause-idle g c =
     let cut = c.in_ok-others.ensures in
     let behind = c.in_ok-all.ensures in
     let zip = zip-length _ c.split_off.new.self.items c.in_ok-workers.workers.items c.in_ok-workers.ensures.hands in
-    idle-behind c.args.most c.in_ok-workers.workers.items behind.idle c.in_ok-all.all.items behind.added
+    idle-behind c.args.max_workers c.in_ok-workers.workers.items behind.idle c.in_ok-all.all.items behind.added
     (omega (arith, zip, cut.len, c.split_off.new.self.ok.0, c.min-busy.ensures, c.min.ensures)) behind.none

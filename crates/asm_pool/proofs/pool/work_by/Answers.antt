@@ -1,6 +1,6 @@
 use Rattle.std.proofs.Common.{All, ◌∙◌, subst, sym, vec_len}
 use Rattle.std.proofs.lemmas.List.Elements.{All-map}
-use Rattle.asm_pool.proofs.Halves.{no-tasks-behind}
+use Rattle.asm_pool.proofs.JoinedWorkers.{no-tasks-behind}
 use Rattle.asm_pool.proofs.Runs.{worked-once, worked-count, worked-lists, worked-runs}
 use Rattle.asm_pool.proofs.pool.work_by.Goals as goal
 
@@ -28,4 +28,4 @@ pub returns-clause-fit : goal.returns-clause-fit
 returns-clause-fit g c = subst (All (g.J.Job.takes_hand c.args.job.now)) (sym c.in_ok-gather.ensures.hands) (All-map (g.J.Job.takes_hand c.args.job.now) (λ w. w.hand) c.in_ok-workers.workers.items c.in_ok-workers.ensures.fit)
 
 pub returns-clause-idle : goal.returns-clause-idle
-returns-clause-idle g c = no-tasks-behind (λ v. v.items) vec_len (λ v. v.ok.0) c.args.most c.in_ok-gather.field-0.lists.items c.in_ok-workers.workers.items c.in_ok-gather.ensures.lists c.in_ok-workers.ensures.idle
+returns-clause-idle g c = no-tasks-behind (λ v. v.items) vec_len (λ v. v.ok.0) c.args.max_workers c.in_ok-gather.field-0.lists.items c.in_ok-workers.workers.items c.in_ok-gather.ensures.lists c.in_ok-workers.ensures.idle

@@ -1,7 +1,7 @@
 use Rattle.std.proofs.Common.{◌≡◌, ◌∙◌, [], length, sym, arith}
-use Rattle.asm_pool.specs.Dealing.{seat_view}
-use Rattle.asm_pool.specs.Pool.{IsRun}
-use Rattle.asm_pool.proofs.Working.{all-worked}
+use Rattle.asm_pool.specs.code.Lanes.{seat_view}
+use Rattle.asm_pool.specs.code.Pool.{IsRun}
+use Rattle.asm_pool.proofs.WorkerRuns.{all-worked}
 use Rattle.asm_pool.proofs.pool.work_lanes.Goals as goal
 
 pub work_halves-requires-clause-ready : goal.work_halves-requires-clause-ready

@@ -1,21 +1,21 @@
 use Rattle.std.proofs.Common.{◌≡◌, ℕ, ◌∙◌, [], length, subst, sym, arith}
-use Rattle.asm_pool.specs.Dealing.{seat_view}
-use Rattle.asm_pool.proofs.Teams.{one-worked, popped-fits}
+use Rattle.asm_pool.specs.code.Lanes.{seat_view}
+use Rattle.asm_pool.proofs.CutWorkers.{one-worked, popped-fits}
 use Rattle.asm_pool.proofs.pool.work_one.Goals as goal
 
-pub empty_all-requires-clause-seat : goal.empty_all-requires-clause-seat
-empty_all-requires-clause-seat g c =
+pub work_all_lanes-requires-clause-seat : goal.work_all_lanes-requires-clause-seat
+work_all_lanes-requires-clause-seat g c =
     let one : length c.args.hands.items ≡ 1 = sym c.args.hands.ok.0 ∙ c.requires.one in
     (c.requires.ready.table, subst (λ (n : ℕ). c.args.seat.me ≡ (seat_view c.args.lanes.now.shape.lanes n [], [])) one c.requires.ready.blank)
 
-pub empty_all-requires-clause-own : goal.empty_all-requires-clause-own
-empty_all-requires-clause-own g c = let room = c.requires.ready.room in let some = c.requires.ready.some in omega (arith, room, some)
+pub work_all_lanes-requires-clause-own : goal.work_all_lanes-requires-clause-own
+work_all_lanes-requires-clause-own g c = let room = c.requires.ready.room in let some = c.requires.ready.some in omega (arith, room, some)
 
-pub empty_all-requires-clause-tasks : goal.empty_all-requires-clause-tasks
-empty_all-requires-clause-tasks g c = c.requires.ready.tasks
+pub work_all_lanes-requires-clause-tasks : goal.work_all_lanes-requires-clause-tasks
+work_all_lanes-requires-clause-tasks g c = c.requires.ready.tasks
 
-pub empty_all-requires-clause-hand : goal.empty_all-requires-clause-hand
-empty_all-requires-clause-hand g c = popped-fits (g.J.Job.takes_hand c.args.job.now) c.args.hands.items c.pop.new.self.items c.pop.result c.unwrap-hand.result c.pop.ensures.items c.unwrap-hand.ensures c.requires.ready.fit
+pub work_all_lanes-requires-clause-hand : goal.work_all_lanes-requires-clause-hand
+work_all_lanes-requires-clause-hand g c = popped-fits (g.J.Job.takes_hand c.args.job.now) c.args.hands.items c.pop.new.self.items c.pop.result c.unwrap-hand.result c.pop.ensures.items c.unwrap-hand.ensures c.requires.ready.fit
 
 pub returns : goal.returns
 returns g c =

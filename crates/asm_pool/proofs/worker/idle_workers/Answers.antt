@@ -1,8 +1,8 @@
 use Rattle.std.proofs.Common.{◌≡◌, ◌∙◌, [], ◌++◌, map, ap, sym}
 use Rattle.std.specs.Vec.Iter.{into_iter_items}
 use Rattle.std.proofs.lemmas.List.{append-nil, nil_from_length}
-use Rattle.asm_pool.specs.Finished.{done_by}
-use Rattle.asm_pool.proofs.Halves.{idle-more, hands-more}
+use Rattle.asm_pool.specs.code.WorkDone.{done_by}
+use Rattle.asm_pool.proofs.JoinedWorkers.{idle-more, hands-more}
 use Rattle.asm_pool.proofs.worker.idle_workers.Goals as goal
 
 pub loop-hand-init : goal.loop-hand-init

@@ -1,6 +1,6 @@
 use Rattle.std.proofs.Common.{◌≡◌, [], ◌++◌, map}
 use Rattle.std.specs.Vec.Iter.{into_iter_items}
-use Rattle.asm_pool.specs.Finished.{done_by}
+use Rattle.asm_pool.specs.code.WorkDone.{done_by}
 use Rattle.asm_pool.proofs.worker.idle_workers.Given as goal
 
 abbrev pub invariant-loop-hand : goal.invariant-loop-hand

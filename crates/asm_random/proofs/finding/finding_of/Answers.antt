@@ -1,10 +1,10 @@
 use Rattle.std.proofs.Common.{◌≡◌, Option, Some, subst}
 use Rattle.std.specs.Prelude.{IfSome}
-use Rattle.asm_syntax.specs.Views.{spec_of}
+use Rattle.asm_syntax.specs.code.Views.{spec_of}
 use Rattle.asm_check.specs.Shapes.{shape_of}
 use Rattle.asm_meaning.specs.Declarations.{specification_of}
 use Rattle.asm_explore.specs.Conditions.{holds_in}
-use Rattle.asm_random.specs.RandomAnswers.{IsBadScript}
+use Rattle.asm_random.specs.RandomResults.{IsBadScript}
 use Rattle.asm_random.proofs.finding.finding_of.Goals as goal
 
 some : {X : Type 0} (o : Option X) (x : X) (P : X → Type 0) → o ≡ Some x → IfSome o P → P x

@@ -1,6 +1,6 @@
 use Rattle.std.proofs.Common.{◌≡◌, ◌≤◌, Option, Some, subst, arith}
 use Rattle.std.specs.Prelude.{IfSome}
-use Rattle.asm_random.specs.Shorter.{IsWrongFor}
+use Rattle.asm_random.specs.code.ShorterRuns.{IsWrongFor}
 use Rattle.asm_random.proofs.random.runs_of.Goals as goal
 
 some : {X : Type 0} (o : Option X) (x : X) (P : X → Type 0) → o ≡ Some x → IfSome o P → P x

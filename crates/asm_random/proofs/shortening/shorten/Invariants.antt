@@ -1,4 +1,4 @@
-use Rattle.asm_random.specs.Shorter.{StaysWrong}
+use Rattle.asm_random.specs.code.ShorterRuns.{StaysWrong}
 use Rattle.asm_random.proofs.shortening.shorten.Given as goal
 
 abbrev pub invariant-loop-round : goal.invariant-loop-round

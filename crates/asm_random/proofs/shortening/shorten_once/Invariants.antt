@@ -1,4 +1,4 @@
-use Rattle.asm_random.specs.Shorter.{StaysWrong}
+use Rattle.asm_random.specs.code.ShorterRuns.{StaysWrong}
 use Rattle.asm_random.proofs.shortening.shorten_once.Given as goal
 
 abbrev pub invariant-loop-halvings : goal.invariant-loop-halvings

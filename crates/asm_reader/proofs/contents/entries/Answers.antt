@@ -1,9 +1,9 @@
 use Rattle.std.proofs.lemmas.Result.{err_from_is_err_and}
 use Rattle.asm_syntax.specs.declared.token.Kind.TheVariants.{Symbol}
 use Rattle.asm_syntax.specs.declared.token.Symbol.TheVariants.{Comma}
-use Rattle.asm_syntax.specs.Views.{entry_of}
-use Rattle.asm_reader.specs.Reading.{entry_at}
-use Rattle.asm_reader.proofs.Consuming.{entry_consumes}
+use Rattle.asm_syntax.specs.code.Views.{entry_of}
+use Rattle.asm_reader.specs.code.Reading.{entry_at}
+use Rattle.asm_reader.proofs.LoopsConsume.{entry_consumes}
 use Rattle.asm_reader.proofs.Separated.{past_is, past_consumes, so_far, next_read, all_read, next_fails}
 use Rattle.asm_reader.proofs.contents.entries.Goals as goal
 

@@ -1,8 +1,8 @@
 use Rattle.std.proofs.Common.{◌≡◌, length}
 use Rattle.asm_syntax.specs.declared.token.Kind.TheVariants.{Symbol}
 use Rattle.asm_syntax.specs.declared.token.Symbol.TheVariants.{Comma}
-use Rattle.asm_syntax.specs.Views.{entry_of}
-use Rattle.asm_reader.specs.Reading.{entry_at}
+use Rattle.asm_syntax.specs.code.Views.{entry_of}
+use Rattle.asm_reader.specs.code.Reading.{entry_at}
 use Rattle.asm_reader.proofs.Separated.{so_far}
 use Rattle.asm_reader.proofs.contents.entries.Given as goal
 

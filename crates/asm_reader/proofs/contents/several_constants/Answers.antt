@@ -1,9 +1,9 @@
 use Rattle.std.proofs.lemmas.Result.{err_from_is_err_and}
 use Rattle.asm_syntax.specs.declared.token.Kind.TheVariants.{Symbol}
 use Rattle.asm_syntax.specs.declared.token.Symbol.TheVariants.{Comma}
-use Rattle.asm_syntax.specs.Views.{const_of}
-use Rattle.asm_reader.specs.Reading.{constant_at}
-use Rattle.asm_reader.proofs.Consuming.{constant_consumes}
+use Rattle.asm_syntax.specs.code.Views.{const_of}
+use Rattle.asm_reader.specs.code.Reading.{constant_at}
+use Rattle.asm_reader.proofs.LoopsConsume.{constant_consumes}
 use Rattle.asm_reader.proofs.Separated.{past_is, past_consumes, so_far, next_read, all_read, next_fails}
 use Rattle.asm_reader.proofs.contents.several_constants.Goals as goal
 

@@ -1,8 +1,8 @@
 use Rattle.std.proofs.Common.{◌≡◌, length}
 use Rattle.asm_syntax.specs.declared.token.Kind.TheVariants.{Symbol}
 use Rattle.asm_syntax.specs.declared.token.Symbol.TheVariants.{Comma}
-use Rattle.asm_syntax.specs.Views.{const_of}
-use Rattle.asm_reader.specs.Reading.{constant_at}
+use Rattle.asm_syntax.specs.code.Views.{const_of}
+use Rattle.asm_reader.specs.code.Reading.{constant_at}
 use Rattle.asm_reader.proofs.Separated.{so_far}
 use Rattle.asm_reader.proofs.contents.several_constants.Given as goal
 

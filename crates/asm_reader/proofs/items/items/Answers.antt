@@ -1,12 +1,12 @@
 use Rattle.std.proofs.Common.{◌≡◌, sym, ap, ◌∙◌, true, false, List}
 use Rattle.std.proofs.lemmas.Result.{err_from_is_err_and}
 use Rattle.asm_syntax.specs.declared.token.Kind.{Kind}
-use Rattle.asm_syntax.specs.Views.{item_of}
+use Rattle.asm_syntax.specs.code.Views.{item_of}
 use Rattle.asm_reader.specs.Kinds.{begins}
-use Rattle.asm_reader.specs.Steps.{each_of, repeated_of}
-use Rattle.asm_reader.specs.Reading.{item_starts, item_at}
+use Rattle.asm_reader.specs.code.Steps.{each_of, repeated_of}
+use Rattle.asm_reader.specs.code.Reading.{item_starts, item_at}
 use Rattle.asm_reader.proofs.Loops.{with_front, turn_seen, nothing_before, no_turn, bad_turn}
-use Rattle.asm_reader.proofs.Consuming.{item_consumes}
+use Rattle.asm_reader.proofs.LoopsConsume.{item_consumes}
 use Rattle.asm_reader.proofs.items.items.Goals as goal
 
 pub loop-alloc-smaller : goal.loop-alloc-smaller

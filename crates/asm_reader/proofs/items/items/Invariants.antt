@@ -1,7 +1,7 @@
 use Rattle.std.proofs.Common.{◌≡◌, length}
-use Rattle.asm_syntax.specs.Views.{item_of}
-use Rattle.asm_reader.specs.Reading.{item_starts, item_at}
-use Rattle.asm_reader.specs.Steps.{each_of, repeated_of}
+use Rattle.asm_syntax.specs.code.Views.{item_of}
+use Rattle.asm_reader.specs.code.Reading.{item_starts, item_at}
+use Rattle.asm_reader.specs.code.Steps.{each_of, repeated_of}
 use Rattle.asm_reader.proofs.Loops.{with_front}
 use Rattle.asm_reader.proofs.items.items.Given as goal
 

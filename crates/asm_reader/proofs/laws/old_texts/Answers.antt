@@ -1,4 +1,4 @@
-use Rattle.asm_reader.proofs.OldTexts.{still_spells, still_is_specification}
+use Rattle.asm_reader.proofs.OldGrammarLemmas.OldTexts.{still_spells, still_is_specification}
 use Rattle.asm_reader.proofs.laws.old_texts.Goals as goal
 
 pub returns : goal.returns

@@ -1,4 +1,4 @@
-use Rattle.asm_reader.proofs.FirstFaults.{one_script_refusal}
+use Rattle.asm_reader.proofs.ScriptLemmas.FirstFaults.{one_script_refusal}
 use Rattle.asm_reader.proofs.laws.one_script_refusal.Goals as goal
 
 pub returns : goal.returns

@@ -1,4 +1,4 @@
-use Rattle.asm_reader.proofs.SaidLines.{each_says, exact_apart, every_apart}
+use Rattle.asm_reader.proofs.ScriptLemmas.SaidLines.{each_says, exact_apart, every_apart}
 use Rattle.asm_reader.proofs.laws.script_lines.Goals as goal
 
 pub returns-clause-said : goal.returns-clause-said

@@ -1,4 +1,4 @@
-use Rattle.asm_reader.proofs.EachScript.{script_or_a_refusal}
+use Rattle.asm_reader.proofs.ScriptLemmas.EachScript.{script_or_a_refusal}
 use Rattle.asm_reader.proofs.laws.script_or_a_refusal.Goals as goal
 
 pub returns : goal.returns

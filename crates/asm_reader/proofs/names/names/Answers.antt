@@ -1,7 +1,7 @@
 use Rattle.std.proofs.lemmas.Result.{err_from_is_err_and}
-use Rattle.asm_syntax.specs.Views.{name_of}
-use Rattle.asm_reader.specs.TermReading.{name_at}
-use Rattle.asm_reader.proofs.Consuming.{name_consumes}
+use Rattle.asm_syntax.specs.code.Views.{name_of}
+use Rattle.asm_reader.specs.code.TermReading.{name_at}
+use Rattle.asm_reader.proofs.LoopsConsume.{name_consumes}
 use Rattle.asm_reader.proofs.Separated.{past_is, past_consumes, so_far, next_read, all_read, next_fails}
 use Rattle.asm_reader.proofs.names.names.Goals as goal
 

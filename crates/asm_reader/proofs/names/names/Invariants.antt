@@ -1,6 +1,6 @@
 use Rattle.std.proofs.Common.{◌≡◌, length}
-use Rattle.asm_syntax.specs.Views.{name_of}
-use Rattle.asm_reader.specs.TermReading.{name_at}
+use Rattle.asm_syntax.specs.code.Views.{name_of}
+use Rattle.asm_reader.specs.code.TermReading.{name_at}
 use Rattle.asm_reader.proofs.Separated.{so_far}
 use Rattle.asm_reader.proofs.names.names.Given as goal
 

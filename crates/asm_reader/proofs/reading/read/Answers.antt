@@ -1,14 +1,14 @@
 use Rattle.std.proofs.Common.{◌≡◌, ◌≢◌, ℕ, List, [], ◌∷◌, Result, Ok, Err, IfErr, refl, subst, sym, ◌∙◌}
-use Rattle.asm_syntax.specs.declared.refused.Refused.{Refused}
-use Rattle.asm_syntax.specs.declared.refused.Refused.TheVariants.{Memory}
+use Rattle.asm_syntax.specs.declared.input_error.InputError.{InputError}
+use Rattle.asm_syntax.specs.declared.input_error.InputError.TheVariants.{Memory}
 use Rattle.asm_syntax.specs.declared.token.Token.{Token}
-use Rattle.asm_syntax.specs.Lexing.{HasFirstToken}
+use Rattle.asm_syntax.specs.code.Lexing.{HasFirstToken}
 use Rattle.asm_syntax.specs.Tokens.{AreTokens}
 use Rattle.asm_reader.specs.Specification.{AreSpelling}
 use Rattle.asm_reader.proofs.reading.read.Goals as goal
 
--- where a text without tokens asks for no memory, one that asks for some has a first token
-asks_behind_token : {A E : Type 0} (r : Result A (Refused E)) (text : List ℕ) (ts us : List Token) → AreTokens text us → ts ≡ us → (ts ≡ [] → IfErr r (λ e. e ≢ Memory)) → IfErr r (λ e. e ≡ Memory → HasFirstToken text)
+-- if a text without tokens asks for no memory, one that asks for some has a first token
+asks_behind_token : {A E : Type 0} (r : Result A (InputError E)) (text : List ℕ) (ts us : List Token) → AreTokens text us → ts ≡ us → (ts ≡ [] → IfErr r (λ e. e ≢ Memory)) → IfErr r (λ e. e ≡ Memory → HasFirstToken text)
 asks_behind_token (Ok x) text ts us are same none = tt
 asks_behind_token (Err e) text ts [] are same none = λ out. absurd (none same out)
 asks_behind_token (Err e) text ts (t ∷ us) (short, end, rest, (behind, next, sound, more), last) same none = λ out. (short, t, t.end, behind, (behind, next, sound, (refl, refl)))

@@ -1,5 +1,5 @@
 use Rattle.std.proofs.lemmas.Result.{err_from_is_err_and}
-use Rattle.asm_syntax.specs.Views.{spec_of}
+use Rattle.asm_syntax.specs.code.Views.{spec_of}
 use Rattle.asm_reader.proofs.Spellings.{spells_all, spells_less, spells_none}
 use Rattle.asm_reader.proofs.OneRefusal.{only_memory}
 use Rattle.asm_reader.proofs.reading.read_tokens.Goals as goal

@@ -1,17 +1,17 @@
 use Rattle.std.proofs.Common.{◌≡◌, refl, sym, ap, ◌∙◌, true, false, List, Err}
 use Rattle.std.proofs.lemmas.Result.{err_from_is_err_and}
 use Rattle.asm_syntax.specs.declared.token.Kind.{Kind}
-use Rattle.asm_syntax.specs.Views.{rule_of}
-use Rattle.asm_syntax.specs.ViewCases.{rule_of-Par, rule_of-Seq, rule_of-Let, rule_of-Forall, rule_of-Iterate, rule_of-While}
+use Rattle.asm_syntax.specs.code.Views.{rule_of}
+use Rattle.asm_syntax.specs.code.ViewCases.{rule_of-Par, rule_of-Seq, rule_of-Let, rule_of-Forall, rule_of-Iterate, rule_of-While}
 use Rattle.asm_reader.specs.Kinds.{begins}
-use Rattle.asm_reader.specs.Steps.{below, each_of, repeated_of}
-use Rattle.asm_reader.specs.TermReading.{term_at}
-use Rattle.asm_reader.specs.RuleReading.{rule_starts, rule_at, par_at, seq_at}
+use Rattle.asm_reader.specs.code.Steps.{below, each_of, repeated_of}
+use Rattle.asm_reader.specs.code.TermReading.{term_at}
+use Rattle.asm_reader.specs.code.RuleReading.{rule_starts, rule_at, par_at, seq_at}
 use Rattle.asm_reader.proofs.Loops.{with_front, turn_seen, one_before, no_turn, bad_turn}
 use Rattle.asm_reader.proofs.TermSteps.{below_less}
 use Rattle.asm_reader.proofs.RuleSteps.{several_is}
 use Rattle.asm_reader.proofs.Headers.{if_splits, let_splits, forall_splits, choose_splits, iterate_splits, while_splits}
-use Rattle.asm_reader.proofs.Consuming.{rule_consumes}
+use Rattle.asm_reader.proofs.LoopsConsume.{rule_consumes}
 use Rattle.asm_reader.proofs.Views.{if_is, choose_is}
 use Rattle.asm_reader.proofs.rules.+rules.Goals as goal
 

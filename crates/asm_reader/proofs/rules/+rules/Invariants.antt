@@ -1,7 +1,7 @@
 use Rattle.std.proofs.Common.{◌≡◌, ◌+◌, ◌*◌, length}
-use Rattle.asm_syntax.specs.Views.{rule_of}
-use Rattle.asm_reader.specs.RuleReading.{rule_starts, rule_at}
-use Rattle.asm_reader.specs.Steps.{each_of, repeated_of}
+use Rattle.asm_syntax.specs.code.Views.{rule_of}
+use Rattle.asm_reader.specs.code.RuleReading.{rule_starts, rule_at}
+use Rattle.asm_reader.specs.code.Steps.{each_of, repeated_of}
 use Rattle.asm_reader.proofs.Loops.{with_front}
 use Rattle.asm_reader.proofs.rules.+rules.Given as goal
 

@@ -1,11 +1,11 @@
 use Rattle.std.proofs.Common.{sym}
 use Rattle.std.proofs.lemmas.Result.{err_from_is_err_and}
-use Rattle.asm_syntax.specs.ViewCases.{rule_of-Assign}
-use Rattle.asm_syntax.specs.Views.{term_of}
-use Rattle.asm_reader.specs.Seen.{applied_of}
-use Rattle.asm_reader.specs.Steps.{below}
-use Rattle.asm_reader.specs.TermReading.{term_at}
-use Rattle.asm_reader.specs.RuleReading.{rule_at}
+use Rattle.asm_syntax.specs.code.ViewCases.{rule_of-Assign}
+use Rattle.asm_syntax.specs.code.Views.{term_of}
+use Rattle.asm_reader.specs.code.ViewsOfParts.{applied_of}
+use Rattle.asm_reader.specs.code.Steps.{below}
+use Rattle.asm_reader.specs.code.TermReading.{term_at}
+use Rattle.asm_reader.specs.code.RuleReading.{rule_at}
 use Rattle.asm_reader.proofs.RuleSteps.{assignment_is, value_fails}
 use Rattle.asm_reader.proofs.rules.named_rule.Goals as goal
 

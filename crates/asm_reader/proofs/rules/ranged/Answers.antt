@@ -1,5 +1,5 @@
 use Rattle.std.proofs.Common.{refl}
-use Rattle.asm_reader.specs.TermReading.{term_at}
+use Rattle.asm_reader.specs.code.TermReading.{term_at}
 use Rattle.asm_reader.proofs.TermSteps.{below_less}
 use Rattle.asm_reader.proofs.rules.ranged.Goals as goal
 

@@ -1,6 +1,6 @@
 use Rattle.std.proofs.Common.{refl}
-use Rattle.asm_syntax.specs.ViewCases.{rule_of-SetResult}
-use Rattle.asm_reader.specs.RuleReading.{result_rule_at}
+use Rattle.asm_syntax.specs.code.ViewCases.{rule_of-SetResult}
+use Rattle.asm_reader.specs.code.RuleReading.{result_rule_at}
 use Rattle.asm_reader.proofs.rules.result_rule.Goals as goal
 
 pub returns : goal.returns

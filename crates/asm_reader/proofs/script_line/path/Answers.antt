@@ -5,7 +5,7 @@ use Rattle.std.specs.Str.{bytes_eq}
 use Rattle.std.proofs.lemmas.Iterator.Consumers.{YieldsList-at}
 use Rattle.std.proofs.lemmas.Iterator.Splits.{YieldsList-from_slice_split}
 use Rattle.asm_reader.specs.ScriptText.{numbers_of}
-use Rattle.asm_reader.proofs.PathNumbers.{numbers_push, bad_part, turn_of, end_of}
+use Rattle.asm_reader.proofs.ScriptLemmas.PathParts.{numbers_push, bad_part, turn_of, end_of}
 use Rattle.asm_reader.proofs.script_line.path.Goals as goal
 
 pub loop-digits-preserved : goal.loop-digits-preserved

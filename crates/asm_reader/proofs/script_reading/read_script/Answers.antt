@@ -1,12 +1,12 @@
 use Rattle.std.proofs.Common.{◌≡◌, ◌==◌, ap, sym, subst, ◌∙◌, map, arith}
 use Rattle.std.proofs.lemmas.Result.{IfErr-weaker}
-use Rattle.asm_syntax.specs.declared.refused.Refused.TheVariants.{Memory}
-use Rattle.asm_reader.specs.Places.{Says}
+use Rattle.asm_syntax.specs.declared.input_error.InputError.TheVariants.{Memory}
+use Rattle.asm_reader.specs.code.PathNumbers.{Says}
 use Rattle.asm_reader.specs.ScriptRefusals.{ExplainsScript}
-use Rattle.asm_reader.specs.Spots.{bytes_in}
+use Rattle.asm_reader.specs.code.LinesSaid.{bytes_in}
 use Rattle.asm_reader.specs.ScriptText.{IsScript, lines_of, script_in}
-use Rattle.asm_reader.proofs.FirstFaults.{lines_read, script_read, refusal_handed, only_memory}
-use Rattle.asm_reader.proofs.Sizes.{split_bytes}
+use Rattle.asm_reader.proofs.ScriptLemmas.FirstFaults.{lines_read, script_read, refusal_handed, only_memory}
+use Rattle.asm_reader.proofs.ScriptLemmas.Sizes.{split_bytes}
 use Rattle.asm_reader.proofs.script_reading.read_script.Goals as goal
 
 pub read_lines-requires : goal.read_lines-requires

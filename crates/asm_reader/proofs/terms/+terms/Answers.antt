@@ -5,13 +5,13 @@ use Rattle.asm_syntax.specs.declared.token.Kind.{Kind}
 use Rattle.asm_syntax.specs.declared.token.Kind.TheVariants.{Symbol}
 use Rattle.asm_syntax.specs.declared.token.Symbol.TheVariants.{Comma}
 use Rattle.asm_syntax.specs.SourceTree as source
-use Rattle.asm_syntax.specs.Views.{term_of}
+use Rattle.asm_syntax.specs.code.Views.{term_of}
 use Rattle.asm_reader.specs.Kinds.{begins, keys}
-use Rattle.asm_reader.specs.Seen.{link_of}
-use Rattle.asm_reader.specs.Steps.{Answer, Reader, Reads, below, each_of, repeated_of, choice_at}
-use Rattle.asm_reader.specs.TermReading.{arguments_at, term_at, table_of, operand_at, link_at}
+use Rattle.asm_reader.specs.code.ViewsOfParts.{link_of}
+use Rattle.asm_reader.specs.code.Steps.{ReaderResult, Reader, Reads, below, each_of, repeated_of, choice_at}
+use Rattle.asm_reader.specs.code.TermReading.{arguments_at, term_at, table_of, operand_at, link_at}
 use Rattle.asm_reader.proofs.Loops.{with_front, turn_seen, nothing_before, no_turn, bad_turn}
-use Rattle.asm_reader.proofs.Consuming.{term_consumes}
+use Rattle.asm_reader.proofs.LoopsConsume.{term_consumes}
 use Rattle.asm_reader.proofs.Separated.{so_far, next_seen, all_read, past_stops, past_consumes}
 use Rattle.asm_reader.proofs.TermLoops.{links_consume}
 use Rattle.asm_reader.proofs.TermSteps.{below_less, term_is, chain_is, link_is, link_fails, links_done, links_fail, no_links, first_fails, chain_goes_on, side_fails, comparison_goes_on, term_stops, term_is_factor, term_goes_on}
@@ -110,7 +110,7 @@ chain-returns-in_err-first t c =
     (first_fails (table_of c.args.of) (operand_at c.args.text.now c.args.levels (below (term_at c.args.text.now) c.args.levels) c.args.of) c.args.tokens.now.rest.now reason (c.in_err-first.ensures reason is)))
 
 pub chain-returns : goal.chain-returns
-chain-returns t c = subst (λ (w : Answer source.Term). Reads term_of w c.chain_from.result c.chain_from.new.tokens.rest.now) (sym (ap (λ (f : Reader source.Term). f c.args.tokens.now.rest.now) (chain_is c.args.text.now c.args.levels (below (term_at c.args.text.now) c.args.levels) c.args.of) ∙ chain_goes_on (table_of c.args.of) (operand_at c.args.text.now c.args.levels (below (term_at c.args.text.now) c.args.levels) c.args.of) c.args.tokens.now.rest.now c.operand.new.tokens.rest.now (term_of c.in_ok-first.first) c.in_ok-first.ensures)) c.chain_from.ensures
+chain-returns t c = subst (λ (w : ReaderResult source.Term). Reads term_of w c.chain_from.result c.chain_from.new.tokens.rest.now) (sym (ap (λ (f : Reader source.Term). f c.args.tokens.now.rest.now) (chain_is c.args.text.now c.args.levels (below (term_at c.args.text.now) c.args.levels) c.args.of) ∙ chain_goes_on (table_of c.args.of) (operand_at c.args.text.now c.args.levels (below (term_at c.args.text.now) c.args.levels) c.args.of) c.args.tokens.now.rest.now c.operand.new.tokens.rest.now (term_of c.in_ok-first.first) c.in_ok-first.ensures)) c.chain_from.ensures
 
 pub comparison-returns-in_err-first : goal.comparison-returns-in_err-first
 comparison-returns-in_err-first t c =
@@ -118,10 +118,10 @@ comparison-returns-in_err-first t c =
     rw (p.1, p.2) (λ reason is. side_fails c.args.text.now c.args.levels (below (term_at c.args.text.now) c.args.levels) c.args.tokens.now.rest.now reason (c.in_err-first.ensures reason is))
 
 pub comparison-returns : goal.comparison-returns
-comparison-returns t c = subst (λ (w : Answer source.Term). Reads term_of w c.compared.result c.compared.new.tokens.rest.now) (sym (comparison_goes_on c.args.text.now c.args.levels (below (term_at c.args.text.now) c.args.levels) c.args.tokens.now.rest.now c.chain.new.tokens.rest.now (term_of c.in_ok-first.first) c.in_ok-first.ensures)) c.compared.ensures
+comparison-returns t c = subst (λ (w : ReaderResult source.Term). Reads term_of w c.compared.result c.compared.new.tokens.rest.now) (sym (comparison_goes_on c.args.text.now c.args.levels (below (term_at c.args.text.now) c.args.levels) c.args.tokens.now.rest.now c.chain.new.tokens.rest.now (term_of c.in_ok-first.first) c.in_ok-first.ensures)) c.compared.ensures
 
 pub term-returns-then-sees : goal.term-returns-then-sees
-term-returns-then-sees t c = subst (λ (w : Answer source.Term). Reads term_of w c.chain.result c.chain.new.tokens.rest.now) (sym (ap (λ (f : Reader source.Term). f c.args.tokens.now.rest.now) (term_is c.args.text.now c.args.levels))) c.chain.ensures
+term-returns-then-sees t c = subst (λ (w : ReaderResult source.Term). Reads term_of w c.chain.result c.chain.new.tokens.rest.now) (sym (ap (λ (f : Reader source.Term). f c.args.tokens.now.rest.now) (term_is c.args.text.now c.args.levels))) c.chain.ensures
 
 pub term-returns-in_err-first : goal.term-returns-in_err-first
 term-returns-in_err-first t c =
@@ -132,4 +132,4 @@ pub term-returns-then-not-sees_operator : goal.term-returns-then-not-sees_operat
 term-returns-then-not-sees_operator t c = term_is_factor c.args.text.now c.args.levels c.args.tokens.now.rest.now c.factor.new.tokens.rest.now (term_of c.in_ok-first.first) (sym c.if-sees.ensures) c.in_ok-first.ensures (sym c.if-not-sees_operator.ensures)
 
 pub term-returns : goal.term-returns
-term-returns t c = subst (λ (w : Answer source.Term). Reads term_of w c.term_from.result c.term_from.new.tokens.rest.now) (sym (term_goes_on c.args.text.now c.args.levels c.args.tokens.now.rest.now c.factor.new.tokens.rest.now (term_of c.in_ok-first.first) (sym c.if-sees.ensures) c.in_ok-first.ensures)) c.term_from.ensures
+term-returns t c = subst (λ (w : ReaderResult source.Term). Reads term_of w c.term_from.result c.term_from.new.tokens.rest.now) (sym (term_goes_on c.args.text.now c.args.levels c.args.tokens.now.rest.now c.factor.new.tokens.rest.now (term_of c.in_ok-first.first) (sym c.if-sees.ensures) c.in_ok-first.ensures)) c.term_from.ensures

@@ -1,13 +1,13 @@
 use Rattle.std.proofs.Common.{◌≡◌, ◌+◌, ◌*◌, [], ◌∷◌, length}
 use Rattle.asm_syntax.specs.declared.token.Kind.TheVariants.{Symbol}
 use Rattle.asm_syntax.specs.declared.token.Symbol.TheVariants.{Comma}
-use Rattle.asm_syntax.specs.Views.{term_of}
+use Rattle.asm_syntax.specs.code.Views.{term_of}
 use Rattle.asm_reader.specs.Kinds.{keys}
-use Rattle.asm_reader.specs.Seen.{link_of}
-use Rattle.asm_reader.specs.Steps.{below, each_of, repeated_of, past_of}
-use Rattle.asm_reader.specs.TermReading.{table_of, link_at, term_at}
+use Rattle.asm_reader.specs.code.ViewsOfParts.{link_of}
+use Rattle.asm_reader.specs.code.Steps.{below, each_of, repeated_of, past_of}
+use Rattle.asm_reader.specs.code.TermReading.{table_of, link_at, term_at}
 use Rattle.asm_reader.proofs.Loops.{with_front}
-use Rattle.asm_reader.proofs.Ranks.{operand_rank}
+use Rattle.asm_reader.proofs.Precedences.{operand_rank}
 use Rattle.asm_reader.proofs.terms.+terms.Given as goal
 
 abbrev pub decreases-arguments : goal.decreases-arguments

@@ -1,6 +1,6 @@
 use Rattle.std.proofs.Common.{map, Some, false, sym, ap, ◌∙◌}
 use Rattle.std.specs.Prelude.{option_map}
-use Rattle.asm_meaning.specs.Meant.{text_of}
+use Rattle.asm_meaning.specs.code.MeantTrees.{text_of}
 use Rattle.asm_resolve.proofs.FoundNames.{value_at, values_found}
 use Rattle.asm_resolve.proofs.parameters.find_among.Goals as goal
 

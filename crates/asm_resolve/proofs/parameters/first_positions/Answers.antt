@@ -2,8 +2,8 @@ use Rattle.std.proofs.Common.{◌-◌, map, take, length, ap, ◌∙◌, arith}
 use Rattle.std.specs.Map.{lookup}
 use Rattle.std.proofs.lemmas.List.{length-take-le}
 use Rattle.asm_resolve.proofs.SpelledTexts.{lookup_inserted}
-use Rattle.asm_meaning.specs.Meant.{text_of}
-use Rattle.asm_resolve.specs.Slots.{is_spelled}
+use Rattle.asm_meaning.specs.code.MeantTrees.{text_of}
+use Rattle.asm_resolve.specs.code.Slots.{is_spelled}
 use Rattle.asm_resolve.proofs.FoundNames.{first_or, first_or_none, found_by, one_more_known}
 use Rattle.asm_resolve.proofs.parameters.first_positions.Goals as goal
 

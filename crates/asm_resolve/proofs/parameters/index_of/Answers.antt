@@ -1,6 +1,6 @@
 use Rattle.std.proofs.Common.{map, ap, ◌∙◌}
-use Rattle.asm_meaning.specs.Meant.{text_of}
-use Rattle.asm_resolve.specs.Slots.{position_of}
+use Rattle.asm_meaning.specs.code.MeantTrees.{text_of}
+use Rattle.asm_resolve.specs.code.Slots.{position_of}
 use Rattle.asm_resolve.proofs.FoundNames.{position_among}
 use Rattle.asm_resolve.proofs.parameters.index_of.Goals as goal
 

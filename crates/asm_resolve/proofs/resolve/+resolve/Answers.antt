@@ -5,39 +5,39 @@ use Rattle.std.proofs.lemmas.Grind.{common_steps}
 use Rattle.std.proofs.lemmas.List.{take_all}
 use Rattle.std.proofs.lemmas.Option.{slice_get-get_or}
 use Rattle.asm_state.proofs.ValueLaws.{value_laws}
-use Rattle.asm_state.specs.Fits.{Fits}
+use Rattle.asm_state.specs.SignatureLimits.{Fits}
 use Rattle.asm_state.specs.declared.operation.Op.TheVariants.{Not as not_op, Negate}
 use Rattle.asm_state.specs.declared.value.Value.TheVariants.{Undef}
 use Rattle.asm_syntax.specs.Tree as tree
 use Rattle.asm_syntax.specs.PlainTree.{literal_value, plain_term, plain_terms, plain_links}
-use Rattle.asm_syntax.specs.Views.{spec_of, term_of, terms_of, links_of}
-use Rattle.asm_check.proofs.ShapeFits.{signature_fits}
-use Rattle.asm_check.specs.NumberTables.{IsInRange}
+use Rattle.asm_syntax.specs.code.Views.{spec_of, term_of, terms_of, links_of}
+use Rattle.asm_check.proofs.NumberLemmas.ShapeFits.{signature_fits}
+use Rattle.asm_check.specs.code.numbers.NumberTables.{IsInRange}
 use Rattle.asm_check.specs.Shapes.{shape_of}
-use Rattle.asm_check.specs.declared.checked.Named.TheVariants as number
+use Rattle.asm_check.specs.declared.checked.NameNumber.TheVariants as number
 use Rattle.asm_meaning.proofs.TreeWeights.{tree_weights-argument as argument_lighter, tree_weights-body as body_lighter}
-use Rattle.asm_resolve.proofs.Falling.{falls}
-use Rattle.asm_meaning.specs.TreeWeights.{body_weight, link_of, term_weight}
+use Rattle.asm_resolve.proofs.WeightsFall.{falls}
+use Rattle.asm_meaning.specs.code.TreeWeights.{body_weight, link_of, term_weight}
 use Rattle.asm_meaning.proofs.NumberedValues.{numbered_names-element as element_below, numbered_names-function as function_below, numbered_names-derived as numbered_derived, numbered_names-universe_undef as universe_undef, numbered_names-rule_undef as named_rule_undef}
 use Rattle.asm_meaning.proofs.TreeWeights.{tree_weights-of_not as not_falls, tree_weights-negative as negative_falls}
 use Rattle.asm_meaning.proofs.PlainForms.{plain_terms-constant as plain_constant, plain_terms-chain as plain_chain, plain_terms-of_not as plain_not, plain_terms-negative as plain_negative, plain_terms-exists as plain_exists, plain_terms-every as plain_every}
 use Rattle.asm_meaning.specs.Declarations.{numbered, program_of}
 use Rattle.asm_meaning.specs.Program.{with_value, bind_values}
-use Rattle.asm_meaning.specs.Valued.{program, declared_value}
-use Rattle.asm_meaning.specs.Weights.{weight}
-use Rattle.asm_code.specs.CodeTree as codes
-use Rattle.asm_code.specs.CodeViews.{code_of, codes_of}
-use Rattle.asm_code.specs.CodeViews as code_view
-use Rattle.asm_code.specs.Readings.{reading}
-use Rattle.asm_code.specs.Sound.{IsSound}
-use Rattle.asm_resolve.specs.FunctionCodes.{IsRead}
+use Rattle.asm_meaning.specs.code.TermValues.{program, declared_value}
+use Rattle.asm_meaning.specs.code.Weights.{weight}
+use Rattle.asm_code.specs.code.CodeTree as codes
+use Rattle.asm_code.specs.code.CodeViews.{code_of, codes_of}
+use Rattle.asm_code.specs.code.CodeViews as code_view
+use Rattle.asm_code.specs.code.Readings.{reading}
+use Rattle.asm_code.specs.code.SoundCodes.{IsSound}
+use Rattle.asm_resolve.specs.code.FunctionCodes.{IsRead}
 use Rattle.asm_state.specs.Operation.{op}
 use Rattle.asm_code.specs.declared.code.Code.TheVariants as code
 use Rattle.asm_code.proofs.CodeForms.{code_laws-constant_form as constant_form, code_laws-local_form as local_form, code_laws-with_form as with_form, code_laws-chain_form as chain_form, code_laws-exists_form as exists_form, code_laws-every_form as every_form}
-use Rattle.asm_resolve.specs.Resolved.{IsResolved, AreResolvedLinks}
-use Rattle.asm_resolve.specs.Scopes.{AreBodies, IsBody, all_resolved, chain_resolved as chain_has_code, named_resolved, names_of, scope_environment, slots_in, term_resolved}
+use Rattle.asm_resolve.specs.code.ResolvedTerms.{IsResolved, AreResolvedLinks}
+use Rattle.asm_resolve.specs.code.Scopes.{AreResolvedBodies, IsBody, all_resolved, chain_resolved as chain_has_code, named_resolved, names_of, scope_environment, slots_in, term_resolved}
 use Rattle.asm_resolve.proofs.ResolvedLists.{as_resolved, if_both, if_ok, one_more, one_more_link, only_link, operand_falls, only_one, only_two, none_at_all}
-use Rattle.asm_resolve.proofs.Resolving.{local_resolved, function_resolved, derived_resolved, constant_resolved, literal_resolved, not_resolved, negative_resolved, chain_resolved, link_resolved, exists_resolved, every_resolved, exists_of_none, every_of_none}
+use Rattle.asm_resolve.proofs.TermPasses.{local_resolved, function_resolved, derived_resolved, constant_resolved, literal_resolved, not_resolved, negative_resolved, chain_resolved, link_resolved, exists_resolved, every_resolved, exists_of_none, every_of_none}
 use Rattle.asm_resolve.proofs.ScopeLaws.{scope_free, parameter_names}
 use Rattle.asm_resolve.proofs.KeptBodies.{body_is}
 use Rattle.asm_resolve.proofs.resolve.+resolve.Goals as goal
@@ -253,8 +253,8 @@ resolve_all-loop-argument-preserved t c =
 
 -- ---- bodies
 
-pub resolve_body-known-requires : goal.resolve_body-known-requires
-resolve_body-known-requires t c = omega (arith, c.requires.known, c.requires.bodies.as_many, ap length c.as_slice.ensures.value)
+pub resolve_body-known_body-requires : goal.resolve_body-known_body-requires
+resolve_body-known_body-requires t c = omega (arith, c.requires.known, c.requires.bodies.as_many, ap length c.as_slice.ensures.value)
 
 pub resolve_body-keep-requires : goal.resolve_body-keep-requires
 resolve_body-keep-requires t c = omega (arith, c.requires.known, c.in_ok-code.ensures.bodies.as_many)
@@ -262,7 +262,7 @@ resolve_body-keep-requires t c = omega (arith, c.requires.known, c.in_ok-code.en
 pub resolve_body-returns-in-Some-clause-body : goal.resolve_body-returns-in-Some-clause-body
 resolve_body-returns-in-Some-clause-body t c =
     let spec = spec_of c.args.checked.now.spec in
-    subst (λ o. IfSome o (λ k. IsBody spec c.args.d (code_of (arc_value k)))) c.in-Some.is (c.in_ok-body.ensures spec (subst (AreBodies spec) (sym c.as_slice.ensures.value) c.requires.bodies))
+    subst (λ o. IfSome o (λ k. IsBody spec c.args.d (code_of (arc_value k)))) c.in-Some.is (c.in_ok-body.ensures spec (subst (AreResolvedBodies spec) (sym c.as_slice.ensures.value) c.requires.bodies))
 
 pub resolve_body-resolve-requires : goal.resolve_body-resolve-requires
 resolve_body-resolve-requires t c =
@@ -343,8 +343,8 @@ resolve_function-returns-then-arguments-eq2-clause-resolved t c =
     (λ k read. function_resolved spec a.checked.now.well_formed (names_of a.scope.now) a.name.now.text (plain_terms (terms_of (map term_of a.arguments.now))) a.f c.requires.free c.requires.stands
     two (code_of k) are (subst (λ s. IsRead s a.f two (code_of k)) c.signature-signature.ensures read)) c.make_grid.ensures
 
-pub resolve_function-make_held-requires-clause-fits : goal.resolve_function-make_held-requires-clause-fits
-resolve_function-make_held-requires-clause-fits t c = subst Fits (sym c.signature-signature.ensures) (signature_fits (spec_of c.args.checked.now.spec) c.args.checked.now.well_formed)
+pub resolve_function-make_function-requires-clause-fits : goal.resolve_function-make_function-requires-clause-fits
+resolve_function-make_function-requires-clause-fits t c = subst Fits (sym c.signature-signature.ensures) (signature_fits (spec_of c.args.checked.now.spec) c.args.checked.now.well_formed)
 
 pub resolve_function-returns-clause-resolved : goal.resolve_function-returns-clause-resolved
 resolve_function-returns-clause-resolved t c =
@@ -352,7 +352,7 @@ resolve_function-returns-clause-resolved t c =
     let spec = spec_of a.checked.now.spec in
     let cs = codes_of (map code_of c.in_ok-arguments.arguments.items) in
     function_resolved spec a.checked.now.well_formed (names_of a.scope.now) a.name.now.text (plain_terms (terms_of (map term_of a.arguments.now))) a.f c.requires.free c.requires.stands
-    cs (code_of c.make_held.result) c.in_ok-arguments.ensures.resolved (subst (λ s. IsRead s a.f cs (code_of c.make_held.result)) c.signature-signature.ensures c.make_held.ensures)
+    cs (code_of c.make_function.result) c.in_ok-arguments.ensures.resolved (subst (λ s. IsRead s a.f cs (code_of c.make_function.result)) c.signature-signature.ensures c.make_function.ensures)
 
 -- ---- names
 

@@ -1,18 +1,18 @@
 use Rattle.std.proofs.Common.{◌+◌, ◌*◌, [], map, take, Some}
 use Rattle.asm_state.specs.declared.value.Value.TheVariants.{Undef}
-use Rattle.asm_syntax.specs.Views.{spec_of, term_of, links_of}
+use Rattle.asm_syntax.specs.code.Views.{spec_of, term_of, links_of}
 use Rattle.asm_syntax.specs.PlainTree.{plain_term, plain_links}
 use Rattle.asm_syntax.specs.Tree as tree
 use Rattle.asm_check.specs.Shapes.{shape_of}
-use Rattle.asm_check.specs.declared.checked.Named.TheVariants as number
+use Rattle.asm_check.specs.declared.checked.NameNumber.TheVariants as number
 use Rattle.asm_meaning.specs.Declarations.{numbered, program_of}
 use Rattle.asm_meaning.specs.Program.{with_value}
-use Rattle.asm_meaning.specs.Valued.{program}
-use Rattle.asm_meaning.specs.Weights.{weight}
-use Rattle.asm_meaning.specs.TreeWeights.{term_weight, named_weight, body_weight, link_of}
-use Rattle.asm_code.specs.CodeViews as code
-use Rattle.asm_resolve.specs.Resolved.{AreResolvedLinks}
-use Rattle.asm_resolve.specs.Scopes.{AreBodies, all_resolved, names_of, scope_environment}
+use Rattle.asm_meaning.specs.code.TermValues.{program}
+use Rattle.asm_meaning.specs.code.Weights.{weight}
+use Rattle.asm_meaning.specs.code.TreeWeights.{term_weight, named_weight, body_weight, link_of}
+use Rattle.asm_code.specs.code.CodeViews as code
+use Rattle.asm_resolve.specs.code.ResolvedTerms.{AreResolvedLinks}
+use Rattle.asm_resolve.specs.code.Scopes.{AreResolvedBodies, all_resolved, names_of, scope_environment}
 use Rattle.asm_resolve.proofs.resolve.+resolve.Given as goal
 
 abbrev pub decreases-resolve : goal.decreases-resolve
@@ -41,12 +41,12 @@ abbrev pub invariant-resolve_chain-loop-operation : goal.invariant-resolve_chain
 invariant-resolve_chain-loop-operation l = record {
   links : AreResolvedLinks (program_of (spec_of l.checked.spec)) (shape_of (spec_of l.checked.spec)) (names_of l.scope)
       (plain_links (links_of (map link_of (take l.operation-index l.rest)))) (code.links_of (map code.link_of l.links.items));
-  bodies : AreBodies (spec_of l.checked.spec) l.bodies.items;
+  bodies : AreResolvedBodies (spec_of l.checked.spec) l.bodies.items;
 }
 
 -- the arguments so far
 abbrev pub invariant-resolve_all-loop-argument : goal.invariant-resolve_all-loop-argument
 invariant-resolve_all-loop-argument l = record {
   codes : all_resolved l.checked l.scope (take l.argument-index l.arguments) l.codes.items;
-  bodies : AreBodies (spec_of l.checked.spec) l.bodies.items;
+  bodies : AreResolvedBodies (spec_of l.checked.spec) l.bodies.items;
 }

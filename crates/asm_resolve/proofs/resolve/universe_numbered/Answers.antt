@@ -1,7 +1,7 @@
 use Rattle.std.proofs.Common.{sym, ap, ◌∙◌}
-use Rattle.asm_syntax.specs.Views.{spec_of}
+use Rattle.asm_syntax.specs.code.Views.{spec_of}
 use Rattle.asm_meaning.specs.Declarations.{universe_number}
-use Rattle.asm_meaning.proofs.Meant.{universe_names-none as no_universe, universe_names-in_range as universe_numbered}
+use Rattle.asm_meaning.proofs.MeantDeclarations.{universe_names-none as no_universe, universe_names-in_range as universe_numbered}
 use Rattle.asm_resolve.proofs.resolve.universe_numbered.Goals as goal
 
 pub returns-in-Some : goal.returns-in-Some

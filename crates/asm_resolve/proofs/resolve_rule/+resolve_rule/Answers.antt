@@ -2,19 +2,19 @@ use Rattle.std.proofs.Common.{◌+◌, ◌∷◌, length, take, None, refl, sym,
 use Rattle.std.specs.Arc.{arc_value}
 use Rattle.std.proofs.lemmas.List.{take_all}
 use Rattle.asm_syntax.specs.Tree as plain
-use Rattle.asm_syntax.specs.Views.{spec_of}
+use Rattle.asm_syntax.specs.code.Views.{spec_of}
 use Rattle.asm_check.specs.Shapes.{shape_of}
-use Rattle.asm_check.specs.NumberTables.{IsInRange}
+use Rattle.asm_check.specs.code.numbers.NumberTables.{IsInRange}
 use Rattle.asm_meaning.specs.Declarations.{program_of, rule_number}
 use Rattle.asm_syntax.specs.declared.rule.Rule.{Rule}
-use Rattle.asm_meaning.specs.Meant.{meant, meant_branch, meant_target, meant_term, meant_terms}
-use Rattle.asm_meaning.specs.Valued.{condition}
+use Rattle.asm_meaning.specs.code.MeantTrees.{meant, meant_branch, meant_target, meant_term, meant_terms}
+use Rattle.asm_meaning.specs.code.TermValues.{condition}
 use Rattle.asm_meaning.proofs.TreeWeights.{tree_weights-call as call_is_less}
 use Rattle.std.specs.Prelude.{Option, IfSome}
-use Rattle.asm_code.specs.RuleViews.{rule_of}
-use Rattle.asm_resolve.specs.RuleScopes.{AreRuleBodies, IsRuleBody}
-use Rattle.asm_resolve.specs.Scopes.{slots_in, slots_of}
-use Rattle.asm_resolve.specs.Slots.{value_slot}
+use Rattle.asm_code.specs.code.RuleViews.{rule_of}
+use Rattle.asm_resolve.specs.code.RuleScopes.{AreRuleBodies, IsRuleBody}
+use Rattle.asm_resolve.specs.code.Scopes.{slots_in, slots_of}
+use Rattle.asm_resolve.specs.code.Slots.{value_slot}
 use Rattle.asm_resolve.proofs.RulePasses.{moved, skip_here, par_here, seq_here, if_here, let_here, forall_here, forall_none_here, choose_here, choose_none_here, iterate_here, while_here, if_yes_falls, if_no_falls, let_falls, forall_falls, choose_both_fall, iterate_falls, while_falls, par_falls, seq_falls, call_falls, other_falls, part_falls, called_here, not_called_here, rule_is, body_here, left_out_here}
 use Rattle.asm_resolve.proofs.RuleResolving.{AllRulesResolved, one_more_rule, plain_assign, plain_set_result, plain_call, plain_forall, plain_choose, plain_while}
 use Rattle.asm_resolve.proofs.resolve_rule.+resolve_rule.Goals as goal

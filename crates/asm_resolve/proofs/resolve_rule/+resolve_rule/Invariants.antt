@@ -1,16 +1,17 @@
 use Rattle.std.proofs.Common.{◌+◌, ◌*◌, take}
-use Rattle.asm_syntax.specs.Views.{spec_of}
+use Rattle.asm_syntax.specs.code.Views.{spec_of}
 use Rattle.asm_syntax.specs.Tree as plain
 use Rattle.asm_check.specs.Shapes.{shape_of}
 use Rattle.asm_meaning.specs.Declarations.{program_of}
-use Rattle.asm_meaning.specs.Meant.{meant, meant_branch, meant_rules, meant_target, meant_terms}
-use Rattle.asm_meaning.specs.TreeWeights.{in_body, rules_in, rules_in_all}
-use Rattle.asm_resolve.specs.RuleScopes.{AreKnown}
-use Rattle.asm_resolve.specs.Scopes.{slots_of}
+use Rattle.asm_meaning.specs.code.MeantTrees.{meant, meant_branch, meant_rules, meant_target, meant_terms}
+use Rattle.asm_meaning.specs.code.TreeWeights.{in_body, rules_in, rules_in_all}
+use Rattle.asm_resolve.specs.code.RuleScopes.{AreKnown}
+use Rattle.asm_resolve.specs.code.Scopes.{slots_of}
 use Rattle.asm_resolve.proofs.RuleResolving.{AllRulesResolved}
 use Rattle.asm_resolve.proofs.resolve_rule.+resolve_rule.Given as goal
 
--- ---- that it ends: each goes by the rule that it resolves, with the bodies of the rules that it calls written out
+-- ---- that it ends: each goes by the rule that it resolves, with the bodies of the rules that it
+-- calls written out
 
 abbrev pub decreases-resolve_rule : goal.decreases-resolve_rule
 decreases-resolve_rule l = 4 * rules_in (in_body l.checked.now) (meant l.rule.now) + 1

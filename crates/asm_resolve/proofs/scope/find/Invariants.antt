@@ -1,6 +1,6 @@
 use Rattle.std.proofs.Common.{◌≡◌}
-use Rattle.asm_resolve.specs.Scopes.{slots_of}
-use Rattle.asm_resolve.specs.Slots.{found_from}
+use Rattle.asm_resolve.specs.code.Scopes.{slots_of}
+use Rattle.asm_resolve.specs.code.Slots.{found_from}
 use Rattle.asm_resolve.proofs.scope.find.Given as goal
 
 -- what is left suffices for the whole

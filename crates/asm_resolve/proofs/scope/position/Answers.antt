@@ -1,5 +1,5 @@
 use Rattle.std.proofs.Common.{sym, ap, ◌∙◌}
-use Rattle.asm_resolve.specs.Scopes.{slots_of}
+use Rattle.asm_resolve.specs.code.Scopes.{slots_of}
 use Rattle.asm_resolve.proofs.FoundNames.{position_found, positions_found}
 use Rattle.asm_resolve.proofs.scope.position.Goals as goal
 

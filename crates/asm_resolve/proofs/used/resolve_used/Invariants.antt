@@ -1,5 +1,5 @@
-use Rattle.asm_syntax.specs.Views.{spec_of}
-use Rattle.asm_resolve.specs.RuleScopes.{AreKnown}
+use Rattle.asm_syntax.specs.code.Views.{spec_of}
+use Rattle.asm_resolve.specs.code.RuleScopes.{AreKnown}
 use Rattle.asm_resolve.proofs.used.resolve_used.Given as goal
 
 abbrev pub invariant-loop-turn : goal.invariant-loop-turn

@@ -1,7 +1,7 @@
 use Rattle.std.proofs.Common.{◌∙◌, refl, sym, ap, subst, arith}
 use Rattle.asm_state.specs.Updates.{together}
-use Rattle.asm_state.proofs.Algebra.{union_laws}
-use Rattle.asm_updates.specs.Stands.{Stands}
+use Rattle.asm_state.proofs.UpdateLemmas.UnionsAndMerges.{union_laws}
+use Rattle.asm_updates.specs.code.Stands.{Stands}
 use Rattle.asm_run.proofs.add_set.add_set.Goals as goal
 
 pub returns-then-is_empty : goal.returns-then-is_empty
@@ -15,7 +15,7 @@ returns-then-is_empty c shape o is =
         gives = is.gives;
         adds = λ U stands. subst (λ V. Stands shape a.set V)
             (sym (ap (λ X. together X is.set) ((c.is_empty.ensures.empty shape U stands).0 c.if-is_empty.true) ∙ union_laws.unit is.set)) is.stands;
-        counts = omega (arith, c.saturating_add-made.ensures, is.counts);
+        counts = omega (arith, c.saturating_add-forming.ensures, is.counts);
       };
       exhausted = tt;
     }
@@ -28,7 +28,7 @@ returns c shape o is = record {
     set = is.set;
     gives = is.gives;
     adds = λ U stands. c.in_ok-union.ensures.union shape U is.set stands is.stands;
-    counts = omega (arith, c.saturating_add-made.ensures, is.counts);
+    counts = omega (arith, c.saturating_add-forming.ensures, is.counts);
   };
   exhausted = tt;
 }

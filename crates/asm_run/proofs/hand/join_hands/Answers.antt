@@ -2,7 +2,7 @@ use Rattle.std.proofs.Common.{◌≡◌, ◌∙◌, ◌++◌, ◌∷◌, List, A
 use Rattle.std.specs.Vec.Iter.{into_iter_items}
 use Rattle.std.proofs.lemmas.List.Elements.{All-tail}
 use Rattle.asm_run.specs.declared.hand.RegionHand.{RegionHand}
-use Rattle.asm_run.specs.Hands.{logs_of, parts_of}
+use Rattle.asm_run.specs.code.Hands.{logs_of, parts_of}
 use Rattle.asm_run.proofs.hand.join_hands.Goals as goal
 
 pub loop-hand-preserved : goal.loop-hand-preserved

@@ -1,6 +1,6 @@
 use Rattle.std.proofs.Common.{◌≡◌, ◌+◌, ◌++◌, All}
 use Rattle.std.specs.Vec.Iter.{into_iter_items}
-use Rattle.asm_run.specs.Hands.{logs_of, parts_of}
+use Rattle.asm_run.specs.code.Hands.{logs_of, parts_of}
 use Rattle.asm_run.proofs.hand.join_hands.Given as goal
 
 abbrev pub invariant-loop-hand : goal.invariant-loop-hand

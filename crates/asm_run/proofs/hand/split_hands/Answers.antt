@@ -1,6 +1,6 @@
 use Rattle.std.proofs.Common.{◌∙◌, All, ap, sym, subst, arith, rules}
 use Rattle.std.proofs.lemmas.List.Elements.{All-push}
-use Rattle.asm_run.specs.Hands.{IsNewHand}
+use Rattle.asm_run.specs.code.Hands.{IsNewHand}
 use Rattle.asm_run.proofs.hand.split_hands.Goals as goal
 
 pub loop-i-preserved : goal.loop-i-preserved

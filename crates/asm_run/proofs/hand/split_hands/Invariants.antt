@@ -1,5 +1,5 @@
 use Rattle.std.proofs.Common.{◌≡◌, ◌+◌, All, vec_len}
-use Rattle.asm_run.specs.Hands.{IsNewHand}
+use Rattle.asm_run.specs.code.Hands.{IsNewHand}
 use Rattle.asm_run.proofs.hand.split_hands.Given as goal
 
 abbrev pub invariant-loop-i : goal.invariant-loop-i

@@ -1,6 +1,6 @@
-use Rattle.asm_syntax.specs.Views.{spec_of}
+use Rattle.asm_syntax.specs.code.Views.{spec_of}
 use Rattle.asm_run.specs.Written.{names_in}
-use Rattle.asm_run.proofs.ArgumentTexts.{values_grow}
+use Rattle.asm_run.proofs.TextLemmas.ArgumentTexts.{values_grow}
 use Rattle.asm_run.proofs.locations.push_values.Goals as goal
 
 pub loop-value-preserved : goal.loop-value-preserved

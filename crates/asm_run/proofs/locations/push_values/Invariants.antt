@@ -1,5 +1,5 @@
 use Rattle.std.proofs.Common.{◌≡◌, ◌++◌, take}
-use Rattle.asm_syntax.specs.Views.{spec_of}
+use Rattle.asm_syntax.specs.code.Views.{spec_of}
 use Rattle.asm_run.specs.Trace.{values_text}
 use Rattle.asm_run.specs.Written.{names_in}
 use Rattle.asm_run.proofs.locations.push_values.Given as goal

@@ -3,13 +3,13 @@ use denote.Param.Send.{sendable}
 use mir.Syntax.{erased}
 use Rattle.std.proofs.Common.{◌≡◌, List, [], All, map, length, sym, subst, arith}
 use Rattle.std.specs.Prelude.{IfNone}
-use Rattle.asm_eval.specs.Running.{shape_at}
-use Rattle.asm_eval.specs.Pieces.{IsPiece}
+use Rattle.asm_eval.specs.code.Evaluation.{evaluation_shape}
+use Rattle.asm_eval.specs.code.Pieces.{IsPiece}
 use Rattle.asm_eval.specs.declared.piece.Piece.{Piece}
-use Rattle.asm_run.specs.Hands.{TakesHand}
-use Rattle.asm_run.specs.Rounds.{IsRound, answers, news, tally}
-use Rattle.asm_run.proofs.Crossing.{job_shared, out_sent}
-use Rattle.asm_run.proofs.RoundLaw.{new_are_pieces, nothing_left, round_law, same_parts}
+use Rattle.asm_run.specs.code.Hands.{TakesHand}
+use Rattle.asm_run.specs.code.Rounds.{IsRound, outs_of, new_pieces, count_instances}
+use Rattle.asm_run.proofs.RoundLemmas.SharedRounds.{job_shared, out_sent}
+use Rattle.asm_run.proofs.RoundLemmas.RoundLaw.{new_are_pieces, nothing_left, round_law, same_parts}
 use Rattle.asm_run.proofs.rounds.work_round.Goals as goal
 
 pub work_by-requires-send-O : goal.work_by-requires-send-O
@@ -27,43 +27,43 @@ work_by-requires-sync-J g c κs within =
 pub returns-clause-pieces : goal.returns-clause-pieces
 returns-clause-pieces g c =
     let a = c.args in
-    let at = a.region.now.running.now in
+    let at = a.region.now.evaluation.now in
     let worked = c.in_ok-worked.worked in
     let long : length worked.outs.items ≡ length a.pieces.now = omega (arith, c.in_ok-worked.ensures.len.0, worked.outs.ok) in
-    subst (λ (ps : List Piece). All (IsPiece (shape_at at)) ps) (sym c.in_ok-all.ensures.next)
-    (new_are_pieces at (shape_at at) (TakesHand (shape_at at) a.region.now.striped.now.table) a.cut _ a.pieces.now worked.outs.items long
+    subst (λ (ps : List Piece). All (IsPiece (evaluation_shape at)) ps) (sym c.in_ok-all.ensures.next)
+    (new_are_pieces at (evaluation_shape at) (TakesHand (evaluation_shape at) a.region.now.striped.now.table) a.cut _ a.pieces.now worked.outs.items long
     c.in_ok-all.ensures.ok c.in_ok-worked.ensures.outs)
 
 pub returns-clause-whole : goal.returns-clause-whole
 returns-clause-whole g c =
     let a = c.args in
-    let at = a.region.now.running.now in
+    let at = a.region.now.evaluation.now in
     let worked = c.in_ok-worked.worked in
     let long : length worked.outs.items ≡ length a.pieces.now = omega (arith, c.in_ok-worked.ensures.len.0, worked.outs.ok) in
     subst (λ (ps : List Piece). IfNone a.cut (ps ≡ [])) (sym c.in_ok-all.ensures.next)
-    (nothing_left at (shape_at at) (TakesHand (shape_at at) a.region.now.striped.now.table) a.cut _ a.pieces.now worked.outs.items long
+    (nothing_left at (evaluation_shape at) (TakesHand (evaluation_shape at) a.region.now.striped.now.table) a.cut _ a.pieces.now worked.outs.items long
     c.in_ok-all.ensures.ok c.in_ok-worked.ensures.outs)
 
 pub returns-clause-parts : goal.returns-clause-parts
 returns-clause-parts g c =
     let a = c.args in
-    let at = a.region.now.running.now in
+    let at = a.region.now.evaluation.now in
     let worked = c.in_ok-worked.worked in
     let long : length worked.outs.items ≡ length a.pieces.now = omega (arith, c.in_ok-worked.ensures.len.0, worked.outs.ok) in
-    same_parts at (shape_at at) (TakesHand (shape_at at) a.region.now.striped.now.table) a.cut _ a.pieces.now worked.outs.items long
+    same_parts at (evaluation_shape at) (TakesHand (evaluation_shape at) a.region.now.striped.now.table) a.cut _ a.pieces.now worked.outs.items long
     c.in_ok-all.ensures.ok c.in_ok-worked.ensures.outs a.so_far.hands.items worked.hands.items (map (λ list. list.items) worked.lists.items) c.in_ok-worked.ensures.hands
 
 pub returns-clause-holds : goal.returns-clause-holds
 returns-clause-holds g c o held =
     let a = c.args in
-    let at = a.region.now.running.now in
+    let at = a.region.now.evaluation.now in
     let worked = c.in_ok-worked.worked in
     let outs = worked.outs.items in
     let all = c.in_ok-all.all in
     let long : length outs ≡ length a.pieces.now = omega (arith, c.in_ok-worked.ensures.len.0, worked.outs.ok) in
-    let law = round_law at (shape_at at) (TakesHand (shape_at at) a.region.now.striped.now.table) a.cut _ a.pieces.now outs long
+    let law = round_law at (evaluation_shape at) (TakesHand (evaluation_shape at) a.region.now.striped.now.table) a.cut _ a.pieces.now outs long
     c.in_ok-all.ensures.ok c.in_ok-worked.ensures.outs o a.so_far.hands.items worked.hands.items (map (λ list. list.items) worked.lists.items)
     a.so_far.instances a.so_far.exhausted c.in_ok-worked.ensures.once c.in_ok-worked.ensures.hands held in
-    subst (λ ps. IsRound at (shape_at at) o a.pieces.now ps worked.hands.items all.instances all.exhausted) (sym c.in_ok-all.ensures.next)
-    (subst (λ n. IsRound at (shape_at at) o a.pieces.now (news (answers outs)) worked.hands.items n all.exhausted) (sym c.in_ok-all.ensures.instances)
-    (subst (λ m. IsRound at (shape_at at) o a.pieces.now (news (answers outs)) worked.hands.items (tally a.so_far.instances (answers outs)) m) (sym c.in_ok-all.ensures.exhausted) law))
+    subst (λ ps. IsRound at (evaluation_shape at) o a.pieces.now ps worked.hands.items all.instances all.exhausted) (sym c.in_ok-all.ensures.next)
+    (subst (λ n. IsRound at (evaluation_shape at) o a.pieces.now (new_pieces (outs_of outs)) worked.hands.items n all.exhausted) (sym c.in_ok-all.ensures.instances)
+    (subst (λ m. IsRound at (evaluation_shape at) o a.pieces.now (new_pieces (outs_of outs)) worked.hands.items (count_instances a.so_far.instances (outs_of outs)) m) (sym c.in_ok-all.ensures.exhausted) law))

@@ -1,12 +1,12 @@
 use Rattle.std.proofs.Common.{◌≡◌, true, inl}
 use Rattle.std.proofs.lemmas.Result.{err_from_is_err_and}
 use Rattle.asm_syntax.specs.SourceTree.{Spec}
-use Rattle.asm_syntax.specs.Views.{spec_of}
+use Rattle.asm_syntax.specs.code.Views.{spec_of}
 use Rattle.asm_run.specs.Headline.{IsAccepted}
 use Rattle.asm_limits.specs.Limits.{are_in_range}
 use Rattle.asm_run.proofs.FirstTokens.{first_token, memory_read, memory_later}
-use Rattle.asm_run.proofs.Running.{Appends-none}
-use Rattle.asm_run.proofs.Whole.{refused_text, refused_tree, refused_script, whole}
+use Rattle.asm_run.proofs.StepEnds.{Appends-none}
+use Rattle.asm_run.proofs.RunOfTexts.{refused_text, refused_tree, refused_script, whole}
 use Rattle.asm_run.proofs.run.run_gated.Goals as goal
 
 pub returns-in_err-tree-clause-refused : goal.returns-in_err-tree-clause-refused

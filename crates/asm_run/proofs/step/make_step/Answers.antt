@@ -1,34 +1,34 @@
 use Rattle.std.proofs.Common.{◌≡◌, ℕ, List, ◌++◌, refl, sym, ap, subst, ◌∙◌}
 use Rattle.std.specs.Prelude.{OnOk}
 use Rattle.asm_state.specs.Updates.{UpdateSet}
-use Rattle.asm_syntax.specs.Views.{spec_of}
+use Rattle.asm_syntax.specs.code.Views.{spec_of}
 use Rattle.asm_check.specs.Shapes.{shape_of}
-use Rattle.asm_updates.specs.Stands.{Stands}
+use Rattle.asm_updates.specs.code.Stands.{Stands}
 use Rattle.asm_updates.proofs.StandingLaws.{standing_laws}
 use Rattle.asm_meaning.specs.Does.{Outcome}
-use Rattle.asm_meaning.specs.Formed.{IsSet}
-use Rattle.asm_run.specs.Step.{main_outcome}
+use Rattle.asm_meaning.specs.code.FormedOutcomes.{IsSet}
+use Rattle.asm_run.specs.code.Step.{main_outcome}
 use Rattle.asm_run.specs.Written.{step_line, entries_text}
-use Rattle.asm_run.proofs.Stepping.{fault_below, set_written, step_written}
+use Rattle.asm_run.proofs.TextLemmas.StepText.{fault_below, set_written, step_written}
 use Rattle.asm_run.proofs.step.make_step.Goals as goal
 
 pub returns-in-Some-clause-stopped : goal.returns-in-Some-clause-stopped
 returns-in-Some-clause-stopped g c =
-    let s = spec_of c.args.machine.now.checked.now.spec in
-    let made = c.form_main.new.made in
-    let o : Outcome = main_outcome s c.args.machine.now.turns (g.P.Picks.script c.args.choices.now.script.now) c.args.choices.now.step c.args.state.now in
+    let s = spec_of c.args.resolved.now.checked.now.spec in
+    let made = c.form_main.new.forming in
+    let o : Outcome = main_outcome s c.args.resolved.now.turns (g.P.Picks.script c.args.choices.now.script.now) c.args.choices.now.step c.args.state.now in
     let formed : IsSet (shape_of s) o made.set made.instances = subst (λ r. OnOk r (IsSet (shape_of s) o made.set made.instances)) c.in-Ok.is c.form_main.ensures.formed in
     let U : UpdateSet = formed.set in
     let first = rw c.signature.ensures at (c.in-Some.ensures.first U (subst (λ v. Stands v made.set U) (sym c.signature.ensures) formed.stands)) in
-    (record { set = U; gives = formed.gives; is_first = first; below = fault_below s made.set U c.in-Some.fault c.args.machine.now.checked.now.well_formed formed.stands first }, refl)
+    (record { set = U; gives = formed.gives; is_first = first; below = fault_below s made.set U c.in-Some.fault c.args.resolved.now.checked.now.well_formed formed.stands first }, refl)
 
 pub returns-clause-fired : goal.returns-clause-fired
 returns-clause-fired g c =
-    let s = spec_of c.args.machine.now.checked.now.spec in
-    let good = c.args.machine.now.checked.now.well_formed in
+    let s = spec_of c.args.resolved.now.checked.now.spec in
+    let good = c.args.resolved.now.checked.now.well_formed in
     let step = c.args.choices.now.step in
-    let made = c.form_main.new.made in
-    let o : Outcome = main_outcome s c.args.machine.now.turns (g.P.Picks.script c.args.choices.now.script.now) step c.args.state.now in
+    let made = c.form_main.new.forming in
+    let o : Outcome = main_outcome s c.args.resolved.now.turns (g.P.Picks.script c.args.choices.now.script.now) step c.args.state.now in
     let formed : IsSet (shape_of s) o made.set made.instances = subst (λ r. OnOk r (IsSet (shape_of s) o made.set made.instances)) c.in-Ok.is c.form_main.ensures.formed in
     let U : UpdateSet = formed.set in
     let sorted : Stands (shape_of s) c.sort.new.self U = standing_laws.alike (shape_of s) made.set c.sort.new.self U c.in_ok-sort.ensures.count c.in_ok-sort.ensures.mark c.in_ok-sort.ensures.entries formed.stands in

@@ -1,14 +1,14 @@
 use Rattle.std.proofs.Common.{◌≡◌, ◌+◌, arith, inl, refl, ◌∙◌, rules}
 use Rattle.std.proofs.lemmas.Result.{err_from_is_err_and}
-use Rattle.asm_syntax.specs.Views.{spec_of}
+use Rattle.asm_syntax.specs.code.Views.{spec_of}
 use Rattle.asm_check.specs.Shapes.{shape_of}
-use Rattle.asm_run.proofs.Running.{begins, none_begun, out_of_memory, at_limit, at_stop, cut, goes_on}
+use Rattle.asm_run.proofs.StepEnds.{begins, none_begun, out_of_memory, at_limit, at_stop, cut, goes_on}
 use Rattle.asm_run.proofs.steps.run_steps.Goals as goal
 
 pub loop-done-init : goal.loop-done-init
 loop-done-init g c =
-    let shaped : c.signature-signature.result.now ≡ shape_of (spec_of c.args.machine.now.checked.now.spec) = c.signature-signature.ensures in (
-      begins (spec_of c.args.machine.now.checked.now.spec) c.args.machine.now.turns (g.P.Picks.script c.args.script.now) c.args.steps c.in_ok-state.state c.new.result.count (g.S.Sink.bytes c.args.out.now) (g.S.Sink.has_failed c.args.out.now)
+    let shaped : c.signature-signature.result.now ≡ shape_of (spec_of c.args.resolved.now.checked.now.spec) = c.signature-signature.ensures in (
+      begins (spec_of c.args.resolved.now.checked.now.spec) c.args.resolved.now.turns (g.P.Picks.script c.args.script.now) c.args.steps c.in_ok-state.state c.new.result.count (g.S.Sink.bytes c.args.out.now) (g.S.Sink.has_failed c.args.out.now)
           (record {
             contents_fit = rw shaped at c.in_ok-state.ensures.whole;
             set_fits = rw shaped at (c.new.ensures.count ∙ c.count.ensures.count);
@@ -21,30 +21,30 @@ pub returns-in_err-state : goal.returns-in_err-state
 returns-in_err-state g c =
     let p = err_from_is_err_and c.from_residual.result c.from_residual.ensures.1 in
     rw (p.1, p.2)
-    (none_begun (spec_of c.args.machine.now.checked.now.spec) c.args.machine.now.turns (g.P.Picks.script c.args.script.now) c.args.steps (g.S.Sink.bytes c.args.out.now) (g.S.Sink.has_failed c.args.out.now) c.requires.open)
+    (none_begun (spec_of c.args.resolved.now.checked.now.spec) c.args.resolved.now.turns (g.P.Picks.script c.args.script.now) c.args.steps (g.S.Sink.bytes c.args.out.now) (g.S.Sink.has_failed c.args.out.now) c.requires.open)
 
 pub returns-in_err-stop : goal.returns-in_err-stop
 returns-in_err-stop g c =
     let now = c.loop-done in
     let p = err_from_is_err_and c.from_residual-in_err-stop.result c.from_residual-in_err-stop.ensures.1 in
     rw (p.1, p.2)
-    (out_of_memory (spec_of c.args.machine.now.checked.now.spec) c.args.machine.now.checked.now.well_formed c.args.machine.now.turns (g.P.Picks.script c.args.script.now) c.args.steps now.done now.state now.made.set.count
+    (out_of_memory (spec_of c.args.resolved.now.checked.now.spec) c.args.resolved.now.checked.now.well_formed c.args.resolved.now.turns (g.P.Picks.script c.args.script.now) c.args.steps now.done now.state now.forming.set.count
     (g.S.Sink.bytes c.args.out.now) (g.S.Sink.bytes now.out) (g.S.Sink.has_failed now.out) now.invariant.0)
 
 pub returns-in-Some : goal.returns-in-Some
 returns-in-Some g c =
     let now = c.loop-done in
-    at_stop (spec_of c.args.machine.now.checked.now.spec) c.args.machine.now.checked.now.well_formed c.args.machine.now.turns (g.P.Picks.script c.args.script.now) c.args.steps now.done now.state now.made.set.count
+    at_stop (spec_of c.args.resolved.now.checked.now.spec) c.args.resolved.now.checked.now.well_formed c.args.resolved.now.turns (g.P.Picks.script c.args.script.now) c.args.steps now.done now.state now.forming.set.count
     (g.S.Sink.bytes c.args.out.now) (g.S.Sink.bytes now.out) (g.S.Sink.has_failed now.out) now.invariant.0
     c.loop-done-test.true (c.from.result + 1) (omega (arith, c.from.ensures)) (g.S.Sink.bytes c.finish_at_stop.new.out) (g.S.Sink.has_failed c.finish_at_stop.new.out)
-    c.finish_at_stop.result c.make_step.new.state c.make_step.new.made.path.items c.as_slice-path.result.now c.in-Some.stop (search rules) c.as_slice-path.ensures.value c.finish_at_stop.ensures
+    c.finish_at_stop.result c.make_step.new.state c.make_step.new.forming.path.items c.as_slice-path.result.now c.in-Some.stop (search rules) c.as_slice-path.ensures.value c.finish_at_stop.ensures
 
 pub returns-in_err-write_all : goal.returns-in_err-write_all
 returns-in_err-write_all g c =
     let now = c.loop-done in
     let p = err_from_is_err_and c.from_residual-in_err-write_all.result c.from_residual-in_err-write_all.ensures.1 in
     rw (p.1, p.2)
-    (cut (spec_of c.args.machine.now.checked.now.spec) c.args.machine.now.checked.now.well_formed c.args.machine.now.turns (g.P.Picks.script c.args.script.now) c.args.steps now.done now.state now.made.set.count
+    (cut (spec_of c.args.resolved.now.checked.now.spec) c.args.resolved.now.checked.now.well_formed c.args.resolved.now.turns (g.P.Picks.script c.args.script.now) c.args.steps now.done now.state now.forming.set.count
     (g.S.Sink.bytes c.args.out.now) (g.S.Sink.bytes now.out) (g.S.Sink.has_failed now.out) now.invariant.0
     c.loop-done-test.true (c.from.result + 1) (omega (arith, c.from.ensures)) c.make_step.new.state c.make_step.new.text.items (search rules)
     (g.S.Sink.bytes c.write_all.new.out) (g.S.Sink.has_failed c.write_all.new.out) (search rules) (search rules))
@@ -52,17 +52,17 @@ returns-in_err-write_all g c =
 pub loop-done-preserved : goal.loop-done-preserved
 loop-done-preserved g c =
     let now = c.loop-done in (
-      goes_on (spec_of c.args.machine.now.checked.now.spec) c.args.machine.now.checked.now.well_formed c.args.machine.now.turns (g.P.Picks.script c.args.script.now) c.args.steps now.done now.state now.made.set.count
+      goes_on (spec_of c.args.resolved.now.checked.now.spec) c.args.resolved.now.checked.now.well_formed c.args.resolved.now.turns (g.P.Picks.script c.args.script.now) c.args.steps now.done now.state now.forming.set.count
           (g.S.Sink.bytes c.args.out.now) (g.S.Sink.bytes now.out) (g.S.Sink.has_failed now.out) now.invariant.0
           c.loop-done-test.true (c.from.result + 1) (omega (arith, c.from.ensures)) c.make_step.new.state c.make_step.new.text.items (search rules)
-          (g.S.Sink.bytes c.write_all.new.out) (g.S.Sink.has_failed c.write_all.new.out) c.make_step.new.made.set.count (search rules) (search rules) (search rules),
+          (g.S.Sink.bytes c.write_all.new.out) (g.S.Sink.has_failed c.write_all.new.out) c.make_step.new.forming.set.count (search rules) (search rules) (search rules),
       c.in_ok-stop.ensures.known,
     )
 
 pub returns : goal.returns
 returns g c =
     let now = c.loop-done in
-    at_limit (spec_of c.args.machine.now.checked.now.spec) c.args.machine.now.checked.now.well_formed c.args.machine.now.turns (g.P.Picks.script c.args.script.now) c.args.steps now.done now.state now.made.set.count
+    at_limit (spec_of c.args.resolved.now.checked.now.spec) c.args.resolved.now.checked.now.well_formed c.args.resolved.now.turns (g.P.Picks.script c.args.script.now) c.args.steps now.done now.state now.forming.set.count
     (g.S.Sink.bytes c.args.out.now) (g.S.Sink.bytes now.out) (g.S.Sink.has_failed now.out) now.invariant.0
     (g.S.Sink.bytes c.finish_at_limit.new.out) (g.S.Sink.has_failed c.finish_at_limit.new.out) c.finish_at_limit.result c.loop-done-test.false c.finish_at_limit.ensures
 

@@ -1,14 +1,14 @@
 use Rattle.std.proofs.Common.{◌≡◌, ◌<◌, sym, ap, subst, ◌∙◌, codes, ◌++◌}
 use Rattle.std.specs.Prelude.{decimal}
-use Rattle.asm_state.specs.CodeLocations.{location_of}
+use Rattle.asm_state.specs.code.CodeLocations.{location_of}
 use Rattle.asm_state.specs.Signature.{count_of, location_at}
 use Rattle.asm_state.specs.Updates.{Clash}
-use Rattle.asm_syntax.specs.Views.{spec_of}
+use Rattle.asm_syntax.specs.code.Views.{spec_of}
 use Rattle.asm_check.specs.Shapes.{shape_of}
-use Rattle.asm_updates.specs.Entries.{range}
+use Rattle.asm_updates.specs.code.SummaryRanges.{range}
 use Rattle.asm_run.specs.Trace.{line_end, location_text, value_text, fault_text}
 use Rattle.asm_run.specs.Written.{names_in}
-use Rattle.asm_run.proofs.Pieces.{nine_pieces}
+use Rattle.asm_run.proofs.TextLemmas.GrowingTexts.{nine_pieces}
 use Rattle.asm_run.proofs.LocationFunctions.{location_function_below}
 use Rattle.asm_run.proofs.trace.push_clash.Goals as goal
 

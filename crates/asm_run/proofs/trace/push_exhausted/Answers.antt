@@ -1,7 +1,7 @@
 use Rattle.std.proofs.Common.{codes}
 use Rattle.std.specs.Prelude.{decimal}
 use Rattle.asm_run.specs.Trace.{line_end, path_text}
-use Rattle.asm_run.proofs.Pieces.{five_pieces}
+use Rattle.asm_run.proofs.TextLemmas.GrowingTexts.{five_pieces}
 use Rattle.asm_run.proofs.trace.push_exhausted.Goals as goal
 
 pub returns : goal.returns

@@ -1,6 +1,6 @@
 use Rattle.std.proofs.Common.{◌<◌, sym, ap, subst, ◌∙◌}
 use Rattle.asm_state.specs.Signature.{count_of}
-use Rattle.asm_syntax.specs.Views.{spec_of}
+use Rattle.asm_syntax.specs.code.Views.{spec_of}
 use Rattle.asm_run.proofs.LocationFunctions.{location_function_below}
 use Rattle.asm_run.proofs.trace.push_line.Goals as goal
 

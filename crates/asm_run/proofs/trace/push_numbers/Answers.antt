@@ -1,4 +1,4 @@
-use Rattle.asm_run.proofs.ArgumentTexts.{numbers_grow}
+use Rattle.asm_run.proofs.TextLemmas.ArgumentTexts.{numbers_grow}
 use Rattle.asm_run.proofs.trace.push_numbers.Goals as goal
 
 pub loop-i-preserved : goal.loop-i-preserved

@@ -1,5 +1,5 @@
-use Rattle.asm_syntax.specs.Views.{spec_of}
-use Rattle.asm_run.proofs.ArgumentTexts.{entries_grow}
+use Rattle.asm_syntax.specs.code.Views.{spec_of}
+use Rattle.asm_run.proofs.TextLemmas.ArgumentTexts.{entries_grow}
 use Rattle.asm_run.proofs.trace.push_set.Goals as goal
 
 pub loop-i-preserved : goal.loop-i-preserved

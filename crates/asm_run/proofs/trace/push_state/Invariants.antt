@@ -1,6 +1,6 @@
 use Rattle.std.proofs.Common.{◌≡◌, ◌++◌}
 use Rattle.std.specs.List.{flat_map, range_with_len}
-use Rattle.asm_syntax.specs.Views.{spec_of}
+use Rattle.asm_syntax.specs.code.Views.{spec_of}
 use Rattle.asm_run.specs.Written.{content_line}
 use Rattle.asm_run.proofs.trace.push_state.Given as goal
 

@@ -1,4 +1,4 @@
-use Rattle.asm_state.proofs.Faults.{fault_laws}
+use Rattle.asm_state.proofs.UpdateLemmas.Faults.{fault_laws}
 use Rattle.asm_state.proofs.laws.fault_laws.Goals as goal
 
 pub returns : goal.returns

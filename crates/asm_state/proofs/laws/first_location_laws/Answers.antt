@@ -1,4 +1,4 @@
-use Rattle.asm_state.proofs.FirstLocations.{first_location_laws}
+use Rattle.asm_state.proofs.LocationLemmas.FirstLocations.{first_location_laws}
 use Rattle.asm_state.proofs.laws.first_location_laws.Goals as goal
 
 pub returns : goal.returns

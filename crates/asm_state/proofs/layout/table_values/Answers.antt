@@ -5,7 +5,7 @@ use Rattle.asm_state.specs.Signature.{domain_in}
 use Rattle.asm_state.specs.Tables.{argument_lists, is_in, table_value}
 use Rattle.asm_state.specs.declared.function.Table.TheVariants.{Entries}
 use Rattle.asm_state.specs.declared.value.Value.TheVariants.{Undef}
-use Rattle.asm_state.proofs.LocationOrder.{domain_sound}
+use Rattle.asm_state.proofs.LocationLemmas.LocationOrder.{domain_sound}
 use Rattle.asm_state.proofs.TableValues.{none_yet, written, passed_over, all_done}
 use Rattle.asm_state.proofs.layout.table_values.Goals as goal
 use Rattle.asm_state.proofs.layout.table_values.Goals.{in-Some, in_default}

@@ -1,4 +1,4 @@
-use Rattle.asm_syntax.proofs.OneAnswer as answers
+use Rattle.asm_syntax.proofs.OneLexResult as answers
 use Rattle.asm_syntax.proofs.laws.no_tokens_beside_a_fault.Goals as goal
 
 pub returns : goal.returns

@@ -1,7 +1,7 @@
 use Rattle.std.proofs.Common.{◌∙◌, arith, false-eqb}
 use Rattle.asm_syntax.specs.declared.error.LexError.TheVariants as fault
 use Rattle.asm_syntax.proofs.Steps.{start_of, filler_to, token_to, bad_number, open_comment, bad_byte, asks_behind_token}
-use Rattle.asm_syntax.proofs.OneAnswer.{fault_accepts_nothing}
+use Rattle.asm_syntax.proofs.OneLexResult.{fault_accepts_nothing}
 use Rattle.asm_syntax.proofs.lexer.tokens.Goals as goal
 use Rattle.asm_syntax.proofs.lexer.tokens.Goals.{in-Filler, in-Token+in_ok-push-in-Token}
 

@@ -1,17 +1,17 @@
 use Rattle.std.proofs.Common.{◌∙◌, ap, arith, map, subst, sym, ℕ}
-use Rattle.asm_tool.proofs.Shown.{ends_low, faults_high, keeps_same}
+use Rattle.asm_tool.proofs.ToolPromises.{ends_low, faults_high, keeps_same}
 use Rattle.asm_tool.specs.Statuses.{TellsOfWords, status_in}
 use Rattle.asm_tool.proofs.status.status.Goals as goal
 
 pub returns-in-Ok-clause-told : goal.returns-in-Ok-clause-told
 returns-in-Ok-clause-told g c =
     subst (λ (n : ℕ). TellsOfWords (map g.S.AsStr.text c.args.words.now) (g.F.Folder.contents c.args.folder.now) (g.I.Read.remaining c.args.input) n)
-    (ap status_in c.in-Ok.is ∙ sym c.whole_trace.ensures) c.end.ensures.told
+    (ap status_in c.in-Ok.is ∙ sym c.whole_trace.ensures) c.run_words.ensures.told
 
 pub returns-in-Err-clause-told : goal.returns-in-Err-clause-told
 returns-in-Err-clause-told g c =
     subst (λ (n : ℕ). TellsOfWords (map g.S.AsStr.text c.args.words.now) (g.F.Folder.contents c.args.folder.now) (g.I.Read.remaining c.args.input) n)
-    (ap status_in c.in-Err.is ∙ sym c.refusal.ensures.status) c.end.ensures.told
+    (ap status_in c.in-Err.is ∙ sym c.refusal.ensures.status) c.run_words.ensures.told
 
 pub returns-in-Ok-clause-wrote : goal.returns-in-Ok-clause-wrote
 returns-in-Ok-clause-wrote g c = λ low. c.in-Ok.ensures.wrote

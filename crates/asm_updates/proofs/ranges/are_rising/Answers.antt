@@ -1,6 +1,6 @@
 use Rattle.std.proofs.Common.{ℕ, ◌<◌, ap, arith}
 use Rattle.asm_state.specs.declared.value.Value.{Value}
-use Rattle.asm_updates.proofs.Listed.{rise_more}
+use Rattle.asm_updates.proofs.IndexedRanges.{rise_more}
 use Rattle.asm_updates.proofs.ranges.are_rising.Goals as goal
 
 pub loop-i-preserved : goal.loop-i-preserved

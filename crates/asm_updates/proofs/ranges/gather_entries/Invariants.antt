@@ -1,4 +1,4 @@
-use Rattle.asm_updates.proofs.Gathering.{AreGathered}
+use Rattle.asm_updates.proofs.RangesGathered.{AreGathered}
 use Rattle.asm_updates.proofs.ranges.gather_entries.Given as goal
 
 -- the entries of the locations so far are gathered

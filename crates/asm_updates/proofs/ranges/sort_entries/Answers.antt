@@ -2,8 +2,8 @@ use Rattle.std.proofs.Common.{rules}
 use Rattle.std.proofs.lemmas.Result.{on_ok_weaker}
 use Rattle.std.proofs.lemmas.List.Sorted.{length_permutation, IsNonDecreasingBy-from_sort_by_key}
 use Rattle.asm_updates.proofs.EntryLists.{found-permuted}
-use Rattle.asm_updates.proofs.Found.{AreEntries-permutation}
-use Rattle.asm_updates.proofs.Listed.{distinct_permuted, rising_entries}
+use Rattle.asm_updates.proofs.RangesFound.{AreEntries-permutation}
+use Rattle.asm_updates.proofs.IndexedRanges.{distinct_permuted, rising_entries}
 use Rattle.asm_updates.proofs.ranges.sort_entries.Goals as goal
 
 pub returns-clause-len : goal.returns-clause-len

@@ -1,11 +1,11 @@
 use Rattle.std.proofs.Common.{map, ap, sym, ◌∙◌, arith, Some}
-use Rattle.asm_syntax.specs.Views.{spec_of, name_of, term_of}
+use Rattle.asm_syntax.specs.code.Views.{spec_of, name_of, term_of}
 use Rattle.asm_syntax.specs.declared.spec.Item.TheVariants as variant
 use Rattle.asm_check.specs.Names as names
 use Rattle.asm_check.specs.Numbers.{derived_of}
-use Rattle.asm_check.specs.NumberTables.{is_derived_item}
-use Rattle.asm_check.proofs.BodyIndices.{derived_counted, other_than_derived}
-use Rattle.asm_check.proofs.Readers.{derived_read, body_inside, body_means, body_passes}
+use Rattle.asm_check.specs.code.numbers.NumberTables.{is_derived_item}
+use Rattle.asm_check.proofs.NumberLemmas.BodyIndices.{derived_counted, other_than_derived}
+use Rattle.asm_check.proofs.CheckedCalls.{derived_read, body_inside, body_means, body_passes}
 use Rattle.asm_check.proofs.checked.Checked.derived.Goals as goal
 
 pub index-requires : goal.index-requires

@@ -1,6 +1,6 @@
 use Rattle.std.proofs.Common.{sym, ◌∙◌}
-use Rattle.asm_syntax.specs.Views.{spec_of}
-use Rattle.asm_check.proofs.Readers.{element_has_name}
+use Rattle.asm_syntax.specs.code.Views.{spec_of}
+use Rattle.asm_check.proofs.CheckedCalls.{element_has_name}
 use Rattle.asm_check.proofs.checked.Checked.element_name.Goals as goal
 
 pub element_name-requires-clause-number : goal.element_name-requires-clause-number

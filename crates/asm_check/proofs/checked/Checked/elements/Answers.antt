@@ -1,6 +1,6 @@
 use Rattle.std.proofs.Common.{◌∙◌}
-use Rattle.asm_syntax.specs.Views.{spec_of}
-use Rattle.asm_check.proofs.Readers.{elements_counted}
+use Rattle.asm_syntax.specs.code.Views.{spec_of}
+use Rattle.asm_check.proofs.CheckedCalls.{elements_counted}
 use Rattle.asm_check.proofs.checked.Checked.elements.Goals as goal
 
 pub returns : goal.returns

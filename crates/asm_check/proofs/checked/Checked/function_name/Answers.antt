@@ -1,6 +1,6 @@
 use Rattle.std.proofs.Common.{sym, ◌∙◌}
-use Rattle.asm_syntax.specs.Views.{spec_of}
-use Rattle.asm_check.proofs.Readers.{function_has_name}
+use Rattle.asm_syntax.specs.code.Views.{spec_of}
+use Rattle.asm_check.proofs.CheckedCalls.{function_has_name}
 use Rattle.asm_check.proofs.checked.Checked.function_name.Goals as goal
 
 pub function_name-requires-clause-number : goal.function_name-requires-clause-number

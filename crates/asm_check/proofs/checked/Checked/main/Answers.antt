@@ -1,5 +1,5 @@
-use Rattle.asm_syntax.specs.Views.{spec_of}
-use Rattle.asm_check.proofs.Readers.{one_start}
+use Rattle.asm_syntax.specs.code.Views.{spec_of}
+use Rattle.asm_check.proofs.CheckedCalls.{one_start}
 use Rattle.asm_check.proofs.checked.Checked.main.Goals as goal
 
 pub returns-clause-one : goal.returns-clause-one

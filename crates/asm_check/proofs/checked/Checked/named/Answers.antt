@@ -2,10 +2,10 @@ use Rattle.std.proofs.Common.{sym, subst, ap, nat_eq, ◌∙◌}
 use Rattle.std.specs.Cmp.Lexicographic.{pointwise}
 use Rattle.std.specs.Map.{lookup}
 use Rattle.std.specs.Option.{option_flatten}
-use Rattle.asm_syntax.specs.Views.{spec_of}
-use Rattle.asm_check.specs.NumberTables.{IsInRange}
-use Rattle.asm_check.proofs.Readers.{named_in_range}
-use Rattle.asm_check.proofs.Numbered.{found_named}
+use Rattle.asm_syntax.specs.code.Views.{spec_of}
+use Rattle.asm_check.specs.code.numbers.NumberTables.{IsInRange}
+use Rattle.asm_check.proofs.CheckedCalls.{named_in_range}
+use Rattle.asm_check.proofs.NumberLemmas.Numbered.{found_named}
 use Rattle.asm_check.proofs.checked.Checked.named.Goals as goal
 
 pub returns-clause-named : goal.returns-clause-named

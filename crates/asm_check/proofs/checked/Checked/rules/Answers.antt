@@ -1,6 +1,6 @@
 use Rattle.std.proofs.Common.{arith}
-use Rattle.asm_syntax.specs.Views.{spec_of}
-use Rattle.asm_check.proofs.BodyIndices.{rules_counted}
+use Rattle.asm_syntax.specs.code.Views.{spec_of}
+use Rattle.asm_check.proofs.NumberLemmas.BodyIndices.{rules_counted}
 use Rattle.asm_check.proofs.checked.Checked.rules.Goals as goal
 
 pub returns : goal.returns

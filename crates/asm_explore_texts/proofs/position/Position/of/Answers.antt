@@ -1,6 +1,6 @@
 use Rattle.std.proofs.Common.{◌+◌, length, ap, ◌∙◌}
 use Rattle.asm_explore_texts.specs.Positions.{characters}
-use Rattle.asm_explore_texts.proofs.Spelled.{characters_of_text}
+use Rattle.asm_explore_texts.proofs.CharactersOfUtf8.{characters_of_text}
 use Rattle.asm_explore_texts.proofs.position.Position.of.Goals as goal
 
 pub returns-clause-text : goal.returns-clause-text

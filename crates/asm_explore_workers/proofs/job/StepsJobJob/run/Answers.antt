@@ -1,6 +1,6 @@
 use Rattle.std.proofs.Common.{◌≡◌, ◌∙◌, subst}
 use Rattle.std.proofs.lemmas.Option.{get_or_from_slice_get}
-use Rattle.asm_explore_workers.specs.Batches.{IsAheadOf}
+use Rattle.asm_explore_workers.specs.code.Batches.{IsAheadOf}
 use Rattle.asm_explore_workers.proofs.job.StepsJobJob.run.Goals as goal
 
 pub returns-clause-run : goal.returns-clause-run

@@ -1,6 +1,6 @@
 use Rattle.std.proofs.Common.{◌≡◌}
 use Rattle.asm_state.specs.declared.value.Value.{Value as value}
-use Rattle.asm_meaning.specs.Seen.{content_below}
+use Rattle.asm_meaning.specs.code.ShownStates.{content_below}
 use Rattle.asm_meaning.proofs.below.Below.content.Given as goal
 
 abbrev pub invariant-loop-rest : goal.invariant-loop-rest

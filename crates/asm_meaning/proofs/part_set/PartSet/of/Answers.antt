@@ -1,6 +1,6 @@
 use Rattle.std.proofs.Common.{sym, ◌∙◌}
 use Rattle.std.proofs.lemmas.Bool.{false≢true}
-use Rattle.asm_updates.specs.Faults.{fault_of}
+use Rattle.asm_updates.specs.code.Faults.{fault_of}
 use Rattle.asm_meaning.proofs.Sequences.{first_is_fault}
 use Rattle.asm_meaning.proofs.part_set.PartSet.of.Goals as goal
 

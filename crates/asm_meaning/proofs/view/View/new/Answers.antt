@@ -1,5 +1,5 @@
 use Rattle.asm_state.specs.Signature.{state_of}
-use Rattle.asm_meaning.proofs.Fired.{seen_fired}
+use Rattle.asm_meaning.proofs.FiredViews.{seen_fired}
 use Rattle.asm_meaning.proofs.view.View.new.Goals as goal
 
 pub returns-clause-fired : goal.returns-clause-fired

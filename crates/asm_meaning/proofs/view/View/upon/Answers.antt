@@ -1,5 +1,5 @@
-use Rattle.asm_meaning.specs.Seen.{shown_over}
-use Rattle.asm_meaning.proofs.Fired.{seen_fired}
+use Rattle.asm_meaning.specs.code.ShownStates.{shown_over}
+use Rattle.asm_meaning.proofs.FiredViews.{seen_fired}
 use Rattle.asm_meaning.proofs.view.View.upon.Goals as goal
 
 pub returns-clause-fired : goal.returns-clause-fired

@@ -1,8 +1,8 @@
 use Rattle.std.proofs.Common.{◌+◌, ◌++◌, [], sym, subst, arith}
 use Rattle.atomic_table.specs.Table.{Joins}
-use Rattle.asm_pool.specs.declared.lanes.Shape.{Shape}
-use Rattle.asm_pool.specs.Dealing.{IsDealt, seat_view}
-use Rattle.asm_pool.proofs.Dealing.{joins}
+use Rattle.asm_pool.specs.declared.lanes.LaneCounts.{LaneCounts}
+use Rattle.asm_pool.specs.code.Lanes.{IsLaneState, seat_view}
+use Rattle.asm_pool.proofs.LaneSteps.{joins}
 use Rattle.asm_pool.proofs.lanes.Lanes.join.Goals as goal
 
 pub join_seat-requires : goal.join_seat-requires
@@ -15,6 +15,6 @@ join_seat-requires c =
       c.requires.other.0,
       c.requires.other.1,
       omega (arith, it.wide, it.some.0),
-      subst (λ (k : Shape). Joins (λ s. IsDealt k.lanes k.count s.words s.views) me.id v c.args.other.id w (seat_view v.lanes (v.parts + w.parts) (v.drawn ++ w.drawn)) (seat_view 0 0 [])) (sym it.keyed)
+      subst (λ (k : LaneCounts). Joins (λ s. IsLaneState k.lanes k.count s.words s.views) me.id v c.args.other.id w (seat_view v.lanes (v.parts + w.parts) (v.drawn ++ w.drawn)) (seat_view 0 0 [])) (sym it.keyed)
           (joins it.shape.lanes it.shape.count me.id v c.args.other.id w c.requires.seat.2),
     )

@@ -1,6 +1,6 @@
 use Rattle.std.proofs.Common.{◌≡◌, [], length, All, Vec, Global, ap, sym, subst, arith}
 use Rattle.std.proofs.lemmas.List.Elements.{All-nil}
-use Rattle.asm_syntax.specs.Views.{spec_of}
+use Rattle.asm_syntax.specs.code.Views.{spec_of}
 use Rattle.asm_resolve.specs.declared.bodies.RuleBody.{RuleBody}
 use Rattle.asm_resolve.proofs.KeptBodies.{no_bodies, no_rule_bodies}
 use Rattle.asm_resolve.proofs.bodies.Bodies.new.Goals as goal

@@ -1,8 +1,8 @@
 use Rattle.std.proofs.Common.{◌≡◌, [], length, Option, None, All, Vec, Global}
 use Rattle.std.specs.declared.sync.Arc.{Arc}
-use Rattle.asm_syntax.specs.Views.{spec_of}
+use Rattle.asm_syntax.specs.code.Views.{spec_of}
 use Rattle.asm_code.specs.declared.code.Code.{Code}
-use Rattle.asm_resolve.specs.Scopes.{AreBodies}
+use Rattle.asm_resolve.specs.code.Scopes.{AreResolvedBodies}
 use Rattle.asm_resolve.specs.declared.bodies.RuleBody.{RuleBody}
 use Rattle.asm_resolve.proofs.bodies.Bodies.new.Given as goal
 
@@ -14,7 +14,7 @@ invariant-loop-d l = record {
 
 abbrev pub invariant-loop-r : goal.invariant-loop-r
 invariant-loop-r l = record {
-  terms : AreBodies (spec_of l.checked.spec) l.terms.items;
+  terms : AreResolvedBodies (spec_of l.checked.spec) l.terms.items;
   many : length l.rules.items ≡ l._r;
   none : All (λ (those : Vec RuleBody Global). those.items ≡ []) l.rules.items;
 }

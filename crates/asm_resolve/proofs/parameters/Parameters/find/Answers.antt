@@ -1,5 +1,5 @@
 use Rattle.std.proofs.Common.{map, sym, ◌∙◌}
-use Rattle.asm_meaning.specs.Meant.{text_of}
+use Rattle.asm_meaning.specs.code.MeantTrees.{text_of}
 use Rattle.asm_resolve.proofs.FoundNames.{without_answer}
 use Rattle.asm_resolve.proofs.parameters.Parameters.find.Goals as goal
 

@@ -1,15 +1,15 @@
 use Rattle.std.proofs.Common.{List, ℕ}
 use Rattle.asm_meaning.proofs.FromNothing.{from_nothing_laws-set as set_from_nothing, from_nothing_laws-stopped as stopped_from_nothing}
-use Rattle.asm_code.specs.RuleViews.{rule_of}
-use Rattle.asm_eval.specs.Running.{rule_at, shape_at}
+use Rattle.asm_code.specs.code.RuleViews.{rule_of}
+use Rattle.asm_eval.specs.code.Evaluation.{rule_at, evaluation_shape}
 use Rattle.asm_run.proofs.pooled.Pooled.outcome.Goals as goal
 
 pub returns : goal.returns
 returns g c =
     let a = c.args in
-    let shape = shape_at a.running.now in
-    let o = λ (p : List ℕ). rule_at a.running.now a.frame.now p (rule_of a.rule.now) in
-    let begun = c.in_ok-made.ensures in
+    let shape = evaluation_shape a.evaluation.now in
+    let o = λ (p : List ℕ). rule_at a.evaluation.now a.frame.now p (rule_of a.rule.now) in
+    let begun = c.in_ok-forming.ensures in
     c.outcome_of.ensures shape (o a.path.now)
-    (set_from_nothing shape o a.path.now c.in_ok-made.made c.form-formed.new.made c.form-formed.result begun.set begun.count begun.instances begun.path c.form-formed.ensures)
-    (stopped_from_nothing shape o a.path.now c.in_ok-made.made c.form-formed.new.made c.form-formed.result begun.set begun.count begun.instances begun.path c.form-formed.ensures)
+    (set_from_nothing shape o a.path.now c.in_ok-forming.forming c.form-formed.new.forming c.form-formed.result begun.set begun.count begun.instances begun.path c.form-formed.ensures)
+    (stopped_from_nothing shape o a.path.now c.in_ok-forming.forming c.form-formed.new.forming c.form-formed.result begun.set begun.count begun.instances begun.path c.form-formed.ensures)

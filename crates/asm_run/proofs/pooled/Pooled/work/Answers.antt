@@ -1,19 +1,19 @@
 use Rattle.std.proofs.Common.{◌≡◌, ◌∙◌, ◌++◌, ℕ, List, [], ◌∷◌, ap, subst}
 use Rattle.asm_meaning.specs.declared.part.Part.TheVariants as part
 use Rattle.asm_meaning.specs.Does.{Outcome}
-use Rattle.asm_meaning.specs.Formed.{IsFormed}
-use Rattle.asm_meaning.proofs.Beside.{beside_laws}
-use Rattle.asm_code.specs.RuleViews.{rule_of}
-use Rattle.asm_eval.specs.OpenedPieces.{pieces_yield}
-use Rattle.asm_eval.specs.Running.{rule_at, shape_at}
+use Rattle.asm_meaning.specs.code.FormedOutcomes.{IsFormed}
+use Rattle.asm_meaning.proofs.BesideLemmas.PartsBeside.{beside_laws}
+use Rattle.asm_code.specs.code.RuleViews.{rule_of}
+use Rattle.asm_eval.specs.code.OpenedPieces.{pieces_yield}
+use Rattle.asm_eval.specs.code.Evaluation.{rule_at, evaluation_shape}
 use Rattle.asm_eval.specs.declared.piece.Piece.{Piece}
 use Rattle.asm_run.proofs.pooled.Pooled.work.Goals as goal
 
 pub returns-in-Ok : goal.returns-in-Ok
 returns-in-Ok g c =
     let a = c.args in
-    let r = a.running.now in
-    let shape = shape_at r in
+    let r = a.evaluation.now in
+    let shape = evaluation_shape r in
     let R = rule_of a.rule.now in
     let at_path : c.new.result ≡ a.path.now = c.new.ensures ∙ c.in_ok-to_vec.ensures.items_if_clones_equal (λ x y h. h) in
     let root : Piece = record { rule = a.rule; frame = a.frame.now; path = c.new.result; part = part.Whole } in

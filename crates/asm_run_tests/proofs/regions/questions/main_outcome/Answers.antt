@@ -1,6 +1,6 @@
 use Rattle.std.proofs.Common.{sym, subst}
-use Rattle.asm_code.specs.RuleMeaning.{IsSoundRule}
-use Rattle.asm_code.specs.RuleViews.{rule_of}
+use Rattle.asm_code.specs.code.RuleMeaning.{IsSoundRule}
+use Rattle.asm_code.specs.code.RuleViews.{rule_of}
 use Rattle.asm_run_tests.proofs.regions.questions.main_outcome.Goals as goal
 
 pub outcome-requires-clause-sound : goal.outcome-requires-clause-sound

@@ -1,6 +1,6 @@
 use Rattle.std.proofs.Common.{refl, subst}
 use Rattle.asm_state.specs.Signature.{Shape}
-use Rattle.asm_state.specs.Layout.{IsLayoutOf}
+use Rattle.asm_state.specs.code.Layout.{IsLayoutOf}
 use Rattle.asm_state.proofs.signature.Signature.build.Goals as goal
 
 pub invariant_of-result : goal.invariant_of-result

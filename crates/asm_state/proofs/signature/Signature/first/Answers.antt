@@ -1,8 +1,8 @@
 use Rattle.std.proofs.Common.{◌≡◌, sym, subst}
 use Rattle.asm_state.specs.declared.function.FunctionKind.TheVariants.{Controlled}
-use Rattle.asm_state.specs.FirstLocations.{first_of}
+use Rattle.asm_state.specs.code.FirstLocations.{first_of}
 use Rattle.asm_state.specs.Signature.{HasKind}
-use Rattle.asm_state.proofs.FirstLocations.{first_here}
+use Rattle.asm_state.proofs.LocationLemmas.FirstLocations.{first_here}
 use Rattle.asm_state.proofs.SignatureInside.{shape_of}
 use Rattle.asm_state.proofs.signature.Signature.first.Goals as goal
 

@@ -3,7 +3,7 @@ use Rattle.std.proofs.lemmas.Option.{slice_get_within}
 use Rattle.asm_state.specs.Location.{Proper}
 use Rattle.asm_state.specs.Signature.{location_at, domain_in}
 use Rattle.asm_state.specs.Tables.{argument_lists}
-use Rattle.asm_state.proofs.Owners.{known_extent}
+use Rattle.asm_state.proofs.LocationLemmas.FunctionOfLocation.{known_extent}
 use Rattle.asm_state.proofs.SignatureInside.{shape_of, owned, index, Listed, listed}
 use Rattle.asm_state.proofs.signature.Signature.location.Goals as goal
 

@@ -1,11 +1,11 @@
 use Rattle.std.proofs.Common.{◌≡◌, ◌+◌, ◌<◌, ◌≤◌, length, get_or, [], subst, sym, arith, false}
 use Rattle.std.specs.Prelude.{IfSome, IfNone}
-use Rattle.asm_state.specs.declared.limits.TheConstants.{LOCATIONS}
+use Rattle.asm_state.specs.declared.signature_limits.TheConstants.{MAX_LOCATIONS}
 use Rattle.asm_state.specs.declared.function.FunctionKind.TheVariants.{Controlled}
 use Rattle.asm_state.specs.Signature.{HasKind, domain_in, count_of}
 use Rattle.asm_state.specs.Tables.{argument_lists, is_in}
-use Rattle.asm_state.proofs.LocationIndices.{IsNumberOf}
-use Rattle.asm_state.proofs.Owners.{number_here}
+use Rattle.asm_state.proofs.LocationLemmas.LocationIndices.{IsNumberOf}
+use Rattle.asm_state.proofs.LocationLemmas.FunctionOfLocation.{number_here}
 use Rattle.asm_state.proofs.SignatureInside.{shape_of}
 use Rattle.asm_state.proofs.signature.Signature.number_of.Goals as goal
 
@@ -25,7 +25,7 @@ numbered c =
 pub overflow_add-result : goal.overflow_add-result
 overflow_add-result c =
     let below : c.index-extent.result.now.start + c.unwrap_or.result < count_of c.args.self.now = (numbered c).in_range in
-    let few : count_of c.args.self.now ≤ LOCATIONS = subst (λ s. count_of s ≤ LOCATIONS) c.self.view_is c.self.invariant.fits.few_locations in
+    let few : count_of c.args.self.now ≤ MAX_LOCATIONS = subst (λ s. count_of s ≤ MAX_LOCATIONS) c.self.view_is c.self.invariant.fits.few_locations in
     omega (arith, below, few)
 
 pub returns-clause-number : goal.returns-clause-number

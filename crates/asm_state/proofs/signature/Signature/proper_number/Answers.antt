@@ -1,13 +1,13 @@
 use Rattle.std.proofs.Common.{◌≡◌, ◌+◌, ◌<◌, ◌≤◌, length, get_or, [], subst, sym, arith, false}
 use Rattle.std.specs.Prelude.{IfNone, IsTrue}
-use Rattle.asm_state.specs.declared.limits.TheConstants.{LOCATIONS}
+use Rattle.asm_state.specs.declared.signature_limits.TheConstants.{MAX_LOCATIONS}
 use Rattle.asm_state.specs.declared.function.FunctionKind.TheVariants.{Controlled}
 use Rattle.asm_state.specs.Location.{Stray}
 use Rattle.asm_state.specs.Signature.{HasKind, domain_in, domain_of, count_of}
 use Rattle.asm_state.specs.Tables.{argument_lists, is_in, location_in}
 use Rattle.asm_state.specs.Updates.{is_proper}
-use Rattle.asm_state.proofs.LocationIndices.{IsNumberOf, lists_of}
-use Rattle.asm_state.proofs.Owners.{number_at_list, proper_here, stray_here}
+use Rattle.asm_state.proofs.LocationLemmas.LocationIndices.{IsNumberOf, lists_of}
+use Rattle.asm_state.proofs.LocationLemmas.FunctionOfLocation.{number_at_list, proper_here, stray_here}
 use Rattle.asm_state.proofs.SignatureInside.{shape_of}
 use Rattle.asm_state.proofs.signature.Signature.proper_number.Goals as goal
 
@@ -26,7 +26,7 @@ numbered c =
 pub overflow_add-result : goal.overflow_add-result
 overflow_add-result c =
     let below : c.index-extent.result.now.start + c.in_ok-list.list < count_of c.args.self.now = (numbered c).in_range in
-    let few : count_of c.args.self.now ≤ LOCATIONS = subst (λ s. count_of s ≤ LOCATIONS) c.self.view_is c.self.invariant.fits.few_locations in
+    let few : count_of c.args.self.now ≤ MAX_LOCATIONS = subst (λ s. count_of s ≤ MAX_LOCATIONS) c.self.view_is c.self.invariant.fits.few_locations in
     omega (arith, below, few)
 
 pub returns-clause-some : goal.returns-clause-some

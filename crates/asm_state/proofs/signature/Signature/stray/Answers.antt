@@ -1,7 +1,7 @@
 use Rattle.std.proofs.Common.{rules, ap, sym, ◌∙◌}
 use Rattle.asm_state.specs.Signature.{location_at}
 use Rattle.asm_state.specs.Updates.{is_proper}
-use Rattle.asm_state.proofs.Owners.{known_extent}
+use Rattle.asm_state.proofs.LocationLemmas.FunctionOfLocation.{known_extent}
 use Rattle.asm_state.proofs.SignatureInside.{shape_of, owned, index}
 use Rattle.asm_state.proofs.signature.Signature.stray.Goals as goal
 

@@ -1,8 +1,8 @@
 use Rattle.std.proofs.Common.{◌+◌, ◌<◌, ◌≤◌, sym, subst, arith}
 use Rattle.asm_state.specs.declared.function.FunctionKind.TheVariants.{Controlled}
-use Rattle.asm_state.specs.declared.limits.TheConstants.{LOCATIONS}
+use Rattle.asm_state.specs.declared.signature_limits.TheConstants.{MAX_LOCATIONS}
 use Rattle.asm_state.specs.Signature.{HasKind, count_of}
-use Rattle.asm_state.proofs.FirstLocations.{IsStrayNumber, stray_at}
+use Rattle.asm_state.proofs.LocationLemmas.FirstLocations.{IsStrayNumber, stray_at}
 use Rattle.asm_state.proofs.SignatureInside.{shape_of}
 use Rattle.asm_state.proofs.signature.Signature.stray_number.Goals as goal
 
@@ -14,7 +14,7 @@ numbered c =
 pub overflow_add-result : goal.overflow_add-result
 overflow_add-result c =
     let below : c.index-extent.result.now.start + c.index-extent.result.now.lists < count_of c.args.self.now = (numbered c).in_range in
-    let few : count_of c.args.self.now ≤ LOCATIONS = subst (λ s. count_of s ≤ LOCATIONS) c.self.view_is c.self.invariant.fits.few_locations in
+    let few : count_of c.args.self.now ≤ MAX_LOCATIONS = subst (λ s. count_of s ≤ MAX_LOCATIONS) c.self.view_is c.self.invariant.fits.few_locations in
     omega (arith, below, few)
 
 pub returns-clause-number : goal.returns-clause-number

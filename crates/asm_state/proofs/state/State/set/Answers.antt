@@ -1,5 +1,5 @@
 use Rattle.std.proofs.Common.{◌≡◌, set, sym, subst, arith}
-use Rattle.asm_state.specs.Contents.{IsStateOf}
+use Rattle.asm_state.specs.code.Contents.{IsStateOf}
 use Rattle.asm_state.specs.Location.{changed}
 use Rattle.asm_state.specs.Signature.{state_of, location_at}
 use Rattle.asm_state.proofs.StatesByNumbers.{state_laws}

@@ -1,8 +1,8 @@
 use Rattle.std.proofs.Common.{◌≡◌, ◌/◌, arith, sym, ap, ◌∙◌, subst}
 use Rattle.std.proofs.lemmas.Result.{IfOk-weaker}
 use Rattle.std.specs.Mem.Slots.{slots_items}
-use Rattle.asm_striped.specs.Board.{AreBounds, HasWords}
-use Rattle.asm_striped.proofs.Closing.{tells}
+use Rattle.asm_striped.specs.code.Board.{AreBounds, HasWords}
+use Rattle.asm_striped.proofs.ClosedTables.{tells}
 use Rattle.asm_striped.proofs.striped.Striped.close.Goals as goal
 
 pub summary_of-summary-requires-clause-bounds : goal.summary_of-summary-requires-clause-bounds

@@ -1,8 +1,8 @@
-use Rattle.asm_striped.specs.Log.{entry}
+use Rattle.asm_striped.specs.code.Log.{put_of}
 use Rattle.asm_striped.proofs.striped.Striped.put.Given as goal
 
 abbrev pub ghosts-put_entry : goal.ghosts-put_entry
-ghosts-put_entry a = record { entry = entry a.task a.n a.low a.high }
+ghosts-put_entry a = record { put = put_of a.task a.n a.low a.high }
 
--- a put that waited, as for a lock, would want a measure here,
+-- a put that waited, as for a lock, would need a measure here,
 -- and there is none that falls

@@ -1,6 +1,6 @@
 use Rattle.std.proofs.Common.{sym, subst}
-use Rattle.asm_code.specs.RuleMeaning.{IsSoundRule}
-use Rattle.asm_code.specs.RuleViews.{rule_of}
+use Rattle.asm_code.specs.code.RuleMeaning.{IsSoundRule}
+use Rattle.asm_code.specs.code.RuleViews.{rule_of}
 use Rattle.asm_tests.proofs.evaluation.pieces.positions.Goals as goal
 
 pub positions_of-requires : goal.positions_of-requires

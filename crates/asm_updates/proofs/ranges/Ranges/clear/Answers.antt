@@ -1,4 +1,4 @@
-use Rattle.asm_updates.proofs.Listed.{AreListed-none}
+use Rattle.asm_updates.proofs.IndexedRanges.{AreListed-none}
 use Rattle.asm_updates.proofs.ranges.Ranges.clear.Goals as goal
 
 pub invariant_of-self : goal.invariant_of-self

@@ -1,4 +1,4 @@
-use Rattle.asm_updates.proofs.Listed.{AreListed-none}
+use Rattle.asm_updates.proofs.IndexedRanges.{AreListed-none}
 use Rattle.asm_updates.proofs.ranges.Ranges.new.Goals as goal
 
 pub invariant_of-result : goal.invariant_of-result

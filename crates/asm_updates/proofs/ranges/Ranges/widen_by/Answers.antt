@@ -1,17 +1,17 @@
 use Rattle.std.proofs.Common.{◌≡◌, Some, ap, refl, sym, arith, ◌∙◌}
 use Rattle.asm_state.specs.Updates.{widen}
-use Rattle.asm_updates.specs.Entries.{found, range}
-use Rattle.asm_updates.proofs.Listed.{got-at}
+use Rattle.asm_updates.specs.code.SummaryRanges.{first_range, range}
+use Rattle.asm_updates.proofs.IndexedRanges.{got-at}
 use Rattle.asm_updates.proofs.Marks.{one_value_put}
-use Rattle.asm_updates.proofs.Widened.{found-widened, AreEntries-widened}
+use Rattle.asm_updates.proofs.RangesOfTwo.{found-widened, AreEntries-widened}
 use Rattle.asm_updates.proofs.ranges.Ranges.widen_by.Goals as goal
 
--- the bounds that are put in the place of those at the location
-widened_is : (c : goal.After-put_at) → Some (range c.widened-both.result) ≡ widen (found c.args.self.now.entries c.args.n) (Some (range (c.args.value, c.args.value)))
+-- the bounds that are put instead of those at the location
+widened_is : (c : goal.After-put_at) → Some (range c.widened-both.result) ≡ widen (first_range c.args.self.now.entries c.args.n) (Some (range (c.args.value, c.args.value)))
 widened_is c = c.widened-both.ensures
     ∙ ap (λ r. widen r (Some (range (c.args.value, c.args.value))))
     (sym c.entry_at.ensures.found
-    ∙ ap (found c.args.self.now.entries) (got-at c.args.self.now.entries c.in-Some.i c.args.n c.entry_at.result c.in-Some.ensures.some c.entry_at.ensures.entry))
+    ∙ ap (first_range c.args.self.now.entries) (got-at c.args.self.now.entries c.in-Some.i c.args.n c.entry_at.result c.in-Some.ensures.some c.entry_at.ensures.entry))
 
 pub returns-in-Some-clause-sound : goal.returns-in-Some-clause-sound
 returns-in-Some-clause-sound c = λ count below are.

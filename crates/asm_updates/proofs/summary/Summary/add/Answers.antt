@@ -1,17 +1,17 @@
 use Rattle.std.proofs.Common.{◌<◌, subst, sym, rules}
 use Rattle.asm_state.specs.Signature.{location_at}
 use Rattle.asm_state.specs.Updates.{one, together}
-use Rattle.asm_updates.specs.Entries.{Entries, range, AreEntries}
-use Rattle.asm_updates.proofs.Standing.{stands_with, bounds_range, bounds_alone, value_range, value_alone}
+use Rattle.asm_updates.specs.code.SummaryRanges.{SummaryRanges, range, AreRanges}
+use Rattle.asm_updates.proofs.StandingSummaries.{stands_with, bounds_range, bounds_alone, value_range, value_alone}
 use Rattle.asm_updates.proofs.Marks.{marks_any}
 use Rattle.asm_updates.proofs.summary.Summary.add.Goals as goal
 
 pub invariant_of-self-2 : goal.invariant_of-self-2
 invariant_of-self-2 c =
     c.widen.ensures.sound c.self.inside.count
-    (subst (λ (s : Entries). c.args.n < s.count) (sym c.self.view_is) c.requires.in_range)
+    (subst (λ (s : SummaryRanges). c.args.n < s.count) (sym c.self.view_is) c.requires.in_range)
     c.requires.ordered
-    (subst (AreEntries c.self.inside.count) (sym c.reserve.ensures.same) c.self.invariant)
+    (subst (AreRanges c.self.inside.count) (sym c.reserve.ensures.same) c.self.invariant)
 
 pub returns-clause-bounds : goal.returns-clause-bounds
 returns-clause-bounds c = λ shape U first.

@@ -1,6 +1,6 @@
 use Rattle.std.proofs.Common.{false, refl, rules}
-use Rattle.asm_updates.proofs.Listed.{AreEntries-none}
-use Rattle.asm_updates.proofs.Standing.{stands_for_none}
+use Rattle.asm_updates.proofs.IndexedRanges.{AreEntries-none}
+use Rattle.asm_updates.proofs.StandingSummaries.{stands_for_none}
 use Rattle.asm_updates.proofs.Marks.{unmarked}
 use Rattle.asm_updates.proofs.summary.Summary.clear.Goals as goal
 

@@ -2,9 +2,9 @@ use Rattle.std.proofs.Common.{drop, ◌+◌, get_or, refl, sym, ◌∙◌, arith
 use Rattle.std.proofs.lemmas.List.{at_drop_all}
 use Rattle.asm_state.specs.declared.value.Value.TheVariants.{Undef}
 use Rattle.asm_state.specs.Updates.{overwritten}
-use Rattle.asm_updates.specs.Entries.{found}
-use Rattle.asm_updates.proofs.Listed.{AreEntries-drop, drop_one}
-use Rattle.asm_updates.proofs.Found.{one_more}
+use Rattle.asm_updates.specs.code.SummaryRanges.{first_range}
+use Rattle.asm_updates.proofs.IndexedRanges.{AreEntries-drop, drop_one}
+use Rattle.asm_updates.proofs.RangesFound.{one_more}
 use Rattle.asm_updates.proofs.Firing.{fired_state, fired_is_state, changed_content}
 use Rattle.asm_updates.proofs.summary.Summary.fire_into.Goals as goal
 
@@ -31,7 +31,7 @@ returns-clause-fired c = λ shape U stands consistent.
     (c.requires ∙ stands.has_count)
     (c.loop-i.invariant.whole ∙ c.requires ∙ stands.has_count)
     (λ n.
-    sym (at_drop_all (λ es. overwritten (found es n) (get_or c.loop-i.state n Undef)) c.args.self.now.ranges c.loop-i.i (omega (arith, c.loop-i-test.false, c.len-i-end.ensures.len)))
+    sym (at_drop_all (λ es. overwritten (first_range es n) (get_or c.loop-i.state n Undef)) c.args.self.now.ranges c.loop-i.i (omega (arith, c.loop-i-test.false, c.len-i-end.ensures.len)))
     ∙ c.loop-i.invariant.fires n)
     consistent
 
@@ -41,6 +41,6 @@ returns-clause-state c = λ shape U stands consistent before.
     (c.requires ∙ stands.has_count)
     (c.loop-i.invariant.whole ∙ c.requires ∙ stands.has_count)
     (λ n.
-    sym (at_drop_all (λ es. overwritten (found es n) (get_or c.loop-i.state n Undef)) c.args.self.now.ranges c.loop-i.i (omega (arith, c.loop-i-test.false, c.len-i-end.ensures.len)))
+    sym (at_drop_all (λ es. overwritten (first_range es n) (get_or c.loop-i.state n Undef)) c.args.self.now.ranges c.loop-i.i (omega (arith, c.loop-i-test.false, c.len-i-end.ensures.len)))
     ∙ c.loop-i.invariant.fires n)
     consistent before

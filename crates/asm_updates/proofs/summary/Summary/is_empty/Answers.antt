@@ -1,7 +1,7 @@
 use Rattle.std.proofs.Common.{◌≡◌, eqb, sym, ◌∙◌, arith}
 use Rattle.std.proofs.lemmas.Bool.Decides.{nat_tests}
-use Rattle.asm_updates.proofs.Found.{none_found}
-use Rattle.asm_updates.proofs.Standing.{empty_set, empty_entries}
+use Rattle.asm_updates.proofs.RangesFound.{none_found}
+use Rattle.asm_updates.proofs.StandingSummaries.{empty_set, empty_entries}
 use Rattle.asm_updates.proofs.summary.Summary.is_empty.Goals as goal
 
 pub returns-clause-entries : goal.returns-clause-entries

@@ -1,7 +1,7 @@
 use Rattle.std.proofs.Common.{◌≡◌, None, Some, drop, ◌+◌, sym, subst, arith, rules}
 use Rattle.std.proofs.lemmas.List.{drop_all}
 use Rattle.std.proofs.lemmas.Option.{MatchOption-at_none}
-use Rattle.asm_updates.proofs.Listed.{drop_one}
+use Rattle.asm_updates.proofs.IndexedRanges.{drop_one}
 use Rattle.asm_updates.proofs.Faults.{IsSoFar, fault_so_far, settled_so_far, all_consistent, all_first}
 use Rattle.asm_updates.proofs.summary.Summary.least_fault.Goals as goal
 use Rattle.asm_updates.proofs.summary.Summary.least_fault.Goals.{then-n-end+in-Some, else-n-end, else-n-end-via-else-n-end, else-n-end-via-then-n-end+in-None-1}

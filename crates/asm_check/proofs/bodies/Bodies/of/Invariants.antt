@@ -1,7 +1,0 @@
-use Rattle.std.proofs.Common.{map, take}
-use Rattle.asm_syntax.specs.Views.{item_of}
-use Rattle.asm_check.specs.NumberTables.{AreBodies}
-use Rattle.asm_check.proofs.bodies.Bodies.of.Given as goal
-
-abbrev pub invariant-loop-k : goal.invariant-loop-k
-invariant-loop-k l = AreBodies (map item_of (take l.k l.items)) l.rules.items l.derived.items

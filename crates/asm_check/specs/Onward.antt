@@ -1,8 +1,0 @@
--- Calls of rules and uses of derived functions together: a rule leads to rules alone, and a derived function to derived functions.
-use Rattle.std.specs.Prelude.{List, ◌++◌}
-use Rattle.asm_syntax.specs.SourceTree.{Spec}
-use Rattle.asm_check.specs.Names.{Text}
-use Rattle.asm_check.specs.Ways.{called, used}
-
-unfoldable pub onward : Spec → Text → List Text
-onward spec f = called spec f ++ used spec f

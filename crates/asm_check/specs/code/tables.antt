@@ -1,0 +1,2 @@
+-- Bridge to the code. The entries of tables.
+pub mod EntryArguments

@@ -1,0 +1,164 @@
+-- Free. The run under a script that has a line for each choice of another run is that run.
+--     lines_back          the lines of steps are those of the steps in the other order
+--     all_apart           the choices of each step lie at paths of their own
+--     makes_the_run       a script with a line for each choice makes the run
+--     choices_are         the choices of what is asked in each step
+use Rattle.std.proofs.Common.{◌++◌, ◌≡◌, ◌∙◌, ℕ, zero, suc, Bool, true, false, cond, List, [], ◌∷◌, length, map, refl, sym, ap, subst, append_assoc, append-nil}
+use Rattle.asm_state.specs.Location.{State}
+use Rattle.asm_state.specs.Signature.{Shape}
+use Rattle.asm_state.specs.Updates.{UpdateSet, is_consistent, fire}
+use Rattle.asm_syntax.specs.SourceTree.{Spec}
+use Rattle.asm_check.specs.Shapes.{shape_of}
+use Rattle.asm_reader.specs.code.ExactLines.{exactly}
+use Rattle.asm_reader.specs.ScriptLines.{Script, pick}
+use Rattle.asm_meaning.specs.Declarations.{specification_of}
+use Rattle.asm_meaning.specs.Does.{Outcome, does}
+use Rattle.asm_meaning.specs.Program.{nothing_bound}
+use Rattle.asm_meaning.specs.Run.{Run, Specification, run_from, step_and, fired, ended, AtFault}
+use Rattle.asm_meaning.specs.Yields.{Result, Gives, Exhausted}
+use Rattle.asm_code.specs.code.RuleTree.{RuleCode}
+use Rattle.asm_resolve.specs.code.ResolvingLaws.{ResolvingLaws}
+use Rattle.asm_resolve.specs.code.RuleScopes.{resolved_rule_in}
+use Rattle.asm_explore.specs.declared.outcomes.listed_outcome.Choice.{Choice}
+use Rattle.asm_explore.specs.ChoicePoints.{Asking, after_set, asks_in, choices_of}
+use Rattle.asm_explore.specs.code.OutcomeLists.{Situation, Each, AreTaken, picked}
+use Rattle.asm_explore.specs.code.ChoicesMade.{made_in}
+use Rattle.asm_explore.specs.code.ChoicePaths.{HaveOwnPaths}
+use Rattle.asm_explore.specs.code.ReachedStates.{MakesAll, steps_from}
+use Rattle.asm_explore.specs.RunChoices.{of_run, from_step, lines_from, lines_forward, MakesTheRun}
+use Rattle.asm_explore.specs.code.ScriptTo.{lines_for, lines_of}
+use Rattle.asm_explore.proofs.ChoiceLemmas.AskedMade.{made_asked}
+use Rattle.asm_explore.proofs.ScriptLemmas.ScriptToState.{lines_apart, lines_make}
+use Rattle.asm_explore.proofs.ChoiceLemmas.MadeAlike.{rule_alike}
+use Rattle.asm_explore.proofs.ChoiceLemmas.MadePlaces.{rule_placed}
+
+-- ---- steps in the other order
+
+-- some steps after others, the last one first
+abbrev turned : (back steps : List (List Choice)) → List (List Choice)
+turned back [] = back
+turned back (cs ∷ steps) = turned (cs ∷ back) steps
+
+turned_lines : (back steps : List (List Choice)) → lines_of (turned back steps) ≡ lines_of back ++ lines_from (suc (length back)) steps
+turned_lines back [] = sym (append-nil (lines_of back))
+turned_lines back (cs ∷ steps) =
+    turned_lines (cs ∷ back) steps ∙ append_assoc (lines_of back) (lines_for (suc (length back)) cs) (lines_from (suc (suc (length back))) steps)
+
+turned_each : (P : List Choice → Type 0) (back steps : List (List Choice)) → Each P back → Each P steps → Each P (turned back steps)
+turned_each P back [] h g = h
+turned_each P back (cs ∷ steps) h g = turned_each P (cs ∷ back) steps (g.0, h) g.1
+
+-- each step's choices are made in it, if the first of the steps has this number
+abbrev pub MakesFrom : Script → (step : ℕ) → List (List Choice) → Type 0
+MakesFrom script i [] = Unit {0}
+MakesFrom script i (cs ∷ steps) = AreTaken (record { script = script; step = i }) cs × MakesFrom script (suc i) steps
+
+turned_made : (script : Script) (back steps : List (List Choice)) → MakesAll script (turned back steps) → MakesAll script back × MakesFrom script (suc (length back)) steps
+turned_made script back [] h = (h, tt)
+turned_made script back (cs ∷ steps) h =
+    let it = turned_made script (cs ∷ back) steps h in
+    (it.0.1, (it.0.0, it.1))
+
+pub lines_back : (steps : List (List Choice)) → lines_of (turned [] steps) ≡ lines_forward steps
+lines_back steps = turned_lines [] steps
+
+-- ---- the steps of a run
+
+module _ {X : Type 0} (P : X → Type 0) where
+  if_each : (b : Bool) (xs : List X) → Each P xs → Each P (cond b xs [])
+  if_each true xs h = h
+  if_each false xs h = tt
+
+  after_each : (r : Result) (rest : UpdateSet → List X) → ((U : UpdateSet) → Each P (rest U)) → Each P (after_set r rest)
+  after_each (Exhausted q) rest h = tt
+  after_each (Gives U) rest h = if_each (is_consistent U) (rest U) (h U)
+
+  module _ (specification : Specification) (turns : ℕ) (its : State → Situation → X) (script : Script) (holds : (A : State) (s : Situation) → P (its A s)) where
+    from_each : (left i : ℕ) (A : State) → Each P (from_step specification turns its script left i A)
+    from_each zero i A = tt
+    from_each (suc left) i A =
+        let s : Situation = record { script = script; step = i } in
+        (holds A s, after_each (steps_from specification turns A s) (λ U. from_step specification turns its script left (suc i) (fire A U)) (λ U. from_each left (suc i) (fire A U)))
+
+pub all_apart : (specification : Specification) (turns : ℕ) (shape : Shape) (main : RuleCode) (script : Script) (limit : ℕ)
+    → Each HaveOwnPaths (of_run specification turns (made_in shape turns main) script limit)
+all_apart specification turns shape main script limit =
+    from_each HaveOwnPaths specification turns (made_in shape turns main) script (λ A s. (rule_placed shape turns (picked s) main [] [] A []).apart) limit 1 specification.initial
+
+-- ---- the choices of what is asked
+
+if_choices : (b : Bool) (xs : List (List Asking)) (ys : List (List Choice)) → map choices_of xs ≡ ys → map choices_of (cond b xs []) ≡ cond b ys []
+if_choices true xs ys h = h
+if_choices false xs ys h = refl
+
+after_choices : (r : Result) (x : UpdateSet → List (List Asking)) (y : UpdateSet → List (List Choice)) → ((U : UpdateSet) → map choices_of (x U) ≡ y U)
+    → map choices_of (after_set r x) ≡ after_set r y
+after_choices (Exhausted q) x y h = refl
+after_choices (Gives U) x y h = if_choices (is_consistent U) (x U) (y U) (h U)
+
+module _ (specification : Specification) (turns : ℕ) (shape : Shape) (main : RuleCode) (script : Script) where
+  from_choices : (left i : ℕ) (A : State) → map choices_of (from_step specification turns (asks_in shape turns main) script left i A) ≡ from_step specification turns (made_in shape turns main) script left i A
+  from_choices zero i A = refl
+  from_choices (suc left) i A =
+      let s : Situation = record { script = script; step = i } in
+      let rest = after_choices (steps_from specification turns A s) (λ U. from_step specification turns (asks_in shape turns main) script left (suc i) (fire A U))
+      (λ U. from_step specification turns (made_in shape turns main) script left (suc i) (fire A U)) (λ U. from_choices left (suc i) (fire A U)) in
+      (λ j. made_asked shape turns (picked s) main [] [] A [] j ∷ rest j)
+
+pub choices_are : (specification : Specification) (turns : ℕ) (shape : Shape) (main : RuleCode) (script : Script) (limit : ℕ)
+    → map choices_of (of_run specification turns (asks_in shape turns main) script limit) ≡ of_run specification turns (made_in shape turns main) script limit
+choices_are specification turns shape main script limit = from_choices specification turns shape main script limit 1 specification.initial
+
+-- ---- the run again
+
+module _ (spec : Spec) (turns : ℕ) (main : RuleCode) (resolving : ResolvingLaws) (resolved : resolved_rule_in spec [] (specification_of spec).main main) (script other : Script) where
+  abbrev specification : Specification
+  specification = specification_of spec
+
+  abbrev run_by : Script → (n i : ℕ) → State → Run
+  run_by chosen n i A = run_from specification.program turns specification.main chosen n i A
+
+  abbrev choices_by : (n i : ℕ) → State → List (List Choice)
+  choices_by n i A = from_step specification turns (made_in (shape_of spec) turns main) script n i A
+
+  step_alike : (i : ℕ) (A : State) → AreTaken (record { script = other; step = i }) (made_in (shape_of spec) turns main A (record { script = script; step = i }))
+      → does specification.program turns other i A nothing_bound [] specification.main ≡ does specification.program turns script i A nothing_bound [] specification.main
+  step_alike i A taken =
+      sym (resolving.means spec specification.main main turns other i A [] resolved)
+      ∙ (rule_alike (pick other i) (shape_of spec) turns (pick script i) main [] [] A [] taken).0
+      ∙ resolving.means spec specification.main main turns script i A [] resolved
+
+  good_alike : (b : Bool) (U : UpdateSet) (m i : ℕ) (A : State) (xs : List (List Choice)) (r q : Run) → (MakesFrom other (suc i) xs → r ≡ q) → MakesFrom other (suc i) (cond b xs [])
+      → cond b (fired U m r) (ended (AtFault i U) A) ≡ cond b (fired U m q) (ended (AtFault i U) A)
+  good_alike true U m i A xs r q f h = ap (fired U m) (f h)
+  good_alike false U m i A xs r q f h = refl
+
+  then_alike : (r : Result) (m i : ℕ) (A : State) (xs : UpdateSet → List (List Choice)) (x y : UpdateSet → Run) → ((U : UpdateSet) → MakesFrom other (suc i) (xs U) → x U ≡ y U)
+      → MakesFrom other (suc i) (after_set r xs)
+      → step_and specification.program turns specification.main r m i A x ≡ step_and specification.program turns specification.main r m i A y
+  then_alike (Exhausted q) m i A xs x y f h = refl
+  then_alike (Gives U) m i A xs x y f h = good_alike (is_consistent U) U m i A (xs U) (x U) (y U) (f U) h
+
+  run_alike : (n i : ℕ) (A : State) → MakesFrom other i (choices_by n i A) → run_by other n i A ≡ run_by script n i A
+  run_alike zero i A h = refl
+  run_alike (suc n) i A h =
+      let o : Outcome = does specification.program turns script i A nothing_bound [] specification.main in
+      ap (λ (q : Outcome). step_and specification.program turns specification.main q.result q.instances i A (λ U. run_by other n (suc i) (fire A U))) (step_alike i A h.0)
+      ∙ then_alike o.result o.instances i A (λ U. choices_by n (suc i) (fire A U)) (λ U. run_by other n (suc i) (fire A U)) (λ U. run_by script n (suc i) (fire A U))
+      (λ U. run_alike n (suc i) (fire A U)) h.1
+
+pub makes_the_run : (spec : Spec) (turns : ℕ) (main : RuleCode) → ResolvingLaws → resolved_rule_in spec [] (specification_of spec).main main → (script : Script) (limit : ℕ) (steps : List (List Choice))
+    → steps ≡ of_run (specification_of spec) turns (made_in (shape_of spec) turns main) script limit
+    → MakesTheRun (specification_of spec) turns script limit (lines_forward steps)
+makes_the_run spec turns main resolving resolved script limit steps are =
+    let specification = specification_of spec in
+    let run_steps = of_run specification turns (made_in (shape_of spec) turns main) script limit in
+    let back = turned [] run_steps in
+    let apart = turned_each HaveOwnPaths [] run_steps tt (all_apart specification turns (shape_of spec) main script limit) in
+    let made = turned_made (exactly (lines_of back)) [] run_steps (lines_make back apart) in
+    subst (λ it. MakesTheRun specification turns script limit (lines_forward it)) (sym are)
+    (subst (MakesTheRun specification turns script limit) (lines_back run_steps)
+    (record {
+      unrepeated = lines_apart back apart;
+      again = run_alike spec turns main resolving resolved script (exactly (lines_of back)) limit 1 specification.initial made.1;
+    }))

@@ -1,0 +1,9 @@
+-- Free. The states that a search has reached.
+pub mod Batches
+pub mod Bytes
+pub mod MoreNodes
+pub mod PackedNodes
+pub mod QuietNodes
+pub mod RunsAlongChoices
+pub mod RunsThroughKnown
+pub mod RunsToNodes

@@ -1,7 +1,0 @@
-use Rattle.std.proofs.Common.{◌≡◌, filter, take}
-use Rattle.asm_eval.specs.Running.{is_passing}
-use Rattle.asm_explore.proofs.candidates.candidates.Given as goal
-
--- the candidates among the values so far
-abbrev pub invariant-loop-i : goal.invariant-loop-i
-invariant-loop-i l = l.found.items ≡ filter (is_passing l.view l.frame l.test) (take l.i l.universe)

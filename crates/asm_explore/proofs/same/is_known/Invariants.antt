@@ -1,4 +1,0 @@
-use Rattle.asm_explore.proofs.same.is_known.Given as goal
-
-abbrev pub invariant-loop-i : goal.invariant-loop-i
-invariant-loop-i l = Unit {0}

@@ -1,0 +1,12 @@
+use Rattle.std.proofs.Common.{◌≡◌, sym}
+use Rattle.std.proofs.lemmas.Option.{get_or_from_slice_get}
+use Rattle.asm_explore.specs.code.PackedNodes.{Node}
+use Rattle.asm_explore.proofs.OutcomeLemmas.ListLemmas.{any_at}
+use Rattle.asm_explore.proofs.StateLemmas.MoreNodes.{some_at}
+use Rattle.asm_explore.proofs.states.lookup.has_same.Goals as goal
+
+pub returns : goal.returns
+returns c = λ yes m there.
+    let a = c.args in
+    let n = some_at a.nodes.now a.number c.requires.number in
+    any_at (λ (x : Node). x.state ≡ m.state) a.nodes.now a.number n.0 c.requires.number (sym (get_or_from_slice_get a.nodes.now a.number n.0 n.0 n.1)) (c.is_same_state.ensures yes n.0 m n.1 there)

@@ -1,0 +1,8 @@
+use Rattle.std.proofs.Common.{length, sym, ap, ◌∙◌}
+use Rattle.asm_explore.proofs.StateLemmas.PackedNodes.{contents_count, some_at}
+use Rattle.asm_explore.proofs.states.nodes.Nodes.state.Goals as goal
+
+pub unpacked-requires : goal.unpacked-requires
+unpacked-requires c =
+    let there = some_at c.args.self.now c.args.number c.requires.number in
+    sym (contents_count c.contents.result.0.now c.contents.result.1.now) ∙ ap length (c.contents.ensures there.0 there.1) ∙ c.requires.whole there.0 there.1

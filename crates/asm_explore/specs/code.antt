@@ -1,0 +1,24 @@
+-- Bridge to the code. What connects the definitions of this crate to its code.
+pub mod AskedPieces
+pub mod ByteValues
+pub mod ChoiceLaws
+pub mod ChoiceLists
+pub mod ChoicePaths
+pub mod ChoicesMade
+pub mod ChoicesMadeSoFar
+pub mod ExploredRules
+pub mod FaultMarks
+pub mod ListElements
+pub mod MainRule
+pub mod OutcomeLists
+pub mod OverLimit
+pub mod PackedNodes
+pub mod QuietStates
+pub mod ReachedStates
+pub mod ScriptTo
+pub mod SearchEnds
+pub mod Sequences
+pub mod StepLeads
+pub mod StepOutcomes
+pub mod StepsAhead
+pub mod WrittenScripts

@@ -1,0 +1,38 @@
+-- Bridge to the code. The outcomes of the step from a state.
+--     IsStep A fs            a list has what the step from a state yields, with choices at paths of
+--                            their own
+--     IsOverLimitOf A crowd  more lists of choices than the limit says, each two of which take
+--                            different candidates of some choose at the path that is named or below
+--                            it, are made by the step from a state, each in each situation that
+--                            takes it
+--     IsListed A r           of a state there is such a list, or none: then there are more lists of
+--                            choices than the limit says, each two take different candidates of
+--                            some choose, and each is made in each situation that takes it
+use Rattle.std.specs.Prelude.{ℕ, List, Result as Returned, IfOk, IfErr}
+use Rattle.std.proofs.Common.{Vec, Global}
+use Rattle.asm_state.specs.Location.{State}
+use Rattle.asm_state.specs.Signature.{Shape}
+use Rattle.asm_meaning.specs.Run.{Specification}
+use Rattle.asm_explore.specs.declared.outcomes.listed_outcome.Choice.{Choice}
+use Rattle.asm_explore.specs.declared.outcomes.listed_outcome.ListedOutcome.{ListedOutcome}
+use Rattle.asm_explore.specs.declared.outcomes.outcomes_error.RuleOverLimit.{RuleOverLimit}
+use Rattle.asm_explore.specs.declared.outcomes.outcomes_error.OutcomesError.{OutcomesError}
+use Rattle.asm_explore.specs.code.OverLimit.{AreMany, Refuses}
+use Rattle.asm_explore.specs.code.OutcomeLists.{Situation, HaveChoices, Lists}
+use Rattle.asm_explore.specs.code.ChoicesMade.{AreMade}
+use Rattle.asm_explore.specs.code.ChoicePaths.{HaveOwnPaths}
+use Rattle.asm_explore.specs.code.ReachedStates.{steps_from}
+
+-- the step from a state has too many outcomes: of the rule at the path that is named
+abbrev pub IsOverLimitOf : (makes : State → Situation → List Choice) → (limit : ℕ) → State → RuleOverLimit → Type 0
+IsOverLimitOf makes limit A crowd = AreMany limit crowd.path (λ cs. HaveOwnPaths cs × AreMade (makes A) cs)
+
+module _ (shape : Shape) (specification : Specification) (turns : ℕ) where
+  pub record IsStep (A : State) (fs : List ListedOutcome) : Type 0 where
+    pub lists : Lists shape (steps_from specification turns A) fs
+    pub apart : HaveChoices HaveOwnPaths fs
+
+  module _ (makes : State → Situation → List Choice) (limit : ℕ) where
+    pub record IsListed (A : State) (r : Returned (Vec ListedOutcome Global) OutcomesError) : Type 0 where
+      pub step : IfOk r (λ fs. IsStep A fs.items)
+      pub refuses : IfErr r (Refuses limit (λ p cs. HaveOwnPaths cs × AreMade (makes A) cs))

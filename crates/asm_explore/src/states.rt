@@ -1,0 +1,9 @@
+//! The states that a search has reached.
+
+pub mod batch;
+pub mod byte;
+pub mod index;
+pub mod lookup;
+pub mod nodes;
+pub mod quiet;
+pub mod trail;

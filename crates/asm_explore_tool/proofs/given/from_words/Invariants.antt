@@ -1,7 +1,0 @@
-use Rattle.std.proofs.Common.{◌≡◌, take}
-use Rattle.clap.specs.Walk.{texts}
-use Rattle.asm_explore_texts.specs.Conditions.{texts_of}
-use Rattle.asm_explore_tool.proofs.given.from_words.Given as goal
-
-abbrev pub invariant-loop-k : goal.invariant-loop-k
-invariant-loop-k l = texts_of l.all.items ≡ texts (take l.k l.words)

@@ -1,0 +1,62 @@
+-- Definition. What is read for settings: the text of the specification, and those of the
+-- conditions.
+--     file_of name                             the file of this name, except `-`, which is standard
+--                                              input
+--     IsText contents input settings text      the text is that of the specification's file, or of
+--                                              the input
+--     AreRunTexts contents input settings text script
+--                                              the texts of the specification's file and of the
+--                                              script's (one may be the input); a script that isn't
+--                                              named has no bytes
+--     AreFronts contents names texts           the texts are those of the files with these names
+--     AreAlwaysGiven contents words names texts
+--                                              the texts are the words, and after them those of the
+--                                              files with these names
+--     AreGiven contents settings conditions    the conditions are those that the settings give, and
+--                                              those of the files that they name
+use Rattle.std.specs.Prelude.{◌≡◌, ℕ, List, [], ◌∷◌, ◌++◌, Option, Some, None, cond, option_map, codes, ⊤}
+use Rattle.std.specs.Str.{bytes_eq}
+use Rattle.clap.specs.Walk.{Text, texts}
+use Rattle.asm_tool.specs.Statuses.{IsFront, bytes_of}
+use Rattle.asm_explore_texts.specs.Conditions.{text_of, texts_of}
+use Rattle.asm_explore_texts.specs.declared.conditions.Conditions.{Conditions}
+use Rattle.asm_explore_words.specs.declared.settings.RunSettings.{RunSettings}
+use Rattle.asm_explore_words.specs.declared.settings.Settings.{Settings}
+
+-- reading goes no further: what is of this length is too long
+abbrev pub max_bytes_read : ℕ
+max_bytes_read = 1_048_577
+
+abbrev pub file_of : Text → Option Text
+file_of name = cond (bytes_eq name (codes "-")) None (Some name)
+
+module _ (contents : Text → Option (List ℕ)) where
+  abbrev pub IsText : (input : Option (List ℕ)) → Text → List ℕ → Type 0
+  IsText input name text = IsFront (bytes_of contents input (file_of name)) max_bytes_read text
+
+  abbrev pub IsTextOfFile : Text → List ℕ → Type 0
+  IsTextOfFile name text = IsFront (contents name) max_bytes_read text
+
+  abbrev pub IsTextOfScript : (input : Option (List ℕ)) → Option Text → List ℕ → Type 0
+  IsTextOfScript input None script = script ≡ []
+  IsTextOfScript input (Some name) script = IsText input name script
+
+  pub record AreRunTexts (input : Option (List ℕ)) (settings : RunSettings) (text script : List ℕ) : Type 0 where
+    pub is_text : IsText input settings.spec.now text
+    pub is_script : IsTextOfScript input (option_map (λ name. name.now) settings.script) script
+
+  abbrev pub AreFronts : List Text → List (List ℕ) → Type 0
+  AreFronts [] [] = ⊤
+  AreFronts [] (text ∷ more) = ⊥
+  AreFronts (name ∷ names) [] = ⊥
+  AreFronts (name ∷ names) (text ∷ more) = IsTextOfFile name text × AreFronts names more
+
+  pub record AreAlwaysGiven (words names : List Text) (asked : List (List ℕ)) : Type 0 where
+    pub files : List (List ℕ)
+    pub are_files : AreFronts names files
+    pub all : asked ≡ words ++ files
+
+  pub record AreGiven (settings : Settings) (conditions : Conditions) : Type 0 where
+    pub always : AreAlwaysGiven (texts settings.always.items) (texts settings.always_files.items) (texts_of conditions.always.items)
+    pub when_quiet : text_of conditions.when_quiet ≡ option_map (λ text. text.now) settings.when_quiet
+    pub within : text_of conditions.within ≡ option_map (λ text. text.now) settings.within

@@ -1,0 +1,143 @@
+//! What is read for settings: the text of the specification, and those of the conditions.
+ghost use Rattle.std.specs.Prelude.{◌≡◌, ◌++◌, List, ℕ, map, option_map, IfOk};
+ghost use Rattle.clap.specs.Walk.{texts};
+ghost use Rattle.asm_explore_texts.specs.Conditions.{text_of, texts_of};
+ghost use Rattle.asm_tool.specs.Statuses.{IsFront};
+ghost use Rattle.asm_explore_tool.specs.GivenTexts.{AreAlwaysGiven, AreFronts, AreGiven, IsText, max_bytes_read};
+
+use asm_explore_texts::conditions::{Condition, Conditions};
+use asm_explore_words::fault::{Fault, Source};
+use asm_explore_words::settings::Settings;
+use asm_tool::fault::Fault as ToolFault;
+use asm_tool::folder::Folder;
+use asm_tool::input;
+use std::alloc::{AllocError, Global};
+use std::io::Read;
+
+/// One more than the bytes of the longest text: reading goes no further, and what is of this length
+/// is too long.
+pub(crate) const MAX_BYTES_READ: u64 = 1_048_577;
+
+/// The fault of a text that can't be had.
+pub(crate) fn of_file<'w>(fault: &ToolFault, source: Source<'w>) -> Fault<'w> {
+    match fault {
+        ToolFault::Memory => Fault::Memory,
+        _ => Fault::File(source),
+    }
+}
+
+/// The text from this source: of the file with this name, or of the input.
+pub(crate) fn text<'w, F: Folder, I: Read + Drop>(
+    folder: &F,
+    alloc: Global,
+    source: Source<'w>,
+    name: &str,
+    input: I,
+) -> Result<Vec<u8>, Fault<'w>>
+    ensures { IfOk result (λ text. IsText (F.contents folder.now) (I.remaining input) name.now text.items) }
+{
+    let file = if name == "-" { None } else { Some(name) };
+    match input::text(folder, alloc, file, input, MAX_BYTES_READ) {
+        Ok(text) => Ok(text),
+        Err(fault) => Err(of_file(&fault, source)),
+    }
+}
+
+/// A condition that a word gives.
+fn given<'w>(alloc: Global, source: Source<'w>, text: &str) -> Result<Condition<'w>, AllocError>
+    ensures { IfOk result (λ c. c.text.items ≡ text.now) }
+{
+    let text = Vec::from_slice(alloc, text.as_bytes())?;
+    Ok(Condition { source, text })
+}
+
+/// A condition that a word may give.
+fn maybe_given<'w>(
+    alloc: Global,
+    source: Source<'w>,
+    text: Option<&str>,
+) -> Result<Option<Condition<'w>>, AllocError>
+    ensures { IfOk result (λ c. text_of c ≡ option_map (λ t. t.now) text.entry) }
+{
+    match text {
+        Some(text) => Ok(Some(given(alloc, source, text)?)),
+        None => Ok(None),
+    }
+}
+
+/// The conditions that words give.
+fn from_words<'w>(alloc: Global, words: &[&'w str]) -> Result<Vec<Condition<'w>>, AllocError>
+    ensures { IfOk result (λ all. texts_of all.items ≡ texts words.now) }
+{
+    let mut all = Vec::new(alloc);
+    for k in 0..words.len() {
+        all.push(given(alloc, Source::Always(k + 1), words[k])?)?;
+    }
+    Ok(all)
+}
+
+/// The condition in the file of this name.
+fn from_file<'w, F: Folder>(
+    folder: &F,
+    alloc: Global,
+    name: &'w str,
+) -> Result<Condition<'w>, Fault<'w>>
+    ensures { IfOk result (λ c. IsFront (F.contents folder.now name.now) max_bytes_read c.text.items) }
+{
+    let source = Source::AlwaysFile(name);
+    match input::script(folder, alloc, Some(name), MAX_BYTES_READ) {
+        Ok(text) => Ok(Condition { source, text }),
+        Err(fault) => Err(of_file(&fault, source)),
+    }
+}
+
+/// The conditions in the files of these names, after others.
+fn with_files<'w, F: Folder>(
+    folder: &F,
+    alloc: Global,
+    names: &[&'w str],
+    others: Vec<Condition<'w>>,
+) -> Result<Vec<Condition<'w>>, Fault<'w>>
+    ensures { IfOk result (λ all. (files : List (List ℕ)) × AreFronts (F.contents folder.now) (texts names.now) files × (texts_of all.items ≡ texts_of others.entry.items ++ files)) }
+{
+    let mut all = others;
+    for k in 0..names.len() {
+        let condition = from_file(folder, alloc, names[k])?;
+        all.push(condition)?;
+    }
+    Ok(all)
+}
+
+/// The conditions that are to be true in each state: first those that words give, then those in the
+/// files of these names.
+pub(crate) fn always_given<'w, F: Folder>(
+    folder: &F,
+    alloc: Global,
+    words: &[&'w str],
+    names: &[&'w str],
+) -> Result<Vec<Condition<'w>>, Fault<'w>>
+    ensures { IfOk result (λ all. AreAlwaysGiven (F.contents folder.now) (texts words.now) (texts names.now) (texts_of all.items)) }
+{
+    let first = from_words(alloc, words)?;
+    let all = with_files(folder, alloc, names, first)?;
+    Ok(all)
+}
+
+/// The conditions that the settings give.
+pub(crate) fn conditions<'w, F: Folder>(
+    folder: &F,
+    alloc: Global,
+    settings: &Settings<'w>,
+) -> Result<Conditions<'w>, Fault<'w>>
+    ensures { IfOk result (AreGiven (F.contents folder.now) settings.now) }
+{
+    let words = settings.always.as_slice();
+    let always = always_given(folder, alloc, words, settings.always_files.as_slice())?;
+    let when_quiet = maybe_given(alloc, Source::DeadlockUnless, settings.when_quiet)?;
+    let within = maybe_given(alloc, Source::Within, settings.within)?;
+    Ok(Conditions {
+        always,
+        when_quiet,
+        within,
+    })
+}

@@ -1,0 +1,210 @@
+-- Definition. What words say.
+--     AreSaid words settings        the settings are those that the words after `all` give
+--     AreRandomSaid words settings  the same after `random`
+--     AreRunSaid words settings     the same after `choices` and `clash`: the text and the script
+--                                   aren't both standard input
+--     AreSaidBehind words task      the first word names the command, and the others give its
+--                                   settings
+--     Explains, ExplainsRandom, ExplainsRun words fault
+--                                   the words after a command are refused, as the fault says, or
+--                                   memory ran out
+--     ExplainsBehind words fault    the same with the command before them
+use Rattle.std.specs.Prelude.{◌≡◌, ◌⊎◌, ℕ, Bool, true, false, ◌&&◌, List, [], ◌∷◌, Option, Some, None, option_map, codes, is_some, ⊤}
+use Rattle.std.specs.Option.{option_map_or}
+use Rattle.std.specs.Prelude.{find}
+use Rattle.std.specs.Str.{bytes_eq}
+use Rattle.std.specs.Str.Parse.{digits_value, without_leading_plus}
+use Rattle.clap.specs.Kinds.{IsAmong}
+use Rattle.clap.specs.Matches.{first_value, found_of, one_text}
+use Rattle.clap.specs.Simple.{matches_of}
+use Rattle.clap.specs.Values.{IsUnsignedIn, kind_of}
+use Rattle.clap.specs.Walk.{Row, Text, first_of, rows_of, texts}
+use Rattle.clap.specs.declared.error.Error.{Error}
+use Rattle.clap.specs.declared.error.kind.ErrorKind.TheVariants.{ArgumentConflict, OutOfMemory}
+use Rattle.clap.specs.declared.parser.matches.ArgMatches.{ArgMatches}
+use Rattle.clap.specs.declared.parser.matches.Found.{Found}
+use Rattle.asm_limits.specs.declared.run_limits.TheConstants.{STEPS, TURNS, WORKERS}
+use Rattle.asm_limits.specs.Limits.{is_within}
+use Rattle.asm_arguments.specs.Numbers.{HasNumber, IsNumber}
+use Rattle.asm_explore_words.specs.CommandLine.{command, most_unsigned, refusals, random_command, random_refusals, run_command, run_refusals}
+use Rattle.asm_explore_words.specs.declared.fault.Fault.{Fault}
+use Rattle.asm_explore_words.specs.declared.fault.Fault.TheVariants.{Memory, Words}
+use Rattle.asm_explore_words.specs.declared.settings.RandomSettings.{RandomSettings}
+use Rattle.asm_explore_words.specs.declared.settings.RunSettings.{RunSettings}
+use Rattle.asm_explore_words.specs.declared.settings.Settings.{Settings}
+use Rattle.asm_explore_words.specs.declared.settings.Task.{Task}
+use Rattle.asm_explore_words.specs.declared.settings.Task.TheVariants.{All, Random, Choices, Clash}
+use Rattle.asm_explore_words.specs.declared.command_line.TheConstants.{STATES, OUTCOMES, RUNS}
+
+-- each number is within its bounds
+abbrev pub are_in_range : Settings → Bool
+are_in_range s = is_within STEPS s.steps && is_within TURNS s.turns && is_within STATES s.states && is_within OUTCOMES s.outcomes && is_within WORKERS s.workers
+
+-- each seed of 64 bits is one
+abbrev pub are_random_in_range : RandomSettings → Bool
+are_random_in_range s = is_within STEPS s.steps && is_within TURNS s.turns && is_within RUNS s.runs
+
+abbrev pub are_run_in_range : RunSettings → Bool
+are_run_in_range s = is_within STEPS s.steps && is_within TURNS s.turns
+
+abbrev pub is_task_in_range : Task → Bool
+is_task_in_range (All settings) = are_in_range settings
+is_task_in_range (Random settings) = are_random_in_range settings
+is_task_in_range (Choices settings) = are_run_in_range settings
+is_task_in_range (Clash settings) = are_run_in_range settings
+
+-- the entry of an argument has a text, of a number of 64 bits
+pub record HasUnsigned (found : Found) (name : Text) : Type 0 where
+  pub text : Text
+  pub is_first : first_value found name ≡ Some text
+  pub is_handed : one_text found name ≡ Some text
+  pub is_within : IsUnsignedIn 0 most_unsigned text
+
+-- what a parse of the words finds
+pub record AreParsed (words : List Text) (matches : ArgMatches) : Type 0 where
+  pub rows : rows_of (found_of matches) ≡ matches_of command words
+  pub spec : is_some (first_value (found_of matches) (codes "spec")) ≡ true
+  pub steps : HasNumber (found_of matches) (codes "steps") STEPS
+  pub turns : HasNumber (found_of matches) (codes "turns") TURNS
+  pub states : HasNumber (found_of matches) (codes "states") STATES
+  pub outcomes : HasNumber (found_of matches) (codes "outcomes") OUTCOMES
+  pub workers : HasNumber (found_of matches) (codes "workers") WORKERS
+
+pub record AreRandomParsed (words : List Text) (matches : ArgMatches) : Type 0 where
+  pub rows : rows_of (found_of matches) ≡ matches_of random_command words
+  pub spec : is_some (first_value (found_of matches) (codes "spec")) ≡ true
+  pub steps : HasNumber (found_of matches) (codes "steps") STEPS
+  pub turns : HasNumber (found_of matches) (codes "turns") TURNS
+  pub runs : HasNumber (found_of matches) (codes "runs") RUNS
+  pub seed : HasUnsigned (found_of matches) (codes "seed")
+
+-- the rows of the words after `choices` and `clash`
+abbrev pub run_rows : List Text → List Row
+run_rows words = matches_of run_command words
+
+pub record AreRunParsed (words : List Text) (matches : ArgMatches) : Type 0 where
+  pub rows : rows_of (found_of matches) ≡ run_rows words
+  pub spec : is_some (first_value (found_of matches) (codes "spec")) ≡ true
+  pub steps : HasNumber (found_of matches) (codes "steps") STEPS
+  pub turns : HasNumber (found_of matches) (codes "turns") TURNS
+
+-- the texts of an argument
+abbrev pub all_of : Text → List Row → List Text
+all_of name rows = option_map_or (λ row. row.values) (find (λ row. bytes_eq row.id name) rows) []
+
+-- the argument's text is this number, as `IsNumber` says it of one that may have a minus
+pub record IsUnsigned (rows : List Row) (name : Text) (n : ℕ) : Type 0 where
+  pub text : Text
+  pub is_given : first_of name rows ≡ Some text
+  pub is_read : digits_value 10 (without_leading_plus text) ≡ n
+
+-- the text of a flag that is among the words
+abbrev pub is_yes : Option Text → Bool
+is_yes None = false
+is_yes (Some text) = bytes_eq text (codes "true")
+
+-- ---- settings
+
+pub record AreRead (rows : List Row) (settings : Settings) : Type 0 where
+  pub spec : first_of (codes "spec") rows ≡ Some settings.spec.now
+  pub steps : IsNumber rows (codes "steps") settings.steps
+  pub turns : IsNumber rows (codes "turns") settings.turns
+  pub states : IsNumber rows (codes "states") settings.states
+  pub outcomes : IsNumber rows (codes "outcomes") settings.outcomes
+  pub always : texts settings.always.items ≡ all_of (codes "always") rows
+  pub always_files : texts settings.always_files.items ≡ all_of (codes "always-file") rows
+  pub when_quiet : option_map (λ text. text.now) settings.when_quiet ≡ first_of (codes "deadlock-unless") rows
+  pub within : option_map (λ text. text.now) settings.within ≡ first_of (codes "within") rows
+  pub workers : IsNumber rows (codes "workers") settings.workers
+  pub dot : option_map (λ text. text.now) settings.dot ≡ first_of (codes "dot") rows
+  pub trace : settings.trace ≡ is_yes (first_of (codes "trace") rows)
+  pub progress : settings.progress ≡ is_yes (first_of (codes "progress") rows)
+
+abbrev pub AreSaid : List Text → Settings → Type 0
+AreSaid words settings = AreRead (matches_of command words) settings
+
+pub record AreRandomRead (rows : List Row) (settings : RandomSettings) : Type 0 where
+  pub spec : first_of (codes "spec") rows ≡ Some settings.spec.now
+  pub steps : IsNumber rows (codes "steps") settings.steps
+  pub turns : IsNumber rows (codes "turns") settings.turns
+  pub always : texts settings.always.items ≡ all_of (codes "always") rows
+  pub always_files : texts settings.always_files.items ≡ all_of (codes "always-file") rows
+  pub runs : IsNumber rows (codes "runs") settings.runs
+  pub seed : IsUnsigned rows (codes "seed") settings.seed
+  pub trace : settings.trace ≡ is_yes (first_of (codes "trace") rows)
+  pub progress : settings.progress ≡ is_yes (first_of (codes "progress") rows)
+
+abbrev pub AreRandomSaid : List Text → RandomSettings → Type 0
+AreRandomSaid words settings = AreRandomRead (matches_of random_command words) settings
+
+pub record AreRunRead (rows : List Row) (settings : RunSettings) : Type 0 where
+  pub spec : first_of (codes "spec") rows ≡ Some settings.spec.now
+  pub steps : IsNumber rows (codes "steps") settings.steps
+  pub turns : IsNumber rows (codes "turns") settings.turns
+  pub script : option_map (λ text. text.now) settings.script ≡ first_of (codes "script") rows
+
+-- the file with this name is standard input
+abbrev pub is_input : Option Text → Bool
+is_input None = false
+is_input (Some name) = bytes_eq name (codes "-")
+
+-- the text and the script are both on standard input
+abbrev pub reads_input_twice : RunSettings → Bool
+reads_input_twice settings = is_input (Some settings.spec.now) && is_input (option_map (λ text. text.now) settings.script)
+
+abbrev pub reads_task_twice : Task → Bool
+reads_task_twice (All settings) = false
+reads_task_twice (Random settings) = false
+reads_task_twice (Choices settings) = reads_input_twice settings
+reads_task_twice (Clash settings) = reads_input_twice settings
+
+-- the words ask for both from standard input
+abbrev pub are_both_input : List Text → Bool
+are_both_input words = is_input (first_of (codes "spec") (run_rows words)) && is_input (first_of (codes "script") (run_rows words))
+
+abbrev pub AreRunTaken : List Text → Type 0
+AreRunTaken words = (run_refusals words ≡ []) × (are_both_input words ≡ false)
+
+abbrev pub AreRunSaid : List Text → RunSettings → Type 0
+AreRunSaid words settings = AreRunTaken words × AreRunRead (run_rows words) settings
+
+-- ---- faults
+
+abbrev pub Explains : List Text → Fault → Type 0
+Explains words Memory = ⊤
+Explains words (Words error) = IsAmong (kind_of error) (refusals words)
+Explains words _ = ⊥
+
+abbrev pub ExplainsRandom : List Text → Fault → Type 0
+ExplainsRandom words Memory = ⊤
+ExplainsRandom words (Words error) = IsAmong (kind_of error) (random_refusals words)
+ExplainsRandom words _ = ⊥
+
+abbrev pub ExplainsRun : List Text → Fault → Type 0
+ExplainsRun words Memory = ⊤
+ExplainsRun words (Words error) = IsAmong (kind_of error) (run_refusals words) ⊎ ((are_both_input words ≡ true) × (kind_of error ≡ ArgumentConflict))
+ExplainsRun words _ = ⊥
+
+abbrev pub IsFaultOf : Error → Fault → Type 0
+IsFaultOf error Memory = kind_of error ≡ OutOfMemory
+IsFaultOf error (Words e) = (e ≡ error) × ¬ (kind_of error ≡ OutOfMemory)
+IsFaultOf error _ = ⊥
+
+-- ---- after the command
+
+-- the command takes the settings of one run
+abbrev pub IsOfRun : Text → Type 0
+IsOfRun command = (command ≡ codes "choices") ⊎ (command ≡ codes "clash")
+
+abbrev pub AreSaidBehind : List Text → Task → Type 0
+AreSaidBehind [] task = ⊥
+AreSaidBehind (command ∷ words) (All settings) = (command ≡ codes "all") × (refusals words ≡ []) × AreSaid words settings
+AreSaidBehind (command ∷ words) (Random settings) = (command ≡ codes "random") × (random_refusals words ≡ []) × AreRandomSaid words settings
+AreSaidBehind (command ∷ words) (Choices settings) = (command ≡ codes "choices") × AreRunSaid words settings
+AreSaidBehind (command ∷ words) (Clash settings) = (command ≡ codes "clash") × AreRunSaid words settings
+
+abbrev pub ExplainsBehind : List Text → Fault → Type 0
+ExplainsBehind [] fault = ⊤
+ExplainsBehind (command ∷ words) fault =
+    (command ≡ codes "all" → Explains words fault) × (command ≡ codes "random" → ExplainsRandom words fault)
+    × (IsOfRun command → ExplainsRun words fault)

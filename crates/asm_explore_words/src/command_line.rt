@@ -1,0 +1,276 @@
+//! The words that the program is called with.
+ghost use Rattle.std.specs.Prelude.{◌≡◌, ◌∷◌, [], Some, map, option_map, codes, true, is_some, IsTrue, IfOk, IfErr};
+ghost use Rattle.clap.specs.Kinds.{HasKind};
+ghost use Rattle.clap.specs.Values.{kind_of};
+ghost use Rattle.clap.specs.Walk.{texts};
+ghost use Rattle.clap.specs.Words.{app_of, found_of, rows_of};
+ghost use Rattle.clap.specs.declared.error.kind.ErrorKind.TheVariants.{ArgumentConflict, OutOfMemory};
+ghost use Rattle.asm_explore_words.specs.CommandLine as line;
+ghost use Rattle.asm_explore_words.specs.CommandLine.{refusals, run_refusals};
+ghost use Rattle.asm_explore_words.specs.WordsSaid.{AreParsed, AreRunParsed, AreRunRead, AreRunSaid, AreSaid, AreSaidBehind, ExplainsBehind, ExplainsRun, IsFaultOf, are_in_range, are_run_in_range, is_task_in_range, run_rows};
+
+use crate::arguments::{flag, is_set, number, number_of, text, texts, texts_of, word};
+use crate::fault::Fault;
+use crate::help;
+use crate::random_words::{random, random_settings};
+use crate::settings::{RunSettings, Settings, Task, is_standard_input};
+use asm_limits::run_limits::{Bounds, STEPS, TURNS, WORKERS};
+use clap::error::ErrorKind;
+use clap::{ArgMatches, Command, Error};
+use std::alloc::{AllocError, Global};
+use std::convert::AsStr;
+
+/// Of `Settings::states`.
+pub const STATES: Bounds = Bounds {
+    least: 1,
+    most: 100_000_000,
+};
+
+/// Of `Settings::outcomes`.
+pub const OUTCOMES: Bounds = Bounds {
+    least: 1,
+    most: 1_000_000,
+};
+
+/// Of `RandomSettings::runs`.
+pub const RUNS: Bounds = Bounds {
+    least: 1,
+    most: 1_000_000,
+};
+
+/// The command that looks at every run.
+const ALL: &str = "all";
+
+/// The command that looks at random runs.
+const RANDOM: &str = "random";
+
+/// The command that shows the choices of one run.
+const CHOICES: &str = "choices";
+
+/// The command that shows the assignments by which one run ends.
+const CLASH: &str = "clash";
+
+/// The command `choices` as its help shows it.
+const CALLED_CHOICES: &str = "asm-explore choices";
+
+/// The command `clash` as its help shows it.
+const CALLED_CLASH: &str = "asm-explore clash";
+
+impl<'w> From<Error> for Fault<'w> {
+    ghost from_gives = { λ error fault. IsFaultOf error fault };
+
+    fn from(error: Error) -> Fault<'w> {
+        match error.kind() {
+            ErrorKind::OutOfMemory => Fault::Memory,
+            _ => Fault::Words(error),
+        }
+    }
+}
+
+/// The command and the settings that the words give, the program's name not among them. The first
+/// word names the command.
+pub fn settings<'w, S: AsStr>(alloc: Global, words: &'w [S]) -> Result<Task<'w>, Fault<'w>>
+    ensures in_range { IfOk result (λ task. IsTrue (is_task_in_range task)) }
+    ensures said { IfOk result (AreSaidBehind (map S.text words.entry.now)) }
+    ensures refused { IfErr result (ExplainsBehind (map S.text words.entry.now)) }
+{
+    match words.split_first() {
+        Some((command, words)) if command.as_str() == ALL => {
+            Ok(Task::All(all_settings(alloc, words)?))
+        }
+        Some((command, words)) if command.as_str() == RANDOM => {
+            Ok(Task::Random(random_settings(alloc, words)?))
+        }
+        Some((command, words)) if command.as_str() == CHOICES => Ok(Task::Choices(run_settings(
+            alloc,
+            CALLED_CHOICES,
+            help::CHOICES,
+            words,
+        )?)),
+        Some((command, words)) if command.as_str() == CLASH => {
+            Ok(Task::Clash(run_settings(alloc, CALLED_CLASH, help::CLASH, words)?))
+        }
+        _ => Err(without_command(alloc, words)?.into()),
+    }
+}
+
+/// The settings that the words after `all` give.
+fn all_settings<'w, S: AsStr>(alloc: Global, words: &'w [S]) -> Result<Settings<'w>, Error>
+    ensures in_range { IfOk result (λ s. IsTrue (are_in_range s)) }
+    ensures taken { IfOk result (λ _. refusals (map S.text words.entry.now) ≡ []) }
+    ensures said { IfOk result (AreSaid (map S.text words.entry.now)) }
+    ensures refused { IfErr result (HasKind (refusals (map S.text words.entry.now))) }
+{
+    let given = given(alloc, words)?;
+    Ok(Settings {
+        spec: given.get_str("spec").unwrap(),
+        steps: number_of(&given, "steps"),
+        turns: number_of(&given, "turns"),
+        states: number_of(&given, "states"),
+        outcomes: number_of(&given, "outcomes"),
+        always: texts_of(alloc, &given, "always")?,
+        always_files: texts_of(alloc, &given, "always-file")?,
+        when_quiet: given.get_str("deadlock-unless"),
+        within: given.get_str("within"),
+        workers: number_of(&given, "workers"),
+        dot: given.get_str("dot"),
+        trace: is_set(&given, "trace"),
+        progress: is_set(&given, "progress"),
+    })
+}
+
+/// What the words after `all` give.
+fn given<'w, S: AsStr>(alloc: Global, words: &'w [S]) -> Result<ArgMatches<'w>, Error>
+    ensures taken { IfOk result (λ _. refusals (map S.text words.entry.now) ≡ []) }
+    ensures parsed { IfOk result (AreParsed (map S.text words.entry.now)) }
+    ensures refused { IfErr result (HasKind (refusals (map S.text words.entry.now))) }
+{
+    let command = all(alloc)?;
+    let given = command.try_get_matches_from(words)?;
+    Ok(given)
+}
+
+/// What may come after `all`.
+fn all<'w>(alloc: Global) -> Result<Command<'w>, AllocError>
+    ensures { IfOk result (λ c. app_of c ≡ line.command) }
+{
+    Command::new(alloc, "asm-explore all")
+        .display_name(help::NAME)?
+        .version(help::VERSION)
+        .about(help::ALL)
+        .after_help(help::AFTER_ALL)
+        .no_binary_name(true)
+        .arg(word(alloc, "spec", "SPEC", help::SPEC).required(true))?
+        .arg(number(alloc, "steps", STEPS, help::STEPS).default_value("1000000"))?
+        .arg(number(alloc, "turns", TURNS, help::TURNS).default_value("1000"))?
+        .arg(texts(alloc, "always", "COND", help::ALWAYS))?
+        .arg(texts(alloc, "always-file", "FILE", help::ALWAYS_FILE))?
+        .arg(text(alloc, "deadlock-unless", "COND", help::DEADLOCK_UNLESS))?
+        .arg(text(alloc, "within", "COND", help::WITHIN))?
+        .arg(number(alloc, "states", STATES, help::STATES).default_value("1000000"))?
+        .arg(number(alloc, "outcomes", OUTCOMES, help::OUTCOMES).default_value("10000"))?
+        .arg(number(alloc, "workers", WORKERS, help::WORKERS).default_value("1"))?
+        .arg(text(alloc, "dot", "FILE", help::DOT))?
+        .arg(flag(alloc, "trace", help::TRACE))?
+        .arg(flag(alloc, "progress", help::PROGRESS))
+}
+
+/// The settings that the words after `choices` or `clash` give.
+fn run_settings<'w, S: AsStr>(
+    alloc: Global,
+    called: &'w str,
+    about: &'w str,
+    words: &'w [S],
+) -> Result<RunSettings<'w>, Fault<'w>>
+    ensures in_range { IfOk result (λ s. IsTrue (are_run_in_range s)) }
+    ensures said { IfOk result (AreRunSaid (map S.text words.entry.now)) }
+    ensures refused { IfErr result (ExplainsRun (map S.text words.entry.now)) }
+{
+    let settings = run_given(alloc, called, about, words)?;
+    if is_standard_input(Some(settings.spec)) && is_standard_input(settings.script) {
+        return Err(both_are_input(alloc, called, about)?.into());
+    }
+    Ok(settings)
+}
+
+/// What is to be said if the specification and the script are both to be read from the input.
+fn both_are_input<'w>(alloc: Global, called: &'w str, about: &'w str) -> Result<Error, Error>
+    ensures conflict { IfOk result (λ error. kind_of error ≡ ArgumentConflict) }
+    ensures memory { IfErr result (λ error. kind_of error ≡ OutOfMemory) }
+{
+    let mut command = run_command(alloc, called, about)?;
+    Ok(command.error(ErrorKind::ArgumentConflict, help::ONE_INPUT)?)
+}
+
+/// The same settings, whether or not the specification and the script are both standard input.
+fn run_given<'w, S: AsStr>(
+    alloc: Global,
+    called: &'w str,
+    about: &'w str,
+    words: &'w [S],
+) -> Result<RunSettings<'w>, Error>
+    ensures in_range { IfOk result (λ s. IsTrue (are_run_in_range s)) }
+    ensures taken { IfOk result (λ _. run_refusals (map S.text words.entry.now) ≡ []) }
+    ensures read { IfOk result (AreRunRead (run_rows (map S.text words.entry.now))) }
+    ensures refused { IfErr result (HasKind (run_refusals (map S.text words.entry.now))) }
+{
+    let given = run_parsed(alloc, called, about, words)?;
+    Ok(RunSettings {
+        spec: given.get_str("spec").unwrap(),
+        steps: number_of(&given, "steps"),
+        turns: number_of(&given, "turns"),
+        script: given.get_str("script"),
+    })
+}
+
+/// What the words after `choices` or `clash` give.
+fn run_parsed<'w, S: AsStr>(
+    alloc: Global,
+    called: &'w str,
+    about: &'w str,
+    words: &'w [S],
+) -> Result<ArgMatches<'w>, Error>
+    ensures taken { IfOk result (λ _. run_refusals (map S.text words.entry.now) ≡ []) }
+    ensures parsed { IfOk result (AreRunParsed (map S.text words.entry.now)) }
+    ensures refused { IfErr result (HasKind (run_refusals (map S.text words.entry.now))) }
+{
+    let command = run_command(alloc, called, about)?;
+    let given = command.try_get_matches_from(words)?;
+    Ok(given)
+}
+
+/// What may come after `choices` or `clash`. Its help shows the command by this name, and says
+/// this of it.
+fn run_command<'w>(
+    alloc: Global,
+    called: &'w str,
+    about: &'w str,
+) -> Result<Command<'w>, AllocError>
+    ensures { IfOk result (λ c. app_of c ≡ line.run_command) }
+{
+    Command::new(alloc, help::NAME)
+        .bin_name(called)?
+        .version(help::VERSION)
+        .about(about)
+        .after_help(help::AFTER_RUN)
+        .no_binary_name(true)
+        .arg(word(alloc, "spec", "SPEC", help::SPEC).required(true))?
+        .arg(number(alloc, "steps", STEPS, help::RUN_STEPS).default_value("1000"))?
+        .arg(number(alloc, "turns", TURNS, help::TURNS).default_value("1000"))?
+        .arg(text(alloc, "script", "FILE", help::SCRIPT))
+}
+
+/// What is to be said of words that don't begin with a command.
+fn without_command<'w, S: AsStr>(alloc: Global, words: &'w [S]) -> Result<Error, Error> {
+    let mut commands = commands(alloc)?;
+    match commands.try_get_matches_from_mut(words) {
+        Ok(_) => Ok(commands.error(ErrorKind::MissingSubcommand, help::COMMAND_FIRST)?),
+        Err(error) => Ok(error),
+    }
+}
+
+/// The commands.
+fn commands<'w>(alloc: Global) -> Result<Command<'w>, AllocError> {
+    let commands = Command::new(alloc, help::NAME)
+        .bin_name(help::NAME)?
+        .version(help::VERSION)
+        .about(help::ABOUT)
+        .after_help(help::AFTER)
+        .no_binary_name(true)
+        .subcommand_required(true);
+    let commands = with(commands, ALL, all(alloc))?;
+    let commands = with(commands, RANDOM, random(alloc))?;
+    let choices = run_command(alloc, CALLED_CHOICES, help::CHOICES);
+    let commands = with(commands, CHOICES, choices)?;
+    let clash = run_command(alloc, CALLED_CLASH, help::CLASH);
+    with(commands, CLASH, clash)
+}
+
+/// The commands and one more, which has this name.
+fn with<'w>(
+    commands: Command<'w>,
+    name: &'w str,
+    command: Result<Command<'w>, AllocError>,
+) -> Result<Command<'w>, AllocError> {
+    commands.subcommand(command?.name(name))
+}

@@ -1,0 +1,67 @@
+-- Free. A graph, by conditions that are the same.
+--     kept_graph        nodes that choices lead to are nodes of a graph
+--     same_graph        what is said of a graph by some conditions is said of it by others that are
+--                       the same, and of too many outcomes otherwise
+use Rattle.std.proofs.Common.{◌≡◌, ℕ, Bool, List, length, subst}
+use Rattle.asm_reader.specs.code.ExactLines.{exactly}
+use Rattle.asm_state.specs.Location.{State}
+use Rattle.asm_state.specs.Signature.{Shape, count_of}
+use Rattle.asm_meaning.specs.Run.{Specification}
+use Rattle.asm_explore.specs.declared.outcomes.listed_outcome.Choice.{Choice}
+use Rattle.asm_explore.specs.declared.outcomes.outcomes_error.RuleOverLimit.{RuleOverLimit}
+use Rattle.asm_explore.specs.code.OutcomeLists.{Each}
+use Rattle.asm_explore.specs.code.ChoicePaths.{HaveOwnPaths}
+use Rattle.asm_explore.specs.code.ReachedStates.{MakesAll}
+use Rattle.asm_explore.specs.code.ScriptTo.{lines_of}
+use Rattle.asm_graph.specs.declared.graph.Graph.{Graph}
+use Rattle.asm_graph.specs.declared.graph.Node.{Node}
+use Rattle.asm_graph.specs.declared.graph.Step.{Step}
+use Rattle.asm_graph.specs.declared.graph.Step.TheVariants as step
+use Rattle.asm_graph.specs.Graphs.{IsGraph, IsNode, IsShown, Pairs, StandsAt, state_at}
+use Rattle.asm_graph.specs.code.GraphSoFar.{AreNodesRight, IsNodeRight}
+use Rattle.asm_graph.proofs.RunsAlongChoices.{led_reached}
+use Rattle.asm_graph.proofs.Paired.{each_weaker, pairs_length, pairs_weaker}
+
+module _ (shape : Shape) (specification : Specification) (turns : ℕ) (within : State → Bool) where
+  -- nodes that choices lead to, with their steps
+  pub kept_graph : ((back : List (List Choice)) → Each HaveOwnPaths back → MakesAll (exactly (lines_of back)) back)
+      → (crowds : State → RuleOverLimit → Type 0) (steps most : ℕ) (right rests : State → Bool) (graph : Graph)
+      → StandsAt shape graph.nodes.items 0 specification.initial → AreNodesRight shape specification turns within right rests most graph.nodes.items
+      → Pairs (IsShown shape specification turns within crowds steps graph.nodes.items) graph.nodes.items graph.steps.items
+      → IsGraph shape specification turns within crowds steps most right rests graph
+  kept_graph makes crowds steps most right rests graph begins kept shown = record {
+    begins = begins;
+    each = each_weaker (IsNodeRight shape specification turns within right rests) (IsNode shape specification turns within right rests)
+        (λ n h. record { reached = led_reached makes specification turns within n.depth (state_at shape n) h.led; is_right = h.is_right; is_rest = h.is_rest }) graph.nodes.items kept.each;
+    onward = shown;
+    few = kept.few;
+    whole = each_weaker (IsNodeRight shape specification turns within right rests) (λ (n : Node). length n.state ≡ count_of shape) (λ n h. h.kept.whole) graph.nodes.items kept.each;
+    paired = pairs_length (IsShown shape specification turns within crowds steps graph.nodes.items) graph.nodes.items graph.steps.items shown;
+  }
+
+  module _ (crowds throngs : State → RuleOverLimit → Type 0) (f : (A : State) (crowd : RuleOverLimit) → crowds A crowd → throngs A crowd) (steps : ℕ) (nodes : List Node) where
+    shown_otherwise : (n : Node) (s : Step) → IsShown shape specification turns within crowds steps nodes n s → IsShown shape specification turns within throngs steps nodes n s
+    shown_otherwise n step.Cut h = h
+    shown_otherwise n step.Crowded h = (h.0, f (state_at shape n) h.0 h.1)
+    shown_otherwise n (step.Edges es) h = h
+
+  pub crowded_otherwise : (crowds throngs : State → RuleOverLimit → Type 0) → ((A : State) (crowd : RuleOverLimit) → crowds A crowd → throngs A crowd)
+      → (steps most : ℕ) (right rests : State → Bool) (graph : Graph)
+      → IsGraph shape specification turns within crowds steps most right rests graph → IsGraph shape specification turns within throngs steps most right rests graph
+  crowded_otherwise crowds throngs f steps most right rests graph h = record {
+    begins = h.begins;
+    each = h.each;
+    onward = pairs_weaker (IsShown shape specification turns within crowds steps graph.nodes.items) (IsShown shape specification turns within throngs steps graph.nodes.items)
+        (shown_otherwise crowds throngs f steps graph.nodes.items) graph.nodes.items graph.steps.items h.onward;
+    few = h.few;
+    whole = h.whole;
+    paired = h.paired;
+  }
+
+pub same_graph : (shape : Shape) (specification : Specification) (turns : ℕ) (crowds : State → RuleOverLimit → Type 0) (steps most : ℕ)
+    (within right rests inside also rested : State → Bool) (graph : Graph)
+    → ((A : State) → within A ≡ inside A) → ((A : State) → right A ≡ also A) → ((A : State) → rests A ≡ rested A)
+    → IsGraph shape specification turns within crowds steps most right rests graph → IsGraph shape specification turns inside crowds steps most also rested graph
+same_graph shape specification turns crowds steps most within right rests inside also rested graph same alike equal h =
+    subst (λ (all : (State → Bool) × (State → Bool) × (State → Bool)). IsGraph shape specification turns all.0 crowds steps most all.1 all.2 graph)
+    (λ i. ((λ A. same A i), (λ A. alike A i), (λ A. equal A i))) h

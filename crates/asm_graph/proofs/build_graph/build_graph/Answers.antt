@@ -1,0 +1,46 @@
+use Rattle.std.proofs.Common.{◌≡◌, ◌∙◌, ◌++◌, ◌∷◌, [], length, refl, ap, sym, subst, arith}
+use Rattle.std.specs.Prelude.{slice_get}
+use Rattle.asm_state.specs.Signature.{state_of}
+use Rattle.asm_explore.specs.code.OutcomeLists.{Each}
+use Rattle.asm_explore.specs.code.StepOutcomes.{IsOverLimitOf}
+use Rattle.asm_graph.specs.declared.graph.Graph.{Graph}
+use Rattle.asm_graph.specs.code.GraphSoFar.{IsNodeRight}
+use Rattle.asm_graph.proofs.MoreNodes.{at_more}
+use Rattle.asm_graph.proofs.SameConditions.{kept_graph}
+use Rattle.asm_graph.proofs.build_graph.build_graph.Goals as goal
+
+pub new_node-first-requires-clause-led : goal.new_node-first-requires-clause-led
+new_node-first-requires-clause-led g c = ([], refl, c.requires.initial)
+
+pub steps_from_all-requires-clause-nodes : goal.steps_from_all-requires-clause-nodes
+steps_from_all-requires-clause-nodes g c =
+    let a = c.args in
+    let shape = g.M.Machine.shape a.machine.now in
+    let specification = g.M.Machine.specification a.machine.now in
+    let turns = g.M.Machine.turns a.machine.now in
+    let within = g.M.Machine.within a.machine.now in
+    let right = g.M.Machine.right a.machine.now in
+    let rests = g.M.Machine.rests a.machine.now in
+    let items : c.push.new.self.items ≡ c.new_node-first.result ∷ [] = c.in_ok-push.ensures.items ∙ ap (λ xs. xs ++ c.new_node-first.result ∷ []) c.new-nodes.ensures.items in
+    record {
+      each = subst (Each (IsNodeRight shape specification turns within right rests)) (sym items) (c.new_node-first.ensures.kept, tt);
+      few = omega (arith, ap length items, c.if-most-eq0.false);
+    }
+
+pub returns : goal.returns
+returns g c =
+    let a = c.args in
+    let shape = g.M.Machine.shape a.machine.now in
+    let specification = g.M.Machine.specification a.machine.now in
+    let turns = g.M.Machine.turns a.machine.now in
+    let within = g.M.Machine.within a.machine.now in
+    let right = g.M.Machine.right a.machine.now in
+    let rests = g.M.Machine.rests a.machine.now in
+    let crowds = IsOverLimitOf (g.M.Machine.made a.machine.now) (g.M.Machine.limit a.machine.now) in
+    let first = c.new_node-first.result in
+    let items : c.push.new.self.items ≡ first ∷ [] = c.in_ok-push.ensures.items ∙ ap (λ xs. xs ++ first ∷ []) c.new-nodes.ensures.items in
+    let grows = c.in_ok-steps_from_all.ensures.grows in
+    let graph : Graph = record { nodes = c.steps_from_all.new.nodes; steps = c.steps_from_all.new.made } in
+    kept_graph shape specification turns within c.script_law.ensures.makes crowds a.steps a.most right rests graph
+    (first, at_more shape c.push.new.self.items grows.more c.steps_from_all.new.nodes.items grows.is 0 first (ap (λ xs. slice_get xs 0) items), ap (state_of shape) c.new_node-first.ensures.state ∙ c.requires.initial)
+    grows.kept c.in_ok-steps_from_all.ensures.shown

@@ -1,0 +1,66 @@
+//! The graph of a checked specification.
+ghost use Rattle.std.specs.Prelude.{◌≡◌, ◌<◌, ◌^◌, IfOk};
+ghost use Rattle.asm_check.specs.Shapes.{shape_of};
+ghost use Rattle.asm_meaning.specs.Declarations.{specification_of};
+ghost use Rattle.asm_syntax.specs.code.Views.{spec_of};
+ghost use Rattle.asm_explore.specs.Conditions.{IsSpecified, holds_in, term_holds};
+ghost use Rattle.asm_explore.specs.code.MainRule.{IsMainOverLimit};
+ghost use Rattle.asm_graph.specs.Graphs.{IsGraph};
+
+use crate::build_graph::build_graph;
+use crate::graph::Graph;
+use crate::graph_error::GraphError;
+use asm_check::Checked;
+use asm_explore::condition::condition_code;
+use asm_explore::{Question, ResolvedQuestion};
+use asm_resolve::main_rule::resolve_main;
+use asm_state::state::State;
+use std::alloc::Global;
+
+/// The graph of a resolved specification.
+fn graph_of(
+    alloc: Global,
+    specified: &ResolvedQuestion<'_>,
+    steps: u32,
+    most: u32,
+) -> Result<Graph, GraphError>
+    requires { IsSpecified specified.now }
+    ensures { let s = spec_of specified.now.checked.now.spec in
+        IfOk result (IsGraph (shape_of s) (specification_of s) specified.now.turns (holds_in (shape_of s) specified.now.within.now)
+        (IsMainOverLimit specified.now.checked.now specified.now.turns specified.now.limit) steps most
+        (holds_in (shape_of s) specified.now.always.now) (holds_in (shape_of s) specified.now.when_quiet.now)) }
+{
+    let initial = State::initial(alloc, specified.checked.signature())?;
+    let graph = build_graph(alloc, specified, initial, steps, most)?;
+    Ok(graph)
+}
+
+/// The graph of the states that the runs of a specification come to, of at most `most` states.
+/// The limit of states in the question isn't looked at. Runs are followed from states in which the
+/// condition isn't true, too. No state is in the graph twice; that isn't proved.
+pub fn state_graph(
+    alloc: Global,
+    checked: &Checked,
+    question: &Question,
+    most: u32,
+) -> Result<Graph, GraphError>
+    ensures { let s = spec_of checked.now.spec in let q = question.now in
+        IfOk result (IsGraph (shape_of s) (specification_of s) q.turns (term_holds checked.now q.within)
+        (IsMainOverLimit checked.now q.turns q.outcomes) q.steps most (term_holds checked.now q.always) (term_holds checked.now q.when_quiet)) }
+{
+    let code = resolve_main(alloc, checked)?;
+    let always = condition_code(alloc, checked, &question.always)?;
+    let within = condition_code(alloc, checked, &question.within)?;
+    let when_quiet = condition_code(alloc, checked, &question.when_quiet)?;
+    let specified = ResolvedQuestion {
+        checked,
+        code: &code,
+        turns: question.turns,
+        limit: question.outcomes,
+        always: &always,
+        within: &within,
+        when_quiet: &when_quiet,
+    };
+    let graph = graph_of(alloc, &specified, question.steps, most)?;
+    Ok(graph)
+}

@@ -1,0 +1,6 @@
+-- Free. Parts beside each other.
+pub mod ExhaustedLaws
+pub mod ExhaustedPaths
+pub mod GroupsBeside
+pub mod OutcomesBeside
+pub mod PartsBeside

@@ -1,5 +1,0 @@
-use Rattle.asm_pool.proofs.Places.{free-more}
-use Rattle.asm_pool.proofs.collect.Places.new.Goals as goal
-
-pub loop-i-preserved : goal.loop-i-preserved
-loop-i-preserved g c = free-more c.loop-i._i c.loop-i.outs.items _ c.loop-i.invariant c.in_ok-push.ensures.items

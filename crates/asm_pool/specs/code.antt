@@ -1,0 +1,5 @@
+-- Bridge to the code. What connects the definitions of this crate to its code.
+pub mod Lanes
+pub mod Pool
+pub mod WorkDone
+pub mod WorkersAndSeats

@@ -1,8 +1,0 @@
-use Rattle.std.proofs.Common.{◌≡◌, length}
-use Rattle.asm_state.specs.Signature.{count_of}
-use Rattle.asm_syntax.specs.Views.{spec_of}
-use Rattle.asm_check.specs.Shapes.{shape_of}
-use Rattle.asm_random.proofs.walk.random_run.Given as goal
-
-abbrev pub invariant-loop-done : goal.invariant-loop-done
-invariant-loop-done l = length l.state ≡ count_of (shape_of (spec_of l.specified.checked.now.spec))

@@ -1,0 +1,33 @@
+-- Bridge to the code. The steps of a run, made again.
+--     IsStep specification turns script step A B       the step from the one state yields a
+--                                                      consistent set, which leads to the other
+--     IsAfter specification turns script n A           the run of n steps comes to its limit, in
+--                                                      this state
+--     GoesWrong .. right step A f                      the step from the state has this fault, or
+--                                                      leads to a state that isn't right
+use Rattle.std.specs.Prelude.{◌≡◌, ℕ, Bool, false, []}
+use Rattle.asm_state.specs.Location.{State}
+use Rattle.asm_state.specs.Updates.{UpdateSet, IsConsistent, fire}
+use Rattle.asm_reader.specs.ScriptLines.{Script}
+use Rattle.asm_meaning.specs.Does.{does}
+use Rattle.asm_meaning.specs.Program.{nothing_bound}
+use Rattle.asm_meaning.specs.Run.{AtLimit, Specification, run}
+use Rattle.asm_meaning.specs.Yields.{Path, Result, Gives, Exhausted}
+use Rattle.asm_explore.specs.declared.fault.Fault.{Fault}
+use Rattle.asm_explore.specs.declared.fault.Fault.TheVariants as fault
+
+module _ (specification : Specification) (turns : ℕ) (script : Script) where
+  abbrev pub yields : (step : ℕ) → State → Result
+  yields step A = (does specification.program turns script step A nothing_bound [] specification.main).result
+
+  abbrev pub IsStep : (step : ℕ) → (A B : State) → Type 0
+  IsStep step A B = (U : UpdateSet) × (yields step A ≡ Gives U) × IsConsistent U × (B ≡ fire A U)
+
+  abbrev pub IsAfter : (n : ℕ) → State → Type 0
+  IsAfter n A = ((run specification turns script n).end ≡ AtLimit) × ((run specification turns script n).last ≡ A)
+
+  abbrev pub GoesWrong : (right : State → Bool) → (step : ℕ) → State → Fault → Type 0
+  GoesWrong right step A fault.Exhausted = (q : Path) × (yields step A ≡ Exhausted q)
+  GoesWrong right step A fault.Inconsistent = (U : UpdateSet) × (yields step A ≡ Gives U) × ¬ (IsConsistent U)
+  GoesWrong right step A fault.Wrong = (B : State) × IsStep step A B × (right B ≡ false)
+  GoesWrong right step A fault.Deadlock = ⊥

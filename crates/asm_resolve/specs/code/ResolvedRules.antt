@@ -1,0 +1,65 @@
+-- Bridge to the code. When a rule code stands for a rule.
+--     location_bound b                   the location that a name is bound to
+--     IsLocationAt i ls b                what is bound is the location at this position, or no
+--                                        location if there is none
+--     PositionsStand program slots e rs ls       in the environment e the names stand for rs, and
+--                                                those that stand for a location for that in ls
+--     IsResolvedTarget program shape names x ts to     under such names `to` names the location
+--                                                      that x with ts does, in each state
+--     IsResolvedRule program shape names P c     under such names c yields what P does, in each
+--                                                state, at each path and under each script
+use Rattle.std.specs.Prelude.{◌≡◌, ℕ, List, Option, Some, None, slice_index_or, is_some}
+use Rattle.asm_state.specs.Location.{Location, State}
+use Rattle.asm_state.specs.Signature.{Shape}
+use Rattle.asm_syntax.specs.Tree.{Name, Term, Terms, Rule, Rules, no_rules, rule_then}
+use Rattle.asm_reader.specs.ScriptLines.{Script, pick}
+use Rattle.asm_meaning.specs.Cases.{runs}
+use Rattle.asm_meaning.specs.Program.{Program, Environment, Binding, ToValue, ToTerm, ToLocation, bound_to}
+use Rattle.asm_meaning.specs.Targets.{location}
+use Rattle.asm_meaning.specs.Value.{Reading}
+use Rattle.asm_meaning.specs.Yields.{Path}
+use Rattle.asm_code.specs.code.CodeTree.{Code}
+use Rattle.asm_code.specs.code.RuleMeaning.{Locations, meaning, optional_target_location, IsSoundRule, IsSoundOptionalTarget}
+use Rattle.asm_code.specs.code.RuleTree as codes
+use Rattle.asm_code.specs.code.RuleTree.{Place, RuleCode, RuleCodes}
+use Rattle.asm_resolve.specs.code.ResolvedTerms.{Agrees, IsResolved}
+use Rattle.asm_resolve.specs.code.Slots.{Slot, names_in, result_position}
+
+abbrev pub location_bound : Option Binding → Option Location
+location_bound (Some (ToLocation l)) = Some l
+location_bound (Some (ToValue v)) = None
+location_bound (Some (ToTerm t caller)) = None
+location_bound None = None
+
+abbrev pub IsLocationAt : Option ℕ → Locations → Option Binding → Type 0
+IsLocationAt None ls b = location_bound b ≡ None
+IsLocationAt (Some i) ls b = (l : Location) × (b ≡ Some (ToLocation l)) × (slice_index_or ls i None ≡ Some l)
+
+module _ (program : Program) where
+  pub record PositionsStand (slots : List Slot) (e : Environment) (rs : List Reading) (ls : Locations) : Type 0 where
+    pub values : Agrees program (names_in slots) e rs
+    pub places : (x : Name) → IsLocationAt (result_position slots x) ls (bound_to e x)
+
+  module _ (shape : Shape) where
+    -- if there is a target code, it names a location in each state
+    pub record IsResolvedTarget (slots : List Slot) (x : Name) (ts : Terms) (to : Option Place) : Type 0 where
+      pub sound : IsSoundOptionalTarget shape to
+      pub means : (e : Environment) (rs : List Reading) (ls : Locations) (A : State) → PositionsStand slots e rs ls
+          → optional_target_location shape to rs ls A ≡ location program A e x ts
+      pub some : (e : Environment) (rs : List Reading) (ls : Locations) (A : State) → PositionsStand slots e rs ls
+          → is_some (optional_target_location shape to rs ls A) ≡ is_some to
+
+    pub record IsResolvedRule (slots : List Slot) (P : Rule) (c : RuleCode) : Type 0 where
+      pub sound : IsSoundRule shape c
+      pub means : (turns : ℕ) (script : Script) (step : ℕ) (e : Environment) (rs : List Reading) (ls : Locations) (A : State) (p : Path) → PositionsStand slots e rs ls
+          → meaning shape turns (pick script step) c rs ls A p ≡ runs program turns script step P A e p
+
+    abbrev pub AreResolvedRules : List Slot → Rules → RuleCodes → Type 0
+    AreResolvedRules slots no_rules codes.no_rules = Unit {0}
+    AreResolvedRules slots (rule_then P Ps) (codes.rule_then c cs) = IsResolvedRule slots P c × AreResolvedRules slots Ps cs
+    AreResolvedRules slots Ps cs = ⊥
+
+    abbrev pub IsResolvedTest : List Slot → Option Term → Option Code → Type 0
+    IsResolvedTest slots None None = Unit {0}
+    IsResolvedTest slots (Some t) (Some c) = IsResolved program shape (names_in slots) t c
+    IsResolvedTest slots t c = ⊥

@@ -1,5 +1,0 @@
-use Rattle.asm_eval.proofs.SoundMembers.{member_laws-codes as code_sound}
-use Rattle.asm_run.proofs.weight.behind_terms.Goals as goal
-
-pub behind_term-requires : goal.behind_term-requires
-behind_term-requires c = code_sound c.args.signature.now c.args.terms.now c.loop-term.term-index c.term-item.result c.loop-term-test.true c.term-item.is c.requires

@@ -1,0 +1,102 @@
+//! The line on standard error.
+ghost use Rattle.std.specs.Prelude.{◌≡◌, ◌++◌, decimal, IsTrue, IsErr, OnOk, OnErr};
+ghost use Rattle.std.specs.Io.KnownBytes.{Appends};
+ghost use Rattle.asm_run.specs.Sink.{AppendsFront};
+ghost use Rattle.asm_tool.specs.ToolPromises.{IsSaid, line_of, numbered, placed};
+
+use crate::fault::Fault;
+use asm_run::sink::{Sink, SinkFault};
+use itoa::Buffer;
+use std::fmt;
+use std::fmt::Write;
+
+/// Says what the fault is. If even this can't be written, the status alone tells.
+pub(crate) fn say<E: Sink>(fault: &Fault, err: &mut E)
+    ensures { IsSaid (E.bytes err.old) (E.bytes err.new) (E.has_failed err.new) (line_of fault.now) }
+{
+    let _ = match fault {
+        Fault::Words(error) => text(err, error),
+        Fault::NotText => whole(err, b"error: a word is not UTF-8\n"),
+        Fault::Read(error) => numbered(err, b"read ", error.number(), b" at ", error.at()),
+        Fault::Check(error) => numbered(err, b"check ", error.number(), b" at ", Some(error.at)),
+        Fault::Script(error) => numbered(err, b"script ", error.number(), b" line ", error.line()),
+        Fault::Memory => whole(err, b"memory\n"),
+        Fault::File => whole(err, b"file\n"),
+        Fault::Write => whole(err, b"write\n"),
+    };
+}
+
+/// A sink that text is written to.
+#[derive(Drop)]
+struct SinkWriter<'e, E> {
+    err: &'e mut E,
+}
+
+impl<E: Sink> Write for SinkWriter<'_, E> {
+    fn write_str(&mut self, text: &str) -> fmt::Result {
+        match whole(self.err, text.as_bytes()) {
+            Ok(()) => Ok(()),
+            Err(SinkFault) => Err(fmt::Error),
+        }
+    }
+}
+
+/// Writes the text of the library that read the words.
+fn text<E: Sink>(err: &mut E, error: &clap::Error) -> Result<(), SinkFault> {
+    match write!(SinkWriter { err }, "{error}") {
+        Ok(()) => Ok(()),
+        Err(_) => Err(SinkFault),
+    }
+}
+
+/// Writes a number, and the place of what is wrong, if it has one.
+#[tactic(auto, using(crate::proofs::Appending::appending))]
+fn numbered<E: Sink>(
+    err: &mut E,
+    kind: &[u8],
+    number: u8,
+    before: &[u8],
+    place: Option<usize>,
+) -> Result<(), SinkFault>
+    ensures whole { OnOk result (Appends (E.bytes err.old) (E.bytes err.new) (numbered kind.now number before.now place)) }
+    ensures cut { OnErr result (AppendsFront (E.bytes err.old) (E.bytes err.new) (numbered kind.now number before.now place)) }
+    ensures failed { IsErr result → IsTrue (E.has_failed err.new) }
+{
+    whole(err, kind)?;
+    whole(err, Buffer::new().format(number).as_bytes())?;
+    placed(err, before, place)
+}
+
+/// Writes the place, if there is one, and the end of the line.
+#[tactic(auto, using(crate::proofs::Appending::appending))]
+fn placed<E: Sink>(err: &mut E, before: &[u8], place: Option<usize>) -> Result<(), SinkFault>
+    ensures whole { OnOk result (Appends (E.bytes err.old) (E.bytes err.new) (placed before.now place)) }
+    ensures cut { OnErr result (AppendsFront (E.bytes err.old) (E.bytes err.new) (placed before.now place)) }
+    ensures failed { IsErr result → IsTrue (E.has_failed err.new) }
+{
+    match place {
+        Some(place) => {
+            whole(err, before)?;
+            whole(err, Buffer::new().format(place).as_bytes())?;
+            whole(err, b"\n")
+        }
+        None => whole(err, b"\n"),
+    }
+}
+
+/// Writes the whole text, in as many pieces as the sink takes.
+#[tactic(auto, using(crate::proofs::Appending::appending))]
+fn whole<E: Sink>(err: &mut E, text: &[u8]) -> Result<(), SinkFault>
+    ensures whole { OnOk result (Appends (E.bytes err.old) (E.bytes err.new) text.now) }
+    ensures cut { OnErr result (AppendsFront (E.bytes err.old) (E.bytes err.new) text.now) }
+    ensures failed { IsErr result → IsTrue (E.has_failed err.new) }
+{
+    let mut written = 0;
+    while written < text.len() {
+        match err.write(&text[written..])? {
+            0 => return Err(SinkFault),
+            taken => written += taken,
+        }
+    }
+    Ok(())
+}

@@ -1,8 +1,0 @@
-use Rattle.std.proofs.Common.{◌≡◌, ◌<◌, ℕ, get_or}
-use Rattle.std.specs.Map.{keys_of}
-use Rattle.asm_updates.specs.Positions.{position_of}
-use Rattle.asm_updates.proofs.ranges.place_all.Given as goal
-
--- the locations so far have their positions
-abbrev pub invariant-loop-i : goal.invariant-loop-i
-invariant-loop-i l = (j : ℕ) → j < l.i → position_of l.positions (get_or (keys_of l.entries) j 0) ≡ j
